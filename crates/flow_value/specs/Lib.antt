@@ -1,0 +1,6 @@
+pub mod Fault
+pub mod Items
+pub mod Meaning
+pub mod RowFalls
+pub mod Same
+pub mod View

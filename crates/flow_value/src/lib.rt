@@ -1,0 +1,12 @@
+//! Values that flow through a network, and the functions that blocks apply to them.
+#![tactic(auto)]
+
+mod message;
+mod parcel;
+mod value;
+mod work;
+
+pub use message::{MAX_ID, MessageHeader, MessageStatus};
+pub use parcel::Parcel;
+pub use value::{Row, Text, Value};
+pub use work::{Work, WorkFault};

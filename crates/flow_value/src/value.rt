@@ -1,0 +1,226 @@
+//! The values that flow: numbers, texts, and rows of values.
+//!
+//! A text and a row hide how they are kept, so that two of them are equal where their contents are.
+ghost use Rattle.std.specs.Prelude.{◌≡◌, ◌↔◌, IsTrue, IfOk, string_bytes};
+ghost use Rattle.std.specs.Cmp.{decided, partial_equiv_from_equiv};
+ghost use Rattle.std.specs.Cmp.Lexicographic.{pointwise};
+ghost use Rattle.std.proofs.lemmas.Slice.Eq.{bytes_eq-Decides};
+
+use std::alloc::{AllocError, Global};
+use std::marker::Model;
+
+/// What a message carries.
+#[cycle(value)]
+#[derive(Debug, Drop)]
+pub enum Value {
+    /// A whole number.
+    Int(i64),
+    /// A text.
+    Text(Text),
+    /// Values one after another, of any kinds.
+    Row(Row),
+}
+
+/// A text. Contracts see its UTF-8 bytes.
+#[derive(Debug, Drop)]
+pub struct Text {
+    content: String,
+}
+
+impl Model for Text {
+    ghost use Rattle.std.specs.Prelude.{List, ℕ, string_bytes};
+
+    ghost Value = { List ℕ };
+
+    ghost view = { λ t. string_bytes t.content };
+}
+
+/// Values in a row. Contracts see the list of them, as `Items`.
+#[cycle(value)]
+#[derive(Debug, Drop)]
+pub struct Row {
+    items: Vec<Value>,
+}
+
+impl Model for Row {
+    ghost use Rattle.flow_value.specs.Items.{Items, items_code, value_count};
+
+    ghost Value = { Items };
+
+    ghost coded = { items_code };
+
+    ghost use Rattle.flow_value.specs.View.{items_from};
+
+    ghost view = { λ r. items_from r.items.items };
+
+    ghost size = { value_count };
+
+    ghost use Rattle.std.proofs.Common.{arith};
+    ghost use Rattle.flow_value.specs.RowFalls.{most_le-value_count};
+
+    ghost size_decreases = { λ a h. Prim.omega (arith, most_le-value_count a.items.items) };
+}
+
+impl Text {
+    /// The text with this content.
+    pub fn new(content: String) -> Text
+        ensures { result ≡ string_bytes content }
+    {
+        Text { content }
+    }
+
+    /// The content.
+    pub fn as_str(&self) -> &str
+        ensures { result.now ≡ self.now }
+    {
+        self.content.as_str()
+    }
+
+    /// The content, given back.
+    pub fn into_string(self) -> String
+        ensures { string_bytes result ≡ self }
+    {
+        self.content
+    }
+
+    /// A second text with the same content.
+    pub fn copy(&self, alloc: Global) -> Result<Text, AllocError>
+        ensures { IfOk result (λ text. text ≡ self.now) }
+    {
+        Ok(Text {
+            content: String::from_str(alloc, self.content.as_str())?,
+        })
+    }
+}
+
+impl Row {
+    ghost use Rattle.flow_value.specs.View.{items_from, values_of};
+
+    /// The row of these values.
+    pub fn new(items: Vec<Value>) -> Row
+        ensures { result ≡ items_from items.items }
+    {
+        Row { items }
+    }
+
+    /// The values, in order.
+    pub fn items(&self) -> &[Value]
+        ensures { result.now ≡ values_of self.now }
+    {
+        self.items.as_slice()
+    }
+
+    /// The values, given back.
+    pub fn into_items(self) -> Vec<Value>
+        ensures { result.items ≡ values_of self }
+    {
+        self.items
+    }
+
+    /// A second row with the same values.
+    #[cycle(copy)]
+    pub fn copy(&self, alloc: Global) -> Result<Row, AllocError>
+        ensures { IfOk result (λ row. row ≡ self.now) }
+    {
+        let mut items = Vec::with_capacity(alloc, self.items.len())?;
+        for item in &self.items {
+            items.push(item.copy(alloc)?)?;
+        }
+        Ok(Row { items })
+    }
+
+    #[cycle(same)]
+    fn is_same(&self, other: &Row) -> bool
+        ensures { IsTrue result ↔ (self.now ≡ other.now) }
+    {
+        if self.items.len() != other.items.len() {
+            return false;
+        }
+        for (at, item) in self.items.iter().enumerate() {
+            if !item.is_same(&other.items[at]) {
+                return false;
+            }
+        }
+        true
+    }
+}
+
+impl Value {
+    /// A second value with the same content.
+    #[cycle(copy)]
+    pub fn copy(&self, alloc: Global) -> Result<Value, AllocError>
+        ensures { IfOk result (λ value. value ≡ self.now) }
+    {
+        match self {
+            Value::Int(number) => Ok(Value::Int(*number)),
+            Value::Text(text) => Ok(Value::Text(text.copy(alloc)?)),
+            Value::Row(row) => Ok(Value::Row(row.copy(alloc)?)),
+        }
+    }
+
+    #[cycle(same)]
+    fn is_same(&self, other: &Value) -> bool
+        ensures { IsTrue result ↔ (self.now ≡ other.now) }
+    {
+        match (self, other) {
+            (Value::Int(mine), Value::Int(theirs)) => mine == theirs,
+            (Value::Text(mine), Value::Text(theirs)) => mine.as_str() == theirs.as_str(),
+            (Value::Row(mine), Value::Row(theirs)) => mine.is_same(theirs),
+            _ => false,
+        }
+    }
+}
+
+impl PartialEq for Text {
+    ghost use Rattle.std.specs.Str.{bytes_eq};
+
+    ghost eq = { bytes_eq };
+
+    ghost laws = { partial_equiv_from_equiv (decided bytes_eq bytes_eq-Decides) };
+
+    fn eq(&self, other: &Text) -> bool {
+        self.content.as_str() == other.content.as_str()
+    }
+}
+
+impl Eq for Text {
+    ghost use Rattle.std.specs.Str.{bytes_eq};
+
+    ghost laws = { decided bytes_eq bytes_eq-Decides };
+}
+
+impl PartialEq for Row {
+    ghost use Rattle.flow_value.specs.Same.{same_items, same_items-Decides};
+
+    ghost eq = { same_items };
+
+    ghost laws = { partial_equiv_from_equiv (decided same_items same_items-Decides) };
+
+    fn eq(&self, other: &Row) -> bool {
+        self.is_same(other)
+    }
+}
+
+impl Eq for Row {
+    ghost use Rattle.flow_value.specs.Same.{same_items, same_items-Decides};
+
+    ghost laws = { decided same_items same_items-Decides };
+}
+
+impl PartialEq for Value {
+    ghost use Rattle.flow_value.specs.Same.{same_value, same_value-Decides};
+
+    ghost eq = { same_value };
+
+    ghost laws = { partial_equiv_from_equiv (decided same_value same_value-Decides) };
+
+    fn eq(&self, other: &Value) -> bool {
+        self.is_same(other)
+    }
+}
+
+impl Eq for Value {
+    ghost use Rattle.flow_value.specs.Same.{same_value, same_value-Decides};
+
+    ghost laws = { decided same_value same_value-Decides };
+}

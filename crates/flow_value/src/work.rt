@@ -1,0 +1,81 @@
+//! What a block does with a message: a function from a value to values, which may fault.
+ghost use Rattle.std.specs.Prelude.{◌≡◌, IsTrue, IfOk};
+ghost use Rattle.flow_value.specs.Fault.{number_of};
+
+use crate::value::Value;
+use std::alloc::{AllocError, Global};
+use thiserror::Error;
+
+/// Why a work gave no values.
+///
+/// Each fault but want of memory has a number; 7 is not among them, since a transform gives it to a result that is not
+/// one value.
+#[derive(Clone, Copy, Debug, PartialEq, Eq, Hash, Error)]
+pub enum WorkFault {
+    #[error("not a number")]
+    NotInt,
+    #[error("not a text")]
+    NotText,
+    #[error("not a row")]
+    NotRow,
+    #[error("no such field")]
+    NoField,
+    #[error("out of range")]
+    Range,
+    #[error("rejected")]
+    Rejected,
+    #[error("out of memory")]
+    Memory,
+}
+
+impl WorkFault {
+    /// The number by which a report names the fault: 1 to 6, and none for want of memory.
+    pub fn number(self) -> Option<u32>
+        ensures { result ≡ number_of self }
+    {
+        match self {
+            WorkFault::NotInt => Some(1),
+            WorkFault::NotText => Some(2),
+            WorkFault::NotRow => Some(3),
+            WorkFault::NoField => Some(4),
+            WorkFault::Range => Some(5),
+            WorkFault::Rejected => Some(6),
+            WorkFault::Memory => None,
+        }
+    }
+}
+
+impl From<AllocError> for WorkFault {
+    ghost use Rattle.std.specs.Prelude.{◌≡◌};
+    ghost use Rattle.flow_value.specs.declared.work.WorkFault.TheVariants.{Memory};
+
+    ghost from_gives = { λ _ fault. fault ≡ Memory };
+
+    fn from(_error: AllocError) -> WorkFault {
+        WorkFault::Memory
+    }
+}
+
+/// A function that a block applies to each message.
+///
+/// Microsoft: the delegate that an execution block is made with; here it is a value, so that it can be copied to other
+/// threads and compared.
+pub trait Work: Eq + Send + Sync + Drop {
+    ghost use Rattle.std.specs.Prelude.{◌≡◌, true, List, Result};
+    ghost use Rattle.flow_value.specs.declared.value.Value.{Value};
+    ghost use Rattle.flow_value.specs.declared.work.WorkFault.{WorkFault};
+    ghost use Rattle.flow_value.specs.Meaning.{RunsAs};
+
+    /// The values that it gives for a value, or its fault.
+    ghost meaning: { Self → Value → Result (List Value) WorkFault };
+
+    /// Applies it to a value; want of memory aside, the answer is its meaning.
+    fn run(&self, alloc: Global, value: &Value) -> Result<Vec<Value>, WorkFault>
+        ensures { RunsAs (meaning self.now value.now) result };
+
+    /// A second work that is equal to this one.
+    fn copy(&self, alloc: Global) -> Result<Self, AllocError>
+        ensures { IfOk result (λ work. IsTrue (Self.eq self.now work)) };
+
+    ghost same_meaning: { (first second : Self) → Self.eq first second ≡ true → (value : Value) → meaning first value ≡ meaning second value };
+}
