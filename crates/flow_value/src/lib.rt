@@ -2,6 +2,7 @@
 #![tactic(auto)]
 
 mod message;
+mod number;
 mod parcel;
 mod value;
 mod work;
