@@ -4,4 +4,6 @@ pub mod Meaning
 pub mod Number
 pub mod RowFalls
 pub mod Same
+pub mod Step
+pub mod StepRuns
 pub mod View

@@ -1,7 +1,7 @@
 //! The values that flow: numbers, texts, and rows of values.
 //!
 //! A text and a row hide how they are kept, so that two of them are equal where their contents are.
-ghost use Rattle.std.specs.Prelude.{◌≡◌, ◌↔◌, IsTrue, IfOk, string_bytes};
+ghost use Rattle.std.specs.Prelude.{◌≡◌, ◌<◌, ◌^◌, ◌↔◌, [], length, IsTrue, IfOk, string_bytes};
 ghost use Rattle.std.specs.Cmp.{decided, partial_equiv_from_equiv};
 ghost use Rattle.std.specs.Cmp.Lexicographic.{pointwise};
 ghost use Rattle.std.proofs.lemmas.Slice.Eq.{bytes_eq-Decides};
@@ -76,6 +76,21 @@ impl Text {
         self.content.as_str()
     }
 
+    /// How many bytes its UTF-8 form has.
+    pub fn len(&self) -> usize
+        ensures count { result ≡ length self.now }
+        ensures small { result < 2 ^ 63 }
+    {
+        self.content.len()
+    }
+
+    /// Whether it has no bytes.
+    pub fn is_empty(&self) -> bool
+        ensures { IsTrue result ↔ (self.now ≡ []) }
+    {
+        self.content.is_empty()
+    }
+
     /// The content, given back.
     pub fn into_string(self) -> String
         ensures { string_bytes result ≡ self }
@@ -108,6 +123,21 @@ impl Row {
         ensures { result.now ≡ values_of self.now }
     {
         self.items.as_slice()
+    }
+
+    /// How many values it has.
+    pub fn len(&self) -> usize
+        ensures count { result ≡ length (values_of self.now) }
+        ensures small { result < 2 ^ 63 }
+    {
+        self.items.len()
+    }
+
+    /// Whether it has no values.
+    pub fn is_empty(&self) -> bool
+        ensures { IsTrue result ↔ (values_of self.now ≡ []) }
+    {
+        self.items.is_empty()
     }
 
     /// The values, given back.
