@@ -1,3 +1,4 @@
+pub mod FunctionLemmas
 pub mod NumberLemmas
 pub mod RowLemmas
 pub mod StepLemmas

@@ -1,4 +1,5 @@
 pub mod Fault
+pub mod Function
 pub mod Items
 pub mod Meaning
 pub mod Number

@@ -5,11 +5,13 @@ mod message;
 mod number;
 mod parcel;
 mod step;
+mod steps;
 mod value;
 mod work;
 
 pub use message::{MAX_ID, MessageHeader, MessageStatus};
 pub use parcel::Parcel;
 pub use step::Step;
+pub use steps::Steps;
 pub use value::{Row, Text, Value};
 pub use work::{Work, WorkFault};
