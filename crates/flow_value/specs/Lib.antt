@@ -1,10 +1,13 @@
 pub mod Fault
 pub mod Function
+pub mod Grammar
 pub mod Items
 pub mod Meaning
 pub mod Number
+pub mod ReadsAs
 pub mod RowFalls
 pub mod Same
 pub mod Step
 pub mod StepRuns
 pub mod View
+pub mod When

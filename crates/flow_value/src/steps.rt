@@ -1,5 +1,5 @@
 //! Functions that a network names: lists of steps.
-ghost use Rattle.std.specs.Prelude.{◌≡◌, ◌≢◌, MatchResult, Ok, Err};
+ghost use Rattle.std.specs.Prelude.{◌≡◌, ◌≢◌, map, MatchResult, Ok, Err};
 ghost use Rattle.flow_value.specs.Function.{joined, meaning_of};
 ghost use Rattle.flow_value.specs.Meaning.{RunsAs};
 ghost use Rattle.flow_value.specs.declared.work.WorkFault.TheVariants.{Memory};
@@ -7,8 +7,12 @@ ghost use Rattle.flow_value.specs.declared.work.WorkFault.TheVariants.{Memory};
 use crate::step::{Applied, Step};
 use crate::value::Value;
 use crate::work::{Work, WorkFault};
-use std::alloc::{AllocError, Global};
+use std::alloc::{AllocError, AllocFailed, Global};
 use std::marker::Model;
+use thiserror::Error;
+
+/// The most steps that a function has.
+const MOST_STEPS: usize = 16;
 
 /// A function made of steps: the first step is applied to the value, the others to each of its results, in order.
 ///
@@ -27,7 +31,48 @@ impl Model for Steps {
     ghost view = { λ s. s.steps.items };
 }
 
+/// Why texts are no function.
+#[derive(Clone, Copy, Debug, PartialEq, Eq, Error)]
+pub enum StepsError {
+    /// The text at this place, from 0, is no step, or stands behind the sixteenth.
+    #[error("no step at place {0}")]
+    BadStep(usize),
+    /// There is no memory for the steps.
+    #[error("out of memory")]
+    Memory,
+}
+
+impl From<AllocFailed<Step>> for StepsError {
+    ghost use Rattle.std.specs.Prelude.{◌≡◌};
+    ghost use Rattle.flow_value.specs.declared.steps.StepsError.TheVariants.{Memory};
+
+    ghost from_gives = { λ _ error. error ≡ Memory };
+
+    fn from(_error: AllocFailed<Step>) -> StepsError {
+        StepsError::Memory
+    }
+}
+
 impl Steps {
+    ghost use Rattle.flow_value.specs.ReadsAs.{ReadsAs};
+
+    /// The function that these steps are, in order: at most 16, in the words of `docs/formats.md`.
+    pub fn read(alloc: Global, texts: &[&str]) -> Result<Steps, StepsError>
+        ensures { ReadsAs (map (λ text. text.now) texts.now) result }
+    {
+        let mut steps = Vec::new(alloc);
+        for (place, text) in texts.iter().enumerate() {
+            if place >= MOST_STEPS {
+                return Err(StepsError::BadStep(place));
+            }
+            match Step::read(text) {
+                Some(step) => steps.push(step)?,
+                None => return Err(StepsError::BadStep(place)),
+            }
+        }
+        Ok(Steps { steps })
+    }
+
     /// The steps, in order.
     pub fn as_slice(&self) -> &[Step]
         ensures { result.now ≡ self.now }
