@@ -1,5 +1,5 @@
 -- How the results of a function at many values grow by one more value.
-use Rattle.std.proofs.Common.{◌≡◌, List, [], ◌∷◌, ◌++◌, Result, Ok, Err, refl, sym, ap, ◌∙◌, append_assoc}
+use Rattle.std.proofs.Common.{◌≡◌, List, [], ◌∷◌, ◌++◌, Ok, Err, refl, sym, ap, ◌∙◌, append_assoc}
 use Rattle.std.proofs.lemmas.List.{append-nil}
 use Rattle.flow_value.specs.Function.{joined, each, then_each, meaning_of}
 use Rattle.flow_value.specs.Step.{Given, applied}

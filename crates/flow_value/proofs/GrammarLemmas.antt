@@ -1,5 +1,5 @@
 -- A text is written in one way at most, as a name and a number behind it.
-use Rattle.std.proofs.Common.{◌≡◌, ℕ, zero, suc, ◌<◌, ◌≤◌, ◌+◌, take, List, [], ◌∷◌, ◌++◌, length, get_or, Option, Some, None, Result, Ok, Err, refl, sym, ap, ◌∙◌, arith, length-append, ℤ, subst, map, Bor}
+use Rattle.std.proofs.Common.{◌≡◌, ℕ, zero, suc, ◌<◌, ◌≤◌, ◌+◌, take, List, [], ◌∷◌, ◌++◌, length, get_or, Option, Some, None, Ok, refl, sym, ap, ◌∙◌, arith, length-append, ℤ, subst, map, Bor}
 use Rattle.std.proofs.Math.Seq.{get_or-append_seam}
 use Rattle.std.proofs.lemmas.List.{length-map, get_or-map, get_or-take, length-take-le, take_more}
 use Rattle.flow_value.specs.Grammar.{HasNoSpace, IsWritten, Spells, AllSpelled, IsFirstBad}
@@ -97,5 +97,5 @@ module _ (texts : List (Bor (List ℕ))) (steps : List Step) (place : ℕ)
       let longer : length (map (λ text. text.now) texts) ≡ length texts = length-map texts (λ text. text.now) in
       let more = take_more (map (λ text. text.now) texts) place [] (omega arith) in
       let pushed = AllSpelled-push (take place (map (λ text. text.now) texts)) steps (get_or (map (λ text. text.now) texts) place []) step all
-            (subst (λ text. Spells text step) (sym (text_at d)) spells) in
+      (subst (λ text. Spells text step) (sym (text_at d)) spells) in
       subst (λ some. AllSpelled some (steps ++ step ∷ [])) (sym more) pushed

@@ -1,14 +1,13 @@
 -- What `parse` makes of digits, and of digits behind a minus sign.
-use Rattle.std.proofs.Common.{◌≡◌, ◌≢◌, ℕ, ◌<◌, List, [], ◌∷◌, length, drop, Bool, true, false, refl, sym, ◌∙◌, ap, arith, rules, cond, ◌&&◌, Decides, Result, Ok, Err, ℤ, pos, negsuc, w64, eqb, subst}
+use Rattle.std.proofs.Common.{◌≡◌, ℕ, ◌<◌, List, [], ◌∷◌, length, drop, Bool, true, false, refl, ◌∙◌, ap, rules, cond, ◌&&◌, Decides, Ok, Err, ℤ, pos, negsuc, w64, eqb, subst}
 use Rattle.std.specs.Char.{is_ascii_digit}
 use Rattle.std.specs.List.{list_all}
 use Rattle.std.specs.Prelude.{FitsSigned}
-use Rattle.std.specs.Str.Parse.{AllDigits, IsNumeral, ParsesSigned, without_leading_sign, digits_value, signed_digits_value}
-use Rattle.std.proofs.lemmas.Bool.{eqb-true}
+use Rattle.std.specs.Str.Parse.{IsNumeral, without_leading_sign, digits_value, signed_digits_value}
+use Rattle.std.proofs.lemmas.Bool.{eqb-true, false≢true}
 use Rattle.std.proofs.lemmas.Bool.Decides.{Decides-ltb}
 use Rattle.std.proofs.lemmas.Str.Parse.{IsNumeralModel, numerals_by_value}
 use Rattle.flow_value.specs.Number.{without_minus, is_digits, is_i64, int_of}
-use Rattle.flow_value.specs.declared.work.WorkFault.{WorkFault}
 use Rattle.flow_value.specs.declared.work.WorkFault.TheVariants.{NotInt, Range}
 
 numerals : IsNumeralModel (λ ds. list_all is_ascii_digit ds ≡ true) (digits_value 10)
@@ -50,10 +49,10 @@ sign_is_minus (c ∷ cs) e = behind (eqb c 45) (eqb c 43) refl refl e
     behind true plus m p digits = refl
     behind false false m p digits = refl
     behind false true m p digits =
-        let all = (both_true _ _ digits).1 in
+        let all : list_all is_ascii_digit (c ∷ cs) ≡ true = (both_true _ _ digits).1 in
         let first : is_ascii_digit c ≡ true = (both_true _ _ all).0 in
-        let plus : false ≡ true = subst (λ d. is_ascii_digit d ≡ true) (eqb-true c 43 p) first in
-        cc
+        let plus : is_ascii_digit 43 ≡ true = subst (λ d. is_ascii_digit d ≡ true) (eqb-true c 43 p) first in
+        absurd (false≢true plus)
 
 pub numeral_behind_sign : (bs : List ℕ) → is_digits (without_minus bs) ≡ true → IsNumeral 10 (without_leading_sign bs)
 numeral_behind_sign bs e =

@@ -1,15 +1,14 @@
 -- How the words of the steps grow by one more value.
-use Rattle.std.proofs.Common.{◌≡◌, ℕ, zero, suc, ◌+◌, ◌<◌, ◌==◌, List, [], ◌∷◌, ◌++◌, length, get_or, take, map, replicate, Bool, true, false, Option, Some, None, refl, sym, ap, ◌∙◌, arith, ℤ, pos, ◌+ℤ◌, fold, Result, Ok}
+use Rattle.std.proofs.Common.{◌≡◌, ℕ, zero, suc, ◌+◌, ◌<◌, ◌==◌, List, [], ◌∷◌, ◌++◌, length, get_or, replicate, Bool, true, Option, Some, None, refl, sym, ap, ◌∙◌, arith, ℤ, pos, ◌+ℤ◌, Ok}
 use Rattle.std.specs.Option.{option_map}
 use Rattle.std.proofs.lemmas.Bool.{eqb-true, eq-eqb}
 use Rattle.std.proofs.lemmas.List.{replicate-append-replicate}
 use Rattle.std.proofs.lemmas.List.FromFn.{map-range_with_len_more}
 use Rattle.std.proofs.lemmas.List.Sums.{fold_push}
-use Rattle.flow_value.specs.Step.{numbers_of, total_of, summed, ints_below, Given}
+use Rattle.flow_value.specs.Step.{numbers_of, total_of, ints_below}
 use Rattle.flow_value.specs.StepRuns.{int_in}
 use Rattle.flow_value.specs.declared.value.Value.{Value}
 use Rattle.flow_value.specs.declared.value.Value.TheVariants.{Int, Text, Row}
-use Rattle.flow_value.specs.declared.work.WorkFault.{WorkFault}
 
 pub empty_test : {A : Type 0} (xs : List A) (n : ℕ) (b : Bool) → n ≡ length xs → b ≡ (n == 0) → (b ≡ true → xs ≡ []) × (xs ≡ [] → b ≡ true)
 empty_test [] n b len test = (λ e. refl, λ e. test ∙ eq-eqb n 0 len)

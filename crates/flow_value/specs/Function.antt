@@ -1,9 +1,8 @@
 -- What a list of steps makes of a value: the first step's results, each handed to the rest of the steps.
-use Rattle.std.specs.Prelude.{List, [], ◌∷◌, ◌++◌, Result, Ok, Err}
+use Rattle.std.specs.Prelude.{List, [], ◌∷◌, ◌++◌, Ok, Err}
 use Rattle.flow_value.specs.Step.{Given, one, applied}
 use Rattle.flow_value.specs.declared.step.Step.{Step}
 use Rattle.flow_value.specs.declared.value.Value.{Value}
-use Rattle.flow_value.specs.declared.work.WorkFault.{WorkFault}
 
 -- both results, one behind the other, or the first fault
 abbrev pub joined : Given → Given → Given

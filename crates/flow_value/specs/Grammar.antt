@@ -1,5 +1,5 @@
 -- How a step or a predicate is written: its name, or its name, one space and a number.
-use Rattle.std.specs.Prelude.{◌≡◌, ◌≢◌, ℕ, ◌<◌, ◌≤◌, List, [], ◌∷◌, ◌++◌, length, codes, slice_index, slice_index_or, Option, Some, None, Result, Ok, Err, ℤ, pos}
+use Rattle.std.specs.Prelude.{◌≡◌, ◌≢◌, ℕ, ◌<◌, ◌≤◌, List, [], ◌∷◌, ◌++◌, length, codes, slice_index, slice_index_or, Option, Some, None, Ok, ℤ, pos}
 use Rattle.flow_value.specs.Number.{int_of}
 use Rattle.flow_value.specs.declared.step.Step.{Step}
 use Rattle.flow_value.specs.declared.step.Step.TheVariants.{Id, ToInt, ToText, Add, Mul, Field, Len, Sum, Reject, Spread, Upto, Repeat}

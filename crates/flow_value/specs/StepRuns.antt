@@ -1,7 +1,6 @@
 -- When the code of a step answers what the step means.
-use Rattle.std.specs.Prelude.{◌≡◌, ◌≢◌, List, [], ◌∷◌, Result, Ok, Err, ℤ}
+use Rattle.std.specs.Prelude.{◌≡◌, ◌≢◌, Result, Ok, Err, ℤ}
 use Rattle.flow_value.specs.Items.{Items}
-use Rattle.flow_value.specs.Meaning.{RunsAs}
 use Rattle.flow_value.specs.Step.{Given, one}
 use Rattle.flow_value.specs.declared.step.Applied.{Applied}
 use Rattle.flow_value.specs.declared.step.Applied.TheVariants.{One, Many}

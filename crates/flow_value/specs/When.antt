@@ -1,5 +1,5 @@
 -- What a predicate admits, and which texts are predicates.
-use Rattle.std.specs.Prelude.{◌≡◌, ◌==◌, ℕ, ◌+◌, ◌%◌, List, codes, Bool, true, false, not, Option, Some, None, ℤ, pos, negsuc}
+use Rattle.std.specs.Prelude.{◌==◌, ℕ, ◌+◌, ◌%◌, List, codes, Bool, true, false, not, Option, Some, None, ℤ, pos, negsuc}
 use Rattle.std.specs.Int.RustNames.{int_lt}
 use Rattle.std.specs.Ordering.{int_eq}
 use Rattle.flow_value.specs.Grammar.{IsWritten}

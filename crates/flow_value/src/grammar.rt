@@ -4,8 +4,7 @@ ghost use Rattle.flow_value.specs.Grammar.{HasNoSpace, IsWritten, IsNamed, Spell
 ghost use Rattle.flow_value.specs.declared.step.Step.{Step};
 
 use crate::number::read_int;
-use crate::step::Step;
-use crate::step::MOST_VALUES;
+use crate::step::{MOST_VALUES, Step};
 
 /// The greatest place that `field` takes.
 const LAST_PLACE: u16 = 4_095;

@@ -118,7 +118,12 @@ impl Work for Steps {
 
     fn run(&self, alloc: Global, value: &Value) -> Result<Vec<Value>, WorkFault> {
         let mut results = Vec::new(alloc);
-        run_onto(alloc, self.steps.as_slice(), value.copy(alloc)?, &mut results)?;
+        run_onto(
+            alloc,
+            self.steps.as_slice(),
+            value.copy(alloc)?,
+            &mut results,
+        )?;
         Ok(results)
     }
 
@@ -130,7 +135,12 @@ impl Work for Steps {
 }
 
 /// Puts what the steps make of the value behind the results so far.
-fn run_onto(alloc: Global, steps: &[Step], value: Value, results: &mut Vec<Value>) -> Result<(), WorkFault>
+fn run_onto(
+    alloc: Global,
+    steps: &[Step],
+    value: Value,
+    results: &mut Vec<Value>,
+) -> Result<(), WorkFault>
     ensures { MatchResult result (λ _. joined (Ok results.old.items) (meaning_of steps.now value) ≡ Ok results.new.items) (λ fault. fault ≢ Memory → meaning_of steps.now value ≡ Err fault) }
 {
     let Some((step, rest)) = steps.split_first() else {

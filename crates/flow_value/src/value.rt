@@ -2,6 +2,7 @@
 //!
 //! A text and a row hide how they are kept, so that two of them are equal where their contents are.
 ghost use Rattle.std.specs.Prelude.{◌≡◌, ◌<◌, ◌^◌, ◌↔◌, [], length, IsTrue, IfOk, string_bytes};
+ghost use Rattle.std.specs.Option.{option_copied};
 ghost use Rattle.std.specs.Cmp.{decided, partial_equiv_from_equiv};
 ghost use Rattle.std.specs.Cmp.Lexicographic.{pointwise};
 ghost use Rattle.std.proofs.lemmas.Slice.Eq.{bytes_eq-Decides};
@@ -62,6 +63,15 @@ impl Model for Row {
 }
 
 impl Text {
+    /// A text with a copy of this content.
+    pub fn from_str(alloc: Global, content: &str) -> Result<Text, AllocError>
+        ensures { IfOk result (λ text. text ≡ content.now) }
+    {
+        Ok(Text {
+            content: String::from_str(alloc, content)?,
+        })
+    }
+
     /// The text with this content.
     pub fn new(content: String) -> Text
         ensures { result ≡ string_bytes content }
@@ -102,9 +112,7 @@ impl Text {
     pub fn copy(&self, alloc: Global) -> Result<Text, AllocError>
         ensures { IfOk result (λ text. text ≡ self.now) }
     {
-        Ok(Text {
-            content: String::from_str(alloc, self.content.as_str())?,
-        })
+        Text::from_str(alloc, self.content.as_str())
     }
 }
 
@@ -176,6 +184,38 @@ impl Row {
 }
 
 impl Value {
+    ghost use Rattle.flow_value.specs.Parts.{int_part, text_part, row_part};
+
+    /// The number, if the value is one.
+    pub fn as_int(&self) -> Option<i64>
+        ensures { result ≡ int_part self.now }
+    {
+        match self {
+            Value::Int(number) => Some(*number),
+            _ => None,
+        }
+    }
+
+    /// The content of the text, if the value is one.
+    pub fn as_str(&self) -> Option<&str>
+        ensures { option_copied result ≡ text_part self.now }
+    {
+        match self {
+            Value::Text(text) => Some(text.as_str()),
+            _ => None,
+        }
+    }
+
+    /// The values of the row, if the value is one.
+    pub fn as_items(&self) -> Option<&[Value]>
+        ensures { option_copied result ≡ row_part self.now }
+    {
+        match self {
+            Value::Row(row) => Some(row.items()),
+            _ => None,
+        }
+    }
+
     /// A second value with the same content.
     #[cycle(copy)]
     pub fn copy(&self, alloc: Global) -> Result<Value, AllocError>

@@ -1,4 +1,4 @@
-use Rattle.std.proofs.Common.{◌≡◌, ℕ, List, [], ◌∷◌, Bool, true, false, cond, eqb, refl, ap, sym}
+use Rattle.std.proofs.Common.{◌≡◌, ℕ, List, [], ◌∷◌, Bool, true, false, cond, eqb, refl, ap}
 use Rattle.std.proofs.lemmas.Bool.{eqb-true}
 use Rattle.flow_value.specs.Number.{without_minus}
 use Rattle.flow_value.proofs.number.without_minus.Goals as goal

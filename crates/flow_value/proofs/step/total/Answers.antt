@@ -1,7 +1,7 @@
-use Rattle.std.proofs.Common.{◌≡◌, ◌+◌, List, [], ◌∷◌, ◌++◌, Some, take, get_or, ap, sym, ◌∙◌, arith, rules, ℤ, ◌+ℤ◌}
+use Rattle.std.proofs.Common.{◌≡◌, ◌+◌, [], ◌∷◌, ◌++◌, take, ap, sym, ◌∙◌, arith, rules, ◌+ℤ◌}
 use Rattle.std.proofs.lemmas.Int.{ints}
 use Rattle.std.proofs.lemmas.List.{take_more}
-use Rattle.flow_value.specs.Step.{numbers_of, summed, total_of}
+use Rattle.flow_value.specs.Step.{numbers_of, summed}
 use Rattle.flow_value.specs.declared.value.Value.TheVariants.{Int}
 use Rattle.flow_value.proofs.StepLemmas.{numbers_of-push, numbers_of-other, total_of-push}
 use Rattle.flow_value.proofs.step.total.Goals as goal
@@ -11,7 +11,7 @@ use mir.Val.{SFits, to_z, of_z}
 pub returns-in_default : goal.returns-in_default
 returns-in_default c =
     ap summed (sym (numbers_of-other c.args.items.now c.loop-item.item-index c.item-item.result c.loop-item-test.true c.item-item.is
-        c.in_default.not-Int))
+    c.in_default.not-Int))
 
 pub loop-item-preserved : goal.loop-item-preserved
 loop-item-preserved c =
@@ -23,10 +23,13 @@ loop-item-preserved c =
     let widened : c.from-total.result ≡ number = omega (arith, ints) in
     let added : to_z w128 (of_z w128 (before +ℤ to_z w128 (of_z w128 c.from-total.result))) ≡ before +ℤ number = omega (arith, ints) in
     let one_more : take (at + 1) c.args.items.now ≡ take at c.args.items.now ++ Int number ∷ [] =
-        take_more c.args.items.now at c.item-item.result c.loop-item-test.true
-        ∙ ap (λ v. take at c.args.items.now ++ v ∷ []) (sym c.item-item.is ∙ c.in-Int.is) in
-    ( ( so_far.0 ++ number ∷ [],
+    take_more c.args.items.now at c.item-item.result c.loop-item-test.true
+    ∙ ap (λ v. take at c.args.items.now ++ v ∷ []) (sym c.item-item.is ∙ c.in-Int.is) in (
+      (
+        so_far.0 ++ number ∷ [],
         ap numbers_of one_more ∙ numbers_of-push (take at c.args.items.now) number so_far.0 so_far.1,
-        added ∙ ap (λ n. n +ℤ number) so_far.2 ∙ sym (total_of-push so_far.0 number) ),
+        added ∙ ap (λ n. n +ℤ number) so_far.2 ∙ sym (total_of-push so_far.0 number),
+      ),
       omega (arith, ints),
-      omega (arith, ints) )
+      omega (arith, ints),
+    )

@@ -1,4 +1,4 @@
-use Rattle.std.proofs.Common.{◌≡◌, ◌*◌, ◌^◌, List, Some, take, ℤ, pos, neg_ℤ, ◌≤ℤ◌}
+use Rattle.std.proofs.Common.{◌≡◌, ◌*◌, List, Some, take, ℤ, pos, neg_ℤ, ◌≤ℤ◌}
 use Rattle.flow_value.specs.Step.{numbers_of, total_of}
 use Rattle.flow_value.proofs.step.total.Given as goal
 

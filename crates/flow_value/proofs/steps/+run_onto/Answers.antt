@@ -1,5 +1,5 @@
-use Rattle.std.proofs.Common.{◌≡◌, ◌≢◌, ◌++◌, ◌∷◌, [], List, Ok, Err, length, ap, sym, ◌∙◌, rules, arith, append_assoc, length}
-use Rattle.std.specs.Vec.Iter.{into_iter_items, into_iter_len}
+use Rattle.std.proofs.Common.{◌≡◌, ◌++◌, ◌∷◌, [], Ok, ap, sym, ◌∙◌, rules, append_assoc}
+use Rattle.std.specs.Vec.Iter.{into_iter_items}
 use Rattle.std.proofs.lemmas.List.{append-nil, nil_from_length}
 use Rattle.std.proofs.lemmas.Result.{err_from_is_err_and}
 use Rattle.flow_value.specs.Function.{joined, each, meaning_of}
@@ -13,7 +13,7 @@ loop-next-preserved t c =
     record {
       parts = c.loop-next.invariant.parts ∙ ap (λ left. c.loop-next.yielded ++ left) step ∙ sym (append_assoc c.loop-next.yielded (c.in-Some-next.next ∷ []) (into_iter_items c.next.new.self));
       so_far = each-more (meaning_of c.in-Some.rest.now) c.args.results.now.items c.loop-next.results.items c.run_onto-in-loop-next.new.results.items
-        c.loop-next.yielded c.in-Some-next.next c.loop-next.invariant.so_far c.in_ok-run_onto-in-Many.ensures;
+          c.loop-next.yielded c.in-Some-next.next c.loop-next.invariant.so_far c.in_ok-run_onto-in-Many.ensures;
     }
 
 pub returns-in_err-run_onto-in-Many : goal.returns-in_err-run_onto-in-Many
@@ -24,13 +24,13 @@ returns-in_err-run_onto-in-Many t c =
     let gives : applied c.in-Some.step.now c.args.value ≡ Ok c.in-Many.values.items = rw c.in-Many.is at c.in_ok-next.ensures in
     let step = c.in-Some-next.ensures.steps.0 in
     let all : c.loop-next.yielded ++ (c.in-Some-next.next ∷ into_iter_items c.next.new.self) ≡ c.in-Many.values.items =
-        ap (λ left. c.loop-next.yielded ++ left) (sym step) ∙ sym c.loop-next.invariant.parts ∙ taken in
+    ap (λ left. c.loop-next.yielded ++ left) (sym step) ∙ sym c.loop-next.invariant.parts ∙ taken in
     rw (p.1, p.2) (λ not_memory.
-      meaning_of-many c.args.steps.now c.in-Some.rest.now c.in-Some.step.now c.args.value c.in-Many.values.items parts gives
-      ∙ ap (each (meaning_of c.in-Some.rest.now)) (sym all)
-      ∙ each-fault (meaning_of c.in-Some.rest.now) c.args.results.now.items c.loop-next.results.items c.loop-next.yielded
-        (into_iter_items c.next.new.self) c.in-Some-next.next c.in_err-run_onto-in-Many.field-0.0 c.loop-next.invariant.so_far
-        (c.in_err-run_onto-in-Many.ensures not_memory))
+    meaning_of-many c.args.steps.now c.in-Some.rest.now c.in-Some.step.now c.args.value c.in-Many.values.items parts gives
+    ∙ ap (each (meaning_of c.in-Some.rest.now)) (sym all)
+    ∙ each-fault (meaning_of c.in-Some.rest.now) c.args.results.now.items c.loop-next.results.items c.loop-next.yielded
+    (into_iter_items c.next.new.self) c.in-Some-next.next c.in_err-run_onto-in-Many.field-0.0 c.loop-next.invariant.so_far
+    (c.in_err-run_onto-in-Many.ensures not_memory))
 
 pub returns-in-None : goal.returns-in-None
 returns-in-None t c =
@@ -39,9 +39,9 @@ returns-in-None t c =
     let gives : applied c.in-Some.step.now c.args.value ≡ Ok c.in-Many.values.items = rw c.in-Many.is at c.in_ok-next.ensures in
     let left : into_iter_items c.loop-next.next-iterator ≡ [] = nil_from_length _ (sym c.loop-next.next-iterator.rest.ok.0 ∙ c.in-None.ensures.steps.0) in
     let all : c.loop-next.yielded ≡ c.in-Many.values.items =
-        sym (append-nil c.loop-next.yielded) ∙ ap (λ more. c.loop-next.yielded ++ more) (sym left) ∙ sym c.loop-next.invariant.parts
-        ∙ taken in
+    sym (append-nil c.loop-next.yielded) ∙ ap (λ more. c.loop-next.yielded ++ more) (sym left) ∙ sym c.loop-next.invariant.parts
+    ∙ taken in
     ap (joined (Ok c.args.results.now.items))
-      (meaning_of-many c.args.steps.now c.in-Some.rest.now c.in-Some.step.now c.args.value c.in-Many.values.items parts gives
-       ∙ ap (each (meaning_of c.in-Some.rest.now)) (sym all))
+    (meaning_of-many c.args.steps.now c.in-Some.rest.now c.in-Some.step.now c.args.value c.in-Many.values.items parts gives
+    ∙ ap (each (meaning_of c.in-Some.rest.now)) (sym all))
     ∙ c.loop-next.invariant.so_far

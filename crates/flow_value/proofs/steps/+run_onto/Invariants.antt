@@ -9,5 +9,5 @@ decreases-run_onto l = length l.steps.now
 abbrev pub invariant-loop-next : goal.invariant-loop-next
 invariant-loop-next l = record {
   parts : into_iter_items l.initial.next-iterator ≡ l.yielded ++ into_iter_items l.next-iterator;
-  so_far : joined (Ok l.fn.results.items) (each (meaning_of l.rest) l.yielded) ≡ Ok l.results.items
+  so_far : joined (Ok l.fn.results.items) (each (meaning_of l.rest) l.yielded) ≡ Ok l.results.items;
 }
