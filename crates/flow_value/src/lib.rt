@@ -7,6 +7,8 @@ mod number;
 mod parcel;
 mod step;
 mod steps;
+#[cfg(test)]
+mod tests;
 mod value;
 mod when;
 mod work;

@@ -93,7 +93,7 @@ impl PartialEq for Steps {
     ghost laws = { partial_equiv_from_equiv (decided _ (λ a b. slice_eq-Decides (λ x y. Prim.search rules) a b _ refl)) };
 
     fn eq(&self, other: &Steps) -> bool {
-        self.steps.as_slice() == other.steps.as_slice()
+        self.as_slice() == other.as_slice()
     }
 }
 
@@ -129,7 +129,7 @@ impl Work for Steps {
 
     fn copy(&self, alloc: Global) -> Result<Steps, AllocError> {
         Ok(Steps {
-            steps: Vec::from_slice(alloc, self.steps.as_slice())?,
+            steps: Vec::from_slice(alloc, self.as_slice())?,
         })
     }
 }

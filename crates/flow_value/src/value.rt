@@ -105,14 +105,15 @@ impl Text {
     pub fn into_string(self) -> String
         ensures { string_bytes result ≡ self }
     {
-        self.content
+        let Text { content } = self;
+        content
     }
 
     /// A second text with the same content.
     pub fn copy(&self, alloc: Global) -> Result<Text, AllocError>
         ensures { IfOk result (λ text. text ≡ self.now) }
     {
-        Text::from_str(alloc, self.content.as_str())
+        Text::from_str(alloc, self.as_str())
     }
 }
 
@@ -152,7 +153,8 @@ impl Row {
     pub fn into_items(self) -> Vec<Value>
         ensures { result.items ≡ values_of self }
     {
-        self.items
+        let Row { items: values } = self;
+        values
     }
 
     /// A second row with the same values.
@@ -160,18 +162,18 @@ impl Row {
     pub fn copy(&self, alloc: Global) -> Result<Row, AllocError>
         ensures { IfOk result (λ row. row ≡ self.now) }
     {
-        let mut items = Vec::with_capacity(alloc, self.items.len())?;
+        let mut copies = Vec::with_capacity(alloc, self.len())?;
         for item in &self.items {
-            items.push(item.copy(alloc)?)?;
+            copies.push(item.copy(alloc)?)?;
         }
-        Ok(Row { items })
+        Ok(Row { items: copies })
     }
 
     #[cycle(same)]
     fn is_same(&self, other: &Row) -> bool
         ensures { IsTrue result ↔ (self.now ≡ other.now) }
     {
-        if self.items.len() != other.items.len() {
+        if self.len() != other.len() {
             return false;
         }
         for (at, item) in self.items.iter().enumerate() {
@@ -249,7 +251,7 @@ impl PartialEq for Text {
     ghost laws = { partial_equiv_from_equiv (decided bytes_eq bytes_eq-Decides) };
 
     fn eq(&self, other: &Text) -> bool {
-        self.content.as_str() == other.content.as_str()
+        self.as_str() == other.as_str()
     }
 }
 
