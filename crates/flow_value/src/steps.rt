@@ -118,12 +118,7 @@ impl Work for Steps {
 
     fn run(&self, alloc: Global, value: &Value) -> Result<Vec<Value>, WorkFault> {
         let mut results = Vec::new(alloc);
-        run_onto(
-            alloc,
-            self.steps.as_slice(),
-            value.copy(alloc)?,
-            &mut results,
-        )?;
+        run_onto(alloc, self.as_slice(), value.copy(alloc)?, &mut results)?;
         Ok(results)
     }
 
