@@ -1,1 +1,5 @@
+pub mod LinkOk
+pub mod Moves
+pub mod MovesKeep
 pub mod Phase
+pub mod Views

@@ -1,0 +1,2 @@
+pub mod SourceMoves
+pub mod TargetMoves
