@@ -1,12 +1,12 @@
 -- Each move of the source's end keeps a link in order.
-use Rattle.std.proofs.Common.{◌≡◌, ℕ, ◌+◌, ◌<◌, ◌≤◌, ◌⊎◌, true, false, List, [], ◌∷◌, ◌++◌, length, length-append, Option, Some, None, refl, ap, sym, subst, arith, ⊎_elim, ◌∙◌}
+use Rattle.std.proofs.Common.{◌≡◌, ℕ, ◌+◌, ◌<◌, [], ◌∷◌, ◌++◌, length, length-append, Option, Some, None, refl, ap, sym, subst, arith, ⊎_elim}
 use Rattle.flow_link.specs.declared.phase.LinkEnd.{LinkEnd}
 use Rattle.flow_link.specs.declared.phase.Phase.{Phase}
-use Rattle.flow_link.specs.declared.phase.Phase.TheVariants.{Idle, Posted, Offered, Postponed, Wanted, Given, Opened, Asked, Held, Refused, Ended}
+use Rattle.flow_link.specs.declared.phase.Phase.TheVariants.{Idle, Posted, Offered, Postponed, Wanted, Given, Asked, Held, Ended}
 use Rattle.flow_link.specs.declared.phase.Move.{Move}
 use Rattle.flow_link.specs.declared.phase.Move.TheVariants.{Offer, Post, Withdraw, Deny, Give, End, Hold}
 use Rattle.flow_link.specs.Views.{SourceStage, TargetStage, SourceView, TargetView, LinkFacts, crossed}
-use Rattle.flow_link.specs.LinkOk.{LinkOk, AsPlanned, HasRoom, IsWithin, MayEnd, MayPutOff, is_put_off}
+use Rattle.flow_link.specs.LinkOk.{LinkOk, HasRoom, IsWithin, MayEnd, MayPutOff}
 use Rattle.flow_link.specs.Moves.{source_at, target_at, giving}
 use Rattle.flow_link.specs.MovesKeep.{Keeps, Fills, OfferKeeps, PostKeeps, EndKeeps, FillKeeps, GiveKeeps, DenyKeeps, HoldKeeps, WithdrawKeeps, SourceMovesKeep}
 
@@ -92,11 +92,13 @@ module _ {V : Type 0} (facts : LinkFacts) (slot : Option V) (source : SourceView
   fills_accepted : (phase : Phase) (t : TargetStage V) (i : ℕ)
       → Stands phase (SourceStage.accepted i) t → Fills facts phase i slot (source_at (SourceStage.filling i) source) (target_at t target)
   fills_accepted (Wanted j) (TargetStage.accepted k) i ok = record {
-    is_wanted = ap Wanted (sym ok.stages.0); empty = ok.values.empty;
+    is_wanted = ap Wanted (sym ok.stages.0);
+    empty = ok.values.empty;
     in_order = record { same_start = ok.same_start; stages = ok.stages; ids = ok.ids; values = ok.values; plan = assumption };
   }
   fills_accepted (Wanted j) (TargetStage.consuming k) i ok = record {
-    is_wanted = ap Wanted (sym ok.stages.0); empty = ok.values.empty;
+    is_wanted = ap Wanted (sym ok.stages.0);
+    empty = ok.values.empty;
     in_order = record { same_start = ok.same_start; stages = ok.stages; ids = ok.ids; values = ok.values; plan = assumption };
   }
   fills_accepted _ TargetStage.free i ok = absurd ok.stages
@@ -105,7 +107,8 @@ module _ {V : Type 0} (facts : LinkFacts) (slot : Option V) (source : SourceView
   fills_wished : (phase : Phase) (t : TargetStage V) (i : ℕ)
       → Stands phase (SourceStage.wished i) t → Fills facts phase i slot (source_at (SourceStage.filling i) source) (target_at t target)
   fills_wished (Wanted j) (TargetStage.consuming k) i ok = record {
-    is_wanted = ap Wanted (sym ok.stages.0); empty = ok.values.empty;
+    is_wanted = ap Wanted (sym ok.stages.0);
+    empty = ok.values.empty;
     in_order = record { same_start = ok.same_start; stages = ok.stages; ids = ok.ids; values = ok.values; plan = assumption };
   }
   fills_wished _ TargetStage.free i ok = absurd ok.stages
@@ -114,7 +117,8 @@ module _ {V : Type 0} (facts : LinkFacts) (slot : Option V) (source : SourceView
   fills_claimed : (phase : Phase) (t : TargetStage V) (i : ℕ)
       → Stands phase (SourceStage.claimed i) t → Fills facts phase i slot (source_at (SourceStage.filling i) source) (target_at t target)
   fills_claimed (Wanted j) (TargetStage.claiming k) i ok = record {
-    is_wanted = ap Wanted (sym ok.stages.0); empty = ok.values.empty;
+    is_wanted = ap Wanted (sym ok.stages.0);
+    empty = ok.values.empty;
     in_order = record { same_start = ok.same_start; stages = ok.stages; ids = ok.ids; values = ok.values; plan = assumption };
   }
   fills_claimed _ TargetStage.free i ok = absurd ok.stages
@@ -137,33 +141,51 @@ module _ {V : Type 0} (facts : LinkFacts) (slot : Option V) (source : SourceView
   gives (Wanted j) (TargetStage.accepted k) i value ok = record {
     allowed = ap (λ n. Some (Given n)) (sym ok.stages.0);
     in_order = record {
-      same_start = ok.same_start; stages = cc; ids = refl; values = ap (λ taken. taken ++ value ∷ []) ok.values.all;
+      same_start = ok.same_start;
+      stages = cc;
+      ids = refl;
+      values = ap (λ taken. taken ++ value ∷ []) ok.values.all;
       plan = record {
-        put_off = tt; freely = ok.plan.freely; reserved = tt;
+        put_off = tt;
+        freely = ok.plan.freely;
+        reserved = tt;
         within = within_after facts.max source.before (length source.given) _ ok.plan.room (one_more value);
-        room = tt; ends = tt;
+        room = tt;
+        ends = tt;
       };
     };
   }
   gives (Wanted j) (TargetStage.consuming k) i value ok = record {
     allowed = ap (λ n. Some (Given n)) (sym ok.stages.0);
     in_order = record {
-      same_start = ok.same_start; stages = cc; ids = refl; values = ap (λ taken. taken ++ value ∷ []) ok.values.all;
+      same_start = ok.same_start;
+      stages = cc;
+      ids = refl;
+      values = ap (λ taken. taken ++ value ∷ []) ok.values.all;
       plan = record {
-        put_off = still_put_off value ok.plan.put_off; freely = ok.plan.freely; reserved = tt;
+        put_off = still_put_off value ok.plan.put_off;
+        freely = ok.plan.freely;
+        reserved = tt;
         within = within_after facts.max source.before (length source.given) _ ok.plan.room (one_more value);
-        room = tt; ends = tt;
+        room = tt;
+        ends = tt;
       };
     };
   }
   gives (Wanted j) (TargetStage.claiming k) i value ok = record {
     allowed = ap (λ n. Some (Given n)) (sym ok.stages.0);
     in_order = record {
-      same_start = ok.same_start; stages = cc; ids = refl; values = ap (λ taken. taken ++ value ∷ []) ok.values.all;
+      same_start = ok.same_start;
+      stages = cc;
+      ids = refl;
+      values = ap (λ taken. taken ++ value ∷ []) ok.values.all;
       plan = record {
-        put_off = still_put_off value ok.plan.put_off; freely = tt; reserved = ok.plan.reserved;
+        put_off = still_put_off value ok.plan.put_off;
+        freely = tt;
+        reserved = ok.plan.reserved;
         within = within_after facts.max source.before (length source.given) _ ok.plan.room (one_more value);
-        room = tt; ends = tt;
+        room = tt;
+        ends = tt;
       };
     };
   }
@@ -234,8 +256,8 @@ module _ (V : Type 0) where
       ⊎_elim
       (λ e. fills_accepted facts slot source target phase target.stage i (with_source ok e))
       (⊎_elim
-        (λ e. fills_wished facts slot source target phase target.stage i (with_source ok e))
-        (λ e. fills_claimed facts slot source target phase target.stage i (with_source ok e)))
+      (λ e. fills_wished facts slot source target phase target.stage i (with_source ok e))
+      (λ e. fills_claimed facts slot source target phase target.stage i (with_source ok e)))
       stage
 
   give_keeps : GiveKeeps V

@@ -1,9 +1,9 @@
 -- Each move of the target's end keeps a link in order.
-use Rattle.std.proofs.Common.{◌≡◌, ℕ, ◌≤◌, ◌⊎◌, true, false, Option, Some, None, refl, ap, sym, subst, arith, ⊎_elim, ◌∙◌, ◌++◌, ◌∷◌, [], List}
+use Rattle.std.proofs.Common.{◌≡◌, ℕ, ◌≤◌, true, false, Option, Some, None, refl, ap, sym, subst, arith, ⊎_elim, ◌∙◌}
 use Rattle.flow_link.specs.declared.phase.Phase.{Phase}
-use Rattle.flow_link.specs.declared.phase.Phase.TheVariants.{Idle, Posted, Offered, Postponed, Wanted, Given, Opened, Asked, Held, Refused, Ended}
+use Rattle.flow_link.specs.declared.phase.Phase.TheVariants.{Idle, Posted, Offered, Postponed, Wanted, Given, Opened, Asked, Held, Refused}
 use Rattle.flow_link.specs.declared.phase.Move.{Move}
-use Rattle.flow_link.specs.declared.phase.Move.TheVariants.{Want, TurnDown, Refuse, Postpone, Consume, Open, Close, Ask, Claim, Release}
+use Rattle.flow_link.specs.declared.phase.Move.TheVariants.{Want, TurnDown, Refuse, Postpone, Consume, Close, Ask, Claim, Release}
 use Rattle.flow_link.specs.Views.{SourceStage, TargetStage, Refusal, SourceView, TargetView, LinkFacts, crossed, crossed_in}
 use Rattle.flow_link.specs.LinkOk.{LinkOk, AsPlanned, IsInSlot}
 use Rattle.flow_link.specs.Moves.{source_at, target_at, closing}
@@ -52,10 +52,17 @@ module _ {V : Type 0} (facts : LinkFacts) (slot : Option V) (source : SourceView
   postpones (Offered j) (SourceStage.out k) i not_steady taken ok = record {
     allowed = ap (λ n. Some (Postponed n)) (sym ok.stages.1);
     in_order = record {
-      same_start = ok.same_start; stages = (cc, refl); ids = omega arith; values = ok.values;
+      same_start = ok.same_start;
+      stages = (cc, refl);
+      ids = omega arith;
+      values = ok.values;
       plan = record {
         put_off = record { not_steady = not_steady; not_the_first = λ is_sole. rw (ok.same_start, ok.values.all) (taken is_sole) };
-        freely = tt; reserved = tt; within = ok.plan.within; room = ok.plan.room; ends = tt;
+        freely = tt;
+        reserved = tt;
+        within = ok.plan.within;
+        room = ok.plan.room;
+        ends = tt;
       };
     };
   }
@@ -152,7 +159,9 @@ module _ {V : Type 0} (facts : LinkFacts) (slot : Option V) (source : SourceView
     keeps = record {
       allowed = ap (λ n. Some (Opened n)) (sym same);
       in_order = record {
-        same_start = same_start; stages = refl; ids = same ∙ last;
+        same_start = same_start;
+        stages = refl;
+        ids = same ∙ last;
         values = record { empty = refl; all_but_one = all_but_one };
         plan = assumption;
       };
@@ -171,7 +180,9 @@ module _ {V : Type 0} (facts : LinkFacts) (slot : Option V) (source : SourceView
   closes (Opened j) SourceStage.crossing i value ok = record {
     allowed = refl;
     in_order = record {
-      same_start = ok.same_start; stages = tt; ids = tt;
+      same_start = ok.same_start;
+      stages = tt;
+      ids = tt;
       values = record { empty = ok.values.empty; all = ok.values.all_but_one };
       plan = assumption;
     };

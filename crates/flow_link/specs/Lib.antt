@@ -1,5 +1,9 @@
 pub mod LinkOk
+pub mod Looks
+pub mod LooksKeep
 pub mod Moves
 pub mod MovesKeep
 pub mod Phase
+pub mod Rebase
+pub mod Told
 pub mod Views

@@ -1,5 +1,5 @@
 -- The table of moves: which phase each move leads to, and the word in which a phase is stored.
-use Rattle.std.specs.Prelude.{ℕ, ◌+◌, ◌*◌, ◌^◌, ◌<◌, ◌≤◌, Option, Some, None}
+use Rattle.std.specs.Prelude.{◌≡◌, ℕ, ◌+◌, ◌*◌, ◌^◌, ◌<◌, ◌≤◌, Option, Some, None}
 use Rattle.flow_link.specs.declared.phase.LinkEnd.TheVariants.{Plain, Complete, Fault}
 use Rattle.flow_link.specs.declared.phase.Phase.{Phase}
 use Rattle.flow_link.specs.declared.phase.Phase.TheVariants.{Idle, Posted, Offered, Postponed, Wanted, Given, Opened, Asked, Held, Refused, Ended}
@@ -103,3 +103,7 @@ IsPhase Refused = Unit {0}
 IsPhase (Ended Plain) = Unit {0}
 IsPhase (Ended Complete) = Unit {0}
 IsPhase (Ended (Fault number)) = (1 ≤ number) × (number < 2 ^ 32)
+
+-- a word is one phase's word
+abbrev pub WordsTell : Type 0
+WordsTell = (first second : Phase) → IsPhase first → IsPhase second → word_of_phase first ≡ word_of_phase second → first ≡ second

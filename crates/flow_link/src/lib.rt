@@ -1,6 +1,11 @@
 //! Links between blocks: the phase of a hand-over, the moves of its two ends, and the word that stores a phase.
 #![tactic(auto)]
 
+mod laws;
 mod phase;
 
+pub use laws::{
+    counts_begin_anywhere, links_in_order_tell, looks_keep_links_in_order,
+    moves_keep_links_in_order, words_differ,
+};
 pub use phase::{LinkEnd, Move, Phase, phase_of, step_of, word_of};
