@@ -288,3 +288,68 @@ pub fn phase_of(word: u64) -> Option<Phase>
         },
     }
 }
+
+#[cfg(test)]
+mod tests {
+    use super::*;
+    use std::process::Abort;
+
+    fn header(rt: &impl Abort, id: u64) -> MessageHeader {
+        match MessageHeader::new(id) {
+            Some(header) => header,
+            None => panic!(rt; "{id} is no id"),
+        }
+    }
+
+    #[test]
+    fn words_are_numbers(rt: HostRuntime) {
+        let one = header(&rt, 1);
+        assert_eq!(rt; word_of(Phase::Idle), 0);
+        assert_eq!(rt; word_of(Phase::Wanted(one)), 2_305_843_009_213_693_953);
+        assert_eq!(rt; word_of(Phase::Refused), 5_188_146_770_730_811_392);
+        assert_eq!(rt;
+            word_of(Phase::Ended(LinkEnd::Fault(7))),
+            6_917_529_027_641_081_863
+        );
+    }
+
+    #[test]
+    fn other_words_store_no_phase(rt: HostRuntime) {
+        let unit = WORDS_OF_A_KIND;
+        for code in 13..32 {
+            assert_eq!(rt; phase_of(code * unit), None);
+            assert_eq!(rt; phase_of(code * unit + 1), None);
+        }
+        // a message needs an id, and a phase that speaks of none has none
+        assert_eq!(rt; phase_of(4 * unit), None);
+        assert_eq!(rt; phase_of(9 * unit + 1), None);
+        // a fault has a number that is not too great
+        assert_eq!(rt; phase_of(12 * unit), None);
+        assert_eq!(rt; phase_of(12 * unit + 4_294_967_296), None);
+        assert_eq!(rt;
+            phase_of(12 * unit + 4_294_967_295),
+            Some(Phase::Ended(LinkEnd::Fault(4_294_967_295)))
+        );
+    }
+
+    #[test]
+    fn a_message_crosses(rt: HostRuntime) {
+        let one = header(&rt, 1);
+        let mut phase = Some(Phase::Idle);
+        for step in [
+            Move::Offer(one),
+            Move::Postpone,
+            Move::Ask,
+            Move::Hold,
+            Move::Claim,
+            Move::Give,
+            Move::Open,
+            Move::Close,
+        ] {
+            phase = phase.and_then(|phase| step_of(phase, step));
+        }
+        assert_eq!(rt; phase, Some(Phase::Idle));
+        assert_eq!(rt; Phase::Held(one).id(), Some(one));
+        assert_eq!(rt; Phase::Refused.id(), None);
+    }
+}
