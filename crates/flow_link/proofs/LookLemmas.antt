@@ -1,11 +1,11 @@
 -- A look of either end keeps a link in order.
-use Rattle.std.proofs.Common.{◌≡◌, ℕ, zero-le, Option, Some, None, refl}
+use Rattle.std.proofs.Common.{◌≡◌, ℕ, inl, inr, zero-le, Option, Some, None, refl, ap}
 use Rattle.flow_link.specs.declared.phase.Phase.{Phase}
-use Rattle.flow_link.specs.declared.phase.Phase.TheVariants.{Idle, Posted, Offered, Postponed, Wanted, Given, Asked, Held, Refused, Ended}
+use Rattle.flow_link.specs.declared.phase.Phase.TheVariants.{Idle, Posted, Offered, Postponed, Wanted, Given, Opened, Asked, Held, Refused, Ended}
 use Rattle.flow_link.specs.Views.{SourceStage, TargetStage, SourceView, TargetView, LinkFacts}
-use Rattle.flow_link.specs.LinkOk.{LinkOk, IsWithin}
+use Rattle.flow_link.specs.LinkOk.{StandAt, LinkOk, IsWithin}
 use Rattle.flow_link.specs.Looks.{source_finds, target_finds}
-use Rattle.flow_link.specs.LooksKeep.{LookOutKeeps, LookInKeeps, LooksSettle, OwnMovesAreSeen, FreshIsOk, LooksKeep}
+use Rattle.flow_link.specs.LooksKeep.{LookOutKeeps, LookInKeeps, LooksSettle, SeenAt, SeenTells, OwnMovesAreSeen, FreshIsOk, LooksKeep}
 use Rattle.flow_link.specs.Moves.{source_at, target_at}
 
 -- Each lemma goes by the phases that change the stage; at those, by the other end's stage.
@@ -153,6 +153,64 @@ module _ {V : Type 0} where
   target_settles _ Idle = refl
   target_settles _ _ = refl
 
+-- both ends have seen the phase, or a look would change a stage
+module _ (V : Type 0) where
+  seen_at : (phase : Phase) (s : SourceStage) (t : TargetStage V) → StandAt phase s t
+      → source_finds s phase ≡ s → target_finds t phase ≡ t → SeenAt phase s t
+  seen_at Idle SourceStage.free TargetStage.free h a b = (refl, refl)
+  seen_at Idle SourceStage.free (TargetStage.postponed _) h a b = absurd cc
+  seen_at Idle SourceStage.free (TargetStage.consuming _) h a b = absurd cc
+  seen_at Idle SourceStage.free (TargetStage.asking _) h a b = absurd cc
+  seen_at Idle SourceStage.crossing TargetStage.free h a b = absurd cc
+  seen_at Idle (SourceStage.posted _) TargetStage.free h a b = absurd cc
+  seen_at (Posted i) (SourceStage.posted j) TargetStage.free h a b = absurd cc
+  seen_at (Posted i) (SourceStage.posted j) (TargetStage.posted k) h a b = (ap SourceStage.posted h.0, ap TargetStage.posted h.1)
+  seen_at (Posted i) (SourceStage.posted j) (TargetStage.postponed _) h a b = absurd cc
+  seen_at (Posted i) (SourceStage.posted j) (TargetStage.consuming _) h a b = absurd cc
+  seen_at (Posted i) (SourceStage.posted j) (TargetStage.asking _) h a b = absurd cc
+  seen_at (Offered i) (SourceStage.out j) TargetStage.free h a b = absurd cc
+  seen_at (Offered i) (SourceStage.out j) (TargetStage.offered k) h a b = (ap SourceStage.out h.0, ap TargetStage.offered h.1)
+  seen_at (Offered i) (SourceStage.out j) (TargetStage.postponed _) h a b = absurd cc
+  seen_at (Offered i) (SourceStage.out j) (TargetStage.consuming _) h a b = absurd cc
+  seen_at (Offered i) (SourceStage.out j) (TargetStage.asking _) h a b = absurd cc
+  seen_at (Postponed i) (SourceStage.out j) (TargetStage.postponed k) h a b = absurd cc
+  seen_at (Postponed i) (SourceStage.waiting j) (TargetStage.postponed k) h a b = (ap SourceStage.waiting h.0, ap TargetStage.postponed h.1)
+  seen_at (Postponed i) (SourceStage.reserved j) (TargetStage.postponed k) h a b = absurd cc
+  seen_at (Wanted i) (SourceStage.posted j) (TargetStage.accepted k) h a b = absurd cc
+  seen_at (Wanted i) (SourceStage.out j) (TargetStage.accepted k) h a b = absurd cc
+  seen_at (Wanted i) (SourceStage.accepted j) (TargetStage.accepted k) h a b = (inl (ap SourceStage.accepted h.0), inl (ap TargetStage.accepted h.1))
+  seen_at (Wanted i) (SourceStage.filling j) (TargetStage.accepted k) h a b = (inr (inr (inr (ap SourceStage.filling h.0))), inl (ap TargetStage.accepted h.1))
+  seen_at (Wanted i) (SourceStage.out j) (TargetStage.consuming k) h a b = absurd cc
+  seen_at (Wanted i) (SourceStage.accepted j) (TargetStage.consuming k) h a b = (inl (ap SourceStage.accepted h.0), inr (inl (ap TargetStage.consuming h.1)))
+  seen_at (Wanted i) (SourceStage.waiting j) (TargetStage.consuming k) h a b = absurd cc
+  seen_at (Wanted i) (SourceStage.wished j) (TargetStage.consuming k) h a b = (inr (inl (ap SourceStage.wished h.0)), inr (inl (ap TargetStage.consuming h.1)))
+  seen_at (Wanted i) (SourceStage.filling j) (TargetStage.consuming k) h a b = (inr (inr (inr (ap SourceStage.filling h.0))), inr (inl (ap TargetStage.consuming h.1)))
+  seen_at (Wanted i) (SourceStage.reserved j) (TargetStage.claiming k) h a b = absurd cc
+  seen_at (Wanted i) (SourceStage.claimed j) (TargetStage.claiming k) h a b = (inr (inr (inl (ap SourceStage.claimed h.0))), inr (inr (ap TargetStage.claiming h.1)))
+  seen_at (Wanted i) (SourceStage.filling j) (TargetStage.claiming k) h a b = (inr (inr (inr (ap SourceStage.filling h.0))), inr (inr (ap TargetStage.claiming h.1)))
+  seen_at (Given i) SourceStage.crossing (TargetStage.accepted k) h a b = absurd cc
+  seen_at (Given i) SourceStage.crossing (TargetStage.consuming k) h a b = absurd cc
+  seen_at (Given i) SourceStage.crossing (TargetStage.claiming k) h a b = absurd cc
+  seen_at (Given i) SourceStage.crossing (TargetStage.arrived k) h a b = (refl, ap TargetStage.arrived h)
+  seen_at (Opened i) SourceStage.crossing (TargetStage.hand k value) h a b = (refl, (value, ap (λ n. TargetStage.hand n value) h))
+  seen_at (Asked i) (SourceStage.out j) (TargetStage.asking k) h a b = absurd cc
+  seen_at (Asked i) (SourceStage.waiting j) (TargetStage.asking k) h a b = absurd cc
+  seen_at (Asked i) (SourceStage.asked_by j) (TargetStage.asking k) h a b = (ap SourceStage.asked_by h.0, ap TargetStage.asking h.1)
+  seen_at (Asked i) (SourceStage.reserved j) (TargetStage.asking k) h a b = absurd cc
+  seen_at (Held i) (SourceStage.reserved j) (TargetStage.asking k) h a b = absurd cc
+  seen_at (Held i) (SourceStage.reserved j) (TargetStage.holding k) h a b = (ap SourceStage.reserved h.0, ap TargetStage.holding h.1)
+  seen_at Refused (SourceStage.out _) (TargetStage.refused why) h a b = absurd cc
+  seen_at Refused (SourceStage.posted _) (TargetStage.refused why) h a b = absurd cc
+  seen_at Refused (SourceStage.waiting _) (TargetStage.refused why) h a b = absurd cc
+  seen_at Refused (SourceStage.reserved _) (TargetStage.refused why) h a b = absurd cc
+  seen_at Refused SourceStage.refused (TargetStage.refused why) h a b = (refl, (why, refl))
+  seen_at (Ended how) (SourceStage.ended mine) TargetStage.free h a b = absurd cc
+  seen_at (Ended how) (SourceStage.ended mine) (TargetStage.ended yours) h a b = (ap SourceStage.ended h.0, ap TargetStage.ended h.1)
+  seen_at (Ended how) (SourceStage.ended mine) (TargetStage.postponed _) h a b = absurd cc
+  seen_at (Ended how) (SourceStage.ended mine) (TargetStage.consuming _) h a b = absurd cc
+  seen_at (Ended how) (SourceStage.ended mine) (TargetStage.asking _) h a b = absurd cc
+  seen_at _ _ _ h a b = absurd h
+
 none_within : (max : Option ℕ) → IsWithin max 0
 none_within None = tt
 none_within (Some max) = zero-le
@@ -169,6 +227,10 @@ module _ (V : Type 0) where
     by_source = source_settles source.stage phase;
     by_target = target_settles target.stage phase;
   }
+
+  seen_tells : SeenTells V
+  seen_tells facts phase slot source target ok seen =
+      seen_at V phase source.stage target.stage ok.stages seen.by_source seen.by_target
 
   own_moves_are_seen : OwnMovesAreSeen V
   own_moves_are_seen = record {
@@ -209,6 +271,7 @@ module _ (V : Type 0) where
     out_keeps = look_out_keeps;
     in_keeps = look_in_keeps;
     settle = looks_settle;
+    seen_tells = seen_tells;
     own_moves = own_moves_are_seen;
     fresh = fresh_is_ok;
   }

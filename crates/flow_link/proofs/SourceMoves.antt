@@ -7,8 +7,8 @@ use Rattle.flow_link.specs.declared.phase.Move.{Move}
 use Rattle.flow_link.specs.declared.phase.Move.TheVariants.{Offer, Post, Withdraw, Deny, Give, End, Hold}
 use Rattle.flow_link.specs.Views.{SourceStage, TargetStage, SourceView, TargetView, LinkFacts, crossed}
 use Rattle.flow_link.specs.LinkOk.{LinkOk, HasRoom, IsWithin, MayEnd, MayPutOff}
-use Rattle.flow_link.specs.Moves.{source_at, target_at, giving}
-use Rattle.flow_link.specs.MovesKeep.{Keeps, Fills, OfferKeeps, PostKeeps, EndKeeps, FillKeeps, GiveKeeps, DenyKeeps, HoldKeeps, WithdrawKeeps, SourceMovesKeep}
+use Rattle.flow_link.specs.Moves.{source_at, target_at, filling, giving}
+use Rattle.flow_link.specs.MovesKeep.{Keeps, Fills, OfferKeeps, PostKeeps, EndKeeps, FillKeeps, GiveKeeps, GiveAtOnceKeeps, DenyKeeps, HoldKeeps, WithdrawKeeps, SourceMovesKeep}
 
 -- one value more may cross where there is room for it
 within_after : (max : Option ℕ) (before count after : ℕ) → HasRoom max (before + count) → after ≡ count + 1 → IsWithin max (before + after)
@@ -264,6 +264,11 @@ module _ (V : Type 0) where
   give_keeps facts phase slot source target ok i value stage =
       gives facts slot source target phase target.stage i value (with_source ok stage)
 
+  give_at_once_keeps : GiveAtOnceKeeps V
+  give_at_once_keeps facts phase slot source target ok i value stage =
+      let filled = fill_keeps facts phase slot source target ok i stage in
+      give_keeps facts phase slot (filling i source) target filled.in_order i value refl
+
   deny_keeps : DenyKeeps V
   deny_keeps facts phase slot source target ok i stage =
       ⊎_elim
@@ -286,6 +291,7 @@ module _ (V : Type 0) where
     ends = end_keeps;
     fill = fill_keeps;
     give = give_keeps;
+    give_at_once = give_at_once_keeps;
     deny = deny_keeps;
     hold = hold_keeps;
     withdraw = withdraw_keeps;

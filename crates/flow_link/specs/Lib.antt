@@ -1,4 +1,5 @@
 pub mod LinkOk
+pub mod LinkProof
 pub mod Looks
 pub mod LooksKeep
 pub mod Moves

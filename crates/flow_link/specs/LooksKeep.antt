@@ -1,5 +1,5 @@
 -- A look keeps a link in order, and after it, as after an end's own move, a second look of that end finds nothing new.
-use Rattle.std.specs.Prelude.{ℕ, [], None}
+use Rattle.std.specs.Prelude.{◌≡◌, ℕ, ◌⊎◌, [], None}
 use Rattle.flow_link.specs.declared.phase.LinkEnd.{LinkEnd}
 use Rattle.flow_link.specs.declared.phase.Phase.{Phase}
 use Rattle.flow_link.specs.declared.phase.Phase.TheVariants.{Idle, Posted, Offered, Postponed, Wanted, Given, Opened, Asked, Held, Refused, Ended}
@@ -9,6 +9,28 @@ use Rattle.flow_link.specs.Looks.{looking_out, looking_in, SourceHasSeen, Target
 use Rattle.flow_link.specs.Moves.{offering, posting, ending, filling, giving, denying, holding, withdrawing, wanting, turning_down, refusing, postponing, consuming, asking, claiming, releasing, opening, closing}
 use Rattle.flow_link.specs.MovesKeep.{InOrderHas}
 
+-- the source has seen that the message is wanted, and has not given it
+abbrev pub IsToGive : ℕ → SourceStage → Type 0
+IsToGive i stage = (stage ≡ SourceStage.accepted i) ⊎ (stage ≡ SourceStage.wished i) ⊎ (stage ≡ SourceStage.claimed i) ⊎ (stage ≡ SourceStage.filling i)
+
+-- the target waits for the message
+abbrev pub Wants : {V : Type 0} → ℕ → TargetStage V → Type 0
+Wants i stage = (stage ≡ TargetStage.accepted i) ⊎ (stage ≡ TargetStage.consuming i) ⊎ (stage ≡ TargetStage.claiming i)
+
+-- the stages at which both ends have seen the phase
+abbrev pub SeenAt : {V : Type 0} → Phase → SourceStage → TargetStage V → Type 0
+SeenAt Idle source target = (source ≡ SourceStage.free) × (target ≡ TargetStage.free)
+SeenAt (Posted i) source target = (source ≡ SourceStage.posted i) × (target ≡ TargetStage.posted i)
+SeenAt (Offered i) source target = (source ≡ SourceStage.out i) × (target ≡ TargetStage.offered i)
+SeenAt (Postponed i) source target = (source ≡ SourceStage.waiting i) × (target ≡ TargetStage.postponed i)
+SeenAt (Wanted i) source target = IsToGive i source × Wants i target
+SeenAt (Given i) source target = (source ≡ SourceStage.crossing) × (target ≡ TargetStage.arrived i)
+SeenAt {V} (Opened i) source target = (source ≡ SourceStage.crossing) × ((value : V) × (target ≡ TargetStage.hand i value))
+SeenAt (Asked i) source target = (source ≡ SourceStage.asked_by i) × (target ≡ TargetStage.asking i)
+SeenAt (Held i) source target = (source ≡ SourceStage.reserved i) × (target ≡ TargetStage.holding i)
+SeenAt Refused source target = (source ≡ SourceStage.refused) × ((why : Refusal) × (target ≡ TargetStage.refused why))
+SeenAt (Ended how) source target = (source ≡ SourceStage.ended how) × (target ≡ TargetStage.ended how)
+
 module _ (V : Type 0) where
   abbrev pub LookOutKeeps : Type 0
   LookOutKeeps = InOrderHas V λ facts phase slot source target.
@@ -17,6 +39,11 @@ module _ (V : Type 0) where
   abbrev pub LookInKeeps : Type 0
   LookInKeeps = InOrderHas V λ facts phase slot source target.
       LinkOk facts phase slot source (looking_in phase target)
+
+  -- where both ends have seen the phase, it tells their stages
+  abbrev pub SeenTells : Type 0
+  SeenTells = InOrderHas V λ facts phase slot source target.
+      Seen phase source target → SeenAt phase source.stage target.stage
 
   -- after a look of each end, a look changes nothing
   abbrev pub LooksSettle : Type 0
@@ -62,5 +89,6 @@ pub record LooksKeep (V : Type 0) : Type 0 where
   pub out_keeps : LookOutKeeps V
   pub in_keeps : LookInKeeps V
   pub settle : LooksSettle V
+  pub seen_tells : SeenTells V
   pub own_moves : OwnMovesAreSeen V
   pub fresh : FreshIsOk V

@@ -62,6 +62,12 @@ module _ (V : Type 0) where
       (i : ℕ) (value : V) → source.stage ≡ SourceStage.filling i
       → Keeps facts phase Give (Given i) (Some value) (giving i value source) target
 
+  -- where nobody looks in between, slot out and give are one step
+  abbrev pub GiveAtOnceKeeps : Type 0
+  GiveAtOnceKeeps = InOrderHas V λ facts phase slot source target.
+      (i : ℕ) (value : V) → (source.stage ≡ SourceStage.accepted i) ⊎ (source.stage ≡ SourceStage.wished i) ⊎ (source.stage ≡ SourceStage.claimed i)
+      → Keeps facts phase Give (Given i) (Some value) (giving i value source) target
+
   abbrev pub DenyKeeps : Type 0
   DenyKeeps = InOrderHas V λ facts phase slot source target.
       (i : ℕ) → (source.stage ≡ SourceStage.wished i) ⊎ (source.stage ≡ SourceStage.asked_by i)
@@ -140,6 +146,7 @@ pub record SourceMovesKeep (V : Type 0) : Type 0 where
   pub ends : EndKeeps V
   pub fill : FillKeeps V
   pub give : GiveKeeps V
+  pub give_at_once : GiveAtOnceKeeps V
   pub deny : DenyKeeps V
   pub hold : HoldKeeps V
   pub withdraw : WithdrawKeeps V
