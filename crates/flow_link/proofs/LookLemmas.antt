@@ -19,48 +19,48 @@ module _ {V : Type 0} (facts : LinkFacts) (slot : Option V) (source : SourceView
   OutKeeps s phase t = Stands phase s t → Stands phase (source_finds s phase) t
 
   out_looks : (phase : Phase) (t : TargetStage V) (i : ℕ) → OutKeeps (SourceStage.out i) phase t
-  out_looks (Wanted j) (TargetStage.accepted k) i ok = record { same_start = ok.same_start; stages = ok.stages; ids = ok.ids; values = ok.values; plan = assumption }
-  out_looks (Wanted j) (TargetStage.consuming k) i ok = record { same_start = ok.same_start; stages = ok.stages; ids = ok.ids; values = ok.values; plan = assumption }
+  out_looks (Wanted j) (TargetStage.accepted k) i ok = assumption
+  out_looks (Wanted j) (TargetStage.consuming k) i ok = assumption
   out_looks (Wanted j) _ i ok = absurd ok.stages
-  out_looks (Postponed j) (TargetStage.postponed k) i ok = record { same_start = ok.same_start; stages = ok.stages; ids = ok.ids; values = ok.values; plan = assumption }
+  out_looks (Postponed j) (TargetStage.postponed k) i ok = assumption
   out_looks (Postponed j) _ i ok = absurd ok.stages
-  out_looks (Asked j) (TargetStage.asking k) i ok = record { same_start = ok.same_start; stages = ok.stages; ids = ok.ids; values = ok.values; plan = assumption }
+  out_looks (Asked j) (TargetStage.asking k) i ok = assumption
   out_looks (Asked j) _ i ok = absurd ok.stages
-  out_looks Refused (TargetStage.refused why) i ok = record { same_start = ok.same_start; stages = tt; ids = tt; values = ok.values; plan = assumption }
+  out_looks Refused (TargetStage.refused why) i ok = assumption
   out_looks Refused _ i ok = absurd ok.stages
   out_looks _ t i ok = ok
 
   posted_looks : (phase : Phase) (t : TargetStage V) (i : ℕ) → OutKeeps (SourceStage.posted i) phase t
-  posted_looks (Wanted j) (TargetStage.accepted k) i ok = record { same_start = ok.same_start; stages = ok.stages; ids = ok.ids; values = ok.values; plan = assumption }
+  posted_looks (Wanted j) (TargetStage.accepted k) i ok = assumption
   posted_looks (Wanted j) _ i ok = absurd ok.stages
-  posted_looks Idle TargetStage.free i ok = record { same_start = ok.same_start; stages = tt; ids = tt; values = ok.values; plan = assumption }
+  posted_looks Idle TargetStage.free i ok = assumption
   posted_looks Idle _ i ok = absurd ok.stages
-  posted_looks Refused (TargetStage.refused why) i ok = record { same_start = ok.same_start; stages = tt; ids = tt; values = ok.values; plan = assumption }
+  posted_looks Refused (TargetStage.refused why) i ok = assumption
   posted_looks Refused _ i ok = absurd ok.stages
   posted_looks _ t i ok = ok
 
   waiting_looks : (phase : Phase) (t : TargetStage V) (i : ℕ) → OutKeeps (SourceStage.waiting i) phase t
-  waiting_looks (Wanted j) (TargetStage.consuming k) i ok = record { same_start = ok.same_start; stages = ok.stages; ids = ok.ids; values = ok.values; plan = assumption }
+  waiting_looks (Wanted j) (TargetStage.consuming k) i ok = assumption
   waiting_looks (Wanted j) _ i ok = absurd ok.stages
-  waiting_looks (Asked j) (TargetStage.asking k) i ok = record { same_start = ok.same_start; stages = ok.stages; ids = ok.ids; values = ok.values; plan = assumption }
+  waiting_looks (Asked j) (TargetStage.asking k) i ok = assumption
   waiting_looks (Asked j) _ i ok = absurd ok.stages
-  waiting_looks Refused (TargetStage.refused why) i ok = record { same_start = ok.same_start; stages = tt; ids = tt; values = ok.values; plan = assumption }
+  waiting_looks Refused (TargetStage.refused why) i ok = assumption
   waiting_looks Refused _ i ok = absurd ok.stages
   waiting_looks _ t i ok = ok
 
   reserved_looks : (phase : Phase) (t : TargetStage V) (i : ℕ) → OutKeeps (SourceStage.reserved i) phase t
-  reserved_looks (Wanted j) (TargetStage.claiming k) i ok = record { same_start = ok.same_start; stages = ok.stages; ids = ok.ids; values = ok.values; plan = assumption }
+  reserved_looks (Wanted j) (TargetStage.claiming k) i ok = assumption
   reserved_looks (Wanted j) _ i ok = absurd ok.stages
-  reserved_looks (Postponed j) (TargetStage.postponed k) i ok = record { same_start = ok.same_start; stages = ok.stages; ids = ok.ids; values = ok.values; plan = assumption }
+  reserved_looks (Postponed j) (TargetStage.postponed k) i ok = assumption
   reserved_looks (Postponed j) _ i ok = absurd ok.stages
-  reserved_looks (Asked j) (TargetStage.asking k) i ok = record { same_start = ok.same_start; stages = ok.stages; ids = ok.ids; values = ok.values; plan = assumption }
+  reserved_looks (Asked j) (TargetStage.asking k) i ok = assumption
   reserved_looks (Asked j) _ i ok = absurd ok.stages
-  reserved_looks Refused (TargetStage.refused why) i ok = record { same_start = ok.same_start; stages = tt; ids = tt; values = ok.values; plan = assumption }
+  reserved_looks Refused (TargetStage.refused why) i ok = assumption
   reserved_looks Refused _ i ok = absurd ok.stages
   reserved_looks _ t i ok = ok
 
   crossing_looks : (phase : Phase) (t : TargetStage V) → OutKeeps SourceStage.crossing phase t
-  crossing_looks Idle TargetStage.free ok = record { same_start = ok.same_start; stages = tt; ids = tt; values = ok.values; plan = assumption }
+  crossing_looks Idle TargetStage.free ok = assumption
   crossing_looks Idle _ ok = absurd ok.stages
   crossing_looks _ t ok = ok
 
@@ -77,58 +77,58 @@ module _ {V : Type 0} (facts : LinkFacts) (slot : Option V) (source : SourceView
   InKeeps t phase s = Stands phase s t → Stands phase s (target_finds t phase)
 
   free_looks : (phase : Phase) (s : SourceStage) → InKeeps TargetStage.free phase s
-  free_looks (Posted j) (SourceStage.posted k) ok = record { same_start = ok.same_start; stages = (ok.stages, refl); ids = ok.ids; values = ok.values; plan = assumption }
+  free_looks (Posted j) (SourceStage.posted k) ok = assumption
   free_looks (Posted j) _ ok = absurd ok.stages
-  free_looks (Offered j) (SourceStage.out k) ok = record { same_start = ok.same_start; stages = (ok.stages, refl); ids = ok.ids; values = ok.values; plan = assumption }
+  free_looks (Offered j) (SourceStage.out k) ok = assumption
   free_looks (Offered j) _ ok = absurd ok.stages
-  free_looks (Ended how) (SourceStage.ended mine) ok = record { same_start = ok.same_start; stages = (ok.stages, refl); ids = tt; values = ok.values; plan = assumption }
+  free_looks (Ended how) (SourceStage.ended mine) ok = assumption
   free_looks (Ended how) _ ok = absurd ok.stages
   free_looks _ s ok = ok
 
   postponed_looks : (phase : Phase) (s : SourceStage) (i : ℕ) → InKeeps (TargetStage.postponed i) phase s
-  postponed_looks Idle SourceStage.free i ok = record { same_start = ok.same_start; stages = tt; ids = tt; values = ok.values; plan = assumption }
+  postponed_looks Idle SourceStage.free i ok = assumption
   postponed_looks Idle _ i ok = absurd ok.stages
-  postponed_looks (Posted j) (SourceStage.posted k) i ok = record { same_start = ok.same_start; stages = (ok.stages, refl); ids = ok.ids; values = ok.values; plan = assumption }
+  postponed_looks (Posted j) (SourceStage.posted k) i ok = assumption
   postponed_looks (Posted j) _ i ok = absurd ok.stages
-  postponed_looks (Offered j) (SourceStage.out k) i ok = record { same_start = ok.same_start; stages = (ok.stages, refl); ids = ok.ids; values = ok.values; plan = assumption }
+  postponed_looks (Offered j) (SourceStage.out k) i ok = assumption
   postponed_looks (Offered j) _ i ok = absurd ok.stages
-  postponed_looks (Ended how) (SourceStage.ended mine) i ok = record { same_start = ok.same_start; stages = (ok.stages, refl); ids = tt; values = ok.values; plan = assumption }
+  postponed_looks (Ended how) (SourceStage.ended mine) i ok = assumption
   postponed_looks (Ended how) _ i ok = absurd ok.stages
   postponed_looks _ s i ok = ok
 
   consuming_looks : (phase : Phase) (s : SourceStage) (i : ℕ) → InKeeps (TargetStage.consuming i) phase s
-  consuming_looks Idle SourceStage.free i ok = record { same_start = ok.same_start; stages = tt; ids = tt; values = ok.values; plan = assumption }
+  consuming_looks Idle SourceStage.free i ok = assumption
   consuming_looks Idle _ i ok = absurd ok.stages
-  consuming_looks (Posted j) (SourceStage.posted k) i ok = record { same_start = ok.same_start; stages = (ok.stages, refl); ids = ok.ids; values = ok.values; plan = assumption }
+  consuming_looks (Posted j) (SourceStage.posted k) i ok = assumption
   consuming_looks (Posted j) _ i ok = absurd ok.stages
-  consuming_looks (Offered j) (SourceStage.out k) i ok = record { same_start = ok.same_start; stages = (ok.stages, refl); ids = ok.ids; values = ok.values; plan = assumption }
+  consuming_looks (Offered j) (SourceStage.out k) i ok = assumption
   consuming_looks (Offered j) _ i ok = absurd ok.stages
-  consuming_looks (Given j) SourceStage.crossing i ok = record { same_start = ok.same_start; stages = ok.stages; ids = ok.ids; values = ok.values; plan = assumption }
+  consuming_looks (Given j) SourceStage.crossing i ok = assumption
   consuming_looks (Given j) _ i ok = absurd ok.stages
-  consuming_looks (Ended how) (SourceStage.ended mine) i ok = record { same_start = ok.same_start; stages = (ok.stages, refl); ids = tt; values = ok.values; plan = assumption }
+  consuming_looks (Ended how) (SourceStage.ended mine) i ok = assumption
   consuming_looks (Ended how) _ i ok = absurd ok.stages
   consuming_looks _ s i ok = ok
 
   asking_looks : (phase : Phase) (s : SourceStage) (i : ℕ) → InKeeps (TargetStage.asking i) phase s
-  asking_looks Idle SourceStage.free i ok = record { same_start = ok.same_start; stages = tt; ids = tt; values = ok.values; plan = assumption }
+  asking_looks Idle SourceStage.free i ok = assumption
   asking_looks Idle _ i ok = absurd ok.stages
-  asking_looks (Posted j) (SourceStage.posted k) i ok = record { same_start = ok.same_start; stages = (ok.stages, refl); ids = ok.ids; values = ok.values; plan = assumption }
+  asking_looks (Posted j) (SourceStage.posted k) i ok = assumption
   asking_looks (Posted j) _ i ok = absurd ok.stages
-  asking_looks (Offered j) (SourceStage.out k) i ok = record { same_start = ok.same_start; stages = (ok.stages, refl); ids = ok.ids; values = ok.values; plan = assumption }
+  asking_looks (Offered j) (SourceStage.out k) i ok = assumption
   asking_looks (Offered j) _ i ok = absurd ok.stages
-  asking_looks (Held j) (SourceStage.reserved k) i ok = record { same_start = ok.same_start; stages = ok.stages; ids = ok.ids; values = ok.values; plan = assumption }
+  asking_looks (Held j) (SourceStage.reserved k) i ok = assumption
   asking_looks (Held j) _ i ok = absurd ok.stages
-  asking_looks (Ended how) (SourceStage.ended mine) i ok = record { same_start = ok.same_start; stages = (ok.stages, refl); ids = tt; values = ok.values; plan = assumption }
+  asking_looks (Ended how) (SourceStage.ended mine) i ok = assumption
   asking_looks (Ended how) _ i ok = absurd ok.stages
   asking_looks _ s i ok = ok
 
   accepted_looks : (phase : Phase) (s : SourceStage) (i : ℕ) → InKeeps (TargetStage.accepted i) phase s
-  accepted_looks (Given j) SourceStage.crossing i ok = record { same_start = ok.same_start; stages = ok.stages; ids = ok.ids; values = ok.values; plan = assumption }
+  accepted_looks (Given j) SourceStage.crossing i ok = assumption
   accepted_looks (Given j) _ i ok = absurd ok.stages
   accepted_looks _ s i ok = ok
 
   claiming_looks : (phase : Phase) (s : SourceStage) (i : ℕ) → InKeeps (TargetStage.claiming i) phase s
-  claiming_looks (Given j) SourceStage.crossing i ok = record { same_start = ok.same_start; stages = ok.stages; ids = ok.ids; values = ok.values; plan = assumption }
+  claiming_looks (Given j) SourceStage.crossing i ok = assumption
   claiming_looks (Given j) _ i ok = absurd ok.stages
   claiming_looks _ s i ok = ok
 

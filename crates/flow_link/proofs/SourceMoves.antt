@@ -28,99 +28,55 @@ module _ {V : Type 0} (facts : LinkFacts) (slot : Option V) (source : SourceView
 
   offers : (phase : Phase) (t : TargetStage V) (i : ℕ) → source.last < i → HasRoom facts.max (crossed source)
       → Stands phase SourceStage.free t → Leads phase (Offer i) (Offered i) (SourceStage.out i) t
-  offers Idle TargetStage.free i rises room ok = record {
-    allowed = refl;
-    in_order = record { same_start = ok.same_start; stages = refl; ids = rises; values = ok.values; plan = assumption };
-  }
-  offers Idle (TargetStage.postponed k) i rises room ok = record {
-    allowed = refl;
-    in_order = record { same_start = ok.same_start; stages = refl; ids = rises; values = ok.values; plan = assumption };
-  }
-  offers Idle (TargetStage.consuming k) i rises room ok = record {
-    allowed = refl;
-    in_order = record { same_start = ok.same_start; stages = refl; ids = rises; values = ok.values; plan = assumption };
-  }
-  offers Idle (TargetStage.asking k) i rises room ok = record {
-    allowed = refl;
-    in_order = record { same_start = ok.same_start; stages = refl; ids = rises; values = ok.values; plan = assumption };
-  }
+  offers Idle TargetStage.free i rises room ok = assumption
+  offers Idle (TargetStage.postponed k) i rises room ok = assumption
+  offers Idle (TargetStage.consuming k) i rises room ok = assumption
+  offers Idle (TargetStage.asking k) i rises room ok = assumption
   offers _ (TargetStage.refused _) i _ _ ok = absurd ok.stages
   offers _ _ i _ _ ok = absurd ok.stages
 
   posts : (phase : Phase) (t : TargetStage V) (i : ℕ) → source.last < i → HasRoom facts.max (crossed source)
       → Stands phase SourceStage.free t → Leads phase (Post i) (Posted i) (SourceStage.posted i) t
-  posts Idle TargetStage.free i rises room ok = record {
-    allowed = refl;
-    in_order = record { same_start = ok.same_start; stages = refl; ids = rises; values = ok.values; plan = assumption };
-  }
-  posts Idle (TargetStage.postponed k) i rises room ok = record {
-    allowed = refl;
-    in_order = record { same_start = ok.same_start; stages = refl; ids = rises; values = ok.values; plan = assumption };
-  }
-  posts Idle (TargetStage.consuming k) i rises room ok = record {
-    allowed = refl;
-    in_order = record { same_start = ok.same_start; stages = refl; ids = rises; values = ok.values; plan = assumption };
-  }
-  posts Idle (TargetStage.asking k) i rises room ok = record {
-    allowed = refl;
-    in_order = record { same_start = ok.same_start; stages = refl; ids = rises; values = ok.values; plan = assumption };
-  }
+  posts Idle TargetStage.free i rises room ok = assumption
+  posts Idle (TargetStage.postponed k) i rises room ok = assumption
+  posts Idle (TargetStage.consuming k) i rises room ok = assumption
+  posts Idle (TargetStage.asking k) i rises room ok = assumption
   posts _ (TargetStage.refused _) i _ _ ok = absurd ok.stages
   posts _ _ i _ _ ok = absurd ok.stages
 
   ends : (phase : Phase) (t : TargetStage V) (how : LinkEnd) → MayEnd facts (crossed source) how
       → Stands phase SourceStage.free t → Leads phase (End how) (Ended how) (SourceStage.ended how) t
-  ends Idle TargetStage.free how rule ok = record {
-    allowed = refl;
-    in_order = record { same_start = ok.same_start; stages = refl; ids = tt; values = ok.values; plan = assumption };
-  }
-  ends Idle (TargetStage.postponed k) how rule ok = record {
-    allowed = refl;
-    in_order = record { same_start = ok.same_start; stages = refl; ids = tt; values = ok.values; plan = assumption };
-  }
-  ends Idle (TargetStage.consuming k) how rule ok = record {
-    allowed = refl;
-    in_order = record { same_start = ok.same_start; stages = refl; ids = tt; values = ok.values; plan = assumption };
-  }
-  ends Idle (TargetStage.asking k) how rule ok = record {
-    allowed = refl;
-    in_order = record { same_start = ok.same_start; stages = refl; ids = tt; values = ok.values; plan = assumption };
-  }
+  ends Idle TargetStage.free how rule ok = assumption
+  ends Idle (TargetStage.postponed k) how rule ok = assumption
+  ends Idle (TargetStage.consuming k) how rule ok = assumption
+  ends Idle (TargetStage.asking k) how rule ok = assumption
   ends _ (TargetStage.refused _) how _ ok = absurd ok.stages
   ends _ _ how _ ok = absurd ok.stages
 
   fills_accepted : (phase : Phase) (t : TargetStage V) (i : ℕ)
       → Stands phase (SourceStage.accepted i) t → Fills facts phase i slot (source_at (SourceStage.filling i) source) (target_at t target)
-  fills_accepted (Wanted j) (TargetStage.accepted k) i ok = record {
-    is_wanted = ap Wanted (sym ok.stages.0);
-    empty = ok.values.empty;
-    in_order = record { same_start = ok.same_start; stages = ok.stages; ids = ok.ids; values = ok.values; plan = assumption };
-  }
-  fills_accepted (Wanted j) (TargetStage.consuming k) i ok = record {
-    is_wanted = ap Wanted (sym ok.stages.0);
-    empty = ok.values.empty;
-    in_order = record { same_start = ok.same_start; stages = ok.stages; ids = ok.ids; values = ok.values; plan = assumption };
-  }
+  fills_accepted (Wanted j) (TargetStage.accepted k) i ok =
+      let is_wanted = ap Wanted (sym ok.stages.0) in
+      assumption
+  fills_accepted (Wanted j) (TargetStage.consuming k) i ok =
+      let is_wanted = ap Wanted (sym ok.stages.0) in
+      assumption
   fills_accepted _ TargetStage.free i ok = absurd ok.stages
   fills_accepted _ _ i ok = absurd ok.stages
 
   fills_wished : (phase : Phase) (t : TargetStage V) (i : ℕ)
       → Stands phase (SourceStage.wished i) t → Fills facts phase i slot (source_at (SourceStage.filling i) source) (target_at t target)
-  fills_wished (Wanted j) (TargetStage.consuming k) i ok = record {
-    is_wanted = ap Wanted (sym ok.stages.0);
-    empty = ok.values.empty;
-    in_order = record { same_start = ok.same_start; stages = ok.stages; ids = ok.ids; values = ok.values; plan = assumption };
-  }
+  fills_wished (Wanted j) (TargetStage.consuming k) i ok =
+      let is_wanted = ap Wanted (sym ok.stages.0) in
+      assumption
   fills_wished _ TargetStage.free i ok = absurd ok.stages
   fills_wished _ _ i ok = absurd ok.stages
 
   fills_claimed : (phase : Phase) (t : TargetStage V) (i : ℕ)
       → Stands phase (SourceStage.claimed i) t → Fills facts phase i slot (source_at (SourceStage.filling i) source) (target_at t target)
-  fills_claimed (Wanted j) (TargetStage.claiming k) i ok = record {
-    is_wanted = ap Wanted (sym ok.stages.0);
-    empty = ok.values.empty;
-    in_order = record { same_start = ok.same_start; stages = ok.stages; ids = ok.ids; values = ok.values; plan = assumption };
-  }
+  fills_claimed (Wanted j) (TargetStage.claiming k) i ok =
+      let is_wanted = ap Wanted (sym ok.stages.0) in
+      assumption
   fills_claimed _ TargetStage.free i ok = absurd ok.stages
   fills_claimed _ _ i ok = absurd ok.stages
 
@@ -194,37 +150,29 @@ module _ {V : Type 0} (facts : LinkFacts) (slot : Option V) (source : SourceView
 
   denies_wished : (phase : Phase) (t : TargetStage V) (i : ℕ)
       → Stands phase (SourceStage.wished i) t → Leads phase Deny Idle SourceStage.free t
-  denies_wished (Wanted j) (TargetStage.consuming k) i ok = record {
-    allowed = refl;
-    in_order = record { same_start = ok.same_start; stages = tt; ids = tt; values = ok.values; plan = assumption };
-  }
+  denies_wished (Wanted j) (TargetStage.consuming k) i ok = assumption
   denies_wished _ TargetStage.free i ok = absurd ok.stages
   denies_wished _ _ i ok = absurd ok.stages
 
   denies_asked : (phase : Phase) (t : TargetStage V) (i : ℕ)
       → Stands phase (SourceStage.asked_by i) t → Leads phase Deny Idle SourceStage.free t
-  denies_asked (Asked j) (TargetStage.asking k) i ok = record {
-    allowed = refl;
-    in_order = record { same_start = ok.same_start; stages = tt; ids = tt; values = ok.values; plan = assumption };
-  }
+  denies_asked (Asked j) (TargetStage.asking k) i ok = assumption
   denies_asked _ TargetStage.free i ok = absurd ok.stages
   denies_asked _ _ i ok = absurd ok.stages
 
   holds : (phase : Phase) (t : TargetStage V) (i : ℕ)
       → Stands phase (SourceStage.asked_by i) t → Leads phase Hold (Held i) (SourceStage.reserved i) t
-  holds (Asked j) (TargetStage.asking k) i ok = record {
-    allowed = ap (λ n. Some (Held n)) (sym ok.stages.0);
-    in_order = record { same_start = ok.same_start; stages = (refl, cc); ids = omega arith; values = ok.values; plan = assumption };
-  }
+  holds (Asked j) (TargetStage.asking k) i ok =
+      let allowed = ap (λ n. Some (Held n)) (sym ok.stages.0) in
+      let same : k ≡ i = cc in
+      let rises : source.last < i = omega arith in
+      assumption
   holds _ TargetStage.free i ok = absurd ok.stages
   holds _ _ i ok = absurd ok.stages
 
   withdraws : (t : TargetStage V) (i : ℕ)
       → Stands (Postponed i) (SourceStage.waiting i) t → Leads (Postponed i) Withdraw Idle SourceStage.free t
-  withdraws (TargetStage.postponed k) i ok = record {
-    allowed = refl;
-    in_order = record { same_start = ok.same_start; stages = tt; ids = tt; values = ok.values; plan = assumption };
-  }
+  withdraws (TargetStage.postponed k) i ok = assumption
   withdraws _ i ok = absurd ok.stages
 
 -- a link in order, with the source's stage written out

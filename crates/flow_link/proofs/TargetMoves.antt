@@ -1,5 +1,5 @@
 -- Each move of the target's end keeps a link in order.
-use Rattle.std.proofs.Common.{◌≡◌, ℕ, ◌≤◌, true, false, Option, Some, None, refl, ap, sym, subst, arith, ⊎_elim, ◌∙◌}
+use Rattle.std.proofs.Common.{◌≡◌, ℕ, ◌<◌, ◌≤◌, true, false, Option, Some, None, refl, ap, sym, subst, arith, ⊎_elim, ◌∙◌}
 use Rattle.flow_link.specs.declared.phase.Phase.{Phase}
 use Rattle.flow_link.specs.declared.phase.Phase.TheVariants.{Idle, Posted, Offered, Postponed, Wanted, Given, Opened, Asked, Held, Refused}
 use Rattle.flow_link.specs.declared.phase.Move.{Move}
@@ -22,28 +22,27 @@ module _ {V : Type 0} (facts : LinkFacts) (slot : Option V) (source : SourceView
 
   wants_offered : (phase : Phase) (s : SourceStage) (i : ℕ) → facts.reserving ≡ false
       → Stands phase s (TargetStage.offered i) → Leads phase Want (Wanted i) s (TargetStage.accepted i)
-  wants_offered (Offered j) (SourceStage.out k) i not_reserving ok = record {
-    allowed = ap (λ n. Some (Wanted n)) (sym ok.stages.1);
-    in_order = record { same_start = ok.same_start; stages = (cc, refl); ids = omega arith; values = ok.values; plan = assumption };
-  }
+  wants_offered (Offered j) (SourceStage.out k) i not_reserving ok =
+      let allowed = ap (λ n. Some (Wanted n)) (sym ok.stages.1) in
+      let same : k ≡ i = cc in
+      let rises : source.last < i = omega arith in
+      assumption
   wants_offered _ SourceStage.free i _ ok = absurd ok.stages
   wants_offered _ _ i _ ok = absurd ok.stages
 
   wants_posted : (phase : Phase) (s : SourceStage) (i : ℕ) → facts.reserving ≡ false
       → Stands phase s (TargetStage.posted i) → Leads phase Want (Wanted i) s (TargetStage.accepted i)
-  wants_posted (Posted j) (SourceStage.posted k) i not_reserving ok = record {
-    allowed = ap (λ n. Some (Wanted n)) (sym ok.stages.1);
-    in_order = record { same_start = ok.same_start; stages = (cc, refl); ids = omega arith; values = ok.values; plan = assumption };
-  }
+  wants_posted (Posted j) (SourceStage.posted k) i not_reserving ok =
+      let allowed = ap (λ n. Some (Wanted n)) (sym ok.stages.1) in
+      let same : k ≡ i = cc in
+      let rises : source.last < i = omega arith in
+      assumption
   wants_posted _ SourceStage.free i _ ok = absurd ok.stages
   wants_posted _ _ i _ ok = absurd ok.stages
 
   turns_down : (phase : Phase) (s : SourceStage) (i : ℕ)
       → Stands phase s (TargetStage.posted i) → Leads phase TurnDown Idle s TargetStage.free
-  turns_down (Posted j) (SourceStage.posted k) i ok = record {
-    allowed = refl;
-    in_order = record { same_start = ok.same_start; stages = tt; ids = tt; values = ok.values; plan = assumption };
-  }
+  turns_down (Posted j) (SourceStage.posted k) i ok = assumption
   turns_down _ SourceStage.free i ok = absurd ok.stages
   turns_down _ _ i ok = absurd ok.stages
 
@@ -71,82 +70,54 @@ module _ {V : Type 0} (facts : LinkFacts) (slot : Option V) (source : SourceView
 
   refuses_offered : (phase : Phase) (s : SourceStage) (i : ℕ) (why : Refusal)
       → Stands phase s (TargetStage.offered i) → Leads phase Refuse Refused s (TargetStage.refused why)
-  refuses_offered (Offered j) (SourceStage.out k) i why ok = record {
-    allowed = refl;
-    in_order = record { same_start = ok.same_start; stages = tt; ids = tt; values = ok.values; plan = assumption };
-  }
+  refuses_offered (Offered j) (SourceStage.out k) i why ok = assumption
   refuses_offered _ SourceStage.free i why ok = absurd ok.stages
   refuses_offered _ _ i why ok = absurd ok.stages
 
   refuses_posted : (phase : Phase) (s : SourceStage) (i : ℕ) (why : Refusal)
       → Stands phase s (TargetStage.posted i) → Leads phase Refuse Refused s (TargetStage.refused why)
-  refuses_posted (Posted j) (SourceStage.posted k) i why ok = record {
-    allowed = refl;
-    in_order = record { same_start = ok.same_start; stages = tt; ids = tt; values = ok.values; plan = assumption };
-  }
+  refuses_posted (Posted j) (SourceStage.posted k) i why ok = assumption
   refuses_posted _ SourceStage.free i why ok = absurd ok.stages
   refuses_posted _ _ i why ok = absurd ok.stages
 
   refuses_postponed : (s : SourceStage) (i : ℕ) (why : Refusal)
       → Stands (Postponed i) s (TargetStage.postponed i) → Leads (Postponed i) Refuse Refused s (TargetStage.refused why)
-  refuses_postponed (SourceStage.out k) i why ok = record {
-    allowed = refl;
-    in_order = record { same_start = ok.same_start; stages = tt; ids = tt; values = ok.values; plan = assumption };
-  }
-  refuses_postponed (SourceStage.waiting k) i why ok = record {
-    allowed = refl;
-    in_order = record { same_start = ok.same_start; stages = tt; ids = tt; values = ok.values; plan = assumption };
-  }
-  refuses_postponed (SourceStage.reserved k) i why ok = record {
-    allowed = refl;
-    in_order = record { same_start = ok.same_start; stages = tt; ids = tt; values = ok.values; plan = assumption };
-  }
+  refuses_postponed (SourceStage.out k) i why ok = assumption
+  refuses_postponed (SourceStage.waiting k) i why ok = assumption
+  refuses_postponed (SourceStage.reserved k) i why ok = assumption
   refuses_postponed _ i why ok = absurd ok.stages
 
   consumes : (s : SourceStage) (i : ℕ) → facts.reserving ≡ false
       → Stands (Postponed i) s (TargetStage.postponed i) → Leads (Postponed i) Consume (Wanted i) s (TargetStage.consuming i)
-  consumes (SourceStage.out k) i not_reserving ok = record {
-    allowed = refl;
-    in_order = record { same_start = ok.same_start; stages = ok.stages; ids = ok.ids; values = ok.values; plan = assumption };
-  }
-  consumes (SourceStage.waiting k) i not_reserving ok = record {
-    allowed = refl;
-    in_order = record { same_start = ok.same_start; stages = ok.stages; ids = ok.ids; values = ok.values; plan = assumption };
-  }
+  consumes (SourceStage.out k) i not_reserving ok = assumption
+  consumes (SourceStage.waiting k) i not_reserving ok = assumption
   consumes (SourceStage.reserved k) i not_reserving ok = let is_reserving = ok.plan.reserved in absurd cc
   consumes _ i not_reserving ok = absurd ok.stages
 
   asks : (s : SourceStage) (i : ℕ) → facts.reserving ≡ true
       → Stands (Postponed i) s (TargetStage.postponed i) → Leads (Postponed i) Ask (Asked i) s (TargetStage.asking i)
-  asks (SourceStage.out k) i is_reserving ok = record {
-    allowed = refl;
-    in_order = record { same_start = ok.same_start; stages = ok.stages; ids = ok.ids; values = ok.values; plan = assumption };
-  }
-  asks (SourceStage.waiting k) i is_reserving ok = record {
-    allowed = refl;
-    in_order = record { same_start = ok.same_start; stages = ok.stages; ids = ok.ids; values = ok.values; plan = assumption };
-  }
-  asks (SourceStage.reserved k) i is_reserving ok = record {
-    allowed = refl;
-    in_order = record { same_start = ok.same_start; stages = ok.stages; ids = ok.ids; values = ok.values; plan = assumption };
-  }
+  asks (SourceStage.out k) i is_reserving ok = assumption
+  asks (SourceStage.waiting k) i is_reserving ok = assumption
+  asks (SourceStage.reserved k) i is_reserving ok = assumption
   asks _ i is_reserving ok = absurd ok.stages
 
   claims : (phase : Phase) (s : SourceStage) (i : ℕ)
       → Stands phase s (TargetStage.holding i) → Leads phase Claim (Wanted i) s (TargetStage.claiming i)
-  claims (Held j) (SourceStage.reserved k) i ok = record {
-    allowed = ap (λ n. Some (Wanted n)) (sym ok.stages.1);
-    in_order = record { same_start = ok.same_start; stages = (cc, refl); ids = omega arith; values = ok.values; plan = assumption };
-  }
+  claims (Held j) (SourceStage.reserved k) i ok =
+      let allowed = ap (λ n. Some (Wanted n)) (sym ok.stages.1) in
+      let same : k ≡ i = cc in
+      let rises : source.last < i = omega arith in
+      assumption
   claims _ SourceStage.free i ok = absurd ok.stages
   claims _ _ i ok = absurd ok.stages
 
   releases : (phase : Phase) (s : SourceStage) (i : ℕ)
       → Stands phase s (TargetStage.holding i) → Leads phase Release (Postponed i) s (TargetStage.postponed i)
-  releases (Held j) (SourceStage.reserved k) i ok = record {
-    allowed = ap (λ n. Some (Postponed n)) (sym ok.stages.1);
-    in_order = record { same_start = ok.same_start; stages = (cc, refl); ids = omega arith; values = ok.values; plan = assumption };
-  }
+  releases (Held j) (SourceStage.reserved k) i ok =
+      let allowed = ap (λ n. Some (Postponed n)) (sym ok.stages.1) in
+      let same : k ≡ i = cc in
+      let rises : source.last < i = omega arith in
+      assumption
   releases _ SourceStage.free i ok = absurd ok.stages
   releases _ _ i ok = absurd ok.stages
 
