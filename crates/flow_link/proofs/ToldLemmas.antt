@@ -8,9 +8,9 @@ use Rattle.flow_link.specs.declared.phase.Move.{Move}
 use Rattle.flow_link.specs.declared.phase.Move.TheVariants.{Offer}
 use Rattle.flow_link.specs.Phase.{phase_after}
 use Rattle.flow_link.specs.Views.{SourceStage, TargetStage, Refusal, SourceView, TargetView, LinkFacts, crossed}
-use Rattle.flow_link.specs.LinkOk.{StandAt, CrossedAt, LinkOk, MayPutOff, is_put_off, source_put_off}
+use Rattle.flow_link.specs.LinkOk.{StandAt, CrossedAt, IsHome, LinkOk, MayPutOff, is_put_off, source_put_off}
 use Rattle.flow_link.specs.Looks.{source_finds, target_finds, tells_release, tells_withdrawal}
-use Rattle.flow_link.specs.Told.{IsTakenOrUnderWay, MayDeny, IsKept, HoldsOn, HasWish, WishStands, HasEnded, LinkLaw, NeverDenied, HeldIsKept, ClaimedIsKept, ReleaseTold, WithdrawalTold, PutOffTold, NeverPutOff, CloseTold, EndTold, RefusalTold, LinksTell}
+use Rattle.flow_link.specs.Told.{IsAtRest, IsSettled, IsFilling, HasInHand, RestTold, FreeIsIdle, SlotHasOneHolder, IsTakenOrUnderWay, MayDeny, IsKept, HoldsOn, HasWish, WishStands, HasEnded, LinkLaw, NeverDenied, HeldIsKept, ClaimedIsKept, ReleaseTold, WithdrawalTold, PutOffTold, NeverPutOff, CloseTold, EndTold, RefusalTold, LinksTell}
 use Rattle.flow_link.proofs.LookLemmas.{look_out_keeps}
 
 -- what cannot be is not
@@ -173,6 +173,18 @@ module _ (V : Type 0) where
   close_is_told : (t : TargetStage V) (slot : Option V) (given taken : List V) → CrossedAt Idle t slot given taken → given ≡ taken
   close_is_told t slot given taken h = h.all
 
+  settled_is_home : (phase : Phase) (t : TargetStage V) (slot : Option V) (given taken : List V)
+      → IsSettled phase → CrossedAt phase t slot given taken → IsHome slot given taken
+  settled_is_home Idle t slot given taken settled h = h
+  settled_is_home Refused t slot given taken settled h = h
+  settled_is_home (Ended how) t slot given taken settled h = h
+  settled_is_home _ t slot given taken settled h = absurd settled
+
+  free_at_idle : (phase : Phase) (t : TargetStage V) → StandAt phase SourceStage.free t → phase ≡ Idle
+  free_at_idle Idle t h = refl
+  free_at_idle _ TargetStage.free h = absurd h
+  free_at_idle _ _ h = absurd h
+
   ended_stages : (s : SourceStage) (t : TargetStage V) (how : LinkEnd) → StandAt (Ended how) s t → s ≡ SourceStage.ended how
   ended_stages (SourceStage.ended mine) TargetStage.free how h = ap SourceStage.ended h
   ended_stages (SourceStage.ended mine) (TargetStage.ended yours) how h = ap SourceStage.ended h.0
@@ -191,6 +203,48 @@ module _ (V : Type 0) where
   seen_refused Refused t h = refl
   seen_refused _ TargetStage.free h = absurd h
   seen_refused _ _ h = absurd h
+
+  ended_by_source : (phase : Phase) (t : TargetStage V) (how : LinkEnd) → StandAt phase (SourceStage.ended how) t → phase ≡ Ended how
+  ended_by_source (Ended found) TargetStage.free how h = ap Ended (sym h)
+  ended_by_source (Ended found) (TargetStage.ended yours) how h = ap Ended (sym h.0)
+  ended_by_source (Ended found) (TargetStage.postponed k) how h = ap Ended (sym h)
+  ended_by_source (Ended found) (TargetStage.consuming k) how h = ap Ended (sym h)
+  ended_by_source (Ended found) (TargetStage.asking k) how h = ap Ended (sym h)
+  ended_by_source _ TargetStage.free how h = absurd h
+  ended_by_source _ _ how h = absurd h
+
+  rest_is_settled : (phase : Phase) (s : SourceStage) (t : TargetStage V) → StandAt phase s t → IsAtRest s → IsSettled phase
+  rest_is_settled phase SourceStage.free t h rest = rw (free_at_idle phase t h) tt
+  rest_is_settled phase SourceStage.refused t h rest = rw (seen_refused phase t h) tt
+  rest_is_settled phase (SourceStage.ended how) t h rest = rw (ended_by_source phase t how h) tt
+  rest_is_settled phase _ t h rest = absurd rest
+
+  filling_at_wanted : (phase : Phase) (t : TargetStage V) (i : ℕ) → StandAt phase (SourceStage.filling i) t → (phase ≡ Wanted i) × (HasInHand t → ⊥)
+  filling_at_wanted (Wanted j) (TargetStage.accepted k) i h = (ap Wanted (sym h.0), λ in_hand. in_hand)
+  filling_at_wanted (Wanted j) (TargetStage.consuming k) i h = (ap Wanted (sym h.0), λ in_hand. in_hand)
+  filling_at_wanted (Wanted j) (TargetStage.claiming k) i h = (ap Wanted (sym h.0), λ in_hand. in_hand)
+  filling_at_wanted _ TargetStage.free i h = absurd h
+  filling_at_wanted _ _ i h = absurd h
+
+  filling_is_empty : (phase : Phase) (s : SourceStage) (t : TargetStage V) (slot : Option V) (given taken : List V)
+      → StandAt phase s t → CrossedAt phase t slot given taken → IsFilling s → (slot ≡ None) × (HasInHand t → ⊥)
+  filling_is_empty phase (SourceStage.filling i) t slot given taken h crossed out =
+      let wanted = filling_at_wanted phase t i h in
+      let home = rw wanted.0 at crossed in
+      (home.empty, wanted.1)
+  filling_is_empty phase _ t slot given taken h crossed out = absurd out
+
+  hand_at_opened : (phase : Phase) (s : SourceStage) (i : ℕ) (value : V) → StandAt phase s (TargetStage.hand i value) → phase ≡ Opened i
+  hand_at_opened (Opened j) SourceStage.crossing i value h = ap Opened (sym h)
+  hand_at_opened _ SourceStage.free i value h = absurd h
+  hand_at_opened _ _ i value h = absurd h
+
+  hand_is_empty : (phase : Phase) (s : SourceStage) (t : TargetStage V) (slot : Option V) (given taken : List V)
+      → StandAt phase s t → CrossedAt phase t slot given taken → HasInHand t → slot ≡ None
+  hand_is_empty phase s (TargetStage.hand i value) slot given taken h crossed out =
+      let in_hand = rw (hand_at_opened phase s i value h) at crossed in
+      in_hand.empty
+  hand_is_empty phase s _ slot given taken h crossed out = absurd out
 
   refused_stage : (s : SourceStage) (t : TargetStage V) → StandAt Refused s t → (why : Refusal) × (t ≡ TargetStage.refused why)
   refused_stage s (TargetStage.refused why) h = (why, refl)
@@ -256,6 +310,21 @@ module _ (V : Type 0) where
   close_told facts phase slot source target ok stage found =
       close_is_told V target.stage slot source.given target.taken (rw found at ok.values)
 
+  rest_told : RestTold V
+  rest_told facts phase slot source target ok rest =
+      let settled = rest_is_settled V phase source.stage target.stage ok.stages rest in
+      (settled, settled_is_home V phase target.stage slot source.given target.taken settled ok.values)
+
+  free_is_idle : FreeIsIdle V
+  free_is_idle facts phase slot source target ok stage = free_at_idle V phase target.stage (rw stage at ok.stages)
+
+  slot_has_one_holder : SlotHasOneHolder V
+  slot_has_one_holder facts phase slot source target ok = record {
+    filling = λ out. (filling_is_empty V phase source.stage target.stage slot source.given target.taken ok.stages ok.values out).0;
+    in_hand = hand_is_empty V phase source.stage target.stage slot source.given target.taken ok.stages ok.values;
+    one = λ out. (filling_is_empty V phase source.stage target.stage slot source.given target.taken ok.stages ok.values out).1;
+  }
+
   ended_at : (facts : LinkFacts) (phase : Phase) (slot : Option V) (source : SourceView V) (target : TargetView V)
       → LinkOk facts phase slot source target → (how : LinkEnd) → phase ≡ Ended how → HasEnded facts how source target
   ended_at facts phase slot source target ok how found =
@@ -291,6 +360,9 @@ module _ (V : Type 0) where
     put_off_told = put_off_told;
     never_put_off = never_put_off;
     close_told = close_told;
+    rest_told = rest_told;
+    free_is_idle = free_is_idle;
+    slot_has_one_holder = slot_has_one_holder;
     end_told = end_told;
     refusal_told = refusal_told;
     for_good = record { refused = refused_for_good; ended = ended_for_good };

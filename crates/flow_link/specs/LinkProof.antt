@@ -1,4 +1,4 @@
--- That a link is in order has one proof at most, where values are told apart: so a struct may keep it as a fact.
+-- That a link is in order, and that both ends have seen it, has one proof at most: so a struct may keep it as a fact.
 use Rattle.std.specs.Prelude.{◌≡◌, ℕ, Bool, true, false, ◌||◌, List, Option, Some, None}
 use Rattle.std.specs.Bool.{OnTrue, MatchBool-prop}
 use Rattle.std.specs.Coded.{le_prop, Coded, Coded-set, coded_list, coded_option}
@@ -9,7 +9,8 @@ use Rattle.flow_link.specs.declared.phase.LinkEnd.{LinkEnd}
 use Rattle.flow_link.specs.declared.phase.LinkEnd.TheVariants.{Plain, Complete, Fault}
 use Rattle.flow_link.specs.declared.phase.Phase.{Phase}
 use Rattle.flow_link.specs.declared.phase.Phase.TheVariants.{Idle, Given, Opened, Refused, Ended}
-use Rattle.flow_link.specs.Views.{SourceStage, TargetStage, SourceView, TargetView, LinkFacts, crossed}
+use Rattle.flow_link.specs.Looks.{Seen}
+use Rattle.flow_link.specs.Views.{SourceStage, TargetStage, Refusal, SourceView, TargetView, LinkFacts, crossed}
 use Rattle.flow_link.specs.LinkOk.{StandAt, IdsRise, CrossedAt, IsHome, IsInSlot, IsInHand, InHandAt, MayPutOff, is_put_off, source_gives_freely, target_takes_freely, source_reserves, target_reserves, is_to_give, IsWithin, HasRoom, PassesOn, MayEnd, EndsWell, AsPlanned, LinkOk}
 
 -- ends of links are told apart
@@ -103,3 +104,15 @@ LinkOk-prop V value_code facts phase slot source target =
     let values = CrossedAt-prop V value_code phase target.stage slot source.given target.taken in
     let plan = AsPlanned-prop V facts (crossed source) phase source.stage target.stage in
     hlevel ℕ_set
+
+SourceStage-set : IsSet SourceStage
+SourceStage-set = hlevel (ℕ_set, LinkEnd-set, ⊎_set)
+
+Refusal-set : IsSet Refusal
+Refusal-set = hlevel ⊎_set
+
+TargetStage-set : (V : Type 0) → Coded V → IsSet (TargetStage V)
+TargetStage-set V value_code = hlevel (ℕ_set, LinkEnd-set, Refusal-set, Coded-set value_code, ⊎_set)
+
+pub Seen-prop : (V : Type 0) → Coded V → (phase : Phase) (source : SourceView V) (target : TargetView V) → IsProp (Seen phase source target)
+Seen-prop V value_code phase source target = hlevel (SourceStage-set, TargetStage-set V value_code)

@@ -1,12 +1,12 @@
 -- What follows for a link in order: what was given is taken, an accepted message is never denied, and what a look tells is so.
-use Rattle.std.specs.Prelude.{◌≡◌, ℕ, ◌⊎◌, true, false, List, [], ◌∷◌, ◌++◌, None}
+use Rattle.std.specs.Prelude.{◌≡◌, ℕ, ◌⊎◌, true, false, List, [], ◌∷◌, ◌++◌, Option, None}
 use Rattle.flow_link.specs.declared.phase.LinkEnd.{LinkEnd}
 use Rattle.flow_link.specs.declared.phase.Phase.{Phase}
 use Rattle.flow_link.specs.declared.phase.Phase.TheVariants.{Idle, Postponed, Wanted, Given, Asked, Held, Refused, Ended}
 use Rattle.flow_link.specs.declared.phase.Move.{Move}
 use Rattle.flow_link.specs.Phase.{phase_after}
 use Rattle.flow_link.specs.Views.{SourceStage, TargetStage, Refusal, SourceView, TargetView, LinkFacts, crossed}
-use Rattle.flow_link.specs.LinkOk.{MayPutOff, MayEnd, is_put_off, source_put_off}
+use Rattle.flow_link.specs.LinkOk.{IsHome, MayPutOff, MayEnd, is_put_off, source_put_off}
 use Rattle.flow_link.specs.Looks.{source_finds, target_finds, tells_release, tells_withdrawal}
 use Rattle.flow_link.specs.MovesKeep.{InOrderHas}
 
@@ -48,6 +48,35 @@ WishStands (TargetStage.postponed i) phase = phase ≡ Postponed i
 WishStands (TargetStage.consuming i) phase = (phase ≡ Wanted i) ⊎ (phase ≡ Given i)
 WishStands (TargetStage.asking i) phase = (phase ≡ Asked i) ⊎ (phase ≡ Held i)
 WishStands _ phase = Unit {0}
+
+-- the source has nothing under way over the link
+abbrev pub IsAtRest : SourceStage → Type 0
+IsAtRest SourceStage.free = Unit {0}
+IsAtRest SourceStage.refused = Unit {0}
+IsAtRest (SourceStage.ended _) = Unit {0}
+IsAtRest _ = ⊥
+
+-- a phase that the target cannot leave, where nothing crosses
+abbrev pub IsSettled : Phase → Type 0
+IsSettled Idle = Unit {0}
+IsSettled Refused = Unit {0}
+IsSettled (Ended _) = Unit {0}
+IsSettled _ = ⊥
+
+-- an end has the slot out of its place
+abbrev pub IsFilling : SourceStage → Type 0
+IsFilling (SourceStage.filling _) = Unit {0}
+IsFilling _ = ⊥
+
+abbrev pub HasInHand : {V : Type 0} → TargetStage V → Type 0
+HasInHand (TargetStage.hand _ _) = Unit {0}
+HasInHand _ = ⊥
+
+-- what an end takes out is an empty slot, and the two ends never have it at once
+pub record OneHolder {V : Type 0} (slot : Option V) (source : SourceView V) (target : TargetView V) : Type 0 where
+  pub filling : IsFilling source.stage → slot ≡ None
+  pub in_hand : HasInHand target.stage → slot ≡ None
+  pub one : IsFilling source.stage → HasInHand target.stage → ⊥
 
 -- a look tells a source that keeps a message whether the target released it
 pub record ReleaseIsTold {V : Type 0} (phase : Phase) (i : ℕ) (source : SourceView V) (target : TargetView V) : Type 0 where
@@ -119,6 +148,20 @@ module _ (V : Type 0) where
   CloseTold = InOrderHas V λ facts phase slot source target.
       source.stage ≡ SourceStage.crossing → phase ≡ Idle → source.given ≡ target.taken
 
+  -- a source at rest knows that nothing is under way, and that the target cannot change that
+  abbrev pub RestTold : Type 0
+  RestTold = InOrderHas V λ facts phase slot source target.
+      IsAtRest source.stage → IsSettled phase × IsHome slot source.given target.taken
+
+  -- only the source leaves idle, so a source that has seen it free may store its next offer
+  abbrev pub FreeIsIdle : Type 0
+  FreeIsIdle = InOrderHas V λ facts phase slot source target.
+      source.stage ≡ SourceStage.free → phase ≡ Idle
+
+  abbrev pub SlotHasOneHolder : Type 0
+  SlotHasOneHolder = InOrderHas V λ facts phase slot source target.
+      OneHolder slot source target
+
   abbrev pub EndTold : Type 0
   EndTold = InOrderHas V λ facts phase slot source target.
       (how : LinkEnd) → (phase ≡ Ended how) ⊎ (target.stage ≡ TargetStage.ended how) → HasEnded facts how source target
@@ -143,6 +186,9 @@ pub record LinksTell (V : Type 0) : Type 0 where
   pub put_off_told : PutOffTold V
   pub never_put_off : NeverPutOff V
   pub close_told : CloseTold V
+  pub rest_told : RestTold V
+  pub free_is_idle : FreeIsIdle V
+  pub slot_has_one_holder : SlotHasOneHolder V
   pub end_told : EndTold V
   pub refusal_told : RefusalTold V
   pub for_good : StaysForGood
