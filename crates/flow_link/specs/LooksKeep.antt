@@ -10,8 +10,8 @@ use Rattle.flow_link.specs.Moves.{offering, posting, ending, filling, giving, de
 use Rattle.flow_link.specs.MovesKeep.{InOrderHas}
 
 -- the source has seen that the message is wanted, and has not given it
-abbrev pub IsToGive : ℕ → SourceStage → Type 0
-IsToGive i stage = (stage ≡ SourceStage.accepted i) ⊎ (stage ≡ SourceStage.wished i) ⊎ (stage ≡ SourceStage.claimed i) ⊎ (stage ≡ SourceStage.filling i)
+abbrev pub HasSeenWanted : ℕ → SourceStage → Type 0
+HasSeenWanted i stage = (stage ≡ SourceStage.accepted i) ⊎ (stage ≡ SourceStage.wished i) ⊎ (stage ≡ SourceStage.claimed i) ⊎ (stage ≡ SourceStage.filling i)
 
 -- the target waits for the message
 abbrev pub Wants : {V : Type 0} → ℕ → TargetStage V → Type 0
@@ -23,7 +23,7 @@ SeenAt Idle source target = (source ≡ SourceStage.free) × (target ≡ TargetS
 SeenAt (Posted i) source target = (source ≡ SourceStage.posted i) × (target ≡ TargetStage.posted i)
 SeenAt (Offered i) source target = (source ≡ SourceStage.out i) × (target ≡ TargetStage.offered i)
 SeenAt (Postponed i) source target = (source ≡ SourceStage.waiting i) × (target ≡ TargetStage.postponed i)
-SeenAt (Wanted i) source target = IsToGive i source × Wants i target
+SeenAt (Wanted i) source target = HasSeenWanted i source × Wants i target
 SeenAt (Given i) source target = (source ≡ SourceStage.crossing) × (target ≡ TargetStage.arrived i)
 SeenAt {V} (Opened i) source target = (source ≡ SourceStage.crossing) × ((value : V) × (target ≡ TargetStage.hand i value))
 SeenAt (Asked i) source target = (source ≡ SourceStage.asked_by i) × (target ≡ TargetStage.asking i)

@@ -1,4 +1,8 @@
 //! Links between blocks: the phase of a hand-over, the moves of its two ends, and the word that stores a phase.
+//!
+//! A link belongs to no block: its source and its target each make their own moves, and know of the other only what
+//! they find at the link. When the two agree is a definition of contracts, `LinkOk`; the laws say that each move and
+//! each look keeps it.
 #![tactic(auto)]
 
 mod laws;
