@@ -1,1 +1,5 @@
+pub mod FunctionLemmas
+pub mod GrammarLemmas
+pub mod NumberLemmas
 pub mod RowLemmas
+pub mod StepLemmas

@@ -1,4 +1,4 @@
--- When two rows differ: their lengths do, or the values at some place.
+-- When two rows differ: where the values at some place do.
 use Rattle.std.proofs.Common.{◌≡◌, ℕ, ◌<◌, List, length, get_or, ap, sym, ◌∙◌}
 use Rattle.std.proofs.lemmas.List.{get_or_default}
 use Rattle.flow_value.specs.Items.{Items}
@@ -7,11 +7,8 @@ use Rattle.flow_value.specs.declared.value.Value.{Value}
 
 module _ (us vs : List Value) (r s : Items) (r_is : items_from us ≡ r) (s_is : items_from vs ≡ s) where
   -- rows of equal contents have the same values
-  pub values_equal : r ≡ s → us ≡ vs
+  values_equal : r ≡ s → us ≡ vs
   values_equal e = items_from-inj us vs (r_is ∙ e ∙ sym s_is)
-
-  pub lengths_differ : (length us ≡ length vs → ⊥) → r ≡ s → ⊥
-  lengths_differ differ e = differ (ap length (values_equal e))
 
   pub values_differ : (i : ℕ) (u v : Value) → u ≡ get_or us i u → v ≡ get_or vs i v
       → i < length vs → (u ≡ v → ⊥) → r ≡ s → ⊥

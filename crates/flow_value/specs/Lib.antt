@@ -1,6 +1,15 @@
 pub mod Fault
+pub mod Function
+pub mod Grammar
 pub mod Items
 pub mod Meaning
+pub mod Number
+pub mod Parts
+pub mod ReadsAs
 pub mod RowFalls
 pub mod Same
+pub mod Status
+pub mod Step
+pub mod StepRuns
 pub mod View
+pub mod When

@@ -1,12 +1,22 @@
 //! Values that flow through a network, and the functions that blocks apply to them.
 #![tactic(auto)]
 
+mod grammar;
 mod message;
+mod number;
 mod parcel;
+mod step;
+mod steps;
+#[cfg(test)]
+mod tests;
 mod value;
+mod when;
 mod work;
 
 pub use message::{MAX_ID, MessageHeader, MessageStatus};
 pub use parcel::Parcel;
+pub use step::Step;
+pub use steps::{Steps, StepsError};
 pub use value::{Row, Text, Value};
+pub use when::When;
 pub use work::{Work, WorkFault};

@@ -63,3 +63,14 @@ pub enum MessageStatus {
     /// The target takes no message any more.
     DecliningPermanently = 4,
 }
+
+impl MessageStatus {
+    ghost use Rattle.flow_value.specs.Status.{status_number};
+
+    /// The number of the status.
+    pub fn number(self) -> u8
+        ensures { result ≡ status_number self }
+    {
+        self as u8
+    }
+}

@@ -1,7 +1,8 @@
 //! The values that flow: numbers, texts, and rows of values.
 //!
 //! A text and a row hide how they are kept, so that two of them are equal where their contents are.
-ghost use Rattle.std.specs.Prelude.{◌≡◌, ◌↔◌, IsTrue, IfOk, string_bytes};
+ghost use Rattle.std.specs.Prelude.{◌≡◌, ◌<◌, ◌^◌, ◌↔◌, [], length, IsTrue, IfOk, string_bytes};
+ghost use Rattle.std.specs.Option.{option_copied};
 ghost use Rattle.std.specs.Cmp.{decided, partial_equiv_from_equiv};
 ghost use Rattle.std.specs.Cmp.Lexicographic.{pointwise};
 ghost use Rattle.std.proofs.lemmas.Slice.Eq.{bytes_eq-Decides};
@@ -62,6 +63,15 @@ impl Model for Row {
 }
 
 impl Text {
+    /// A text with a copy of this content.
+    pub fn from_str(alloc: Global, content: &str) -> Result<Text, AllocError>
+        ensures { IfOk result (λ text. text ≡ content.now) }
+    {
+        Ok(Text {
+            content: String::from_str(alloc, content)?,
+        })
+    }
+
     /// The text with this content.
     pub fn new(content: String) -> Text
         ensures { result ≡ string_bytes content }
@@ -76,20 +86,34 @@ impl Text {
         self.content.as_str()
     }
 
+    /// How many bytes its UTF-8 form has.
+    pub fn len(&self) -> usize
+        ensures count { result ≡ length self.now }
+        ensures small { result < 2 ^ 63 }
+    {
+        self.content.len()
+    }
+
+    /// Whether it has no bytes.
+    pub fn is_empty(&self) -> bool
+        ensures { IsTrue result ↔ (self.now ≡ []) }
+    {
+        self.content.is_empty()
+    }
+
     /// The content, given back.
     pub fn into_string(self) -> String
         ensures { string_bytes result ≡ self }
     {
-        self.content
+        let Text { content } = self;
+        content
     }
 
     /// A second text with the same content.
     pub fn copy(&self, alloc: Global) -> Result<Text, AllocError>
         ensures { IfOk result (λ text. text ≡ self.now) }
     {
-        Ok(Text {
-            content: String::from_str(alloc, self.content.as_str())?,
-        })
+        Text::from_str(alloc, self.as_str())
     }
 }
 
@@ -110,11 +134,27 @@ impl Row {
         self.items.as_slice()
     }
 
+    /// How many values it has.
+    pub fn len(&self) -> usize
+        ensures count { result ≡ length (values_of self.now) }
+        ensures small { result < 2 ^ 63 }
+    {
+        self.items.len()
+    }
+
+    /// Whether it has no values.
+    pub fn is_empty(&self) -> bool
+        ensures { IsTrue result ↔ (values_of self.now ≡ []) }
+    {
+        self.items.is_empty()
+    }
+
     /// The values, given back.
     pub fn into_items(self) -> Vec<Value>
         ensures { result.items ≡ values_of self }
     {
-        self.items
+        let Row { items: values } = self;
+        values
     }
 
     /// A second row with the same values.
@@ -122,18 +162,18 @@ impl Row {
     pub fn copy(&self, alloc: Global) -> Result<Row, AllocError>
         ensures { IfOk result (λ row. row ≡ self.now) }
     {
-        let mut items = Vec::with_capacity(alloc, self.items.len())?;
+        let mut copies = Vec::with_capacity(alloc, self.len())?;
         for item in &self.items {
-            items.push(item.copy(alloc)?)?;
+            copies.push(item.copy(alloc)?)?;
         }
-        Ok(Row { items })
+        Ok(Row { items: copies })
     }
 
     #[cycle(same)]
     fn is_same(&self, other: &Row) -> bool
         ensures { IsTrue result ↔ (self.now ≡ other.now) }
     {
-        if self.items.len() != other.items.len() {
+        if self.len() != other.len() {
             return false;
         }
         for (at, item) in self.items.iter().enumerate() {
@@ -146,6 +186,38 @@ impl Row {
 }
 
 impl Value {
+    ghost use Rattle.flow_value.specs.Parts.{int_part, text_part, row_part};
+
+    /// The number, if the value is one.
+    pub fn as_int(&self) -> Option<i64>
+        ensures { result ≡ int_part self.now }
+    {
+        match self {
+            Value::Int(number) => Some(*number),
+            _ => None,
+        }
+    }
+
+    /// The content of the text, if the value is one.
+    pub fn as_str(&self) -> Option<&str>
+        ensures { option_copied result ≡ text_part self.now }
+    {
+        match self {
+            Value::Text(text) => Some(text.as_str()),
+            _ => None,
+        }
+    }
+
+    /// The values of the row, if the value is one.
+    pub fn as_items(&self) -> Option<&[Value]>
+        ensures { option_copied result ≡ row_part self.now }
+    {
+        match self {
+            Value::Row(row) => Some(row.items()),
+            _ => None,
+        }
+    }
+
     /// A second value with the same content.
     #[cycle(copy)]
     pub fn copy(&self, alloc: Global) -> Result<Value, AllocError>
@@ -179,7 +251,7 @@ impl PartialEq for Text {
     ghost laws = { partial_equiv_from_equiv (decided bytes_eq bytes_eq-Decides) };
 
     fn eq(&self, other: &Text) -> bool {
-        self.content.as_str() == other.content.as_str()
+        self.as_str() == other.as_str()
     }
 }
 

@@ -3,7 +3,7 @@ ghost use Rattle.std.specs.Prelude.{◌≡◌, IsTrue, IfOk};
 ghost use Rattle.flow_value.specs.Fault.{number_of};
 
 use crate::value::Value;
-use std::alloc::{AllocError, Global};
+use std::alloc::{AllocError, AllocFailed, Global};
 use thiserror::Error;
 
 /// Why a work gave no values.
@@ -52,6 +52,17 @@ impl From<AllocError> for WorkFault {
     ghost from_gives = { λ _ fault. fault ≡ Memory };
 
     fn from(_error: AllocError) -> WorkFault {
+        WorkFault::Memory
+    }
+}
+
+impl<T: Drop> From<AllocFailed<T>> for WorkFault {
+    ghost use Rattle.std.specs.Prelude.{◌≡◌};
+    ghost use Rattle.flow_value.specs.declared.work.WorkFault.TheVariants.{Memory};
+
+    ghost from_gives = { λ _ fault. fault ≡ Memory };
+
+    fn from(_error: AllocFailed<T>) -> WorkFault {
         WorkFault::Memory
     }
 }

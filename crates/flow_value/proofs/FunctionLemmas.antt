@@ -1,0 +1,58 @@
+-- How the results of a function at many values grow by one more value.
+use Rattle.std.proofs.Common.{◌≡◌, List, [], ◌∷◌, ◌++◌, Ok, Err, refl, sym, ap, ◌∙◌, append_assoc}
+use Rattle.std.proofs.lemmas.List.{append-nil}
+use Rattle.flow_value.specs.Function.{joined, each, then_each, meaning_of}
+use Rattle.flow_value.specs.Step.{Given, applied}
+use Rattle.flow_value.specs.declared.step.Step.{Step}
+use Rattle.flow_value.specs.declared.value.Value.{Value}
+use Rattle.flow_value.specs.declared.work.WorkFault.{WorkFault}
+
+pub joined_assoc : (a b c : Given) → joined (joined a b) c ≡ joined a (joined b c)
+joined_assoc (Ok us) (Ok vs) (Ok ws) = ap Ok (append_assoc us vs ws)
+joined_assoc (Ok us) (Ok vs) (Err fault) = refl
+joined_assoc (Ok us) (Err fault) c = refl
+joined_assoc (Err fault) b c = refl
+
+pub joined-nothing : (a : Given) → joined a (Ok []) ≡ a
+joined-nothing (Ok us) = ap Ok (append-nil us)
+joined-nothing (Err fault) = refl
+
+-- what came behind results was values too
+pub joined-Ok : (us ws : List Value) (a : Given) → joined (Ok us) a ≡ Ok ws → (vs : List Value) × (a ≡ Ok vs)
+joined-Ok us ws (Ok vs) e = (vs, refl)
+joined-Ok us ws (Err fault) e = cc
+
+module _ (f : Value → Given) where
+  pub each-append : (us vs : List Value) → each f (us ++ vs) ≡ joined (each f us) (each f vs)
+  each-append [] vs = nothing_joined (each f vs)
+    where
+      nothing_joined : (a : Given) → a ≡ joined (Ok []) a
+      nothing_joined (Ok ws) = refl
+      nothing_joined (Err fault) = refl
+  each-append (u ∷ us) vs = ap (joined (f u)) (each-append us vs) ∙ sym (joined_assoc (f u) (each f us) (each f vs))
+
+  pub each-one : (v : Value) → each f (v ∷ []) ≡ f v
+  each-one v = joined-nothing (f v)
+
+  -- one more value behind those that were worked on
+  pub each-more : (before so_far after done : List Value) (v : Value)
+      → joined (Ok before) (each f done) ≡ Ok so_far → joined (Ok so_far) (f v) ≡ Ok after
+      → joined (Ok before) (each f (done ++ v ∷ [])) ≡ Ok after
+  each-more before so_far after done v e more =
+      ap (joined (Ok before)) (each-append done (v ∷ []) ∙ ap (joined (each f done)) (each-one v))
+      ∙ sym (joined_assoc (Ok before) (each f done) (f v)) ∙ ap (λ a. joined a (f v)) e ∙ more
+
+  -- the first fault ends it
+  pub each-fault : (before so_far done rest : List Value) (v : Value) (fault : WorkFault)
+      → joined (Ok before) (each f done) ≡ Ok so_far → f v ≡ Err fault
+      → each f (done ++ v ∷ rest) ≡ Err fault
+  each-fault before so_far done rest v fault e faults =
+      let worked = joined-Ok before so_far (each f done) e in
+      each-append done (v ∷ rest) ∙ ap (λ a. joined a (each f (v ∷ rest))) worked.1
+      ∙ ap (λ a. joined (Ok worked.0) (joined a (each f rest))) faults
+
+-- a step that gives many values hands each to the rest
+pub meaning_of-many : (steps rest : List Step) (step : Step) (v : Value) (vs : List Value)
+    → steps ≡ step ∷ rest → applied step v ≡ Ok vs → meaning_of steps v ≡ each (meaning_of rest) vs
+meaning_of-many steps rest step v vs parts gives =
+    ap (λ all. meaning_of all v) parts ∙ ap (λ given. then_each given (meaning_of rest)) gives

@@ -1,0 +1,76 @@
+-- What `parse` makes of digits, and of digits behind a minus sign.
+use Rattle.std.proofs.Common.{◌≡◌, ℕ, ◌<◌, List, [], ◌∷◌, length, drop, Bool, true, false, refl, ◌∙◌, ap, rules, cond, ◌&&◌, Decides, Ok, Err, ℤ, pos, negsuc, w64, eqb, subst}
+use Rattle.std.specs.Char.{is_ascii_digit}
+use Rattle.std.specs.List.{list_all}
+use Rattle.std.specs.Prelude.{FitsSigned}
+use Rattle.std.specs.Str.Parse.{IsNumeral, without_leading_sign, digits_value, signed_digits_value}
+use Rattle.std.proofs.lemmas.Bool.{eqb-true, false≢true}
+use Rattle.std.proofs.lemmas.Bool.Decides.{Decides-ltb}
+use Rattle.std.proofs.lemmas.Str.Parse.{IsNumeralModel, numerals_by_value}
+use Rattle.flow_value.specs.Number.{without_minus, is_digits, is_i64, int_of}
+use Rattle.flow_value.specs.declared.work.WorkFault.TheVariants.{NotInt, Range}
+
+numerals : IsNumeralModel (λ ds. list_all is_ascii_digit ds ≡ true) (digits_value 10)
+numerals = numerals_by_value _ (search rules)
+
+pub chosen : {A : Type 0} (b : Bool) (x y : A) → b ≡ true → cond b x y ≡ x
+chosen b x y e = ap (λ v. cond v x y) e
+
+pub left_over : {A : Type 0} (b : Bool) (x y : A) → b ≡ false → cond b x y ≡ y
+left_over b x y e = ap (λ v. cond v x y) e
+
+both_true : (a b : Bool) → (a && b) ≡ true → (a ≡ true) × (b ≡ true)
+both_true true true e = (refl, refl)
+both_true true false e = cc
+both_true false b e = cc
+
+not_true : (b : Bool) → (b ≡ true → ⊥) → b ≡ false
+not_true true h = absurd (h refl)
+not_true false h = refl
+
+pub is_i64-Decides : (n : ℤ) → Decides (is_i64 n) (FitsSigned w64 n)
+is_i64-Decides (pos n) =
+    (λ e. record { sfits = (Decides-ltb n 9223372036854775808).0 e }, λ f. (Decides-ltb n 9223372036854775808).1 f.sfits)
+is_i64-Decides (negsuc n) =
+    (λ e. record { sfits = (Decides-ltb n 9223372036854775808).0 e }, λ f. (Decides-ltb n 9223372036854775808).1 f.sfits)
+
+-- a text that is not empty is all digits where each byte is one
+pub all_of_some : (bs : List ℕ) → 0 < length bs → is_digits bs ≡ list_all is_ascii_digit bs
+all_of_some bs some = ap (λ b. b && list_all is_ascii_digit bs) ((Decides-ltb 0 (length bs)).1 some)
+
+-- digits behind a minus sign are what `parse` reads behind a sign
+pub sign_is_minus : (bs : List ℕ) → is_digits (without_minus bs) ≡ true → without_leading_sign bs ≡ without_minus bs
+sign_is_minus [] e = refl
+sign_is_minus (c ∷ cs) e = behind (eqb c 45) (eqb c 43) refl refl e
+  where
+    behind : (minus plus : Bool) → eqb c 45 ≡ minus → eqb c 43 ≡ plus
+        → is_digits (cond minus cs (c ∷ cs)) ≡ true
+        → cond minus cs (drop (cond plus 1 0) (c ∷ cs)) ≡ cond minus cs (c ∷ cs)
+    behind true plus m p digits = refl
+    behind false false m p digits = refl
+    behind false true m p digits =
+        let all : list_all is_ascii_digit (c ∷ cs) ≡ true = (both_true _ _ digits).1 in
+        let first : is_ascii_digit c ≡ true = (both_true _ _ all).0 in
+        let plus : is_ascii_digit 43 ≡ true = subst (λ d. is_ascii_digit d ≡ true) (eqb-true c 43 p) first in
+        absurd (false≢true plus)
+
+pub numeral_behind_sign : (bs : List ℕ) → is_digits (without_minus bs) ≡ true → IsNumeral 10 (without_leading_sign bs)
+numeral_behind_sign bs e =
+    let both = both_true _ _ e in
+    let same = sign_is_minus bs e in
+    rw same ((Decides-ltb 0 (length (without_minus bs))).0 both.0, numerals.to (without_minus bs) both.1)
+
+-- digits that fit are the number
+pub int_of-fits : (bs : List ℕ) → is_digits (without_minus bs) ≡ true → FitsSigned w64 (signed_digits_value 10 bs)
+    → int_of bs ≡ Ok (signed_digits_value 10 bs)
+int_of-fits bs digits fits = chosen _ _ _ digits ∙ chosen _ _ _ ((is_i64-Decides (signed_digits_value 10 bs)).1 fits)
+
+-- digits that do not fit are out of range
+pub int_of-over : (bs : List ℕ) → is_digits (without_minus bs) ≡ true → (FitsSigned w64 (signed_digits_value 10 bs) → ⊥)
+    → int_of bs ≡ Err Range
+int_of-over bs digits over =
+    chosen _ _ _ digits ∙ left_over _ _ _ (not_true _ (λ e. over ((is_i64-Decides (signed_digits_value 10 bs)).0 e)))
+
+-- what is not all digits is no number
+pub int_of-other : (bs : List ℕ) → is_digits (without_minus bs) ≡ false → int_of bs ≡ Err NotInt
+int_of-other bs other = left_over _ _ _ other

@@ -1,0 +1,219 @@
+//! One step of a named function, and what it makes of a value.
+ghost use Rattle.std.specs.Prelude.{◌≡◌};
+ghost use Rattle.flow_value.specs.Step.{applied, total_of, summed, ints_below, numbers_of, one_int};
+ghost use Rattle.flow_value.specs.Meaning.{RunsAs};
+ghost use Rattle.flow_value.specs.StepRuns.{AppliesAs, GivesOne, int_in, row_in};
+ghost use Rattle.flow_value.specs.declared.step.Step.TheVariants.{ToInt, ToText, Add, Mul, Field, Len, Sum, Reject, Spread, Upto, Repeat};
+
+use crate::number::read_int;
+use crate::value::{Row, Text, Value};
+use crate::work::WorkFault;
+use std::alloc::Global;
+
+/// The greatest number that `upto` counts to, and the most values that `repeat` gives.
+pub(crate) const MOST_VALUES: u16 = 1_000;
+
+/// One step of a named function; `docs/formats.md` says what each makes of each value.
+#[derive(Clone, Copy, Debug, PartialEq, Eq)]
+pub enum Step {
+    /// `id`: the value itself.
+    Id,
+    /// `int`: a number, or the number that a text is.
+    ToInt,
+    /// `text`: a text, or a number's decimal text.
+    ToText,
+    /// `add k`: a number plus k.
+    Add(i64),
+    /// `mul k`: a number times k.
+    Mul(i64),
+    /// `field i`: a row's value at place i, from 0.
+    Field(u16),
+    /// `len`: how many values a row has, or bytes a text.
+    Len,
+    /// `sum`: the sum of a row of numbers.
+    Sum,
+    /// `reject k`: a number other than k.
+    Reject(i64),
+    /// `spread`: a row's values, one by one.
+    Spread,
+    /// `upto`: the whole numbers from 0 up to a number, without it.
+    Upto,
+    /// `repeat n`: the value, n times.
+    Repeat(u16),
+}
+
+/// What a step gave for a value: most steps give one.
+pub(crate) enum Applied {
+    One(Value),
+    Many(Vec<Value>),
+}
+
+impl Step {
+    /// Applies the step.
+    pub(crate) fn apply(self, alloc: Global, value: Value) -> Result<Applied, WorkFault>
+        ensures { AppliesAs (applied self value) result }
+    {
+        match self {
+            Step::Id => Ok(Applied::One(value)),
+            Step::ToInt => Ok(Applied::One(to_int(value)?)),
+            Step::ToText => Ok(Applied::One(to_text(alloc, value)?)),
+            Step::Add(number) => Ok(Applied::One(add(value, number)?)),
+            Step::Mul(number) => Ok(Applied::One(multiply(value, number)?)),
+            Step::Field(at) => Ok(Applied::One(field(value, at)?)),
+            Step::Len => Ok(Applied::One(len(value)?)),
+            Step::Sum => Ok(Applied::One(sum(value)?)),
+            Step::Reject(number) => Ok(Applied::One(reject(value, number)?)),
+            Step::Spread => Ok(Applied::Many(spread(value)?)),
+            Step::Upto => Ok(Applied::Many(up_to(alloc, value)?)),
+            Step::Repeat(count) => Ok(Applied::Many(repeat(alloc, &value, count)?)),
+        }
+    }
+}
+
+fn to_int(value: Value) -> Result<Value, WorkFault>
+    ensures { GivesOne (applied ToInt value) result }
+{
+    match value {
+        Value::Int(number) => Ok(Value::Int(number)),
+        Value::Text(text) => Ok(Value::Int(read_int(text.as_str())?)),
+        Value::Row(_) => Err(WorkFault::NotInt),
+    }
+}
+
+fn to_text(alloc: Global, value: Value) -> Result<Value, WorkFault>
+    ensures { GivesOne (applied ToText value) result }
+{
+    match value {
+        Value::Int(number) => Ok(Value::Text(Text::new(number.to_string(alloc)?))),
+        Value::Text(text) => Ok(Value::Text(text)),
+        Value::Row(_) => Err(WorkFault::NotText),
+    }
+}
+
+fn add(value: Value, number: i64) -> Result<Value, WorkFault>
+    ensures { GivesOne (applied (Add number) value) result }
+{
+    match int(value)?.checked_add(number) {
+        Some(sum) => Ok(Value::Int(sum)),
+        None => Err(WorkFault::Range),
+    }
+}
+
+fn multiply(value: Value, number: i64) -> Result<Value, WorkFault>
+    ensures { GivesOne (applied (Mul number) value) result }
+{
+    match int(value)?.checked_mul(number) {
+        Some(product) => Ok(Value::Int(product)),
+        None => Err(WorkFault::Range),
+    }
+}
+
+fn reject(value: Value, number: i64) -> Result<Value, WorkFault>
+    ensures { GivesOne (applied (Reject number) value) result }
+{
+    let found = int(value)?;
+    if found == number {
+        return Err(WorkFault::Rejected);
+    }
+    Ok(Value::Int(found))
+}
+
+fn len(value: Value) -> Result<Value, WorkFault>
+    ensures { GivesOne (applied Len value) result }
+{
+    match value {
+        Value::Int(_) => Err(WorkFault::NotRow),
+        Value::Text(text) => Ok(Value::Int(text.len() as i64)),
+        Value::Row(row) => Ok(Value::Int(row.len() as i64)),
+    }
+}
+
+fn field(value: Value, at: u16) -> Result<Value, WorkFault>
+    ensures { GivesOne (applied (Field at) value) result }
+{
+    let mut items = row(value)?.into_items();
+    let at = usize::from(at);
+    if at < items.len() {
+        Ok(items.swap_remove(at))
+    } else {
+        Err(WorkFault::NoField)
+    }
+}
+
+fn sum(value: Value) -> Result<Value, WorkFault>
+    ensures { GivesOne (applied Sum value) result }
+{
+    let row = row(value)?;
+    Ok(Value::Int(total(row.items())?))
+}
+
+fn total(items: &[Value]) -> Result<i64, WorkFault>
+    ensures { one_int result ≡ summed (numbers_of items.now) }
+{
+    let mut total: i128 = 0;
+    for item in items {
+        match item {
+            Value::Int(number) => total += i128::from(*number),
+            _ => return Err(WorkFault::NotInt),
+        }
+    }
+    match i64::try_from(total) {
+        Ok(total) => Ok(total),
+        Err(_) => Err(WorkFault::Range),
+    }
+}
+
+fn spread(value: Value) -> Result<Vec<Value>, WorkFault>
+    ensures { RunsAs (applied Spread value) result }
+{
+    Ok(row(value)?.into_items())
+}
+
+fn up_to(alloc: Global, value: Value) -> Result<Vec<Value>, WorkFault>
+    ensures { RunsAs (applied Upto value) result }
+{
+    match u16::try_from(int(value)?) {
+        Ok(end) if end <= MOST_VALUES => Ok(ints_below(alloc, end)?),
+        _ => Err(WorkFault::Range),
+    }
+}
+
+fn ints_below(alloc: Global, end: u16) -> Result<Vec<Value>, WorkFault>
+    ensures { RunsAs (Ok (ints_below end)) result }
+{
+    let mut values = Vec::with_capacity(alloc, usize::from(end))?;
+    for number in 0..end {
+        values.push(Value::Int(i64::from(number)))?;
+    }
+    Ok(values)
+}
+
+fn repeat(alloc: Global, value: &Value, count: u16) -> Result<Vec<Value>, WorkFault>
+    ensures { RunsAs (applied (Repeat count) value.now) result }
+{
+    let mut values = Vec::with_capacity(alloc, usize::from(count))?;
+    for _made in 0..count {
+        values.push(value.copy(alloc)?)?;
+    }
+    Ok(values)
+}
+
+/// The number in a value.
+fn int(value: Value) -> Result<i64, WorkFault>
+    ensures { result ≡ int_in value }
+{
+    match value {
+        Value::Int(number) => Ok(number),
+        _ => Err(WorkFault::NotInt),
+    }
+}
+
+/// The row in a value.
+fn row(value: Value) -> Result<Row, WorkFault>
+    ensures { result ≡ row_in value }
+{
+    match value {
+        Value::Row(row) => Ok(row),
+        _ => Err(WorkFault::NotRow),
+    }
+}
