@@ -1,0 +1,6 @@
+pub mod LookLemmas
+pub mod RebaseLemmas
+pub mod SourceMoves
+pub mod TargetMoves
+pub mod ToldLemmas
+pub mod WordLemmas

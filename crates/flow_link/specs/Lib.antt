@@ -1,0 +1,10 @@
+pub mod LinkOk
+pub mod LinkProof
+pub mod Looks
+pub mod LooksKeep
+pub mod Moves
+pub mod MovesKeep
+pub mod Phase
+pub mod Rebase
+pub mod Told
+pub mod Views

@@ -1,0 +1,36 @@
+//! Laws about links. Each stands on a function that does nothing: whoever calls it has the whole law.
+ghost use Rattle.std.specs.Prelude.{◌≡◌};
+ghost use Rattle.flow_value.specs.declared.value.Value.{Value};
+ghost use Rattle.flow_link.specs.LooksKeep.{LooksKeep};
+ghost use Rattle.flow_link.specs.MovesKeep.{SourceMovesKeep, TargetMovesKeep};
+ghost use Rattle.flow_link.specs.Phase.{WordsTell};
+ghost use Rattle.flow_link.specs.Rebase.{Rebases};
+ghost use Rattle.flow_link.specs.Told.{LinksTell};
+
+/// The words of two different phases differ.
+pub fn words_differ()
+    ensures { WordsTell }
+{}
+
+/// A move that an end makes where its own stage allows it is one that the phase allows, and leaves the link in order.
+pub fn moves_keep_links_in_order()
+    ensures of_source { SourceMovesKeep Value }
+    ensures of_target { TargetMovesKeep Value }
+{}
+
+/// A look leaves the link in order, and a second look finds nothing new. A fresh link is in order, and both ends have
+/// seen it.
+pub fn looks_keep_links_in_order()
+    ensures { LooksKeep Value }
+{}
+
+/// Of a link in order all that was given is taken or under way, what was accepted is not denied, and what a look tells
+/// is so.
+pub fn links_in_order_tell()
+    ensures { LinksTell Value }
+{}
+
+/// A link stays in order when both its ends begin to count later.
+pub fn counts_begin_anywhere()
+    ensures { Rebases Value }
+{}

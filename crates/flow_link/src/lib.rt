@@ -1,0 +1,15 @@
+//! Links between blocks: the phase of a hand-over, the moves of its two ends, and the word that stores a phase.
+//!
+//! A link belongs to no block: its source and its target each make their own moves, and know of the other only what
+//! they find at the link. When the two agree is a definition of contracts, `LinkOk`; the laws say that each move and
+//! each look keeps it.
+#![tactic(auto)]
+
+mod laws;
+mod phase;
+
+pub use laws::{
+    counts_begin_anywhere, links_in_order_tell, looks_keep_links_in_order,
+    moves_keep_links_in_order, words_differ,
+};
+pub use phase::{LinkEnd, Move, Phase, phase_of, step_of, word_of};

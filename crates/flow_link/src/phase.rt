@@ -1,0 +1,355 @@
+//! How far the hand-over of a message over a link has come, and the moves that take it on.
+//!
+//! phase            who leaves it, and how
+//! Idle             the source offers, posts or ends
+//! Posted           the target wants, turns down or refuses
+//! Offered          the target wants, postpones or refuses
+//! Postponed        the target consumes, asks or refuses, unless the source withdraws first
+//! Wanted           the source gives; after a consume it may deny
+//! Given            the target opens
+//! Opened           the target closes
+//! Asked            the source holds or denies
+//! Held             the target claims or releases
+//! Refused, Ended   nobody
+//!
+//! At Postponed both ends may move, so there each move is a compare and exchange, and one end wins.
+ghost use Rattle.std.specs.Prelude.{◌≡◌, ◌≤◌, ◌<◌, ◌^◌, Some, IfSome};
+ghost use Rattle.flow_link.specs.Phase.{phase_after, message_id, code_of, id_of, word_of_phase, IsPhase};
+
+use flow_value::{MAX_ID, MessageHeader};
+
+/// How a link ended.
+#[derive(Clone, Copy, Debug, PartialEq, Eq, Hash)]
+pub enum LinkEnd {
+    /// Nothing is passed on: the link has carried all that it may, or it does not propagate.
+    Plain,
+    /// The source has completed, and completes the target's port.
+    ///
+    /// Microsoft: `IDataflowBlock.Complete`, over a link with `DataflowLinkOptions.PropagateCompletion`.
+    Complete,
+    /// The source has faulted, and faults the target; the fault's number is at least 1.
+    ///
+    /// Microsoft: `IDataflowBlock.Fault`, over a link with `DataflowLinkOptions.PropagateCompletion`.
+    Fault(u32),
+}
+
+/// How far the hand-over of a message over one link has come.
+#[derive(Clone, Copy, Debug, PartialEq, Eq, Hash)]
+pub enum Phase {
+    /// Nothing is under way.
+    Idle,
+    /// The source offers a message that the target may not postpone.
+    Posted(MessageHeader),
+    /// The source offers a message.
+    Offered(MessageHeader),
+    /// The target may come back for the message.
+    ///
+    /// Microsoft: `DataflowMessageStatus.Postponed`.
+    Postponed(MessageHeader),
+    /// The target waits for the message: it accepted an offer, or consumes one that it postponed or reserved.
+    Wanted(MessageHeader),
+    /// The message lies in the link's slot.
+    Given(MessageHeader),
+    /// The target has the message in hand.
+    Opened(MessageHeader),
+    /// The target asks to reserve a message that it postponed.
+    Asked(MessageHeader),
+    /// The source keeps the message for the target.
+    Held(MessageHeader),
+    /// The target takes no message any more.
+    ///
+    /// Microsoft: `DataflowMessageStatus.DecliningPermanently`.
+    Refused,
+    /// The source offers no message any more.
+    Ended(LinkEnd),
+}
+
+/// What an end of a link does to its phase.
+#[derive(Clone, Copy, Debug, PartialEq, Eq, Hash)]
+pub enum Move {
+    /// The source offers a message, which the target may postpone.
+    ///
+    /// Microsoft: `ITargetBlock<TInput>.OfferMessage` with a source to come back to.
+    Offer(MessageHeader),
+    /// The source offers a message, which the target takes now or not at all.
+    ///
+    /// Microsoft: `ITargetBlock<TInput>.OfferMessage` without a source, as `DataflowBlock.Post` calls it.
+    Post(MessageHeader),
+    /// The target accepts the offer.
+    ///
+    /// Microsoft: `DataflowMessageStatus.Accepted`.
+    Want,
+    /// The target does not take this message; it may take a later one.
+    ///
+    /// Microsoft: `DataflowMessageStatus.Declined`.
+    TurnDown,
+    /// The target takes no message any more.
+    ///
+    /// Microsoft: `DataflowMessageStatus.DecliningPermanently`.
+    Refuse,
+    /// The target may come back for the message.
+    ///
+    /// Microsoft: `DataflowMessageStatus.Postponed`.
+    Postpone,
+    /// The target comes back for a message that it postponed.
+    ///
+    /// Microsoft: `ISourceBlock<TOutput>.ConsumeMessage`.
+    Consume,
+    /// The source takes back an offer that was postponed.
+    Withdraw,
+    /// The source has given the message elsewhere, and answers a wish for it so.
+    ///
+    /// Microsoft: `DataflowMessageStatus.NotAvailable`.
+    Deny,
+    /// The source lays the message into the link's slot.
+    Give,
+    /// The target takes the message out of the slot.
+    Open,
+    /// The target has made the message its own.
+    Close,
+    /// The source ends the link.
+    End(LinkEnd),
+    /// The target asks to reserve a message that it postponed.
+    ///
+    /// Microsoft: `ISourceBlock<TOutput>.ReserveMessage`.
+    Ask,
+    /// The source keeps the message for the target.
+    ///
+    /// Microsoft: `ISourceBlock<TOutput>.ReserveMessage` that answers true.
+    Hold,
+    /// The target wants the message that is kept for it, and this is never denied.
+    ///
+    /// Microsoft: `ISourceBlock<TOutput>.ConsumeMessage` of a reserved message.
+    Claim,
+    /// The target gives the message up that is kept for it, and may ask for it again.
+    ///
+    /// Microsoft: `ISourceBlock<TOutput>.ReleaseReservation`.
+    Release,
+}
+
+/// The phase after a move, or none where the phase does not allow it.
+///
+/// A deny is allowed from each wanted message; that it comes after a consume alone is the source's to keep.
+pub fn step_of(phase: Phase, step: Move) -> Option<Phase>
+    ensures { result ≡ phase_after phase step }
+{
+    match phase {
+        Phase::Idle => match step {
+            Move::Offer(header) => Some(Phase::Offered(header)),
+            Move::Post(header) => Some(Phase::Posted(header)),
+            Move::End(how) => Some(Phase::Ended(how)),
+            _ => None,
+        },
+        Phase::Posted(header) => match step {
+            Move::Want => Some(Phase::Wanted(header)),
+            Move::TurnDown => Some(Phase::Idle),
+            Move::Refuse => Some(Phase::Refused),
+            _ => None,
+        },
+        Phase::Offered(header) => match step {
+            Move::Want => Some(Phase::Wanted(header)),
+            Move::Postpone => Some(Phase::Postponed(header)),
+            Move::Refuse => Some(Phase::Refused),
+            _ => None,
+        },
+        Phase::Postponed(header) => match step {
+            Move::Consume => Some(Phase::Wanted(header)),
+            Move::Ask => Some(Phase::Asked(header)),
+            Move::Refuse => Some(Phase::Refused),
+            Move::Withdraw => Some(Phase::Idle),
+            _ => None,
+        },
+        Phase::Wanted(header) => match step {
+            Move::Give => Some(Phase::Given(header)),
+            Move::Deny => Some(Phase::Idle),
+            _ => None,
+        },
+        Phase::Given(header) => match step {
+            Move::Open => Some(Phase::Opened(header)),
+            _ => None,
+        },
+        Phase::Opened(_) => match step {
+            Move::Close => Some(Phase::Idle),
+            _ => None,
+        },
+        Phase::Asked(header) => match step {
+            Move::Hold => Some(Phase::Held(header)),
+            Move::Deny => Some(Phase::Idle),
+            _ => None,
+        },
+        Phase::Held(header) => match step {
+            Move::Claim => Some(Phase::Wanted(header)),
+            Move::Release => Some(Phase::Postponed(header)),
+            _ => None,
+        },
+        Phase::Refused | Phase::Ended(_) => None,
+    }
+}
+
+impl Phase {
+    /// The message that the phase speaks of, if it speaks of one.
+    pub fn id(self) -> Option<MessageHeader>
+        ensures { result ≡ message_id self }
+    {
+        match self {
+            Phase::Posted(header)
+            | Phase::Offered(header)
+            | Phase::Postponed(header)
+            | Phase::Wanted(header)
+            | Phase::Given(header)
+            | Phase::Opened(header)
+            | Phase::Asked(header)
+            | Phase::Held(header) => Some(header),
+            Phase::Idle | Phase::Refused | Phase::Ended(_) => None,
+        }
+    }
+
+    // which of the kinds of phase it is
+    fn code(&self) -> u64
+        ensures value { result ≡ code_of self.now }
+        ensures high { result ≤ 12 }
+    {
+        match self {
+            Phase::Idle => 0,
+            Phase::Posted(_) => 1,
+            Phase::Offered(_) => 2,
+            Phase::Postponed(_) => 3,
+            Phase::Wanted(_) => 4,
+            Phase::Given(_) => 5,
+            Phase::Opened(_) => 6,
+            Phase::Asked(_) => 7,
+            Phase::Held(_) => 8,
+            Phase::Refused => 9,
+            Phase::Ended(LinkEnd::Plain) => 10,
+            Phase::Ended(LinkEnd::Complete) => 11,
+            Phase::Ended(LinkEnd::Fault(_)) => 12,
+        }
+    }
+
+    // the message's id or the fault's number
+    fn number(&self) -> u64
+        ensures value { result ≡ id_of self.now }
+        ensures high { result < 2 ^ 59 }
+    {
+        match self {
+            Phase::Posted(header)
+            | Phase::Offered(header)
+            | Phase::Postponed(header)
+            | Phase::Wanted(header)
+            | Phase::Given(header)
+            | Phase::Opened(header)
+            | Phase::Asked(header)
+            | Phase::Held(header) => header.id(),
+            Phase::Ended(LinkEnd::Fault(number)) => u64::from(*number),
+            Phase::Idle | Phase::Refused | Phase::Ended(_) => 0,
+        }
+    }
+}
+
+// how many words each kind of phase has
+const WORDS_OF_A_KIND: u64 = MAX_ID + 1;
+
+/// The word that stores a phase: its kind's number from bit 59 on, and below it the message's id or the fault's number.
+pub fn word_of(phase: Phase) -> u64
+    ensures { result ≡ word_of_phase phase }
+{
+    phase.code() * WORDS_OF_A_KIND + phase.number()
+}
+
+/// The phase that a word stores, or none where the word stores no phase.
+pub fn phase_of(word: u64) -> Option<Phase>
+    ensures stored { IfSome result (λ phase. IsPhase phase) }
+    ensures its_word { IfSome result (λ phase. word_of_phase phase ≡ word) }
+    ensures inverse { (phase : Phase) → IsPhase phase → word_of_phase phase ≡ word → result ≡ Some phase }
+{
+    let code = word / WORDS_OF_A_KIND;
+    let number = word % WORDS_OF_A_KIND;
+    match MessageHeader::new(number) {
+        Some(header) => match code {
+            1 => Some(Phase::Posted(header)),
+            2 => Some(Phase::Offered(header)),
+            3 => Some(Phase::Postponed(header)),
+            4 => Some(Phase::Wanted(header)),
+            5 => Some(Phase::Given(header)),
+            6 => Some(Phase::Opened(header)),
+            7 => Some(Phase::Asked(header)),
+            8 => Some(Phase::Held(header)),
+            12 if number <= u64::from(u32::MAX) => Some(Phase::Ended(LinkEnd::Fault(
+                number as u32,
+            ))),
+            _ => None,
+        },
+        None => match code {
+            0 => Some(Phase::Idle),
+            9 => Some(Phase::Refused),
+            10 => Some(Phase::Ended(LinkEnd::Plain)),
+            11 => Some(Phase::Ended(LinkEnd::Complete)),
+            _ => None,
+        },
+    }
+}
+
+#[cfg(test)]
+mod tests {
+    use super::*;
+    use std::process::Abort;
+
+    fn header(rt: &impl Abort, id: u64) -> MessageHeader {
+        match MessageHeader::new(id) {
+            Some(header) => header,
+            None => panic!(rt; "{id} is no id"),
+        }
+    }
+
+    #[test]
+    fn words_are_numbers(rt: HostRuntime) {
+        let one = header(&rt, 1);
+        assert_eq!(rt; word_of(Phase::Idle), 0);
+        assert_eq!(rt; word_of(Phase::Wanted(one)), 2_305_843_009_213_693_953);
+        assert_eq!(rt; word_of(Phase::Refused), 5_188_146_770_730_811_392);
+        assert_eq!(rt;
+            word_of(Phase::Ended(LinkEnd::Fault(7))),
+            6_917_529_027_641_081_863
+        );
+    }
+
+    #[test]
+    fn other_words_store_no_phase(rt: HostRuntime) {
+        let unit = WORDS_OF_A_KIND;
+        for code in 13..32 {
+            assert_eq!(rt; phase_of(code * unit), None);
+            assert_eq!(rt; phase_of(code * unit + 1), None);
+        }
+        // a message needs an id, and a phase that speaks of none has none
+        assert_eq!(rt; phase_of(4 * unit), None);
+        assert_eq!(rt; phase_of(9 * unit + 1), None);
+        // a fault has a number that is not too great
+        assert_eq!(rt; phase_of(12 * unit), None);
+        assert_eq!(rt; phase_of(12 * unit + 4_294_967_296), None);
+        assert_eq!(rt;
+            phase_of(12 * unit + 4_294_967_295),
+            Some(Phase::Ended(LinkEnd::Fault(4_294_967_295)))
+        );
+    }
+
+    #[test]
+    fn a_message_crosses(rt: HostRuntime) {
+        let one = header(&rt, 1);
+        let mut phase = Some(Phase::Idle);
+        for step in [
+            Move::Offer(one),
+            Move::Postpone,
+            Move::Ask,
+            Move::Hold,
+            Move::Claim,
+            Move::Give,
+            Move::Open,
+            Move::Close,
+        ] {
+            phase = phase.and_then(|phase| step_of(phase, step));
+        }
+        assert_eq!(rt; phase, Some(Phase::Idle));
+        assert_eq!(rt; Phase::Held(one).id(), Some(one));
+        assert_eq!(rt; Phase::Refused.id(), None);
+    }
+}
