@@ -4,6 +4,11 @@ use Rattle.flow_value.specs.Number.{int_of}
 use Rattle.flow_value.specs.declared.step.Step.{Step}
 use Rattle.flow_value.specs.declared.step.Step.TheVariants.{Id, ToInt, ToText, Add, Mul, Field, Len, Sum, Reject, Spread, Upto, Repeat}
 
+-- what is found has P, and nothing is found only where nothing has
+abbrev pub Finds : {A : Type 0} → Option A → (A → Type 0) → Type 0
+Finds {A} None P = (a : A) → P a → ⊥
+Finds (Some a) P = P a
+
 -- a name has no space
 abbrev pub HasNoSpace : List ℕ → Type 0
 HasNoSpace name = (i : ℕ) → i < length name → slice_index name i ≢ 32

@@ -1,5 +1,5 @@
 -- What a predicate admits, and which texts are predicates.
-use Rattle.std.specs.Prelude.{◌==◌, ℕ, ◌+◌, ◌%◌, List, codes, Bool, true, false, not, Option, Some, None, ℤ, pos, negsuc}
+use Rattle.std.specs.Prelude.{◌≡◌, ◌==◌, ℕ, ◌+◌, ◌%◌, List, codes, Bool, true, false, not, Option, Some, None, ℤ, pos, negsuc}
 use Rattle.std.specs.Int.RustNames.{int_lt}
 use Rattle.std.specs.Ordering.{int_eq}
 use Rattle.flow_value.specs.Grammar.{IsWritten}
@@ -40,6 +40,11 @@ when_number (Lt k) = Some k
 when_number (Ge k) = Some k
 when_number (Eq k) = Some k
 when_number _ = None
+
+-- the predicate with this name and number
+pub record IsWhenNamed (name : List ℕ) (number : Option ℤ) (when : When) : Type 0 where
+  pub named : when_name when ≡ name
+  pub numbered : when_number when ≡ number
 
 -- the text is this predicate
 abbrev pub SpellsWhen : List ℕ → When → Type 0

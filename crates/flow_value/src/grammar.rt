@@ -1,7 +1,6 @@
 //! How steps and predicates are written: a name, or a name, one space and a number.
-ghost use Rattle.std.specs.Prelude.{◌≡◌, ℕ, ◌≤◌, List, Option, Some, None, ℤ, pos, ⊤, MatchOption};
-ghost use Rattle.flow_value.specs.Grammar.{HasNoSpace, IsWritten, IsNamed, Spells};
-ghost use Rattle.flow_value.specs.declared.step.Step.{Step};
+ghost use Rattle.std.specs.Prelude.{◌≡◌, ℕ, ◌≤◌, List, Option, Some, None, ℤ, pos, MatchOption, IfSome};
+ghost use Rattle.flow_value.specs.Grammar.{Finds, HasNoSpace, IsWritten, IsNamed, Spells};
 
 use crate::number::read_int;
 use crate::step::{MOST_VALUES, Step};
@@ -13,8 +12,11 @@ const LAST_PLACE: u16 = 4_095;
 ///
 /// None where there is a space with no number behind it.
 pub(crate) fn name_and_number(text: &str) -> Option<(&str, Option<i64>)>
-    ensures written { MatchOption result ((name : List ℕ) (number : Option ℤ) → HasNoSpace name → IsWritten text.now name number → ⊥) (λ parts. IsWritten text.now parts.0.now parts.1) }
-    ensures only { MatchOption result ⊤ (λ parts. (name : List ℕ) (number : Option ℤ) → HasNoSpace name → IsWritten text.now name number → (name ≡ parts.0.now) × (number ≡ parts.1)) }
+    ensures written { MatchOption result
+        ((name : List ℕ) (number : Option ℤ) → HasNoSpace name → IsWritten text.now name number → ⊥)
+        (λ parts. IsWritten text.now parts.0.now parts.1) }
+    ensures only { IfSome result (λ parts. (name : List ℕ) (number : Option ℤ) → HasNoSpace name
+        → IsWritten text.now name number → (name ≡ parts.0.now) × (number ≡ parts.1)) }
 {
     match text.split_once(' ') {
         None => Some((text, None)),
@@ -28,7 +30,7 @@ pub(crate) fn name_and_number(text: &str) -> Option<(&str, Option<i64>)>
 impl Step {
     /// The step that a text is, if it is one.
     pub(crate) fn read(text: &str) -> Option<Step>
-        ensures { MatchOption result ((step : Step) → Spells text.now step → ⊥) (λ step. Spells text.now step) }
+        ensures { Finds result (Spells text.now) }
     {
         match name_and_number(text)? {
             (name, None) => named(name),
@@ -38,7 +40,7 @@ impl Step {
 }
 
 fn named(name: &str) -> Option<Step>
-    ensures { MatchOption result ((step : Step) → IsNamed name.now None step → ⊥) (λ step. IsNamed name.now None step) }
+    ensures { Finds result (IsNamed name.now None) }
 {
     match name {
         "id" => Some(Step::Id),
@@ -53,7 +55,7 @@ fn named(name: &str) -> Option<Step>
 }
 
 fn numbered(name: &str, number: i64) -> Option<Step>
-    ensures { MatchOption result ((step : Step) → IsNamed name.now (Some number) step → ⊥) (λ step. IsNamed name.now (Some number) step) }
+    ensures { Finds result (IsNamed name.now (Some number)) }
 {
     match name {
         "add" => Some(Step::Add(number)),
@@ -67,7 +69,7 @@ fn numbered(name: &str, number: i64) -> Option<Step>
 
 /// The number, if it is at least 0 and at most this.
 fn up_to(number: i64, most: u16) -> Option<u16>
-    ensures { MatchOption result ((n : ℕ) → number ≡ pos n → n ≤ most → ⊥) (λ n. (number ≡ pos n) × (n ≤ most)) }
+    ensures { Finds result (λ n. (number ≡ pos n) × (n ≤ most)) }
 {
     match u16::try_from(number) {
         Ok(number) if number <= most => Some(number),

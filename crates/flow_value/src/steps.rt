@@ -136,7 +136,9 @@ fn run_onto(
     value: Value,
     results: &mut Vec<Value>,
 ) -> Result<(), WorkFault>
-    ensures { MatchResult result (λ _. joined (Ok results.old.items) (meaning_of steps.now value) ≡ Ok results.new.items) (λ fault. fault ≢ Memory → meaning_of steps.now value ≡ Err fault) }
+    ensures { MatchResult result
+        (λ _. joined (Ok results.old.items) (meaning_of steps.now value) ≡ Ok results.new.items)
+        (λ fault. fault ≢ Memory → meaning_of steps.now value ≡ Err fault) }
 {
     let Some((step, rest)) = steps.split_first() else {
         results.push(value)?;

@@ -1,7 +1,7 @@
 //! Predicates that a link tests its messages by.
-ghost use Rattle.std.specs.Prelude.{◌≡◌, Option, Some, None, MatchOption};
-ghost use Rattle.flow_value.specs.When.{admits, when_name, when_number, SpellsWhen, is_even};
-ghost use Rattle.flow_value.specs.declared.when.When.{When};
+ghost use Rattle.std.specs.Prelude.{◌≡◌, Some, None};
+ghost use Rattle.flow_value.specs.When.{admits, IsWhenNamed, SpellsWhen, is_even};
+ghost use Rattle.flow_value.specs.Grammar.{Finds};
 
 use crate::grammar::name_and_number;
 use crate::value::Value;
@@ -26,7 +26,7 @@ pub enum When {
 impl When {
     /// The predicate that a text is, if it is one, in the words of `docs/formats.md`.
     pub fn read(text: &str) -> Option<When>
-        ensures { MatchOption result ((when : When) → SpellsWhen text.now when → ⊥) (λ when. SpellsWhen text.now when) }
+        ensures { Finds result (SpellsWhen text.now) }
     {
         match name_and_number(text)? {
             (name, None) => plain(name),
@@ -51,7 +51,7 @@ impl When {
 }
 
 fn plain(name: &str) -> Option<When>
-    ensures { MatchOption result ((when : When) → when_name when ≡ name.now → when_number when ≡ None → ⊥) (λ when. (when_name when ≡ name.now) × (when_number when ≡ None)) }
+    ensures { Finds result (IsWhenNamed name.now None) }
 {
     match name {
         "any" => Some(When::Any),
@@ -62,7 +62,7 @@ fn plain(name: &str) -> Option<When>
 }
 
 fn against(name: &str, number: i64) -> Option<When>
-    ensures { MatchOption result ((when : When) → when_name when ≡ name.now → when_number when ≡ Some number → ⊥) (λ when. (when_name when ≡ name.now) × (when_number when ≡ Some number)) }
+    ensures { Finds result (IsWhenNamed name.now (Some number)) }
 {
     match name {
         "lt" => Some(When::Lt(number)),
