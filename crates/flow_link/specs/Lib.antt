@@ -1,3 +1,5 @@
+pub mod Fault
+pub mod Layout
 pub mod LinkOk
 pub mod LinkProof
 pub mod Looks
