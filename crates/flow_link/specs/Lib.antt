@@ -1,8 +1,10 @@
 pub mod Copies
 pub mod Endings
+pub mod Examples
 pub mod Fault
 pub mod Law
 pub mod Lawful
+pub mod LawfulExamples
 pub mod Layout
 pub mod LinkOk
 pub mod LinkProof
@@ -16,6 +18,8 @@ pub mod Phase
 pub mod Plan
 pub mod Quiet
 pub mod Rebase
+pub mod RefusedExamples
+pub mod Tests
 pub mod Told
 pub mod Trace
 pub mod Views
