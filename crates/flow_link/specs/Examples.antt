@@ -30,6 +30,9 @@ with_input def = record def { input = true }
 abbrev pub with_size : ℕ → BlockDef Work → BlockDef Work
 with_size size def = record def { size = Some size }
 
+abbrev pub with_capacity : ℕ → BlockDef Work → BlockDef Work
+with_capacity capacity def = record def { capacity = Some capacity }
+
 abbrev pub reserving_join : BlockDef Work
 reserving_join = record (block Join) { greedy = Some false }
 
