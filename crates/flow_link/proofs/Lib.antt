@@ -1,5 +1,6 @@
 pub mod ExampleLemmas
 pub mod LookLemmas
+pub mod PlanExampleLemmas
 pub mod RebaseLemmas
 pub mod SourceMoves
 pub mod TargetMoves

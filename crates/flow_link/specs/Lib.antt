@@ -16,6 +16,8 @@ pub mod Moves
 pub mod MovesKeep
 pub mod Phase
 pub mod Plan
+pub mod PlanExamples
+pub mod PlanFaults
 pub mod Quiet
 pub mod Rebase
 pub mod RefusedExamples

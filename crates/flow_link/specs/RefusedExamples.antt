@@ -12,10 +12,10 @@ use Rattle.flow_link.specs.Endings.{Endings}
 use Rattle.flow_link.specs.Quiet.{Quiet}
 use Rattle.flow_link.specs.Examples.{Work, block, with_input, with_size, with_capacity, reserving_join, link, to_port, when_even, at_most, int, digit, row, took_all, gave_all, ended_well, leaves, leaves_nothing, holds, records, posted, posted_with_fault, same, read_digit, run_of}
 
--- a buffer gives its one message to each of two links
+-- a buffer gives its one message to each of two links, whose targets have little room
 abbrev pub head_given_twice : Run Work
 head_given_twice = run_of
-    (with_input (block Buffer) ∷ block Action ∷ block Action ∷ [])
+    (with_input (block Buffer) ∷ with_capacity 1 (block Action) ∷ with_capacity 1 (block Action) ∷ [])
     (link 0 1 ∷ link 0 2 ∷ input_link 0 ∷ [])
     same
     (leaves_nothing (Took 0 2 (digit 1) ∷ Gave 0 (digit 1) ∷ Gave 1 (digit 1) ∷ ended_well)

@@ -5,6 +5,7 @@ ghost use Rattle.flow_link.specs.LawfulExamples.{GoodRunsAreLawful};
 ghost use Rattle.flow_link.specs.LooksKeep.{LooksKeep};
 ghost use Rattle.flow_link.specs.MovesKeep.{SourceMovesKeep, TargetMovesKeep};
 ghost use Rattle.flow_link.specs.Phase.{WordsTell};
+ghost use Rattle.flow_link.specs.PlanExamples.{FaultsOfDrafts};
 ghost use Rattle.flow_link.specs.Rebase.{Rebases};
 ghost use Rattle.flow_link.specs.RefusedExamples.{WrongRunsAreRefused};
 ghost use Rattle.flow_link.specs.Told.{LinksTell};
@@ -45,4 +46,9 @@ pub fn good_runs_are_lawful()
 /// What a wrong program would leave is refused: for each of these wrongs there is an example.
 pub fn wrong_runs_are_refused()
     ensures { WrongRunsAreRefused }
+{}
+
+/// Of the faults of a draft the first in order is the one that counts, in an example of each.
+pub fn faults_come_in_order()
+    ensures { FaultsOfDrafts }
 {}
