@@ -3,7 +3,9 @@ use Rattle.std.specs.Prelude.{ℕ, ◌+◌, ◌-◌, ◌==◌, Bool, true, false
 use Rattle.flow_value.specs.declared.value.Value.{Value}
 use Rattle.flow_link.specs.declared.draft.BlockDef.{BlockDef}
 use Rattle.flow_link.specs.declared.plan.Link.{Link}
+use Rattle.flow_link.specs.declared.plan.LinkSource.{LinkSource}
 use Rattle.flow_link.specs.declared.plan.LinkSource.TheVariants.{Block, Input}
+use Rattle.flow_link.specs.declared.plan.LinkTarget.{LinkTarget}
 use Rattle.flow_link.specs.declared.plan.LinkTarget.TheVariants.{Port, Exit}
 use Rattle.flow_link.specs.declared.trace.Mark.{Mark}
 use Rattle.flow_link.specs.declared.trace.Mark.TheVariants.{Took, Gave, Complete, Fault, Done}
@@ -157,12 +159,20 @@ module _ {W : Type 0} (run : Run W) where
   input_of b = get_or run.trace.inputs (count_by (λ block. block.input) (take b run.layout.blocks)) nothing_posted
 
   -- what was given over a link, by a block
+  abbrev pub given_by : ℕ → LinkSource → List Value
+  given_by l (Block b) = gave_over l (marks_of b)
+  given_by l (Input b) = []
+
   abbrev pub given_over : ℕ → List Value
-  given_over l = elim ((link_of l).source) [ Block b ↦ gave_over l (marks_of b) | Input b ↦ [] ]
+  given_over l = given_by l (link_of l).source
 
   -- what was taken over a link, by a block
+  abbrev pub taken_by : ℕ → LinkTarget → List Value
+  taken_by l (Port b p) = took_over l (marks_of b)
+  taken_by l Exit = []
+
   abbrev pub taken_over : ℕ → List Value
-  taken_over l = elim ((link_of l).target) [ Port b p ↦ took_over l (marks_of b) | Exit ↦ [] ]
+  taken_over l = taken_by l (link_of l).target
 
   -- what an input has posted and its block has not taken over the input's link
   abbrev pub waits_over : ℕ → ℕ → List Value
