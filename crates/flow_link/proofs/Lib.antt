@@ -1,6 +1,9 @@
+pub mod ExampleLemmas
 pub mod LookLemmas
+pub mod PlanExampleLemmas
 pub mod RebaseLemmas
 pub mod SourceMoves
 pub mod TargetMoves
+pub mod TestLemmas
 pub mod ToldLemmas
 pub mod WordLemmas

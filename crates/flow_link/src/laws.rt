@@ -1,10 +1,13 @@
 //! Laws about links. Each stands on a function that does nothing: whoever calls it has the whole law.
 ghost use Rattle.std.specs.Prelude.{◌≡◌};
 ghost use Rattle.flow_value.specs.declared.value.Value.{Value};
+ghost use Rattle.flow_link.specs.LawfulExamples.{GoodRunsAreLawful};
 ghost use Rattle.flow_link.specs.LooksKeep.{LooksKeep};
 ghost use Rattle.flow_link.specs.MovesKeep.{SourceMovesKeep, TargetMovesKeep};
 ghost use Rattle.flow_link.specs.Phase.{WordsTell};
+ghost use Rattle.flow_link.specs.PlanExamples.{FaultsOfDrafts};
 ghost use Rattle.flow_link.specs.Rebase.{Rebases};
+ghost use Rattle.flow_link.specs.RefusedExamples.{WrongRunsAreRefused};
 ghost use Rattle.flow_link.specs.Told.{LinksTell};
 
 /// The words of two different phases differ.
@@ -33,4 +36,19 @@ pub fn links_in_order_tell()
 /// A link stays in order when both its ends begin to count later.
 pub fn counts_begin_anywhere()
     ensures { Rebases Value }
+{}
+
+/// What a right program leaves is lawful and quiet, in examples of each kind of block.
+pub fn good_runs_are_lawful()
+    ensures { GoodRunsAreLawful }
+{}
+
+/// What a wrong program would leave is refused: for each of these wrongs there is an example.
+pub fn wrong_runs_are_refused()
+    ensures { WrongRunsAreRefused }
+{}
+
+/// Of the faults of a draft the first in order is the one that counts, in an example of each.
+pub fn faults_come_in_order()
+    ensures { FaultsOfDrafts }
 {}

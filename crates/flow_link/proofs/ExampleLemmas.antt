@@ -1,0 +1,48 @@
+-- The examples pass the tests that they are to pass, and no others.
+use Rattle.std.proofs.Common.{◌≡◌, true, false, refl}
+use Rattle.flow_link.specs.Trace.{Run}
+use Rattle.flow_link.specs.Examples.{Work}
+use Rattle.flow_link.specs.Tests.{all_pass, law_tests, quiet_tests}
+use Rattle.flow_link.specs.LawfulExamples.{IsLawfulAndQuiet, GoodRunsAreLawful, two_records, parse_three, upto_flattens, unrouted_head, link_limit, batch_remainder, greedy_join_leaves, reserving_join_leaves, write_once_takes_one, broadcast_beside_a_join, batched_join_groups, fault_in_the_middle}
+use Rattle.flow_link.specs.RefusedExamples.{WrongRunsAreRefused}
+use Rattle.flow_link.proofs.TestLemmas.{lawful_by_tests, quiet_by_tests}
+
+good : (run : Run Work) → all_pass (law_tests run) ≡ true → all_pass (quiet_tests run) ≡ true → IsLawfulAndQuiet run
+good run laws rest = record { lawful = lawful_by_tests run laws; quiet = quiet_by_tests run rest }
+
+pub good_runs : GoodRunsAreLawful
+good_runs = record {
+  two_records_is = good two_records refl refl;
+  parse_three_is = good parse_three refl refl;
+  upto_flattens_is = good upto_flattens refl refl;
+  unrouted_head_is = good unrouted_head refl refl;
+  link_limit_is = good link_limit refl refl;
+  batch_remainder_is = good batch_remainder refl refl;
+  greedy_join_leaves_is = good greedy_join_leaves refl refl;
+  reserving_join_leaves_is = good reserving_join_leaves refl refl;
+  write_once_takes_one_is = good write_once_takes_one refl refl;
+  broadcast_beside_a_join_is = good broadcast_beside_a_join refl refl;
+  batched_join_groups_is = good batched_join_groups refl refl;
+  fault_in_the_middle_is = good fault_in_the_middle refl refl;
+}
+
+wrong_no_more : false ≡ true → ⊥
+wrong_no_more e = cc
+
+pub wrong_runs : WrongRunsAreRefused
+wrong_runs = record {
+  head_twice = λ law. wrong_no_more law.each_block;
+  finish_order = λ law. wrong_no_more law.each_block;
+  torn = λ law. wrong_no_more law.level;
+  after_complete = λ law. wrong_no_more law.once;
+  later_first = λ law. wrong_no_more law.each_block;
+  skipped = λ law. wrong_no_more law.each_block;
+  all_skipped = λ law. wrong_no_more law.each_block;
+  dropped = λ law. wrong_no_more law.each_block;
+  lost = λ law. wrong_no_more law.between_blocks;
+  short_group = λ law. wrong_no_more law.each_block;
+  cut_completes = λ law. wrong_no_more law.causes;
+  open_completes = λ law. wrong_no_more law.causes;
+  to_nobody = λ law. wrong_no_more law.own_marks;
+  not_moved = λ quiet. wrong_no_more quiet.heads;
+}

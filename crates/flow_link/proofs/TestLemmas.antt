@@ -1,0 +1,39 @@
+-- A run whose tests all pass is lawful, or quiet.
+use Rattle.std.proofs.Common.{◌≡◌, ℕ, zero, suc, Bool, true, false, ◌&&◌, List, [], ◌∷◌, get_or, refl}
+use Rattle.flow_link.specs.Trace.{Run}
+use Rattle.flow_link.specs.Tests.{all_pass, law_tests, quiet_tests}
+use Rattle.flow_link.specs.Lawful.{Lawful}
+use Rattle.flow_link.specs.Quiet.{Quiet}
+
+pub front_true : (a b : Bool) → (a && b) ≡ true → a ≡ true
+front_true true b e = refl
+front_true false b e = e
+
+pub back_true : (a b : Bool) → (a && b) ≡ true → b ≡ true
+back_true true b e = e
+back_true false b e = cc
+
+-- each test passes
+pub test_passes : (tests : List Bool) (k : ℕ) → all_pass tests ≡ true → get_or tests k true ≡ true
+test_passes [] k e = refl
+test_passes (test ∷ tests) zero e = front_true test (all_pass tests) e
+test_passes (test ∷ tests) (suc k) e = test_passes tests k (back_true test (all_pass tests) e)
+
+module _ {W : Type 0} (run : Run W) where
+  pub lawful_by_tests : all_pass (law_tests run) ≡ true → Lawful run
+  lawful_by_tests e =
+      let passes : (k : ℕ) → get_or (law_tests run) k true ≡ true = λ k. test_passes (law_tests run) k e in
+      record {
+        link_law = record { between_blocks = passes 0; admitted = passes 1; within_max = passes 2; from_inputs = passes 3 };
+        one_taker = record { own_marks = passes 4 };
+        making = record { each_block = passes 5 };
+        counts = record { within_capacity = passes 6; level = passes 7 };
+        copies = record { each_block = passes 8 };
+        endings = record { last = passes 9; once = passes 10; done = passes 11; causes = passes 12; refusals = passes 13 };
+        link_order = record { each_block = passes 14 };
+      }
+
+  pub quiet_by_tests : all_pass (quiet_tests run) ≡ true → Quiet run
+  quiet_by_tests e =
+      let passes : (k : ℕ) → get_or (quiet_tests run) k true ≡ true = λ k. test_passes (quiet_tests run) k e in
+      record { home = passes 0; at_rest = passes 1; done = passes 2; ends_handed_on = passes 3; heads = passes 4; served = passes 5 }

@@ -1,0 +1,127 @@
+-- What a plan says of its blocks and links, and what can be wrong with a draft.
+use Rattle.std.specs.Prelude.{ℕ, suc, ◌+◌, ◌==◌, Bool, true, false, cond, not, ◌&&◌, List, [], ◌∷◌, ◌++◌, get_or, unwrap_or, is_none, position, Option, None}
+use Rattle.std.specs.Str.{bytes_eq}
+use Rattle.flow_value.specs.declared.when.When.TheVariants.{Any}
+use Rattle.flow_link.specs.declared.draft.BlockDef.{BlockDef}
+use Rattle.flow_link.specs.declared.draft.LinkDef.{LinkDef}
+use Rattle.flow_link.specs.declared.draft.BlockKind.{BlockKind}
+use Rattle.flow_link.specs.declared.draft.BlockKind.TheVariants.{Buffer, Broadcast, WriteOnce, Action, Transform, TransformMany, Join, BatchedJoin}
+use Rattle.flow_link.specs.declared.plan.Link.{Link}
+use Rattle.flow_link.specs.declared.plan.LinkSource.{LinkSource}
+use Rattle.flow_link.specs.declared.plan.LinkSource.TheVariants.{Block, Input}
+use Rattle.flow_link.specs.declared.plan.LinkTarget.{LinkTarget}
+use Rattle.flow_link.specs.declared.plan.LinkTarget.TheVariants.{Port, Exit}
+
+-- a join and a batched join have two ports or three, all other blocks one
+abbrev pub ports_by_kind : BlockKind → Option ℕ → ℕ
+ports_by_kind Join ports = unwrap_or ports 2
+ports_by_kind BatchedJoin ports = unwrap_or ports 2
+ports_by_kind _ ports = 1
+
+abbrev pub port_count : {W : Type 0} → BlockDef W → ℕ
+port_count block = ports_by_kind block.kind block.ports
+
+-- a join that is not greedy reserves its messages before it takes them
+abbrev pub reserves_by_kind : BlockKind → Option Bool → Bool
+reserves_by_kind Join greedy = not (unwrap_or greedy true)
+reserves_by_kind _ greedy = false
+
+abbrev pub is_reserving : {W : Type 0} → BlockDef W → Bool
+is_reserving block = reserves_by_kind block.kind block.greedy
+
+abbrev pub is_write_once : BlockKind → Bool
+is_write_once WriteOnce = true
+is_write_once _ = false
+
+abbrev pub is_broadcast : BlockKind → Bool
+is_broadcast Broadcast = true
+is_broadcast _ = false
+
+-- its links share its outputs: each output crosses one of them
+abbrev pub is_one_taker : BlockKind → Bool
+is_one_taker Broadcast = false
+is_one_taker WriteOnce = false
+is_one_taker _ = true
+
+abbrev pub has_work : BlockKind → Bool
+has_work Action = true
+has_work Transform = true
+has_work TransformMany = true
+has_work _ = false
+
+-- what stands at a place where nothing is
+abbrev pub no_block : {W : Type 0} → BlockDef W
+no_block = record { name = []; kind = Buffer; input = false; output = false; capacity = None; work = None; lanes = None; size = None; ports = None; greedy = None }
+
+abbrev pub no_link : Link
+no_link = record { source = Input 0; target = Exit; when = Any; max = None; propagate = false }
+
+abbrev pub block_in : {W : Type 0} → List (BlockDef W) → ℕ → BlockDef W
+block_in blocks b = get_or blocks b no_block
+
+abbrev pub link_in : List Link → ℕ → Link
+link_in links l = get_or links l no_link
+
+-- the link begins at this block
+abbrev pub begins_at : ℕ → LinkSource → Bool
+begins_at b (Block n) = n == b
+begins_at b (Input _) = false
+
+-- the link ends at this block, and at this port of it
+abbrev pub ends_at : ℕ → LinkTarget → Bool
+ends_at b (Port n _) = n == b
+ends_at b Exit = false
+
+abbrev pub ends_at_port : ℕ → ℕ → LinkTarget → Bool
+ends_at_port b p (Port n q) = n == b && q == p
+ends_at_port b p Exit = false
+
+-- the target takes each message when it is offered
+abbrev pub takes_at_once : {W : Type 0} → BlockDef W → Bool
+takes_at_once block = is_none block.capacity && not (is_write_once block.kind) && not (is_reserving block)
+
+abbrev pub is_steady : {W : Type 0} → List (BlockDef W) → LinkTarget → Bool
+is_steady blocks (Port b _) = takes_at_once (block_in blocks b)
+is_steady blocks Exit = false
+
+-- the block's only link in is this one, an input's link counted, and it does not reserve
+abbrev pub links_into : ℕ → List Link → ℕ
+links_into b [] = 0
+links_into b (link ∷ links) = cond (ends_at b link.target) 1 0 + links_into b links
+
+abbrev pub is_sole : {W : Type 0} → List (BlockDef W) → List Link → LinkTarget → Bool
+is_sole blocks links (Port b _) = links_into b links == 1 && not (is_reserving (block_in blocks b))
+is_sole blocks links Exit = false
+
+-- the links of inputs, and of exits, in the order of their blocks, which are numbered from a first one on
+abbrev pub input_link : ℕ → Link
+input_link b = record { source = Input b; target = Port b 0; when = Any; max = None; propagate = true }
+
+abbrev pub input_links : {W : Type 0} → ℕ → List (BlockDef W) → List Link
+input_links b [] = []
+input_links b (block ∷ blocks) = cond block.input (input_link b ∷ []) [] ++ input_links (suc b) blocks
+
+abbrev pub exit_link : ℕ → Link
+exit_link b = record { source = Block b; target = Exit; when = Any; max = None; propagate = true }
+
+abbrev pub exit_links : {W : Type 0} → ℕ → List (BlockDef W) → List Link
+exit_links b [] = []
+exit_links b (block ∷ blocks) = cond block.output (exit_link b ∷ []) [] ++ exit_links (suc b) blocks
+
+-- the link that a draft's link becomes, where both its names are known
+abbrev pub block_named : {W : Type 0} → List (BlockDef W) → List ℕ → Option ℕ
+block_named blocks name = position (λ block. bytes_eq block.name name) blocks
+
+abbrev pub link_between : LinkDef → ℕ → ℕ → Link
+link_between link source target = record { source = Block source; target = Port target (unwrap_or link.port 0); when = unwrap_or link.when Any; max = link.max; propagate = link.propagate }
+
+abbrev pub named_link : {W : Type 0} → List (BlockDef W) → LinkDef → Link
+named_link blocks link = link_between link (unwrap_or (block_named blocks link.from) 0) (unwrap_or (block_named blocks link.to) 0)
+
+abbrev pub named_links : {W : Type 0} → List (BlockDef W) → List LinkDef → List Link
+named_links blocks [] = []
+named_links blocks (link ∷ links) = named_link blocks link ∷ named_links blocks links
+
+-- the links of a plan by their numbers: those of the draft, then one for each input, then one for each exit
+abbrev pub planned_links : {W : Type 0} → List (BlockDef W) → List LinkDef → List Link
+planned_links blocks links = named_links blocks links ++ input_links 0 blocks ++ exit_links 0 blocks

@@ -1,0 +1,176 @@
+-- Runs that a wrong program would leave: each is refused, some as not lawful, some as not quiet.
+use Rattle.std.specs.Prelude.{[], ◌∷◌, ◌++◌}
+use Rattle.flow_link.specs.declared.draft.BlockKind.TheVariants.{Buffer, Broadcast, WriteOnce, Action, Transform, Batch}
+use Rattle.flow_link.specs.declared.trace.Mark.TheVariants.{Took, Gave, Complete, Fault, Done}
+use Rattle.flow_link.specs.Plan.{input_link}
+use Rattle.flow_link.specs.Trace.{Run}
+use Rattle.flow_link.specs.declared.trace.Ending.TheVariants.{Open}
+use Rattle.flow_link.specs.Law.{LinkLaw, OneTaker, Counts, LinkOrder}
+use Rattle.flow_link.specs.Making.{Making}
+use Rattle.flow_link.specs.Copies.{Copies}
+use Rattle.flow_link.specs.Endings.{Endings}
+use Rattle.flow_link.specs.Quiet.{Quiet}
+use Rattle.flow_link.specs.Examples.{Work, block, with_input, with_size, with_capacity, reserving_join, link, to_port, when_even, at_most, int, digit, row, took_all, gave_all, ended_well, leaves, leaves_nothing, holds, records, posted, posted_with_fault, same, read_digit, run_of}
+
+-- a buffer gives its one message to each of two links, whose targets have little room
+abbrev pub head_given_twice : Run Work
+head_given_twice = run_of
+    (with_input (block Buffer) ∷ with_capacity 1 (block Action) ∷ with_capacity 1 (block Action) ∷ [])
+    (link 0 1 ∷ link 0 2 ∷ input_link 0 ∷ [])
+    same
+    (leaves_nothing (Took 0 2 (digit 1) ∷ Gave 0 (digit 1) ∷ Gave 1 (digit 1) ∷ ended_well)
+    ∷ records (Took 0 0 (digit 1) ∷ ended_well) (digit 1 ∷ [])
+    ∷ records (Took 0 1 (digit 1) ∷ ended_well) (digit 1 ∷ [])
+    ∷ [])
+    (posted (digit 1 ∷ []) ∷ [])
+
+-- a transform gives the second result before the first
+abbrev pub results_as_they_finish : Run Work
+results_as_they_finish = run_of
+    (with_input (block Buffer) ∷ block Transform ∷ block Action ∷ [])
+    (link 0 1 ∷ link 1 2 ∷ input_link 0 ∷ [])
+    read_digit
+    (leaves_nothing (took_all 0 2 (digit 1 ∷ digit 2 ∷ []) ++ gave_all 0 (digit 1 ∷ digit 2 ∷ []) ++ ended_well)
+    ∷ leaves_nothing (took_all 0 0 (digit 1 ∷ digit 2 ∷ []) ++ gave_all 1 (int 2 ∷ int 1 ∷ []) ++ ended_well)
+    ∷ records (took_all 0 1 (int 2 ∷ int 1 ∷ []) ++ ended_well) (int 2 ∷ int 1 ∷ [])
+    ∷ [])
+    (posted (digit 1 ∷ digit 2 ∷ []) ∷ [])
+
+-- everything lies at the input
+abbrev pub nothing_moved : Run Work
+nothing_moved = run_of
+    (with_input (block Buffer) ∷ block Action ∷ [])
+    (link 0 1 ∷ input_link 0 ∷ [])
+    same
+    (leaves_nothing [] ∷ leaves_nothing [] ∷ [])
+    (posted (digit 1 ∷ digit 2 ∷ []) ∷ [])
+
+-- a reserving join takes at one port, and faults before it takes at the other
+abbrev pub torn_join : Run Work
+torn_join = run_of
+    (with_input (block Buffer) ∷ with_input (block Buffer) ∷ reserving_join ∷ [])
+    (link 0 2 ∷ to_port 2 1 (link 1 2) ∷ input_link 0 ∷ input_link 1 ∷ [])
+    same
+    (leaves_nothing (Took 0 2 (digit 1) ∷ Gave 0 (digit 1) ∷ ended_well)
+    ∷ leaves (Took 0 3 (digit 9) ∷ Fault 5 ∷ []) (digit 9 ∷ [])
+    ∷ holds (Took 0 0 (digit 1) ∷ Fault 5 ∷ []) ((digit 1 ∷ []) ∷ [] ∷ [])
+    ∷ [])
+    (posted (digit 1 ∷ []) ∷ posted_with_fault 5 (digit 9 ∷ []) ∷ [])
+
+-- an action takes a message after its port has completed
+abbrev pub taken_after_complete : Run Work
+taken_after_complete = run_of
+    (with_input (block Buffer) ∷ block Action ∷ [])
+    (link 0 1 ∷ input_link 0 ∷ [])
+    same
+    (leaves_nothing (took_all 0 1 (digit 1 ∷ digit 2 ∷ []) ++ gave_all 0 (digit 1 ∷ digit 2 ∷ []) ++ ended_well)
+    ∷ records (Took 0 0 (digit 1) ∷ Complete 0 ∷ Took 0 0 (digit 2) ∷ Done ∷ []) (digit 1 ∷ digit 2 ∷ [])
+    ∷ [])
+    (posted (digit 1 ∷ digit 2 ∷ []) ∷ [])
+
+-- the second link carries what the first would have taken at once
+abbrev pub later_link_first : Run Work
+later_link_first = run_of
+    (with_input (block Buffer) ∷ block Transform ∷ block Action ∷ block Action ∷ [])
+    (link 0 1 ∷ when_even (link 1 2) ∷ link 1 3 ∷ input_link 0 ∷ [])
+    read_digit
+    (leaves_nothing (Took 0 3 (digit 2) ∷ Gave 0 (digit 2) ∷ ended_well)
+    ∷ leaves_nothing (Took 0 0 (digit 2) ∷ Gave 2 (int 2) ∷ ended_well)
+    ∷ records ended_well []
+    ∷ records (Took 0 2 (int 2) ∷ ended_well) (int 2 ∷ [])
+    ∷ [])
+    (posted (digit 2 ∷ []) ∷ [])
+
+-- a broadcast skips its second message for a target that takes each at once
+abbrev pub element_skipped : Run Work
+element_skipped = run_of
+    (with_input (block Broadcast) ∷ block Action ∷ [])
+    (link 0 1 ∷ input_link 0 ∷ [])
+    same
+    (leaves_nothing (took_all 0 1 (digit 1 ∷ digit 2 ∷ digit 3 ∷ []) ++ gave_all 0 (digit 1 ∷ digit 3 ∷ []) ++ ended_well)
+    ∷ records (took_all 0 0 (digit 1 ∷ digit 3 ∷ []) ++ ended_well) (digit 1 ∷ digit 3 ∷ [])
+    ∷ [])
+    (posted (digit 1 ∷ digit 2 ∷ digit 3 ∷ []) ∷ [])
+
+-- a broadcast gives nothing to a buffer with little room, which no other link leads to
+abbrev pub all_elements_skipped : Run Work
+all_elements_skipped = run_of
+    (with_input (block Broadcast) ∷ with_capacity 1 (block Buffer) ∷ [])
+    (link 0 1 ∷ input_link 0 ∷ [])
+    same
+    (leaves_nothing (took_all 0 1 (digit 1 ∷ digit 2 ∷ []) ++ ended_well)
+    ∷ leaves_nothing ended_well
+    ∷ [])
+    (posted (digit 1 ∷ digit 2 ∷ []) ∷ [])
+
+-- a write-once block drops its element and is done
+abbrev pub element_dropped : Run Work
+element_dropped = run_of
+    (with_input (block WriteOnce) ∷ block Action ∷ [])
+    (link 0 1 ∷ input_link 0 ∷ [])
+    same
+    (leaves_nothing (Took 0 1 (digit 1) ∷ ended_well) ∷ records ended_well [] ∷ [])
+    (posted (digit 1 ∷ []) ∷ [])
+
+-- the target closes the link over its first message, and the message is gone
+abbrev pub value_lost_at_close : Run Work
+value_lost_at_close = run_of
+    (with_input (block Buffer) ∷ block Action ∷ [])
+    (link 0 1 ∷ input_link 0 ∷ [])
+    same
+    (leaves_nothing (took_all 0 1 (digit 1 ∷ digit 2 ∷ []) ++ gave_all 0 (digit 1 ∷ digit 2 ∷ []) ++ ended_well)
+    ∷ records (Took 0 0 (digit 2) ∷ ended_well) (digit 2 ∷ [])
+    ∷ [])
+    (posted (digit 1 ∷ digit 2 ∷ []) ∷ [])
+
+-- a batch of three makes a group of two because nothing comes for a while
+abbrev pub short_batch_when_idle : Run Work
+short_batch_when_idle = run_of
+    (with_input (with_size 3 (block Batch)) ∷ block Action ∷ [])
+    (link 0 1 ∷ input_link 0 ∷ [])
+    same
+    (leaves_nothing (took_all 0 1 (digit 1 ∷ digit 2 ∷ []) ++ Gave 0 (row (digit 1 ∷ digit 2 ∷ [])) ∷ ended_well)
+    ∷ records (took_all 0 0 (row (digit 1 ∷ digit 2 ∷ []) ∷ []) ++ ended_well) (row (digit 1 ∷ digit 2 ∷ []) ∷ [])
+    ∷ [])
+    (posted (digit 1 ∷ digit 2 ∷ []) ∷ [])
+
+-- a link that has carried all that it may hands its source's completion on
+abbrev pub cut_link_completes : Run Work
+cut_link_completes = run_of
+    (with_input (block Buffer) ∷ block Action ∷ block Action ∷ [])
+    (at_most 1 (link 0 1) ∷ link 0 2 ∷ input_link 0 ∷ [])
+    same
+    (leaves_nothing (took_all 0 2 (digit 1 ∷ digit 2 ∷ []) ++ Gave 0 (digit 1) ∷ Gave 1 (digit 2) ∷ ended_well)
+    ∷ records (Took 0 0 (digit 1) ∷ ended_well) (digit 1 ∷ [])
+    ∷ records (Took 0 1 (digit 2) ∷ ended_well) (digit 2 ∷ [])
+    ∷ [])
+    (posted (digit 1 ∷ digit 2 ∷ []) ∷ [])
+
+-- a buffer completes though its input is still open
+abbrev pub completed_while_open : Run Work
+completed_while_open = run_of (with_input (block Buffer) ∷ []) (input_link 0 ∷ []) same
+    (leaves_nothing ended_well ∷ [])
+    (record { posted = []; ending = Open } ∷ [])
+
+-- a message vanishes over a link that is not there
+abbrev pub given_to_nobody : Run Work
+given_to_nobody = run_of (with_input (block Buffer) ∷ []) (input_link 0 ∷ []) same
+    (leaves_nothing (Took 0 0 (digit 1) ∷ Gave 7 (digit 1) ∷ ended_well) ∷ [])
+    (posted (digit 1 ∷ []) ∷ [])
+
+-- each is refused by one law, which is named
+pub record WrongRunsAreRefused : Type 0 where
+  pub head_twice : Making head_given_twice → ⊥
+  pub finish_order : Making results_as_they_finish → ⊥
+  pub torn : Counts torn_join → ⊥
+  pub after_complete : Endings taken_after_complete → ⊥
+  pub later_first : LinkOrder later_link_first → ⊥
+  pub skipped : Copies element_skipped → ⊥
+  pub all_skipped : Copies all_elements_skipped → ⊥
+  pub dropped : Copies element_dropped → ⊥
+  pub lost : LinkLaw value_lost_at_close → ⊥
+  pub short_group : Making short_batch_when_idle → ⊥
+  pub cut_completes : Endings cut_link_completes → ⊥
+  pub open_completes : Endings completed_while_open → ⊥
+  pub to_nobody : OneTaker given_to_nobody → ⊥
+  pub not_moved : Quiet nothing_moved → ⊥

@@ -1,0 +1,142 @@
+//! A network that was checked: its blocks and links by their numbers, and what can be wrong with a draft.
+ghost use Rattle.std.specs.Prelude.{◌≡◌, ◌<◌, length, HoldsAt, position};
+ghost use Rattle.std.specs.Str.{bytes_eq};
+ghost use Rattle.flow_link.specs.Fault.{fault_number};
+ghost use Rattle.flow_link.specs.Layout.{layout_of};
+
+use crate::draft::BlockDef;
+use flow_value::When;
+
+/// Where the messages of a link come from.
+#[derive(Clone, Copy, Debug, PartialEq, Eq, Hash)]
+pub enum LinkSource {
+    /// A block, by its number.
+    Block(usize),
+    /// The values that are posted to this block.
+    Input(usize),
+}
+
+/// Where the messages of a link go to.
+#[derive(Clone, Copy, Debug, PartialEq, Eq, Hash)]
+pub enum LinkTarget {
+    /// A port of a block, by their numbers.
+    Port(usize, u32),
+    /// The caller, who receives from a block.
+    Exit,
+}
+
+/// A link as it was checked.
+#[derive(Clone, Copy, Debug, PartialEq, Eq, Hash)]
+pub struct Link {
+    pub source: LinkSource,
+    pub target: LinkTarget,
+    /// Which messages may cross.
+    pub when: When,
+    /// How many messages may cross, without bound where absent.
+    pub max: Option<u32>,
+    /// Whether the end of the source ends the target.
+    pub propagate: bool,
+}
+
+/// What a fault of a draft stands at.
+#[derive(Clone, Copy, Debug, PartialEq, Eq, Hash)]
+pub enum Place {
+    /// A block, by its number.
+    Block(usize),
+    /// A link of the draft, by its number.
+    Link(usize),
+}
+
+/// Why a draft is no plan. They are looked for in this order, each over the blocks and then the links.
+#[derive(Clone, Copy, Debug, PartialEq, Eq, Hash)]
+pub enum PlanFault {
+    /// There are more than 256 blocks or 1,024 links.
+    Limit,
+    /// An earlier block has this block's name.
+    DuplicateName(usize),
+    /// This link names a block that is not there.
+    UnknownBlock(usize),
+    /// The target of this link has no such port.
+    Port(usize),
+    /// The source of this link gives nothing.
+    NoOutput(usize),
+    /// An option stands where its kind has none, is out of its range, or is wanting.
+    BadOption(Place),
+    /// This batch has no room for a group.
+    CapacityBelowSize(usize),
+    /// One source leads into two ports of this reserving join.
+    SharedSource(usize),
+    /// Messages could go round for ever.
+    Cycle,
+}
+
+impl PlanFault {
+    /// The number by which a report names the fault: 1 to 9, in the order of the variants.
+    pub fn number(self) -> u32
+        ensures { result ≡ fault_number self }
+    {
+        match self {
+            PlanFault::Limit => 1,
+            PlanFault::DuplicateName(_) => 2,
+            PlanFault::UnknownBlock(_) => 3,
+            PlanFault::Port(_) => 4,
+            PlanFault::NoOutput(_) => 5,
+            PlanFault::BadOption(_) => 6,
+            PlanFault::CapacityBelowSize(_) => 7,
+            PlanFault::SharedSource(_) => 8,
+            PlanFault::Cycle => 9,
+        }
+    }
+}
+
+/// A network that was checked.
+///
+/// Blocks have the numbers of their places in the draft. So have links; after them comes a link for each input, and then
+/// one for each exit, both in the order of their blocks. Contracts see the plan as its layout.
+#[derive(Drop)]
+pub struct Plan<W> {
+    blocks: Vec<BlockDef<W>>,
+    // the draft's links, then those of the inputs and exits
+    links: Vec<Link>,
+}
+
+impl<W> Plan<W> {
+    /// How many blocks there are.
+    pub fn block_count(&self) -> usize
+        ensures { result ≡ length (layout_of self.now).blocks }
+    {
+        self.blocks.len()
+    }
+
+    /// The block with this number.
+    pub fn block(&self, number: usize) -> &BlockDef<W>
+        requires { number < length (layout_of self.now).blocks }
+        ensures { HoldsAt (λ block. result.now ≡ block) (layout_of self.now).blocks number }
+    {
+        &self.blocks[number]
+    }
+
+    /// How many links there are, those of inputs and exits among them.
+    pub fn link_count(&self) -> usize
+        ensures { result ≡ length (layout_of self.now).links }
+    {
+        self.links.len()
+    }
+
+    /// The link with this number.
+    pub fn link(&self, id: usize) -> Link
+        requires { id < length (layout_of self.now).links }
+        ensures { HoldsAt (λ link. result ≡ link) (layout_of self.now).links id }
+    {
+        self.links[id]
+    }
+
+    /// The number of the block with this name, if there is one.
+    pub fn find(&self, name: &str) -> Option<usize>
+        ensures { result ≡ position (λ block. bytes_eq block.name name.now) (layout_of self.now).blocks }
+    {
+        self.blocks
+            .iter()
+            .position(|block| block.name.as_str() == name)
+    }
+}

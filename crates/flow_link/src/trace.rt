@@ -1,0 +1,58 @@
+//! What a run leaves behind: the marks of each block, and how its inputs and blocks end.
+ghost use Rattle.std.specs.Prelude.{◌≡◌};
+ghost use Rattle.flow_link.specs.Phase.{message_id};
+
+use crate::phase::Phase;
+use flow_value::{MessageHeader, Parcel, Value};
+
+/// One thing that happened to a block; its journal has them in order.
+#[derive(Debug, Drop)]
+pub enum Mark {
+    /// At this port it took this value, which came over this link.
+    Took(u32, usize, Value),
+    /// Over this link it gave this value.
+    Gave(usize, Value),
+    /// This port takes nothing any more.
+    Complete(u32),
+    /// The block ended by a fault with this number.
+    Fault(u32),
+    /// The block ended, and has nothing left.
+    Done,
+}
+
+/// How a block ended.
+#[derive(Clone, Copy, Debug, PartialEq, Eq, Hash)]
+pub enum Outcome {
+    /// It worked on all that it took, and gave it all.
+    Done,
+    /// It faulted, with this number.
+    Faulted(u32),
+}
+
+/// How the values of an input end.
+#[derive(Clone, Copy, Debug, PartialEq, Eq, Hash)]
+pub enum Ending {
+    /// More may be posted.
+    Open,
+    /// There are no more.
+    Complete,
+    /// There are no more, by a fault with this number.
+    Fault(u32),
+}
+
+/// A link between two moves.
+#[derive(Debug, Drop)]
+pub struct LinkState {
+    pub phase: Phase,
+    /// The message that was given and is not yet taken out.
+    pub slot: Option<Parcel>,
+}
+
+impl LinkState {
+    /// The message that the link's phase speaks of, if it speaks of one.
+    pub fn id(&self) -> Option<MessageHeader>
+        ensures { result ≡ message_id self.now.phase }
+    {
+        self.phase.id()
+    }
+}
