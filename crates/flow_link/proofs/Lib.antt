@@ -1,4 +1,6 @@
+pub mod ComposeLemmas
 pub mod ExampleLemmas
+pub mod ListLemmas
 pub mod LookLemmas
 pub mod PlanExampleLemmas
 pub mod RebaseLemmas
