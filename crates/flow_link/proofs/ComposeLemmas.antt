@@ -15,7 +15,7 @@ use Rattle.flow_link.specs.Lists.{every, concat, same_values, is_front}
 use Rattle.flow_link.specs.Trace.{Run, took, gave_over, block_of, link_of, trace_of, marks_of, held_at, given_by, given_over, taken_by, taken_over, input_of}
 use Rattle.flow_link.specs.Making.{Making, makes, makes_as, results_of, block_result, is_made, outputs, worked, work_makes}
 use Rattle.flow_link.specs.Law.{LinkLaw, OneTaker, is_all_or_all_but_one, is_within, crosses, crosses_between, gives_admitted, gives_within, posted_before, takes_posted, has_own_marks}
-use Rattle.flow_link.specs.Composes.{Ends, SourceKeeps, TargetKeeps, WorksInto, NodeMakes, PartsKeep, PartsCompose, facts_of}
+use Rattle.flow_link.specs.Composes.{Ends, SourceKeeps, TargetKeeps, WorksInto, NodeMakes, PartsKeep, facts_of}
 use Rattle.flow_link.proofs.ToldLemmas.{links_tell}
 use Rattle.flow_link.proofs.ListLemmas.{and_true, every_below, same_values_where, front_append, front_refl, front_of_front, front_without}
 
@@ -57,17 +57,17 @@ within_from_start max before given values start same h =
     within_test max values (subst P count h)
 
 module _ {W : Type 0} (run : Run W) (ends : ℕ → Ends) (keep : PartsKeep run ends) where
-  source_keeps : (l b : ℕ) → l < length run.layout.links → (link_of run l).source ≡ Block b → SourceKeeps run ends l b
+  pub source_keeps : (l b : ℕ) → l < length run.layout.links → (link_of run l).source ≡ Block b → SourceKeeps run ends l b
   source_keeps l b small e = (keep.nodes b (keep.from_blocks l b small e)).sources l small e
 
-  target_keeps : (l b p : ℕ) → l < length run.layout.links → (link_of run l).target ≡ Port b p → TargetKeeps run ends l b p
+  pub target_keeps : (l b p : ℕ) → l < length run.layout.links → (link_of run l).target ≡ Port b p → TargetKeeps run ends l b p
   target_keeps l b p small e = (keep.nodes b (keep.to_blocks l b p small e)).targets l p small e
 
   -- the accounts of a link's ends are those of the journals
-  given_is : (l b : ℕ) → l < length run.layout.links → (link_of run l).source ≡ Block b → (ends l).source.given ≡ given_over run l
+  pub given_is : (l b : ℕ) → l < length run.layout.links → (link_of run l).source ≡ Block b → (ends l).source.given ≡ given_over run l
   given_is l b small e = (source_keeps l b small e).given ∙ sym (ap (λ s. given_by run l s) e)
 
-  taken_is : (l b p : ℕ) → l < length run.layout.links → (link_of run l).target ≡ Port b p → (ends l).target.taken ≡ taken_over run l
+  pub taken_is : (l b p : ℕ) → l < length run.layout.links → (link_of run l).target ≡ Port b p → (ends l).target.taken ≡ taken_over run l
   taken_is l b p small e = (target_keeps l b p small e).taken ∙ sym (ap (λ t. taken_by run l t) e)
 
   crossed_so : (l : ℕ) → l < length run.layout.links → IsTakenOrUnderWay (ends l).source.given (ends l).target.taken
@@ -156,10 +156,3 @@ module _ {W : Type 0} (run : Run W) (ends : ℕ → Ends) (keep : PartsKeep run 
     each_block = every_below (makes run) (length run.layout.blocks)
         (λ b small. makes_so b (block_of run b).kind (keep.nodes b small).makes);
   }
-
-pub parts_compose : (W : Type 0) → PartsCompose W
-parts_compose W run ends keep = record {
-  link_law = links_keep run ends keep;
-  one_taker = marks_keep run ends keep;
-  making = blocks_make run ends keep;
-}

@@ -1,4 +1,6 @@
 pub mod ComposeLemmas
+pub mod CopyLemmas
+pub mod EndingLemmas
 pub mod ExampleLemmas
 pub mod ListLemmas
 pub mod LookLemmas
@@ -8,4 +10,5 @@ pub mod SourceMoves
 pub mod TargetMoves
 pub mod TestLemmas
 pub mod ToldLemmas
+pub mod WholeLemmas
 pub mod WordLemmas

@@ -18,8 +18,8 @@ use Rattle.flow_link.specs.LinkOk.{LinkOk}
 use Rattle.flow_link.specs.Lists.{every, some, concat, is_empty, is_front}
 use Rattle.flow_link.specs.Plan.{is_steady, is_sole, is_reserving, is_write_once, ends_at, ends_at_port}
 use Rattle.flow_link.specs.Trace.{Run, took, took_at, took_over, gave_over, is_done, has_fault, has_ended, block_of, link_of, link_numbers, ports_of, trace_of, marks_of, held_at, input_of}
-use Rattle.flow_link.specs.Making.{Making, results_of, block_result, outputs, makes_as, load}
-use Rattle.flow_link.specs.Law.{LinkLaw, OneTaker, has_own_marks, has_room_for, takes_level, keeps_link_order}
+use Rattle.flow_link.specs.Making.{results_of, block_result, outputs, makes_as, load}
+use Rattle.flow_link.specs.Law.{has_own_marks, has_room_for, takes_level, keeps_link_order}
 use Rattle.flow_link.specs.Copies.{copies}
 use Rattle.flow_link.specs.Endings.{own_fault, is_number, stops_at, completes_once_at, ends_rightly}
 use Rattle.flow_link.specs.Lawful.{Lawful}
@@ -166,12 +166,3 @@ module _ {W : Type 0} (run : Run W) (ends : ℕ → Ends) where
 -- then the whole is lawful
 abbrev pub Composes : Type 0 → Type 0
 Composes W = (run : Run W) (ends : ℕ → Ends) → PartsKeep run ends → Lawful run
-
--- what of it is proved: what crosses is in order, each message has a link of its own, and each block makes what its kind makes
-pub record ComposedParts {W : Type 0} (run : Run W) : Type 0 where
-  pub link_law : LinkLaw run
-  pub one_taker : OneTaker run
-  pub making : Making run
-
-abbrev pub PartsCompose : Type 0 → Type 0
-PartsCompose W = (run : Run W) (ends : ℕ → Ends) → PartsKeep run ends → ComposedParts run

@@ -1,7 +1,7 @@
 //! Laws about links. Each stands on a function that does nothing: whoever calls it has the whole law.
 ghost use Rattle.std.specs.Prelude.{◌≡◌};
 ghost use Rattle.flow_value.specs.declared.value.Value.{Value};
-ghost use Rattle.flow_link.specs.Composes.{PartsCompose};
+ghost use Rattle.flow_link.specs.Composes.{Composes};
 ghost use Rattle.flow_link.specs.LawfulExamples.{GoodRunsAreLawful};
 ghost use Rattle.flow_link.specs.LooksKeep.{LooksKeep};
 ghost use Rattle.flow_link.specs.MovesKeep.{SourceMovesKeep, TargetMovesKeep};
@@ -54,8 +54,7 @@ pub fn faults_come_in_order()
     ensures { FaultsOfDrafts }
 {}
 
-/// Where each block, input and exit keeps its own laws and each link is in order, what crosses is in order, each message
-/// has a link of its own, and each block makes what its kind makes.
-pub fn parts_compose<W>()
-    ensures { PartsCompose W }
+/// A network whose links are in order, and whose blocks, inputs and exits each keep their own laws, is lawful.
+pub fn lawful_by_parts<W>()
+    ensures { Composes W }
 {}
