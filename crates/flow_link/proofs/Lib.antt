@@ -4,6 +4,7 @@ pub mod EndingLemmas
 pub mod ExampleLemmas
 pub mod ListLemmas
 pub mod LookLemmas
+pub mod MidMoveLemmas
 pub mod PlanExampleLemmas
 pub mod RebaseLemmas
 pub mod SourceMoves

@@ -13,6 +13,7 @@ pub mod Lists
 pub mod Looks
 pub mod LooksKeep
 pub mod Making
+pub mod MidMove
 pub mod Moves
 pub mod MovesKeep
 pub mod Phase

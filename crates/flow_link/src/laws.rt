@@ -4,6 +4,7 @@ ghost use Rattle.flow_value.specs.declared.value.Value.{Value};
 ghost use Rattle.flow_link.specs.Composes.{Composes};
 ghost use Rattle.flow_link.specs.LawfulExamples.{GoodRunsAreLawful};
 ghost use Rattle.flow_link.specs.LooksKeep.{LooksKeep};
+ghost use Rattle.flow_link.specs.MidMove.{KeptInMidMove};
 ghost use Rattle.flow_link.specs.MovesKeep.{SourceMovesKeep, TargetMovesKeep};
 ghost use Rattle.flow_link.specs.Phase.{WordsTell};
 ghost use Rattle.flow_link.specs.PlanExamples.{FaultsOfDrafts};
@@ -57,4 +58,9 @@ pub fn faults_come_in_order()
 /// A network whose links are in order, and whose blocks, inputs and exits each keep their own laws, is lawful.
 pub fn lawful_by_parts<W>()
     ensures { Composes W }
+{}
+
+/// There are networks whose parts keep their own laws, also while a message is under way.
+pub fn laws_hold_in_mid_move()
+    ensures { KeptInMidMove }
 {}
