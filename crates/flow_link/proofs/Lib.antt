@@ -2,6 +2,7 @@ pub mod ComposeLemmas
 pub mod CopyLemmas
 pub mod EndingLemmas
 pub mod ExampleLemmas
+pub mod JournalLemmas
 pub mod ListLemmas
 pub mod LookLemmas
 pub mod MidMoveLemmas

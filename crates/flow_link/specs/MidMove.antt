@@ -4,7 +4,7 @@ use Rattle.flow_link.specs.declared.draft.BlockKind.TheVariants.{Buffer, Action}
 use Rattle.flow_link.specs.declared.phase.Phase.TheVariants.{Idle, Given}
 use Rattle.flow_link.specs.declared.trace.Mark.TheVariants.{Took, Gave}
 use Rattle.flow_link.specs.Views.{SourceStage, TargetStage}
-use Rattle.flow_link.specs.Plan.{input_link}
+use Rattle.flow_link.specs.Layout.{input_link}
 use Rattle.flow_link.specs.Trace.{Run}
 use Rattle.flow_link.specs.Examples.{Work, block, with_input, link, digit, leaves_nothing, posted, same, run_of}
 use Rattle.flow_link.specs.Composes.{Ends, PartsKeep}

@@ -2,7 +2,7 @@
 use Rattle.std.specs.Prelude.{[], ◌∷◌, ◌++◌}
 use Rattle.flow_link.specs.declared.draft.BlockKind.TheVariants.{Buffer, Broadcast, WriteOnce, Action, Transform, Batch}
 use Rattle.flow_link.specs.declared.trace.Mark.TheVariants.{Took, Gave, Complete, Fault, Done}
-use Rattle.flow_link.specs.Plan.{input_link}
+use Rattle.flow_link.specs.Layout.{input_link}
 use Rattle.flow_link.specs.Trace.{Run}
 use Rattle.flow_link.specs.declared.trace.Ending.TheVariants.{Open}
 use Rattle.flow_link.specs.Law.{LinkLaw, OneTaker, Counts, LinkOrder}

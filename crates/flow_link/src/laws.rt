@@ -2,6 +2,7 @@
 ghost use Rattle.std.specs.Prelude.{◌≡◌};
 ghost use Rattle.flow_value.specs.declared.value.Value.{Value};
 ghost use Rattle.flow_link.specs.Composes.{Composes};
+ghost use Rattle.flow_link.specs.JournalGrows.{JournalsGrow};
 ghost use Rattle.flow_link.specs.LawfulExamples.{GoodRunsAreLawful};
 ghost use Rattle.flow_link.specs.LooksKeep.{LooksKeep};
 ghost use Rattle.flow_link.specs.MidMove.{KeptInMidMove};
@@ -63,4 +64,9 @@ pub fn lawful_by_parts<W>()
 /// There are networks whose parts keep their own laws, also while a message is under way.
 pub fn laws_hold_in_mid_move()
     ensures { KeptInMidMove }
+{}
+
+/// One more mark adds its value to what was taken or given, and changes nothing else of it.
+pub fn journals_grow()
+    ensures { JournalsGrow }
 {}
