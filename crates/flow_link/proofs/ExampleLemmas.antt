@@ -3,7 +3,7 @@ use Rattle.std.proofs.Common.{◌≡◌, true, false, refl}
 use Rattle.flow_link.specs.Trace.{Run}
 use Rattle.flow_link.specs.Examples.{Work}
 use Rattle.flow_link.specs.Tests.{all_pass, law_tests, quiet_tests}
-use Rattle.flow_link.specs.LawfulExamples.{IsLawfulAndQuiet, GoodRunsAreLawful, two_records, parse_three, upto_flattens, unrouted_head, link_limit, batch_remainder, greedy_join_leaves, reserving_join_leaves, write_once_takes_one, broadcast_beside_a_join, batched_join_groups, fault_in_the_middle}
+use Rattle.flow_link.specs.LawfulExamples.{IsLawfulAndQuiet, GoodRunsAreLawful, two_records, parse_three, upto_flattens, unrouted_head, link_limit, batch_remainder, greedy_join_leaves, reserving_join_leaves, write_once_takes_one, broadcast_beside_a_join, batched_join_groups, fault_in_the_middle, bounded_buffer_misses, fault_after_work, fault_before_work, more_than_one_result, kept_for_the_caller}
 use Rattle.flow_link.specs.RefusedExamples.{WrongRunsAreRefused}
 use Rattle.flow_link.proofs.TestLemmas.{lawful_by_tests, quiet_by_tests}
 
@@ -24,6 +24,11 @@ good_runs = record {
   broadcast_beside_a_join_is = good broadcast_beside_a_join refl refl;
   batched_join_groups_is = good batched_join_groups refl refl;
   fault_in_the_middle_is = good fault_in_the_middle refl refl;
+  bounded_buffer_misses_is = good bounded_buffer_misses refl refl;
+  fault_after_work_is = good fault_after_work refl refl;
+  fault_before_work_is = good fault_before_work refl refl;
+  more_than_one_result_is = good more_than_one_result refl refl;
+  kept_for_the_caller_is = good kept_for_the_caller refl refl;
 }
 
 wrong_no_more : false ≡ true → ⊥
@@ -45,4 +50,9 @@ wrong_runs = record {
   open_completes = λ law. wrong_no_more law.causes;
   to_nobody = λ law. wrong_no_more law.own_marks;
   not_moved = λ quiet. wrong_no_more quiet.heads;
+  on_the_way = λ quiet. wrong_no_more quiet.home;
+  not_worked = λ quiet. wrong_no_more quiet.at_rest;
+  not_marked = λ quiet. wrong_no_more quiet.done;
+  not_handed_on = λ quiet. wrong_no_more quiet.ends_handed_on;
+  other_number = λ law. wrong_no_more law.causes;
 }

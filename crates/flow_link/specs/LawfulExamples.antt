@@ -3,12 +3,14 @@ use Rattle.std.specs.Prelude.{List, [], ◌∷◌, ◌++◌}
 use Rattle.flow_value.specs.declared.value.Value.{Value}
 use Rattle.flow_link.specs.declared.draft.BlockDef.{BlockDef}
 use Rattle.flow_link.specs.declared.draft.BlockKind.TheVariants.{Buffer, Broadcast, WriteOnce, Action, Transform, TransformMany, Batch, Join, BatchedJoin}
+use Rattle.flow_value.specs.declared.value.Value.{Value}
+use Rattle.flow_link.specs.declared.trace.Mark.{Mark}
 use Rattle.flow_link.specs.declared.trace.Mark.TheVariants.{Took, Gave, Complete, Fault, Done}
-use Rattle.flow_link.specs.Layout.{input_link}
+use Rattle.flow_link.specs.Layout.{input_link, exit_link}
 use Rattle.flow_link.specs.Trace.{BlockTrace, Run}
 use Rattle.flow_link.specs.Lawful.{Lawful}
 use Rattle.flow_link.specs.Quiet.{Quiet}
-use Rattle.flow_link.specs.Examples.{Work, block, with_input, with_size, reserving_join, link, to_port, when_even, at_most, kept_apart, int, digit, row, took_all, gave_all, ended_well, leaves, leaves_nothing, holds, records, posted, same, read_digit, read_up_to, run_of, word_a, word_b, digits_to, ints_to}
+use Rattle.flow_link.specs.Examples.{Work, block, with_input, with_size, with_capacity, reserving_join, link, to_port, when_even, at_most, kept_apart, int, digit, row, took_all, gave_all, ended_well, leaves, leaves_nothing, holds, records, posted, posted_with_fault, same, read_digit, read_up_to, run_of, word_a, word_b, digits_to, ints_to}
 
 pub record IsLawfulAndQuiet (run : Run Work) : Type 0 where
   pub lawful : Lawful run
@@ -180,6 +182,53 @@ fault_in_the_middle = run_of
     ∷ [])
     (posted (digit 1 ∷ row [] ∷ digit 3 ∷ []) ∷ [])
 
+-- a broadcast to an action and to a buffer with room for one message, which keeps it: the buffer misses the others
+abbrev pub bounded_buffer_misses : Run Work
+bounded_buffer_misses = run_of
+    (with_input (block Broadcast) ∷ block Action ∷ with_capacity 1 (block Buffer) ∷ [])
+    (link 0 1 ∷ kept_apart (link 0 2) ∷ input_link 0 ∷ [])
+    same
+    (leaves_nothing (Took 0 2 (digit 1) ∷ Gave 1 (digit 1) ∷ Gave 0 (digit 1) ∷ Took 0 2 (digit 2) ∷ Gave 0 (digit 2) ∷ ended_well)
+    ∷ records (took_all 0 0 (digit 1 ∷ digit 2 ∷ []) ++ ended_well) (digit 1 ∷ digit 2 ∷ [])
+    ∷ leaves (Took 0 1 (digit 1) ∷ []) (digit 1 ∷ [])
+    ∷ [])
+    (posted (digit 1 ∷ digit 2 ∷ []) ∷ [])
+
+-- an input ends with a fault, which its block hands on; the message is either worked on first, or left
+abbrev pub faulting_input : List Mark → List Value → BlockTrace → Run Work
+faulting_input gave left action = run_of
+    (with_input (block Buffer) ∷ block Action ∷ [])
+    (link 0 1 ∷ input_link 0 ∷ [])
+    same
+    (leaves (Took 0 1 (digit 1) ∷ gave ++ Fault 5 ∷ []) left ∷ action ∷ [])
+    (posted_with_fault 5 (digit 1 ∷ []) ∷ [])
+
+abbrev pub fault_after_work : Run Work
+fault_after_work = faulting_input (Gave 0 (digit 1) ∷ []) [] (records (Took 0 0 (digit 1) ∷ Fault 5 ∷ []) (digit 1 ∷ []))
+
+abbrev pub fault_before_work : Run Work
+fault_before_work = faulting_input [] (digit 1 ∷ []) (records (Fault 5 ∷ []) [])
+
+-- a transform whose work gives two values faults
+abbrev pub more_than_one_result : Run Work
+more_than_one_result = run_of
+    (with_input (block Buffer) ∷ block Transform ∷ [])
+    (link 0 1 ∷ input_link 0 ∷ [])
+    read_up_to
+    (leaves_nothing (Took 0 1 (digit 2) ∷ Gave 0 (digit 2) ∷ ended_well)
+    ∷ holds (Took 0 0 (digit 2) ∷ Fault 7 ∷ []) ((digit 2 ∷ []) ∷ [])
+    ∷ [])
+    (posted (digit 2 ∷ []) ∷ [])
+
+-- a buffer keeps its messages until the caller receives them
+abbrev pub kept_for_the_caller : Run Work
+kept_for_the_caller = run_of
+    (with_input (block Buffer) ∷ [])
+    (input_link 0 ∷ exit_link 0 ∷ [])
+    same
+    (leaves (took_all 0 0 (digit 1 ∷ digit 2 ∷ []) ++ Gave 1 (digit 1) ∷ Complete 0 ∷ []) (digit 2 ∷ []) ∷ [])
+    (posted (digit 1 ∷ digit 2 ∷ []) ∷ [])
+
 pub record GoodRunsAreLawful : Type 0 where
   pub two_records_is : IsLawfulAndQuiet two_records
   pub parse_three_is : IsLawfulAndQuiet parse_three
@@ -193,3 +242,8 @@ pub record GoodRunsAreLawful : Type 0 where
   pub broadcast_beside_a_join_is : IsLawfulAndQuiet broadcast_beside_a_join
   pub batched_join_groups_is : IsLawfulAndQuiet batched_join_groups
   pub fault_in_the_middle_is : IsLawfulAndQuiet fault_in_the_middle
+  pub bounded_buffer_misses_is : IsLawfulAndQuiet bounded_buffer_misses
+  pub fault_after_work_is : IsLawfulAndQuiet fault_after_work
+  pub fault_before_work_is : IsLawfulAndQuiet fault_before_work
+  pub more_than_one_result_is : IsLawfulAndQuiet more_than_one_result
+  pub kept_for_the_caller_is : IsLawfulAndQuiet kept_for_the_caller

@@ -1,4 +1,4 @@
--- What a plan says of its blocks and links, and what can be wrong with a draft.
+-- What a plan says of its blocks and links.
 use Rattle.std.specs.Prelude.{ℕ, ◌+◌, ◌==◌, Bool, true, false, cond, not, ◌&&◌, List, [], ◌∷◌, ◌++◌, get_or, unwrap_or, is_none, position, Option, None}
 use Rattle.std.specs.Str.{bytes_eq}
 use Rattle.flow_value.specs.declared.when.When.TheVariants.{Any}

@@ -10,7 +10,7 @@ use Rattle.flow_link.specs.Making.{Making}
 use Rattle.flow_link.specs.Copies.{Copies}
 use Rattle.flow_link.specs.Endings.{Endings}
 use Rattle.flow_link.specs.Quiet.{Quiet}
-use Rattle.flow_link.specs.Examples.{Work, block, with_input, with_size, with_capacity, reserving_join, link, to_port, when_even, at_most, int, digit, row, took_all, gave_all, ended_well, leaves, leaves_nothing, holds, records, posted, posted_with_fault, same, read_digit, run_of}
+use Rattle.flow_link.specs.Examples.{Work, block, with_input, with_size, with_capacity, reserving_join, link, to_port, when_even, at_most, int, digit, row, took_all, gave_all, ended_well, leaves, leaves_nothing, holds, records, posted, posted_with_fault, same, read_digit, read_up_to, run_of}
 
 -- a buffer gives its one message to each of two links, whose targets have little room
 abbrev pub head_given_twice : Run Work
@@ -158,6 +158,48 @@ given_to_nobody = run_of (with_input (block Buffer) ∷ []) (input_link 0 ∷ []
     (leaves_nothing (Took 0 0 (digit 1) ∷ Gave 7 (digit 1) ∷ ended_well) ∷ [])
     (posted (digit 1 ∷ []) ∷ [])
 
+-- a message is given and lies on the way
+abbrev pub message_on_the_way : Run Work
+message_on_the_way = run_of
+    (with_input (block Buffer) ∷ block Action ∷ [])
+    (link 0 1 ∷ input_link 0 ∷ [])
+    same
+    (leaves_nothing (Took 0 1 (digit 1) ∷ Gave 0 (digit 1) ∷ Complete 0 ∷ []) ∷ leaves_nothing [] ∷ [])
+    (posted (digit 1 ∷ []) ∷ [])
+
+-- an action holds what it could work on
+abbrev pub work_not_done : Run Work
+work_not_done = run_of
+    (with_input (block Action) ∷ [])
+    (input_link 0 ∷ [])
+    same
+    (holds (Took 0 0 (digit 1) ∷ Complete 0 ∷ []) ((digit 1 ∷ []) ∷ []) ∷ [])
+    (posted (digit 1 ∷ []) ∷ [])
+
+-- all is given, and the buffer does not say that it is done
+abbrev pub done_not_marked : Run Work
+done_not_marked = run_of
+    (with_input (block Buffer) ∷ [])
+    (input_link 0 ∷ [])
+    same
+    (leaves_nothing (Complete 0 ∷ []) ∷ [])
+    (posted [] ∷ [])
+
+-- the input is at its end, and its block does not complete
+abbrev pub end_not_handed_on : Run Work
+end_not_handed_on = run_of (with_input (block Buffer) ∷ []) (input_link 0 ∷ []) same (leaves_nothing [] ∷ []) (posted [] ∷ [])
+
+-- a block faults with a number that is not its work's
+abbrev pub wrong_number : Run Work
+wrong_number = run_of
+    (with_input (block Buffer) ∷ block Transform ∷ [])
+    (link 0 1 ∷ input_link 0 ∷ [])
+    read_up_to
+    (leaves_nothing (Took 0 1 (digit 2) ∷ Gave 0 (digit 2) ∷ ended_well)
+    ∷ holds (Took 0 0 (digit 2) ∷ Fault 1 ∷ []) ((digit 2 ∷ []) ∷ [])
+    ∷ [])
+    (posted (digit 2 ∷ []) ∷ [])
+
 -- each is refused by one law, which is named
 pub record WrongRunsAreRefused : Type 0 where
   pub head_twice : Making head_given_twice → ⊥
@@ -174,3 +216,8 @@ pub record WrongRunsAreRefused : Type 0 where
   pub open_completes : Endings completed_while_open → ⊥
   pub to_nobody : OneTaker given_to_nobody → ⊥
   pub not_moved : Quiet nothing_moved → ⊥
+  pub on_the_way : Quiet message_on_the_way → ⊥
+  pub not_worked : Quiet work_not_done → ⊥
+  pub not_marked : Quiet done_not_marked → ⊥
+  pub not_handed_on : Quiet end_not_handed_on → ⊥
+  pub other_number : Endings wrong_number → ⊥

@@ -1,8 +1,13 @@
-//! Links between blocks: the phase of a hand-over, the moves of its two ends, and the word that stores a phase.
+//! Networks as they are written and as they are checked, and the links between their blocks: the phase of a hand-over,
+//! the moves of its two ends, and the word that stores a phase.
 //!
 //! A link belongs to no block: its source and its target each make their own moves, and know of the other only what
 //! they find at the link. When the two agree is a definition of contracts, `LinkOk`; the laws say that each move and
 //! each look keeps it.
+//!
+//! What a run leaves behind is a journal of marks for each block. Which runs are lawful and which are quiet are
+//! definitions of contracts too, `Lawful` and `Quiet`; the laws say that a network is lawful where each of its parts
+//! keeps its own laws, and show by examples what the definitions let through and what they refuse.
 #![tactic(auto)]
 
 mod draft;
