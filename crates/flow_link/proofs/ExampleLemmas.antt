@@ -3,8 +3,8 @@ use Rattle.std.proofs.Common.{◌≡◌, true, false, refl}
 use Rattle.flow_link.specs.Trace.{Run}
 use Rattle.flow_link.specs.Examples.{Work}
 use Rattle.flow_link.specs.Tests.{all_pass, law_tests, quiet_tests}
-use Rattle.flow_link.specs.LawfulExamples.{IsLawfulAndQuiet, GoodRunsAreLawful, two_records, parse_three, upto_flattens, unrouted_head, link_limit, batch_remainder, greedy_join_leaves, reserving_join_leaves, write_once_takes_one, broadcast_beside_a_join, batched_join_groups, fault_in_the_middle}
-use Rattle.flow_link.specs.RefusedExamples.{WrongRunsAreRefused}
+use Rattle.flow_link.specs.LawfulExamples.{IsLawfulAndQuiet, GoodRunsAreLawful, two_records, parse_three, upto_flattens, unrouted_head, link_limit, batch_remainder, greedy_join_leaves, reserving_join_leaves, write_once_takes_one, broadcast_beside_a_join, batched_join_groups, fault_in_the_middle, bounded_buffer_misses, fault_after_work, fault_before_work, more_than_one_result, kept_for_the_caller}
+use Rattle.flow_link.specs.RefusedExamples.{message_on_the_way, work_not_done, done_not_marked, end_not_handed_on, nothing_moved, WrongRunsAreRefused}
 use Rattle.flow_link.proofs.TestLemmas.{lawful_by_tests, quiet_by_tests}
 
 good : (run : Run Work) → all_pass (law_tests run) ≡ true → all_pass (quiet_tests run) ≡ true → IsLawfulAndQuiet run
@@ -24,6 +24,11 @@ good_runs = record {
   broadcast_beside_a_join_is = good broadcast_beside_a_join refl refl;
   batched_join_groups_is = good batched_join_groups refl refl;
   fault_in_the_middle_is = good fault_in_the_middle refl refl;
+  bounded_buffer_misses_is = good bounded_buffer_misses refl refl;
+  fault_after_work_is = good fault_after_work refl refl;
+  fault_before_work_is = good fault_before_work refl refl;
+  more_than_one_result_is = good more_than_one_result refl refl;
+  kept_for_the_caller_is = good kept_for_the_caller refl refl;
 }
 
 wrong_no_more : false ≡ true → ⊥
@@ -31,18 +36,23 @@ wrong_no_more e = cc
 
 pub wrong_runs : WrongRunsAreRefused
 wrong_runs = record {
-  head_twice = λ law. wrong_no_more law.each_block;
-  finish_order = λ law. wrong_no_more law.each_block;
-  torn = λ law. wrong_no_more law.level;
-  after_complete = λ law. wrong_no_more law.once;
-  later_first = λ law. wrong_no_more law.each_block;
-  skipped = λ law. wrong_no_more law.each_block;
-  all_skipped = λ law. wrong_no_more law.each_block;
-  dropped = λ law. wrong_no_more law.each_block;
-  lost = λ law. wrong_no_more law.between_blocks;
-  short_group = λ law. wrong_no_more law.each_block;
-  cut_completes = λ law. wrong_no_more law.causes;
-  open_completes = λ law. wrong_no_more law.causes;
-  to_nobody = λ law. wrong_no_more law.own_marks;
-  not_moved = λ quiet. wrong_no_more quiet.heads;
+  head_twice = record { broken = λ law. wrong_no_more law.each_block; others_hold = refl };
+  finish_order = record { broken = λ law. wrong_no_more law.each_block; others_hold = refl };
+  torn = record { broken = λ law. wrong_no_more law.level; others_hold = refl };
+  after_complete = record { broken = λ law. wrong_no_more law.once; others_hold = refl };
+  later_first = record { broken = λ law. wrong_no_more law.each_block; others_hold = refl };
+  skipped = record { broken = λ law. wrong_no_more law.each_block; others_hold = refl };
+  all_skipped = record { broken = λ law. wrong_no_more law.each_block; others_hold = refl };
+  dropped = record { broken = λ law. wrong_no_more law.each_block; others_hold = refl };
+  lost = record { broken = λ law. wrong_no_more law.between_blocks; others_hold = refl };
+  short_group = record { broken = λ law. wrong_no_more law.each_block; others_hold = refl };
+  cut_completes = record { broken = λ law. wrong_no_more law.causes; others_hold = refl };
+  open_completes = record { broken = λ law. wrong_no_more law.causes; others_hold = refl };
+  to_nobody = record { broken = λ law. wrong_no_more law.own_marks; others_hold = refl };
+  not_moved = record { lawful = lawful_by_tests nothing_moved refl; not_quiet = λ quiet. wrong_no_more quiet.heads };
+  on_the_way = record { lawful = lawful_by_tests message_on_the_way refl; not_quiet = λ quiet. wrong_no_more quiet.home };
+  not_worked = record { lawful = lawful_by_tests work_not_done refl; not_quiet = λ quiet. wrong_no_more quiet.at_rest };
+  not_marked = record { lawful = lawful_by_tests done_not_marked refl; not_quiet = λ quiet. wrong_no_more quiet.done };
+  not_handed_on = record { lawful = lawful_by_tests end_not_handed_on refl; not_quiet = λ quiet. wrong_no_more quiet.ends_handed_on };
+  other_number = record { broken = λ law. wrong_no_more law.causes; others_hold = refl };
 }

@@ -1,9 +1,16 @@
+pub mod ComposeLemmas
+pub mod CopyLemmas
+pub mod EndingLemmas
 pub mod ExampleLemmas
+pub mod JournalLemmas
+pub mod ListLemmas
 pub mod LookLemmas
+pub mod MidMoveLemmas
 pub mod PlanExampleLemmas
 pub mod RebaseLemmas
 pub mod SourceMoves
 pub mod TargetMoves
 pub mod TestLemmas
 pub mod ToldLemmas
+pub mod WholeLemmas
 pub mod WordLemmas

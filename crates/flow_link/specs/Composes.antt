@@ -1,12 +1,11 @@
 -- A network is lawful when each block keeps its own laws, each input and exit keeps its own, and each link is in order.
-use Rattle.std.specs.Prelude.{◌≡◌, ℕ, ◌+◌, ◌<◌, ◌==◌, Bool, true, false, not, ◌&&◌, ◌||◌, is_some, List, [], ◌∷◌, ◌++◌, length, filter, Option, Some, None}
+use Rattle.std.specs.Prelude.{◌≡◌, ℕ, ◌+◌, ◌<◌, ◌==◌, Bool, true, false, not, ◌&&◌, ◌||◌, is_some, List, ◌++◌, length, filter, Option, Some}
 use Rattle.flow_value.specs.When.{admits}
 use Rattle.flow_value.specs.declared.value.Value.{Value}
 use Rattle.flow_link.specs.declared.draft.BlockKind.{BlockKind}
-use Rattle.flow_link.specs.declared.draft.BlockKind.TheVariants.{Buffer, Broadcast, WriteOnce, Action, Transform, TransformMany, Batch, Join, BatchedJoin}
+use Rattle.flow_link.specs.declared.draft.BlockKind.TheVariants.{Buffer, Action, Transform, TransformMany}
 use Rattle.flow_link.specs.declared.phase.Phase.{Phase}
 use Rattle.flow_link.specs.declared.phase.Phase.TheVariants.{Refused}
-use Rattle.flow_link.specs.declared.phase.LinkEnd.{LinkEnd}
 use Rattle.flow_link.specs.declared.phase.LinkEnd.TheVariants.{Complete as end_complete, Fault as end_fault}
 use Rattle.flow_link.specs.declared.plan.LinkSource.TheVariants.{Block, Input}
 use Rattle.flow_link.specs.declared.plan.LinkTarget.{LinkTarget}
@@ -17,8 +16,8 @@ use Rattle.flow_link.specs.declared.trace.Ending.TheVariants.{Complete as ending
 use Rattle.flow_link.specs.Views.{SourceStage, TargetStage, Refusal, SourceView, TargetView, LinkFacts}
 use Rattle.flow_link.specs.LinkOk.{LinkOk}
 use Rattle.flow_link.specs.Lists.{every, some, concat, is_empty, is_front}
-use Rattle.flow_link.specs.Plan.{is_steady, is_sole, is_reserving, is_write_once, ends_at, ends_at_port, block_in}
-use Rattle.flow_link.specs.Trace.{Run, took, took_at, took_over, gave_over, is_done, has_fault, has_ended, block_of, link_of, block_numbers, link_numbers, ports_of, trace_of, marks_of, held_at, input_of}
+use Rattle.flow_link.specs.Plan.{is_steady, is_sole, is_reserving, is_write_once, ends_at, ends_at_port}
+use Rattle.flow_link.specs.Trace.{Run, took, took_at, took_over, gave_over, is_done, has_fault, has_ended, block_of, link_of, link_numbers, ports_of, trace_of, marks_of, held_at, input_of}
 use Rattle.flow_link.specs.Making.{results_of, block_result, outputs, makes_as, load}
 use Rattle.flow_link.specs.Law.{has_own_marks, has_room_for, takes_level, keeps_link_order}
 use Rattle.flow_link.specs.Copies.{copies}

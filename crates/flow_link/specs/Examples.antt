@@ -13,7 +13,7 @@ use Rattle.flow_link.specs.declared.plan.LinkTarget.TheVariants.{Port}
 use Rattle.flow_link.specs.declared.trace.Mark.{Mark}
 use Rattle.flow_link.specs.declared.trace.Mark.TheVariants.{Took, Gave, Complete, Done}
 use Rattle.flow_link.specs.declared.trace.Ending.TheVariants.{Complete as ending_complete, Fault as ending_fault}
-use Rattle.flow_link.specs.Lists.{below}
+use Rattle.flow_link.specs.Lists.{below, numbers_from}
 use Rattle.flow_link.specs.Plan.{no_block}
 use Rattle.flow_link.specs.Trace.{BlockTrace, InputTrace, Run}
 
@@ -58,6 +58,20 @@ int n = Int (pos n)
 -- the text of one digit
 abbrev pub digit : ℕ → Value
 digit n = Text ((48 + n) ∷ [])
+
+-- texts of one letter
+abbrev pub word_a : Value
+word_a = Text (97 ∷ [])
+
+abbrev pub word_b : Value
+word_b = Text (98 ∷ [])
+
+-- the digits from 1 on, as texts and as numbers
+abbrev pub digits_to : ℕ → List Value
+digits_to count = map digit (numbers_from 1 count)
+
+abbrev pub ints_to : ℕ → List Value
+ints_to count = map int (numbers_from 1 count)
 
 abbrev pub row : List Value → Value
 row values = Row (items_from values)

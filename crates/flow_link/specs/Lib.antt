@@ -3,6 +3,7 @@ pub mod Copies
 pub mod Endings
 pub mod Examples
 pub mod Fault
+pub mod JournalGrows
 pub mod Law
 pub mod Lawful
 pub mod LawfulExamples
@@ -13,12 +14,14 @@ pub mod Lists
 pub mod Looks
 pub mod LooksKeep
 pub mod Making
+pub mod MidMove
 pub mod Moves
 pub mod MovesKeep
 pub mod Phase
 pub mod Plan
 pub mod PlanExamples
 pub mod PlanFaults
+pub mod Planned
 pub mod Quiet
 pub mod Rebase
 pub mod RefusedExamples

@@ -1,7 +1,8 @@
--- What a plan says of its blocks and links, and what can be wrong with a draft.
-use Rattle.std.specs.Prelude.{ℕ, suc, ◌+◌, ◌==◌, Bool, true, false, cond, not, ◌&&◌, List, [], ◌∷◌, ◌++◌, get_or, unwrap_or, is_none, position, Option, None}
+-- What a plan says of its blocks and links.
+use Rattle.std.specs.Prelude.{ℕ, ◌+◌, ◌==◌, Bool, true, false, cond, not, ◌&&◌, List, [], ◌∷◌, ◌++◌, get_or, unwrap_or, is_none, position, Option, None}
 use Rattle.std.specs.Str.{bytes_eq}
 use Rattle.flow_value.specs.declared.when.When.TheVariants.{Any}
+use Rattle.flow_link.specs.Layout.{outer_links}
 use Rattle.flow_link.specs.declared.draft.BlockDef.{BlockDef}
 use Rattle.flow_link.specs.declared.draft.LinkDef.{LinkDef}
 use Rattle.flow_link.specs.declared.draft.BlockKind.{BlockKind}
@@ -93,21 +94,6 @@ abbrev pub is_sole : {W : Type 0} → List (BlockDef W) → List Link → LinkTa
 is_sole blocks links (Port b _) = links_into b links == 1 && not (is_reserving (block_in blocks b))
 is_sole blocks links Exit = false
 
--- the links of inputs, and of exits, in the order of their blocks, which are numbered from a first one on
-abbrev pub input_link : ℕ → Link
-input_link b = record { source = Input b; target = Port b 0; when = Any; max = None; propagate = true }
-
-abbrev pub input_links : {W : Type 0} → ℕ → List (BlockDef W) → List Link
-input_links b [] = []
-input_links b (block ∷ blocks) = cond block.input (input_link b ∷ []) [] ++ input_links (suc b) blocks
-
-abbrev pub exit_link : ℕ → Link
-exit_link b = record { source = Block b; target = Exit; when = Any; max = None; propagate = true }
-
-abbrev pub exit_links : {W : Type 0} → ℕ → List (BlockDef W) → List Link
-exit_links b [] = []
-exit_links b (block ∷ blocks) = cond block.output (exit_link b ∷ []) [] ++ exit_links (suc b) blocks
-
 -- the link that a draft's link becomes, where both its names are known
 abbrev pub block_named : {W : Type 0} → List (BlockDef W) → List ℕ → Option ℕ
 block_named blocks name = position (λ block. bytes_eq block.name name) blocks
@@ -124,4 +110,4 @@ named_links blocks (link ∷ links) = named_link blocks link ∷ named_links blo
 
 -- the links of a plan by their numbers: those of the draft, then one for each input, then one for each exit
 abbrev pub planned_links : {W : Type 0} → List (BlockDef W) → List LinkDef → List Link
-planned_links blocks links = named_links blocks links ++ input_links 0 blocks ++ exit_links 0 blocks
+planned_links blocks links = named_links blocks links ++ outer_links blocks

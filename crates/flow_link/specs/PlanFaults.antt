@@ -13,10 +13,10 @@ use Rattle.flow_link.specs.declared.plan.PlanFault.TheVariants.{Limit, Duplicate
 use Rattle.flow_link.specs.Lists.{every, some, below}
 use Rattle.flow_link.specs.Plan.{port_count, is_reserving, block_in, link_in, begins_at, ends_at, ends_at_port, block_named, named_links}
 
--- letters, digits, and three signs
 abbrev pub is_between : ℕ → ℕ → ℕ → Bool
 is_between low high n = leb low n && leb n high
 
+-- letters, digits, and three signs
 abbrev pub is_name_byte : ℕ → Bool
 is_name_byte c = is_between 65 90 c || is_between 97 122 c || is_between 48 57 c || c == 95 || c == 45 || c == 46
 

@@ -1,8 +1,8 @@
 -- Runs that a wrong program would leave: each is refused, some as not lawful, some as not quiet.
-use Rattle.std.specs.Prelude.{[], ◌∷◌, ◌++◌}
+use Rattle.std.specs.Prelude.{◌≡◌, not, count_by, [], ◌∷◌, ◌++◌}
 use Rattle.flow_link.specs.declared.draft.BlockKind.TheVariants.{Buffer, Broadcast, WriteOnce, Action, Transform, Batch}
 use Rattle.flow_link.specs.declared.trace.Mark.TheVariants.{Took, Gave, Complete, Fault, Done}
-use Rattle.flow_link.specs.Plan.{input_link}
+use Rattle.flow_link.specs.Layout.{input_link}
 use Rattle.flow_link.specs.Trace.{Run}
 use Rattle.flow_link.specs.declared.trace.Ending.TheVariants.{Open}
 use Rattle.flow_link.specs.Law.{LinkLaw, OneTaker, Counts, LinkOrder}
@@ -10,7 +10,9 @@ use Rattle.flow_link.specs.Making.{Making}
 use Rattle.flow_link.specs.Copies.{Copies}
 use Rattle.flow_link.specs.Endings.{Endings}
 use Rattle.flow_link.specs.Quiet.{Quiet}
-use Rattle.flow_link.specs.Examples.{Work, block, with_input, with_size, with_capacity, reserving_join, link, to_port, when_even, at_most, int, digit, row, took_all, gave_all, ended_well, leaves, leaves_nothing, holds, records, posted, posted_with_fault, same, read_digit, run_of}
+use Rattle.flow_link.specs.Lawful.{Lawful}
+use Rattle.flow_link.specs.Tests.{law_tests}
+use Rattle.flow_link.specs.Examples.{Work, block, with_input, with_size, with_capacity, reserving_join, link, to_port, when_even, at_most, int, digit, row, took_all, gave_all, ended_well, leaves, leaves_nothing, holds, records, posted, posted_with_fault, same, read_digit, read_up_to, run_of}
 
 -- a buffer gives its one message to each of two links, whose targets have little room
 abbrev pub head_given_twice : Run Work
@@ -158,19 +160,75 @@ given_to_nobody = run_of (with_input (block Buffer) ∷ []) (input_link 0 ∷ []
     (leaves_nothing (Took 0 0 (digit 1) ∷ Gave 7 (digit 1) ∷ ended_well) ∷ [])
     (posted (digit 1 ∷ []) ∷ [])
 
--- each is refused by one law, which is named
+-- a message is given and lies on the way
+abbrev pub message_on_the_way : Run Work
+message_on_the_way = run_of
+    (with_input (block Buffer) ∷ block Action ∷ [])
+    (link 0 1 ∷ input_link 0 ∷ [])
+    same
+    (leaves_nothing (Took 0 1 (digit 1) ∷ Gave 0 (digit 1) ∷ Complete 0 ∷ []) ∷ leaves_nothing [] ∷ [])
+    (posted (digit 1 ∷ []) ∷ [])
+
+-- an action holds what it could work on
+abbrev pub work_not_done : Run Work
+work_not_done = run_of
+    (with_input (block Action) ∷ [])
+    (input_link 0 ∷ [])
+    same
+    (holds (Took 0 0 (digit 1) ∷ Complete 0 ∷ []) ((digit 1 ∷ []) ∷ []) ∷ [])
+    (posted (digit 1 ∷ []) ∷ [])
+
+-- all is given, and the buffer does not say that it is done
+abbrev pub done_not_marked : Run Work
+done_not_marked = run_of
+    (with_input (block Buffer) ∷ [])
+    (input_link 0 ∷ [])
+    same
+    (leaves_nothing (Complete 0 ∷ []) ∷ [])
+    (posted [] ∷ [])
+
+-- the input is at its end, and its block does not complete
+abbrev pub end_not_handed_on : Run Work
+end_not_handed_on = run_of (with_input (block Buffer) ∷ []) (input_link 0 ∷ []) same (leaves_nothing [] ∷ []) (posted [] ∷ [])
+
+-- a block faults with a number that is not its work's
+abbrev pub wrong_number : Run Work
+wrong_number = run_of
+    (with_input (block Buffer) ∷ block Transform ∷ [])
+    (link 0 1 ∷ input_link 0 ∷ [])
+    read_up_to
+    (leaves_nothing (Took 0 1 (digit 2) ∷ Gave 0 (digit 2) ∷ ended_well)
+    ∷ holds (Took 0 0 (digit 2) ∷ Fault 1 ∷ []) ((digit 2 ∷ []) ∷ [])
+    ∷ [])
+    (posted (digit 2 ∷ []) ∷ [])
+
+-- one law refuses the run, and of the tests of all laws this one alone fails
+pub record BreaksOnly (law : Type 0) (run : Run Work) : Type 0 where
+  pub broken : law → ⊥
+  pub others_hold : count_by (λ test. not test) (law_tests run) ≡ 1
+
+-- the run is lawful, and something is left to do
+pub record IsUnfinished (run : Run Work) : Type 0 where
+  pub lawful : Lawful run
+  pub not_quiet : Quiet run → ⊥
+
 pub record WrongRunsAreRefused : Type 0 where
-  pub head_twice : Making head_given_twice → ⊥
-  pub finish_order : Making results_as_they_finish → ⊥
-  pub torn : Counts torn_join → ⊥
-  pub after_complete : Endings taken_after_complete → ⊥
-  pub later_first : LinkOrder later_link_first → ⊥
-  pub skipped : Copies element_skipped → ⊥
-  pub all_skipped : Copies all_elements_skipped → ⊥
-  pub dropped : Copies element_dropped → ⊥
-  pub lost : LinkLaw value_lost_at_close → ⊥
-  pub short_group : Making short_batch_when_idle → ⊥
-  pub cut_completes : Endings cut_link_completes → ⊥
-  pub open_completes : Endings completed_while_open → ⊥
-  pub to_nobody : OneTaker given_to_nobody → ⊥
-  pub not_moved : Quiet nothing_moved → ⊥
+  pub head_twice : BreaksOnly (Making head_given_twice) head_given_twice
+  pub finish_order : BreaksOnly (Making results_as_they_finish) results_as_they_finish
+  pub torn : BreaksOnly (Counts torn_join) torn_join
+  pub after_complete : BreaksOnly (Endings taken_after_complete) taken_after_complete
+  pub later_first : BreaksOnly (LinkOrder later_link_first) later_link_first
+  pub skipped : BreaksOnly (Copies element_skipped) element_skipped
+  pub all_skipped : BreaksOnly (Copies all_elements_skipped) all_elements_skipped
+  pub dropped : BreaksOnly (Copies element_dropped) element_dropped
+  pub lost : BreaksOnly (LinkLaw value_lost_at_close) value_lost_at_close
+  pub short_group : BreaksOnly (Making short_batch_when_idle) short_batch_when_idle
+  pub cut_completes : BreaksOnly (Endings cut_link_completes) cut_link_completes
+  pub open_completes : BreaksOnly (Endings completed_while_open) completed_while_open
+  pub to_nobody : BreaksOnly (OneTaker given_to_nobody) given_to_nobody
+  pub not_moved : IsUnfinished nothing_moved
+  pub on_the_way : IsUnfinished message_on_the_way
+  pub not_worked : IsUnfinished work_not_done
+  pub not_marked : IsUnfinished done_not_marked
+  pub not_handed_on : IsUnfinished end_not_handed_on
+  pub other_number : BreaksOnly (Endings wrong_number) wrong_number

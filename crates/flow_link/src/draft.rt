@@ -34,11 +34,11 @@ pub enum BlockKind {
     Batch,
     /// Hands on rows of one message from each port.
     ///
-    /// Microsoft: `JoinBlock<T1, T2>` and its form with three ports.
+    /// Microsoft: `JoinBlock`, with two ports or three.
     Join,
     /// Hands on rows of a number of messages, sorted by port.
     ///
-    /// Microsoft: `BatchedJoinBlock<T1, T2>` and its form with three ports.
+    /// Microsoft: `BatchedJoinBlock`, with two ports or three.
     BatchedJoin,
 }
 

@@ -1,8 +1,12 @@
-//! Laws about links. Each stands on a function that does nothing: whoever calls it has the whole law.
+//! Laws about links, and about what a run of a network leaves. Each stands on a function that does nothing: whoever
+//! calls it has the whole law.
 ghost use Rattle.std.specs.Prelude.{◌≡◌};
 ghost use Rattle.flow_value.specs.declared.value.Value.{Value};
+ghost use Rattle.flow_link.specs.Composes.{Composes};
+ghost use Rattle.flow_link.specs.JournalGrows.{JournalsGrow};
 ghost use Rattle.flow_link.specs.LawfulExamples.{GoodRunsAreLawful};
 ghost use Rattle.flow_link.specs.LooksKeep.{LooksKeep};
+ghost use Rattle.flow_link.specs.MidMove.{KeptInMidMove};
 ghost use Rattle.flow_link.specs.MovesKeep.{SourceMovesKeep, TargetMovesKeep};
 ghost use Rattle.flow_link.specs.Phase.{WordsTell};
 ghost use Rattle.flow_link.specs.PlanExamples.{FaultsOfDrafts};
@@ -51,4 +55,19 @@ pub fn wrong_runs_are_refused()
 /// Of the faults of a draft the first in order is the one that counts, in an example of each.
 pub fn faults_come_in_order()
     ensures { FaultsOfDrafts }
+{}
+
+/// A network whose links are in order, and whose blocks, inputs and exits each keep their own laws, is lawful.
+pub fn lawful_by_parts<W>()
+    ensures { Composes W }
+{}
+
+/// There are networks whose parts keep their own laws, also while a message is under way.
+pub fn laws_hold_in_mid_move()
+    ensures { KeptInMidMove }
+{}
+
+/// One more mark adds its value to what was taken or given, and changes nothing else of it.
+pub fn journals_grow()
+    ensures { JournalsGrow }
 {}

@@ -1,8 +1,13 @@
-//! Links between blocks: the phase of a hand-over, the moves of its two ends, and the word that stores a phase.
+//! Networks as they are written and as they are checked, and the links between their blocks: the phase of a hand-over,
+//! the moves of its two ends, and the word that stores a phase.
 //!
 //! A link belongs to no block: its source and its target each make their own moves, and know of the other only what
 //! they find at the link. When the two agree is a definition of contracts, `LinkOk`; the laws say that each move and
 //! each look keeps it.
+//!
+//! What a run leaves behind is a journal of marks for each block. Which runs are lawful and which are quiet are
+//! definitions of contracts too, `Lawful` and `Quiet`; the laws say that a network is lawful where each of its parts
+//! keeps its own laws, and show by examples what the definitions let through and what they refuse.
 #![tactic(auto)]
 
 mod draft;
@@ -13,8 +18,9 @@ mod trace;
 
 pub use draft::{BlockDef, BlockKind, Draft, LinkDef};
 pub use laws::{
-    counts_begin_anywhere, faults_come_in_order, good_runs_are_lawful, links_in_order_tell,
-    looks_keep_links_in_order, moves_keep_links_in_order, words_differ, wrong_runs_are_refused,
+    counts_begin_anywhere, faults_come_in_order, good_runs_are_lawful, journals_grow,
+    lawful_by_parts, laws_hold_in_mid_move, links_in_order_tell, looks_keep_links_in_order,
+    moves_keep_links_in_order, words_differ, wrong_runs_are_refused,
 };
 pub use phase::{LinkEnd, Move, Phase, phase_of, step_of, word_of};
 pub use plan::{Link, LinkSource, LinkTarget, Place, Plan, PlanFault};

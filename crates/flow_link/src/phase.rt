@@ -14,6 +14,7 @@
 //!
 //! At Postponed both ends may move, so there each move is a compare and exchange, and one end wins.
 ghost use Rattle.std.specs.Prelude.{◌≡◌, ◌≤◌, ◌<◌, ◌^◌, Some, IfSome};
+ghost use Rattle.flow_link.specs.declared.phase.Phase.TheVariants.{Idle, Posted, Offered, Postponed, Wanted, Asked, Held};
 ghost use Rattle.flow_link.specs.Phase.{phase_after, message_id, code_of, id_of, word_of_phase, IsPhase};
 
 use flow_value::{MAX_ID, MessageHeader};
@@ -134,36 +135,11 @@ pub fn step_of(phase: Phase, step: Move) -> Option<Phase>
     ensures { result ≡ phase_after phase step }
 {
     match phase {
-        Phase::Idle => match step {
-            Move::Offer(header) => Some(Phase::Offered(header)),
-            Move::Post(header) => Some(Phase::Posted(header)),
-            Move::End(how) => Some(Phase::Ended(how)),
-            _ => None,
-        },
-        Phase::Posted(header) => match step {
-            Move::Want => Some(Phase::Wanted(header)),
-            Move::TurnDown => Some(Phase::Idle),
-            Move::Refuse => Some(Phase::Refused),
-            _ => None,
-        },
-        Phase::Offered(header) => match step {
-            Move::Want => Some(Phase::Wanted(header)),
-            Move::Postpone => Some(Phase::Postponed(header)),
-            Move::Refuse => Some(Phase::Refused),
-            _ => None,
-        },
-        Phase::Postponed(header) => match step {
-            Move::Consume => Some(Phase::Wanted(header)),
-            Move::Ask => Some(Phase::Asked(header)),
-            Move::Refuse => Some(Phase::Refused),
-            Move::Withdraw => Some(Phase::Idle),
-            _ => None,
-        },
-        Phase::Wanted(header) => match step {
-            Move::Give => Some(Phase::Given(header)),
-            Move::Deny => Some(Phase::Idle),
-            _ => None,
-        },
+        Phase::Idle => from_idle(step),
+        Phase::Posted(header) => from_posted(header, step),
+        Phase::Offered(header) => from_offered(header, step),
+        Phase::Postponed(header) => from_postponed(header, step),
+        Phase::Wanted(header) => from_wanted(header, step),
         Phase::Given(header) => match step {
             Move::Open => Some(Phase::Opened(header)),
             _ => None,
@@ -172,17 +148,84 @@ pub fn step_of(phase: Phase, step: Move) -> Option<Phase>
             Move::Close => Some(Phase::Idle),
             _ => None,
         },
-        Phase::Asked(header) => match step {
-            Move::Hold => Some(Phase::Held(header)),
-            Move::Deny => Some(Phase::Idle),
-            _ => None,
-        },
-        Phase::Held(header) => match step {
-            Move::Claim => Some(Phase::Wanted(header)),
-            Move::Release => Some(Phase::Postponed(header)),
-            _ => None,
-        },
+        Phase::Asked(header) => from_asked(header, step),
+        Phase::Held(header) => from_held(header, step),
         Phase::Refused | Phase::Ended(_) => None,
+    }
+}
+
+fn from_idle(step: Move) -> Option<Phase>
+    ensures { result ≡ phase_after Idle step }
+{
+    match step {
+        Move::Offer(header) => Some(Phase::Offered(header)),
+        Move::Post(header) => Some(Phase::Posted(header)),
+        Move::End(how) => Some(Phase::Ended(how)),
+        _ => None,
+    }
+}
+
+fn from_posted(header: MessageHeader, step: Move) -> Option<Phase>
+    ensures { result ≡ phase_after (Posted header) step }
+{
+    match step {
+        Move::Want => Some(Phase::Wanted(header)),
+        Move::TurnDown => Some(Phase::Idle),
+        Move::Refuse => Some(Phase::Refused),
+        _ => None,
+    }
+}
+
+fn from_offered(header: MessageHeader, step: Move) -> Option<Phase>
+    ensures { result ≡ phase_after (Offered header) step }
+{
+    match step {
+        Move::Want => Some(Phase::Wanted(header)),
+        Move::Postpone => Some(Phase::Postponed(header)),
+        Move::Refuse => Some(Phase::Refused),
+        _ => None,
+    }
+}
+
+fn from_postponed(header: MessageHeader, step: Move) -> Option<Phase>
+    ensures { result ≡ phase_after (Postponed header) step }
+{
+    match step {
+        Move::Consume => Some(Phase::Wanted(header)),
+        Move::Ask => Some(Phase::Asked(header)),
+        Move::Refuse => Some(Phase::Refused),
+        Move::Withdraw => Some(Phase::Idle),
+        _ => None,
+    }
+}
+
+fn from_wanted(header: MessageHeader, step: Move) -> Option<Phase>
+    ensures { result ≡ phase_after (Wanted header) step }
+{
+    match step {
+        Move::Give => Some(Phase::Given(header)),
+        Move::Deny => Some(Phase::Idle),
+        _ => None,
+    }
+}
+
+fn from_asked(header: MessageHeader, step: Move) -> Option<Phase>
+    ensures { result ≡ phase_after (Asked header) step }
+{
+    match step {
+        Move::Hold => Some(Phase::Held(header)),
+        Move::Deny => Some(Phase::Idle),
+        _ => None,
+    }
+}
+
+fn from_held(header: MessageHeader, step: Move) -> Option<Phase>
+    ensures { result ≡ phase_after (Held header) step }
+{
+    match step {
+        Move::Claim => Some(Phase::Wanted(header)),
+        Move::Release => Some(Phase::Postponed(header)),
+        _ => None,
     }
 }
 

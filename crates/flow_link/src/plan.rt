@@ -2,7 +2,9 @@
 ghost use Rattle.std.specs.Prelude.{◌≡◌, ◌<◌, length, HoldsAt, position};
 ghost use Rattle.std.specs.Str.{bytes_eq};
 ghost use Rattle.flow_link.specs.Fault.{fault_number};
-ghost use Rattle.flow_link.specs.Layout.{layout_of};
+ghost use Rattle.flow_link.specs.Layout.{IsLaidOut};
+ghost use Rattle.std.specs.Coded.{codes};
+ghost use Rattle.flow_link.specs.contracts.plan.Link as link;
 
 use crate::draft::BlockDef;
 use flow_value::When;
@@ -96,11 +98,13 @@ impl PlanFault {
 #[derive(Drop)]
 pub struct Plan<W> {
     blocks: Vec<BlockDef<W>>,
-    // the draft's links, then those of the inputs and exits
     links: Vec<Link>,
+    ghost laid_out: { IsLaidOut blocks.items links.items } by { Prim.hlevel (codes, link.the_row.coded) },
 }
 
 impl<W> Plan<W> {
+    ghost use Rattle.flow_link.specs.Planned.{layout_of};
+
     /// How many blocks there are.
     pub fn block_count(&self) -> usize
         ensures { result ≡ length (layout_of self.now).blocks }
@@ -126,7 +130,8 @@ impl<W> Plan<W> {
     /// The link with this number.
     pub fn link(&self, id: usize) -> Link
         requires { id < length (layout_of self.now).links }
-        ensures { HoldsAt (λ link. result ≡ link) (layout_of self.now).links id }
+        ensures its_number { HoldsAt (λ link. result ≡ link) (layout_of self.now).links id }
+        ensures laid_out { IsLaidOut (layout_of self.now).blocks (layout_of self.now).links }
     {
         self.links[id]
     }

@@ -1,0 +1,118 @@
+-- Each part of the network with a message under way keeps its own laws.
+use Rattle.std.proofs.Common.{◌≡◌, ℕ, zero, suc, ◌<◌, [], refl, arith}
+use Rattle.flow_link.specs.declared.plan.LinkSource.TheVariants.{Block, Input}
+use Rattle.flow_link.specs.declared.plan.LinkTarget.TheVariants.{Port, Exit}
+use Rattle.flow_link.specs.Trace.{link_of}
+use Rattle.flow_link.specs.LinkOk.{LinkOk}
+use Rattle.flow_link.specs.Composes.{SourceKeeps, TargetKeeps, InputKeeps, ExitKeeps, NodeKeeps, facts_of, is_refused_phase}
+use Rattle.flow_link.specs.MidMove.{message_under_way, ends_under_way, KeptInMidMove}
+
+slot_in_order : LinkOk (facts_of message_under_way ends_under_way 0) (ends_under_way 0).phase (ends_under_way 0).slot (ends_under_way 0).source (ends_under_way 0).target
+slot_in_order = record {
+  same_start = refl;
+  stages = refl;
+  ids = refl;
+  values = refl;
+  plan = record { put_off = tt; freely = tt; reserved = tt; within = tt; room = tt; ends = tt };
+}
+
+home_in_order : LinkOk (facts_of message_under_way ends_under_way 1) (ends_under_way 1).phase (ends_under_way 1).slot (ends_under_way 1).source (ends_under_way 1).target
+home_in_order = record {
+  same_start = refl;
+  stages = tt;
+  ids = tt;
+  values = record { empty = refl; all = refl };
+  plan = record { put_off = tt; freely = tt; reserved = tt; within = tt; room = tt; ends = tt };
+}
+
+links_in_order : (l : ℕ) → l < 2 → LinkOk (facts_of message_under_way ends_under_way l) (ends_under_way l).phase (ends_under_way l).slot (ends_under_way l).source (ends_under_way l).target
+links_in_order zero small = slot_in_order
+links_in_order (suc zero) small = home_in_order
+links_in_order (suc (suc l)) small = absurd (omega arith)
+
+buffer_gives : (l : ℕ) → l < 2 → (link_of message_under_way l).source ≡ Block 0 → SourceKeeps message_under_way ends_under_way l 0
+buffer_gives zero small e = record { from_start = refl; given = refl; admitted = refl; after_done = λ e. cc; after_fault = λ fault e. cc }
+buffer_gives (suc zero) small e = cc
+buffer_gives (suc (suc l)) small e = absurd (omega arith)
+
+buffer_takes : (l p : ℕ) → l < 2 → (link_of message_under_way l).target ≡ Port 0 p → TargetKeeps message_under_way ends_under_way l 0 p
+buffer_takes zero p small e = cc
+buffer_takes (suc zero) p small e = record { from_start = refl; taken = refl; refuses = λ why e. cc }
+buffer_takes (suc (suc l)) p small e = absurd (omega arith)
+
+action_gives : (l : ℕ) → l < 2 → (link_of message_under_way l).source ≡ Block 1 → SourceKeeps message_under_way ends_under_way l 1
+action_gives zero small e = cc
+action_gives (suc zero) small e = cc
+action_gives (suc (suc l)) small e = absurd (omega arith)
+
+action_takes : (l p : ℕ) → l < 2 → (link_of message_under_way l).target ≡ Port 1 p → TargetKeeps message_under_way ends_under_way l 1 p
+action_takes zero p small e = record { from_start = refl; taken = refl; refuses = λ why e. cc }
+action_takes (suc zero) p small e = cc
+action_takes (suc (suc l)) p small e = absurd (omega arith)
+
+nodes_keep : (b : ℕ) → b < 2 → NodeKeeps message_under_way ends_under_way b
+nodes_keep zero small = record {
+  own_marks = refl;
+  makes = refl;
+  room = refl;
+  level = refl;
+  copies_seen = refl;
+  last = refl;
+  once = refl;
+  done = refl;
+  causes = refl;
+  order_seen = refl;
+  sources = buffer_gives;
+  targets = buffer_takes;
+}
+nodes_keep (suc zero) small = record {
+  own_marks = refl;
+  makes = record { done = []; results = []; taken = refl; worked = refl; all = refl };
+  room = refl;
+  level = refl;
+  copies_seen = refl;
+  last = refl;
+  once = refl;
+  done = refl;
+  causes = refl;
+  order_seen = refl;
+  sources = action_gives;
+  targets = action_takes;
+}
+nodes_keep (suc (suc b)) small = absurd (omega arith)
+
+inputs_keep : (l b : ℕ) → l < 2 → (link_of message_under_way l).source ≡ Input b → InputKeeps message_under_way ends_under_way l b
+inputs_keep zero b small e = cc
+inputs_keep (suc zero) zero small e = record { from_start = refl; given = refl; after_complete = λ e. cc; after_fault = λ fault e. cc }
+inputs_keep (suc zero) (suc b) small e = absurd (let no : 0 ≡ suc b = cc in omega arith)
+inputs_keep (suc (suc l)) b small e = absurd (omega arith)
+
+exits_keep : (l : ℕ) → l < 2 → (link_of message_under_way l).target ≡ Exit → ExitKeeps message_under_way ends_under_way l
+exits_keep zero small e = cc
+exits_keep (suc zero) small e = cc
+exits_keep (suc (suc l)) small e = absurd (omega arith)
+
+none_refused : (l : ℕ) → message_under_way.trace.refused l ≡ is_refused_phase (ends_under_way l).phase
+none_refused zero = refl
+none_refused (suc l) = refl
+
+from_blocks : (l b : ℕ) → l < 2 → (link_of message_under_way l).source ≡ Block b → b < 2
+from_blocks zero b small e = let same : 0 ≡ b = cc in omega arith
+from_blocks (suc zero) b small e = cc
+from_blocks (suc (suc l)) b small e = absurd (omega arith)
+
+to_blocks : (l b p : ℕ) → l < 2 → (link_of message_under_way l).target ≡ Port b p → b < 2
+to_blocks zero b p small e = let same : 1 ≡ b = cc in omega arith
+to_blocks (suc zero) b p small e = let same : 0 ≡ b = cc in omega arith
+to_blocks (suc (suc l)) b p small e = absurd (omega arith)
+
+pub kept_in_mid_move : KeptInMidMove
+kept_in_mid_move = record {
+  nodes = nodes_keep;
+  inputs = inputs_keep;
+  exits = exits_keep;
+  links = links_in_order;
+  refused = none_refused;
+  from_blocks = from_blocks;
+  to_blocks = to_blocks;
+}
