@@ -1,13 +1,17 @@
+pub mod CheckLemmas
 pub mod ComposeLemmas
 pub mod CopyLemmas
 pub mod EndingLemmas
 pub mod ExampleLemmas
+pub mod FirstFaultLemmas
 pub mod JournalLemmas
+pub mod LayoutLemmas
 pub mod ListLemmas
 pub mod LookLemmas
 pub mod MidMoveLemmas
 pub mod PlanExampleLemmas
 pub mod RebaseLemmas
+pub mod RoundLemmas
 pub mod SourceMoves
 pub mod TargetMoves
 pub mod TestLemmas

@@ -17,6 +17,7 @@ pub mod Making
 pub mod MidMove
 pub mod Moves
 pub mod MovesKeep
+pub mod NotBuilt
 pub mod Phase
 pub mod Plan
 pub mod PlanExamples
@@ -24,7 +25,9 @@ pub mod PlanFaults
 pub mod Planned
 pub mod Quiet
 pub mod Rebase
+pub mod Refusal
 pub mod RefusedExamples
+pub mod Rounds
 pub mod Tests
 pub mod Told
 pub mod Trace

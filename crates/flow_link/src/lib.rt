@@ -10,12 +10,19 @@
 //! keeps its own laws, and show by examples what the definitions let through and what they refuse.
 #![tactic(auto)]
 
+mod check;
+mod cycle;
 mod draft;
 mod laws;
+mod layout;
+mod options;
 mod phase;
 mod plan;
+#[cfg(test)]
+mod tests;
 mod trace;
 
+pub use check::{PlanRefusal, plan_check};
 pub use draft::{BlockDef, BlockKind, Draft, LinkDef};
 pub use laws::{
     counts_begin_anywhere, faults_come_in_order, good_runs_are_lawful, journals_grow,

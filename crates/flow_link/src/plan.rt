@@ -105,6 +105,15 @@ pub struct Plan<W> {
 impl<W> Plan<W> {
     ghost use Rattle.flow_link.specs.Planned.{layout_of};
 
+    /// The plan with these blocks and links.
+    pub(crate) fn new(blocks: Vec<BlockDef<W>>, links: Vec<Link>) -> Plan<W>
+        requires { IsLaidOut blocks.items links.items }
+        ensures blocks { (layout_of result).blocks ≡ blocks.items }
+        ensures links { (layout_of result).links ≡ links.items }
+    {
+        Plan { blocks, links }
+    }
+
     /// How many blocks there are.
     pub fn block_count(&self) -> usize
         ensures { result ≡ length (layout_of self.now).blocks }

@@ -1,0 +1,339 @@
+-- Where each fault of a draft stands first, by going through its blocks or links.
+use Rattle.std.proofs.Common.{◌≡◌, ℕ, zero, suc, ◌+◌, ◌<◌, Bool, true, false, cond, not, ◌&&◌, ◌||◌, List, [], ◌∷◌, ◌++◌, length, map, Option, Some, None, get_or, take, is_none, is_some, unwrap_or, ◌==◌, refl, ap, sym, ◌∙◌, subst, arith}
+use Rattle.std.specs.List.{find, position}
+use Rattle.std.specs.Option.{option_or, option_map}
+use Rattle.std.proofs.lemmas.List.{get_or-map, get_or_default}
+use Rattle.std.proofs.lemmas.List.Folds.{find-append}
+use Rattle.flow_link.specs.declared.draft.BlockDef.{BlockDef}
+use Rattle.flow_link.specs.declared.draft.LinkDef.{LinkDef}
+use Rattle.flow_link.specs.declared.draft.BlockKind.{BlockKind}
+use Rattle.flow_link.specs.declared.draft.BlockKind.TheVariants.{Batch, Join}
+use Rattle.flow_link.specs.declared.plan.Link.{Link}
+use Rattle.flow_link.specs.declared.plan.PlanFault.{PlanFault}
+use Rattle.flow_link.specs.declared.plan.PlanFault.TheVariants.{Limit, DuplicateName, UnknownBlock, Port, NoOutput, BadOption, CapacityBelowSize, SharedSource, Cycle}
+use Rattle.flow_link.specs.declared.plan.Place.TheVariants.{Block, Link as at_link}
+use Rattle.flow_link.specs.Lists.{numbers_from, below, some}
+use Rattle.flow_link.specs.Plan.{block_named, block_in, link_in, named_link, named_links, planned_links, reserves_by_kind}
+use Rattle.flow_link.specs.PlanFaults.{lacks_port, lacks_output, options_fit, is_in, holds_no_group, stands, walks, faults_in_order, first_plan_fault}
+use Rattle.flow_link.specs.NotBuilt.{stands_now, first_at, name_faults, end_faults, option_faults, is_built_kind, is_built_block, is_bad_block, is_built_link, is_further_link, first_fault_now}
+use Rattle.flow_link.specs.Layout.{IsLaidOut}
+use Rattle.flow_link.proofs.LayoutLemmas.{laid_out_of}
+use Rattle.flow_link.proofs.CheckLemmas.{position_is_first, none_below}
+
+module _ {W : Type 0} (blocks : List (BlockDef W)) where
+  pub named_link_at : (links : List LinkDef) (l : ℕ) (d : LinkDef) → l < length links
+      → link_in (named_links blocks links) l ≡ named_link blocks (get_or links l d)
+  named_link_at [] l d low = absurd (omega arith)
+  named_link_at (link ∷ links) zero d low = refl
+  named_link_at (link ∷ links) (suc l) d low = named_link_at links l d (omega arith)
+
+  pub length-named_links : (links : List LinkDef) → length (named_links blocks links) ≡ length links
+  length-named_links [] = refl
+  length-named_links (link ∷ links) = ap suc (length-named_links links)
+
+  -- a link's options, and the links before it
+  pub bad_link_at : (links : List LinkDef) (named : List Link) (l : ℕ) (link : LinkDef) (bad further : Bool) → l < length links
+      → link ≡ get_or links l link → named ≡ named_links blocks links
+      → bad ≡ (not (is_in 1 2147483647 link.max) || not (is_built_link link)) → further ≡ is_further_link blocks named l
+      → stands_now blocks links (BadOption (at_link l)) ≡ (bad || further)
+  bad_link_at links named l link bad further low is resolves eb ef =
+      let max : (link_in (named_links blocks links) l).max ≡ link.max = ap (λ x. x.max) (named_link_at links l link low) ∙ ap (λ x. x.max) (sym is) in
+      let built : get_or (map (λ x. not (is_built_link x)) links) l false ≡ not (is_built_link link) =
+      get_or-map (λ x. not (is_built_link x)) links l link false low ∙ ap (λ x. not (is_built_link x)) (sym is) in
+      rw (max, built, ← resolves, eb, ef) refl
+
+  pub unknown_by_position : (links : List LinkDef)
+      → first_at blocks links UnknownBlock (length links)
+      ≡ position (λ link. is_none (block_named blocks link.from) || is_none (block_named blocks link.to)) links
+  unknown_by_position links = position_is_first (λ link. is_none (block_named blocks link.from) || is_none (block_named blocks link.to))
+      (λ l. stands_now blocks links (UnknownBlock l)) links
+      (λ l d low. rw (get_or-map (λ link. block_named blocks link.from) links l d (Some 0) low, get_or-map (λ link. block_named blocks link.to) links l d (Some 0) low) refl)
+
+  pub port_by_position : (links : List LinkDef)
+      → first_at blocks links Port (length links)
+      ≡ position (λ link. lacks_port blocks [] (block_named blocks link.to) (named_link blocks link).target) links
+  port_by_position links = position_is_first (λ link. lacks_port blocks [] (block_named blocks link.to) (named_link blocks link).target)
+      (λ l. stands_now blocks links (Port l)) links
+      (λ l d low. rw (get_or-map (λ link. block_named blocks link.to) links l d None low, named_link_at links l d low) refl)
+
+  pub output_by_position : (links : List LinkDef)
+      → first_at blocks links NoOutput (length links)
+      ≡ position (λ link. lacks_output blocks [] (block_named blocks link.from)) links
+  output_by_position links = position_is_first (λ link. lacks_output blocks [] (block_named blocks link.from))
+      (λ l. stands_now blocks links (NoOutput l)) links
+      (λ l d low. rw (get_or-map (λ link. block_named blocks link.from) links l d None low) refl)
+
+  pub bad_block_by_position : (links : List LinkDef)
+      → first_at blocks links (λ b. BadOption (Block b)) (length blocks) ≡ position is_bad_block blocks
+  bad_block_by_position links = position_is_first is_bad_block
+      (λ b. stands_now blocks links (BadOption (Block b))) blocks
+      (λ b d low. ap is_bad_block (get_or_default blocks b _ d low))
+
+  -- a block's name is looked for among those before it
+  pub repeats_at : (b : ℕ) (block : BlockDef W) (name : List ℕ) (found : Option ℕ) → b < length blocks
+      → block ≡ get_or blocks b block → name ≡ block.name → found ≡ block_named (take b blocks) name
+      → is_some (block_named (take b blocks) (block_in blocks b).name) ≡ is_some found
+  repeats_at b block name found low is named finds =
+      let same : (block_in blocks b).name ≡ name = ap (λ x. x.name) (get_or_default blocks b _ block low ∙ sym is) ∙ sym named in
+      rw same (ap is_some (sym finds))
+
+-- the first that passes of the images of a list
+pub find_of_images : {A B : Type 0} (test : B → Bool) (image : A → B) (xs : List A)
+    → find test (map image xs) ≡ option_map image (find (λ x. test (image x)) xs)
+find_of_images test image [] = refl
+find_of_images {A} {B} test image (x ∷ xs) =
+    let rest = find_of_images test image xs in
+    let P : Bool → Type 0 = λ b. cond b (Some (image x)) (find test (map image xs)) ≡ option_map image (cond b (Some x) (find (λ y. test (image y)) xs)) in
+    elim (test (image x)) as P [ true ↦ refl | false ↦ rest ]
+
+pub option_or_assoc : {A : Type 0} (x y z : Option A) → option_or (option_or x y) z ≡ option_or x (option_or y z)
+option_or_assoc None y z = refl
+option_or_assoc (Some a) y z = refl
+
+-- the faults of two kinds, one kind after the other
+pub first_of_two : (test : PlanFault → Bool) (one two : ℕ → PlanFault) (m n : ℕ) (x y : Option ℕ)
+    → find (λ k. test (one k)) (below m) ≡ x → find (λ k. test (two k)) (below n) ≡ y
+    → find test (map one (below m) ++ map two (below n)) ≡ option_or (option_map one x) (option_map two y)
+first_of_two test one two m n x y ex ey =
+    rw (find-append test (map one (below m)) (map two (below n)), find_of_images test one (below m), find_of_images test two (below n), ex, ey) refl
+
+-- groups of faults, one after another
+pub first_of_groups : {A : Type 0} (test : A → Bool) (a p n b l c s y : List A)
+    → find test (a ++ p ++ n ++ b ++ l ++ c ++ s ++ y)
+    ≡ option_or (find test a) (option_or (find test (p ++ n)) (option_or (find test (b ++ l)) (option_or (find test c) (option_or (find test s) (find test y)))))
+first_of_groups test a p n b l c s y = simp (find-append, option_or_assoc)
+
+cond_of : {A : Type 0} (b c : Bool) (x y z : A) → b ≡ c → y ≡ z → cond b x y ≡ cond c x z
+cond_of b c x y z e f = cc
+
+fails_after : (test : ℕ → Bool) (first count k : ℕ) → k < suc count → test first ≡ false
+    → ((j : ℕ) → j < count → test (suc first + j) ≡ false) → test (first + k) ≡ false
+fails_after test first count zero low here rest =
+    let e : first + 0 ≡ first = omega arith in
+    ap test e ∙ here
+fails_after test first count (suc k) low here rest =
+    let e : first + suc k ≡ suc first + k = omega arith in
+    ap test e ∙ rest k (omega arith)
+
+-- no number below passes where none is found
+pub fails_from : (test : ℕ → Bool) (first count k : ℕ) → k < count
+    → find test (numbers_from first count) ≡ None → test (first + k) ≡ false
+fails_from test first zero k low e = absurd (omega arith)
+fails_from test first (suc count) k low e =
+    let go : (b : Bool) → test first ≡ b → cond b (Some first) (find test (numbers_from (suc first) count)) ≡ None → test (first + k) ≡ false =
+    λ b. elim b as (λ v. test first ≡ v → cond v (Some first) (find test (numbers_from (suc first) count)) ≡ None → test (first + k) ≡ false)
+    [ true ↦ λ here wrong. cc | false ↦ λ here rest. fails_after test first count k low here (λ j small. fails_from test (suc first) count j small rest) ] in
+    go (test first) refl e
+
+kind_of_built : (a b c d e : Bool) → (a || not (b && c && d && e)) ≡ false → b ≡ true
+kind_of_built true b c d e h = cc
+kind_of_built false true c d e h = refl
+kind_of_built false false c d e h = cc
+
+module _ {W : Type 0} where
+  built_kind_of : (block : BlockDef W) → is_bad_block block ≡ false → is_built_kind block.kind ≡ true
+  unfolding is_bad_block
+  built_kind_of block good = kind_of_built (not (options_fit block)) (is_built_kind block.kind) (is_none block.capacity) (unwrap_or block.lanes 1 == 1) (not block.output) good
+
+-- what is built has no groups, and does not reserve
+built_holds : (kind : BlockKind) (capacity size : Option ℕ) → is_built_kind kind ≡ true → holds_no_group kind capacity size ≡ false
+built_holds Batch capacity size e = cc
+built_holds _ capacity size e = refl
+
+built_takes : (kind : BlockKind) (greedy : Option Bool) → is_built_kind kind ≡ true → reserves_by_kind kind greedy ≡ false
+built_takes Join greedy e = cc
+built_takes _ greedy e = refl
+
+-- the first fault of each group, from the first place of each fault
+module _ {W : Type 0} (blocks : List (BlockDef W)) (links : List LinkDef) where
+  pub first_name_fault : (limit : Bool) (repeated unknown : Option ℕ)
+      → stands_now blocks links Limit ≡ limit
+      → first_at blocks [] DuplicateName (length blocks) ≡ repeated
+      → position (λ link. is_none (block_named blocks link.from) || is_none (block_named blocks link.to)) links ≡ unknown
+      → find (stands_now blocks links) (name_faults blocks links)
+      ≡ cond limit (Some Limit) (option_or (option_map DuplicateName repeated) (option_map UnknownBlock unknown))
+  first_name_fault limit repeated unknown el er eu =
+      cond_of (stands_now blocks links Limit) limit (Some Limit) _ _ el
+      (first_of_two (stands_now blocks links) DuplicateName UnknownBlock (length blocks) (length links) repeated unknown er
+      (unknown_by_position blocks links ∙ eu))
+
+  pub first_end_fault : (port output : Option ℕ)
+      → position (λ link. lacks_port blocks [] (block_named blocks link.to) (named_link blocks link).target) links ≡ port
+      → position (λ link. lacks_output blocks [] (block_named blocks link.from)) links ≡ output
+      → find (stands_now blocks links) (end_faults blocks links) ≡ option_or (option_map Port port) (option_map NoOutput output)
+  first_end_fault port output ep eo =
+      first_of_two (stands_now blocks links) Port NoOutput (length links) (length links) port output
+      (port_by_position blocks links ∙ ep) (output_by_position blocks links ∙ eo)
+
+  pub first_option_fault : (block link : Option ℕ)
+      → position is_bad_block blocks ≡ block
+      → first_at blocks links (λ l. BadOption (at_link l)) (length links) ≡ link
+      → find (stands_now blocks links) (option_faults blocks links)
+      ≡ option_or (option_map (λ b. BadOption (Block b)) block) (option_map (λ l. BadOption (at_link l)) link)
+  first_option_fault block link eb el =
+      first_of_two (stands_now blocks links) (λ b. BadOption (Block b)) (λ l. BadOption (at_link l)) (length blocks) (length links) block link
+      (bad_block_by_position blocks links ∙ eb) el
+
+none_front : {A : Type 0} (x y : Option A) → option_or x y ≡ None → x ≡ None
+none_front None y e = refl
+none_front (Some a) y e = cc
+
+none_back : {A : Type 0} (x y : Option A) → option_or x y ≡ None → y ≡ None
+none_back None y e = e
+none_back (Some a) y e = cc
+
+none_behind : {A : Type 0} (b : Bool) (x : A) (o : Option A) → cond b (Some x) o ≡ None → o ≡ None
+none_behind true x o e = cc
+none_behind false x o e = e
+
+none_image : {A B : Type 0} (image : A → B) (x : Option A) → option_map image x ≡ None → x ≡ None
+none_image image None e = refl
+none_image image (Some a) e = cc
+
+-- groups of which some are found nothing in
+with_none : {A : Type 0} (a e o c s y : Option A) → c ≡ None → s ≡ None
+    → option_or a (option_or e (option_or o (option_or c (option_or s y)))) ≡ option_or a (option_or e (option_or o y))
+with_none a e o c s y ec es = rw (ec, es) refl
+
+with_some : {A : Type 0} (a e : Option A) (f : A) (x y : Option A)
+    → option_or a (option_or e (option_or (Some f) x)) ≡ option_or a (option_or e (option_or (Some f) y))
+with_some a e f x y = refl
+
+-- where every option is as its kind has it and is built, no block has a group or reserves
+module _ {W : Type 0} (blocks : List (BlockDef W)) (links : List LinkDef) where
+  pub good_blocks : find (stands_now blocks links) (option_faults blocks links) ≡ None
+      → (k : ℕ) → k < length blocks → is_built_kind (block_in blocks k).kind ≡ true
+  good_blocks e k low =
+      let test = stands_now blocks links in
+      let bad = λ (b : ℕ). BadOption (Block b) in
+      let front : find test (map bad (below (length blocks))) ≡ None =
+      none_front _ _ (sym (find-append test (map bad (below (length blocks))) (map (λ l. BadOption (at_link l)) (below (length links)))) ∙ e) in
+      let none : find (λ b. test (bad b)) (below (length blocks)) ≡ None =
+      none_image bad _ (sym (find_of_images test bad (below (length blocks))) ∙ front) in
+      let zeroth : 0 + k ≡ k = omega arith in
+      built_kind_of (block_in blocks k) (ap (λ j. is_bad_block (block_in blocks j)) (sym zeroth) ∙ fails_from (λ b. test (bad b)) 0 (length blocks) k low none)
+
+  pub no_small_batch : find (stands_now blocks links) (option_faults blocks links) ≡ None
+      → find (stands_now blocks links) (map CapacityBelowSize (below (length blocks))) ≡ None
+  no_small_batch e =
+      let test = stands_now blocks links in
+      find_of_images test CapacityBelowSize (below (length blocks))
+      ∙ ap (option_map CapacityBelowSize) (none_below (λ b. test (CapacityBelowSize b)) (length blocks)
+      (λ k low. built_holds (block_in blocks k).kind (block_in blocks k).capacity (block_in blocks k).size (good_blocks e k low)))
+
+  pub no_shared_source : find (stands_now blocks links) (option_faults blocks links) ≡ None
+      → find (stands_now blocks links) (map SharedSource (below (length blocks))) ≡ None
+  no_shared_source e =
+      let test = stands_now blocks links in
+      find_of_images test SharedSource (below (length blocks))
+      ∙ ap (option_map SharedSource) (none_below (λ b. test (SharedSource b)) (length blocks)
+      (λ k low. rw (built_takes (block_in blocks k).kind (block_in blocks k).greedy (good_blocks e k low)) refl))
+
+  -- the first fault, from the first of each group
+  pub first_fault_of : (names ends options : Option PlanFault) (cycle : Bool)
+      → find (stands_now blocks links) (name_faults blocks links) ≡ names
+      → find (stands_now blocks links) (end_faults blocks links) ≡ ends
+      → find (stands_now blocks links) (option_faults blocks links) ≡ options
+      → stands_now blocks links Cycle ≡ cycle
+      → first_fault_now blocks links ≡ option_or names (option_or ends (option_or options (cond cycle (Some Cycle) None)))
+  first_fault_of names ends options cycle en ee eo ec =
+      let test = stands_now blocks links in
+      let b = below (length blocks) in
+      let l = below (length links) in
+      let c = find test (map CapacityBelowSize b) in
+      let s = find test (map SharedSource b) in
+      let y = find test (Cycle ∷ []) in
+      let ey : y ≡ cond cycle (Some Cycle) None = ap (λ v. cond v (Some Cycle) None) ec in
+      let groups : first_fault_now blocks links ≡ option_or (find test (name_faults blocks links)) (option_or (find test (end_faults blocks links)) (option_or (find test (option_faults blocks links)) (option_or c (option_or s y)))) =
+      first_of_groups test (name_faults blocks links) (map Port l) (map NoOutput l) (map (λ k. BadOption (Block k)) b) (map (λ k. BadOption (at_link k)) l)
+      (map CapacityBelowSize b) (map SharedSource b) (Cycle ∷ []) in
+      let rest : (o : Option PlanFault) → find test (option_faults blocks links) ≡ o
+      → option_or names (option_or ends (option_or o (option_or c (option_or s y)))) ≡ option_or names (option_or ends (option_or o (cond cycle (Some Cycle) None))) =
+      λ o. elim o as (λ v. find test (option_faults blocks links) ≡ v
+      → option_or names (option_or ends (option_or v (option_or c (option_or s y)))) ≡ option_or names (option_or ends (option_or v (cond cycle (Some Cycle) None)))) [
+        | None ↦ λ e. with_none names ends None c s y (no_small_batch e) (no_shared_source e) ∙ ap (λ v. option_or names (option_or ends (option_or None v))) ey
+        | Some f ↦ λ e. with_some names ends f (option_or c (option_or s y)) (cond cycle (Some Cycle) None)
+      ] in
+      groups
+      ∙ ap (λ v. option_or v (option_or (find test (end_faults blocks links)) (option_or (find test (option_faults blocks links)) (option_or c (option_or s y))))) en
+      ∙ ap (λ v. option_or names (option_or v (option_or (find test (option_faults blocks links)) (option_or c (option_or s y))))) ee
+      ∙ ap (λ v. option_or names (option_or ends (option_or v (option_or c (option_or s y))))) eo
+      ∙ rest options eo
+
+  -- a cycle stands where it is found in the links that the draft's links become
+  pub cycle_stands : (seen named : List Link) (found answer : Bool) → seen ≡ named → named ≡ named_links blocks links
+      → found ≡ some (λ b. walks seen (length blocks) (length blocks) b b) (below (length blocks)) → found ≡ answer
+      → stands_now blocks links Cycle ≡ answer
+  cycle_stands seen named found answer es en ef ea =
+      ap (λ x. some (λ b. walks x (length blocks) (length blocks) b b) (below (length blocks))) (sym (es ∙ en)) ∙ sym ef ∙ ea
+
+  -- where no fault is first, all names are known
+  pub known_where_none : first_fault_now blocks links ≡ None
+      → position (λ link. is_none (block_named blocks link.from) || is_none (block_named blocks link.to)) links ≡ None
+  known_where_none e =
+      let test = stands_now blocks links in
+      let names : find test (name_faults blocks links) ≡ None =
+      none_front _ _ (sym (first_fault_of _ _ _ _ refl refl refl refl) ∙ e) in
+      let rest : find test (map DuplicateName (below (length blocks)) ++ map UnknownBlock (below (length links))) ≡ None =
+      none_behind (test Limit) Limit (find test (map DuplicateName (below (length blocks)) ++ map UnknownBlock (below (length links)))) names in
+      let unknown : find test (map UnknownBlock (below (length links))) ≡ None =
+      none_back _ _ (sym (find-append test (map DuplicateName (below (length blocks))) (map UnknownBlock (below (length links)))) ∙ rest) in
+      sym (unknown_by_position blocks links)
+      ∙ none_image UnknownBlock _ (sym (find_of_images test UnknownBlock (below (length links))) ∙ unknown)
+
+  -- the first fault of the same blocks and links
+  pub first_fault_along : (bs : List (BlockDef W)) (ls : List LinkDef) → bs ≡ blocks → ls ≡ links
+      → first_fault_now bs ls ≡ first_fault_now blocks links
+  first_fault_along bs ls eb el = ap (λ x. first_fault_now x ls) eb ∙ ap (λ x. first_fault_now blocks x) el
+
+  -- a plan is laid out where its draft has no fault
+  pub laid_out_where_none : (bs : List (BlockDef W)) (ls : List LinkDef) (planned : List Link) → bs ≡ blocks → ls ≡ links
+      → planned ≡ planned_links bs ls → first_fault_now bs ls ≡ None → IsLaidOut blocks planned
+  laid_out_where_none bs ls planned eb el ep e =
+      let P : List Link → Type 0 = λ x. IsLaidOut blocks x in
+      let same : planned_links blocks links ≡ planned =
+      sym (ep ∙ ap (λ x. planned_links x ls) eb ∙ ap (λ x. planned_links blocks x) el) in
+      subst P same (laid_out_of blocks links (known_where_none (sym (first_fault_along bs ls eb el) ∙ e)))
+
+some_is_none : {A : Type 0} (x : A) → Some x ≡ None → ⊥
+some_is_none x e = cc
+
+one_none : {A : Type 0} (b : Bool) (x : A) (o : Option A) → cond b (Some x) o ≡ None → (b ≡ false) × (o ≡ None)
+one_none true x o e = absurd (some_is_none x e)
+one_none false x o e = (refl, e)
+
+contrary : (a b : Bool) → (a ≡ true → b ≡ true) → b ≡ false → a ≡ false
+contrary true b implies e = let h = implies refl in cc
+contrary false b implies e = refl
+
+or_left : (a b : Bool) → a ≡ true → (a || b) ≡ true
+or_left a b e = rw e refl
+
+-- where the weaker test passes nothing, the stronger passes nothing
+none_of_stronger : {A : Type 0} (strong weak : A → Bool) (xs : List A) → ((x : A) → strong x ≡ true → weak x ≡ true)
+    → find weak xs ≡ None → find strong xs ≡ None
+none_of_stronger strong weak [] implies e = refl
+none_of_stronger strong weak (x ∷ xs) implies e =
+    let step = one_none (weak x) x (find weak xs) e in
+    rw (contrary (strong x) (weak x) (implies x) step.0) (none_of_stronger strong weak xs implies step.1)
+
+module _ {W : Type 0} (blocks : List (BlockDef W)) (links : List LinkDef) where
+  -- what stands by the format stands now
+  pub stands_then_now : (fault : PlanFault) → stands blocks links fault ≡ true → stands_now blocks links fault ≡ true
+  unfolding is_bad_block
+  stands_then_now (BadOption (Block b)) e = or_left (not (options_fit (block_in blocks b))) (not (is_built_block (block_in blocks b))) e
+  stands_then_now (BadOption (at_link l)) e =
+      or_left _ (is_further_link blocks (named_links blocks links) l)
+      (or_left (not (is_in 1 2147483647 (link_in (named_links blocks links) l).max)) (get_or (map (λ link. not (is_built_link link)) links) l false) e)
+  stands_then_now Limit e = e
+  stands_then_now (DuplicateName b) e = e
+  stands_then_now (UnknownBlock l) e = e
+  stands_then_now (Port l) e = e
+  stands_then_now (NoOutput l) e = e
+  stands_then_now (CapacityBelowSize b) e = e
+  stands_then_now (SharedSource b) e = e
+  stands_then_now Cycle e = e
+
+  -- a draft without a fault now has none by the format
+  pub none_by_the_format : first_fault_now blocks links ≡ None → first_plan_fault blocks links ≡ None
+  none_by_the_format e = none_of_stronger (stands blocks links) (stands_now blocks links) (faults_in_order blocks links) stands_then_now e

@@ -1,0 +1,6 @@
+use Rattle.std.proofs.Common.{◌≡◌, ◌++◌, drop}
+use Rattle.flow_link.specs.Layout.{exit_links}
+use Rattle.flow_link.proofs.layout.push_exit_links.Given as goal
+
+abbrev pub invariant-loop-place : goal.invariant-loop-place
+invariant-loop-place g l = l.links.items ++ exit_links l.place (drop l.place l.blocks) ≡ l.initial.links.items ++ exit_links 0 l.blocks

@@ -1,0 +1,299 @@
+//! What makes a draft a plan: the faults in their order, a function each.
+//!
+//! Two of the nine cannot come first yet: CapacityBelowSize is of a batch and SharedSource of a join, and neither kind
+//! is built.
+ghost use Rattle.std.specs.Prelude.{◌≡◌, ◌<◌, [], length, ◌||◌, not, find, position, IfOk, IfErr, IfSome, OnOk, None, is_none};
+ghost use Rattle.std.specs.List.{list_any};
+ghost use Rattle.flow_link.specs.declared.plan.PlanFault.TheVariants.{Limit, DuplicateName, UnknownBlock, Port, NoOutput, BadOption};
+ghost use Rattle.flow_link.specs.declared.plan.Place.TheVariants.{Block, Link as at_link};
+ghost use Rattle.flow_link.specs.Plan.{block_named, block_in, named_link, named_links, planned_links};
+ghost use Rattle.flow_link.specs.Planned.{layout_of};
+ghost use Rattle.flow_link.specs.Refusal.{IsWhy};
+ghost use Rattle.flow_link.specs.PlanFaults.{gives_nothing, lacks_port, lacks_output, is_in, first_plan_fault};
+ghost use Rattle.flow_link.specs.NotBuilt.{first_fault_now, stands_now, first_at, name_faults, end_faults, option_faults, is_bad_block, is_built_link, is_further_link, shares_an_end, enters_input, leaves_with, enters_with};
+
+use crate::cycle::has_cycle;
+use crate::draft::{BlockDef, BlockKind, Draft, LinkDef};
+use crate::layout::{named_links, push_outer_links};
+use crate::options::{is_built_block, is_built_link, max_fits, options_fit, port_count};
+use crate::plan::{Link, LinkSource, LinkTarget, Place, Plan, PlanFault};
+use std::alloc::{AllocError, Global};
+
+/// The most blocks that a network has.
+const MOST_BLOCKS: usize = 256;
+
+/// The most links that a draft has.
+const MOST_LINKS: usize = 1024;
+
+/// Why a draft is no plan.
+#[derive(Clone, Copy, Debug, PartialEq, Eq)]
+pub enum PlanRefusal {
+    /// This fault stands, and none that comes before it in the order.
+    Fault(PlanFault),
+    /// There is no memory for the plan.
+    Memory,
+}
+
+impl From<AllocError> for PlanRefusal {
+    ghost use Rattle.std.specs.Prelude.{◌≡◌};
+    ghost use Rattle.flow_link.specs.declared.check.PlanRefusal.TheVariants.{Memory};
+
+    ghost from_gives = { λ _ refusal. refusal ≡ Memory };
+
+    fn from(_error: AllocError) -> PlanRefusal {
+        PlanRefusal::Memory
+    }
+}
+
+/// The plan of a draft, or the draft again with its first fault; want of memory aside.
+pub fn plan_check<W>(alloc: Global, draft: Draft<W>) -> Result<Plan<W>, (Draft<W>, PlanRefusal)>
+    ensures no_fault { OnOk result (first_fault_now draft.blocks.items draft.links.items ≡ None) }
+    ensures none_by_the_format { OnOk result (first_plan_fault draft.blocks.items draft.links.items ≡ None) }
+    ensures same_blocks { IfOk result (λ plan. (layout_of plan).blocks ≡ draft.blocks.items) }
+    ensures its_links { IfOk result (λ plan. (layout_of plan).links ≡ planned_links draft.blocks.items draft.links.items) }
+    ensures why { IfErr result (λ refused. IsWhy (first_fault_now draft.blocks.items draft.links.items) refused.1) }
+    ensures handed_back { IfErr result (λ refused. refused.0 ≡ draft) }
+{
+    match links_of(alloc, &draft.blocks, &draft.links) {
+        Ok(links) => {
+            let Draft { blocks, links: _ } = draft;
+            Ok(Plan::new(blocks, links))
+        }
+        Err(refusal) => Err((draft, refusal)),
+    }
+}
+
+/// The links of the plan of a draft with these blocks and links.
+fn links_of<W>(
+    alloc: Global,
+    blocks: &[BlockDef<W>],
+    links: &[LinkDef],
+) -> Result<Vec<Link>, PlanRefusal>
+    ensures no_fault { OnOk result (first_fault_now blocks.now links.now ≡ None) }
+    ensures planned { IfOk result (λ planned. planned.items ≡ planned_links blocks.now links.now) }
+    ensures why { IfErr result (IsWhy (first_fault_now blocks.now links.now)) }
+{
+    if let Some(fault) = fault_of_names(blocks, links) {
+        return Err(PlanRefusal::Fault(fault));
+    }
+    if let Some(fault) = fault_of_ends(blocks, links) {
+        return Err(PlanRefusal::Fault(fault));
+    }
+    let mut planned = named_links(alloc, blocks, links)?;
+    if let Some(fault) = fault_of_options(blocks, links, &planned) {
+        return Err(PlanRefusal::Fault(fault));
+    }
+    if has_cycle(alloc, &planned, blocks.len())? {
+        return Err(PlanRefusal::Fault(PlanFault::Cycle));
+    }
+    push_outer_links(blocks, &mut planned)?;
+    Ok(planned)
+}
+
+/// The first fault among those of numbers and names.
+fn fault_of_names<W>(blocks: &[BlockDef<W>], links: &[LinkDef]) -> Option<PlanFault>
+    ensures { result ≡ find (stands_now blocks.now links.now) (name_faults blocks.now links.now) }
+{
+    if is_over_limit(blocks, links) {
+        return Some(PlanFault::Limit);
+    }
+    if let Some(block) = first_duplicate_name(blocks) {
+        return Some(PlanFault::DuplicateName(block));
+    }
+    match first_unknown_block(blocks, links) {
+        Some(link) => Some(PlanFault::UnknownBlock(link)),
+        None => None,
+    }
+}
+
+/// The first fault among those of what links lead from and to.
+fn fault_of_ends<W>(blocks: &[BlockDef<W>], links: &[LinkDef]) -> Option<PlanFault>
+    ensures { result ≡ find (stands_now blocks.now links.now) (end_faults blocks.now links.now) }
+{
+    if let Some(link) = first_missing_port(blocks, links) {
+        return Some(PlanFault::Port(link));
+    }
+    match first_missing_output(blocks, links) {
+        Some(link) => Some(PlanFault::NoOutput(link)),
+        None => None,
+    }
+}
+
+/// The first fault among those of options.
+fn fault_of_options<W>(
+    blocks: &[BlockDef<W>],
+    links: &[LinkDef],
+    named: &[Link],
+) -> Option<PlanFault>
+    requires { named.now ≡ named_links blocks.now links.now }
+    ensures { result ≡ find (stands_now blocks.now links.now) (option_faults blocks.now links.now) }
+{
+    if let Some(block) = first_bad_block(blocks) {
+        return Some(PlanFault::BadOption(Place::Block(block)));
+    }
+    match first_bad_link(blocks, links, named) {
+        Some(link) => Some(PlanFault::BadOption(Place::Link(link))),
+        None => None,
+    }
+}
+
+fn is_over_limit<W>(blocks: &[BlockDef<W>], links: &[LinkDef]) -> bool
+    ensures { result ≡ stands_now blocks.now links.now Limit }
+{
+    blocks.len() > MOST_BLOCKS || links.len() > MOST_LINKS
+}
+
+// Links have no part in it, so it is the same with none.
+fn first_duplicate_name<W>(blocks: &[BlockDef<W>]) -> Option<usize>
+    ensures { result ≡ first_at blocks.now [] DuplicateName (length blocks.now) }
+{
+    for (place, block) in blocks.iter().enumerate() {
+        if block_named(&blocks[..place], block.name.as_str()).is_some() {
+            return Some(place);
+        }
+    }
+    None
+}
+
+fn first_unknown_block<W>(blocks: &[BlockDef<W>], links: &[LinkDef]) -> Option<usize>
+    ensures { result ≡ position (λ link. is_none (block_named blocks.now link.from) || is_none (block_named blocks.now link.to)) links.now }
+{
+    links.iter().position(|link| is_unknown(blocks, link))
+}
+
+fn first_missing_port<W>(blocks: &[BlockDef<W>], links: &[LinkDef]) -> Option<usize>
+    ensures { result ≡ position (λ link. lacks_port blocks.now [] (block_named blocks.now link.to) (named_link blocks.now link).target) links.now }
+{
+    links.iter().position(|link| lacks_port(blocks, link))
+}
+
+fn first_missing_output<W>(blocks: &[BlockDef<W>], links: &[LinkDef]) -> Option<usize>
+    ensures { result ≡ position (λ link. lacks_output blocks.now [] (block_named blocks.now link.from)) links.now }
+{
+    links.iter().position(|link| lacks_output(blocks, link))
+}
+
+fn first_bad_block<W>(blocks: &[BlockDef<W>]) -> Option<usize>
+    ensures { result ≡ position is_bad_block blocks.now }
+{
+    blocks.iter().position(|block| is_bad_block(block))
+}
+
+fn first_bad_link<W>(blocks: &[BlockDef<W>], links: &[LinkDef], named: &[Link]) -> Option<usize>
+    requires { named.now ≡ named_links blocks.now links.now }
+    ensures { result ≡ first_at blocks.now links.now (λ l. BadOption (at_link l)) (length links.now) }
+{
+    for (place, link) in links.iter().enumerate() {
+        if is_bad_link(link) || is_further_link(blocks, named, place) {
+            return Some(place);
+        }
+    }
+    None
+}
+
+/// The number of the block with this name.
+pub(crate) fn block_named<W>(blocks: &[BlockDef<W>], name: &str) -> Option<usize>
+    ensures place { result ≡ block_named blocks.now name.now }
+    ensures within { IfSome result (λ place. place < length blocks.now) }
+{
+    blocks.iter().position(|block| block.name.as_str() == name)
+}
+
+fn is_unknown<W>(blocks: &[BlockDef<W>], link: &LinkDef) -> bool
+    ensures { result ≡ (is_none (block_named blocks.now link.now.from) || is_none (block_named blocks.now link.now.to)) }
+{
+    block_named(blocks, link.from.as_str()).is_none()
+        || block_named(blocks, link.to.as_str()).is_none()
+}
+
+fn lacks_port<W>(blocks: &[BlockDef<W>], link: &LinkDef) -> bool
+    ensures { result ≡ lacks_port blocks.now [] (block_named blocks.now link.now.to) (named_link blocks.now link.now).target }
+{
+    match block_named(blocks, link.to.as_str()) {
+        Some(place) => {
+            let target = &blocks[place];
+            port_count(target.kind, target.ports) <= link.port.unwrap_or(0)
+        }
+        None => false,
+    }
+}
+
+fn lacks_output<W>(blocks: &[BlockDef<W>], link: &LinkDef) -> bool
+    ensures { result ≡ lacks_output blocks.now [] (block_named blocks.now link.now.from) }
+{
+    match block_named(blocks, link.from.as_str()) {
+        Some(place) => gives_nothing(blocks[place].kind),
+        None => false,
+    }
+}
+
+#[tactic(auto, unfolding(crate::specs::NotBuilt::is_bad_block))]
+fn is_bad_block<W>(block: &BlockDef<W>) -> bool
+    ensures { result ≡ is_bad_block block.now }
+{
+    !options_fit(block) || !is_built_block(block)
+}
+
+fn is_bad_link(link: &LinkDef) -> bool
+    ensures { result ≡ (not (is_in 1 2147483647 link.now.max) || not (is_built_link link.now)) }
+{
+    !max_fits(link.max) || !is_built_link(link)
+}
+
+fn gives_nothing(kind: BlockKind) -> bool
+    ensures { result ≡ gives_nothing kind }
+{
+    matches!(kind, BlockKind::Action)
+}
+
+/// Whether an earlier link enters the link's target, an input's link counted, or leaves its source.
+#[tactic(auto, using(crate::proofs::CheckLemmas::any_is_some))]
+fn is_further_link<W>(blocks: &[BlockDef<W>], named: &[Link], place: usize) -> bool
+    requires { place < length named.now }
+    ensures { result ≡ is_further_link blocks.now named.now place }
+{
+    let link = &named[place];
+    enters_input(blocks, link.target) || shares_some_end(link, &named[..place])
+}
+
+fn shares_some_end(link: &Link, others: &[Link]) -> bool
+    ensures { result ≡ list_any (shares_an_end link.now) others.now }
+{
+    others.iter().any(|other| shares_an_end(link, other))
+}
+
+fn enters_input<W>(blocks: &[BlockDef<W>], target: LinkTarget) -> bool
+    ensures { result ≡ enters_input blocks.now target }
+{
+    match target {
+        LinkTarget::Port(place, _) => match blocks.get(place) {
+            Some(block) => block.input,
+            None => false,
+        },
+        LinkTarget::Exit => false,
+    }
+}
+
+fn shares_an_end(link: &Link, other: &Link) -> bool
+    ensures { result ≡ shares_an_end link.now other.now }
+{
+    leaves_with(link.source, other.source) || enters_with(link.target, other.target)
+}
+
+fn leaves_with(source: LinkSource, other: LinkSource) -> bool
+    ensures { result ≡ leaves_with source other }
+{
+    match (source, other) {
+        (LinkSource::Block(one), LinkSource::Block(two)) => one == two,
+        _ => false,
+    }
+}
+
+fn enters_with(target: LinkTarget, other: LinkTarget) -> bool
+    ensures { result ≡ enters_with target other }
+{
+    match (target, other) {
+        (LinkTarget::Port(one, _), LinkTarget::Port(two, _)) => one == two,
+        _ => false,
+    }
+}

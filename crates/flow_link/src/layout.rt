@@ -1,0 +1,93 @@
+//! The links of a plan: those of the draft, between the blocks that they name, and those from and to the caller.
+ghost use Rattle.std.specs.Prelude.{◌≡◌, ◌++◌, IfOk, OnOk, unwrap_or};
+ghost use Rattle.flow_link.specs.Layout.{input_link, exit_link, input_links, exit_links, outer_links};
+ghost use Rattle.flow_link.specs.Plan.{block_named, named_link, named_links};
+
+use crate::check::block_named;
+use crate::draft::{BlockDef, LinkDef};
+use crate::plan::{Link, LinkSource, LinkTarget};
+use flow_value::When;
+use std::alloc::{AllocError, Global};
+
+/// The links of the draft; a name that no block has counts as that of the first.
+pub fn named_links<W>(
+    alloc: Global,
+    blocks: &[BlockDef<W>],
+    links: &[LinkDef],
+) -> Result<Vec<Link>, AllocError>
+    ensures { IfOk result (λ named. named.items ≡ named_links blocks.now links.now) }
+{
+    let mut named = Vec::new(alloc);
+    for link in links {
+        named.push(named_link(blocks, link))?;
+    }
+    Ok(named)
+}
+
+/// Puts the links of inputs and exits behind the others.
+pub fn push_outer_links<W>(blocks: &[BlockDef<W>], links: &mut Vec<Link>) -> Result<(), AllocError>
+    ensures { OnOk result (links.new.items ≡ links.old.items ++ outer_links blocks.now) }
+{
+    push_input_links(blocks, links)?;
+    push_exit_links(blocks, links)
+}
+
+fn push_input_links<W>(blocks: &[BlockDef<W>], links: &mut Vec<Link>) -> Result<(), AllocError>
+    ensures { OnOk result (links.new.items ≡ links.old.items ++ input_links 0 blocks.now) }
+{
+    for (place, block) in blocks.iter().enumerate() {
+        if block.input {
+            links.push(input_link(place))?;
+        }
+    }
+    Ok(())
+}
+
+fn push_exit_links<W>(blocks: &[BlockDef<W>], links: &mut Vec<Link>) -> Result<(), AllocError>
+    ensures { OnOk result (links.new.items ≡ links.old.items ++ exit_links 0 blocks.now) }
+{
+    for (place, block) in blocks.iter().enumerate() {
+        if block.output {
+            links.push(exit_link(place))?;
+        }
+    }
+    Ok(())
+}
+
+fn named_link<W>(blocks: &[BlockDef<W>], link: &LinkDef) -> Link
+    ensures { result ≡ named_link blocks.now link.now }
+{
+    let source = block_named(blocks, link.from.as_str()).unwrap_or(0);
+    let target = block_named(blocks, link.to.as_str()).unwrap_or(0);
+    Link {
+        source: LinkSource::Block(source),
+        target: LinkTarget::Port(target, link.port.unwrap_or(0)),
+        when: link.when.unwrap_or(When::Any),
+        max: link.max,
+        propagate: link.propagate,
+    }
+}
+
+fn input_link(place: usize) -> Link
+    ensures { result ≡ input_link place }
+{
+    Link {
+        source: LinkSource::Input(place),
+        target: LinkTarget::Port(place, 0),
+        when: When::Any,
+        max: None,
+        propagate: true,
+    }
+}
+
+fn exit_link(place: usize) -> Link
+    ensures { result ≡ exit_link place }
+{
+    Link {
+        source: LinkSource::Block(place),
+        target: LinkTarget::Exit,
+        when: When::Any,
+        max: None,
+        propagate: true,
+    }
+}
