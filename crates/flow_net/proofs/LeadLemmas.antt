@@ -1,0 +1,163 @@
+-- The links of a plan lead from blocks and inputs that are there, to blocks that are there, and each input has one.
+use Rattle.std.proofs.Common.{◌≡◌, ℕ, zero, suc, ◌<◌, ◌≤◌, ltb, Bool, true, false, cond, List, [], ◌∷◌, ◌++◌, length, refl, ap, sym, subst, arith, ltb-true, append_assoc, ◌+◌}
+use Rattle.flow_link.proofs.ListLemmas.{both_of}
+use Rattle.flow_link.specs.declared.draft.BlockDef.{BlockDef}
+use Rattle.flow_link.specs.declared.plan.Link.{Link}
+use Rattle.flow_link.specs.declared.plan.LinkSource.{LinkSource}
+use Rattle.flow_link.specs.declared.plan.LinkSource.TheVariants.{Block, Input}
+use Rattle.flow_link.specs.declared.plan.LinkTarget.{LinkTarget}
+use Rattle.flow_link.specs.declared.plan.LinkTarget.TheVariants.{Port, Exit}
+use Rattle.flow_link.specs.Layout.{IsLaidOut, input_link, input_links, exit_link, exit_links, outer_links, joins, is_between_blocks, between_of}
+use Rattle.flow_link.specs.Lists.{every}
+use Rattle.flow_link.specs.Plan.{link_in}
+use Rattle.flow_net.specs.Statements.{PlansLeadWell}
+
+-- what holds of each link of a list
+abbrev Each : (Link → Type 0) → List Link → Type 0
+Each P [] = Unit {0}
+Each P (link ∷ links) = P link × Each P links
+
+each_at : (P : Link → Type 0) (links : List Link) (l : ℕ) → Each P links → l < length links → P (link_in links l)
+each_at P [] l each small = absurd (omega arith)
+each_at P (link ∷ links) zero each small = each.0
+each_at P (link ∷ links) (suc l) each small = each_at P links l each.1 (omega arith)
+
+each_append : (P : Link → Type 0) (first last : List Link) → Each P first → Each P last → Each P (first ++ last)
+each_append P [] last a b = b
+each_append P (link ∷ first) last a b = (a.0, each_append P first last a.1 b)
+
+each_cond : (P : Link → Type 0) (b : Bool) (link : Link) (links : List Link) → P link → Each P links → Each P (cond b (link ∷ []) [] ++ links)
+each_cond P true link links a rest = (a, rest)
+each_cond P false link links a rest = rest
+
+-- a link leads from a block or input among so many, to a block among them
+record Well (count : ℕ) (link : Link) : Type 0 where
+  from_block : (s : ℕ) → link.source ≡ Block s → s < count
+  from_input : (b : ℕ) → link.source ≡ Input b → b < count
+  to_block : (t p : ℕ) → link.target ≡ Port t p → t < count
+
+joined_well : (count : ℕ) (link : Link) (source : LinkSource) (target : LinkTarget) → link.source ≡ source → link.target ≡ target
+    → joins count source target ≡ true → Well count link
+joined_well count link (Block s) (Port t p) es et e =
+    let both = both_of (ltb s count) (ltb t count) e in
+    record {
+      from_block = λ n is. let same : s ≡ n = cc in subst (λ (k : ℕ). k < count) same (ltb-true s count both.0);
+      from_input = λ n is. absurd (cc);
+      to_block = λ n q is. let same : t ≡ n = cc in subst (λ (k : ℕ). k < count) same (ltb-true t count both.1);
+    }
+joined_well count link (Block s) Exit es et e = absurd (cc)
+joined_well count link (Input b) target es et e = absurd (cc)
+
+between_well : (count : ℕ) (links : List Link) → every (is_between_blocks count) links ≡ true → Each (Well count) links
+between_well count [] e = tt
+between_well count (link ∷ links) e =
+    let both = both_of (is_between_blocks count link) (every (is_between_blocks count) links) e in
+    (joined_well count link link.source link.target refl refl both.0, between_well count links both.1)
+
+module _ {W : Type 0} where
+  inputs_well : (count first : ℕ) (blocks : List (BlockDef W)) → first + length blocks ≤ count → Each (Well count) (input_links first blocks)
+  inputs_well count first [] fits = tt
+  inputs_well count first (block ∷ blocks) fits =
+      each_cond (Well count) block.input (input_link first) (input_links (suc first) blocks)
+      (record {
+        from_block = λ n is. absurd (cc);
+        from_input = λ n is. let same : first ≡ n = cc in omega arith;
+        to_block = λ n q is. let same : first ≡ n = cc in omega arith;
+      })
+      (inputs_well count (suc first) blocks (omega arith))
+
+  exits_well : (count first : ℕ) (blocks : List (BlockDef W)) → first + length blocks ≤ count → Each (Well count) (exit_links first blocks)
+  exits_well count first [] fits = tt
+  exits_well count first (block ∷ blocks) fits =
+      each_cond (Well count) block.output (exit_link first) (exit_links (suc first) blocks)
+      (record {
+        from_block = λ n is. let same : first ≡ n = cc in omega arith;
+        from_input = λ n is. absurd (cc);
+        to_block = λ n q is. absurd (cc);
+      })
+      (exits_well count (suc first) blocks (omega arith))
+
+-- no link of a list leads from this input
+abbrev NotFrom : ℕ → Link → Type 0
+NotFrom b link = link.source ≡ Input b → ⊥
+
+-- the input's link is one
+abbrev AtMostOne : ℕ → List Link → Type 0
+AtMostOne b links = (k l : ℕ) → k < length links → l < length links → (link_in links k).source ≡ Input b → (link_in links l).source ≡ Input b → k ≡ l
+
+one_of_none : (b : ℕ) (links : List Link) → Each (NotFrom b) links → AtMostOne b links
+one_of_none b links none k l small smaller ek el = absurd (each_at (NotFrom b) links k none small ek)
+
+one_more : (b : ℕ) (link : Link) (links : List Link) → (link.source ≡ Input b → Each (NotFrom b) links) → AtMostOne b links → AtMostOne b (link ∷ links)
+one_more b link links apart rest zero zero small smaller ek el = refl
+one_more b link links apart rest zero (suc l) small smaller ek el = absurd (each_at (NotFrom b) links l (apart ek) (omega arith) el)
+one_more b link links apart rest (suc k) zero small smaller ek el = absurd (each_at (NotFrom b) links k (apart el) (omega arith) ek)
+one_more b link links apart rest (suc k) (suc l) small smaller ek el = ap suc (rest k l (omega arith) (omega arith) ek el)
+
+one_after : (b : ℕ) (first last : List Link) → Each (NotFrom b) first → AtMostOne b last → AtMostOne b (first ++ last)
+one_after b [] last none one = one
+one_after b (link ∷ first) last none one = one_more b link (first ++ last) (λ is. absurd (none.0 is)) (one_after b first last none.1 one)
+
+joined_apart : (count b : ℕ) (link : Link) (source : LinkSource) (target : LinkTarget) → link.source ≡ source
+    → joins count source target ≡ true → NotFrom b link
+joined_apart count b link (Block s) target es e is = cc
+joined_apart count b link (Input _) target es e is = absurd (cc)
+
+between_apart : (count b : ℕ) (links : List Link) → every (is_between_blocks count) links ≡ true → Each (NotFrom b) links
+between_apart count b [] e = tt
+between_apart count b (link ∷ links) e =
+    let both = both_of (is_between_blocks count link) (every (is_between_blocks count) links) e in
+    (joined_apart count b link link.source link.target refl both.0, between_apart count b links both.1)
+
+one_cond : (b first : ℕ) (input : Bool) (links : List Link) → (first ≡ b → Each (NotFrom b) links) → AtMostOne b links
+    → AtMostOne b (cond input (input_link first ∷ []) [] ++ links)
+one_cond b first true links apart one = one_more b (input_link first) links (λ is. apart (cc)) one
+one_cond b first false links apart one = one
+
+module _ {W : Type 0} where
+  exits_apart : (b first : ℕ) (blocks : List (BlockDef W)) → Each (NotFrom b) (exit_links first blocks)
+  exits_apart b first [] = tt
+  exits_apart b first (block ∷ blocks) =
+      each_cond (NotFrom b) block.output (exit_link first) (exit_links (suc first) blocks) (λ is. cc) (exits_apart b (suc first) blocks)
+
+  inputs_apart : (b first : ℕ) (blocks : List (BlockDef W)) → b < first → Each (NotFrom b) (input_links first blocks)
+  inputs_apart b first [] small = tt
+  inputs_apart b first (block ∷ blocks) small =
+      each_cond (NotFrom b) block.input (input_link first) (input_links (suc first) blocks)
+      (λ is. let same : first ≡ b = cc in absurd (omega arith))
+      (inputs_apart b (suc first) blocks (omega arith))
+
+  one_input : (b first : ℕ) (blocks : List (BlockDef W)) (last : List Link) → Each (NotFrom b) last → AtMostOne b (input_links first blocks ++ last)
+  one_input b first [] last none = one_of_none b last none
+  one_input b first (block ∷ blocks) last none =
+      subst (λ (links : List Link). AtMostOne b links) (sym (append_assoc (cond block.input (input_link first ∷ []) []) (input_links (suc first) blocks) last))
+      (one_cond b first block.input (input_links (suc first) blocks ++ last)
+      (λ same. each_append (NotFrom b) (input_links (suc first) blocks) last (inputs_apart b (suc first) blocks (omega arith)) none)
+      (one_input b (suc first) blocks last none))
+
+  well_planned : (blocks : List (BlockDef W)) (links : List Link) → IsLaidOut blocks links → Each (Well (length blocks)) links
+  well_planned blocks links laid =
+      subst (λ (all : List Link). Each (Well (length blocks)) all) (sym laid.in_order)
+      (each_append (Well (length blocks)) (between_of blocks links) (outer_links blocks)
+      (between_well (length blocks) (between_of blocks links) laid.lead)
+      (each_append (Well (length blocks)) (input_links 0 blocks) (exit_links 0 blocks)
+      (inputs_well (length blocks) 0 blocks (omega arith))
+      (exits_well (length blocks) 0 blocks (omega arith))))
+
+  one_planned : (blocks : List (BlockDef W)) (links : List Link) → IsLaidOut blocks links → (b : ℕ) → AtMostOne b links
+  one_planned blocks links laid b =
+      subst (λ (all : List Link). AtMostOne b all) (sym laid.in_order)
+      (one_after b (between_of blocks links) (outer_links blocks)
+      (between_apart (length blocks) b (between_of blocks links) laid.lead)
+      (one_input b 0 blocks (exit_links 0 blocks) (exits_apart b 0 blocks)))
+
+module _ (W : Type 0) where
+  pub plans_lead_well : PlansLeadWell W
+  plans_lead_well layout laid =
+      let well = well_planned layout.blocks layout.links laid in
+      record {
+        from_block = λ l s small is. (each_at (Well (length layout.blocks)) layout.links l well small).from_block s is;
+        from_input = λ l b small is. (each_at (Well (length layout.blocks)) layout.links l well small).from_input b is;
+        to_block = λ l t p small is. (each_at (Well (length layout.blocks)) layout.links l well small).to_block t p is;
+        one_input_link = λ k l b small smaller ek el. one_planned layout.blocks layout.links laid b k l small smaller ek el;
+      }

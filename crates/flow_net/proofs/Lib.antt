@@ -1,0 +1,17 @@
+pub mod EventLemmas
+pub mod FrameLemmas
+pub mod FreshLemmas
+pub mod GoLemmas
+pub mod InputLemmas
+pub mod KeptLemmas
+pub mod LawLemmas
+pub mod LeadLemmas
+pub mod LineMoves
+pub mod MakeLemmas
+pub mod MoveLemmas
+pub mod PostedLemmas
+pub mod RestLemmas
+pub mod ScanLemmas
+pub mod ServesLemmas
+pub mod StateLemmas
+pub mod ThereLemmas

@@ -1,0 +1,83 @@
+-- What a network keeps whatever happens: each link is in order, both its ends have seen its phase, what it gave it admits, and
+-- what it has offered its source has.
+use Rattle.std.specs.Prelude.{◌≡◌, ℕ, ◌<◌, ◌≤◌, Bool, true, false, length, map, is_some, Some}
+use Rattle.flow_value.specs.When.{admits}
+use Rattle.flow_link.specs.declared.phase.Phase.{Phase}
+use Rattle.flow_link.specs.declared.phase.Phase.TheVariants.{Idle, Offered, Wanted, Given, Opened, Refused, Ended}
+use Rattle.flow_link.specs.declared.plan.LinkSource.TheVariants.{Block, Input}
+use Rattle.flow_link.specs.declared.plan.LinkTarget.{LinkTarget}
+use Rattle.flow_link.specs.declared.plan.LinkTarget.TheVariants.{Port, Exit}
+use Rattle.flow_link.specs.Layout.{Layout}
+use Rattle.flow_link.specs.LinkOk.{LinkOk}
+use Rattle.flow_link.specs.Lists.{every}
+use Rattle.flow_link.specs.Looks.{Seen}
+use Rattle.flow_link.specs.Plan.{block_in, link_in, is_steady, is_sole, is_reserving}
+use Rattle.flow_link.specs.Views.{LinkFacts}
+use Rattle.flow_net.specs.Events.{head_of, serves}
+use Rattle.flow_net.specs.Parts.{FeedState, PartsState, node_at, feed_at, line_at}
+use Rattle.flow_net.specs.Seen.{given_from, source_view, target_view}
+
+-- the phases that the moves of such a network lead to
+abbrev pub is_in_use : Phase → Bool
+is_in_use Idle = true
+is_in_use (Offered _) = true
+is_in_use (Wanted _) = true
+is_in_use (Given _) = true
+is_in_use (Opened _) = true
+is_in_use Refused = true
+is_in_use (Ended _) = true
+is_in_use _ = false
+
+-- a message was offered, and is not given yet
+abbrev pub awaits_head : Phase → Bool
+awaits_head (Offered _) = true
+awaits_head (Wanted _) = true
+awaits_head _ = false
+
+module _ {W : Type 0} (layout : Layout W) where
+  abbrev pub reserves_in : LinkTarget → Bool
+  reserves_in (Port t p) = is_reserving (block_in layout.blocks t)
+  reserves_in Exit = false
+
+  -- what the plan says of a link
+  abbrev pub facts_in : ℕ → LinkFacts
+  facts_in l = record {
+    steady = is_steady layout.blocks (link_in layout.links l).target;
+    sole = is_sole layout.blocks layout.links (link_in layout.links l).target;
+    reserving = reserves_in (link_in layout.links l).target;
+    max = (link_in layout.links l).max;
+    propagates = (link_in layout.links l).propagate;
+  }
+
+  module _ (parts : PartsState) where
+    pub record LineKeeps (l : ℕ) : Type 0 where
+      pub in_order : LinkOk (facts_in l) (line_at parts l).phase (line_at parts l).slot (source_view layout parts l) (target_view layout parts l)
+      pub seen : Seen (line_at parts l).phase (source_view layout parts l) (target_view layout parts l)
+      pub in_use : is_in_use (line_at parts l).phase ≡ true
+      -- the source has the message that it offered
+      pub head : serves layout parts l ≡ true → awaits_head (line_at parts l).phase ≡ true → is_some (head_of parts (link_in layout.links l).source) ≡ true
+
+    -- what a block gave over a link meets the link's predicate
+    pub record GivesAdmitted (l s : ℕ) : Type 0 where
+      pub admitted : every (admits (link_in layout.links l).when) (given_from layout parts l (Block s)) ≡ true
+
+    pub record Keeps : Type 0 where
+      pub node_count : length parts.nodes ≡ length layout.blocks
+      -- those blocks have posted values that are inputs
+      pub feed_places : map is_some parts.feeds ≡ map (λ block. block.input) layout.blocks
+      pub sent_within : (b : ℕ) (feed : FeedState) → feed_at parts b ≡ Some feed → feed.sent ≤ length feed.posted
+      pub line_count : length parts.lines ≡ length layout.links
+      pub lines : (l : ℕ) → l < length layout.links → LineKeeps l
+      pub admits_all : (l s : ℕ) → l < length layout.links → (link_in layout.links l).source ≡ Block s → GivesAdmitted l s
+      -- the links of a block are links of the plan
+      pub into_there : (b l : ℕ) → (node_at parts b).into ≡ Some l → l < length layout.links
+      pub out_there : (b l : ℕ) → (node_at parts b).out ≡ Some l → l < length layout.links
+
+  -- a link leads from a block or input that is there to a block that is there
+  pub record LeadsWell : Type 0 where
+    pub from_block : (l s : ℕ) → l < length layout.links → (link_in layout.links l).source ≡ Block s → s < length layout.blocks
+    pub from_input : (l b : ℕ) → l < length layout.links → (link_in layout.links l).source ≡ Input b → b < length layout.blocks
+    pub to_block : (l t p : ℕ) → l < length layout.links → (link_in layout.links l).target ≡ Port t p → t < length layout.blocks
+    -- no two links lead from one input
+    pub one_input_link : (k l b : ℕ) → k < length layout.links → l < length layout.links
+        → (link_in layout.links k).source ≡ Input b → (link_in layout.links l).source ≡ Input b → k ≡ l

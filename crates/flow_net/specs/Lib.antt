@@ -1,0 +1,14 @@
+pub mod AtRest
+pub mod Events
+pub mod Fresh
+pub mod Keeps
+pub mod Made
+pub mod Net
+pub mod Parts
+pub mod Seen
+pub mod Settles
+pub mod Stage
+pub mod Statements
+pub mod States
+pub mod Steps
+pub mod There

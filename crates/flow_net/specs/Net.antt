@@ -1,0 +1,19 @@
+-- What a contract sees of a network: its layout, its state, and its run so far.
+use Rattle.std.specs.Prelude.{List, Result}
+use Rattle.flow_value.specs.declared.value.Value.{Value}
+use Rattle.flow_value.specs.declared.work.WorkFault.{WorkFault}
+use Rattle.flow_link.specs.Layout.{Layout}
+use Rattle.flow_link.specs.Planned.{layout_of}
+use Rattle.flow_link.specs.Trace.{Run}
+use Rattle.flow_net.specs.Parts.{PartsState}
+use Rattle.flow_net.specs.Seen.{run_with}
+use Rattle.flow_net.specs.declared.net.Net.{Net}
+
+abbrev pub layout_in : {W : Type 0} → Net W → Layout W
+layout_in net = layout_of net.engine.plan
+
+abbrev pub parts_of : {W : Type 0} → Net W → PartsState
+parts_of net = net.engine.parts
+
+abbrev pub run_of : {W : Type 0} → (W → Value → Result (List Value) WorkFault) → Net W → Run W
+run_of meaning net = run_with meaning (layout_in net) (parts_of net)

@@ -1,0 +1,39 @@
+-- What is proved of the states of a network.
+use Rattle.std.specs.Prelude.{ℕ, List, Result}
+use Rattle.flow_value.specs.declared.value.Value.{Value}
+use Rattle.flow_value.specs.declared.work.WorkFault.{WorkFault}
+use Rattle.flow_link.specs.Layout.{Layout, IsLaidOut}
+use Rattle.flow_link.specs.Law.{LinkLaw}
+use Rattle.flow_net.specs.AtRest.{AtRest}
+use Rattle.flow_net.specs.Events.{Enabled, after}
+use Rattle.flow_net.specs.Fresh.{IsFresh}
+use Rattle.flow_net.specs.Keeps.{Keeps, LeadsWell}
+use Rattle.flow_net.specs.Parts.{PartsState}
+use Rattle.flow_net.specs.Seen.{run_with}
+use Rattle.flow_net.specs.Steps.{IsQuiet}
+use Rattle.flow_net.specs.declared.event.Event.{Event}
+
+module _ (W : Type 0) where
+  -- the links of a plan lead well
+  abbrev pub PlansLeadWell : Type 0
+  PlansLeadWell = (layout : Layout W) → IsLaidOut layout.blocks layout.links → LeadsWell layout
+
+  -- each event keeps what a network keeps
+  abbrev pub EventsKeep : Type 0
+  EventsKeep =
+      (layout : Layout W) (meaning : ℕ → Value → Result (List Value) ℕ) (parts : PartsState) (event : Event)
+      → LeadsWell layout → Keeps layout parts → Enabled layout parts event → Keeps layout (after layout meaning parts event)
+
+  -- and then the link law holds of the run so far
+  abbrev pub KeptIsLawful : Type 0
+  KeptIsLawful =
+      (meaning : W → Value → Result (List Value) WorkFault) (layout : Layout W) (parts : PartsState)
+      → LeadsWell layout → Keeps layout parts → LinkLaw (run_with meaning layout parts)
+
+  -- a network in which nothing has happened keeps it
+  abbrev pub FreshKeeps : Type 0
+  FreshKeeps = (layout : Layout W) (parts : PartsState) → IsFresh layout parts → Keeps layout parts
+
+  -- where nothing may happen any more, all that could be done is done
+  abbrev pub QuietAtRest : Type 0
+  QuietAtRest = (layout : Layout W) (parts : PartsState) → Keeps layout parts → IsQuiet layout parts → AtRest layout parts

@@ -1,0 +1,26 @@
+-- What became of a block, by its journal. Each kind that is built has one port, and is complete with it.
+use Rattle.std.specs.Prelude.{ℕ, Bool, true, false, List, [], ◌∷◌, Option, Some, None}
+use Rattle.flow_link.specs.declared.trace.Mark.{Mark}
+use Rattle.flow_link.specs.declared.trace.Mark.TheVariants.{Took, Gave, Complete, Fault, Done}
+use Rattle.flow_link.specs.Trace.{is_done, has_complete}
+use Rattle.flow_net.specs.declared.posted.State.{State}
+use Rattle.flow_net.specs.declared.posted.State.TheVariants as state
+
+-- the number of a block's fault
+abbrev pub fault_in : List Mark → Option ℕ
+fault_in [] = None
+fault_in (Fault number ∷ marks) = Some number
+fault_in (Took _ _ _ ∷ marks) = fault_in marks
+fault_in (Gave _ _ ∷ marks) = fault_in marks
+fault_in (Complete _ ∷ marks) = fault_in marks
+fault_in (Done ∷ marks) = fault_in marks
+
+-- a block is faulted or done by its mark; else it is completing or open
+abbrev pub state_from : Option ℕ → Bool → Bool → State
+state_from (Some number) done complete = state.Faulted number
+state_from None true complete = state.Done
+state_from None false true = state.Completing
+state_from None false false = state.Open
+
+abbrev pub state_by : List Mark → State
+state_by marks = state_from (fault_in marks) (is_done marks) (has_complete 0 marks)

@@ -1,0 +1,28 @@
+//! Laws about the states of a network. Each stands on a function that does nothing: whoever calls it has the whole law.
+ghost use Rattle.flow_net.specs.Statements.{EventsKeep, FreshKeeps, KeptIsLawful, PlansLeadWell, QuietAtRest};
+
+/// The links of a plan lead from blocks and inputs that are there to blocks that are there.
+pub fn plans_lead_well<W>()
+    ensures { PlansLeadWell W }
+{}
+
+/// Each event that may happen keeps what a network keeps: its links in order, and both ends of each link aware of it.
+pub fn events_keep_links_in_order<W>()
+    ensures { EventsKeep W }
+{}
+
+/// Where a network keeps that, what has crossed its links so far obeys the law of links.
+pub fn kept_networks_obey_the_link_law<W>()
+    ensures { KeptIsLawful W }
+{}
+
+/// In a network in which nothing has happened each link is in order.
+pub fn fresh_networks_are_in_order<W>()
+    ensures { FreshKeeps W }
+{}
+
+/// Where nothing may happen any more, all that was posted and could cross has crossed, and each block has worked on all
+/// that it took and could work on.
+pub fn quiet_networks_are_at_rest<W>()
+    ensures { QuietAtRest W }
+{}

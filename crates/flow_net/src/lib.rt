@@ -1,0 +1,24 @@
+//! Networks of blocks that one owner drives: what is posted goes from block to block until nothing can move.
+#![tactic(auto)]
+
+mod agenda;
+mod engine;
+mod event;
+mod fault;
+mod laws;
+mod make;
+mod net;
+mod next;
+mod node;
+mod parts;
+mod posted;
+mod stage;
+mod step;
+
+pub use fault::NetFault;
+pub use laws::{
+    events_keep_links_in_order, fresh_networks_are_in_order, kept_networks_obey_the_link_law,
+    plans_lead_well, quiet_networks_are_at_rest,
+};
+pub use net::Net;
+pub use posted::{Posted, Settled, State};

@@ -1,0 +1,115 @@
+//! A network with one owner: what is posted goes from block to block until nothing can move.
+ghost use Rattle.std.specs.Prelude.{◌≡◌, length};
+ghost use Rattle.flow_link.specs.Planned.{layout_of};
+ghost use Rattle.flow_net.specs.Keeps.{Keeps};
+
+use crate::engine::Engine;
+use crate::fault::NetFault;
+use crate::posted::{Settled, State};
+use flow_link::{Mark, Plan};
+use flow_value::{Value, Work};
+use std::alloc::Global;
+use std::collections::VecDeque;
+
+/// Blocks and links with what has become of them so far.
+#[derive(Drop)]
+pub struct Net<W> {
+    pub(crate) engine: Engine<W>,
+    ghost node_places: { length engine.parts.nodes ≡ length (layout_of engine.plan).blocks },
+    ghost feed_places: { length engine.parts.feeds ≡ length (layout_of engine.plan).blocks },
+    ghost line_places: { length engine.parts.lines ≡ length (layout_of engine.plan).links },
+    ghost kept: { ∥ Keeps (layout_of engine.plan) engine.parts ∥₁ },
+}
+
+impl<W: Work> Net<W> {
+    ghost use Rattle.std.specs.Prelude.{IsTrue, IfOk, ◌↔◌, ◌<◌, Err, true, false, []};
+    ghost use Rattle.flow_link.specs.Law.{LinkLaw};
+    ghost use Rattle.flow_net.specs.Net.{layout_in, parts_of, run_of};
+    ghost use Rattle.flow_link.specs.Trace.{block_of, input_of, marks_of, held_at, left_at, trace_of};
+    ghost use Rattle.flow_net.specs.Seen.{works_of};
+    ghost use Rattle.flow_net.specs.States.{state_by};
+    ghost use Rattle.flow_net.specs.Settles.{Settles, GoesOn};
+    ghost use Rattle.flow_net.specs.Steps.{IsQuiet};
+    ghost use Rattle.flow_net.specs.There.{NeedsId};
+    ghost use Rattle.flow_net.specs.declared.fault.NetFault.TheVariants.{Ids};
+
+    /// Does events until nothing may happen any more, or as many as the limit are done. After a refusal the events that were
+    /// done stay.
+    pub fn settle(&mut self, alloc: Global, limit: u64) -> Result<Settled, NetFault>
+        ensures same_plan { layout_in self.new ≡ layout_in self.old }
+        ensures settled { IfOk result (Settles (layout_in self.old) (works_of W.meaning (layout_in self.old)) limit (parts_of self.old) (parts_of self.new)) }
+        ensures goes_on { GoesOn (layout_in self.old) (works_of W.meaning (layout_in self.old)) limit (parts_of self.old) (parts_of self.new) }
+        ensures used_up { result ≡ Err Ids → NeedsId (layout_in self.new) (parts_of self.new) }
+        ensures same_inputs { (run_of W.meaning self.new).trace.inputs ≡ (run_of W.meaning self.old).trace.inputs }
+        ensures link_law { LinkLaw (run_of W.meaning self.new) }
+    {
+        self.engine.settle(alloc, limit)
+    }
+
+    /// Whether nothing may happen any more.
+    pub fn is_quiet(&self) -> bool
+        ensures { IsTrue result ↔ IsQuiet (layout_in self.now) (parts_of self.now) }
+    {
+        self.engine.is_quiet()
+    }
+
+    /// The plan of the network.
+    pub fn plan(&self) -> &Plan<W>
+        ensures { layout_of result.now ≡ (run_of W.meaning self.now).layout }
+    {
+        &self.engine.plan
+    }
+
+    /// The marks of this block, in order.
+    pub fn journal(&self, block: usize) -> &[Mark]
+        requires { block < length (layout_in self.now).blocks }
+        ensures { result.now ≡ marks_of (run_of W.meaning self.now) block }
+    {
+        self.engine.parts.nodes[block].journal()
+    }
+
+    /// What became of this block.
+    pub fn state(&self, block: usize) -> State
+        requires { block < length (layout_in self.now).blocks }
+        ensures { result ≡ state_by (marks_of (run_of W.meaning self.now) block) }
+    {
+        self.engine.parts.nodes[block].state()
+    }
+
+    /// What was posted to the input of this block, in order; none where the block is no input.
+    pub fn posted(&self, block: usize) -> &[Value]
+        requires { block < length (layout_in self.now).blocks }
+        ensures posted { (block_of (run_of W.meaning self.now) block).input ≡ true → result.now ≡ (input_of (run_of W.meaning self.now) block).posted }
+        ensures none { (block_of (run_of W.meaning self.now) block).input ≡ false → result.now ≡ [] }
+    {
+        match self.engine.parts.feed(block) {
+            Some(feed) => feed.posted(),
+            None => &[],
+        }
+    }
+
+    /// What this block took at this port and has not worked on, oldest first. Each kind that is built has port 0 alone.
+    pub fn held(&self, block: usize, port: u32) -> &VecDeque<Value>
+        requires known { block < length (layout_in self.now).blocks }
+        requires first_port { port ≡ 0 }
+        ensures { result.now.items ≡ held_at (run_of W.meaning self.now) block port }
+    {
+        self.engine.parts.nodes[block].held()
+    }
+
+    /// What this block made and has not given, oldest first.
+    pub fn left(&self, block: usize) -> &VecDeque<Value>
+        requires { block < length (layout_in self.now).blocks }
+        ensures { result.now.items ≡ left_at (run_of W.meaning self.now) block }
+    {
+        self.engine.parts.nodes[block].left()
+    }
+
+    /// The results that this block keeps, in order; only actions keep any.
+    pub fn record(&self, block: usize) -> &[Value]
+        requires { block < length (layout_in self.now).blocks }
+        ensures { result.now ≡ (trace_of (run_of W.meaning self.now) block).recorded }
+    {
+        self.engine.parts.nodes[block].record()
+    }
+}

@@ -1,0 +1,244 @@
+//! What a block does by itself: its side of each move, and its own steps. What needs memory is done first, so that a call
+//! that answers want of memory has changed nothing.
+ghost use Rattle.std.specs.Prelude.{◌≡◌, ◌∷◌, [], ◌++◌, true, Some, option_map, OnOk, OnErr, IfOk, IfErr, is_some, Ok, ◌<◌, length, false};
+ghost use Rattle.flow_net.specs.Seen.{result_by_number};
+ghost use Rattle.flow_net.specs.Events.{first_of, rest_of, refusal_by, gives, takes, hands_on, works, applies, completes, faults, finishes, value_at, sends, is_open, has_stopped, is_completing};
+ghost use Rattle.flow_net.specs.Stage.{refusal_of};
+ghost use Rattle.flow_net.specs.States.{state_by};
+ghost use Rattle.flow_net.specs.declared.fault.NetFault.TheVariants.{Memory};
+
+use crate::fault::NetFault;
+use crate::parts::{Feed, Node};
+use crate::posted::State;
+use crate::stage::Refusal;
+use flow_link::Mark;
+use flow_value::{Parcel, Value, Work};
+use std::alloc::Global;
+use std::collections::VecDeque;
+
+impl Node {
+    /// Why it takes no message any more, if it takes none.
+    pub(crate) fn refusal(&self) -> Option<Refusal>
+        ensures { option_map refusal_of result ≡ refusal_by self.now.state self.now.fault }
+    {
+        match self.state {
+            State::Open => match self.fault {
+                Some(_) => Some(Refusal::OwnFault),
+                None => None,
+            },
+            _ => Some(Refusal::PortEnded),
+        }
+    }
+
+    /// What became of it.
+    pub(crate) fn state(&self) -> State
+        ensures { result ≡ state_by self.now.journal }
+    {
+        self.state
+    }
+
+    /// Its marks, in order.
+    pub(crate) fn journal(&self) -> &[Mark]
+        ensures { result.now ≡ self.now.journal }
+    {
+        self.journal.as_slice()
+    }
+
+    /// What it took and has not worked on.
+    pub(crate) fn held(&self) -> &VecDeque<Value>
+        ensures { result.now.items ≡ self.now.held }
+    {
+        &self.held
+    }
+
+    /// What it made and has not given.
+    pub(crate) fn left(&self) -> &VecDeque<Value>
+        ensures { result.now.items ≡ self.now.left }
+    {
+        &self.left
+    }
+
+    /// The results that it keeps.
+    pub(crate) fn record(&self) -> &[Value]
+        ensures { result.now ≡ self.now.recorded }
+    {
+        self.record.as_slice()
+    }
+
+    /// What it gives next.
+    pub(crate) fn head(&self) -> Option<&Value>
+        ensures { option_map (λ value. value.now) result ≡ first_of self.now.left }
+    {
+        self.left.front()
+    }
+
+    /// Gives what is first over this link: a parcel for the target, and a mark.
+    #[tactic(auto, using(crate::proofs::StateLemmas::state_gave))]
+    pub(crate) fn give(&mut self, alloc: Global, link: usize) -> Result<Parcel, NetFault>
+        requires { is_some (first_of self.old.left) ≡ true }
+        ensures given { IfOk result (λ value. (first_of self.old.left ≡ Some value) × (self.new ≡ gives link value self.old)) }
+        ensures kept { OnErr result (self.new ≡ self.old) }
+        ensures memory { IfErr result (λ fault. fault ≡ Memory) }
+    {
+        self.journal.reserve(1)?;
+        let parcel = match self.left.front() {
+            Some(value) => parcel_of(alloc, value)?,
+            None => unreachable!(),
+        };
+        if let Some(value) = self.left.pop_front() {
+            self.journal.push_reserved(Mark::Gave(link, value));
+        }
+        Ok(parcel)
+    }
+
+    /// Takes a message that came over this link into this port, with a mark; for want of memory the parcel comes back.
+    #[tactic(auto, using(crate::proofs::StateLemmas::state_took))]
+    pub(crate) fn take(&mut self, port: u32, link: usize, parcel: Parcel) -> Result<(), Parcel>
+        ensures taken { OnOk result (self.new ≡ takes port link parcel self.old) }
+        ensures kept { OnErr result (self.new ≡ self.old) }
+        ensures back { IfErr result (λ back. back ≡ parcel) }
+    {
+        if self.journal.reserve(1).is_err() || self.held.reserve(1).is_err() {
+            return Err(parcel);
+        }
+        let (value, spare) = parcel.into_parts();
+        self.journal.push_reserved(Mark::Took(port, link, spare));
+        self.held.push_back_reserved(value);
+        Ok(())
+    }
+
+    /// Hands the next message that it holds on as it is.
+    pub(crate) fn hand_on(&mut self) -> Result<(), NetFault>
+        ensures done { OnOk result (self.new ≡ hands_on self.old) }
+        ensures kept { OnErr result (self.new ≡ self.old) }
+        ensures memory { IfErr result (λ fault. fault ≡ Memory) }
+    {
+        self.left.reserve(1)?;
+        if let Some(value) = self.held.pop_front() {
+            self.left.push_back_reserved(value);
+        }
+        Ok(())
+    }
+
+    /// Applies this work to the next message that it holds, and keeps the results, or learns of its fault.
+    pub(crate) fn apply<W: Work>(&mut self, alloc: Global, work: &W) -> Result<(), NetFault>
+        ensures done { OnOk result (self.new ≡ applies (λ value. result_by_number (W.meaning work.now value)) self.old) }
+        ensures kept { OnErr result (self.new ≡ self.old) }
+        ensures memory { IfErr result (λ fault. fault ≡ Memory) }
+    {
+        let answer = match self.held.front() {
+            Some(value) => work.run(alloc, value),
+            None => return Ok(()),
+        };
+        match answer {
+            Ok(results) => self.record_results(results),
+            Err(fault) => match fault.number() {
+                Some(number) => {
+                    self.fault = Some(number);
+                    Ok(())
+                }
+                None => Err(NetFault::Memory),
+            },
+        }
+    }
+
+    /// Keeps the next message that it holds as its own result, since it has no work.
+    pub(crate) fn keep(&mut self) -> Result<(), NetFault>
+        ensures done { OnOk result (self.new ≡ applies (λ value. Ok (value ∷ [])) self.old) }
+        ensures kept { OnErr result (self.new ≡ self.old) }
+        ensures memory { IfErr result (λ fault. fault ≡ Memory) }
+    {
+        self.record.reserve(1)?;
+        if let Some(value) = self.held.pop_front() {
+            self.record.push_reserved(value);
+        }
+        Ok(())
+    }
+
+    /// Keeps these results of the message that it holds first.
+    fn record_results(&mut self, mut results: Vec<Value>) -> Result<(), NetFault>
+        ensures done { OnOk result (self.new ≡ works (Ok results.items) self.old) }
+        ensures kept { OnErr result (self.new ≡ self.old) }
+        ensures memory { IfErr result (λ fault. fault ≡ Memory) }
+    {
+        self.record.append(&mut results)?;
+        self.held.pop_front();
+        Ok(())
+    }
+
+    /// Takes nothing at this port from now on.
+    #[tactic(auto, using(crate::proofs::StateLemmas::state_completed))]
+    pub(crate) fn complete(&mut self, port: u32) -> Result<(), NetFault>
+        requires first_port { port ≡ 0 }
+        requires going { is_open self.old.state ≡ true }
+        ensures done { OnOk result (self.new ≡ completes port self.old) }
+        ensures kept { OnErr result (self.new ≡ self.old) }
+        ensures memory { IfErr result (λ fault. fault ≡ Memory) }
+    {
+        self.journal.reserve(1)?;
+        self.journal.push_reserved(Mark::Complete(port));
+        self.state = State::Completing;
+        Ok(())
+    }
+
+    /// Ends by a fault with this number.
+    #[tactic(auto, using(crate::proofs::StateLemmas::state_faulted))]
+    pub(crate) fn fail(&mut self, number: u32) -> Result<(), NetFault>
+        requires { has_stopped self.old.state ≡ false }
+        ensures done { OnOk result (self.new ≡ faults number self.old) }
+        ensures kept { OnErr result (self.new ≡ self.old) }
+        ensures memory { IfErr result (λ fault. fault ≡ Memory) }
+    {
+        self.journal.reserve(1)?;
+        self.journal.push_reserved(Mark::Fault(number));
+        self.state = State::Faulted(number);
+        Ok(())
+    }
+
+    /// Ends, having given all.
+    #[tactic(auto, using(crate::proofs::StateLemmas::state_finished))]
+    pub(crate) fn finish(&mut self) -> Result<(), NetFault>
+        requires { is_completing self.old.state ≡ true }
+        ensures done { OnOk result (self.new ≡ finishes self.old) }
+        ensures kept { OnErr result (self.new ≡ self.old) }
+        ensures memory { IfErr result (λ fault. fault ≡ Memory) }
+    {
+        self.journal.reserve(1)?;
+        self.journal.push_reserved(Mark::Done);
+        self.state = State::Done;
+        Ok(())
+    }
+}
+
+impl Feed {
+    /// What was posted, in order.
+    pub(crate) fn posted(&self) -> &[Value]
+        ensures { result.now ≡ self.now.posted }
+    {
+        self.values.as_slice()
+    }
+
+    /// Sends what is first of what it has not sent.
+    pub(crate) fn send(&mut self, alloc: Global) -> Result<Parcel, NetFault>
+        requires { self.old.sent < length self.old.posted }
+        ensures sent { IfOk result (λ value. (value_at self.old.posted self.old.sent ≡ Some value) × (self.new ≡ sends self.old)) }
+        ensures kept { OnErr result (self.new ≡ self.old) }
+        ensures memory { IfErr result (λ fault. fault ≡ Memory) }
+    {
+        let parcel = parcel_of(alloc, &self.values[self.sent])?;
+        self.sent += 1;
+        Ok(parcel)
+    }
+}
+
+/// A parcel with a copy of this value.
+pub(crate) fn parcel_of(alloc: Global, value: &Value) -> Result<Parcel, NetFault>
+    ensures made { IfOk result (λ parcel. parcel ≡ value.now) }
+    ensures memory { IfErr result (λ fault. fault ≡ Memory) }
+{
+    let copy = value.copy(alloc)?;
+    match Parcel::new(alloc, copy) {
+        Ok(parcel) => Ok(parcel),
+        Err(_) => Err(NetFault::Memory),
+    }
+}

@@ -1,0 +1,262 @@
+//! Does one event: the end that moves makes its move, and the other end looks. Memory is taken first, so that an event
+//! that is refused has changed nothing.
+ghost use Rattle.std.specs.Prelude.{◌≡◌, ◌<◌, length, true, is_some, ◌≢◌, OnOk, OnErr, IfErr};
+ghost use Rattle.flow_link.specs.Plan.{link_in};
+ghost use Rattle.flow_link.specs.Planned.{layout_of};
+ghost use Rattle.flow_net.specs.Events.{offered, wanted, refused, given, taken_out, closed, ended, head_of, after_want, after_refusal, after_give, after_opening, after_closing, after_move, refusal_at, takes_in_hand, closed_by, with_node, made_by, after};
+ghost use Rattle.flow_link.specs.declared.phase.Move.TheVariants.{Give};
+ghost use Rattle.flow_net.specs.Seen.{works_of};
+ghost use Rattle.flow_net.specs.Parts.{line_at, node_at};
+ghost use Rattle.flow_net.specs.Stage.{refusal_of};
+ghost use Rattle.flow_net.specs.There.{SourceIsThere, TargetIsThere, IsPort, MayHappen, Fits};
+ghost use Rattle.flow_net.specs.declared.fault.NetFault.TheVariants.{Memory};
+
+use crate::event::Event;
+use crate::fault::NetFault;
+use crate::parts::{Line, Node, Parts};
+use crate::stage::{Refusal, SourceStage, TargetStage};
+use flow_link::{BlockKind, Link, LinkEnd, LinkSource, LinkTarget, Move, Phase, Plan};
+use flow_value::{MessageHeader, Parcel, Work};
+use std::alloc::Global;
+use std::mem;
+
+impl Line {
+    /// The source offers a message.
+    fn offer(&mut self, header: MessageHeader)
+        ensures { self.new ≡ offered header self.old }
+    {
+        self.state.phase = Phase::Offered(header);
+        self.source = SourceStage::Out(header);
+        self.target = TargetStage::Offered(header);
+    }
+
+    /// The target wants the message that is offered.
+    fn want(&mut self, header: MessageHeader)
+        ensures { self.new ≡ wanted header self.old }
+    {
+        self.state.phase = Phase::Wanted(header);
+        self.target = TargetStage::Accepted(header);
+        self.source = SourceStage::Accepted(header);
+    }
+
+    /// The target takes no message any more.
+    fn refuse(&mut self, why: Refusal)
+        ensures { self.new ≡ refused (refusal_of why) self.old }
+    {
+        self.state.phase = Phase::Refused;
+        self.target = TargetStage::Refused(why);
+        self.source = SourceStage::Refused;
+    }
+
+    /// The source lays the message into the slot.
+    fn give(&mut self, header: MessageHeader, parcel: Parcel)
+        ensures { self.new ≡ given header parcel self.old }
+    {
+        self.state.slot = Some(parcel);
+        self.state.phase = Phase::Given(header);
+        self.source = SourceStage::Crossing;
+        self.last = Some(header);
+        self.target = TargetStage::Arrived(header);
+    }
+
+    /// The target takes the message out of the slot, and has it in hand.
+    fn open(&mut self, header: MessageHeader)
+        ensures { self.new ≡ taken_out header self.old.slot self.old }
+    {
+        if let Some(parcel) = self.state.slot.take() {
+            self.state.phase = Phase::Opened(header);
+            self.target = TargetStage::Hand(header, parcel);
+        }
+    }
+
+    /// The source ends the link.
+    fn end(&mut self, how: LinkEnd)
+        ensures { self.new ≡ ended how self.old }
+    {
+        self.state.phase = Phase::Ended(how);
+        self.source = SourceStage::Ended(how);
+        self.target = TargetStage::Ended(how);
+    }
+}
+
+impl Node {
+    /// Takes the message that this link has in hand for it.
+    fn take_in_hand(&mut self, port: u32, link: usize, line: &mut Line) -> Result<(), NetFault>
+        ensures taken { OnOk result (self.new ≡ takes_in_hand port link line.old.target self.old) }
+        ensures closed { OnOk result (line.new ≡ closed_by line.old.target line.old) }
+        ensures kept { OnErr result (self.new ≡ self.old) }
+        ensures memory { IfErr result (λ fault. fault ≡ Memory) }
+        ensures still_there { OnErr result (line.new ≡ line.old) }
+    {
+        match mem::replace(&mut line.target, TargetStage::Free) {
+            TargetStage::Hand(header, parcel) => match self.take(port, link, parcel) {
+                Ok(()) => {
+                    line.state.phase = Phase::Idle;
+                    line.source = SourceStage::Free;
+                    Ok(())
+                }
+                Err(parcel) => {
+                    line.target = TargetStage::Hand(header, parcel);
+                    Err(NetFault::Memory)
+                }
+            },
+            other => {
+                line.target = other;
+                Ok(())
+            }
+        }
+    }
+}
+
+impl Parts {
+    /// The target of this link wants the message that is offered.
+    fn want(&mut self, id: usize)
+        requires { id < length self.old.lines }
+        ensures { self.new ≡ after_want self.old id (line_at self.old id).phase }
+    {
+        let phase = self.lines[id].state.phase;
+        if let Phase::Offered(header) = phase {
+            self.lines[id].want(header);
+        }
+    }
+
+    /// The target of this link takes no message any more.
+    fn refuse(&mut self, id: usize, target: LinkTarget)
+        requires { id < length self.old.lines }
+        ensures { self.new ≡ after_refusal self.old id (refusal_at self.old target) }
+    {
+        if let Some(why) = self.refusal(target) {
+            self.lines[id].refuse(why);
+        }
+    }
+
+    /// The source of this link gives what is first.
+    fn give(&mut self, alloc: Global, id: usize, source: LinkSource) -> Result<(), NetFault>
+        requires known { id < length self.old.lines }
+        requires there { SourceIsThere self.old source }
+        requires head { is_some (head_of self.old source) ≡ true }
+        ensures done { OnOk result (self.new ≡ after_give self.old id source (line_at self.old id).phase (head_of self.old source)) }
+        ensures kept { OnErr result (self.new ≡ self.old) }
+        ensures memory { IfErr result (λ fault. fault ≡ Memory) }
+    {
+        let header = match self.lines[id].state.phase {
+            Phase::Wanted(header) => header,
+            _ => return Ok(()),
+        };
+        let parcel = match source {
+            LinkSource::Block(number) => self.nodes[number].give(alloc, id)?,
+            LinkSource::Input(number) => match &mut self.feeds[number] {
+                Some(feed) => feed.send(alloc)?,
+                None => return Ok(()),
+            },
+        };
+        self.lines[id].give(header, parcel);
+        Ok(())
+    }
+
+    /// The target of this link takes the message out of the slot.
+    fn open(&mut self, id: usize)
+        requires { id < length self.old.lines }
+        ensures { self.new ≡ after_opening self.old id (line_at self.old id).phase (line_at self.old id).slot }
+    {
+        let phase = self.lines[id].state.phase;
+        if let Phase::Given(header) = phase {
+            self.lines[id].open(header);
+        }
+    }
+
+    /// The target of this link makes the message its own that it has in hand.
+    fn close(&mut self, id: usize, target: LinkTarget) -> Result<(), NetFault>
+        requires known { id < length self.old.lines }
+        requires there { TargetIsThere self.old target }
+        requires port { IsPort target }
+        ensures done { OnOk result (self.new ≡ after_closing self.old id target (line_at self.old id).target) }
+        ensures kept { OnErr result (self.new ≡ self.old) }
+        ensures memory { IfErr result (λ fault. fault ≡ Memory) }
+    {
+        match target {
+            LinkTarget::Port(number, port) => {
+                self.nodes[number].take_in_hand(port, id, &mut self.lines[id])
+            }
+            LinkTarget::Exit => Ok(()),
+        }
+    }
+
+    /// An end of this link makes its move, and the other end looks.
+    fn make_move(
+        &mut self,
+        alloc: Global,
+        id: usize,
+        link: &Link,
+        step: Move,
+    ) -> Result<(), NetFault>
+        requires known { id < length self.old.lines }
+        requires from { SourceIsThere self.old link.now.source }
+        requires to { TargetIsThere self.old link.now.target }
+        requires port { IsPort link.now.target }
+        requires head { step ≡ Give → is_some (head_of self.old link.now.source) ≡ true }
+        ensures done { OnOk result (self.new ≡ after_move self.old id link.now step) }
+        ensures kept { OnErr result (self.new ≡ self.old) }
+        ensures memory { IfErr result (λ fault. fault ≡ Memory) }
+    {
+        match step {
+            Move::Offer(header) => self.lines[id].offer(header),
+            Move::Want => self.want(id),
+            Move::Refuse => self.refuse(id, link.target),
+            Move::Give => return self.give(alloc, id, link.source),
+            Move::Open => self.open(id),
+            Move::Close => return self.close(id, link.target),
+            Move::End(how) => self.lines[id].end(how),
+            _ => {}
+        }
+        Ok(())
+    }
+
+    /// This block works on the next message that it holds.
+    fn make<W: Work>(
+        &mut self,
+        alloc: Global,
+        plan: &Plan<W>,
+        number: usize,
+    ) -> Result<(), NetFault>
+        requires known { number < length (layout_of plan.now).blocks }
+        requires there { number < length self.old.nodes }
+        ensures done { OnOk result (self.new ≡ with_node number (made_by (layout_of plan.now) (works_of W.meaning (layout_of plan.now)) self.old number) self.old) }
+        ensures kept { OnErr result (self.new ≡ self.old) }
+        ensures memory { IfErr result (λ fault. fault ≡ Memory) }
+    {
+        let block = plan.block(number);
+        if block.kind != BlockKind::Action {
+            return self.nodes[number].hand_on();
+        }
+        match &block.work {
+            Some(work) => self.nodes[number].apply(alloc, work),
+            None => self.nodes[number].keep(),
+        }
+    }
+
+    /// Does an event that may happen.
+    pub(crate) fn step<W: Work>(
+        &mut self,
+        alloc: Global,
+        plan: &Plan<W>,
+        event: Event,
+    ) -> Result<(), NetFault>
+        requires fits { Fits (layout_of plan.now) self.old }
+        requires enabled { MayHappen (layout_of plan.now) self.old event }
+        ensures done { OnOk result (self.new ≡ after (layout_of plan.now) (works_of W.meaning (layout_of plan.now)) self.old event) }
+        ensures kept { OnErr result (self.new ≡ self.old) }
+        ensures memory { IfErr result (λ fault. fault ≡ Memory) }
+    {
+        match event {
+            Event::Link(id, step) => self.make_move(alloc, id, &plan.link(id), step),
+            Event::Make(number) => self.make(alloc, plan, number),
+            Event::Complete(number, port) => self.nodes[number].complete(port),
+            Event::Fault(number) => match self.next_fault(&self.nodes[number]) {
+                Some(fault) => self.nodes[number].fail(fault),
+                None => Ok(()),
+            },
+            Event::Done(number) => self.nodes[number].finish(),
+        }
+    }
+}
