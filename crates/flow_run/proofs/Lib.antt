@@ -1,0 +1,10 @@
+pub mod BuildLemmas
+pub mod KeyLemmas
+pub mod PassLemmas
+pub mod PipelineLemmas
+pub mod PrintLemmas
+pub mod RecordLemmas
+pub mod ReportLemmas
+pub mod RunLemmas
+pub mod SoundLemmas
+pub mod SplitLemmas

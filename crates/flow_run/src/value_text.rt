@@ -1,0 +1,230 @@
+//! Prints values: numbers in decimal, texts between double quotes, rows and lists between brackets.
+ghost use Rattle.std.specs.Prelude.{◌≡◌, ◌<◌, ◌↔◌, [], ◌∷◌, ◌++◌, IsTrue, OnOk, List, ℕ};
+ghost use Rattle.std.specs.Io.KnownBytes.{Appends};
+ghost use Rattle.flow_run.specs.Printed.{hex_digit, escaped, escapes, quoted, value_text, list_text, comma_unless};
+
+use flow_value::Value;
+use itoa::Buffer;
+use std::io;
+use std::io::Write;
+
+// Whether the byte stands for itself in a printed text.
+fn is_plain(byte: u8) -> bool
+    ensures { IsTrue result ↔ (escaped byte ≡ byte ∷ []) }
+{
+    byte >= 32 && byte != b'"' && byte != b'\\' && byte != 127
+}
+
+fn hex_digit_of(number: u8) -> u8
+    requires { number < 16 }
+    ensures { result ≡ hex_digit number }
+{
+    if number < 10 {
+        b'0' + number
+    } else {
+        b'a' - 10 + number
+    }
+}
+
+fn write_escaped<W: Write>(writer: &mut W, byte: u8) -> io::Result<()>
+    ensures { OnOk result (Appends (W.contents writer.old) (W.contents writer.new) (escaped byte)) }
+{
+    match byte {
+        b'"' | b'\\' => writer.write_all(&[b'\\', byte]),
+        0..=31 | 127 => {
+            writer.write_all(&[
+                b'\\',
+                b'x',
+                hex_digit_of(byte / 16),
+                hex_digit_of(byte % 16),
+            ])
+        }
+        _ => writer.write_all(&[byte]),
+    }
+}
+
+fn write_escapes<W: Write>(writer: &mut W, text: &[u8]) -> io::Result<()>
+    ensures { OnOk result (Appends (W.contents writer.old) (W.contents writer.new) (escapes text.now)) }
+{
+    // what stands before this place is written
+    let mut start = 0;
+    for (at, byte) in text.iter().enumerate() {
+        if !is_plain(*byte) {
+            writer.write_all(&text[start..at])?;
+            write_escaped(writer, *byte)?;
+            start = at + 1;
+        }
+    }
+    writer.write_all(&text[start..])
+}
+
+fn write_quoted<W: Write>(writer: &mut W, text: &str) -> io::Result<()>
+    ensures { OnOk result (Appends (W.contents writer.old) (W.contents writer.new) (quoted text.now)) }
+{
+    writer.write_all(b"\"")?;
+    write_escapes(writer, text.as_bytes())?;
+    writer.write_all(b"\"")
+}
+
+/// Writes the value.
+#[cycle(printing)]
+pub(crate) fn write_value<W: Write>(writer: &mut W, value: &Value) -> io::Result<()>
+    ensures { OnOk result (Appends (W.contents writer.old) (W.contents writer.new) (value_text value.now)) }
+{
+    match value {
+        Value::Int(number) => writer.write_all(Buffer::new().format(*number).as_bytes()),
+        Value::Text(text) => write_quoted(writer, text.as_str()),
+        Value::Row(row) => write_values(writer, row.items()),
+    }
+}
+
+/// Writes the value as an item of a list: with a comma before it, unless it is the first.
+#[cycle(printing)]
+pub(crate) fn write_item<W: Write>(writer: &mut W, is_first: bool, value: &Value) -> io::Result<()>
+    ensures { OnOk result (Appends (W.contents writer.old) (W.contents writer.new) (comma_unless is_first ++ value_text value.now)) }
+{
+    if !is_first {
+        writer.write_all(b",")?;
+    }
+    write_value(writer, value)
+}
+
+/// Writes the list of these values.
+#[cycle(printing)]
+pub(crate) fn write_values<W: Write>(writer: &mut W, values: &[Value]) -> io::Result<()>
+    ensures { OnOk result (Appends (W.contents writer.old) (W.contents writer.new) (list_text values.now)) }
+{
+    writer.write_all(b"[")?;
+    for (at, value) in values.iter().enumerate() {
+        write_item(writer, at == 0, value)?;
+    }
+    writer.write_all(b"]")
+}
+
+#[cfg(test)]
+mod tests {
+    use super::*;
+    use flow_value::{Row, Text};
+    use std::alloc::Global;
+    use std::process::Abort;
+    use std::test::Fail;
+
+    fn is_printed<R: Abort>(
+        rt: &R,
+        alloc: Global,
+        value: &Value,
+        expected: &str,
+    ) -> Result<(), Fail> {
+        let mut printed = Vec::new(alloc);
+        write_value(&mut printed, value)?;
+        assert_eq!(rt; printed.as_slice(), expected.as_bytes());
+        Ok(())
+    }
+
+    #[test]
+    fn numbers_are_decimal(rt: HostRuntime) -> Result<(), Fail> {
+        is_printed(&rt, rt.alloc(), &Value::Int(0), "0")?;
+        is_printed(&rt, rt.alloc(), &Value::Int(-17), "-17")?;
+        is_printed(
+            &rt,
+            rt.alloc(),
+            &Value::Int(i64::MIN),
+            "-9223372036854775808",
+        )?;
+        is_printed(
+            &rt,
+            rt.alloc(),
+            &Value::Int(i64::MAX),
+            "9223372036854775807",
+        )
+    }
+
+    const TEXTS: &[(&str, &str)] = &[
+        ("", "\"\""),
+        ("plain text", "\"plain text\""),
+        ("a\"b", "\"a\\\"b\""),
+        ("a\\b", "\"a\\\\b\""),
+        ("\n", "\"\\x0a\""),
+        ("\0x\x1f", "\"\\x00x\\x1f\""),
+        ("\x7f", "\"\\x7f\""),
+        (" ~", "\" ~\""),
+        ("h\u{e9}\u{1f600}", "\"h\u{e9}\u{1f600}\""),
+    ];
+
+    #[test]
+    fn texts_are_quoted(rt: HostRuntime) -> Result<(), Fail> {
+        for (text, expected) in TEXTS {
+            is_printed(
+                &rt,
+                rt.alloc(),
+                &Value::Text(Text::from_str(rt.alloc(), text)?),
+                expected,
+            )?;
+        }
+        Ok(())
+    }
+
+    #[test]
+    fn each_control_character_is_escaped(rt: HostRuntime) -> Result<(), Fail> {
+        for byte in 0..32u8 {
+            let mut printed = Vec::new(rt.alloc());
+            write_escapes(&mut printed, &[byte])?;
+            let expected = format!(in rt.alloc(); "\\x{byte:02x}")?;
+            assert_eq!(rt; printed.as_slice(), expected.as_bytes());
+        }
+        Ok(())
+    }
+
+    #[test]
+    fn rows_are_bracketed(rt: HostRuntime) -> Result<(), Fail> {
+        let alloc = rt.alloc();
+        is_printed(&rt, alloc, &Value::Row(Row::new(Vec::new(alloc))), "[]")?;
+        let mut inner = Vec::new(alloc);
+        inner.push(Value::Int(2))?;
+        inner.push(Value::Text(Text::from_str(alloc, ",]")?))?;
+        let mut outer = Vec::new(alloc);
+        outer.push(Value::Int(1))?;
+        outer.push(Value::Row(Row::new(inner)))?;
+        outer.push(Value::Row(Row::new(Vec::new(alloc))))?;
+        is_printed(
+            &rt,
+            alloc,
+            &Value::Row(Row::new(outer)),
+            "[1,[2,\",]\"],[]]",
+        )
+    }
+
+    // Takes so many bytes, and then fails.
+    #[derive(Drop)]
+    struct Full {
+        room: usize,
+    }
+
+    impl Write for Full {
+        fn write(&mut self, buf: &[u8]) -> io::Result<usize> {
+            if buf.len() > self.room {
+                return Err(io::Error::from(io::ErrorKind::BrokenPipe));
+            }
+            self.room -= buf.len();
+            Ok(buf.len())
+        }
+
+        fn flush(&mut self) -> io::Result<()> {
+            Ok(())
+        }
+    }
+
+    // The printed list has 12 bytes.
+    #[test]
+    fn a_full_writer_is_told(rt: HostRuntime) -> Result<(), Fail> {
+        let values = [
+            Value::Int(10),
+            Value::Text(Text::from_str(rt.alloc(), "a\n")?),
+        ];
+        for room in 0..12 {
+            assert!(rt; write_values(&mut Full { room }, &values).is_err());
+        }
+        assert!(rt; write_values(&mut Full { room: 12 }, &values).is_ok());
+        Ok(())
+    }
+}
