@@ -1,0 +1,35 @@
+-- What `parse` makes of digits alone.
+use Rattle.std.proofs.Common.{◌≡◌, ℕ, ◌<◌, ◌^◌, List, length, Bool, true, false, refl, ◌∙◌, ap, rules, cond, ◌&&◌, Err, Some, None, sym}
+use Rattle.std.specs.Char.{is_ascii_digit}
+use Rattle.std.specs.List.{list_all}
+use Rattle.std.specs.Str.Parse.{digits_value, ParsesUnsigned}
+use Rattle.std.proofs.lemmas.Bool.Decides.{Decides-ltb}
+use Rattle.std.proofs.lemmas.Str.Parse.{IsNumeralModel, numerals_by_value, parse_digits}
+use Rattle.flow_cli.specs.Number.{is_digits, in_64_bits, number_of}
+
+numerals : IsNumeralModel (λ ds. list_all is_ascii_digit ds ≡ true) (digits_value 10)
+numerals = numerals_by_value _ (search rules)
+
+both_true : (a b : Bool) → (a && b) ≡ true → (a ≡ true) × (b ≡ true)
+both_true true true e = (refl, refl)
+both_true true false e = cc
+both_true false b e = cc
+
+not_true : (b : Bool) → (b ≡ true → ⊥) → b ≡ false
+not_true true h = absurd (h refl)
+not_true false h = refl
+
+-- a text that is not empty is all digits where each byte is one
+pub all_of_some : (bs : List ℕ) → 0 < length bs → is_digits bs ≡ list_all is_ascii_digit bs
+all_of_some bs some = ap (λ b. b && list_all is_ascii_digit bs) ((Decides-ltb 0 (length bs)).1 some)
+
+-- digits that `parse` refuses are past 64 bits
+pub number_of-refused : {E : Type 0} (bs : List ℕ) (error : E) → is_digits bs ≡ true → ParsesUnsigned 64 10 bs (Err error) → None ≡ number_of bs
+number_of-refused bs error digits refused =
+    let both = both_true _ _ digits in
+    let some : 0 < length bs = (Decides-ltb 0 (length bs)).0 both.0 in
+    let over : digits_value 10 bs < 2 ^ 64 → ⊥ = λ fits. parse_digits numerals 64 bs (Err error) refused both.1 (some, fits) in
+    let none : number_of bs ≡ None =
+    ap (λ b. cond b (in_64_bits (digits_value 10 bs)) None) digits
+    ∙ ap (λ b. cond b (Some (digits_value 10 bs)) None) (not_true _ (λ e. over ((Decides-ltb (digits_value 10 bs) (2 ^ 64)).0 e))) in
+    sym none

@@ -1,0 +1,5 @@
+pub mod Ending
+pub mod Failure
+pub mod Number
+pub mod Reported
+pub mod Request

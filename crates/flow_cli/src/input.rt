@@ -1,0 +1,99 @@
+//! Runs a network over records, from standard input and files to standard output, both buffered.
+ghost use Rattle.std.specs.Prelude.{◌≡◌, IfOk, IfErr, IfSome};
+ghost use Rattle.std.specs.Io.KnownBytes.{Appends};
+ghost use Rattle.flow_run.specs.Ran.{IsReported};
+ghost use Rattle.flow_cli.specs.Failure.{unread_refusal, IsUnread};
+ghost use Rattle.flow_cli.specs.Reported.{IsReportedIn};
+ghost use Rattle.flow_cli.specs.Request.{IsCrew};
+
+use crate::request::{Bounds, DEFAULT_BOUNDS};
+use flow_run::{Ran, RunRefusal, TextFault, run, split_input};
+use std::alloc::Global;
+use std::fs::Files;
+use std::io::{BufReader, BufWriter, ErrorKind, Input, Read, Write};
+use std::{fs, io};
+
+/// Runs the network in this file over the records in standard input.
+pub fn run_file<R: Files + Input + Print + AllocGlobal>(
+    rt: &R,
+    path: &str,
+    bounds: Bounds,
+) -> Result<Ran, RunRefusal>
+    requires { IsCrew bounds.workers }
+{
+    let plan = fs::read(rt, path).map_err(|error| unread(&error))?;
+    let records = BufReader::new(rt.alloc(), rt.reader()).map_err(|error| unread(&error))?;
+    let (ran, _) = run_buffered(rt.alloc(), &plan, records, io::writer(rt), bounds)?;
+    Ok(ran)
+}
+
+/// Runs the network at the beginning of what is read over the records behind it.
+///
+/// The writer comes back when all is written.
+pub fn run_input<R: Read + Drop, W: Write + Drop>(
+    alloc: Global,
+    reader: R,
+    writer: W,
+) -> Result<(Ran, W), RunRefusal>
+    ensures { IfOk result (λ done. IsReportedIn (R.remaining reader)
+        (Appends (W.contents writer) (W.contents done.1)) done.0.settled) }
+{
+    let text = whole_input(alloc, reader)?;
+    let (plan, records) = split_input(&text);
+    run_buffered(alloc, plan, records, writer, DEFAULT_BOUNDS)
+}
+
+/// All that is read.
+fn whole_input<R: Read + Drop>(alloc: Global, mut reader: R) -> Result<Vec<u8>, RunRefusal>
+    ensures whole { IfOk result (λ text. IfSome (R.remaining reader) (λ bytes. text.items ≡ bytes)) }
+    ensures refused { IfErr result IsUnread }
+{
+    let mut text = Vec::new(alloc);
+    match reader.read_to_end(&mut text) {
+        Ok(_) => Ok(text),
+        Err(error) => Err(unread(&error)),
+    }
+}
+
+/// Runs a network, and writes its report through a buffer. The writer comes back when all is written.
+fn run_buffered<R: Read + Drop, W: Write + Drop>(
+    alloc: Global,
+    plan: &[u8],
+    records: R,
+    writer: W,
+    bounds: Bounds,
+) -> Result<(Ran, W), RunRefusal>
+    requires { IsCrew bounds.workers }
+    ensures { IfOk result (λ done. IsReported (R.remaining records)
+        (Appends (W.contents writer) (W.contents done.1)) done.0.settled) }
+{
+    let Ok(mut buffer) = BufWriter::new(alloc, writer) else {
+        return Err(RunRefusal::Memory);
+    };
+    let ran = run(
+        alloc,
+        plan,
+        records,
+        &mut buffer,
+        bounds.workers,
+        bounds.limit,
+    )?;
+    match buffer.into_inner() {
+        Ok(writer) => Ok((ran, writer)),
+        Err(_) => Err(RunRefusal::Text(TextFault::Write)),
+    }
+}
+
+/// What a failure to read comes to: want of memory is told as such.
+pub fn unread(error: &io::Error) -> RunRefusal
+    ensures refusal { result ≡ unread_refusal error.now }
+    ensures unread { IsUnread result }
+{
+    match error.kind() {
+        ErrorKind::OutOfMemory => RunRefusal::Memory,
+        _ => RunRefusal::Text(TextFault::Read),
+    }
+}
+
+#[cfg(test)]
+mod tests;
