@@ -174,19 +174,19 @@ module _ {W : Type 0} (blocks : List (BlockDef W)) (links : List LinkDef) where
       first_of_two (stands_now blocks links) (λ b. BadOption (Block b)) (λ l. BadOption (at_link l)) (length blocks) (length links) block link
       (bad_block_by_position blocks links ∙ eb) el
 
-none_front : {A : Type 0} (x y : Option A) → option_or x y ≡ None → x ≡ None
+pub none_front : {A : Type 0} (x y : Option A) → option_or x y ≡ None → x ≡ None
 none_front None y e = refl
 none_front (Some a) y e = cc
 
-none_back : {A : Type 0} (x y : Option A) → option_or x y ≡ None → y ≡ None
+pub none_back : {A : Type 0} (x y : Option A) → option_or x y ≡ None → y ≡ None
 none_back None y e = e
 none_back (Some a) y e = cc
 
-none_behind : {A : Type 0} (b : Bool) (x : A) (o : Option A) → cond b (Some x) o ≡ None → o ≡ None
+pub none_behind : {A : Type 0} (b : Bool) (x : A) (o : Option A) → cond b (Some x) o ≡ None → o ≡ None
 none_behind true x o e = cc
 none_behind false x o e = e
 
-none_image : {A B : Type 0} (image : A → B) (x : Option A) → option_map image x ≡ None → x ≡ None
+pub none_image : {A B : Type 0} (image : A → B) (x : Option A) → option_map image x ≡ None → x ≡ None
 none_image image None e = refl
 none_image image (Some a) e = cc
 

@@ -81,7 +81,7 @@ none_step : {A : Type 0} (b : Bool) (x : A) (o : Option A) → cond b (Some x) o
 none_step true x o e = absurd (option_is_some x (sym e))
 none_step false x o e = (refl, e)
 
-neither : (a b : Bool) → (a || b) ≡ false → (a ≡ false) × (b ≡ false)
+pub neither : (a b : Bool) → (a || b) ≡ false → (a ≡ false) × (b ≡ false)
 neither true b e = (e, absurd (true_is_false e))
 neither false b e = (refl, e)
 

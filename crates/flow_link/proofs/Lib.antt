@@ -1,3 +1,4 @@
+pub mod BuiltLemmas
 pub mod CheckLemmas
 pub mod ComposeLemmas
 pub mod CopyLemmas

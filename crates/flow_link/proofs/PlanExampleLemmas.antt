@@ -5,6 +5,10 @@ use Rattle.flow_link.specs.PlanExamples.{FaultsOfDrafts}
 pub faults_of_drafts : FaultsOfDrafts
 faults_of_drafts = record {
   fine = refl;
+  blocks_past_limit = refl;
+  blocks_at_limit = refl;
+  links_past_limit = refl;
+  links_at_limit = refl;
   same_name = refl;
   unknown = refl;
   no_port = refl;

@@ -1,3 +1,4 @@
+pub mod Built
 pub mod Composes
 pub mod Copies
 pub mod Endings

@@ -3,7 +3,7 @@ use Rattle.std.specs.Prelude.{ℕ, ◌==◌, Bool, true, false, not, ◌&&◌, �
 use Rattle.flow_link.specs.declared.draft.BlockDef.{BlockDef}
 use Rattle.flow_link.specs.declared.draft.LinkDef.{LinkDef}
 use Rattle.flow_link.specs.declared.draft.BlockKind.{BlockKind}
-use Rattle.flow_link.specs.declared.draft.BlockKind.TheVariants.{Buffer, Action}
+use Rattle.flow_link.specs.declared.draft.BlockKind.TheVariants.{Buffer, Action, Transform}
 use Rattle.flow_link.specs.declared.plan.Link.{Link}
 use Rattle.flow_link.specs.declared.plan.LinkSource.{LinkSource}
 use Rattle.flow_link.specs.declared.plan.LinkSource.TheVariants.{Block as at_block, Input}
@@ -19,6 +19,7 @@ use Rattle.flow_link.specs.PlanFaults.{stands, options_fit, faults_in_order, res
 abbrev pub is_built_kind : BlockKind → Bool
 is_built_kind Buffer = true
 is_built_kind Action = true
+is_built_kind Transform = true
 is_built_kind _ = false
 
 -- room without bound, one job at once, and nothing that the caller receives

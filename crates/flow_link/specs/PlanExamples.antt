@@ -1,11 +1,11 @@
 -- Small drafts with what is wrong with each, and one with nothing wrong.
-use Rattle.std.specs.Prelude.{◌≡◌, ℕ, List, [], ◌∷◌, Some, None, true}
+use Rattle.std.specs.Prelude.{◌≡◌, ℕ, List, [], ◌∷◌, replicate, Some, None, true}
 use Rattle.flow_link.specs.declared.draft.BlockDef.{BlockDef}
 use Rattle.flow_link.specs.declared.draft.LinkDef.{LinkDef}
 use Rattle.flow_link.specs.declared.draft.BlockKind.TheVariants.{Buffer, Action, Batch, Join}
 use Rattle.flow_link.specs.declared.plan.Place.TheVariants.{Block, Link as at_link}
 use Rattle.flow_link.specs.declared.plan.PlanFault.{PlanFault}
-use Rattle.flow_link.specs.declared.plan.PlanFault.TheVariants.{DuplicateName, UnknownBlock, Port, NoOutput, BadOption, CapacityBelowSize, SharedSource, Cycle}
+use Rattle.flow_link.specs.declared.plan.PlanFault.TheVariants.{Limit, DuplicateName, UnknownBlock, Port, NoOutput, BadOption, CapacityBelowSize, SharedSource, Cycle}
 use Rattle.flow_link.specs.PlanFaults.{first_plan_fault}
 use Rattle.flow_link.specs.Examples.{Work, block, with_input, with_size, with_capacity, reserving_join}
 
@@ -37,6 +37,11 @@ IsFine blocks links = first_plan_fault blocks links ≡ None
 
 pub record FaultsOfDrafts : Type 0 where
   pub fine : IsFine (with_input (buffer 97) ∷ action 98 ∷ []) (draft_link 97 98 ∷ [])
+  -- a draft has at most 256 blocks and 1,024 links, whatever else is wrong with it
+  pub blocks_past_limit : HasFirst (replicate 257 (buffer 97)) [] Limit
+  pub blocks_at_limit : HasFirst (replicate 256 (buffer 97)) [] (DuplicateName 1)
+  pub links_past_limit : HasFirst (buffer 97 ∷ []) (replicate 1025 (draft_link 97 99)) Limit
+  pub links_at_limit : HasFirst (buffer 97 ∷ []) (replicate 1024 (draft_link 97 99)) (UnknownBlock 0)
   pub same_name : HasFirst (buffer 97 ∷ buffer 97 ∷ buffer 97 ∷ []) (draft_link 97 99 ∷ []) (DuplicateName 1)
   pub unknown : HasFirst (buffer 97 ∷ []) (draft_link 97 99 ∷ []) (UnknownBlock 0)
   pub no_port : HasFirst (buffer 97 ∷ buffer 98 ∷ []) (into_port 1 (draft_link 97 98) ∷ []) (Port 0)

@@ -2,7 +2,7 @@
 //!
 //! For one block after another a row says from which blocks a walk leads to it. Each round allows walks of one link
 //! more, and after as many rounds as there are blocks no longer walk is of interest.
-ghost use Rattle.std.specs.Prelude.{◌≡◌, ◌<◌, ◌&&◌, ◌||◌, true, false, length, slice_index_or, EachIndex, IfOk};
+ghost use Rattle.std.specs.Prelude.{◌≡◌, ◌<◌, ◌↔◌, ◌&&◌, ◌||◌, true, false, length, slice_index_or, EachIndex, IfOk};
 ghost use Rattle.flow_link.specs.Lists.{some, below};
 ghost use Rattle.flow_link.specs.Plan.{begins_at};
 ghost use Rattle.flow_link.specs.PlanFaults.{walks};
@@ -43,7 +43,7 @@ fn leads_back(links: &[Link], block: usize, row: &mut [bool], next: &mut [bool])
 }
 
 fn is_same(row: &[bool], next: &[bool]) -> bool
-    ensures { result ≡ true → next.now ≡ row.now }
+    ensures { result ≡ true ↔ next.now ≡ row.now }
 {
     row == next
 }

@@ -63,7 +63,10 @@ pub fn port_count(kind: BlockKind, ports: Option<u32>) -> u32
 fn is_built_kind(kind: BlockKind) -> bool
     ensures { result ≡ is_built_kind kind }
 {
-    matches!(kind, BlockKind::Buffer | BlockKind::Action)
+    matches!(
+        kind,
+        BlockKind::Buffer | BlockKind::Action | BlockKind::Transform
+    )
 }
 
 #[tactic(auto, using(crate::proofs::CheckLemmas::all_is_every))]

@@ -1,6 +1,7 @@
 //! A network that was checked: its blocks and links by their numbers, and what can be wrong with a draft.
 ghost use Rattle.std.specs.Prelude.{◌≡◌, ◌<◌, length, HoldsAt, position};
 ghost use Rattle.std.specs.Str.{bytes_eq};
+ghost use Rattle.flow_link.specs.Built.{IsBuilt};
 ghost use Rattle.flow_link.specs.Fault.{fault_number};
 ghost use Rattle.flow_link.specs.Layout.{IsLaidOut};
 ghost use Rattle.std.specs.Coded.{codes};
@@ -94,12 +95,13 @@ impl PlanFault {
 /// A network that was checked.
 ///
 /// Blocks have the numbers of their places in the draft. So have links; after them comes a link for each input, and then
-/// one for each exit, both in the order of their blocks. Contracts see the plan as its layout.
+/// one for each exit, both in the order of their blocks. Contracts see the plan as its layout. It uses only what is built.
 #[derive(Drop)]
 pub struct Plan<W> {
     blocks: Vec<BlockDef<W>>,
     links: Vec<Link>,
     ghost laid_out: { IsLaidOut blocks.items links.items } by { Prim.hlevel (codes, link.the_row.coded) },
+    ghost built: { IsBuilt blocks.items links.items } by { Prim.hlevel (codes, link.the_row.coded) },
 }
 
 impl<W> Plan<W> {
@@ -107,7 +109,8 @@ impl<W> Plan<W> {
 
     /// The plan with these blocks and links.
     pub(crate) fn new(blocks: Vec<BlockDef<W>>, links: Vec<Link>) -> Plan<W>
-        requires { IsLaidOut blocks.items links.items }
+        requires laid_out { IsLaidOut blocks.items links.items }
+        requires built { IsBuilt blocks.items links.items }
         ensures blocks { (layout_of result).blocks ≡ blocks.items }
         ensures links { (layout_of result).links ≡ links.items }
     {

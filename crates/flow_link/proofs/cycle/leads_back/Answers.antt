@@ -28,6 +28,6 @@ returns c =
     elim c.loop-round-test.branch [
       | else-loop-round-test w ↦ finished c.args.links.now c.args.block row c.loop-round._round c.loop-round.invariant.round (omega arith) low
       | then-loop-round-test+then-is_same w ↦ settled c.args.links.now c.args.block row w.lengthen.new.next c.loop-round._round c.loop-round.invariant.round
-          (w.is_same.ensures w.if-is_same.true) w.lengthen.ensures (omega arith) low
+          (w.is_same.ensures.0 w.if-is_same.true) w.lengthen.ensures (omega arith) low
     ] in
     reached ∙ ap (λ n. walks c.args.links.now n n c.args.block c.args.block) kept
