@@ -1,5 +1,5 @@
--- Where an event leaves a link alone, the link stays in order; and what one more mark or value changes of a link.
-use Rattle.std.proofs.Common.{◌≡◌, ◌≢◌, ℕ, zero, suc, ◌==◌, ◌<◌, ◌≤◌, ◌&&◌, Bool, true, cond, is_none, List, [], ◌∷◌, ◌++◌, ◌⊎◌, length, get_or, set, take, map, is_some, Option, Some, None, refl, ap, sym, subst, ◌∙◌, arith, ⊎_elim, append-nil, eq-eqb, ne_eqb}
+-- Where an event leaves a link alone, the link keeps what it did; and what one more mark or value changes of a link.
+use Rattle.std.proofs.Common.{◌≡◌, ◌≢◌, ℕ, zero, suc, ◌==◌, ◌<◌, ◌≤◌, Bool, true, cond, List, [], ◌∷◌, ◌++◌, ◌⊎◌, length, get_or, set, take, map, is_some, Option, Some, None, refl, ap, sym, subst, ◌∙◌, arith, ⊎_elim, append-nil, eq-eqb, ne_eqb}
 use Rattle.flow_value.specs.When.{admits}
 use Rattle.flow_value.specs.declared.value.Value.{Value}
 use Rattle.flow_link.specs.declared.plan.LinkSource.{LinkSource}
@@ -8,15 +8,16 @@ use Rattle.flow_link.specs.declared.plan.LinkTarget.{LinkTarget}
 use Rattle.flow_link.specs.declared.plan.LinkTarget.TheVariants.{Port, Exit}
 use Rattle.flow_link.specs.declared.trace.Mark.{Mark}
 use Rattle.flow_link.specs.declared.trace.Mark.TheVariants.{Took, Gave}
+use Rattle.flow_link.specs.Composes.{is_coming}
 use Rattle.flow_link.specs.JournalGrows.{taken_by_mark, given_by_mark}
 use Rattle.flow_link.specs.Layout.{Layout}
 use Rattle.flow_link.specs.Lists.{every}
 use Rattle.flow_link.specs.Plan.{link_in}
 use Rattle.flow_link.specs.Trace.{gave_over, took_over}
 use Rattle.flow_link.proofs.JournalLemmas.{gave_more, took_more}
-use Rattle.flow_net.specs.Events.{value_at, first_of, is_any, is_number, takes_part, kind_in, head_of, serves, serves_from, serves_to}
+use Rattle.flow_net.specs.Events.{value_at, first_of, head_of, offer_of, expects_at}
 use Rattle.flow_net.specs.Keeps.{Keeps, LineKeeps, GivesAdmitted, facts_in, awaits_head}
-use Rattle.flow_net.specs.Parts.{FeedState, LineState, PartsState, node_at, feed_at, line_at}
+use Rattle.flow_net.specs.Parts.{NodeState, FeedState, LineState, PartsState, node_at, feed_at, line_at}
 use Rattle.flow_net.specs.Seen.{given_from, taken_into, sent_by}
 use Rattle.flow_net.proofs.LineMoves.{IsKept}
 
@@ -28,13 +29,13 @@ field_set f (y ∷ ys) zero (suc j) x d e = refl
 field_set f (y ∷ ys) (suc i) zero x d e = refl
 field_set f (y ∷ ys) (suc i) (suc j) x d e = field_set f ys i j x d e
 
--- so does a fact that the new element has of the old one
-pub relation_set : {A : Type 0} (R : A → A → Type 0) (xs : List A) (i j : ℕ) (x d : A) → ((a : A) → R a a) → R (get_or xs i d) x → R (get_or xs j d) (get_or (set xs i x) j d)
-relation_set R [] i j x d same e = same d
-relation_set R (y ∷ ys) zero zero x d same e = e
-relation_set R (y ∷ ys) zero (suc j) x d same e = same (get_or ys j d)
-relation_set R (y ∷ ys) (suc i) zero x d same e = same y
-relation_set R (y ∷ ys) (suc i) (suc j) x d same e = relation_set R ys i j x d same e
+-- what holds of an element holds yet where the element that is put in has it from the old one
+pub element_set : {A : Type 0} (P : A → Type 0) (xs : List A) (i j : ℕ) (x d : A) → (j ≡ i → P (get_or xs i d) → P x) → P (get_or xs j d) → P (get_or (set xs i x) j d)
+element_set P [] i j x d step has = has
+element_set P (y ∷ ys) zero zero x d step has = step refl has
+element_set P (y ∷ ys) zero (suc j) x d step has = has
+element_set P (y ∷ ys) (suc i) zero x d step has = has
+element_set P (y ∷ ys) (suc i) (suc j) x d step has = element_set P ys i j x d (λ same. step (ap suc same)) has
 
 -- no value of a mark crosses this link
 pub gave_nothing : (k : ℕ) (marks : List Mark) (mark : Mark) → given_by_mark (λ link. link == k) mark ≡ [] → gave_over k (marks ++ mark ∷ []) ≡ gave_over k marks
@@ -74,14 +75,29 @@ value_within [] n value e = absurd (cc)
 value_within (v ∷ values) zero value e = omega arith
 value_within (v ∷ values) (suc n) value e = let rest = value_within values n value e in omega arith
 
+-- a message is next, and is made ready
+pub record IsPrepared (head offer : Option Value) : Type 0 where
+  pub there : is_some head ≡ true
+  pub ready : offer ≡ head
+
+abbrev pub NodeIsPrepared : NodeState → Type 0
+NodeIsPrepared node = IsPrepared (first_of node.left) node.offer
+
+abbrev pub FeedIsPrepared : Option FeedState → Type 0
+FeedIsPrepared feed = IsPrepared (elim feed [ None ↦ None | Some f ↦ value_at f.posted f.sent ]) (elim feed [ None ↦ None | Some f ↦ f.offer ])
+
+abbrev pub SourceIsPrepared : PartsState → LinkSource → Type 0
+SourceIsPrepared parts source = IsPrepared (head_of parts source) (offer_of parts source)
+
 module _ {W : Type 0} (layout : Layout W) where
   module _ (old new : PartsState) (k : ℕ) where
-    -- the link's line, and what both ends know of it, stay
+    -- the link's line, and what both ends know of it, stay; what its source has ready and its target has room for is there yet
     pub record IsLeftAlone : Type 0 where
       pub line : line_at new k ≡ line_at old k
       pub given : given_from layout new k (link_in layout.links k).source ≡ given_from layout old k (link_in layout.links k).source
       pub taken : taken_into layout new k (link_in layout.links k).target ≡ taken_into layout old k (link_in layout.links k).target
-      pub head : serves layout old k ≡ true → is_some (head_of old (link_in layout.links k).source) ≡ true → is_some (head_of new (link_in layout.links k).source) ≡ true
+      pub head : SourceIsPrepared old (link_in layout.links k).source → SourceIsPrepared new (link_in layout.links k).source
+      pub room : expects_at old (link_in layout.links k).target ≡ true → expects_at new (link_in layout.links k).target ≡ true
 
   module _ (parts : PartsState) (k : ℕ) where
     -- the link keeps what all links keep
@@ -93,13 +109,17 @@ module _ {W : Type 0} (layout : Layout W) where
         → IsKept (facts_in layout k) (line_at parts k) (given_from layout parts k (link_in layout.links k).source) (taken_into layout parts k (link_in layout.links k).target)
     as_kept line = record { in_order = line.in_order; seen = line.seen; in_use = line.in_use }
 
+    pub as_prepared : LineKeeps layout parts k → awaits_head (line_at parts k).phase ≡ true → SourceIsPrepared parts (link_in layout.links k).source
+    as_prepared line awaits = let ready = line.head awaits in record { there = ready.there; ready = ready.ready }
+
     pub from_kept : (line : LineState) (gave took : List Value) → IsKept (facts_in layout k) line gave took
         → line_at parts k ≡ line
         → given_from layout parts k (link_in layout.links k).source ≡ gave
         → taken_into layout parts k (link_in layout.links k).target ≡ took
-        → (serves layout parts k ≡ true → awaits_head line.phase ≡ true → is_some (head_of parts (link_in layout.links k).source) ≡ true)
+        → (awaits_head line.phase ≡ true → SourceIsPrepared parts (link_in layout.links k).source)
+        → (is_coming line.target ≡ true → expects_at parts (link_in layout.links k).target ≡ true)
         → LineKeeps layout parts k
-    from_kept line gave took kept el eg et waits =
+    from_kept line gave took kept el eg et waits room =
         let now : IsKept (facts_in layout k) (line_at parts k) (given_from layout parts k (link_in layout.links k).source) (taken_into layout parts k (link_in layout.links k).target) =
         subst (λ (x : LineState). IsKept (facts_in layout k) x (given_from layout parts k (link_in layout.links k).source) (taken_into layout parts k (link_in layout.links k).target)) (sym el)
         (subst (λ (g : List Value). IsKept (facts_in layout k) line g (taken_into layout parts k (link_in layout.links k).target)) (sym eg)
@@ -108,7 +128,10 @@ module _ {W : Type 0} (layout : Layout W) where
           in_order = now.in_order;
           seen = now.seen;
           in_use = now.in_use;
-          head = λ serving awaits. waits serving (subst (λ (x : LineState). awaits_head x.phase ≡ true) el awaits);
+          head = λ awaits.
+              let prepared = waits (subst (λ (x : LineState). awaits_head x.phase ≡ true) el awaits) in
+              record { there = prepared.there; ready = prepared.ready };
+          room = λ comes. room (subst (λ (x : LineState). is_coming x.target ≡ true) el comes);
         }
 
   -- an event changes no count, and no block's links
@@ -120,27 +143,12 @@ module _ {W : Type 0} (layout : Layout W) where
     pub into : (b : ℕ) → (node_at new b).into ≡ (node_at old b).into
     pub out : (b : ℕ) → (node_at new b).out ≡ (node_at old b).out
 
-  -- so it serves the same links
-  serves_from_same : (old new : PartsState) (k : ℕ) (source : LinkSource) → IsShapedAs old new → serves_from new k source ≡ serves_from old k source
-  serves_from_same old new k (Block s) shape = ap (λ (link : Option ℕ). is_number k link) (shape.out s)
-  serves_from_same old new k (Input b) shape = refl
-
-  serves_to_same : (old new : PartsState) (k : ℕ) (target : LinkTarget) → IsShapedAs old new → serves_to layout new k target ≡ serves_to layout old k target
-  serves_to_same old new k (Port t p) shape =
-      ap (λ (link : Option ℕ). p == 0 && takes_part (kind_in layout t) && is_number k link) (shape.into t)
-  serves_to_same old new k Exit shape = refl
-
-  serves_same : (old new : PartsState) (k : ℕ) → IsShapedAs old new → serves layout new k ≡ serves layout old k
-  serves_same old new k shape =
-      let link = link_in layout.links k in
-      ap (λ (b : Bool). is_any link.when && is_none link.max && b && serves_to layout new k link.target) (serves_from_same old new k link.source shape)
-      ∙ ap (λ (b : Bool). is_any link.when && is_none link.max && serves_from old k link.source && b) (serves_to_same old new k link.target shape)
-
-  pub stays_well : (old new : PartsState) (k : ℕ) → IsShapedAs old new → IsLeftAlone old new k → IsWell old k → IsWell new k
-  stays_well old new k shape alone well = record {
+  pub stays_well : (old new : PartsState) (k : ℕ) → IsLeftAlone old new k → IsWell old k → IsWell new k
+  stays_well old new k alone well = record {
     line = from_kept new k (line_at old k) (given_from layout old k (link_in layout.links k).source) (taken_into layout old k (link_in layout.links k).target)
         (as_kept old k well.line) alone.line alone.given alone.taken
-        (λ serving awaits. let before = sym (serves_same old new k shape) ∙ serving in alone.head before (well.line.head before awaits));
+        (λ awaits. alone.head (as_prepared old k well.line awaits))
+        (λ comes. alone.room (well.line.room comes));
     gives = λ s is. record {
       admitted =
           let same : given_from layout new k (Block s) ≡ given_from layout old k (Block s) =
@@ -156,7 +164,7 @@ module _ {W : Type 0} (layout : Layout W) where
       → ((k : ℕ) → k < length layout.links → IsLeftAlone old new k ⊎ IsWell new k) → Keeps layout new
   keeps_on old new keeps shape each =
       let well : (k : ℕ) → k < length layout.links → IsWell new k =
-      λ k small. ⊎_elim (λ alone. stays_well old new k shape alone (well_of old keeps k small)) (λ now. now) (each k small) in
+      λ k small. ⊎_elim (λ alone. stays_well old new k alone (well_of old keeps k small)) (λ now. now) (each k small) in
       record {
         node_count = shape.node_count ∙ keeps.node_count;
         feed_places = shape.feed_places ∙ keeps.feed_places;
@@ -164,6 +172,8 @@ module _ {W : Type 0} (layout : Layout W) where
         line_count = shape.line_count ∙ keeps.line_count;
         lines = λ k small. (well k small).line;
         admits_all = λ k s small is. (well k small).gives s is;
+        out_is = λ k s small is. shape.out s ∙ keeps.out_is k s small is;
+        into_is = λ k t p small is. shape.into t ∙ keeps.into_is k t p small is;
         into_there = λ b k is. keeps.into_there b k (sym (shape.into b) ∙ is);
         out_there = λ b k is. keeps.out_there b k (sym (shape.out b) ∙ is);
       }
@@ -182,11 +192,17 @@ module _ {W : Type 0} (layout : Layout W) where
   taken_where old new k (Port t p) nodes = nodes t
   taken_where old new k Exit nodes = refl
 
--- a source that has a message next has one yet
-pub head_where : (old new : PartsState) (source : LinkSource)
-    → ((s : ℕ) → source ≡ Block s → is_some (first_of (node_at old s).left) ≡ true → is_some (first_of (node_at new s).left) ≡ true)
+-- a source that has a message ready has it yet
+pub prepared_where : (old new : PartsState) (source : LinkSource)
+    → ((s : ℕ) → source ≡ Block s → NodeIsPrepared (node_at old s) → NodeIsPrepared (node_at new s))
     → ((b : ℕ) → source ≡ Input b → feed_at new b ≡ feed_at old b)
-    → is_some (head_of old source) ≡ true → is_some (head_of new source) ≡ true
-head_where old new (Block s) nodes feeds has = nodes s refl has
-head_where old new (Input b) nodes feeds has =
-    ap (λ (feed : Option FeedState). is_some (elim feed [ None ↦ None | Some f ↦ value_at f.posted f.sent ])) (feeds b refl) ∙ has
+    → SourceIsPrepared old source → SourceIsPrepared new source
+prepared_where old new (Block s) nodes feeds has = nodes s refl has
+prepared_where old new (Input b) nodes feeds has = subst (λ (feed : Option FeedState). FeedIsPrepared feed) (sym (feeds b refl)) has
+
+-- and a target that has room has it yet
+pub room_where : (old new : PartsState) (target : LinkTarget)
+    → ((t p : ℕ) → target ≡ Port t p → (node_at old t).expects ≡ true → (node_at new t).expects ≡ true)
+    → expects_at old target ≡ true → expects_at new target ≡ true
+room_where old new (Port t p) nodes has = nodes t p refl has
+room_where old new Exit nodes has = has

@@ -55,7 +55,7 @@ within_none None = refl
 within_none (Some max) = le-leb 0 max (omega arith)
 
 -- so many of the first values of a list begin it
-front_taken : (n : ℕ) (values : List Value) → is_front (take n values) values ≡ true
+pub front_taken : (n : ℕ) (values : List Value) → is_front (take n values) values ≡ true
 front_taken zero values = refl
 front_taken (suc n) [] = refl
 front_taken (suc n) (value ∷ values) = and_true _ (is_front (take n values) values) (same_value_refl value) (front_taken n values)

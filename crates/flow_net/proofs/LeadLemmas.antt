@@ -1,5 +1,5 @@
 -- The links of a plan lead from blocks and inputs that are there, to blocks that are there, and each input has one.
-use Rattle.std.proofs.Common.{◌≡◌, ℕ, zero, suc, ◌<◌, ◌≤◌, ltb, Bool, true, false, cond, List, [], ◌∷◌, ◌++◌, length, refl, ap, sym, subst, arith, ltb-true, append_assoc, ◌+◌}
+use Rattle.std.proofs.Common.{◌≡◌, ℕ, zero, suc, ◌<◌, ◌≤◌, ltb, Bool, true, false, cond, List, [], ◌∷◌, ◌++◌, length, refl, ap, sym, subst, arith, ltb-true, append_assoc, ◌+◌, ◌∙◌}
 use Rattle.flow_link.proofs.ListLemmas.{both_of}
 use Rattle.flow_link.specs.declared.draft.BlockDef.{BlockDef}
 use Rattle.flow_link.specs.declared.plan.Link.{Link}
@@ -9,7 +9,7 @@ use Rattle.flow_link.specs.declared.plan.LinkTarget.{LinkTarget}
 use Rattle.flow_link.specs.declared.plan.LinkTarget.TheVariants.{Port, Exit}
 use Rattle.flow_link.specs.Layout.{IsLaidOut, input_link, input_links, exit_link, exit_links, outer_links, joins, is_between_blocks, between_of}
 use Rattle.flow_link.specs.Lists.{every}
-use Rattle.flow_link.specs.Plan.{link_in}
+use Rattle.flow_link.specs.Plan.{block_in, link_in}
 use Rattle.flow_net.specs.Statements.{PlansLeadWell}
 
 -- what holds of each link of a list
@@ -26,56 +26,76 @@ each_append : (P : Link → Type 0) (first last : List Link) → Each P first �
 each_append P [] last a b = b
 each_append P (link ∷ first) last a b = (a.0, each_append P first last a.1 b)
 
-each_cond : (P : Link → Type 0) (b : Bool) (link : Link) (links : List Link) → P link → Each P links → Each P (cond b (link ∷ []) [] ++ links)
-each_cond P true link links a rest = (a, rest)
+each_cond : (P : Link → Type 0) (b : Bool) (link : Link) (links : List Link) → (b ≡ true → P link) → Each P links → Each P (cond b (link ∷ []) [] ++ links)
+each_cond P true link links a rest = (a refl, rest)
 each_cond P false link links a rest = rest
 
 -- a link leads from a block or input among so many, to a block among them
-record Well (count : ℕ) (link : Link) : Type 0 where
+record Well (count : ℕ) (inputs : ℕ → Bool) (link : Link) : Type 0 where
   from_block : (s : ℕ) → link.source ≡ Block s → s < count
   from_input : (b : ℕ) → link.source ≡ Input b → b < count
+  from_inputs : (b : ℕ) → link.source ≡ Input b → inputs b ≡ true
+  inputs_pass : (b : ℕ) → link.source ≡ Input b → link.propagate ≡ true
   to_block : (t p : ℕ) → link.target ≡ Port t p → t < count
 
-joined_well : (count : ℕ) (link : Link) (source : LinkSource) (target : LinkTarget) → link.source ≡ source → link.target ≡ target
-    → joins count source target ≡ true → Well count link
-joined_well count link (Block s) (Port t p) es et e =
+joined_well : (count : ℕ) (inputs : ℕ → Bool) (link : Link) (source : LinkSource) (target : LinkTarget) → link.source ≡ source → link.target ≡ target
+    → joins count source target ≡ true → Well count inputs link
+joined_well count inputs link (Block s) (Port t p) es et e =
     let both = both_of (ltb s count) (ltb t count) e in
     record {
       from_block = λ n is. let same : s ≡ n = cc in subst (λ (k : ℕ). k < count) same (ltb-true s count both.0);
       from_input = λ n is. absurd (cc);
+      from_inputs = λ n is. absurd (cc);
+      inputs_pass = λ n is. absurd (cc);
       to_block = λ n q is. let same : t ≡ n = cc in subst (λ (k : ℕ). k < count) same (ltb-true t count both.1);
     }
-joined_well count link (Block s) Exit es et e = absurd (cc)
-joined_well count link (Input b) target es et e = absurd (cc)
+joined_well count inputs link (Block s) Exit es et e = absurd (cc)
+joined_well count inputs link (Input b) target es et e = absurd (cc)
 
-between_well : (count : ℕ) (links : List Link) → every (is_between_blocks count) links ≡ true → Each (Well count) links
-between_well count [] e = tt
-between_well count (link ∷ links) e =
+between_well : (count : ℕ) (inputs : ℕ → Bool) (links : List Link) → every (is_between_blocks count) links ≡ true → Each (Well count inputs) links
+between_well count inputs [] e = tt
+between_well count inputs (link ∷ links) e =
     let both = both_of (is_between_blocks count link) (every (is_between_blocks count) links) e in
-    (joined_well count link link.source link.target refl refl both.0, between_well count links both.1)
+    (joined_well count inputs link link.source link.target refl refl both.0, between_well count inputs links both.1)
 
 module _ {W : Type 0} where
-  inputs_well : (count first : ℕ) (blocks : List (BlockDef W)) → first + length blocks ≤ count → Each (Well count) (input_links first blocks)
-  inputs_well count first [] fits = tt
-  inputs_well count first (block ∷ blocks) fits =
-      each_cond (Well count) block.input (input_link first) (input_links (suc first) blocks)
-      (record {
+  -- these are the blocks from a first number on, and the inputs among them
+  abbrev AreInputs : ℕ → (ℕ → Bool) → List (BlockDef W) → Type 0
+  AreInputs first inputs blocks = (k : ℕ) → inputs (first + k) ≡ (block_in blocks k).input
+
+  inputs_after : (first : ℕ) (inputs : ℕ → Bool) (block : BlockDef W) (blocks : List (BlockDef W)) → AreInputs first inputs (block ∷ blocks)
+      → AreInputs (suc first) inputs blocks
+  inputs_after first inputs block blocks are k =
+      let e : suc first + k ≡ first + suc k = omega arith in
+      ap inputs e ∙ are (suc k)
+
+  inputs_well : (count : ℕ) (inputs : ℕ → Bool) (first : ℕ) (blocks : List (BlockDef W)) → AreInputs first inputs blocks → first + length blocks ≤ count
+      → Each (Well count inputs) (input_links first blocks)
+  inputs_well count inputs first [] are fits = tt
+  inputs_well count inputs first (block ∷ blocks) are fits =
+      each_cond (Well count inputs) block.input (input_link first) (input_links (suc first) blocks)
+      (λ is_input. record {
         from_block = λ n is. absurd (cc);
         from_input = λ n is. let same : first ≡ n = cc in omega arith;
+        from_inputs = λ n is. let same : first ≡ n = cc in let here : n ≡ first + 0 = omega arith in ap inputs here ∙ are 0 ∙ is_input;
+        inputs_pass = λ n is. refl;
         to_block = λ n q is. let same : first ≡ n = cc in omega arith;
       })
-      (inputs_well count (suc first) blocks (omega arith))
+      (inputs_well count inputs (suc first) blocks (inputs_after first inputs block blocks are) (omega arith))
 
-  exits_well : (count first : ℕ) (blocks : List (BlockDef W)) → first + length blocks ≤ count → Each (Well count) (exit_links first blocks)
-  exits_well count first [] fits = tt
-  exits_well count first (block ∷ blocks) fits =
-      each_cond (Well count) block.output (exit_link first) (exit_links (suc first) blocks)
-      (record {
+  exits_well : (count : ℕ) (inputs : ℕ → Bool) (first : ℕ) (blocks : List (BlockDef W)) → first + length blocks ≤ count
+      → Each (Well count inputs) (exit_links first blocks)
+  exits_well count inputs first [] fits = tt
+  exits_well count inputs first (block ∷ blocks) fits =
+      each_cond (Well count inputs) block.output (exit_link first) (exit_links (suc first) blocks)
+      (λ is_output. record {
         from_block = λ n is. let same : first ≡ n = cc in omega arith;
         from_input = λ n is. absurd (cc);
+        from_inputs = λ n is. absurd (cc);
+        inputs_pass = λ n is. absurd (cc);
         to_block = λ n q is. absurd (cc);
       })
-      (exits_well count (suc first) blocks (omega arith))
+      (exits_well count inputs (suc first) blocks (omega arith))
 
 -- no link of a list leads from this input
 abbrev NotFrom : ℕ → Link → Type 0
@@ -118,13 +138,13 @@ module _ {W : Type 0} where
   exits_apart : (b first : ℕ) (blocks : List (BlockDef W)) → Each (NotFrom b) (exit_links first blocks)
   exits_apart b first [] = tt
   exits_apart b first (block ∷ blocks) =
-      each_cond (NotFrom b) block.output (exit_link first) (exit_links (suc first) blocks) (λ is. cc) (exits_apart b (suc first) blocks)
+      each_cond (NotFrom b) block.output (exit_link first) (exit_links (suc first) blocks) (λ is_output is. cc) (exits_apart b (suc first) blocks)
 
   inputs_apart : (b first : ℕ) (blocks : List (BlockDef W)) → b < first → Each (NotFrom b) (input_links first blocks)
   inputs_apart b first [] small = tt
   inputs_apart b first (block ∷ blocks) small =
       each_cond (NotFrom b) block.input (input_link first) (input_links (suc first) blocks)
-      (λ is. let same : first ≡ b = cc in absurd (omega arith))
+      (λ is_input is. let same : first ≡ b = cc in absurd (omega arith))
       (inputs_apart b (suc first) blocks (omega arith))
 
   one_input : (b first : ℕ) (blocks : List (BlockDef W)) (last : List Link) → Each (NotFrom b) last → AtMostOne b (input_links first blocks ++ last)
@@ -135,14 +155,23 @@ module _ {W : Type 0} where
       (λ same. each_append (NotFrom b) (input_links (suc first) blocks) last (inputs_apart b (suc first) blocks (omega arith)) none)
       (one_input b (suc first) blocks last none))
 
-  well_planned : (blocks : List (BlockDef W)) (links : List Link) → IsLaidOut blocks links → Each (Well (length blocks)) links
+  abbrev inputs_of : List (BlockDef W) → ℕ → Bool
+  inputs_of blocks b = (block_in blocks b).input
+
+  inputs_from_first : (blocks : List (BlockDef W)) → AreInputs 0 (inputs_of blocks) blocks
+  inputs_from_first blocks k =
+      let e : 0 + k ≡ k = omega arith in
+      ap (inputs_of blocks) e
+
+  well_planned : (blocks : List (BlockDef W)) (links : List Link) → IsLaidOut blocks links → Each (Well (length blocks) (inputs_of blocks)) links
   well_planned blocks links laid =
-      subst (λ (all : List Link). Each (Well (length blocks)) all) (sym laid.in_order)
-      (each_append (Well (length blocks)) (between_of blocks links) (outer_links blocks)
-      (between_well (length blocks) (between_of blocks links) laid.lead)
-      (each_append (Well (length blocks)) (input_links 0 blocks) (exit_links 0 blocks)
-      (inputs_well (length blocks) 0 blocks (omega arith))
-      (exits_well (length blocks) 0 blocks (omega arith))))
+      let IsWell : Link → Type 0 = Well (length blocks) (inputs_of blocks) in
+      subst (λ (all : List Link). Each IsWell all) (sym laid.in_order)
+      (each_append IsWell (between_of blocks links) (outer_links blocks)
+      (between_well (length blocks) (inputs_of blocks) (between_of blocks links) laid.lead)
+      (each_append IsWell (input_links 0 blocks) (exit_links 0 blocks)
+      (inputs_well (length blocks) (inputs_of blocks) 0 blocks (inputs_from_first blocks) (omega arith))
+      (exits_well (length blocks) (inputs_of blocks) 0 blocks (omega arith))))
 
   one_planned : (blocks : List (BlockDef W)) (links : List Link) → IsLaidOut blocks links → (b : ℕ) → AtMostOne b links
   one_planned blocks links laid b =
@@ -154,10 +183,13 @@ module _ {W : Type 0} where
 module _ (W : Type 0) where
   pub plans_lead_well : PlansLeadWell W
   plans_lead_well layout laid =
+      let IsWell : Link → Type 0 = Well (length layout.blocks) (inputs_of layout.blocks) in
       let well = well_planned layout.blocks layout.links laid in
       record {
-        from_block = λ l s small is. (each_at (Well (length layout.blocks)) layout.links l well small).from_block s is;
-        from_input = λ l b small is. (each_at (Well (length layout.blocks)) layout.links l well small).from_input b is;
-        to_block = λ l t p small is. (each_at (Well (length layout.blocks)) layout.links l well small).to_block t p is;
+        from_block = λ l s small is. (each_at IsWell layout.links l well small).from_block s is;
+        from_input = λ l b small is. (each_at IsWell layout.links l well small).from_input b is;
+        from_inputs = λ l b small is. (each_at IsWell layout.links l well small).from_inputs b is;
+        inputs_pass = λ l b small is. (each_at IsWell layout.links l well small).inputs_pass b is;
+        to_block = λ l t p small is. (each_at IsWell layout.links l well small).to_block t p is;
         one_input_link = λ k l b small smaller ek el. one_planned layout.blocks layout.links laid b k l small smaller ek el;
       }

@@ -1,14 +1,15 @@
 -- Each event at a link leaves its line in order, and both its ends have seen the new phase.
-use Rattle.std.proofs.Common.{◌≡◌, ℕ, suc, ◌+◌, true, false, List, [], ◌∷◌, ◌++◌, ◌⊎◌, length, Option, Some, None, refl, ap, sym, subst, ◌∙◌, arith, inl, inr, ⊎_elim}
+use Rattle.std.proofs.Common.{◌≡◌, ℕ, suc, ◌+◌, true, false, List, [], ◌∷◌, ◌++◌, ◌⊎◌, length, Option, Some, None, refl, ap, subst, arith, inl, inr, ⊎_elim}
 use Rattle.flow_value.specs.declared.value.Value.{Value}
 use Rattle.flow_link.specs.declared.phase.LinkEnd.{LinkEnd}
 use Rattle.flow_link.specs.declared.phase.Phase.{Phase}
-use Rattle.flow_link.specs.declared.phase.Phase.TheVariants.{Idle, Offered, Wanted, Given, Opened, Refused, Ended}
+use Rattle.flow_link.specs.declared.phase.Phase.TheVariants.{Idle, Posted, Offered, Wanted, Given, Opened, Held, Refused, Ended}
 use Rattle.flow_link.specs.Views.{SourceStage, TargetStage, Refusal, SourceView, TargetView, LinkFacts}
 use Rattle.flow_link.specs.LinkOk.{LinkOk, HasRoom, MayEnd}
-use Rattle.flow_link.specs.Looks.{Seen, source_finds, target_finds}
-use Rattle.flow_link.specs.LooksKeep.{SeenAt, HasSeenWanted, Wants}
-use Rattle.flow_link.specs.Moves.{source_at, target_at, offering, giving, ending, wanting, refusing, opening, closing}
+use Rattle.flow_link.specs.Composes.{is_coming}
+use Rattle.flow_link.specs.Looks.{Seen, target_finds, looking_out, looking_in}
+use Rattle.flow_link.specs.LooksKeep.{SeenAt, HasSeenWanted}
+use Rattle.flow_link.specs.Moves.{offering, giving, ending, wanting, refusing, opening, closing}
 use Rattle.flow_link.proofs.LookLemmas.{looks_keep}
 use Rattle.flow_link.proofs.SourceMoves.{source_moves_keep}
 use Rattle.flow_link.proofs.TargetMoves.{target_moves_keep}
@@ -40,32 +41,30 @@ module _ (facts : LinkFacts) (line : LineState) (gave took : List Value) where
       → LinkOk facts phase line.slot (source_of line gave) (target_of line took)
   at_phase phase is kept = subst (λ (p : Phase). LinkOk facts p line.slot (source_of line gave) (target_of line took)) is kept.in_order
 
-  -- the target looks, and finds this stage
-  looked_in : (phase : Phase) (slot : Option Value) (source : SourceView Value) (stage : TargetStage Value)
-      → LinkOk facts phase slot source (target_of line took) → target_finds line.target phase ≡ stage
-      → LinkOk facts phase slot source (target_at stage (target_of line took))
-  looked_in phase slot source stage ok finds =
-      subst (λ (t : TargetStage Value). LinkOk facts phase slot source (target_at t (target_of line took))) finds
-      ((looks_keep Value).in_keeps facts phase slot source (target_of line took) ok)
+  -- the target looks
+  looked_in : (phase : Phase) (slot : Option Value) (source : SourceView Value) → LinkOk facts phase slot source (target_of line took)
+      → LinkOk facts phase slot source (looking_in phase (target_of line took))
+  looked_in phase slot source ok = (looks_keep Value).in_keeps facts phase slot source (target_of line took) ok
 
-  -- the source looks, and finds this stage
-  looked_out : (phase : Phase) (slot : Option Value) (target : TargetView Value) (stage : SourceStage)
-      → LinkOk facts phase slot (source_of line gave) target → source_finds line.source phase ≡ stage
-      → LinkOk facts phase slot (source_at stage (source_of line gave)) target
-  looked_out phase slot target stage ok finds =
-      subst (λ (s : SourceStage). LinkOk facts phase slot (source_at s (source_of line gave)) target) finds
-      ((looks_keep Value).out_keeps facts phase slot (source_of line gave) target ok)
+  -- the source looks
+  looked_out : (phase : Phase) (slot : Option Value) (target : TargetView Value) → LinkOk facts phase slot (source_of line gave) target
+      → LinkOk facts phase slot (looking_out phase (source_of line gave)) target
+  looked_out phase slot target ok = (looks_keep Value).out_keeps facts phase slot (source_of line gave) target ok
+
+  -- a second look changes nothing
+  settled : (phase : Phase) → Seen phase (looking_out phase (source_of line gave)) (looking_in phase (target_of line took))
+  settled phase = (looks_keep Value).settle phase (source_of line gave) (target_of line took)
 
   pub offers : IsKept facts line gave took → line.phase ≡ Idle → HasRoom facts.max (0 + length gave)
       → IsKept facts (offered (suc line.last) line) gave took
   offers kept is room =
+      let i = suc line.last in
       let at = told Idle is kept in
       let moved = (source_moves_keep Value).offer facts Idle line.slot (source_of line gave) (target_of line took)
-      (at_phase Idle is kept) (suc line.last) at.0 (omega arith) room in
+      (at_phase Idle is kept) i at.0 (omega arith) room in
       record {
-        in_order = looked_in (Offered (suc line.last)) line.slot (offering (suc line.last) (source_of line gave))
-            (TargetStage.offered (suc line.last)) moved.in_order (ap (λ (t : TargetStage Value). target_finds t (Offered (suc line.last))) at.1);
-        seen = record { by_source = refl; by_target = refl };
+        in_order = looked_in (Offered i) line.slot (offering i (source_of line gave)) moved.in_order;
+        seen = record { by_source = refl; by_target = (settled (Offered i)).by_target };
         in_use = refl;
       }
 
@@ -76,9 +75,8 @@ module _ (facts : LinkFacts) (line : LineState) (gave took : List Value) where
       let moved = (target_moves_keep Value).want facts (Offered i) line.slot (source_of line gave) (target_of line took)
       (at_phase (Offered i) is kept) i (inl at.1) free in
       record {
-        in_order = looked_out (Wanted i) line.slot (wanting i (target_of line took)) (SourceStage.accepted i)
-            moved.in_order (ap (λ (s : SourceStage). source_finds s (Wanted i)) at.0);
-        seen = record { by_source = refl; by_target = refl };
+        in_order = looked_out (Wanted i) line.slot (wanting i (target_of line took)) moved.in_order;
+        seen = record { by_source = (settled (Wanted i)).by_source; by_target = refl };
         in_use = refl;
       }
 
@@ -89,9 +87,8 @@ module _ (facts : LinkFacts) (line : LineState) (gave took : List Value) where
       let moved = (target_moves_keep Value).refuse facts (Offered i) line.slot (source_of line gave) (target_of line took)
       (at_phase (Offered i) is kept) i why (inl at.1) in
       record {
-        in_order = looked_out Refused line.slot (refusing why (target_of line took)) SourceStage.refused
-            moved.in_order (ap (λ (s : SourceStage). source_finds s Refused) at.0);
-        seen = record { by_source = refl; by_target = refl };
+        in_order = looked_out Refused line.slot (refusing why (target_of line took)) moved.in_order;
+        seen = record { by_source = (settled Refused).by_source; by_target = refl };
         in_use = refl;
       }
 
@@ -108,19 +105,13 @@ module _ (facts : LinkFacts) (line : LineState) (gave took : List Value) where
       (λ e. ((source_moves_keep Value).give facts (Wanted i) line.slot (source_of line gave) (target_of line took) ok i value e).in_order)))
       how
 
-  arrives : (i : ℕ) → Wants i line.target → target_finds line.target (Given i) ≡ TargetStage.arrived i
-  arrives i how =
-      let finds = λ (t : TargetStage Value). target_finds t (Given i) in
-      ⊎_elim (λ e. ap finds e) (⊎_elim (λ e. ap finds e) (λ e. ap finds e)) how
-
   pub gives_value : (i : ℕ) (value : Value) → IsKept facts line gave took → line.phase ≡ Wanted i
       → IsKept facts (given i value line) (gave ++ value ∷ []) took
   gives_value i value kept is =
       let at = told (Wanted i) is kept in
       record {
-        in_order = looked_in (Given i) (Some value) (giving i value (source_of line gave)) (TargetStage.arrived i)
-            (given_in_order i value (at_phase (Wanted i) is kept) at.0) (arrives i at.1);
-        seen = record { by_source = refl; by_target = refl };
+        in_order = looked_in (Given i) (Some value) (giving i value (source_of line gave)) (given_in_order i value (at_phase (Wanted i) is kept) at.0);
+        seen = record { by_source = refl; by_target = (settled (Given i)).by_target };
         in_use = refl;
       }
 
@@ -132,24 +123,24 @@ module _ (facts : LinkFacts) (line : LineState) (gave took : List Value) where
       (at_phase (Given i) is kept) i at.1 in
       let same : moved.value ≡ value = cc in
       record {
-        in_order = subst (λ (v : Value). LinkOk facts (Opened i) None (source_of line gave) (opening i v (target_of line took))) same moved.keeps.in_order;
-        seen = record {
-          by_source = ap (λ (s : SourceStage). source_finds s (Opened i)) at.0 ∙ sym at.0;
-          by_target = refl;
-        };
+        in_order = looked_out (Opened i) None (opening i value (target_of line took))
+            (subst (λ (v : Value). LinkOk facts (Opened i) None (source_of line gave) (opening i v (target_of line took))) same moved.keeps.in_order);
+        seen = record { by_source = (settled (Opened i)).by_source; by_target = refl };
         in_use = refl;
       }
+
+  -- what the target has in hand was on its way into it
+  pub opens_what_came : (i : ℕ) → IsKept facts line gave took → line.phase ≡ Given i → is_coming line.target ≡ true
+  opens_what_came i kept is = ap (λ (t : TargetStage Value). is_coming t) (told (Given i) is kept).1
 
   pub closes : (i j : ℕ) (value : Value) → IsKept facts line gave took → line.phase ≡ Opened i → line.target ≡ TargetStage.hand j value
       → IsKept facts (closed line) gave (took ++ value ∷ [])
   closes i j value kept is hand =
-      let at = told (Opened i) is kept in
       let moved = (target_moves_keep Value).close facts (Opened i) line.slot (source_of line gave) (target_of line took)
       (at_phase (Opened i) is kept) j value hand in
       record {
-        in_order = looked_out Idle line.slot (closing value (target_of line took)) SourceStage.free
-            moved.in_order (ap (λ (s : SourceStage). source_finds s Idle) at.0);
-        seen = record { by_source = refl; by_target = refl };
+        in_order = looked_out Idle line.slot (closing value (target_of line took)) moved.in_order;
+        seen = record { by_source = (settled Idle).by_source; by_target = refl };
         in_use = refl;
       }
 
@@ -160,8 +151,31 @@ module _ (facts : LinkFacts) (line : LineState) (gave took : List Value) where
       let moved = (source_moves_keep Value).ends facts Idle line.slot (source_of line gave) (target_of line took)
       (at_phase Idle is kept) how at.0 may in
       record {
-        in_order = looked_in (Ended how) line.slot (ending how (source_of line gave)) (TargetStage.ended how)
-            moved.in_order (ap (λ (t : TargetStage Value). target_finds t (Ended how)) at.1);
-        seen = record { by_source = refl; by_target = refl };
+        in_order = looked_in (Ended how) line.slot (ending how (source_of line gave)) moved.in_order;
+        seen = record { by_source = refl; by_target = (settled (Ended how)).by_target };
         in_use = refl;
       }
+
+-- after a look no more is on its way than before
+pub came_before : (stage : TargetStage Value) (phase : Phase) → is_coming (target_finds stage phase) ≡ true → is_coming stage ≡ true
+came_before (TargetStage.accepted i) phase e = refl
+came_before (TargetStage.consuming i) phase e = refl
+came_before (TargetStage.claiming i) phase e = refl
+came_before (TargetStage.arrived i) phase e = refl
+came_before (TargetStage.hand i value) phase e = refl
+came_before TargetStage.free (Posted i) e = absurd (cc)
+came_before TargetStage.free (Offered i) e = absurd (cc)
+came_before TargetStage.free (Ended how) e = absurd (cc)
+came_before TargetStage.free _ e = absurd (cc)
+came_before (TargetStage.postponed k) Idle e = absurd (cc)
+came_before (TargetStage.postponed k) (Posted i) e = absurd (cc)
+came_before (TargetStage.postponed k) (Offered i) e = absurd (cc)
+came_before (TargetStage.postponed k) (Ended how) e = absurd (cc)
+came_before (TargetStage.postponed k) _ e = absurd (cc)
+came_before (TargetStage.asking k) Idle e = absurd (cc)
+came_before (TargetStage.asking k) (Posted i) e = absurd (cc)
+came_before (TargetStage.asking k) (Offered i) e = absurd (cc)
+came_before (TargetStage.asking k) (Ended how) e = absurd (cc)
+came_before (TargetStage.asking k) (Held i) e = absurd (cc)
+came_before (TargetStage.asking k) _ e = absurd (cc)
+came_before _ phase e = absurd (cc)

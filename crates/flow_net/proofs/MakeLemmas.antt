@@ -3,17 +3,14 @@ use Rattle.std.proofs.Common.{◌≡◌, ℕ, zero, suc, ◌+◌, ◌<◌, ◌�
 use Rattle.std.specs.List.{position_or_len}
 use Rattle.std.proofs.Math.Nat.{eq-or-lt_of_le}
 use Rattle.std.proofs.lemmas.List.{map-append, take_more, length-map, length-replicate}
-use Rattle.std.proofs.lemmas.List.Quantifiers.{position-Some}
 use Rattle.std.proofs.lemmas.List.Sums.{passes_at_first, fails_before_first, sum_by-drop_more}
 use Rattle.flow_link.specs.declared.draft.BlockDef.{BlockDef}
-use Rattle.flow_link.specs.declared.plan.Link.{Link}
 use Rattle.flow_link.specs.Layout.{Layout}
 use Rattle.flow_link.specs.Lists.{numbers_from, below}
-use Rattle.flow_link.specs.Plan.{begins_at, ends_at, no_link}
 use Rattle.flow_link.specs.Trace.{InputTrace}
 use Rattle.flow_net.specs.Fresh.{IsFresh}
-use Rattle.flow_net.specs.Made.{node_in, nodes_of, Unsent}
-use Rattle.flow_net.specs.Parts.{NodeState, FeedState, LineState, PartsState, fresh_node, fresh_line}
+use Rattle.flow_net.specs.Made.{node_in, nodes_of, HasNotBegun, NotBegun}
+use Rattle.flow_net.specs.Parts.{FeedState, LineState, PartsState, fresh_line}
 use Rattle.flow_net.specs.Seen.{input_trace, input_traces}
 
 module _ {X : Type 0} (p : X → Bool) (xs : List X) where
@@ -64,24 +61,17 @@ pub mapped_more : {Y : Type 0} (f : ℕ → Y) (ys : List Y) (n : ℕ) (y : Y) �
 mapped_more f ys n y all last =
     ap (λ zs. zs ++ y ∷ []) all ∙ ap (λ z. map f (below n) ++ z ∷ []) last ∙ sym (map-append f (below n) (n ∷ [])) ∙ sym (ap (map f) (below_more n))
 
--- what holds of a fresh block and of each of the plan's, holds at each number
-module _ {W : Type 0} (layout : Layout W) where
-  pub at_each : (P : NodeState → Type 0) → P fresh_node → ((n : ℕ) → P (node_in layout n)) → (ns : List ℕ) (b : ℕ) → P (get_or (map (node_in layout) ns) b fresh_node)
-  at_each P fresh each [] b = fresh
-  at_each P fresh each (n ∷ ns) zero = each n
-  at_each P fresh each (n ∷ ns) (suc b) = at_each P fresh each ns b
-
 pub replicate_at : (n l : ℕ) → get_or (replicate n fresh_line) l fresh_line ≡ fresh_line
 replicate_at zero l = refl
 replicate_at (suc n) zero = refl
 replicate_at (suc n) (suc l) = replicate_at n l
 
 -- one more place for what is posted
-pub unsent_more : (feeds : List (Option FeedState)) (o : Option FeedState) → Unsent feeds → ((feed : FeedState) → o ≡ Some feed → feed.sent ≡ 0) → Unsent (feeds ++ o ∷ [])
-unsent_more [] o all last zero feed e = last feed e
-unsent_more [] o all last (suc b) feed e = absurd (cc)
-unsent_more (f ∷ fs) o all last zero feed e = all 0 feed e
-unsent_more (f ∷ fs) o all last (suc b) feed e = unsent_more fs o (λ k. all (suc k)) last b feed e
+pub begun_no_more : (feeds : List (Option FeedState)) (o : Option FeedState) → NotBegun feeds → ((feed : FeedState) → o ≡ Some feed → HasNotBegun feed) → NotBegun (feeds ++ o ∷ [])
+begun_no_more [] o all last zero feed e = last feed e
+begun_no_more [] o all last (suc b) feed e = absurd (cc)
+begun_no_more (f ∷ fs) o all last zero feed e = all 0 feed e
+begun_no_more (f ∷ fs) o all last (suc b) feed e = begun_no_more fs o (λ k. all (suc k)) last b feed e
 
 pub traces_append : (feeds more : List (Option FeedState)) → input_traces (feeds ++ more) ≡ input_traces feeds ++ input_traces more
 traces_append [] more = refl
@@ -120,22 +110,18 @@ module _ {W : Type 0} (blocks : List (BlockDef W)) where
 
 -- nothing has happened in a network of these parts
 pub made_is_fresh : {W : Type 0} (layout : Layout W) (parts : PartsState) → parts.nodes ≡ nodes_of layout → parts.lines ≡ replicate (length layout.links) fresh_line
-    → map is_some parts.feeds ≡ map (λ block. block.input) layout.blocks → Unsent parts.feeds → IsFresh layout parts
-made_is_fresh layout parts nodes lines places unsent = record {
-  node_count = ap length nodes ∙ length-map (below (length layout.blocks)) (node_in layout) ∙ length_numbers 0 (length layout.blocks);
+    → map is_some parts.feeds ≡ map (λ block. block.input) layout.blocks → NotBegun parts.feeds → IsFresh layout parts
+made_is_fresh layout parts nodes lines places not_begun = record {
+  nodes = nodes;
   feed_places = places;
   line_count = ap length lines ∙ length-replicate (length layout.links) fresh_line;
-  journals = λ b. subst (λ (ns : List NodeState). (get_or ns b fresh_node).journal ≡ []) (sym nodes)
-      (at_each layout (λ node. node.journal ≡ []) refl (λ n. refl) (below (length layout.blocks)) b);
   lines = λ l. subst (λ (ls : List LineState). get_or ls l fresh_line ≡ fresh_line) (sym lines) (replicate_at (length layout.links) l);
-  unsent = unsent;
-  into_there = λ b l. subst (λ (ns : List NodeState). (get_or ns b fresh_node).into ≡ Some l → l < length layout.links) (sym nodes)
-      (at_each layout (λ node. node.into ≡ Some l → l < length layout.links) (λ e. absurd (cc))
-      (λ n e. (position-Some (λ (link : Link). ends_at n link.target) layout.links l no_link e).0) (below (length layout.blocks)) b);
-  out_there = λ b l. subst (λ (ns : List NodeState). (get_or ns b fresh_node).out ≡ Some l → l < length layout.links) (sym nodes)
-      (at_each layout (λ node. node.out ≡ Some l → l < length layout.links) (λ e. absurd (cc))
-      (λ n e. (position-Some (λ (link : Link). begins_at n link.source) layout.links l no_link e).0) (below (length layout.blocks)) b);
+  feeds = not_begun;
 }
+
+pub nodes_as_many : {W : Type 0} (layout : Layout W) (parts : PartsState) → IsFresh layout parts → length parts.nodes ≡ length layout.blocks
+nodes_as_many layout parts fresh =
+    ap length fresh.nodes ∙ length-map (below (length layout.blocks)) (node_in layout) ∙ length_numbers 0 (length layout.blocks)
 
 pub feeds_as_long : {W : Type 0} (layout : Layout W) (parts : PartsState) → IsFresh layout parts → length parts.feeds ≡ length layout.blocks
 feeds_as_long {W} layout parts fresh =

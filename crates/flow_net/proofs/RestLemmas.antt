@@ -19,7 +19,7 @@ use Rattle.flow_link.specs.Plan.{link_in}
 use Rattle.flow_link.specs.Views.{SourceStage, TargetStage}
 use Rattle.flow_link.proofs.ListLemmas.{both_of, and_true}
 use Rattle.flow_net.specs.AtRest.{is_rest, is_going, LinkRests, BlockHasGivenAll, InputHasGivenAll, AtRest}
-use Rattle.flow_net.specs.Events.{takes_part, has_stopped, is_at_home, is_hand, kind_in, is_still, stage_into, stage_out, fault_cause, next_fault, may_make, may_complete, may_finish, move_of_node, move_of_feed, move_of_source, end_of_feed, head_of, move_at, next_move, serves, event_at_link, event_at_block}
+use Rattle.flow_net.specs.Events.{has_stopped, is_at_home, is_hand, is_still, stage_into, stage_out, fault_cause, next_fault, may_make, may_complete, may_finish, move_of_node, move_of_feed, move_of_source, end_of_feed, head_of, offer_of, expects_at, move_at, next_move, event_at_link, event_at_block}
 use Rattle.flow_net.specs.Keeps.{Keeps, facts_in, is_in_use, awaits_head}
 use Rattle.flow_net.specs.Parts.{NodeState, FeedState, PartsState, node_at, feed_at, line_at}
 use Rattle.flow_net.specs.Seen.{given_from, taken_into, sent_by}
@@ -92,28 +92,26 @@ rest_waiting : (passes more : Bool) (step : Move) (ending : Ending) → cond mor
 rest_waiting passes true step ending e = absurd (cc)
 rest_waiting passes false step ending e = (refl, rest_ending passes ending e)
 
-held_empty : (takes goes well : Bool) (held : List Value) → (takes && goes && well && not (is_empty held)) ≡ false
-    → takes ≡ true → goes ≡ true → well ≡ true → held ≡ []
-held_empty true true true [] e et eg ew = refl
-held_empty true true true (value ∷ held) e et eg ew = absurd (cc)
-held_empty true true false held e et eg ew = absurd (cc)
-held_empty true false well held e et eg ew = absurd (cc)
-held_empty false goes well held e et eg ew = absurd (cc)
+held_empty : (goes well : Bool) (held : List Value) → (goes && well && not (is_empty held)) ≡ false
+    → goes ≡ true → well ≡ true → held ≡ []
+held_empty true true [] e eg ew = refl
+held_empty true true (value ∷ held) e eg ew = absurd (cc)
+held_empty true false held e eg ew = absurd (cc)
+held_empty false well held e eg ew = absurd (cc)
 
 module _ {W : Type 0} (layout : Layout W) (parts : PartsState) (keeps : Keeps layout parts) (quiet : IsQuiet layout parts) where
-  no_move : (l : ℕ) → l < length layout.links → serves layout parts l ≡ true
-      → move_at parts (link_in layout.links l) (line_at parts l) (line_at parts l).phase ≡ None
-  no_move l small serving =
-      let none = passes_below (λ k. is_none (event_at_link layout parts k)) (length layout.links) l quiet.at_links small in
-      none_where (serves layout parts l) _ serving (none_of_none _ (next_move layout parts l) none)
+  no_move : (l : ℕ) → l < length layout.links → move_at parts (link_in layout.links l) (line_at parts l) (line_at parts l).phase ≡ None
+  no_move l small =
+      none_of_none _ (next_move layout parts l)
+      (passes_below (λ k. is_none (event_at_link layout parts k)) (length layout.links) l quiet.at_links small)
 
   -- at this phase
-  no_move_at : (l : ℕ) (phase : Phase) → l < length layout.links → serves layout parts l ≡ true → (line_at parts l).phase ≡ phase
+  no_move_at : (l : ℕ) (phase : Phase) → l < length layout.links → (line_at parts l).phase ≡ phase
       → move_at parts (link_in layout.links l) (line_at parts l) phase ≡ None
-  no_move_at l phase small serving is =
-      subst (λ (p : Phase). move_at parts (link_in layout.links l) (line_at parts l) p ≡ None) is (no_move l small serving)
+  no_move_at l phase small is =
+      subst (λ (p : Phase). move_at parts (link_in layout.links l) (line_at parts l) p ≡ None) is (no_move l small)
 
-  module _ (l : ℕ) (small : l < length layout.links) (serving : serves layout parts l ≡ true) where
+  module _ (l : ℕ) (small : l < length layout.links) where
     abbrev gave_so_far : List Value
     gave_so_far = given_from layout parts l (link_in layout.links l).source
 
@@ -138,16 +136,22 @@ module _ {W : Type 0} (layout : Layout W) (parts : PartsState) (keeps : Keeps la
     rests_at Idle is = record { rest = ap is_rest is; empty = (order_at Idle is).values.empty; all_taken = (order_at Idle is).values.all }
     rests_at Refused is = record { rest = ap is_rest is; empty = (order_at Refused is).values.empty; all_taken = (order_at Refused is).values.all }
     rests_at (Ended how) is = record { rest = ap is_rest is; empty = (order_at (Ended how) is).values.empty; all_taken = (order_at (Ended how) is).values.all }
-    rests_at (Offered i) is = let none = no_move_at l (Offered i) small serving is in absurd (cc)
+    rests_at (Offered i) is = let none = no_move_at l (Offered i) small is in absurd (cc)
     rests_at (Wanted i) is =
-        absurd (none_at (is_some (head_of parts (link_in layout.links l).source)) Give
-        ((keeps.lines l small).head serving (ap awaits_head is)) (no_move_at l (Wanted i) small serving is))
+        let ready = (keeps.lines l small).head (ap awaits_head is) in
+        let source = (link_in layout.links l).source in
+        absurd (none_at (is_some (head_of parts source) && is_some (offer_of parts source)) Give
+        (and_true (is_some (head_of parts source)) (is_some (offer_of parts source)) ready.there (ap is_some ready.ready ∙ ready.there))
+        (no_move_at l (Wanted i) small is))
     rests_at (Given i) is =
         absurd (none_at (is_some (line_at parts l).slot) move_open
-        (slot_is_filled (line_at parts l).slot (order_at (Given i) is).values) (no_move_at l (Given i) small serving is))
+        (slot_is_filled (line_at parts l).slot (order_at (Given i) is).values) (no_move_at l (Given i) small is))
     rests_at (Opened i) is =
-        absurd (none_at (is_hand (line_at parts l).target) Close
-        (ap is_hand (stages_at (Opened i) is).1.1) (no_move_at l (Opened i) small serving is))
+        let in_hand = (stages_at (Opened i) is).1.1 in
+        let target = (link_in layout.links l).target in
+        absurd (none_at (is_hand (line_at parts l).target && expects_at parts target) Close
+        (and_true (is_hand (line_at parts l).target) (expects_at parts target) (ap is_hand in_hand) ((keeps.lines l small).room (ap is_coming in_hand)))
+        (no_move_at l (Opened i) small is))
     rests_at _ is = absurd (let used = sym (keeps.lines l small).in_use ∙ ap is_in_use is in cc)
 
     link_rests : LinkRests layout parts l
@@ -160,7 +164,7 @@ module _ {W : Type 0} (layout : Layout W) (parts : PartsState) (keeps : Keeps la
         → move_of_source parts (link_in layout.links l).propagate source (line_at parts l).last ≡ None
     no_move_of source is going =
         subst (λ (s : LinkSource). move_of_source parts (link_in layout.links l).propagate s (line_at parts l).last ≡ None) is
-        (no_move_at l Idle small serving (is_idle going))
+        (no_move_at l Idle small (is_idle going))
 
     block_has_given : (s : ℕ) → (link_in layout.links l).source ≡ Block s → is_going (line_at parts l).phase ≡ true → BlockHasGivenAll layout parts s
     block_has_given s is going =
@@ -204,7 +208,7 @@ module _ {W : Type 0} (layout : Layout W) (parts : PartsState) (keeps : Keeps la
 
   -- what a quiet block may not do
   record BlockIsQuiet (b : ℕ) : Type 0 where
-    no_work : may_make layout parts b (node_at parts b) ≡ false
+    no_work : may_make layout parts (node_at parts b) ≡ false
     no_completion : may_complete parts (node_at parts b) ≡ false
     no_fault : next_fault parts (node_at parts b) ≡ None
     no_finish : may_finish parts (node_at parts b) ≡ false
@@ -212,7 +216,7 @@ module _ {W : Type 0} (layout : Layout W) (parts : PartsState) (keeps : Keeps la
   block_is_quiet : (b : ℕ) → b < length layout.blocks → BlockIsQuiet b
   block_is_quiet b small =
       let none = passes_below (λ k. is_none (event_at_block layout parts k)) (length layout.blocks) b quiet.at_blocks small in
-      let first = none_first (may_make layout parts b (node_at parts b)) _ _ none in
+      let first = none_first (may_make layout parts (node_at parts b)) _ _ none in
       let second = none_first (may_complete parts (node_at parts b)) _ _ first.1 in
       let third = none_first (is_some (next_fault parts (node_at parts b))) _ _ second.1 in
       let fourth = none_first (may_finish parts (node_at parts b)) _ None third.1 in
@@ -223,46 +227,42 @@ module _ {W : Type 0} (layout : Layout W) (parts : PartsState) (keeps : Keeps la
         no_finish = fourth.0;
       }
 
-  block_has_worked : (b : ℕ) → b < length layout.blocks → takes_part (kind_in layout b) ≡ true
-      → has_stopped (node_at parts b).state ≡ false → (node_at parts b).fault ≡ None → (node_at parts b).held ≡ []
-  block_has_worked b small takes going well =
-      held_empty (takes_part (kind_in layout b)) (not (has_stopped (node_at parts b).state)) (is_none (node_at parts b).fault) (node_at parts b).held
-      (block_is_quiet b small).no_work takes (ap not going) (ap is_none well)
+  block_has_worked : (b : ℕ) → b < length layout.blocks → has_stopped (node_at parts b).state ≡ false → (node_at parts b).fault ≡ None
+      → (node_at parts b).held ≡ []
+  block_has_worked b small going well =
+      held_empty (not (has_stopped (node_at parts b).state)) (is_none (node_at parts b).fault) (node_at parts b).held
+      (block_is_quiet b small).no_work (ap not going) (ap is_none well)
 
-  into_still : (b : ℕ) (into : Option ℕ) → (node_at parts b).into ≡ into → ((l : ℕ) → into ≡ Some l → serves layout parts l ≡ true)
+  into_still : (b : ℕ) (into : Option ℕ) → (node_at parts b).into ≡ into
       → is_coming (elim into [ None ↦ TargetStage.free | Some l ↦ (line_at parts l).target ]) ≡ false
-  into_still b None is serving = refl
-  into_still b (Some l) is serving = none_coming l (keeps.into_there b l is) (serving l refl)
+  into_still b None is = refl
+  into_still b (Some l) is = none_coming l (keeps.into_there b l is)
 
-  out_still : (b : ℕ) (out : Option ℕ) → (node_at parts b).out ≡ out → ((l : ℕ) → out ≡ Some l → serves layout parts l ≡ true)
+  out_still : (b : ℕ) (out : Option ℕ) → (node_at parts b).out ≡ out
       → is_at_home (elim out [ None ↦ SourceStage.free | Some l ↦ (line_at parts l).source ]) ≡ true
-  out_still b None is serving = refl
-  out_still b (Some l) is serving = source_home l (keeps.out_there b l is) (serving l refl)
+  out_still b None is = refl
+  out_still b (Some l) is = source_home l (keeps.out_there b l is)
 
-  block_is_still : (b : ℕ)
-      → ((l : ℕ) → (node_at parts b).into ≡ Some l → serves layout parts l ≡ true)
-      → ((l : ℕ) → (node_at parts b).out ≡ Some l → serves layout parts l ≡ true)
-      → is_still parts (node_at parts b) ≡ true
-  block_is_still b into out =
+  block_is_still : (b : ℕ) → is_still parts (node_at parts b) ≡ true
+  block_is_still b =
       and_true (not (is_coming (stage_into parts (node_at parts b)))) (is_at_home (stage_out parts (node_at parts b)))
-      (ap not (into_still b (node_at parts b).into refl into))
-      (out_still b (node_at parts b).out refl out)
+      (ap not (into_still b (node_at parts b).into refl))
+      (out_still b (node_at parts b).out refl)
 
-  faults_have_come : (b : ℕ) → b < length layout.blocks → has_stopped (node_at parts b).state ≡ false → is_still parts (node_at parts b) ≡ true
-      → fault_cause parts (node_at parts b) ≡ None
-  faults_have_come b small going still =
+  faults_have_come : (b : ℕ) → b < length layout.blocks → has_stopped (node_at parts b).state ≡ false → fault_cause parts (node_at parts b) ≡ None
+  faults_have_come b small going =
       none_where (not (has_stopped (node_at parts b).state) && is_still parts (node_at parts b)) (fault_cause parts (node_at parts b))
-      (and_true (not (has_stopped (node_at parts b).state)) (is_still parts (node_at parts b)) (ap not going) still)
+      (and_true (not (has_stopped (node_at parts b).state)) (is_still parts (node_at parts b)) (ap not going) (block_is_still b))
       (block_is_quiet b small).no_fault
 
   all_at_rest : AtRest layout parts
   all_at_rest = record {
-    links = λ l small serving. link_rests l small serving;
-    from_blocks = λ l s small serving is going. block_has_given l small serving s is going;
-    from_inputs = λ l b feed small serving is going there. input_has_given l small serving b feed is going there;
-    blocks = λ b small takes going well. block_has_worked b small takes going well;
-    still = λ b small into out. block_is_still b into out;
-    faults = λ b small going still. faults_have_come b small going still;
+    links = link_rests;
+    from_blocks = λ l s small is going. block_has_given l small s is going;
+    from_inputs = λ l b feed small is going there. input_has_given l small b feed is going there;
+    blocks = block_has_worked;
+    still = λ b small. block_is_still b;
+    faults = faults_have_come;
     no_completion = λ b small. (block_is_quiet b small).no_completion;
     no_finish = λ b small. (block_is_quiet b small).no_finish;
   }

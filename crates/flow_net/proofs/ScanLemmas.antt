@@ -62,7 +62,7 @@ module _ {W : Type 0} (layout : Layout W) (parts : PartsState) (quiet : IsQuiet 
 
   module _ (b : ℕ) where
     makes : Bool
-    makes = may_make layout parts b (node_at parts b)
+    makes = may_make layout parts (node_at parts b)
 
     completes : Bool
     completes = may_complete parts (node_at parts b)

@@ -1,5 +1,5 @@
 -- One more mark changes the state of a block as that mark says.
-use Rattle.std.proofs.Common.{◌≡◌, ℕ, Bool, true, false, ◌||◌, List, [], ◌∷◌, ◌++◌, Option, Some, None, refl, ap, sym, subst, ◌∙◌}
+use Rattle.std.proofs.Common.{◌≡◌, ℕ, Bool, true, false, ◌||◌, List, [], ◌∷◌, ◌++◌, Option, Some, None, refl, ap, ◌∙◌}
 use Rattle.flow_value.specs.declared.value.Value.{Value}
 use Rattle.flow_link.specs.declared.trace.Mark.{Mark}
 use Rattle.flow_link.specs.declared.trace.Mark.TheVariants.{Took, Gave, Complete, Fault, Done}
@@ -7,7 +7,6 @@ use Rattle.flow_link.specs.Lists.{some}
 use Rattle.flow_link.specs.Trace.{is_done, has_complete, is_done_mark, is_complete_mark}
 use Rattle.flow_net.specs.Events.{is_open, has_stopped, is_completing}
 use Rattle.flow_net.specs.States.{fault_in, state_from, state_by}
-use Rattle.flow_net.specs.declared.posted.State.{State}
 use Rattle.flow_net.specs.declared.posted.State.TheVariants as state
 
 or_on : (b x y z : Bool) → x ≡ y || z → b || x ≡ (b || y) || z

@@ -6,7 +6,7 @@ use Rattle.flow_link.specs.declared.plan.LinkSource.TheVariants.{Block, Input}
 use Rattle.flow_link.specs.declared.trace.Ending.TheVariants.{Open}
 use Rattle.flow_link.specs.Layout.{Layout}
 use Rattle.flow_link.specs.Plan.{link_in}
-use Rattle.flow_net.specs.Events.{takes_part, has_stopped, kind_in, is_still, fault_cause, may_complete, may_finish, serves}
+use Rattle.flow_net.specs.Events.{has_stopped, is_still, fault_cause, may_complete, may_finish}
 use Rattle.flow_net.specs.Parts.{FeedState, PartsState, node_at, feed_at, line_at}
 use Rattle.flow_net.specs.Seen.{given_from, taken_into}
 
@@ -41,20 +41,17 @@ module _ {W : Type 0} (layout : Layout W) (parts : PartsState) where
     pub not_ended : feed.ending ≡ Open
 
   pub record AtRest : Type 0 where
-    pub links : (l : ℕ) → l < length layout.links → serves layout parts l ≡ true → LinkRests l
-    pub from_blocks : (l s : ℕ) → l < length layout.links → serves layout parts l ≡ true → (link_in layout.links l).source ≡ Block s
+    pub links : (l : ℕ) → l < length layout.links → LinkRests l
+    pub from_blocks : (l s : ℕ) → l < length layout.links → (link_in layout.links l).source ≡ Block s
         → is_going (line_at parts l).phase ≡ true → BlockHasGivenAll s
-    pub from_inputs : (l b : ℕ) (feed : FeedState) → l < length layout.links → serves layout parts l ≡ true → (link_in layout.links l).source ≡ Input b
+    pub from_inputs : (l b : ℕ) (feed : FeedState) → l < length layout.links → (link_in layout.links l).source ≡ Input b
         → is_going (line_at parts l).phase ≡ true → feed_at parts b ≡ Some feed → InputHasGivenAll l b feed
     -- a block that could work has worked on all that it took
-    pub blocks : (b : ℕ) → b < length layout.blocks → takes_part (kind_in layout b) ≡ true
+    pub blocks : (b : ℕ) → b < length layout.blocks
         → has_stopped (node_at parts b).state ≡ false → (node_at parts b).fault ≡ None → (node_at parts b).held ≡ []
-    -- a block whose links serve is still, and then its faults have come
-    pub still : (b : ℕ) → b < length layout.blocks
-        → ((l : ℕ) → (node_at parts b).into ≡ Some l → serves layout parts l ≡ true)
-        → ((l : ℕ) → (node_at parts b).out ≡ Some l → serves layout parts l ≡ true)
-        → is_still parts (node_at parts b) ≡ true
-    pub faults : (b : ℕ) → b < length layout.blocks → has_stopped (node_at parts b).state ≡ false → is_still parts (node_at parts b) ≡ true
+    -- nothing is under way at a block, and its faults have come
+    pub still : (b : ℕ) → b < length layout.blocks → is_still parts (node_at parts b) ≡ true
+    pub faults : (b : ℕ) → b < length layout.blocks → has_stopped (node_at parts b).state ≡ false
         → fault_cause parts (node_at parts b) ≡ None
     -- and so has its end
     pub no_completion : (b : ℕ) → b < length layout.blocks → may_complete parts (node_at parts b) ≡ false

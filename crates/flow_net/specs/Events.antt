@@ -1,10 +1,8 @@
 -- What may happen next in a network, and what has changed when it has happened.
-use Rattle.std.specs.Prelude.{◌≡◌, ℕ, suc, ◌==◌, ltb, Bool, true, false, cond, not, ◌&&◌, ◌||◌, List, [], ◌∷◌, ◌++◌, length, get_or, set, map, option_map, is_some, is_none, Option, Some, None, Result, Ok, Err}
+use Rattle.std.specs.Prelude.{◌≡◌, ℕ, suc, ltb, Bool, true, false, cond, not, ◌&&◌, List, [], ◌∷◌, ◌++◌, length, get_or, set, map, option_map, is_some, is_none, Option, Some, None, Result, Ok, Err}
 use Rattle.flow_value.specs.declared.value.Value.{Value}
-use Rattle.flow_value.specs.declared.when.When.{When}
-use Rattle.flow_value.specs.declared.when.When.TheVariants.{Any}
 use Rattle.flow_link.specs.declared.draft.BlockKind.{BlockKind}
-use Rattle.flow_link.specs.declared.draft.BlockKind.TheVariants.{Buffer, Action}
+use Rattle.flow_link.specs.declared.draft.BlockKind.TheVariants.{Action, Transform}
 use Rattle.flow_link.specs.declared.phase.LinkEnd.{LinkEnd}
 use Rattle.flow_link.specs.declared.phase.LinkEnd.TheVariants.{Plain, Complete as end_complete, Fault as end_fault}
 use Rattle.flow_link.specs.declared.phase.Move.{Move}
@@ -20,11 +18,13 @@ use Rattle.flow_link.specs.declared.trace.Ending.{Ending}
 use Rattle.flow_link.specs.declared.trace.Ending.TheVariants.{Open as ending_open, Complete as ending_complete, Fault as ending_fault}
 use Rattle.flow_link.specs.declared.trace.Mark.TheVariants.{Took, Gave, Complete as mark_complete, Fault as mark_fault, Done as mark_done}
 use Rattle.flow_link.specs.Composes.{is_coming}
+use Rattle.flow_link.specs.Looks.{source_finds, target_finds}
 use Rattle.flow_link.specs.Layout.{Layout}
 use Rattle.flow_link.specs.Lists.{is_empty}
+use Rattle.flow_link.specs.Making.{result_of}
 use Rattle.flow_link.specs.Plan.{block_in, link_in}
 use Rattle.flow_link.specs.Views.{SourceStage, TargetStage, Refusal}
-use Rattle.flow_net.specs.Parts.{NodeState, FeedState, LineState, PartsState, fresh_line, node_at, feed_at, line_at}
+use Rattle.flow_net.specs.Parts.{NodeState, FeedState, LineState, PartsState, node_at, feed_at, line_at}
 use Rattle.flow_net.specs.declared.event.Event.{Event}
 use Rattle.flow_net.specs.declared.event.Event.TheVariants.{Link as at_link, Make, Complete, Fault, Done}
 use Rattle.flow_net.specs.declared.posted.State.{State}
@@ -40,10 +40,6 @@ rest_of (_ ∷ values) = values
 
 abbrev pub value_at : List Value → ℕ → Option Value
 value_at values n = get_or (map Some values) n None
-
-abbrev pub is_number : ℕ → Option ℕ → Bool
-is_number n None = false
-is_number n (Some m) = m == n
 
 -- the block takes no message any more, of itself or by its own fault
 abbrev pub is_open : State → Bool
@@ -63,20 +59,6 @@ abbrev pub refusal_by : State → Option ℕ → Option Refusal
 refusal_by state.Open None = None
 refusal_by state.Open (Some _) = Some Refusal.own_fault
 refusal_by _ _ = Some Refusal.port_ended
-
--- the kinds of blocks that take part
-abbrev pub takes_part : BlockKind → Bool
-takes_part Buffer = true
-takes_part Action = true
-takes_part _ = false
-
-abbrev pub keeps_results : BlockKind → Bool
-keeps_results Action = true
-keeps_results _ = false
-
-abbrev pub is_any : When → Bool
-is_any Any = true
-is_any _ = false
 
 -- how a link ends: it passes its source's end on, or ends plainly
 abbrev pub end_as : Bool → LinkEnd → LinkEnd
@@ -125,31 +107,35 @@ abbrev pub fault_brought : TargetStage Value → Option ℕ
 fault_brought (TargetStage.ended (end_fault n)) = Some n
 fault_brought _ = None
 
--- a link's line after a move
+-- a link's line after a move of one end and a look of the other
 abbrev pub offered : ℕ → LineState → LineState
-offered i line = record line { phase = Offered i; source = SourceStage.out i; target = TargetStage.offered i }
+offered i line = record line { phase = Offered i; source = SourceStage.out i; target = target_finds line.target (Offered i) }
 
 abbrev pub wanted : ℕ → LineState → LineState
-wanted i line = record line { phase = Wanted i; source = SourceStage.accepted i; target = TargetStage.accepted i }
+wanted i line = record line { phase = Wanted i; source = source_finds line.source (Wanted i); target = TargetStage.accepted i }
 
 abbrev pub refused : Refusal → LineState → LineState
-refused why line = record line { phase = Refused; source = SourceStage.refused; target = TargetStage.refused why }
+refused why line = record line { phase = Refused; source = source_finds line.source Refused; target = TargetStage.refused why }
 
 abbrev pub given : ℕ → Value → LineState → LineState
-given i value line = record line { phase = Given i; slot = Some value; source = SourceStage.crossing; target = TargetStage.arrived i; last = i }
+given i value line = record line { phase = Given i; slot = Some value; source = SourceStage.crossing; target = target_finds line.target (Given i); last = i }
 
 abbrev pub opened : ℕ → Value → LineState → LineState
-opened i value line = record line { phase = Opened i; slot = None; target = TargetStage.hand i value }
+opened i value line = record line { phase = Opened i; slot = None; source = source_finds line.source (Opened i); target = TargetStage.hand i value }
 
 abbrev pub taken_out : ℕ → Option Value → LineState → LineState
 taken_out i (Some value) line = opened i value line
 taken_out i None line = line
 
 abbrev pub closed : LineState → LineState
-closed line = record line { phase = Idle; source = SourceStage.free; target = TargetStage.free }
+closed line = record line { phase = Idle; source = source_finds line.source Idle; target = TargetStage.free }
+
+-- the block has set room aside for the message that comes, and takes it
+abbrev pub expecting : NodeState → NodeState
+expecting node = record node { expects = true }
 
 abbrev pub takes : ℕ → ℕ → Value → NodeState → NodeState
-takes p l value node = record node { journal = node.journal ++ Took p l value ∷ []; held = node.held ++ value ∷ [] }
+takes p l value node = record node { journal = node.journal ++ Took p l value ∷ []; held = node.held ++ value ∷ []; expects = false }
 
 -- the message that was in hand is taken, and the link is free
 abbrev pub takes_in_hand : ℕ → ℕ → TargetStage Value → NodeState → NodeState
@@ -161,14 +147,20 @@ closed_by (TargetStage.hand i value) line = closed line
 closed_by _ line = line
 
 abbrev pub ended : LinkEnd → LineState → LineState
-ended how line = record line { phase = Ended how; source = SourceStage.ended how; target = TargetStage.ended how }
+ended how line = record line { phase = Ended how; source = SourceStage.ended how; target = target_finds line.target (Ended how) }
 
--- a block or an input after a move of its own
+-- a block or an input has made a parcel of what is next, and gives it
+abbrev pub offers : NodeState → NodeState
+offers node = record node { offer = first_of node.left }
+
 abbrev pub gives : ℕ → Value → NodeState → NodeState
-gives l value node = record node { journal = node.journal ++ Gave l value ∷ []; left = rest_of node.left }
+gives l value node = record node { journal = node.journal ++ Gave l value ∷ []; left = rest_of node.left; offer = None }
+
+abbrev pub sets_out : FeedState → FeedState
+sets_out feed = record feed { offer = value_at feed.posted feed.sent }
 
 abbrev pub sends : FeedState → FeedState
-sends feed = record feed { sent = suc feed.sent }
+sends feed = record feed { sent = suc feed.sent; offer = None }
 
 -- a block after a step of its own
 abbrev pub hands_on : NodeState → NodeState
@@ -178,9 +170,22 @@ abbrev pub works : Result (List Value) ℕ → NodeState → NodeState
 works (Ok results) node = record node { held = rest_of node.held; recorded = node.recorded ++ results }
 works (Err n) node = record node { fault = Some n }
 
--- the results of the message that it holds first
+abbrev pub yields : Result (List Value) ℕ → NodeState → NodeState
+yields (Ok results) node = record node { held = rest_of node.held; left = node.left ++ results }
+yields (Err n) node = record node { fault = Some n }
+
+-- the results of the message that it holds first: an action keeps them, a transform gives them
 abbrev pub applies : (Value → Result (List Value) ℕ) → NodeState → NodeState
 applies result node = elim (first_of node.held) [ None ↦ node | Some value ↦ works (result value) node ]
+
+abbrev pub transforms : (Value → Result (List Value) ℕ) → NodeState → NodeState
+transforms result node = elim (first_of node.held) [ None ↦ node | Some value ↦ yields (result value) node ]
+
+-- a block of this kind makes what is next
+abbrev pub makes_as : BlockKind → (Value → Result (List Value) ℕ) → NodeState → NodeState
+makes_as Action result node = applies result node
+makes_as Transform result node = transforms result node
+makes_as _ result node = hands_on node
 
 abbrev pub completes : ℕ → NodeState → NodeState
 completes p node = record node { journal = node.journal ++ mark_complete p ∷ []; state = state.Completing }
@@ -205,6 +210,15 @@ with_feed b change old = record old { feeds = set old.feeds b (option_map change
 abbrev pub with_line : ℕ → (LineState → LineState) → PartsState → PartsState
 with_line l change old = record old { lines = set old.lines l (change (line_at old l)) }
 
+-- what the end of a link that moves has changed beside the link
+abbrev pub with_offer : LinkSource → PartsState → PartsState
+with_offer (Block s) old = with_node s offers old
+with_offer (Input b) old = with_feed b sets_out old
+
+abbrev pub with_wish : LinkTarget → PartsState → PartsState
+with_wish (Port t p) old = with_node t expecting old
+with_wish Exit old = old
+
 abbrev pub with_source : ℕ → LinkSource → Value → PartsState → PartsState
 with_source l (Block s) value old = with_node s (gives l value) old
 with_source l (Input b) value old = with_feed b sends old
@@ -215,15 +229,20 @@ with_target l Exit stage old = old
 
 -- what may happen next, as the parts of the network have it
 module _ (parts : PartsState) where
-  -- the link is the one that leads out of its source
-  abbrev pub serves_from : ℕ → LinkSource → Bool
-  serves_from l (Block s) = is_number l (node_at parts s).out
-  serves_from l (Input _) = true
-
   -- the message that the source gives next
   abbrev pub head_of : LinkSource → Option Value
   head_of (Block s) = first_of (node_at parts s).left
   head_of (Input b) = elim (feed_at parts b) [ None ↦ None | Some feed ↦ value_at feed.posted feed.sent ]
+
+  -- the message that the source has made ready to be given
+  abbrev pub offer_of : LinkSource → Option Value
+  offer_of (Block s) = (node_at parts s).offer
+  offer_of (Input b) = elim (feed_at parts b) [ None ↦ None | Some feed ↦ feed.offer ]
+
+  -- the target has set room aside
+  abbrev pub expects_at : LinkTarget → Bool
+  expects_at (Port t p) = (node_at parts t).expects
+  expects_at Exit = false
 
   abbrev pub move_of_source : Bool → LinkSource → ℕ → Option Move
   move_of_source passes (Block s) last = move_of_node passes (node_at parts s) last
@@ -236,9 +255,9 @@ module _ (parts : PartsState) where
   abbrev pub move_at : Link → LineState → Phase → Option Move
   move_at link line Idle = move_of_source link.propagate link.source line.last
   move_at link line (Offered _) = Some (answer_by (refusal_at link.target))
-  move_at link line (Wanted _) = cond (is_some (head_of link.source)) (Some Give) None
+  move_at link line (Wanted _) = cond (is_some (head_of link.source) && is_some (offer_of link.source)) (Some Give) None
   move_at link line (Given _) = cond (is_some line.slot) (Some Open) None
-  move_at link line (Opened _) = cond (is_hand line.target) (Some Close) None
+  move_at link line (Opened _) = cond (is_hand line.target && expects_at link.target) (Some Close) None
   move_at link line _ = None
 
   -- where the ends of a block's links stand
@@ -267,17 +286,21 @@ module _ (parts : PartsState) where
   may_finish node = is_completing node.state && is_still node && is_empty node.held && is_empty node.left
 
   -- what a move has changed
-  abbrev pub after_want : ℕ → Phase → PartsState
-  after_want l (Offered i) = with_line l (wanted i) parts
-  after_want l _ = parts
+  abbrev pub after_offer : ℕ → LinkSource → ℕ → PartsState
+  after_offer l source i = with_offer source (with_line l (offered i) parts)
+
+  abbrev pub after_want : ℕ → LinkTarget → Phase → PartsState
+  after_want l target (Offered i) = with_wish target (with_line l (wanted i) parts)
+  after_want l target _ = parts
 
   abbrev pub after_refusal : ℕ → Option Refusal → PartsState
   after_refusal l (Some why) = with_line l (refused why) parts
   after_refusal l None = parts
 
-  abbrev pub after_give : ℕ → LinkSource → Phase → Option Value → PartsState
-  after_give l source (Wanted i) (Some value) = with_source l source value (with_line l (given i value) parts)
-  after_give l source _ _ = parts
+  -- the parcel crosses, and the value itself goes into the source's mark
+  abbrev pub after_give : ℕ → LinkSource → Phase → Option Value → Option Value → PartsState
+  after_give l source (Wanted i) (Some value) (Some parcel) = with_source l source value (with_line l (given i parcel) parts)
+  after_give l source _ _ _ = parts
 
   abbrev pub after_opening : ℕ → Phase → Option Value → PartsState
   after_opening l (Given i) slot = with_line l (taken_out i slot) parts
@@ -287,10 +310,10 @@ module _ (parts : PartsState) where
   after_closing l target stage = with_target l target stage (with_line l (closed_by stage) parts)
 
   abbrev pub after_move : ℕ → Link → Move → PartsState
-  after_move l link (Offer i) = with_line l (offered i) parts
-  after_move l link Want = after_want l (line_at parts l).phase
+  after_move l link (Offer i) = after_offer l link.source i
+  after_move l link Want = after_want l link.target (line_at parts l).phase
   after_move l link Refuse = after_refusal l (refusal_at link.target)
-  after_move l link Give = after_give l link.source (line_at parts l).phase (head_of link.source)
+  after_move l link Give = after_give l link.source (line_at parts l).phase (head_of link.source) (offer_of link.source)
   after_move l link Open = after_opening l (line_at parts l).phase (line_at parts l).slot
   after_move l link Close = after_closing l link.target (line_at parts l).target
   after_move l link (End how) = with_line l (ended how) parts
@@ -302,29 +325,18 @@ module _ (parts : PartsState) where
 
 -- what may happen next in a network with this layout
 module _ {W : Type 0} (layout : Layout W) (parts : PartsState) where
-  -- the link is the one that leads out of its source, and into its target, and carries any number of any values
-  abbrev pub serves_to : ℕ → LinkTarget → Bool
-  serves_to l (Port t p) = p == 0 && takes_part (kind_in layout t) && is_number l (node_at parts t).into
-  serves_to l Exit = false
-
-  abbrev pub serves_as : ℕ → Link → Bool
-  serves_as l link = is_any link.when && is_none link.max && serves_from parts l link.source && serves_to l link.target
-
-  abbrev pub serves : ℕ → Bool
-  serves l = serves_as l (link_in layout.links l)
-
   -- the move that is next at a link, if there is one: no two are enabled at once
   abbrev pub next_move : ℕ → Option Move
-  next_move l = cond (serves l) (move_at parts (link_in layout.links l) (line_at parts l) (line_at parts l).phase) None
+  next_move l = move_at parts (link_in layout.links l) (line_at parts l) (line_at parts l).phase
 
   -- a block works on what it holds, until it has ended or its function has faulted
-  abbrev pub may_make : ℕ → NodeState → Bool
-  may_make b node = takes_part (kind_in layout b) && not (has_stopped node.state) && is_none node.fault && not (is_empty node.held)
+  abbrev pub may_make : NodeState → Bool
+  may_make node = not (has_stopped node.state) && is_none node.fault && not (is_empty node.held)
 
-  -- this may happen
+  -- this may happen, at a link or block of the layout
   abbrev pub Enabled : Event → Type 0
   Enabled (at_link l step) = next_move l ≡ Some step
-  Enabled (Make b) = may_make b (node_at parts b) ≡ true
+  Enabled (Make b) = may_make (node_at parts b) ≡ true
   Enabled (Complete b p) = (p ≡ 0) × (may_complete parts (node_at parts b) ≡ true)
   Enabled (Fault b) = is_some (next_fault parts (node_at parts b)) ≡ true
   Enabled (Done b) = may_finish parts (node_at parts b) ≡ true
@@ -335,7 +347,7 @@ module _ {W : Type 0} (layout : Layout W) (parts : PartsState) where
 
   abbrev pub event_of : ℕ → NodeState → Option Event
   event_of b node =
-      cond (may_make b node) (Some (Make b))
+      cond (may_make node) (Some (Make b))
       (cond (may_complete parts node) (Some (Complete b 0))
       (cond (is_some (next_fault parts node)) (Some (Fault b))
       (cond (may_finish parts node) (Some (Done b)) None)))
@@ -346,7 +358,7 @@ module _ {W : Type 0} (layout : Layout W) (parts : PartsState) where
 -- what has changed when it has happened
 module _ {W : Type 0} (layout : Layout W) (meaning : ℕ → Value → Result (List Value) ℕ) (parts : PartsState) where
   abbrev pub made_by : ℕ → NodeState → NodeState
-  made_by b node = cond (keeps_results (kind_in layout b)) (applies (meaning b) node) (hands_on node)
+  made_by b node = makes_as (kind_in layout b) (λ value. result_of (kind_in layout b) (meaning b value)) node
 
   abbrev pub after : Event → PartsState
   after (at_link l step) = after_move parts l (link_in layout.links l) step

@@ -1,10 +1,12 @@
 pub mod AtRest
+pub mod BlockKeeps
 pub mod Events
 pub mod Fresh
 pub mod Keeps
 pub mod Made
 pub mod Net
 pub mod Parts
+pub mod Schedules
 pub mod Seen
 pub mod Settles
 pub mod Stage

@@ -11,9 +11,13 @@ use Rattle.flow_net.specs.declared.posted.Posted.{Posted}
 abbrev pub input_of : Posted → InputTrace
 input_of posted = record { posted = posted.values.items; ending = posted.ending }
 
--- none of what is posted was given
-abbrev pub Unsent : List (Option FeedState) → Type 0
-Unsent feeds = (b : ℕ) (feed : FeedState) → get_or feeds b None ≡ Some feed → feed.sent ≡ 0
+-- an input that has given nothing, and offers nothing
+pub record HasNotBegun (feed : FeedState) : Type 0 where
+  pub unsent : feed.sent ≡ 0
+  pub not_offered : feed.offer ≡ None
+
+abbrev pub NotBegun : List (Option FeedState) → Type 0
+NotBegun feeds = (b : ℕ) (feed : FeedState) → get_or feeds b None ≡ Some feed → HasNotBegun feed
 
 module _ {W : Type 0} (layout : Layout W) where
   -- a block that has done nothing, with the first link that leads into it and the first that leads out of it

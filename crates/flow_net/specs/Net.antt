@@ -9,11 +9,11 @@ use Rattle.flow_net.specs.Parts.{PartsState}
 use Rattle.flow_net.specs.Seen.{run_with}
 use Rattle.flow_net.specs.declared.net.Net.{Net}
 
-abbrev pub layout_in : {W : Type 0} → Net W → Layout W
+abbrev pub layout_in : {W : Type 0} {w : _} {e : _} → Net W w e → Layout W
 layout_in net = layout_of net.engine.plan
 
-abbrev pub parts_of : {W : Type 0} → Net W → PartsState
+abbrev pub parts_of : {W : Type 0} {w : _} {e : _} → Net W w e → PartsState
 parts_of net = net.engine.parts
 
-abbrev pub run_of : {W : Type 0} → (W → Value → Result (List Value) WorkFault) → Net W → Run W
+abbrev pub run_of : {W : Type 0} {w : _} {e : _} → (W → Value → Result (List Value) WorkFault) → Net W w e → Run W
 run_of meaning net = run_with meaning (layout_in net) (parts_of net)

@@ -1,5 +1,5 @@
 -- The state of a network as plain data: what each block, input and link has come to.
-use Rattle.std.specs.Prelude.{ℕ, List, [], ◌∷◌, get_or, Option, None}
+use Rattle.std.specs.Prelude.{ℕ, Bool, false, List, [], get_or, Option, None}
 use Rattle.flow_value.specs.declared.value.Value.{Value}
 use Rattle.flow_link.specs.declared.phase.Phase.{Phase}
 use Rattle.flow_link.specs.declared.phase.Phase.TheVariants.{Idle}
@@ -22,12 +22,18 @@ pub record NodeState : Type 0 where
   -- the fault of its own function, once it is known
   pub fault : Option ℕ
   pub state : State
+  -- the message that it offered last and has not given, for which a parcel is made and room for its mark is set aside
+  pub offer : Option Value
+  -- it wants a message, for which room is set aside, and room for its mark
+  pub expects : Bool
 
 -- the values that are posted to a block, of which so many were given
 pub record FeedState : Type 0 where
   pub posted : List Value
   pub sent : ℕ
   pub ending : Ending
+  -- the message that it offered last and has not given, for which a parcel is made
+  pub offer : Option Value
 
 -- a link with what its two ends know of it
 pub record LineState : Type 0 where
@@ -46,7 +52,7 @@ pub record PartsState : Type 0 where
 
 -- where nothing has happened
 abbrev pub fresh_node : NodeState
-fresh_node = record { into = None; out = None; journal = []; held = []; left = []; recorded = []; fault = None; state = Open }
+fresh_node = record { into = None; out = None; journal = []; held = []; left = []; recorded = []; fault = None; state = Open; offer = None; expects = false }
 
 abbrev pub fresh_line : LineState
 fresh_line = record { phase = Idle; slot = None; source = SourceStage.free; target = TargetStage.free; last = 0 }

@@ -1,9 +1,8 @@
 -- What a network's state says of a run: its trace, and what each end of a link knows of it.
-use Rattle.std.specs.Prelude.{ℕ, Bool, List, [], ◌∷◌, map, take, is_some, unwrap_or, Option, Some, None, Result, Ok, Err}
+use Rattle.std.specs.Prelude.{ℕ, List, [], ◌∷◌, map, take, unwrap_or, Option, Some, None, Result, Ok, Err}
 use Rattle.flow_value.specs.Fault.{number_of}
 use Rattle.flow_value.specs.declared.value.Value.{Value}
 use Rattle.flow_value.specs.declared.work.WorkFault.{WorkFault}
-use Rattle.flow_link.specs.declared.draft.BlockDef.{BlockDef}
 use Rattle.flow_link.specs.declared.plan.LinkSource.{LinkSource}
 use Rattle.flow_link.specs.declared.plan.LinkSource.TheVariants.{Block, Input}
 use Rattle.flow_link.specs.declared.plan.LinkTarget.{LinkTarget}
@@ -13,7 +12,7 @@ use Rattle.flow_link.specs.Layout.{Layout}
 use Rattle.flow_link.specs.Plan.{block_in, link_in}
 use Rattle.flow_link.specs.Trace.{BlockTrace, InputTrace, Trace, Run, gave_over, took_over}
 use Rattle.flow_link.specs.Views.{SourceView, TargetView}
-use Rattle.flow_net.specs.Parts.{NodeState, FeedState, LineState, PartsState, node_at, feed_at, line_at}
+use Rattle.flow_net.specs.Parts.{NodeState, FeedState, PartsState, node_at, feed_at, line_at}
 
 -- what a block leaves: all kinds that take part have one port
 abbrev pub block_trace : NodeState → BlockTrace

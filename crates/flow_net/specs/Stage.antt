@@ -1,5 +1,4 @@
 -- The stages of a link's two ends, as the program keeps them and as the model names them.
-use Rattle.std.specs.Prelude.{ℕ}
 use Rattle.flow_value.specs.declared.value.Value.{Value}
 use Rattle.flow_link.specs.Views as views
 use Rattle.flow_net.specs.declared.stage.SourceStage.{SourceStage}

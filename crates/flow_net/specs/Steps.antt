@@ -1,17 +1,18 @@
 -- A number of events, one after another, each of which may happen when it does.
-use Rattle.std.specs.Prelude.{◌≡◌, ℕ, zero, suc, Bool, true, is_none, length, ◌&&◌, List, Result}
+use Rattle.std.specs.Prelude.{◌≡◌, ℕ, zero, suc, true, is_none, length, List, Result}
 use Rattle.flow_value.specs.declared.value.Value.{Value}
 use Rattle.flow_link.specs.Layout.{Layout}
 use Rattle.flow_link.specs.Lists.{every, below}
-use Rattle.flow_net.specs.Events.{Enabled, after, event_at_link, event_at_block}
+use Rattle.flow_net.specs.Events.{after, event_at_link, event_at_block}
 use Rattle.flow_net.specs.Parts.{PartsState}
+use Rattle.flow_net.specs.There.{MayHappen}
 use Rattle.flow_net.specs.declared.event.Event.{Event}
 
 module _ {W : Type 0} (layout : Layout W) (meaning : ℕ → Value → Result (List Value) ℕ) where
   -- an event leads from one state to another
   pub record Leads (old new : PartsState) : Type 0 where
     pub event : Event
-    pub enabled : Enabled layout old event
+    pub enabled : MayHappen layout old event
     pub new_is : new ≡ after layout meaning old event
 
   -- exactly so many events

@@ -9,6 +9,8 @@ use Rattle.flow_link.specs.Layout.{Layout}
 use Rattle.flow_net.specs.Events.{Enabled, next_move}
 use Rattle.flow_net.specs.Parts.{PartsState}
 use Rattle.flow_net.specs.declared.event.Event.{Event}
+use Rattle.flow_net.specs.declared.fault.NetFault.{NetFault}
+use Rattle.flow_net.specs.declared.fault.NetFault.TheVariants.{NotEnabled, Ids, Memory}
 use Rattle.flow_net.specs.declared.event.Event.TheVariants.{Link as at_link, Make, Complete, Fault, Done}
 
 -- there is a place for each block, input and link of the layout
@@ -24,11 +26,6 @@ SourceIsThere parts (Input b) = b < length parts.feeds
 abbrev pub TargetIsThere : PartsState → LinkTarget → Type 0
 TargetIsThere parts (Port t p) = t < length parts.nodes
 TargetIsThere parts Exit = Unit {0}
-
--- it is the port of a block
-abbrev pub IsPort : LinkTarget → Type 0
-IsPort (Port t p) = Unit {0}
-IsPort Exit = ⊥
 
 -- the link or block of an event is there
 abbrev pub EventIsThere : {W : Type 0} → Layout W → Event → Type 0
@@ -50,3 +47,10 @@ pub record NeedsId {W : Type 0} (layout : Layout W) (parts : PartsState) : Type 
   pub there : link < length layout.links
   pub offers : next_move layout parts link ≡ Some (Offer id)
   pub too_great : 2 ^ 59 ≤ id
+
+-- why an event is not done: it may not happen; or a message that would be offered next has no id left, and it may not either;
+-- or there is no memory for it
+abbrev pub IsWhyNot : {W : Type 0} → Layout W → PartsState → Event → NetFault → Type 0
+IsWhyNot layout parts event NotEnabled = MayHappen layout parts event → ⊥
+IsWhyNot layout parts event Ids = NeedsId layout parts × (MayHappen layout parts event → ⊥)
+IsWhyNot layout parts event Memory = MayHappen layout parts event

@@ -36,8 +36,7 @@ impl Agenda {
         for _ in 0..blocks {
             agenda.has_block.push(false)?;
         }
-        agenda.spots.reserve(links)?;
-        agenda.spots.reserve(blocks)?;
+        agenda.spots.reserve(links.saturating_add(blocks))?;
         agenda.list_all(links, blocks);
         Ok(agenda)
     }

@@ -1,12 +1,12 @@
 //! Drives the blocks and links of a network: finds an event that may happen, does it, and goes on.
-ghost use Rattle.std.specs.Prelude.{◌≡◌, ℕ, ◌<◌, length, true, is_none, IsTrue, IfOk, IfErr, IfSome, IfNone, ◌↔◌, OnOk, OnErr, Err};
+ghost use Rattle.std.specs.Prelude.{◌≡◌, ◌≢◌, ℕ, ◌<◌, length, true, is_none, IsTrue, IfOk, IfErr, IfSome, IfNone, ◌↔◌, OnOk, OnErr, Err};
 ghost use Rattle.flow_link.specs.Planned.{layout_of};
 ghost use Rattle.flow_net.specs.Events.{after, event_at_link, event_at_block};
 ghost use Rattle.flow_net.specs.Seen.{works_of};
 ghost use Rattle.flow_net.specs.Settles.{Settles, GoesOn};
 ghost use Rattle.flow_net.specs.Steps.{IsQuiet};
-ghost use Rattle.flow_net.specs.There.{Fits, MayHappen, NeedsId};
-ghost use Rattle.flow_net.specs.declared.fault.NetFault.TheVariants.{Ids, Memory};
+ghost use Rattle.flow_net.specs.There.{EventIsThere, Fits, IsWhyNot, MayHappen, NeedsId};
+ghost use Rattle.flow_net.specs.declared.fault.NetFault.TheVariants.{NotEnabled, Ids, Memory};
 
 use crate::agenda::{Agenda, Spot};
 use crate::event::Event;
@@ -126,6 +126,25 @@ impl<W: Work> Engine<W> {
         Ok(())
     }
 
+    /// Does this event, if it may happen.
+    pub(crate) fn event(&mut self, alloc: Global, event: &Event) -> Result<(), NetFault>
+        requires fits { Fits (layout_of self.old.plan) self.old.parts }
+        requires there { EventIsThere (layout_of self.old.plan) event.now }
+        ensures same_plan { self.new.plan ≡ self.old.plan }
+        ensures enabled { OnOk result (MayHappen (layout_of self.old.plan) self.old.parts event.now) }
+        ensures done { OnOk result (self.new.parts ≡ after (layout_of self.old.plan) (works_of W.meaning (layout_of self.old.plan)) self.old.parts event.now) }
+        ensures kept { OnErr result (self.new.parts ≡ self.old.parts) }
+        ensures why { IfErr result (IsWhyNot (layout_of self.old.plan) self.old.parts event.now) }
+        ensures still_fits { Fits (layout_of self.old.plan) self.new.parts }
+        ensures goes_on { GoesOn (layout_of self.old.plan) (works_of W.meaning (layout_of self.old.plan)) 1 self.old.parts self.new.parts }
+    {
+        if self.parts.may_happen(&self.plan, event)? {
+            self.go(alloc, *event)
+        } else {
+            Err(NetFault::NotEnabled)
+        }
+    }
+
     /// Does events until nothing may happen any more, or as many as the limit are done.
     pub(crate) fn settle(&mut self, alloc: Global, limit: u64) -> Result<Settled, NetFault>
         requires fits { Fits (layout_of self.old.plan) self.old.parts }
@@ -134,6 +153,7 @@ impl<W: Work> Engine<W> {
         ensures still_fits { Fits (layout_of self.old.plan) self.new.parts }
         ensures goes_on { GoesOn (layout_of self.old.plan) (works_of W.meaning (layout_of self.old.plan)) limit self.old.parts self.new.parts }
         ensures used_up { result ≡ Err Ids → NeedsId (layout_of self.new.plan) self.new.parts }
+        ensures never { result ≢ Err NotEnabled }
     {
         for _ in 0..limit {
             match self.next_event()? {

@@ -3,7 +3,7 @@ use flow_link::Move;
 
 /// One thing that can happen, at a link or at a block, by their numbers.
 #[derive(Clone, Copy, Debug, PartialEq, Eq)]
-pub(crate) enum Event {
+pub enum Event {
     /// An end of this link makes a move.
     Link(usize, Move),
     /// This block works on the next message that it holds.
@@ -14,4 +14,11 @@ pub(crate) enum Event {
     Fault(usize),
     /// This block has given all, and ends.
     Done(usize),
+}
+
+/// What came of an event that happened.
+#[derive(Clone, Copy, Debug, PartialEq, Eq, Hash)]
+pub enum Stepped {
+    /// It is done.
+    Moved,
 }

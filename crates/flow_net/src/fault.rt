@@ -5,6 +5,9 @@ use thiserror::Error;
 /// Why an event is not done. The network is as it was before that event.
 #[derive(Clone, Copy, Debug, PartialEq, Eq, Error)]
 pub enum NetFault {
+    /// The event may not happen now.
+    #[error("the event may not happen now")]
+    NotEnabled,
     /// A message would need an id above 2^59 - 1.
     #[error("message ids are used up")]
     Ids,

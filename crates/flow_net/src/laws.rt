@@ -1,5 +1,5 @@
 //! Laws about the states of a network. Each stands on a function that does nothing: whoever calls it has the whole law.
-ghost use Rattle.flow_net.specs.Statements.{EventsKeep, FreshKeeps, KeptIsLawful, PlansLeadWell, QuietAtRest};
+ghost use Rattle.flow_net.specs.Statements.{AllKeptIsLawful, EventsKeep, EventsKeepAll, FreshKeeps, FreshKeepsAll, KeptIsLawful, PlansLeadWell, QuietAtRest, RestIsQuiet, SchedulesGoWell};
 
 /// The links of a plan lead from blocks and inputs that are there to blocks that are there.
 pub fn plans_lead_well<W>()
@@ -25,4 +25,30 @@ pub fn fresh_networks_are_in_order<W>()
 /// that it took and could work on.
 pub fn quiet_networks_are_at_rest<W>()
     ensures { QuietAtRest W }
+{}
+
+/// Each event that may happen keeps what each block and each input keeps.
+pub fn events_keep_blocks_in_order<W>()
+    ensures { EventsKeepAll W }
+{}
+
+/// In a network in which nothing has happened each block and each input keeps what it should.
+pub fn fresh_blocks_are_in_order<W>()
+    ensures { FreshKeepsAll W }
+{}
+
+/// Where each link, block and input keeps what it should, the run so far is lawful.
+pub fn kept_networks_are_lawful<W>()
+    ensures { AllKeptIsLawful W }
+{}
+
+/// Where nothing may happen any more, the run is quiet.
+pub fn networks_at_rest_are_quiet<W>()
+    ensures { RestIsQuiet W }
+{}
+
+/// Whatever events are asked for, in whatever order, from a network in which nothing has happened: the run so far is lawful,
+/// each link is in order, what was posted stays, and where nothing may happen any more the run is quiet.
+pub fn every_schedule_is_lawful<W>()
+    ensures { SchedulesGoWell W }
 {}

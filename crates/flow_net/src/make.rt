@@ -5,7 +5,7 @@ ghost use Rattle.std.specs.Vec.Iter.{into_iter_items};
 ghost use Rattle.flow_link.specs.Plan.{begins_at, ends_at};
 ghost use Rattle.flow_link.specs.Planned.{layout_of};
 ghost use Rattle.flow_net.specs.Seen.{input_traces};
-ghost use Rattle.flow_net.specs.Made.{input_of, nodes_of, node_in, Unsent};
+ghost use Rattle.flow_net.specs.Made.{input_of, nodes_of, node_in, HasNotBegun, NotBegun};
 ghost use Rattle.flow_net.specs.Parts.{FeedState, fresh_line};
 
 use crate::agenda::Agenda;
@@ -15,6 +15,7 @@ use crate::parts::{Feed, Line, Node, Parts};
 use crate::posted::{Posted, State};
 use crate::stage::{SourceStage, TargetStage};
 use flow_link::{LinkSource, LinkState, LinkTarget, Phase, Plan};
+use flow_value::Work;
 use std::alloc::{AllocError, Global};
 use std::collections::VecDeque;
 use std::vec::IntoIter;
@@ -28,10 +29,9 @@ struct Frame {
     agenda: Agenda,
 }
 
-impl<W> Net<W> {
+impl<W: Work> Net<W> {
     ghost use Rattle.flow_net.specs.Net.{layout_in, parts_of};
     ghost use Rattle.flow_net.specs.Fresh.{IsFresh};
-    ghost use Rattle.flow_link.specs.declared.trace.Ending.TheVariants.{Complete};
 
     /// A network in which nothing has happened, with these posted values: one list for each block that is an input, in the
     /// order of the blocks. For want of memory both come back.
@@ -41,10 +41,8 @@ impl<W> Net<W> {
         posted: Vec<Posted>,
     ) -> Result<Net<W>, (Plan<W>, Vec<Posted>)>
         requires one_each { length posted.items ≡ count_by (λ block. block.input) (layout_of plan).blocks }
-        requires complete { All (λ given. given.ending ≡ Complete) posted.items }
         ensures planned { IfOk result (λ net. layout_in net ≡ layout_of plan) }
         ensures made { IfOk result (λ net. input_traces (parts_of net).feeds ≡ map input_of posted.items) }
-        ensures connected { IfOk result (λ net. (parts_of net).nodes ≡ nodes_of (layout_in net)) }
         ensures fresh { IfOk result (λ net. IsFresh (layout_in net) (parts_of net)) }
         ensures plan_back { IfErr result (λ back. back.0 ≡ plan) }
         ensures posted_back { IfErr result (λ back. back.1 ≡ posted) }
@@ -113,6 +111,8 @@ fn fresh_node<W>(alloc: Global, plan: &Plan<W>, number: usize) -> Node
         record: Vec::new(alloc),
         fault: None,
         state: State::Open,
+        offer: None,
+        expects: false,
     }
 }
 
@@ -197,7 +197,7 @@ fn fill_feeds<W>(
     requires room { length (layout_of plan.now).blocks ≤ vec_capacity feeds }
     ensures places { map is_some result.items ≡ map (λ block. block.input) (layout_of plan.now).blocks }
     ensures traces { input_traces result.items ≡ map input_of posted.items }
-    ensures unsent { Unsent result.items }
+    ensures not_begun { NotBegun result.items }
 {
     let mut rest = posted.into_iter();
     for number in 0..plan.block_count() {
@@ -213,7 +213,7 @@ fn next_feed(is_input: bool, rest: &mut IntoIter<Posted>) -> Option<Feed>
     ensures place { is_some result ≡ is_input }
     ensures taken { map input_of (into_iter_items rest.old) ≡ input_traces (result ∷ []) ++ map input_of (into_iter_items rest.new) }
     ensures count { length (into_iter_items rest.old) ≡ cond is_input 1 0 + length (into_iter_items rest.new) }
-    ensures unsent { (feed : FeedState) → result ≡ Some feed → feed.sent ≡ 0 }
+    ensures not_begun { (feed : FeedState) → result ≡ Some feed → HasNotBegun feed }
 {
     if !is_input {
         return None;
@@ -226,7 +226,7 @@ fn next_feed(is_input: bool, rest: &mut IntoIter<Posted>) -> Option<Feed>
 
 /// What is posted to an input, none of it given.
 fn feed_of(posted: Posted) -> Feed
-    ensures unsent { result.sent ≡ 0 }
+    ensures not_begun { HasNotBegun result }
     ensures posted { result.posted ≡ posted.values.items }
     ensures ending { result.ending ≡ posted.ending }
 {
@@ -234,5 +234,6 @@ fn feed_of(posted: Posted) -> Feed
         values: posted.values,
         sent: 0,
         ending: posted.ending,
+        offer: None,
     }
 }

@@ -1,9 +1,12 @@
 //! A network with one owner: what is posted goes from block to block until nothing can move.
 ghost use Rattle.std.specs.Prelude.{◌≡◌, length};
 ghost use Rattle.flow_link.specs.Planned.{layout_of};
+ghost use Rattle.flow_net.specs.BlockKeeps.{AllKeep};
 ghost use Rattle.flow_net.specs.Keeps.{Keeps};
+ghost use Rattle.flow_net.specs.Seen.{works_of};
 
 use crate::engine::Engine;
+use crate::event::{Event, Stepped};
 use crate::fault::NetFault;
 use crate::posted::{Settled, State};
 use flow_link::{Mark, Plan};
@@ -13,25 +16,30 @@ use std::collections::VecDeque;
 
 /// Blocks and links with what has become of them so far.
 #[derive(Drop)]
-pub struct Net<W> {
+pub struct Net<W: Work> {
     pub(crate) engine: Engine<W>,
     ghost node_places: { length engine.parts.nodes ≡ length (layout_of engine.plan).blocks },
     ghost feed_places: { length engine.parts.feeds ≡ length (layout_of engine.plan).blocks },
     ghost line_places: { length engine.parts.lines ≡ length (layout_of engine.plan).links },
     ghost kept: { ∥ Keeps (layout_of engine.plan) engine.parts ∥₁ },
+    ghost all_kept: { ∥ AllKeep (layout_of engine.plan) (works_of W.meaning (layout_of engine.plan)) engine.parts ∥₁ },
 }
 
 impl<W: Work> Net<W> {
-    ghost use Rattle.std.specs.Prelude.{IsTrue, IfOk, ◌↔◌, ◌<◌, Err, true, false, []};
+    ghost use Rattle.std.specs.Prelude.{◌≢◌, IsTrue, IfOk, IfErr, OnOk, OnErr, ◌↔◌, ◌<◌, Ok, Err, true, false, []};
     ghost use Rattle.flow_link.specs.Law.{LinkLaw};
+    ghost use Rattle.flow_link.specs.Lawful.{Lawful};
+    ghost use Rattle.flow_link.specs.Quiet.{Quiet};
+    ghost use Rattle.flow_net.specs.AtRest.{AtRest};
     ghost use Rattle.flow_net.specs.Net.{layout_in, parts_of, run_of};
     ghost use Rattle.flow_link.specs.Trace.{block_of, input_of, marks_of, held_at, left_at, trace_of};
-    ghost use Rattle.flow_net.specs.Seen.{works_of};
     ghost use Rattle.flow_net.specs.States.{state_by};
     ghost use Rattle.flow_net.specs.Settles.{Settles, GoesOn};
     ghost use Rattle.flow_net.specs.Steps.{IsQuiet};
-    ghost use Rattle.flow_net.specs.There.{NeedsId};
-    ghost use Rattle.flow_net.specs.declared.fault.NetFault.TheVariants.{Ids};
+    ghost use Rattle.flow_net.specs.Events.{after};
+    ghost use Rattle.flow_net.specs.There.{EventIsThere, IsWhyNot, MayHappen, NeedsId};
+    ghost use Rattle.flow_net.specs.declared.fault.NetFault.TheVariants.{NotEnabled, Ids};
+    ghost use Rattle.flow_net.specs.declared.posted.Settled.TheVariants as Settled;
 
     /// Does events until nothing may happen any more, or as many as the limit are done. After a refusal the events that were
     /// done stay.
@@ -39,16 +47,40 @@ impl<W: Work> Net<W> {
         ensures same_plan { layout_in self.new ≡ layout_in self.old }
         ensures settled { IfOk result (Settles (layout_in self.old) (works_of W.meaning (layout_in self.old)) limit (parts_of self.old) (parts_of self.new)) }
         ensures goes_on { GoesOn (layout_in self.old) (works_of W.meaning (layout_in self.old)) limit (parts_of self.old) (parts_of self.new) }
+        ensures lawful { Lawful (run_of W.meaning self.new) }
+        ensures quiet { result ≡ Ok Settled.Quiet → Quiet (run_of W.meaning self.new) }
+        ensures at_rest { result ≡ Ok Settled.Quiet → ∥ AtRest (layout_in self.new) (parts_of self.new) ∥₁ }
         ensures used_up { result ≡ Err Ids → NeedsId (layout_in self.new) (parts_of self.new) }
+        ensures never { result ≢ Err NotEnabled }
         ensures same_inputs { (run_of W.meaning self.new).trace.inputs ≡ (run_of W.meaning self.old).trace.inputs }
         ensures link_law { LinkLaw (run_of W.meaning self.new) }
     {
         self.engine.settle(alloc, limit)
     }
 
+    /// Does this event, if it may happen. A link, block or port that it names is one of the plan. After a refusal the network
+    /// is as it was.
+    pub fn event(&mut self, alloc: Global, event: Event) -> Result<Stepped, (Event, NetFault)>
+        requires { EventIsThere (layout_in self.old) event }
+        ensures same_plan { layout_in self.new ≡ layout_in self.old }
+        ensures enabled { OnOk result (MayHappen (layout_in self.old) (parts_of self.old) event) }
+        ensures moved { OnOk result (parts_of self.new ≡ after (layout_in self.old) (works_of W.meaning (layout_in self.old)) (parts_of self.old) event) }
+        ensures kept { OnErr result (parts_of self.new ≡ parts_of self.old) }
+        ensures why { IfErr result (λ refused. IsWhyNot (layout_in self.old) (parts_of self.old) event refused.1) }
+        ensures back { IfErr result (λ refused. refused.0 ≡ event) }
+        ensures lawful { Lawful (run_of W.meaning self.new) }
+    {
+        match self.engine.event(alloc, &event) {
+            Ok(()) => Ok(Stepped::Moved),
+            Err(fault) => Err((event, fault)),
+        }
+    }
+
     /// Whether nothing may happen any more.
     pub fn is_quiet(&self) -> bool
-        ensures { IsTrue result ↔ IsQuiet (layout_in self.now) (parts_of self.now) }
+        ensures quiet { IsTrue result ↔ IsQuiet (layout_in self.now) (parts_of self.now) }
+        ensures at_rest { IsTrue result → ∥ AtRest (layout_in self.now) (parts_of self.now) ∥₁ }
+        ensures at_end { IsTrue result → Quiet (run_of W.meaning self.now) }
     {
         self.engine.is_quiet()
     }
@@ -113,3 +145,6 @@ impl<W: Work> Net<W> {
         self.engine.parts.nodes[block].record()
     }
 }
+
+#[cfg(test)]
+mod tests;

@@ -1,14 +1,14 @@
 //! What may happen next, at a link and at a block: pure tests, which neither change anything nor take memory.
-ghost use Rattle.std.specs.Prelude.{◌≡◌, ℕ, suc, ◌<◌, ◌≤◌, ◌^◌, length, true, Some, None, option_map, is_some, IfOk, IfErr, OnErr, IfSome, IfNone, unwrap_or, not, ◌&&◌, is_none};
+ghost use Rattle.std.specs.Prelude.{◌≡◌, ℕ, suc, ◌<◌, ◌≤◌, ◌^◌, length, true, Some, None, option_map, is_some, IfOk, IfErr, IsTrue, ◌↔◌, OnErr, IfSome, IfNone, unwrap_or, not, ◌&&◌, is_none};
 ghost use Rattle.flow_value.specs.declared.value.Value.{Value};
 ghost use Rattle.flow_link.specs.Composes.{is_coming};
 ghost use Rattle.flow_link.specs.declared.phase.Move.TheVariants.{Offer};
 ghost use Rattle.flow_link.specs.Lists.{is_empty};
 ghost use Rattle.flow_link.specs.Planned.{layout_of};
-ghost use Rattle.flow_net.specs.Events.{takes_part, is_any, end_as, end_of_feed, move_of_node, move_of_feed, answer_by, is_hand, is_at_home, brings_completion, fault_brought, kind_in, serves_as, serves_from, serves_to, serves, head_of, move_of_source, refusal_at, move_at, next_move, stage_into, stage_out, may_make, may_complete, fault_cause, is_still, next_fault, may_finish, event_at_link, event_at_block, value_at, has_stopped};
+ghost use Rattle.flow_net.specs.Events.{end_as, end_of_feed, move_of_node, move_of_feed, answer_by, is_hand, is_at_home, brings_completion, fault_brought, head_of, offer_of, expects_at, move_of_source, refusal_at, move_at, next_move, stage_into, stage_out, may_make, may_complete, fault_cause, is_still, next_fault, may_finish, event_at_link, event_at_block, value_at, has_stopped};
 ghost use Rattle.flow_net.specs.declared.fault.NetFault.TheVariants.{Ids};
 ghost use Rattle.flow_net.specs.Parts.{node_at, feed_at, line_at, fresh_node, fresh_line};
-ghost use Rattle.flow_net.specs.There.{MayHappen, NeedsId};
+ghost use Rattle.flow_net.specs.There.{EventIsThere, MayHappen, NeedsId};
 ghost use Rattle.flow_net.specs.Stage.{refusal_of, source_stage_of, target_stage_of};
 
 use crate::event::Event;
@@ -16,26 +16,8 @@ use crate::fault::NetFault;
 use crate::parts::{Feed, Line, Node, Parts};
 use crate::posted::State;
 use crate::stage::{Refusal, SourceStage, TargetStage};
-use flow_link::{BlockKind, Ending, Link, LinkEnd, LinkSource, LinkTarget, Move, Phase, Plan};
-use flow_value::{MessageHeader, Value, When};
-
-/// Whether blocks of this kind take part.
-pub(crate) fn takes_part(kind: BlockKind) -> bool
-    ensures { result ≡ takes_part kind }
-{
-    matches!(kind, BlockKind::Buffer | BlockKind::Action)
-}
-
-/// The kind of the block with this number; a block that isn't there is a buffer.
-pub(crate) fn kind_of<W>(plan: &Plan<W>, number: usize) -> BlockKind
-    ensures { result ≡ kind_in (layout_of plan.now) number }
-{
-    if number < plan.block_count() {
-        plan.block(number).kind
-    } else {
-        BlockKind::Buffer
-    }
-}
+use flow_link::{Ending, Link, LinkEnd, LinkSource, LinkTarget, Move, Phase, Plan};
+use flow_value::{MAX_ID, MessageHeader, Value};
 
 /// How a link ends that ends so where it passes its source's end on.
 fn end_as(passes: bool, how: LinkEnd) -> LinkEnd
@@ -206,47 +188,6 @@ impl Parts {
         self.lines.get(id)
     }
 
-    /// Whether this link, which has this number, is the one that leads out of its source and into its target, and
-    /// carries any number of any values.
-    fn serves<W>(&self, plan: &Plan<W>, id: usize, link: &Link) -> bool
-        ensures { result ≡ serves_as (layout_of plan.now) self.now id link.now }
-    {
-        link.when == When::Any
-            && link.max.is_none()
-            && self.serves_from(id, link.source)
-            && self.serves_to(plan, id, link.target)
-    }
-
-    /// Whether this link is the one that leads out of this source.
-    fn serves_from(&self, id: usize, source: LinkSource) -> bool
-        ensures { result ≡ serves_from self.now id source }
-    {
-        match source {
-            LinkSource::Block(number) => match self.node(number) {
-                Some(node) => node.out == Some(id),
-                None => false,
-            },
-            LinkSource::Input(_) => true,
-        }
-    }
-
-    /// Whether this link is the one that leads into this target.
-    fn serves_to<W>(&self, plan: &Plan<W>, id: usize, target: LinkTarget) -> bool
-        ensures { result ≡ serves_to (layout_of plan.now) self.now id target }
-    {
-        match target {
-            LinkTarget::Port(number, port) => {
-                port == 0
-                    && takes_part(kind_of(plan, number))
-                    && match self.node(number) {
-                        Some(node) => node.into == Some(id),
-                        None => false,
-                    }
-            }
-            LinkTarget::Exit => false,
-        }
-    }
-
     /// What is given next over a link from this source.
     fn head(&self, source: LinkSource) -> Option<&Value>
         ensures { option_map (λ value. value.now) result ≡ head_of self.now source }
@@ -260,6 +201,42 @@ impl Parts {
                 Some(feed) => feed.head(),
                 None => None,
             },
+        }
+    }
+
+    /// Whether this source has a message next, and has made it ready.
+    fn may_give(&self, source: LinkSource) -> bool
+        ensures { result ≡ (is_some (head_of self.now source) && is_some (offer_of self.now source)) }
+    {
+        self.head(source).is_some() && self.has_offer(source)
+    }
+
+    /// Whether this source has made a message ready to be given.
+    fn has_offer(&self, source: LinkSource) -> bool
+        ensures { result ≡ is_some (offer_of self.now source) }
+    {
+        match source {
+            LinkSource::Block(number) => match self.node(number) {
+                Some(node) => node.offer.is_some(),
+                None => false,
+            },
+            LinkSource::Input(number) => match self.feed(number) {
+                Some(feed) => feed.offer.is_some(),
+                None => false,
+            },
+        }
+    }
+
+    /// Whether this target has set room aside for a message.
+    fn expects(&self, target: LinkTarget) -> bool
+        ensures { result ≡ expects_at self.now target }
+    {
+        match target {
+            LinkTarget::Port(number, _) => match self.node(number) {
+                Some(node) => node.expects,
+                None => false,
+            },
+            LinkTarget::Exit => false,
         }
     }
 
@@ -306,9 +283,6 @@ impl Parts {
         ensures used_up { IfErr result (λ fault. (fault ≡ Ids) × (2 ^ 59 ≤ suc (line_at self.now id).last)) }
     {
         let link = plan.link(id);
-        if !self.serves(plan, id, &link) {
-            return Ok(None);
-        }
         match self.line(id) {
             Some(line) => self.move_at(&link, line),
             None => self.move_of_source(&link, None),
@@ -327,9 +301,11 @@ impl Parts {
                 Some(_) => Some(Move::Refuse),
                 None => Some(Move::Want),
             },
-            Phase::Wanted(_) if self.head(link.source).is_some() => Some(Move::Give),
+            Phase::Wanted(_) if self.may_give(link.source) => Some(Move::Give),
             Phase::Given(_) if line.state.slot.is_some() => Some(Move::Open),
-            Phase::Opened(_) if line.target.is_hand() => Some(Move::Close),
+            Phase::Opened(_) if line.target.is_hand() && self.expects(link.target) => {
+                Some(Move::Close)
+            }
             _ => None,
         };
         Ok(next)
@@ -381,6 +357,13 @@ impl Parts {
         }
     }
 
+    /// Whether this block's port may take no message any more, since the link into it has ended with completion.
+    fn may_complete(&self, node: &Node) -> bool
+        ensures { result ≡ may_complete self.now node.now }
+    {
+        node.state == State::Open && self.coming(node).completion
+    }
+
     /// Whether this block may end, having given all.
     fn may_finish(&self, node: &Node) -> bool
         ensures { result ≡ may_finish self.now node.now }
@@ -416,9 +399,9 @@ impl Parts {
         ensures enabled { IfSome result (MayHappen (layout_of plan.now) self.now) }
     {
         let node = self.node(number)?;
-        if takes_part(kind_of(plan, number)) && node.may_work() {
+        if node.may_work() {
             Some(Event::Make(number))
-        } else if node.state == State::Open && self.coming(node).completion {
+        } else if self.may_complete(node) {
             Some(Event::Complete(number, 0))
         } else if self.next_fault(node).is_some() {
             Some(Event::Fault(number))
@@ -426,6 +409,50 @@ impl Parts {
             Some(Event::Done(number))
         } else {
             None
+        }
+    }
+
+    /// Whether this move is next at a link.
+    fn is_next<W>(&self, plan: &Plan<W>, id: usize, step: Move) -> Result<bool, NetFault>
+        requires { id < length (layout_of plan.now).links }
+        ensures told { IfOk result (λ may. IsTrue may ↔ (next_move (layout_of plan.now) self.now id ≡ Some step)) }
+        ensures used_up { IfErr result (λ fault. (fault ≡ Ids) × NeedsId (layout_of plan.now) self.now) }
+        ensures not_then { OnErr result (next_move (layout_of plan.now) self.now id ≡ Some step → ⊥) }
+    {
+        match self.next_move(plan, id) {
+            Ok(next) => Ok(next == Some(step)),
+            // The next message needs a greater id than any header has.
+            Err(fault) => match step {
+                Move::Offer(header) if header.id() > MAX_ID => Ok(true),
+                _ => Err(fault),
+            },
+        }
+    }
+
+    /// Whether this event may happen. Ids says that it may not, and that the message which its link would offer next has no
+    /// id left.
+    pub(crate) fn may_happen<W>(&self, plan: &Plan<W>, event: &Event) -> Result<bool, NetFault>
+        requires { EventIsThere (layout_of plan.now) event.now }
+        ensures told { IfOk result (λ may. IsTrue may ↔ MayHappen (layout_of plan.now) self.now event.now) }
+        ensures used_up { IfErr result (λ fault. (fault ≡ Ids) × NeedsId (layout_of plan.now) self.now) }
+        ensures not_then { OnErr result (MayHappen (layout_of plan.now) self.now event.now → ⊥) }
+    {
+        match *event {
+            Event::Link(id, step) => self.is_next(plan, id, step),
+            Event::Make(number) => Ok(self.node(number).is_some_and(|node| node.may_work())),
+            Event::Complete(number, port) => Ok(
+                port == 0
+                    && self
+                        .node(number)
+                        .is_some_and(|node| self.may_complete(node)),
+            ),
+            Event::Fault(number) => Ok(
+                self.node(number)
+                    .is_some_and(|node| self.next_fault(node).is_some()),
+            ),
+            Event::Done(number) => {
+                Ok(self.node(number).is_some_and(|node| self.may_finish(node)))
+            }
         }
     }
 }

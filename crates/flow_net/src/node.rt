@@ -1,8 +1,12 @@
-//! What a block does by itself: its side of each move, and its own steps. What needs memory is done first, so that a call
-//! that answers want of memory has changed nothing.
+//! What a block does by itself: its side of each move, and its own steps.
+//!
+//! A move that takes memory has two calls. `prepare_..` takes it, and may be refused; what follows takes none, and does not
+//! fail. An offer prepares its hand-over too, and a wish the taking of what comes.
 ghost use Rattle.std.specs.Prelude.{◌≡◌, ◌∷◌, [], ◌++◌, true, Some, option_map, OnOk, OnErr, IfOk, IfErr, is_some, Ok, ◌<◌, length, false};
+ghost use Rattle.flow_link.specs.declared.draft.BlockKind.TheVariants.{Transform};
+ghost use Rattle.flow_link.specs.Making.{result_of};
 ghost use Rattle.flow_net.specs.Seen.{result_by_number};
-ghost use Rattle.flow_net.specs.Events.{first_of, rest_of, refusal_by, gives, takes, hands_on, works, applies, completes, faults, finishes, value_at, sends, is_open, has_stopped, is_completing};
+ghost use Rattle.flow_net.specs.Events.{first_of, rest_of, refusal_by, offers, gives, expecting, takes, sets_out, hands_on, works, yields, transforms, applies, completes, faults, finishes, value_at, sends, is_open, has_stopped, is_completing};
 ghost use Rattle.flow_net.specs.Stage.{refusal_of};
 ghost use Rattle.flow_net.specs.States.{state_by};
 ghost use Rattle.flow_net.specs.declared.fault.NetFault.TheVariants.{Memory};
@@ -15,6 +19,12 @@ use flow_link::Mark;
 use flow_value::{Parcel, Value, Work};
 use std::alloc::Global;
 use std::collections::VecDeque;
+
+/// How many marks a block may owe at once: of what it offers, of what it wants, and of its own next step.
+const MARKS_OWED: usize = 3;
+
+/// The fault of a transform whose work gives another number of values than one.
+const NOT_ONE: u32 = 7;
 
 impl Node {
     /// Why it takes no message any more, if it takes none.
@@ -72,39 +82,57 @@ impl Node {
         self.left.front()
     }
 
-    /// Gives what is first over this link: a parcel for the target, and a mark.
-    #[tactic(auto, using(crate::proofs::StateLemmas::state_gave))]
-    pub(crate) fn give(&mut self, alloc: Global, link: usize) -> Result<Parcel, NetFault>
-        requires { is_some (first_of self.old.left) ≡ true }
-        ensures given { IfOk result (λ value. (first_of self.old.left ≡ Some value) × (self.new ≡ gives link value self.old)) }
+    /// Makes a parcel of what it gives next, and sets aside room for the mark that it is given.
+    pub(crate) fn prepare_offer(&mut self, alloc: Global) -> Result<(), NetFault>
+        ensures done { OnOk result (self.new ≡ offers self.old) }
         ensures kept { OnErr result (self.new ≡ self.old) }
         ensures memory { IfErr result (λ fault. fault ≡ Memory) }
     {
-        self.journal.reserve(1)?;
-        let parcel = match self.left.front() {
-            Some(value) => parcel_of(alloc, value)?,
-            None => unreachable!(),
+        self.journal.reserve(MARKS_OWED)?;
+        self.offer = match self.left.front() {
+            Some(value) => Some(parcel_of(alloc, value)?),
+            None => None,
         };
+        Ok(())
+    }
+
+    /// Gives over this link what it offered: the parcel, and its own mark of it.
+    #[tactic(auto, using(crate::proofs::StateLemmas::state_gave))]
+    pub(crate) fn give(&mut self, link: usize) -> Option<Parcel>
+        requires there { is_some (first_of self.old.left) ≡ true }
+        requires ready { is_some self.old.offer ≡ true }
+        ensures parcel { result ≡ self.old.offer }
+        ensures given { (value : Value) → first_of self.old.left ≡ Some value → self.new ≡ gives link value self.old }
+    {
+        let parcel = self.offer.take();
         if let Some(value) = self.left.pop_front() {
             self.journal.push_reserved(Mark::Gave(link, value));
         }
-        Ok(parcel)
+        parcel
     }
 
-    /// Takes a message that came over this link into this port, with a mark; for want of memory the parcel comes back.
-    #[tactic(auto, using(crate::proofs::StateLemmas::state_took))]
-    pub(crate) fn take(&mut self, port: u32, link: usize, parcel: Parcel) -> Result<(), Parcel>
-        ensures taken { OnOk result (self.new ≡ takes port link parcel self.old) }
+    /// Sets aside room for the message that it wants, and for its mark.
+    pub(crate) fn prepare_answer(&mut self) -> Result<(), NetFault>
+        ensures done { OnOk result (self.new ≡ expecting self.old) }
         ensures kept { OnErr result (self.new ≡ self.old) }
-        ensures back { IfErr result (λ back. back ≡ parcel) }
+        ensures memory { IfErr result (λ fault. fault ≡ Memory) }
     {
-        if self.journal.reserve(1).is_err() || self.held.reserve(1).is_err() {
-            return Err(parcel);
-        }
+        self.journal.reserve(MARKS_OWED)?;
+        self.held.reserve(1)?;
+        self.expects = true;
+        Ok(())
+    }
+
+    /// Takes the message that it wanted, which came over this link into this port, with its mark.
+    #[tactic(auto, using(crate::proofs::StateLemmas::state_took))]
+    pub(crate) fn take(&mut self, port: u32, link: usize, parcel: Parcel)
+        requires { self.old.expects ≡ true }
+        ensures { self.new ≡ takes port link parcel self.old }
+    {
         let (value, spare) = parcel.into_parts();
         self.journal.push_reserved(Mark::Took(port, link, spare));
         self.held.push_back_reserved(value);
-        Ok(())
+        self.expects = false;
     }
 
     /// Hands the next message that it holds on as it is.
@@ -166,6 +194,46 @@ impl Node {
         Ok(())
     }
 
+    /// Applies this work to the next message that it holds, and has the result to give, or learns of its fault.
+    pub(crate) fn transform<W: Work>(&mut self, alloc: Global, work: &W) -> Result<(), NetFault>
+        ensures done { OnOk result (self.new ≡ transforms (λ value. result_of Transform (result_by_number (W.meaning work.now value))) self.old) }
+        ensures kept { OnErr result (self.new ≡ self.old) }
+        ensures memory { IfErr result (λ fault. fault ≡ Memory) }
+    {
+        let answer = match self.held.front() {
+            Some(value) => work.run(alloc, value),
+            None => return Ok(()),
+        };
+        match answer {
+            Ok(results) => self.give_one(results),
+            Err(fault) => match fault.number() {
+                Some(number) => {
+                    self.fault = Some(number);
+                    Ok(())
+                }
+                None => Err(NetFault::Memory),
+            },
+        }
+    }
+
+    /// Has the one result of the message that it holds first to give; any other number of results is a fault.
+    fn give_one(&mut self, mut results: Vec<Value>) -> Result<(), NetFault>
+        ensures done { OnOk result (self.new ≡ yields (result_of Transform (Ok results.items)) self.old) }
+        ensures kept { OnErr result (self.new ≡ self.old) }
+        ensures memory { IfErr result (λ fault. fault ≡ Memory) }
+    {
+        if results.len() != 1 {
+            self.fault = Some(NOT_ONE);
+            return Ok(());
+        }
+        self.left.reserve(1)?;
+        if let Some(value) = results.pop() {
+            self.left.push_back_reserved(value);
+        }
+        self.held.pop_front();
+        Ok(())
+    }
+
     /// Takes nothing at this port from now on.
     #[tactic(auto, using(crate::proofs::StateLemmas::state_completed))]
     pub(crate) fn complete(&mut self, port: u32) -> Result<(), NetFault>
@@ -175,7 +243,7 @@ impl Node {
         ensures kept { OnErr result (self.new ≡ self.old) }
         ensures memory { IfErr result (λ fault. fault ≡ Memory) }
     {
-        self.journal.reserve(1)?;
+        self.journal.reserve(MARKS_OWED)?;
         self.journal.push_reserved(Mark::Complete(port));
         self.state = State::Completing;
         Ok(())
@@ -189,7 +257,7 @@ impl Node {
         ensures kept { OnErr result (self.new ≡ self.old) }
         ensures memory { IfErr result (λ fault. fault ≡ Memory) }
     {
-        self.journal.reserve(1)?;
+        self.journal.reserve(MARKS_OWED)?;
         self.journal.push_reserved(Mark::Fault(number));
         self.state = State::Faulted(number);
         Ok(())
@@ -203,7 +271,7 @@ impl Node {
         ensures kept { OnErr result (self.new ≡ self.old) }
         ensures memory { IfErr result (λ fault. fault ≡ Memory) }
     {
-        self.journal.reserve(1)?;
+        self.journal.reserve(MARKS_OWED)?;
         self.journal.push_reserved(Mark::Done);
         self.state = State::Done;
         Ok(())
@@ -218,16 +286,27 @@ impl Feed {
         self.values.as_slice()
     }
 
-    /// Sends what is first of what it has not sent.
-    pub(crate) fn send(&mut self, alloc: Global) -> Result<Parcel, NetFault>
-        requires { self.old.sent < length self.old.posted }
-        ensures sent { IfOk result (λ value. (value_at self.old.posted self.old.sent ≡ Some value) × (self.new ≡ sends self.old)) }
+    /// Makes a parcel of what it sends next.
+    pub(crate) fn prepare_offer(&mut self, alloc: Global) -> Result<(), NetFault>
+        ensures done { OnOk result (self.new ≡ sets_out self.old) }
         ensures kept { OnErr result (self.new ≡ self.old) }
         ensures memory { IfErr result (λ fault. fault ≡ Memory) }
     {
-        let parcel = parcel_of(alloc, &self.values[self.sent])?;
+        self.offer = match self.values.get(self.sent) {
+            Some(value) => Some(parcel_of(alloc, value)?),
+            None => None,
+        };
+        Ok(())
+    }
+
+    /// Gives what it offered.
+    pub(crate) fn give(&mut self) -> Option<Parcel>
+        requires { self.old.sent < length self.old.posted }
+        ensures parcel { result ≡ self.old.offer }
+        ensures sent { self.new ≡ sends self.old }
+    {
         self.sent += 1;
-        Ok(parcel)
+        self.offer.take()
     }
 }
 

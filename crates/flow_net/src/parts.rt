@@ -2,7 +2,7 @@
 use crate::posted::State;
 use crate::stage::{SourceStage, TargetStage};
 use flow_link::{Ending, LinkState, Mark};
-use flow_value::{MessageHeader, Value};
+use flow_value::{MessageHeader, Parcel, Value};
 use std::collections::VecDeque;
 use std::marker::Model;
 
@@ -22,13 +22,18 @@ pub(crate) struct Node {
     /// The fault of its own function, once it is known.
     pub fault: Option<u32>,
     pub state: State,
+    /// The message that it offered last and has not given; room for its mark is set aside.
+    pub offer: Option<Parcel>,
+    /// It wants a message; room for it and for its mark is set aside.
+    pub expects: bool,
 }
 
 impl Model for Node {
     ghost use Rattle.std.specs.Coded.{codes};
     ghost use Rattle.flow_value.specs.contracts.value.Value as content;
     ghost use Rattle.flow_link.specs.contracts.trace.Mark as mark;
-    ghost use Rattle.std.specs.Prelude.{◌≡◌};
+    ghost use Rattle.std.specs.Prelude.{◌≡◌, ◌≤◌, ◌+◌, cond, is_some, vec_len, vec_capacity};
+    ghost use Rattle.std.specs.VecDeque.{deque_len, deque_capacity};
     ghost use Rattle.flow_net.specs.Parts.{NodeState};
     ghost use Rattle.flow_net.specs.States.{state_by};
 
@@ -36,9 +41,9 @@ impl Model for Node {
 
     ghost coded = { Prim.hlevel (codes, mark.the_row.coded, content.the_row.coded) };
 
-    ghost view = { λ n. record { into = n.into; out = n.out; journal = n.journal.items; held = n.held.items; left = n.left.items; recorded = n.record.items; fault = n.fault; state = n.state } };
+    ghost view = { λ n. record { into = n.into; out = n.out; journal = n.journal.items; held = n.held.items; left = n.left.items; recorded = n.record.items; fault = n.fault; state = n.state; offer = n.offer; expects = n.expects } };
 
-    ghost invariant = { λ n. n.state ≡ state_by n.journal.items };
+    ghost invariant = { λ n. (n.state ≡ state_by n.journal.items) × (vec_len n.journal + cond (is_some n.offer) 1 0 + cond n.expects 1 0 ≤ vec_capacity n.journal) × (deque_len n.held + cond n.expects 1 0 ≤ deque_capacity n.held) };
 }
 
 /// The values that are posted to a block.
@@ -48,6 +53,8 @@ pub(crate) struct Feed {
     /// How many of them were given.
     pub sent: usize,
     pub ending: Ending,
+    /// The message that it offered last and has not given.
+    pub offer: Option<Parcel>,
 }
 
 impl Model for Feed {
@@ -60,7 +67,7 @@ impl Model for Feed {
 
     ghost coded = { Prim.hlevel (codes, mark.the_row.coded, content.the_row.coded) };
 
-    ghost view = { λ f. record { posted = f.values.items; sent = f.sent; ending = f.ending } };
+    ghost view = { λ f. record { posted = f.values.items; sent = f.sent; ending = f.ending; offer = f.offer } };
 }
 
 /// A link with what its two ends know of it.

@@ -3,12 +3,12 @@
 ghost use Rattle.std.specs.Prelude.{◌≡◌, ◌<◌, length, true, is_some, ◌≢◌, OnOk, OnErr, IfErr};
 ghost use Rattle.flow_link.specs.Plan.{link_in};
 ghost use Rattle.flow_link.specs.Planned.{layout_of};
-ghost use Rattle.flow_net.specs.Events.{offered, wanted, refused, given, taken_out, closed, ended, head_of, after_want, after_refusal, after_give, after_opening, after_closing, after_move, refusal_at, takes_in_hand, closed_by, with_node, made_by, after};
-ghost use Rattle.flow_link.specs.declared.phase.Move.TheVariants.{Give};
+ghost use Rattle.flow_net.specs.Events.{offered, wanted, refused, given, taken_out, closed, ended, head_of, offer_of, expects_at, with_offer, with_wish, after_offer, after_want, after_refusal, after_give, after_opening, after_closing, after_move, refusal_at, takes_in_hand, closed_by, with_node, made_by, after};
+ghost use Rattle.flow_link.specs.declared.phase.Move.TheVariants.{Give, Close};
 ghost use Rattle.flow_net.specs.Seen.{works_of};
 ghost use Rattle.flow_net.specs.Parts.{line_at, node_at};
 ghost use Rattle.flow_net.specs.Stage.{refusal_of};
-ghost use Rattle.flow_net.specs.There.{SourceIsThere, TargetIsThere, IsPort, MayHappen, Fits};
+ghost use Rattle.flow_net.specs.There.{SourceIsThere, TargetIsThere, MayHappen, Fits};
 ghost use Rattle.flow_net.specs.declared.fault.NetFault.TheVariants.{Memory};
 
 use crate::event::Event;
@@ -25,38 +25,38 @@ impl Line {
     fn offer(&mut self, header: MessageHeader)
         ensures { self.new ≡ offered header self.old }
     {
-        self.state.phase = Phase::Offered(header);
         self.source = SourceStage::Out(header);
-        self.target = TargetStage::Offered(header);
+        self.state.phase = Phase::Offered(header);
+        self.target.look(Phase::Offered(header));
     }
 
     /// The target wants the message that is offered.
     fn want(&mut self, header: MessageHeader)
         ensures { self.new ≡ wanted header self.old }
     {
-        self.state.phase = Phase::Wanted(header);
         self.target = TargetStage::Accepted(header);
-        self.source = SourceStage::Accepted(header);
+        self.state.phase = Phase::Wanted(header);
+        self.source = self.source.look(Phase::Wanted(header));
     }
 
     /// The target takes no message any more.
     fn refuse(&mut self, why: Refusal)
         ensures { self.new ≡ refused (refusal_of why) self.old }
     {
-        self.state.phase = Phase::Refused;
         self.target = TargetStage::Refused(why);
-        self.source = SourceStage::Refused;
+        self.state.phase = Phase::Refused;
+        self.source = self.source.look(Phase::Refused);
     }
 
     /// The source lays the message into the slot.
     fn give(&mut self, header: MessageHeader, parcel: Parcel)
         ensures { self.new ≡ given header parcel self.old }
     {
-        self.state.slot = Some(parcel);
-        self.state.phase = Phase::Given(header);
         self.source = SourceStage::Crossing;
         self.last = Some(header);
-        self.target = TargetStage::Arrived(header);
+        self.state.slot = Some(parcel);
+        self.state.phase = Phase::Given(header);
+        self.target.look(Phase::Given(header));
     }
 
     /// The target takes the message out of the slot, and has it in hand.
@@ -64,8 +64,9 @@ impl Line {
         ensures { self.new ≡ taken_out header self.old.slot self.old }
     {
         if let Some(parcel) = self.state.slot.take() {
-            self.state.phase = Phase::Opened(header);
             self.target = TargetStage::Hand(header, parcel);
+            self.state.phase = Phase::Opened(header);
+            self.source = self.source.look(Phase::Opened(header));
         }
     }
 
@@ -73,51 +74,93 @@ impl Line {
     fn end(&mut self, how: LinkEnd)
         ensures { self.new ≡ ended how self.old }
     {
-        self.state.phase = Phase::Ended(how);
         self.source = SourceStage::Ended(how);
-        self.target = TargetStage::Ended(how);
+        self.state.phase = Phase::Ended(how);
+        self.target.look(Phase::Ended(how));
     }
 }
 
 impl Node {
     /// Takes the message that this link has in hand for it.
-    fn take_in_hand(&mut self, port: u32, link: usize, line: &mut Line) -> Result<(), NetFault>
-        ensures taken { OnOk result (self.new ≡ takes_in_hand port link line.old.target self.old) }
-        ensures closed { OnOk result (line.new ≡ closed_by line.old.target line.old) }
-        ensures kept { OnErr result (self.new ≡ self.old) }
-        ensures memory { IfErr result (λ fault. fault ≡ Memory) }
-        ensures still_there { OnErr result (line.new ≡ line.old) }
+    fn take_in_hand(&mut self, port: u32, link: usize, line: &mut Line)
+        requires { self.old.expects ≡ true }
+        ensures taken { self.new ≡ takes_in_hand port link line.old.target self.old }
+        ensures closed { line.new ≡ closed_by line.old.target line.old }
     {
         match mem::replace(&mut line.target, TargetStage::Free) {
-            TargetStage::Hand(header, parcel) => match self.take(port, link, parcel) {
-                Ok(()) => {
-                    line.state.phase = Phase::Idle;
-                    line.source = SourceStage::Free;
-                    Ok(())
-                }
-                Err(parcel) => {
-                    line.target = TargetStage::Hand(header, parcel);
-                    Err(NetFault::Memory)
-                }
-            },
-            other => {
-                line.target = other;
-                Ok(())
+            TargetStage::Hand(_, parcel) => {
+                self.take(port, link, parcel);
+                line.state.phase = Phase::Idle;
+                line.source = line.source.look(Phase::Idle);
             }
+            other => line.target = other,
         }
     }
 }
 
 impl Parts {
+    /// The source of a link makes ready what it gives next.
+    fn prepare_offer(&mut self, alloc: Global, source: LinkSource) -> Result<(), NetFault>
+        requires { SourceIsThere self.old source }
+        ensures done { OnOk result (self.new ≡ with_offer source self.old) }
+        ensures kept { OnErr result (self.new ≡ self.old) }
+        ensures memory { IfErr result (λ fault. fault ≡ Memory) }
+    {
+        match source {
+            LinkSource::Block(number) => self.nodes[number].prepare_offer(alloc),
+            LinkSource::Input(number) => match &mut self.feeds[number] {
+                Some(feed) => feed.prepare_offer(alloc),
+                None => Ok(()),
+            },
+        }
+    }
+
+    /// The target of a link sets aside room for what comes.
+    fn prepare_answer(&mut self, target: LinkTarget) -> Result<(), NetFault>
+        requires { TargetIsThere self.old target }
+        ensures done { OnOk result (self.new ≡ with_wish target self.old) }
+        ensures kept { OnErr result (self.new ≡ self.old) }
+        ensures memory { IfErr result (λ fault. fault ≡ Memory) }
+    {
+        match target {
+            LinkTarget::Port(number, _) => self.nodes[number].prepare_answer(),
+            LinkTarget::Exit => Ok(()),
+        }
+    }
+
+    /// The source of this link offers what it gives next.
+    fn offer(
+        &mut self,
+        alloc: Global,
+        id: usize,
+        source: LinkSource,
+        header: MessageHeader,
+    ) -> Result<(), NetFault>
+        requires known { id < length self.old.lines }
+        requires there { SourceIsThere self.old source }
+        ensures done { OnOk result (self.new ≡ after_offer self.old id source header) }
+        ensures kept { OnErr result (self.new ≡ self.old) }
+        ensures memory { IfErr result (λ fault. fault ≡ Memory) }
+    {
+        self.prepare_offer(alloc, source)?;
+        self.lines[id].offer(header);
+        Ok(())
+    }
+
     /// The target of this link wants the message that is offered.
-    fn want(&mut self, id: usize)
-        requires { id < length self.old.lines }
-        ensures { self.new ≡ after_want self.old id (line_at self.old id).phase }
+    fn want(&mut self, id: usize, target: LinkTarget) -> Result<(), NetFault>
+        requires known { id < length self.old.lines }
+        requires there { TargetIsThere self.old target }
+        ensures done { OnOk result (self.new ≡ after_want self.old id target (line_at self.old id).phase) }
+        ensures kept { OnErr result (self.new ≡ self.old) }
+        ensures memory { IfErr result (λ fault. fault ≡ Memory) }
     {
         let phase = self.lines[id].state.phase;
         if let Phase::Offered(header) = phase {
+            self.prepare_answer(target)?;
             self.lines[id].want(header);
         }
+        Ok(())
     }
 
     /// The target of this link takes no message any more.
@@ -130,28 +173,27 @@ impl Parts {
         }
     }
 
-    /// The source of this link gives what is first.
-    fn give(&mut self, alloc: Global, id: usize, source: LinkSource) -> Result<(), NetFault>
+    /// The source of this link gives what it offered.
+    fn give(&mut self, id: usize, source: LinkSource)
         requires known { id < length self.old.lines }
         requires there { SourceIsThere self.old source }
         requires head { is_some (head_of self.old source) ≡ true }
-        ensures done { OnOk result (self.new ≡ after_give self.old id source (line_at self.old id).phase (head_of self.old source)) }
-        ensures kept { OnErr result (self.new ≡ self.old) }
-        ensures memory { IfErr result (λ fault. fault ≡ Memory) }
+        requires ready { is_some (offer_of self.old source) ≡ true }
+        ensures { self.new ≡ after_give self.old id source (line_at self.old id).phase (head_of self.old source) (offer_of self.old source) }
     {
-        let header = match self.lines[id].state.phase {
-            Phase::Wanted(header) => header,
-            _ => return Ok(()),
-        };
-        let parcel = match source {
-            LinkSource::Block(number) => self.nodes[number].give(alloc, id)?,
-            LinkSource::Input(number) => match &mut self.feeds[number] {
-                Some(feed) => feed.send(alloc)?,
-                None => return Ok(()),
-            },
-        };
-        self.lines[id].give(header, parcel);
-        Ok(())
+        let phase = self.lines[id].state.phase;
+        if let Phase::Wanted(header) = phase {
+            let parcel = match source {
+                LinkSource::Block(number) => self.nodes[number].give(id),
+                LinkSource::Input(number) => match &mut self.feeds[number] {
+                    Some(feed) => feed.give(),
+                    None => None,
+                },
+            };
+            if let Some(parcel) = parcel {
+                self.lines[id].give(header, parcel);
+            }
+        }
     }
 
     /// The target of this link takes the message out of the slot.
@@ -166,19 +208,14 @@ impl Parts {
     }
 
     /// The target of this link makes the message its own that it has in hand.
-    fn close(&mut self, id: usize, target: LinkTarget) -> Result<(), NetFault>
+    fn close(&mut self, id: usize, target: LinkTarget)
         requires known { id < length self.old.lines }
         requires there { TargetIsThere self.old target }
-        requires port { IsPort target }
-        ensures done { OnOk result (self.new ≡ after_closing self.old id target (line_at self.old id).target) }
-        ensures kept { OnErr result (self.new ≡ self.old) }
-        ensures memory { IfErr result (λ fault. fault ≡ Memory) }
+        requires room { expects_at self.old target ≡ true }
+        ensures { self.new ≡ after_closing self.old id target (line_at self.old id).target }
     {
-        match target {
-            LinkTarget::Port(number, port) => {
-                self.nodes[number].take_in_hand(port, id, &mut self.lines[id])
-            }
-            LinkTarget::Exit => Ok(()),
+        if let LinkTarget::Port(number, port) = target {
+            self.nodes[number].take_in_hand(port, id, &mut self.lines[id]);
         }
     }
 
@@ -193,19 +230,20 @@ impl Parts {
         requires known { id < length self.old.lines }
         requires from { SourceIsThere self.old link.now.source }
         requires to { TargetIsThere self.old link.now.target }
-        requires port { IsPort link.now.target }
         requires head { step ≡ Give → is_some (head_of self.old link.now.source) ≡ true }
+        requires ready { step ≡ Give → is_some (offer_of self.old link.now.source) ≡ true }
+        requires room { step ≡ Close → expects_at self.old link.now.target ≡ true }
         ensures done { OnOk result (self.new ≡ after_move self.old id link.now step) }
         ensures kept { OnErr result (self.new ≡ self.old) }
         ensures memory { IfErr result (λ fault. fault ≡ Memory) }
     {
         match step {
-            Move::Offer(header) => self.lines[id].offer(header),
-            Move::Want => self.want(id),
+            Move::Offer(header) => return self.offer(alloc, id, link.source, header),
+            Move::Want => return self.want(id, link.target),
             Move::Refuse => self.refuse(id, link.target),
-            Move::Give => return self.give(alloc, id, link.source),
+            Move::Give => self.give(id, link.source),
             Move::Open => self.open(id),
-            Move::Close => return self.close(id, link.target),
+            Move::Close => self.close(id, link.target),
             Move::End(how) => self.lines[id].end(how),
             _ => {}
         }
@@ -226,12 +264,17 @@ impl Parts {
         ensures memory { IfErr result (λ fault. fault ≡ Memory) }
     {
         let block = plan.block(number);
-        if block.kind != BlockKind::Action {
-            return self.nodes[number].hand_on();
-        }
-        match &block.work {
-            Some(work) => self.nodes[number].apply(alloc, work),
-            None => self.nodes[number].keep(),
+        let node = &mut self.nodes[number];
+        match block.kind {
+            BlockKind::Action => match &block.work {
+                Some(work) => node.apply(alloc, work),
+                None => node.keep(),
+            },
+            BlockKind::Transform => match &block.work {
+                Some(work) => node.transform(alloc, work),
+                None => node.hand_on(),
+            },
+            _ => node.hand_on(),
         }
     }
 

@@ -2,10 +2,10 @@ use Rattle.std.proofs.Common.{◌<◌, ◌+◌, ◌++◌, List, Option, length, 
 use Rattle.std.specs.Vec.Iter.{into_iter_items}
 use Rattle.flow_link.specs.Plan.{no_block}
 use Rattle.flow_link.specs.Planned.{layout_of}
-use Rattle.flow_net.specs.Made.{input_of, Unsent}
+use Rattle.flow_net.specs.Made.{input_of, NotBegun}
 use Rattle.flow_net.specs.Parts.{FeedState}
 use Rattle.flow_net.specs.Seen.{input_traces}
-use Rattle.flow_net.proofs.MakeLemmas.{one_is_left, places_more, traces_more, count_more, unsent_more}
+use Rattle.flow_net.proofs.MakeLemmas.{one_is_left, places_more, traces_more, count_more, begun_no_more}
 use Rattle.flow_net.proofs.make.fill_feeds.Goals as goal
 
 pub next_feed-feed-requires : goal.next_feed-feed-requires
@@ -33,7 +33,7 @@ loop-number-preserved g c =
           ∙ traces_more c.loop-number.feeds.items feed (map input_of left) (map input_of rest) (map input_of c.args.posted.items) kept.traces next.taken;
       count = count_more blocks number (length left) (length rest) no_block small kept.count
           (next.count ∙ ap (λ block. cond block.input 1 0 + length rest) (c.block.ensures no_block));
-      unsent = subst Unsent (sym items) (unsent_more c.loop-number.feeds.items feed kept.unsent next.unsent);
+      not_begun = subst NotBegun (sym items) (begun_no_more c.loop-number.feeds.items feed kept.not_begun next.not_begun);
       filled = c.push_reserved.ensures.len ∙ ap (λ n. n + 1) kept.filled;
       room = omega (arith, kept.room, c.push_reserved.ensures.capacity);
     }

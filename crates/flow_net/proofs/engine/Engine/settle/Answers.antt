@@ -1,4 +1,4 @@
-use Rattle.std.proofs.Common.{rules, ◌≡◌}
+use Rattle.std.proofs.Common.{rules}
 use Rattle.flow_link.specs.Planned.{layout_of}
 use Rattle.flow_net.specs.Seen.{works_of}
 use Rattle.flow_net.proofs.GoLemmas.{fits_on, one_more_event}

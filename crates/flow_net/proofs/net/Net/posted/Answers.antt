@@ -1,4 +1,4 @@
-use Rattle.std.proofs.Common.{rules, ◌≡◌, ◌∙◌, sym, Some, None}
+use Rattle.std.proofs.Common.{rules, ◌∙◌, Some, None}
 use Rattle.flow_net.specs.Net.{layout_in, parts_of}
 use Rattle.flow_net.proofs.PostedLemmas.{posted_is, nothing_posted_to}
 use Rattle.flow_net.proofs.net.Net.posted.Goals as goal
