@@ -1,4 +1,5 @@
 pub mod BuildLemmas
+pub mod CompleteLemmas
 pub mod KeyLemmas
 pub mod PassLemmas
 pub mod PipelineLemmas

@@ -3,7 +3,7 @@ use Rattle.std.specs.Prelude.{ℕ, Bool, true, false, not, ◌&&◌, ◌||◌, L
 use Rattle.std.specs.List.{list_any}
 use Rattle.std.specs.Str.{bytes_eq}
 use Rattle.flow_link.specs.declared.draft.BlockKind.{BlockKind}
-use Rattle.flow_link.specs.declared.draft.BlockKind.TheVariants.{Buffer, Action}
+use Rattle.flow_link.specs.declared.draft.BlockKind.TheVariants.{Buffer, Action, Transform}
 use Rattle.toml.specs.Data.{Data, Items, no_items, item, Members, no_members, member, get_member, as_str, as_bool, as_integer, as_array, as_table}
 use Rattle.flow_run.specs.declared.network.keys.Part.{Part}
 use Rattle.flow_run.specs.declared.network.keys.Part.TheVariants.{Top, Block, Link}
@@ -35,6 +35,7 @@ abbrev pub kind_named : List ℕ → Option BlockKind
 kind_named word =
     if bytes_eq word (codes "buffer") then Some Buffer
     else if bytes_eq word (codes "action") then Some Action
+    else if bytes_eq word (codes "transform") then Some Transform
     else None
 
 -- each item passes the test

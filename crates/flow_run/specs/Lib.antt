@@ -1,6 +1,8 @@
 pub mod Built
+pub mod Complete
 pub mod Keys
 pub mod Passes
+pub mod Plan
 pub mod Printed
 pub mod Ran
 pub mod Read

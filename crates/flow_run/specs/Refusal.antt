@@ -7,6 +7,8 @@ use Rattle.flow_link.specs.declared.plan.Place.{Place}
 use Rattle.flow_link.specs.declared.plan.Place.TheVariants as drafted
 use Rattle.flow_link.specs.declared.plan.PlanFault.{PlanFault}
 use Rattle.flow_link.specs.declared.plan.PlanFault.TheVariants.{Limit, DuplicateName, UnknownBlock, Port, NoOutput, BadOption, CapacityBelowSize, SharedSource, Cycle}
+use Rattle.flow_link.specs.declared.check.PlanRefusal.{PlanRefusal}
+use Rattle.flow_link.specs.declared.check.PlanRefusal.TheVariants as unplanned
 use Rattle.flow_run.specs.declared.fault.TextPlace.{TextPlace}
 use Rattle.flow_run.specs.declared.fault.TextPlace.TheVariants.{Top, Block, Link}
 use Rattle.flow_run.specs.declared.fault.TextFault.{TextFault}
@@ -65,11 +67,18 @@ refusal_text Memory = codes "memory"
 abbrev pub refusal_line : RunRefusal → List ℕ
 refusal_line refusal = codes "flow_run: " ++ refusal_text refusal ++ 10 ∷ []
 
--- there is no run where a text is refused
+-- there is no run where a network can't go on; `settle` asks for no event that may not happen
 abbrev pub refusal_of_net : NetFault → RunRefusal
+refusal_of_net net.NotEnabled = Memory
 refusal_of_net net.Ids = Ids
 refusal_of_net net.Memory = Memory
 
+-- nor where a text is refused
 abbrev pub refusal_of : TextRefusal → RunRefusal
 refusal_of (refused.Fault fault) = Text fault
 refusal_of refused.Memory = Memory
+
+-- nor where the draft that it is read as is
+abbrev pub refusal_of_plan : PlanRefusal → TextRefusal
+refusal_of_plan (unplanned.Fault fault) = refused.Fault (Plan fault)
+refusal_of_plan unplanned.Memory = refused.Memory

@@ -1,6 +1,7 @@
 //! Runs a network that is written as text over records that are written as text, and writes what became of it.
 #![tactic(auto)]
 
+mod complete;
 mod fault;
 mod network;
 mod outcome;

@@ -1,7 +1,10 @@
 //! Networks as TOML text.
-ghost use Rattle.std.specs.Prelude.{◌≡◌, position, MatchResult};
+ghost use Rattle.std.specs.Prelude.{◌≡◌, position, MatchResult, IfOk, IfErr};
 ghost use Rattle.toml.specs.View.{view, table_view};
+ghost use Rattle.flow_link.specs.Planned.{layout_of};
+ghost use Rattle.flow_run.specs.Plan.{IsPlannedAs, IsUnplannedFor};
 ghost use Rattle.flow_run.specs.Read.{IsReadAs, IsRefusedFor};
+ghost use Rattle.flow_run.specs.Refusal.{refusal_of_plan};
 ghost use Rattle.flow_run.specs.Passes.{first_fault, format_fault, first_place, first_from, is_wrong_in, section};
 
 mod build;
@@ -18,15 +21,21 @@ use toml::{Table, Value};
 const FORMAT: i64 = 1;
 
 /// The plan that a text is.
-pub(crate) fn read_plan(alloc: Global, text: &[u8]) -> Result<Plan<Steps>, TextRefusal> {
-    match plan_check(alloc, read_draft(alloc, text)?) {
+pub(crate) fn read_plan(alloc: Global, text: &[u8]) -> Result<Plan<Steps>, TextRefusal>
+    ensures planned { IfOk result (λ plan. IsPlannedAs text.now (layout_of plan)) }
+    ensures refused { IfErr result (IsUnplannedFor text.now) }
+{
+    let draft = read_draft(alloc, text)?;
+    match plan_check(alloc, draft) {
         Ok(plan) => Ok(plan),
         Err(refused) => Err(refusal_of(refused.1)),
     }
 }
 
 /// A refusal of a plan, as one of its text.
-fn refusal_of(refusal: PlanRefusal) -> TextRefusal {
+fn refusal_of(refusal: PlanRefusal) -> TextRefusal
+    ensures { result ≡ refusal_of_plan refusal }
+{
     match refusal {
         PlanRefusal::Fault(fault) => TextRefusal::Fault(TextFault::Plan(fault)),
         PlanRefusal::Memory => TextRefusal::Memory,

@@ -3,7 +3,7 @@ ghost use Rattle.std.specs.Prelude.{◌≡◌, ◌≤◌, IfOk, IfSome, OnOk, If
 ghost use Rattle.std.specs.Io.KnownBytes.{Appends};
 ghost use Rattle.flow_net.specs.Net.{run_of};
 ghost use Rattle.flow_value.specs.Function.{meaning_of};
-ghost use Rattle.flow_run.specs.Ran.{IsReported};
+ghost use Rattle.flow_run.specs.Ran.{IsReported, IsUnreported};
 ghost use Rattle.flow_run.specs.Report.{report};
 ghost use Rattle.flow_run.specs.declared.fault.TextFault.TheVariants as TextFault;
 ghost use Rattle.flow_run.specs.declared.fault.TextRefusal.TheVariants as TextRefusal;
@@ -11,6 +11,7 @@ ghost use Rattle.flow_run.specs.declared.fault.TextRefusal.TheVariants as TextRe
 #[cfg(test)]
 mod tests;
 
+use crate::complete::is_complete;
 use crate::fault::TextRefusal;
 use crate::network::read_plan;
 use crate::outcome::{Ran, RunRefusal};
@@ -97,7 +98,8 @@ pub fn run<R: Read + Drop, W: Write>(
     limit: u64,
 ) -> Result<Ran, RunRefusal>
     requires { (1 ≤ workers) × (workers ≤ 64) }
-    ensures { IfOk result (λ ran. IsReported (R.remaining reader) (Appends (W.contents writer.old) (W.contents writer.new)) ran.settled) }
+    ensures reported { IfOk result (IsReported plan.now (R.remaining reader) limit (Appends (W.contents writer.old) (W.contents writer.new))) }
+    ensures refused { IfErr result (IsUnreported plan.now (R.remaining reader) limit) }
 {
     let plan = read_plan(alloc, plan)?;
     let posted = read_records(alloc, reader, &plan)?;
@@ -111,16 +113,6 @@ pub fn run<R: Read + Drop, W: Write>(
     Ok(Ran { settled, complete })
 }
 
-/// Whether every block is done. A block that is an input is done only after its input has given all, so that nothing waits.
-fn is_complete(net: &Net<Steps>) -> bool {
-    for block in 0..net.plan().block_count() {
-        if Net::state(net, block) != State::Done {
-            return false;
-        }
-    }
-    true
-}
-
 impl From<NetFault> for RunRefusal {
     ghost use Rattle.std.specs.Prelude.{◌≡◌};
     ghost use Rattle.flow_run.specs.Refusal.{refusal_of_net};
@@ -130,7 +122,8 @@ impl From<NetFault> for RunRefusal {
     fn from(fault: NetFault) -> RunRefusal {
         match fault {
             NetFault::Ids => RunRefusal::Ids,
-            NetFault::Memory => RunRefusal::Memory,
+            // `settle`, whose fault this is, asks for no event that may not happen.
+            NetFault::NotEnabled | NetFault::Memory => RunRefusal::Memory,
         }
     }
 }

@@ -6,7 +6,7 @@ ghost use Rattle.std.specs.Io.KnownBytes.{Appends};
 ghost use Rattle.flow_value.specs.declared.steps.Steps.{Steps};
 ghost use Rattle.flow_link.specs.Layout.{IsLaidOut, input_link};
 ghost use Rattle.flow_link.specs.Plan.{begins_at, port_count};
-ghost use Rattle.flow_link.specs.Trace.{input_of, Run, took_at, took_over, gave_over, block_of, link_of, trace_of, marks_of, held_at, left_at};
+ghost use Rattle.flow_link.specs.Trace.{input_of, Run, took_at, took_over, gave_over, block_of, link_of, trace_of, marks_of, held_at, left_at, waits_over};
 ghost use Rattle.flow_run.specs.Printed.{list_text};
 ghost use Rattle.flow_run.specs.Report.{state_word, labelled, numbered, block_line, input_line, port_line, held_line, link_line, exit_line, settled_line, last_line, state_of, is_input, is_output, between_count, input_link_number, exit_link_number, input_part, exit_part, last_part, all_ports, all_links, block_report, report};
 
@@ -143,12 +143,19 @@ fn write_block_line<W: Write>(writer: &mut W, name: &str, state: State) -> io::R
     writer.write_all(b"\n")
 }
 
-/// Writes the line of what waits at an input, of which so many values were taken.
-fn write_input_line<W: Write>(writer: &mut W, posted: &[Value], taken: usize) -> io::Result<()>
-    ensures { OnOk result (Appends (W.contents writer.old) (W.contents writer.new) (input_line (drop taken posted.now))) }
+// Those of the posted values that were not taken, of which there are so many that were.
+fn not_taken(posted: &[Value], taken: usize) -> &[Value]
+    ensures { result.now ≡ drop taken posted.now }
+{
+    &posted[taken.min(posted.len())..]
+}
+
+/// Writes the line of what waits at an input.
+fn write_input_line<W: Write>(writer: &mut W, waits: &[Value]) -> io::Result<()>
+    ensures { OnOk result (Appends (W.contents writer.old) (W.contents writer.new) (input_line waits.now)) }
 {
     writer.write_all(b"input ")?;
-    write_values(writer, &posted[taken.min(posted.len())..])?;
+    write_values(writer, waits)?;
     writer.write_all(b"\n")
 }
 
@@ -380,13 +387,22 @@ fn write_links<N: Reported, W: Write>(writer: &mut W, net: &N, block: usize) -> 
     Ok(())
 }
 
+/// What waits at the input of a block that is one.
+pub(crate) fn waiting<N: Reported>(net: &N, block: usize) -> &[Value]
+    requires known { block < length (N.run net.now).layout.blocks }
+    requires is_input { (block_of (N.run net.now) block).input ≡ true }
+    ensures { result.now ≡ waits_over (N.run net.now) block (input_link_number (N.run net.now) block) }
+{
+    let taken = count_taken(net.journal(block), input_link_of(net, block));
+    not_taken(net.posted(block), taken)
+}
+
 fn write_input<N: Reported, W: Write>(writer: &mut W, net: &N, block: usize) -> io::Result<()>
     requires { block < length (N.run net.now).layout.blocks }
     ensures { OnOk result (Appends (W.contents writer.old) (W.contents writer.new) (input_part (N.run net.now) block)) }
 {
     if net.block(block).input {
-        let taken = count_taken(net.journal(block), input_link_of(net, block));
-        write_input_line(writer, net.posted(block), taken)?;
+        write_input_line(writer, waiting(net, block))?;
     }
     Ok(())
 }
@@ -481,7 +497,7 @@ mod tests {
         let journal = marks.as_slice();
         let mut report = Vec::new(rt.alloc());
         write_block_line(&mut report, "in", State::Done)?;
-        write_input_line(&mut report, &[], count_taken(journal, 2))?;
+        write_input_line(&mut report, not_taken(&[], count_taken(journal, 2)))?;
         write_port_line(&mut report, 0, journal)?;
         write_held_line(&mut report, 0, &[], &[])?;
         write_link_line(&mut report, 0, journal)?;
@@ -520,7 +536,7 @@ mod tests {
         let posted = [Value::Int(1), Value::Int(5), Value::Int(6)];
         let mut report = Vec::new(rt.alloc());
         write_block_line(&mut report, "join", State::Open)?;
-        write_input_line(&mut report, &posted, count_taken(&journal, 5))?;
+        write_input_line(&mut report, not_taken(&posted, count_taken(&journal, 5)))?;
         write_port_line(&mut report, 0, &journal)?;
         write_port_line(&mut report, 1, &journal)?;
         write_link_line(&mut report, 7, &journal)?;

@@ -129,6 +129,7 @@ pub(super) fn kind_of(word: &str) -> Option<BlockKind>
     match word {
         "buffer" => Some(BlockKind::Buffer),
         "action" => Some(BlockKind::Action),
+        "transform" => Some(BlockKind::Transform),
         _ => None,
     }
 }

@@ -204,7 +204,19 @@ const WRONG_TYPE: &[Refused] = &[
         "flow_run: 4 WrongType block 0\n",
     ),
     (
-        b"format = 1\nblock = [{name = \"a\", kind = \"transform\"}]\n",
+        b"format = 1\nblock = [{name = \"a\", kind = \"transfrom\"}]\n",
+        "flow_run: 4 WrongType block 0\n",
+    ),
+    (
+        b"format = 1\nblock = [{name = \"a\", kind = \"join\"}]\n",
+        "flow_run: 4 WrongType block 0\n",
+    ),
+    (
+        b"format = 1\nblock = [{name = \"a\", kind = \"transform_many\", work = []}]\n",
+        "flow_run: 4 WrongType block 0\n",
+    ),
+    (
+        b"format = 1\nblock = [{name = \"a\", kind = \"transform\", work = \"id\"}]\n",
         "flow_run: 4 WrongType block 0\n",
     ),
     (
@@ -273,6 +285,10 @@ const BAD_WORK: &[Refused] = &[
     (
         b"format = 1\nblock = [{name = \"a\", kind = \"action\", work = [\"field 4096\"]}]\n",
         "flow_run: 5 BadWork block 0\n",
+    ),
+    (
+        b"format = 1\nblock = [{name = \"a\", kind = \"buffer\"}, {name = \"a\", kind = \"transform\", work = [\"int\", \"addd 1\"]}]\n",
+        "flow_run: 5 BadWork block 1\n",
     ),
     // Seventeen steps.
     (
@@ -407,6 +423,17 @@ const READ: &[(&[u8], usize, usize)] = &[
         1,
         1,
     ),
+    // Whether a kind has the function that it requires is looked at in the plan.
+    (
+        b"format = 1\nblock = [{name = \"a\", kind = \"transform\"}]\n",
+        1,
+        0,
+    ),
+    (
+        b"format = 1\nblock = [{name = \"a\", kind = \"transform\", work = [\"int\", \"add 1\"]}, {name = \"b\", kind = \"transform\", work = []}]\n",
+        2,
+        0,
+    ),
     (
         b"format = 1\nblock = []\nlink = [{from = \"a\", to = \"b\"}, {from = \"a\", to = \"b\", propagate = false}]\n",
         0,
@@ -496,6 +523,14 @@ to = \"b\"
 from = \"a\"
 ";
 
+const TRANSFORM: &[u8] = b"format = 1
+[[block]]
+name = \"t\"
+kind = \"transform\"
+input = true
+work = [\"int\", \"mul 2\"]
+";
+
 fn check_blocks(
     rt: &(impl Abort + Print),
     alloc: Global,
@@ -541,6 +576,25 @@ fn a_draft_says_what_the_text_says(rt: HostRuntime) -> Result<(), Fail> {
     for link in &draft.links {
         assert!(rt; link.port.is_none() && link.when.is_none() && link.max.is_none());
     }
+    Ok(())
+}
+
+#[test]
+fn a_transform_is_read_with_its_function(rt: HostRuntime) -> Result<(), Fail> {
+    let Ok(draft) = read_draft(rt.alloc(), TRANSFORM) else {
+        panic!(rt; "refused");
+    };
+    let [block] = draft.blocks.as_slice() else {
+        panic!(rt; "not one block");
+    };
+    assert!(rt; block.name.as_str() == "t" && block.input);
+    assert_eq!(rt; block.kind, BlockKind::Transform);
+    let Some(work) = &block.work else {
+        panic!(rt; "no function");
+    };
+    let given = Value::Text(flow_value::Text::from_str(rt.alloc(), "21")?);
+    let doubled = work.run(rt.alloc(), &given)?;
+    assert!(rt; doubled.len() == 1 && doubled[0].as_int() == Some(42));
     Ok(())
 }
 
