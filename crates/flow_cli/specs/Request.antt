@@ -36,11 +36,15 @@ abbrev pub HasCrew : Request → Type 0
 HasCrew Input = ⊤
 HasCrew (File path bounds) = IsCrew bounds.workers
 
+-- the limit of events where none is named
+abbrev pub default_limit : ℕ
+default_limit = 10000000
+
 module _ {Y : Type 0} where
-  -- the bounds that the arguments behind the network name; where there is no limit, it is ten million
+  -- the bounds that the arguments behind the network name; where there is no limit, it is the default one
   abbrev pub bounds_of : List (String Y) → Option Bounds
   bounds_of [] = None
-  bounds_of (workers ∷ []) = both_bounds (workers_of (string_bytes workers)) (Some 10000000)
+  bounds_of (workers ∷ []) = both_bounds (workers_of (string_bytes workers)) (Some default_limit)
   bounds_of (workers ∷ limit ∷ []) = both_bounds (workers_of (string_bytes workers)) (number_of (string_bytes limit))
   bounds_of (workers ∷ limit ∷ other ∷ others) = None
 

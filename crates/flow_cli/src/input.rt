@@ -3,8 +3,8 @@ ghost use Rattle.std.specs.Prelude.{◌≡◌, IfOk, IfErr, IfSome};
 ghost use Rattle.std.specs.Io.KnownBytes.{Appends};
 ghost use Rattle.flow_run.specs.Ran.{IsReported};
 ghost use Rattle.flow_cli.specs.Failure.{unread_refusal, IsUnread};
-ghost use Rattle.flow_cli.specs.Reported.{IsReportedIn};
-ghost use Rattle.flow_cli.specs.Request.{IsCrew};
+ghost use Rattle.flow_cli.specs.Reported.{IsReportedIn, IsReportedOfAny};
+ghost use Rattle.flow_cli.specs.Request.{IsCrew, default_limit};
 
 use crate::request::{Bounds, DEFAULT_BOUNDS};
 use flow_run::{Ran, RunRefusal, TextFault, run, split_input};
@@ -20,6 +20,7 @@ pub fn run_file<R: Files + Input + Print + AllocGlobal>(
     bounds: Bounds,
 ) -> Result<Ran, RunRefusal>
     requires { IsCrew bounds.workers }
+    ensures { IfOk result (IsReportedOfAny bounds.limit (λ report. Unit {0})) }
 {
     let plan = fs::read(rt, path).map_err(|error| unread(&error))?;
     let records = BufReader::new(rt.alloc(), rt.reader()).map_err(|error| unread(&error))?;
@@ -35,8 +36,8 @@ pub fn run_input<R: Read + Drop, W: Write + Drop>(
     reader: R,
     writer: W,
 ) -> Result<(Ran, W), RunRefusal>
-    ensures { IfOk result (λ done. IsReportedIn (R.remaining reader)
-        (Appends (W.contents writer) (W.contents done.1)) done.0.settled) }
+    ensures { IfOk result (λ done. IsReportedIn (R.remaining reader) default_limit
+        (Appends (W.contents writer) (W.contents done.1)) done.0) }
 {
     let text = whole_input(alloc, reader)?;
     let (plan, records) = split_input(&text);
@@ -64,8 +65,8 @@ fn run_buffered<R: Read + Drop, W: Write + Drop>(
     bounds: Bounds,
 ) -> Result<(Ran, W), RunRefusal>
     requires { IsCrew bounds.workers }
-    ensures { IfOk result (λ done. IsReported (R.remaining records)
-        (Appends (W.contents writer) (W.contents done.1)) done.0.settled) }
+    ensures { IfOk result (λ done. IsReported plan.now (R.remaining records) bounds.limit
+        (Appends (W.contents writer) (W.contents done.1)) done.0) }
 {
     let Ok(mut buffer) = BufWriter::new(alloc, writer) else {
         return Err(RunRefusal::Memory);

@@ -1,4 +1,4 @@
-//! Runs from readers and into writers that fail, and the run that the gate compares.
+//! Runs from readers and into writers that fail, and one that goes through.
 use crate::input::run_input;
 use flow_net::Settled;
 use flow_run::{Ran, RunRefusal, TextFault};
