@@ -1,5 +1,6 @@
 //! One step of a named function, and what it makes of a value.
-ghost use Rattle.std.specs.Prelude.{◌≡◌};
+ghost use Rattle.std.specs.Prelude.{◌≡◌, IfOk};
+ghost use Rattle.std.specs.Fmt.{signed_decimal};
 ghost use Rattle.flow_value.specs.Step.{applied, total_of, summed, ints_below, numbers_of, one_int};
 ghost use Rattle.flow_value.specs.Meaning.{RunsAs};
 ghost use Rattle.flow_value.specs.StepRuns.{AppliesAs, GivesOne, int_in, row_in};
@@ -8,7 +9,7 @@ ghost use Rattle.flow_value.specs.declared.step.Step.TheVariants.{ToInt, ToText,
 use crate::number::read_int;
 use crate::value::{Row, Text, Value};
 use crate::work::WorkFault;
-use std::alloc::Global;
+use std::alloc::{AllocError, Global};
 
 /// The greatest number that `upto` counts to, and the most values that `repeat` gives.
 pub(crate) const MOST_VALUES: u16 = 1_000;
@@ -84,10 +85,17 @@ fn to_text(alloc: Global, value: Value) -> Result<Value, WorkFault>
     ensures { GivesOne (applied ToText value) result }
 {
     match value {
-        Value::Int(number) => Ok(Value::Text(Text::new(number.to_string(alloc)?))),
+        Value::Int(number) => Ok(Value::Text(decimal(alloc, number)?)),
         Value::Text(text) => Ok(Value::Text(text)),
         Value::Row(_) => Err(WorkFault::NotText),
     }
+}
+
+/// The number's decimal text.
+fn decimal(alloc: Global, number: i64) -> Result<Text, AllocError>
+    ensures { IfOk result (λ text. text ≡ signed_decimal number) }
+{
+    Text::new(alloc, number.to_string(alloc)?).map_err(|_| AllocError)
 }
 
 fn add(value: Value, number: i64) -> Result<Value, WorkFault>

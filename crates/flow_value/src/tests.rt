@@ -653,12 +653,6 @@ fn copies_are_equal(rt: HostRuntime) -> Result<(), Fail> {
 #[test]
 fn parts_come_back(rt: HostRuntime) -> Result<(), Fail> {
     let alloc = rt.alloc();
-    let text = Text::new("é".to_string(alloc)?);
-    assert_eq!(rt; text.as_str(), "é");
-    assert_eq!(rt; text.len(), 2);
-    assert!(rt; !text.is_empty());
-    let content = text.into_string();
-    assert_eq!(rt; content.as_str(), "é");
     let row = Row::new(values_of(alloc, &[Int(1), Word("x")])?);
     assert_eq!(rt; row.len(), 2);
     assert!(rt; !row.is_empty());
@@ -668,6 +662,47 @@ fn parts_come_back(rt: HostRuntime) -> Result<(), Fail> {
     assert_eq!(rt; items[0].as_int(), Some(1));
     assert_eq!(rt; items[1].as_str(), Some("x"));
     assert!(rt; items[1].as_items().is_none());
+    Ok(())
+}
+
+#[test]
+fn a_text_gives_its_string(rt: HostRuntime) -> Result<(), Fail> {
+    let alloc = rt.alloc();
+    let text = Text::new(alloc, "é".to_string(alloc)?).map_err(|_| "out of memory")?;
+    assert_eq!(rt; text.as_str(), "é");
+    assert_eq!(rt; text.len(), 2);
+    assert!(rt; !text.is_empty());
+    let content = text.into_string().map_err(|_| "shared")?;
+    assert_eq!(rt; content.as_str(), "é");
+    let none = Text::from_str(alloc, "")?;
+    assert!(rt; none.is_empty());
+    assert!(rt; none != Text::from_str(alloc, "é")?);
+    Ok(())
+}
+
+/// A hundred times 32 bytes.
+fn long_content(alloc: Global) -> Result<String, AllocError> {
+    let mut content = String::new(alloc);
+    for _ in 0..100u8 {
+        content.push_str("thirty-two bytes, and then more.")?;
+    }
+    Ok(content)
+}
+
+#[test]
+fn a_shared_text_comes_back(rt: HostRuntime) -> Result<(), Fail> {
+    let alloc = rt.alloc();
+    let long = long_content(alloc)?;
+    let text = Text::from_str(alloc, long.as_str())?;
+    let copy = text.copy()?;
+    assert!(rt; copy == text);
+    assert!(rt; copy == Text::from_str(alloc, long.as_str())?);
+    assert_eq!(rt; copy.len(), 3200);
+    let text = text.into_string().err().ok_or("not shared")?;
+    assert_eq!(rt; text.as_str(), long.as_str());
+    drop(copy);
+    let content = text.into_string().map_err(|_| "shared")?;
+    assert!(rt; content == long);
     Ok(())
 }
 

@@ -1,7 +1,7 @@
 //! The values that flow: numbers, texts, and rows of values.
 //!
 //! A text and a row hide how they are kept, so that two of them are equal where their contents are.
-ghost use Rattle.std.specs.Prelude.{◌≡◌, ◌<◌, ◌^◌, ◌↔◌, [], length, IsTrue, IfOk, string_bytes};
+ghost use Rattle.std.specs.Prelude.{◌≡◌, ◌<◌, ◌^◌, ◌↔◌, [], length, IsTrue, IfOk, MatchResult, string_bytes};
 ghost use Rattle.std.specs.Option.{option_copied};
 ghost use Rattle.std.specs.Cmp.{decided, partial_equiv_from_equiv};
 ghost use Rattle.std.specs.Cmp.Lexicographic.{pointwise};
@@ -9,6 +9,7 @@ ghost use Rattle.std.proofs.lemmas.Slice.Eq.{bytes_eq-Decides};
 
 use std::alloc::{AllocError, Global};
 use std::marker::Model;
+use std::sync::Arc;
 
 /// What a message carries.
 #[cycle(value)]
@@ -23,17 +24,20 @@ pub enum Value {
 }
 
 /// A text. Contracts see its UTF-8 bytes.
+///
+/// A text never changes, so a copy shares the content with it, on any thread, and takes no memory.
 #[derive(Debug, Drop)]
 pub struct Text {
-    content: String,
+    content: Arc<String, Global>,
 }
 
 impl Model for Text {
     ghost use Rattle.std.specs.Prelude.{List, ℕ, string_bytes};
+    ghost use Rattle.std.specs.Arc.{arc_value};
 
     ghost Value = { List ℕ };
 
-    ghost view = { λ t. string_bytes t.content };
+    ghost view = { λ t. string_bytes (arc_value t.content) };
 }
 
 /// Values in a row. Contracts see the list of them, as `Items`.
@@ -67,16 +71,20 @@ impl Text {
     pub fn from_str(alloc: Global, content: &str) -> Result<Text, AllocError>
         ensures { IfOk result (λ text. text ≡ content.now) }
     {
+        let content = String::from_str(alloc, content)?;
         Ok(Text {
-            content: String::from_str(alloc, content)?,
+            content: Arc::new(alloc, content)?,
         })
     }
 
-    /// The text with this content.
-    pub fn new(content: String) -> Text
-        ensures { result ≡ string_bytes content }
+    /// The text with this content; where there is no memory to share it, the content comes back.
+    pub fn new(alloc: Global, content: String) -> Result<Text, String>
+        ensures { MatchResult result (λ text. text ≡ string_bytes content) (λ back. back ≡ content) }
     {
-        Text { content }
+        match Arc::new(alloc, content) {
+            Ok(content) => Ok(Text { content }),
+            Err(refused) => Err(refused.value),
+        }
     }
 
     /// The content.
@@ -101,19 +109,24 @@ impl Text {
         self.content.is_empty()
     }
 
-    /// The content, given back.
-    pub fn into_string(self) -> String
-        ensures { string_bytes result ≡ self }
+    /// The content, given back; where another text shares it, this text comes back.
+    pub fn into_string(self) -> Result<String, Text>
+        ensures { MatchResult result (λ content. string_bytes content ≡ self) (λ back. back ≡ self) }
     {
-        let Text { content } = self;
-        content
+        match Arc::try_unwrap(self.content) {
+            Ok(content) => Ok(content),
+            Err(content) => Err(Text { content }),
+        }
     }
 
-    /// A second text with the same content.
-    pub fn copy(&self, alloc: Global) -> Result<Text, AllocError>
+    /// A second text that shares the content. It takes no memory: it is refused only where as many texts share the
+    /// content as can be counted.
+    pub fn copy(&self) -> Result<Text, AllocError>
         ensures { IfOk result (λ text. text ≡ self.now) }
     {
-        Text::from_str(alloc, self.as_str())
+        Ok(Text {
+            content: Arc::try_clone(&self.content)?,
+        })
     }
 }
 
@@ -225,7 +238,7 @@ impl Value {
     {
         match self {
             Value::Int(number) => Ok(Value::Int(*number)),
-            Value::Text(text) => Ok(Value::Text(text.copy(alloc)?)),
+            Value::Text(text) => Ok(Value::Text(text.copy()?)),
             Value::Row(row) => Ok(Value::Row(row.copy(alloc)?)),
         }
     }
