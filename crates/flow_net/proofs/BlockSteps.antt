@@ -377,7 +377,7 @@ module _ {W : Type 0} (layout : Layout W) (meaning : ℕ → Value → Result (L
     before : IsWell (block_makes layout meaning b) (kind_in layout b) node (stage_into parts node) (stage_out parts node)
     before = well_of layout meaning parts b (all.blocks b small)
 
-    make_keeps_all : may_make layout parts node ≡ true → AllKeep layout meaning (after layout meaning parts (Make b))
+    make_keeps_all : may_make node ≡ true → AllKeep layout meaning (after layout meaning parts (Make b))
     make_keeps_all may =
         let outer = both_of (not (has_stopped node.state) && is_none node.fault) (not (is_empty node.held)) may in
         let inner = both_of (not (has_stopped node.state)) (is_none node.fault) outer.0 in

@@ -21,11 +21,11 @@ one_more P n all last k small =
 
 pub quiet_by_places : {W : Type 0} (layout : Layout W) (parts : PartsState)
     → ((l : ℕ) → l < length layout.links → is_none (event_at_link layout parts l) ≡ true)
-    → ((b : ℕ) → b < length layout.blocks → is_none (event_at_block layout parts b) ≡ true)
+    → ((b : ℕ) → b < length layout.blocks → is_none (event_at_block parts b) ≡ true)
     → IsQuiet layout parts
 quiet_by_places layout parts links blocks = record {
   at_links = every_below (λ l. is_none (event_at_link layout parts l)) (length layout.links) links;
-  at_blocks = every_below (λ b. is_none (event_at_block layout parts b)) (length layout.blocks) blocks;
+  at_blocks = every_below (λ b. is_none (event_at_block parts b)) (length layout.blocks) blocks;
 }
 
 pub none_is_none : {A : Type 0} (o : Option A) → o ≡ None → is_none o ≡ true
@@ -55,14 +55,14 @@ module _ {W : Type 0} (layout : Layout W) (parts : PartsState) (quiet : IsQuiet 
       let some : is_none (event_at_link layout parts l) ≡ false = ap (λ (m : Option Move). is_none (option_map (at_link l) m)) e in
       cc
 
-  no_step : (b : ℕ) → b < length layout.blocks → is_none (event_at_block layout parts b) ≡ false → ⊥
+  no_step : (b : ℕ) → b < length layout.blocks → is_none (event_at_block parts b) ≡ false → ⊥
   no_step b small some =
-      let none = passes_below (λ k. is_none (event_at_block layout parts k)) (length layout.blocks) b quiet.at_blocks small in
+      let none = passes_below (λ k. is_none (event_at_block parts k)) (length layout.blocks) b quiet.at_blocks small in
       cc
 
   module _ (b : ℕ) where
     makes : Bool
-    makes = may_make layout parts (node_at parts b)
+    makes = may_make (node_at parts b)
 
     completes : Bool
     completes = may_complete parts (node_at parts b)

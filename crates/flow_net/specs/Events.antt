@@ -51,6 +51,10 @@ has_stopped state.Done = true
 has_stopped (state.Faulted _) = true
 has_stopped _ = false
 
+-- a block works on what it holds, until it has ended or its function has faulted
+abbrev pub may_make : NodeState → Bool
+may_make node = not (has_stopped node.state) && is_none node.fault && not (is_empty node.held)
+
 abbrev pub is_completing : State → Bool
 is_completing state.Completing = true
 is_completing _ = false
@@ -285,6 +289,17 @@ module _ (parts : PartsState) where
   abbrev pub may_finish : NodeState → Bool
   may_finish node = is_completing node.state && is_still node && is_empty node.held && is_empty node.left
 
+  -- the event that is first of those that may happen at a block
+  abbrev pub event_of : ℕ → NodeState → Option Event
+  event_of b node =
+      cond (may_make node) (Some (Make b))
+      (cond (may_complete node) (Some (Complete b 0))
+      (cond (is_some (next_fault node)) (Some (Fault b))
+      (cond (may_finish node) (Some (Done b)) None)))
+
+  abbrev pub event_at_block : ℕ → Option Event
+  event_at_block b = event_of b (node_at parts b)
+
   -- what a move has changed
   abbrev pub after_offer : ℕ → LinkSource → ℕ → PartsState
   after_offer l source i = with_offer source (with_line l (offered i) parts)
@@ -329,10 +344,6 @@ module _ {W : Type 0} (layout : Layout W) (parts : PartsState) where
   abbrev pub next_move : ℕ → Option Move
   next_move l = move_at parts (link_in layout.links l) (line_at parts l) (line_at parts l).phase
 
-  -- a block works on what it holds, until it has ended or its function has faulted
-  abbrev pub may_make : NodeState → Bool
-  may_make node = not (has_stopped node.state) && is_none node.fault && not (is_empty node.held)
-
   -- this may happen, at a link or block of the layout
   abbrev pub Enabled : Event → Type 0
   Enabled (at_link l step) = next_move l ≡ Some step
@@ -341,19 +352,9 @@ module _ {W : Type 0} (layout : Layout W) (parts : PartsState) where
   Enabled (Fault b) = is_some (next_fault parts (node_at parts b)) ≡ true
   Enabled (Done b) = may_finish parts (node_at parts b) ≡ true
 
-  -- the event that is first of those that may happen at a link, and at a block
+  -- the event that may happen at a link
   abbrev pub event_at_link : ℕ → Option Event
   event_at_link l = option_map (at_link l) (next_move l)
-
-  abbrev pub event_of : ℕ → NodeState → Option Event
-  event_of b node =
-      cond (may_make node) (Some (Make b))
-      (cond (may_complete parts node) (Some (Complete b 0))
-      (cond (is_some (next_fault parts node)) (Some (Fault b))
-      (cond (may_finish parts node) (Some (Done b)) None)))
-
-  abbrev pub event_at_block : ℕ → Option Event
-  event_at_block b = event_of b (node_at parts b)
 
 -- what has changed when it has happened
 module _ {W : Type 0} (layout : Layout W) (meaning : ℕ → Value → Result (List Value) ℕ) (parts : PartsState) where

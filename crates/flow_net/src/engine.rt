@@ -5,7 +5,7 @@ ghost use Rattle.flow_net.specs.Events.{after, event_at_link, event_at_block};
 ghost use Rattle.flow_net.specs.Seen.{works_of};
 ghost use Rattle.flow_net.specs.Settles.{Settles, GoesOn};
 ghost use Rattle.flow_net.specs.Steps.{IsQuiet};
-ghost use Rattle.flow_net.specs.There.{EventIsThere, Fits, IsWhyNot, MayHappen, NeedsId};
+ghost use Rattle.flow_net.specs.There.{Fits, IsWhyNot, MayHappen, NeedsId};
 ghost use Rattle.flow_net.specs.declared.fault.NetFault.TheVariants.{NotEnabled, Ids, Memory};
 
 use crate::agenda::{Agenda, Spot};
@@ -26,6 +26,26 @@ pub(crate) struct Engine<W> {
 }
 
 impl<W: Work> Engine<W> {
+    /// The event that is first of those that may happen at a block.
+    fn event_at_block(&self, number: usize) -> Option<Event>
+        requires { number < length (layout_of self.now.plan).blocks }
+        ensures found { result ≡ event_at_block self.now.parts number }
+        ensures enabled { IfSome result (MayHappen (layout_of self.now.plan) self.now.parts) }
+    {
+        let node = self.parts.node(number)?;
+        if node.may_work() {
+            Some(Event::Make(number))
+        } else if self.parts.may_complete(node) {
+            Some(Event::Complete(number, 0))
+        } else if self.parts.next_fault(node).is_some() {
+            Some(Event::Fault(number))
+        } else if self.parts.may_finish(node) {
+            Some(Event::Done(number))
+        } else {
+            None
+        }
+    }
+
     /// The event that may happen at this spot.
     fn event_at(&self, spot: Spot) -> Result<Option<Event>, NetFault>
         ensures enabled { IfOk result (λ next. IfSome next (MayHappen (layout_of self.now.plan) self.now.parts)) }
@@ -36,7 +56,7 @@ impl<W: Work> Engine<W> {
                 .parts
                 .event_at_link(&self.plan, id),
             Spot::Block(number) if number < self.plan.block_count() => {
-                Ok(self.parts.event_at_block(&self.plan, number))
+                Ok(self.event_at_block(number))
             }
             _ => Ok(None),
         }
@@ -59,10 +79,10 @@ impl<W: Work> Engine<W> {
     /// The first event that may happen at a block.
     fn event_at_blocks(&self) -> Option<Event>
         ensures enabled { IfSome result (MayHappen (layout_of self.now.plan) self.now.parts) }
-        ensures none { IfNone result ((b : ℕ) → b < length (layout_of self.now.plan).blocks → is_none (event_at_block (layout_of self.now.plan) self.now.parts b) ≡ true) }
+        ensures none { IfNone result ((b : ℕ) → b < length (layout_of self.now.plan).blocks → is_none (event_at_block self.now.parts b) ≡ true) }
     {
         for number in 0..self.plan.block_count() {
-            if let Some(event) = self.parts.event_at_block(&self.plan, number) {
+            if let Some(event) = self.event_at_block(number) {
                 return Some(event);
             }
         }
@@ -129,7 +149,6 @@ impl<W: Work> Engine<W> {
     /// Does this event, if it may happen.
     pub(crate) fn event(&mut self, alloc: Global, event: &Event) -> Result<(), NetFault>
         requires fits { Fits (layout_of self.old.plan) self.old.parts }
-        requires there { EventIsThere (layout_of self.old.plan) event.now }
         ensures same_plan { self.new.plan ≡ self.old.plan }
         ensures enabled { OnOk result (MayHappen (layout_of self.old.plan) self.old.parts event.now) }
         ensures done { OnOk result (self.new.parts ≡ after (layout_of self.old.plan) (works_of W.meaning (layout_of self.old.plan)) self.old.parts event.now) }

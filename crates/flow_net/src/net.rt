@@ -27,7 +27,6 @@ pub struct Net<W: Work> {
 
 impl<W: Work> Net<W> {
     ghost use Rattle.std.specs.Prelude.{◌≢◌, IsTrue, IfOk, IfErr, OnOk, OnErr, ◌↔◌, ◌<◌, Ok, Err, true, false, []};
-    ghost use Rattle.flow_link.specs.Law.{LinkLaw};
     ghost use Rattle.flow_link.specs.Lawful.{Lawful};
     ghost use Rattle.flow_link.specs.Quiet.{Quiet};
     ghost use Rattle.flow_net.specs.AtRest.{AtRest};
@@ -37,7 +36,7 @@ impl<W: Work> Net<W> {
     ghost use Rattle.flow_net.specs.Settles.{Settles, GoesOn};
     ghost use Rattle.flow_net.specs.Steps.{IsQuiet};
     ghost use Rattle.flow_net.specs.Events.{after};
-    ghost use Rattle.flow_net.specs.There.{EventIsThere, IsWhyNot, MayHappen, NeedsId};
+    ghost use Rattle.flow_net.specs.There.{IsWhyNot, MayHappen, NeedsId};
     ghost use Rattle.flow_net.specs.declared.fault.NetFault.TheVariants.{NotEnabled, Ids};
     ghost use Rattle.flow_net.specs.declared.posted.Settled.TheVariants as Settled;
 
@@ -53,15 +52,13 @@ impl<W: Work> Net<W> {
         ensures used_up { result ≡ Err Ids → NeedsId (layout_in self.new) (parts_of self.new) }
         ensures never { result ≢ Err NotEnabled }
         ensures same_inputs { (run_of W.meaning self.new).trace.inputs ≡ (run_of W.meaning self.old).trace.inputs }
-        ensures link_law { LinkLaw (run_of W.meaning self.new) }
     {
         self.engine.settle(alloc, limit)
     }
 
-    /// Does this event, if it may happen. A link, block or port that it names is one of the plan. After a refusal the network
-    /// is as it was.
+    /// Does this event, if it may happen. One that names a link, block or port which the plan has not is not enabled. After a
+    /// refusal the network is as it was.
     pub fn event(&mut self, alloc: Global, event: Event) -> Result<Stepped, (Event, NetFault)>
-        requires { EventIsThere (layout_in self.old) event }
         ensures same_plan { layout_in self.new ≡ layout_in self.old }
         ensures enabled { OnOk result (MayHappen (layout_in self.old) (parts_of self.old) event) }
         ensures moved { OnOk result (parts_of self.new ≡ after (layout_in self.old) (works_of W.meaning (layout_in self.old)) (parts_of self.old) event) }

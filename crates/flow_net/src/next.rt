@@ -5,7 +5,7 @@ ghost use Rattle.flow_link.specs.Composes.{is_coming};
 ghost use Rattle.flow_link.specs.declared.phase.Move.TheVariants.{Offer};
 ghost use Rattle.flow_link.specs.Lists.{is_empty};
 ghost use Rattle.flow_link.specs.Planned.{layout_of};
-ghost use Rattle.flow_net.specs.Events.{end_as, end_of_feed, move_of_node, move_of_feed, answer_by, is_hand, is_at_home, brings_completion, fault_brought, head_of, offer_of, expects_at, move_of_source, refusal_at, move_at, next_move, stage_into, stage_out, may_make, may_complete, fault_cause, is_still, next_fault, may_finish, event_at_link, event_at_block, value_at, has_stopped};
+ghost use Rattle.flow_net.specs.Events.{end_as, end_of_feed, move_of_node, move_of_feed, answer_by, is_hand, is_at_home, brings_completion, fault_brought, head_of, offer_of, expects_at, move_of_source, refusal_at, move_at, next_move, stage_into, stage_out, may_make, may_complete, fault_cause, is_still, next_fault, may_finish, event_at_link, value_at, has_stopped};
 ghost use Rattle.flow_net.specs.declared.fault.NetFault.TheVariants.{Ids};
 ghost use Rattle.flow_net.specs.Parts.{node_at, feed_at, line_at, fresh_node, fresh_line};
 ghost use Rattle.flow_net.specs.There.{EventIsThere, MayHappen, NeedsId};
@@ -129,8 +129,8 @@ impl Node {
     }
 
     /// Whether there is a message that it may work on.
-    fn may_work(&self) -> bool
-        ensures { result ≡ (not (has_stopped self.now.state) && is_none self.now.fault && not (is_empty self.now.held)) }
+    pub(crate) fn may_work(&self) -> bool
+        ensures { result ≡ may_make self.now }
     {
         !self.has_stopped() && self.fault.is_none() && !self.held.is_empty()
     }
@@ -163,7 +163,7 @@ impl Feed {
 
 impl Parts {
     /// The block with this number, if there is one.
-    fn node(&self, block: usize) -> Option<&Node>
+    pub(crate) fn node(&self, block: usize) -> Option<&Node>
         ensures there { IfSome result (λ node. node.now ≡ node_at self.now block) }
         ensures absent { IfNone result (node_at self.now block ≡ fresh_node) }
     {
@@ -358,14 +358,14 @@ impl Parts {
     }
 
     /// Whether this block's port may take no message any more, since the link into it has ended with completion.
-    fn may_complete(&self, node: &Node) -> bool
+    pub(crate) fn may_complete(&self, node: &Node) -> bool
         ensures { result ≡ may_complete self.now node.now }
     {
         node.state == State::Open && self.coming(node).completion
     }
 
     /// Whether this block may end, having given all.
-    fn may_finish(&self, node: &Node) -> bool
+    pub(crate) fn may_finish(&self, node: &Node) -> bool
         ensures { result ≡ may_finish self.now node.now }
     {
         node.state == State::Completing
@@ -392,26 +392,6 @@ impl Parts {
         }
     }
 
-    /// The event that is first of those that may happen at a block.
-    pub(crate) fn event_at_block<W>(&self, plan: &Plan<W>, number: usize) -> Option<Event>
-        requires { number < length (layout_of plan.now).blocks }
-        ensures found { result ≡ event_at_block (layout_of plan.now) self.now number }
-        ensures enabled { IfSome result (MayHappen (layout_of plan.now) self.now) }
-    {
-        let node = self.node(number)?;
-        if node.may_work() {
-            Some(Event::Make(number))
-        } else if self.may_complete(node) {
-            Some(Event::Complete(number, 0))
-        } else if self.next_fault(node).is_some() {
-            Some(Event::Fault(number))
-        } else if self.may_finish(node) {
-            Some(Event::Done(number))
-        } else {
-            None
-        }
-    }
-
     /// Whether this move is next at a link.
     fn is_next<W>(&self, plan: &Plan<W>, id: usize, step: Move) -> Result<bool, NetFault>
         requires { id < length (layout_of plan.now).links }
@@ -432,11 +412,13 @@ impl Parts {
     /// Whether this event may happen. Ids says that it may not, and that the message which its link would offer next has no
     /// id left.
     pub(crate) fn may_happen<W>(&self, plan: &Plan<W>, event: &Event) -> Result<bool, NetFault>
-        requires { EventIsThere (layout_of plan.now) event.now }
         ensures told { IfOk result (λ may. IsTrue may ↔ MayHappen (layout_of plan.now) self.now event.now) }
         ensures used_up { IfErr result (λ fault. (fault ≡ Ids) × NeedsId (layout_of plan.now) self.now) }
         ensures not_then { OnErr result (MayHappen (layout_of plan.now) self.now event.now → ⊥) }
     {
+        if !event.is_there(plan) {
+            return Ok(false);
+        }
         match *event {
             Event::Link(id, step) => self.is_next(plan, id, step),
             Event::Make(number) => Ok(self.node(number).is_some_and(|node| node.may_work())),

@@ -1,9 +1,7 @@
 //! Chains of blocks with what is posted to them: what comes of a run, and where it stops. The tests take their numbers from
 //! `docs/worked-examples.md` and `docs/formats.md`.
-ghost use Rattle.std.specs.Prelude.{◌≡◌, ◌+◌, ◌≤◌, IfOk, OnOk, IsTrue, All, cond, count_by, length};
+ghost use Rattle.std.specs.Prelude.{◌≡◌, ◌+◌, ◌≤◌, IfOk, OnOk, cond, count_by, length};
 ghost use Rattle.flow_link.specs.Planned.{layout_of};
-ghost use Rattle.flow_link.specs.declared.trace.Ending.TheVariants.{Complete};
-ghost use Rattle.flow_net.specs.There.{EventIsThere};
 
 use crate::{Event, Net, NetFault, Posted, Settled, State, Stepped};
 use flow_link::{
@@ -177,38 +175,59 @@ fn texts(alloc: Global, words: &[&str]) -> Result<Vec<Value>, AllocError> {
     Ok(values)
 }
 
-/// Posts these texts, if there is an input for them.
+/// Posts these texts and their ending, if there is an input for them.
 fn post_to(
     alloc: Global,
     posted: &mut Vec<Posted>,
     is_input: bool,
     words: &[&str],
+    ending: Ending,
 ) -> Result<(), Fail>
-    ensures count { OnOk result (length posted.new.items ≡ length posted.old.items + cond is_input 1 0) }
-    ensures complete { OnOk result (All (λ given. given.ending ≡ Complete) posted.old.items → All (λ given. given.ending ≡ Complete) posted.new.items) }
+    ensures { OnOk result (length posted.new.items ≡ length posted.old.items + cond is_input 1 0) }
 {
     if is_input {
         posted.push(Posted {
             values: texts(alloc, words)?,
-            ending: Ending::Complete,
+            ending,
         })?;
     }
     Ok(())
 }
 
-/// These texts for each input of a plan, and their end.
-fn posted_for(alloc: Global, plan: &Plan<Steps>, words: &[&str]) -> Result<Vec<Posted>, Fail>
-    ensures one_each { IfOk result (λ posted. length posted.items ≡ count_by (λ block. block.input) (layout_of plan.now).blocks) }
-    ensures complete { IfOk result (λ posted. All (λ given. given.ending ≡ Complete) posted.items) }
+/// These texts and their ending for each input of a plan.
+fn posted_for(
+    alloc: Global,
+    plan: &Plan<Steps>,
+    words: &[&str],
+    ending: Ending,
+) -> Result<Vec<Posted>, Fail>
+    ensures { IfOk result (λ posted. length posted.items ≡ count_by (λ block. block.input) (layout_of plan.now).blocks) }
 {
     let mut posted = Vec::new(alloc);
     for number in 0..plan.block_count() {
-        post_to(alloc, &mut posted, plan.block(number).input, words)?;
+        post_to(alloc, &mut posted, plan.block(number).input, words, ending)?;
     }
     Ok(posted)
 }
 
-/// The network of a chain whose first block is posted these texts.
+/// The network of a chain whose first block is posted these texts, which end so.
+fn network_ending<R: Abort>(
+    rt: &R,
+    alloc: Global,
+    spelled: &[Spelled],
+    plain: Option<usize>,
+    words: &[&str],
+    ending: Ending,
+) -> Result<Net<Steps>, Fail> {
+    let plan = chain(rt, alloc, spelled, plain)?;
+    let posted = posted_for(alloc, &plan, words, ending)?;
+    match Net::new(alloc, plan, posted) {
+        Ok(net) => Ok(net),
+        Err(_) => panic!(rt; "there is no memory for the network"),
+    }
+}
+
+/// The network of a chain whose first block is posted these texts, and no others.
 fn network<R: Abort>(
     rt: &R,
     alloc: Global,
@@ -216,12 +235,7 @@ fn network<R: Abort>(
     plain: Option<usize>,
     words: &[&str],
 ) -> Result<Net<Steps>, Fail> {
-    let plan = chain(rt, alloc, spelled, plain)?;
-    let posted = posted_for(alloc, &plan, words)?;
-    match Net::new(alloc, plan, posted) {
-        Ok(net) => Ok(net),
-        Err(_) => panic!(rt; "there is no memory for the network"),
-    }
+    network_ending(rt, alloc, spelled, plain, words, Ending::Complete)
 }
 
 /// A network that a run has brought to rest.
@@ -267,28 +281,6 @@ fn held<'n, R: Abort>(rt: &R, net: &'n Net<Steps>, block: usize) -> &'n VecDeque
 fn left<'n, R: Abort>(rt: &R, net: &'n Net<Steps>, block: usize) -> &'n VecDeque<Value> {
     assert!(rt; block < net.plan().block_count());
     net.left(block)
-}
-
-fn is_there(plan: &Plan<Steps>, event: &Event) -> bool
-    ensures { IsTrue result → EventIsThere (layout_of plan.now) event.now }
-{
-    match *event {
-        Event::Link(id, _) => id < plan.link_count(),
-        Event::Make(number) => number < plan.block_count(),
-        Event::Complete(number, _) => number < plan.block_count(),
-        Event::Fault(number) => number < plan.block_count(),
-        Event::Done(number) => number < plan.block_count(),
-    }
-}
-
-fn happen<R: Abort>(
-    rt: &R,
-    alloc: Global,
-    net: &mut Net<Steps>,
-    event: Event,
-) -> Result<Stepped, (Event, NetFault)> {
-    assert!(rt; is_there(net.plan(), &event));
-    net.event(alloc, event)
 }
 
 fn are_ints(values: &[Value], expected: &[i64]) -> bool {
@@ -374,8 +366,8 @@ fn header<R: Abort>(rt: &R, id: u64) -> MessageHeader {
     }
 }
 
-fn is_not_enabled<R: Abort>(rt: &R, alloc: Global, net: &mut Net<Steps>, event: &Event) -> bool {
-    match happen(rt, alloc, net, *event) {
+fn is_not_enabled(alloc: Global, net: &mut Net<Steps>, event: &Event) -> bool {
+    match net.event(alloc, *event) {
         Err((back, NetFault::NotEnabled)) => back == *event,
         _ => false,
     }
@@ -396,9 +388,14 @@ fn not_enabled(rt: HostRuntime) -> Result<(), Fail> {
         Event::Link(1, Move::Want),
         Event::Link(1, Move::Give),
         Event::Link(1, Move::Post(first)),
+        Event::Link(2, Move::Want),
+        Event::Make(2),
+        Event::Complete(2, 0),
+        Event::Fault(2),
+        Event::Done(2),
         Event::Link(1, Move::End(LinkEnd::Complete)),
     ] {
-        assert!(rt; is_not_enabled(&rt, alloc, &mut net, &event));
+        assert!(rt; is_not_enabled(alloc, &mut net, &event));
     }
     assert!(rt; !net.is_quiet());
     for number in 0..2 {
@@ -422,25 +419,20 @@ fn an_event_that_may_happen_is_done_once(rt: HostRuntime) -> Result<(), Fail> {
         Move::Open,
         Move::Close,
     ] {
-        assert!(rt; happen(&rt, alloc, &mut net, Event::Link(1, step)) == Ok(Stepped::Moved));
-        assert!(rt; is_not_enabled(&rt, alloc, &mut net, &Event::Link(1, step)));
+        assert!(rt; net.event(alloc, Event::Link(1, step)) == Ok(Stepped::Moved));
+        assert!(rt; is_not_enabled(alloc, &mut net, &Event::Link(1, step)));
     }
     assert!(rt; held(&rt, &net, 0).len() == 1 && left(&rt, &net, 0).is_empty());
-    assert!(rt; happen(&rt, alloc, &mut net, Event::Make(0)) == Ok(Stepped::Moved));
-    assert!(rt; is_not_enabled(&rt, alloc, &mut net, &Event::Make(0)));
+    assert!(rt; net.event(alloc, Event::Make(0)) == Ok(Stepped::Moved));
+    assert!(rt; is_not_enabled(alloc, &mut net, &Event::Make(0)));
     assert!(rt; held(&rt, &net, 0).is_empty() && left(&rt, &net, 0).len() == 1);
     assert!(rt;
-        happen(
-            &rt,
-            alloc,
-            &mut net,
-            Event::Link(1, Move::End(LinkEnd::Complete))
-        ) == Ok(Stepped::Moved)
+        net.event(alloc, Event::Link(1, Move::End(LinkEnd::Complete))) == Ok(Stepped::Moved)
     );
-    assert!(rt; is_not_enabled(&rt, alloc, &mut net, &Event::Complete(0, 1)));
-    assert!(rt; happen(&rt, alloc, &mut net, Event::Complete(0, 0)) == Ok(Stepped::Moved));
+    assert!(rt; is_not_enabled(alloc, &mut net, &Event::Complete(0, 1)));
+    assert!(rt; net.event(alloc, Event::Complete(0, 0)) == Ok(Stepped::Moved));
     assert!(rt; state(&rt, &net, 0) == State::Completing);
-    assert!(rt; is_not_enabled(&rt, alloc, &mut net, &Event::Done(0)));
+    assert!(rt; is_not_enabled(alloc, &mut net, &Event::Done(0)));
     Ok(())
 }
 
@@ -528,7 +520,7 @@ impl Chance {
 }
 
 /// How many moves of a link are tried.
-const MOVES: usize = 20;
+const MOVES: usize = 21;
 
 /// A move or step to try: whether it is a link's, the number of the link or block, and which of its moves or steps.
 type Choice = (bool, usize, usize);
@@ -548,13 +540,14 @@ fn move_by_number<R: Abort>(rt: &R, number: usize) -> Move {
         9 => Move::End(LinkEnd::Plain),
         10 => Move::End(LinkEnd::Complete),
         11 => Move::End(LinkEnd::Fault(1)),
-        12 => Move::End(LinkEnd::Fault(6)),
-        13 => Move::End(LinkEnd::Fault(7)),
-        14 => Move::Post(header(rt, 1)),
-        15 => Move::TurnDown,
-        16 => Move::Postpone,
-        17 => Move::Consume,
-        18 => Move::Withdraw,
+        12 => Move::End(LinkEnd::Fault(5)),
+        13 => Move::End(LinkEnd::Fault(6)),
+        14 => Move::End(LinkEnd::Fault(7)),
+        15 => Move::Post(header(rt, 1)),
+        16 => Move::TurnDown,
+        17 => Move::Postpone,
+        18 => Move::Consume,
+        19 => Move::Withdraw,
         _ => Move::Deny,
     }
 }
@@ -607,7 +600,7 @@ fn shuffled(
 fn do_one<R: Abort>(rt: &R, alloc: Global, net: &mut Net<Steps>, choices: &[Choice]) -> bool {
     for choice in choices {
         let event = event_of(rt, choice);
-        match happen(rt, alloc, net, event) {
+        match net.event(alloc, event) {
             Ok(Stepped::Moved) => return true,
             Err((back, fault)) => {
                 assert!(rt; back == event_of(rt, choice) && fault == NetFault::NotEnabled);
@@ -687,5 +680,83 @@ fn a_fault_in_the_middle_on_every_schedule(rt: HostRuntime) -> Result<(), Fail> 
                 .all(|(value, number)| *value == Value::Int(*number))
         );
     }
+    Ok(())
+}
+
+/// The network of an input and an action, with one text that ends by fault 5.
+fn with_faulting_input<R: Abort>(rt: &R, alloc: Global) -> Result<Net<Steps>, Fail> {
+    network_ending(rt, alloc, &[IN, OUT], None, &["1"], Ending::Fault(5))
+}
+
+/// Tests that each block of a chain has ended by fault 5, and has worked on all that it took.
+fn all_faulted<R: Abort>(rt: &R, net: &Net<Steps>) {
+    for number in 0..net.plan().block_count() {
+        assert!(rt; state(rt, net, number) == State::Faulted(5));
+        assert!(rt; held(rt, net, number).is_empty());
+    }
+}
+
+/// Tests that both blocks have ended so, and tells whether the text is recorded; where it is not, it is left.
+fn text_arrived<R: Abort>(rt: &R, net: &Net<Steps>) -> bool {
+    all_faulted(rt, net);
+    let arrived = are_texts(record(rt, net, 1), &["1"]);
+    assert!(rt; arrived || record(rt, net, 1).is_empty());
+    assert!(rt; left(rt, net, 0).len() == if arrived { 0 } else { 1 });
+    assert!(rt; left(rt, net, 0).iter().all(|value| is_text(value, "1")));
+    arrived
+}
+
+#[test]
+fn faulting_input(rt: HostRuntime) -> Result<(), Fail> {
+    let alloc = rt.alloc();
+    let mut net = with_faulting_input(&rt, alloc)?;
+    assert!(rt; net.settle(alloc, ENOUGH) == Ok(Settled::Quiet));
+    let _ = text_arrived(&rt, &net);
+    assert!(rt; are_texts(posted(&rt, &net, 0), &["1"]));
+    Ok(())
+}
+
+// Some schedules bring the text to the action before the fault, and some do not.
+#[test]
+fn faulting_input_on_every_schedule(rt: HostRuntime) -> Result<(), Fail> {
+    let alloc = rt.alloc();
+    let mut arrivals = Vec::new(alloc);
+    for seed in 0..32 {
+        let mut net = with_faulting_input(&rt, alloc)?;
+        wander(&rt, alloc, &mut net, Chance { state: seed })?;
+        arrivals.push(text_arrived(&rt, &net))?;
+    }
+    assert!(rt; arrivals.contains(&true) && arrivals.contains(&false));
+    Ok(())
+}
+
+// What was taken before the fault is worked on, and the fault of the input comes behind it.
+#[test]
+fn a_fault_of_the_input_is_handed_on(rt: HostRuntime) -> Result<(), Fail> {
+    let alloc = rt.alloc();
+    for seed in 0..16 {
+        let mut net = network_ending(&rt, alloc, THREE, None, &["1", "2"], Ending::Fault(5))?;
+        wander(&rt, alloc, &mut net, Chance { state: seed })?;
+        all_faulted(&rt, &net);
+        let made = record(&rt, &net, 2).iter().chain(left(&rt, &net, 1).iter());
+        assert!(rt;
+            made.zip([1, 2].iter())
+                .all(|(value, number)| *value == Value::Int(*number))
+        );
+    }
+    Ok(())
+}
+
+// An input whose end is open ends nothing: all that was posted arrives, and the blocks stay open.
+#[test]
+fn an_open_input_ends_nothing(rt: HostRuntime) -> Result<(), Fail> {
+    let alloc = rt.alloc();
+    let mut net = network_ending(&rt, alloc, THREE, None, &["1", "2"], Ending::Open)?;
+    assert!(rt; net.settle(alloc, ENOUGH) == Ok(Settled::Quiet));
+    assert!(rt; net.is_quiet());
+    for number in 0..3 {
+        assert!(rt; state(&rt, &net, number) == State::Open);
+    }
+    assert!(rt; are_ints(record(&rt, &net, 2), &[1, 2]));
     Ok(())
 }

@@ -22,12 +22,6 @@ returns-clause-lawful g c =
     lawful_after g.W.Work.meaning start.plan c.settle.new.self.plan c.settle.ensures.goes_on.count start.parts c.settle.new.self.parts
     c.settle.ensures.same_plan c.settle.ensures.goes_on.happened c.args.self.now.kept c.args.self.now.all_kept
 
-pub returns-clause-link_law : goal.returns-clause-link_law
-returns-clause-link_law g c =
-    let start = c.args.self.now.engine in
-    (lawful_after g.W.Work.meaning start.plan c.settle.new.self.plan c.settle.ensures.goes_on.count start.parts c.settle.new.self.parts
-    c.settle.ensures.same_plan c.settle.ensures.goes_on.happened c.args.self.now.kept c.args.self.now.all_kept).link_law
-
 pub returns-clause-quiet : goal.returns-clause-quiet
 returns-clause-quiet g c is_quiet =
     let start = c.args.self.now.engine in

@@ -20,8 +20,5 @@ loop-number-preserved c =
     let blocks = (layout_of c.args.plan.now).blocks in
     let number = c.loop-number.number in
     let small : number < length blocks = omega (arith, c.loop-number-test.true, c.block_count-number-end.ensures) in
-    record {
-      count = count_one_more blocks number (length c.loop-number.posted.items) (length c.post_to.new.posted.items) no_block small c.loop-number.invariant.count
-          (c.in_ok-post_to.ensures.count ∙ ap (λ block. length c.loop-number.posted.items + cond block.input 1 0) (c.block.ensures no_block));
-      complete = c.in_ok-post_to.ensures.complete c.loop-number.invariant.complete;
-    }
+    count_one_more blocks number (length c.loop-number.posted.items) (length c.post_to.new.posted.items) no_block small c.loop-number.invariant
+    (c.in_ok-post_to.ensures ∙ ap (λ block. length c.loop-number.posted.items + cond block.input 1 0) (c.block.ensures no_block))
