@@ -1,9 +1,9 @@
 //! Runs a network over records, from standard input and files to standard output, both buffered.
-ghost use Rattle.std.specs.Prelude.{◌≡◌, IfOk, IfErr, IfSome};
+ghost use Rattle.std.specs.Prelude.{◌≡◌, ◌⊎◌, IfOk, IfErr, IfSome};
 ghost use Rattle.std.specs.Io.KnownBytes.{Appends};
-ghost use Rattle.flow_run.specs.Ran.{IsReported};
+ghost use Rattle.flow_run.specs.Ran.{IsReported, IsUnreported};
 ghost use Rattle.flow_cli.specs.Failure.{unread_refusal, IsUnread};
-ghost use Rattle.flow_cli.specs.Reported.{IsReportedIn, IsReportedOfAny};
+ghost use Rattle.flow_cli.specs.Reported.{IsReportedIn, IsReportedOfAny, IsRefusedIn, IsRefusedOfAny};
 ghost use Rattle.flow_cli.specs.Request.{IsCrew, default_limit};
 
 use crate::request::{Bounds, DEFAULT_BOUNDS};
@@ -20,7 +20,8 @@ pub fn run_file<R: Files + Input + Print + AllocGlobal>(
     bounds: Bounds,
 ) -> Result<Ran, RunRefusal>
     requires { IsCrew bounds.workers }
-    ensures { IfOk result (IsReportedOfAny bounds.limit (λ report. Unit {0})) }
+    ensures reported { IfOk result (IsReportedOfAny bounds.limit (λ report. Unit {0})) }
+    ensures refused { IfErr result (λ refusal. IsUnread refusal ⊎ IsRefusedOfAny bounds.limit refusal) }
 {
     let plan = fs::read(rt, path).map_err(|error| unread(&error))?;
     let records = BufReader::new(rt.alloc(), rt.reader()).map_err(|error| unread(&error))?;
@@ -36,8 +37,9 @@ pub fn run_input<R: Read + Drop, W: Write + Drop>(
     reader: R,
     writer: W,
 ) -> Result<(Ran, W), RunRefusal>
-    ensures { IfOk result (λ done. IsReportedIn (R.remaining reader) default_limit
+    ensures reported { IfOk result (λ done. IsReportedIn (R.remaining reader) default_limit
         (Appends (W.contents writer) (W.contents done.1)) done.0) }
+    ensures refused { IfErr result (λ refusal. IsUnread refusal ⊎ IsRefusedIn (R.remaining reader) default_limit refusal) }
 {
     let text = whole_input(alloc, reader)?;
     let (plan, records) = split_input(&text);
@@ -65,8 +67,9 @@ fn run_buffered<R: Read + Drop, W: Write + Drop>(
     bounds: Bounds,
 ) -> Result<(Ran, W), RunRefusal>
     requires { IsCrew bounds.workers }
-    ensures { IfOk result (λ done. IsReported plan.now (R.remaining records) bounds.limit
+    ensures reported { IfOk result (λ done. IsReported plan.now (R.remaining records) bounds.limit
         (Appends (W.contents writer) (W.contents done.1)) done.0) }
+    ensures refused { IfErr result (IsUnreported plan.now (R.remaining records) bounds.limit) }
 {
     let Ok(mut buffer) = BufWriter::new(alloc, writer) else {
         return Err(RunRefusal::Memory);
