@@ -26,7 +26,8 @@ fn row_of(alloc: Global, texts: &[&str]) -> Result<Value, AllocError> {
     for text in texts {
         items.push(Value::Text(Text::from_str(alloc, text)?))?;
     }
-    Ok(Value::Row(Row::new(items)))
+    let row = Row::new(alloc, items).map_err(|_| AllocError)?;
+    Ok(Value::Row(row))
 }
 
 fn numbers_in(alloc: Global, values: &[Value]) -> Result<Vec<i64>, AllocError> {

@@ -105,7 +105,7 @@ pub(crate) fn write_values<W: Write>(writer: &mut W, values: &[Value]) -> io::Re
 mod tests {
     use super::*;
     use flow_value::{Row, Text};
-    use std::alloc::Global;
+    use std::alloc::{AllocError, Global};
     use std::process::Abort;
     use std::test::Fail;
 
@@ -175,23 +175,23 @@ mod tests {
         Ok(())
     }
 
+    fn row_of(alloc: Global, items: Vec<Value>) -> Result<Value, AllocError> {
+        let row = Row::new(alloc, items).map_err(|_| AllocError)?;
+        Ok(Value::Row(row))
+    }
+
     #[test]
     fn rows_are_bracketed(rt: HostRuntime) -> Result<(), Fail> {
         let alloc = rt.alloc();
-        is_printed(&rt, alloc, &Value::Row(Row::new(Vec::new(alloc))), "[]")?;
+        is_printed(&rt, alloc, &row_of(alloc, Vec::new(alloc))?, "[]")?;
         let mut inner = Vec::new(alloc);
         inner.push(Value::Int(2))?;
         inner.push(Value::Text(Text::from_str(alloc, ",]")?))?;
         let mut outer = Vec::new(alloc);
         outer.push(Value::Int(1))?;
-        outer.push(Value::Row(Row::new(inner)))?;
-        outer.push(Value::Row(Row::new(Vec::new(alloc))))?;
-        is_printed(
-            &rt,
-            alloc,
-            &Value::Row(Row::new(outer)),
-            "[1,[2,\",]\"],[]]",
-        )
+        outer.push(row_of(alloc, inner)?)?;
+        outer.push(row_of(alloc, Vec::new(alloc))?)?;
+        is_printed(&rt, alloc, &row_of(alloc, outer)?, "[1,[2,\",]\"],[]]")
     }
 
     // Takes so many bytes, and then fails.

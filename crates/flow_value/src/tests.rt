@@ -6,6 +6,7 @@ use crate::{
 use Expected::{Fault, Values};
 use Sample::{Int, List, Word};
 use std::alloc::{AllocError, Global};
+use std::mem::size_of;
 use std::process::Abort;
 use std::test::Fail;
 
@@ -327,9 +328,14 @@ fn value_of(alloc: Global, sample: &Sample<'_>) -> Result<Value, AllocError> {
             for sample in *samples {
                 items.push(value_of(alloc, sample)?)?;
             }
-            Ok(Value::Row(Row::new(items)))
+            row_of(alloc, items)
         }
     }
+}
+
+fn row_of(alloc: Global, items: Vec<Value>) -> Result<Value, AllocError> {
+    let row = Row::new(alloc, items).map_err(|_| AllocError)?;
+    Ok(Value::Row(row))
 }
 
 fn values_of(alloc: Global, samples: &[Sample<'_>]) -> Result<Vec<Value>, AllocError> {
@@ -437,10 +443,8 @@ fn long_rows(rt: HostRuntime) -> Result<(), Fail> {
     for (place, value) in counted.iter().enumerate() {
         assert_eq!(rt; value.as_int(), Some(place as i64));
     }
-    let row = Value::Row(Row::new(Steps::read(alloc, &["repeat 64", "repeat 64"])?.run(
-        alloc,
-        &Value::Int(7),
-    )?));
+    let sevens = Steps::read(alloc, &["repeat 64", "repeat 64"])?.run(alloc, &Value::Int(7))?;
+    let row = row_of(alloc, sevens)?;
     assert_eq!(rt; row.as_items().map(|items| items.len()), Some(4096));
     let last = Steps::read(alloc, &["field 4095"])?.run(alloc, &row)?;
     assert_eq!(rt; last.len(), 1);
@@ -653,7 +657,8 @@ fn copies_are_equal(rt: HostRuntime) -> Result<(), Fail> {
 #[test]
 fn parts_come_back(rt: HostRuntime) -> Result<(), Fail> {
     let alloc = rt.alloc();
-    let row = Row::new(values_of(alloc, &[Int(1), Word("x")])?);
+    let items = values_of(alloc, &[Int(1), Word("x")])?;
+    let row = Row::new(alloc, items).map_err(|_| "out of memory")?;
     assert_eq!(rt; row.len(), 2);
     assert!(rt; !row.is_empty());
     assert!(rt; row.copy(alloc)? == row);
@@ -663,6 +668,12 @@ fn parts_come_back(rt: HostRuntime) -> Result<(), Fail> {
     assert_eq!(rt; items[1].as_str(), Some("x"));
     assert!(rt; items[1].as_items().is_none());
     Ok(())
+}
+
+/// Runs keep many values, so a row keeps its items behind one pointer.
+#[test]
+fn a_value_takes_sixteen_bytes(rt: HostRuntime) {
+    assert_eq!(rt; size_of::<Value>(), 16);
 }
 
 #[test]

@@ -41,10 +41,12 @@ impl Model for Text {
 }
 
 /// Values in a row. Contracts see the list of them, as `Items`.
+///
+/// It keeps them behind one pointer, so that a [`Value`] is small.
 #[cycle(value)]
 #[derive(Debug, Drop)]
 pub struct Row {
-    items: Vec<Value>,
+    items: Box<Vec<Value>>,
 }
 
 impl Model for Row {
@@ -56,14 +58,14 @@ impl Model for Row {
 
     ghost use Rattle.flow_value.specs.View.{items_from};
 
-    ghost view = { λ r. items_from r.items.items };
+    ghost view = { λ r. items_from r.items.value.items };
 
     ghost size = { value_count };
 
     ghost use Rattle.std.proofs.Common.{arith};
     ghost use Rattle.flow_value.specs.RowFalls.{most_le-value_count};
 
-    ghost size_decreases = { λ a h. Prim.omega (arith, most_le-value_count a.items.items) };
+    ghost size_decreases = { λ a h. Prim.omega (arith, most_le-value_count a.items.value.items) };
 }
 
 impl Text {
@@ -133,11 +135,12 @@ impl Text {
 impl Row {
     ghost use Rattle.flow_value.specs.View.{items_from, values_of};
 
-    /// The row of these values.
-    pub fn new(items: Vec<Value>) -> Row
-        ensures { result ≡ items_from items.items }
+    /// The row of these values; where there is no memory for it, the values come back.
+    pub fn new(alloc: Global, items: Vec<Value>) -> Result<Row, Vec<Value>>
+        ensures { MatchResult result (λ row. row ≡ items_from items.items) (λ back. back ≡ items) }
     {
-        Row { items }
+        let items = Box::new(alloc, items).map_err(|refused| refused.value)?;
+        Ok(Row { items })
     }
 
     /// The values, in order.
@@ -162,12 +165,11 @@ impl Row {
         self.items.is_empty()
     }
 
-    /// The values, given back.
+    /// The values, given back. It takes no memory.
     pub fn into_items(self) -> Vec<Value>
         ensures { result.items ≡ values_of self }
     {
-        let Row { items: values } = self;
-        values
+        Box::into_inner(self.items)
     }
 
     /// A second row with the same values.
@@ -176,10 +178,12 @@ impl Row {
         ensures { IfOk result (λ row. row ≡ self.now) }
     {
         let mut copies = Vec::with_capacity(alloc, self.len())?;
-        for item in &self.items {
+        for item in self.items.iter() {
             copies.push(item.copy(alloc)?)?;
         }
-        Ok(Row { items: copies })
+        Ok(Row {
+            items: Box::new(alloc, copies)?,
+        })
     }
 
     #[cycle(same)]

@@ -1,6 +1,6 @@
-use Rattle.std.proofs.Common.{◌≡◌, ◌<◌, length, arith, ap, sym, ◌∙◌, refl}
+use Rattle.std.proofs.Common.{◌≡◌, ◌<◌, length, get_or, arith, ap, sym, ◌∙◌, refl}
 use Rattle.flow_value.specs.View.{items_from, values_of, values_of-is}
-use Rattle.flow_value.proofs.RowLemmas.{values_differ}
+use Rattle.flow_value.proofs.RowLemmas.{boxed_values, values_differ}
 use Rattle.flow_value.proofs.value.+same.Goals as goal
 
 pub Row::is_same-returns-then-len : goal.Row::is_same-returns-then-len
@@ -11,8 +11,8 @@ Row::is_same-returns-then-len t c = (
 
 pub Row::is_same-loop-at-init : goal.Row::is_same-loop-at-init
 Row::is_same-loop-at-init t c =
-    let mine = values_of-is c.self.inside.items.items c.args.self.now c.self.view_is in
-    let theirs = values_of-is c.other.inside.items.items c.args.other.now c.other.view_is in
+    let mine = boxed_values c.deref.result.now c.self.inside.items.value c.args.self.now c.deref.ensures c.self.view_is in
+    let theirs = values_of-is c.other.inside.items.value.items c.args.other.now c.other.view_is in
     record {
       same_length = ap length (c.deref-item-items.ensures.value ∙ mine) ∙ sym c.len.ensures.count ∙ c.if-len.false
           ∙ c.len-2.ensures.count ∙ sym (ap length theirs);
@@ -22,9 +22,11 @@ Row::is_same-loop-at-init t c =
 pub Row::is_same-returns-then-not-is_same : goal.Row::is_same-returns-then-not-is_same
 Row::is_same-returns-then-not-is_same t c =
     let differ : c.item-item.result ≡ c.index.result.now → ⊥ = λ e. let was_true = c.is_same.ensures.1 e in cc in
-    let within : c.loop-at.at < length c.other.inside.items.items = omega arith in (
+    let mine = ap (λ v. items_from v.items) c.deref.ensures ∙ c.self.view_is in
+    let theirs = ap (λ v. get_or v.items c.loop-at.at c.index.result.now) c.deref-in-loop-at.ensures in
+    let within : c.loop-at.at < length c.other.inside.items.value.items = omega arith in (
       λ h. cc,
-      λ e. absurd (values_differ c.deref-item-items.result.now c.other.inside.items.items c.args.self.now c.args.other.now
-          (ap items_from c.deref-item-items.ensures.value ∙ c.self.view_is) c.other.view_is
-          c.loop-at.at c.item-item.result c.index.result.now c.item-item.is c.index.ensures within differ e),
+      λ e. absurd (values_differ c.deref-item-items.result.now c.other.inside.items.value.items c.args.self.now c.args.other.now
+          (ap items_from c.deref-item-items.ensures.value ∙ mine) c.other.view_is
+          c.loop-at.at c.item-item.result c.index.result.now c.item-item.is (c.index.ensures ∙ theirs) within differ e),
     )

@@ -1,5 +1,5 @@
-use Rattle.flow_value.specs.View.{values_of-is}
+use Rattle.flow_value.proofs.RowLemmas.{boxed_values}
 use Rattle.flow_value.proofs.value.Row.into_items.Goals as goal
 
 pub returns : goal.returns
-returns c = values_of-is c.self.inside.items.items c.args.self c.self.view_is
+returns c = boxed_values c.into_inner.result c.self.inside.items.value c.args.self c.into_inner.ensures c.self.view_is
