@@ -1,5 +1,5 @@
 //! What the program's arguments ask for.
-ghost use Rattle.std.specs.Prelude.{◌≡◌, IfSome, string_bytes};
+ghost use Rattle.std.specs.Prelude.{◌≡◌, IfSome};
 ghost use Rattle.flow_cli.specs.Request.{workers_of, bounds_of, IsCrew, HasCrew, Asks};
 
 use crate::number::read_number;

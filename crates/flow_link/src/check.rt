@@ -6,7 +6,7 @@ ghost use Rattle.std.specs.Prelude.{◌≡◌, ◌<◌, [], length, ◌||◌, no
 ghost use Rattle.std.specs.List.{list_any};
 ghost use Rattle.flow_link.specs.declared.plan.PlanFault.TheVariants.{Limit, DuplicateName, UnknownBlock, Port, NoOutput, BadOption};
 ghost use Rattle.flow_link.specs.declared.plan.Place.TheVariants.{Block, Link as at_link};
-ghost use Rattle.flow_link.specs.Plan.{block_named, block_in, named_link, named_links, planned_links};
+ghost use Rattle.flow_link.specs.Plan.{block_named, named_link, named_links, planned_links};
 ghost use Rattle.flow_link.specs.Planned.{layout_of};
 ghost use Rattle.flow_link.specs.Refusal.{IsWhy};
 ghost use Rattle.flow_link.specs.PlanFaults.{gives_nothing, lacks_port, lacks_output, is_in, first_plan_fault};

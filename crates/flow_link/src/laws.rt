@@ -1,6 +1,5 @@
 //! Laws about links, and about what a run of a network leaves. Each stands on a function that does nothing: whoever
 //! calls it has the whole law.
-ghost use Rattle.std.specs.Prelude.{◌≡◌};
 ghost use Rattle.flow_value.specs.declared.value.Value.{Value};
 ghost use Rattle.flow_link.specs.Composes.{Composes};
 ghost use Rattle.flow_link.specs.JournalGrows.{JournalsGrow};

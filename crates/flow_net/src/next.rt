@@ -1,14 +1,14 @@
 //! What may happen next, at a link and at a block: pure tests, which neither change anything nor take memory.
-ghost use Rattle.std.specs.Prelude.{◌≡◌, ℕ, suc, ◌<◌, ◌≤◌, ◌^◌, length, true, Some, None, option_map, is_some, IfOk, IfErr, IsTrue, ◌↔◌, OnErr, IfSome, IfNone, unwrap_or, not, ◌&&◌, is_none};
+ghost use Rattle.std.specs.Prelude.{◌≡◌, suc, ◌<◌, ◌≤◌, ◌^◌, length, true, Some, None, option_map, is_some, IfOk, IfErr, IsTrue, ◌↔◌, OnErr, IfSome, IfNone, unwrap_or, not, ◌&&◌, is_none};
 ghost use Rattle.flow_value.specs.declared.value.Value.{Value};
 ghost use Rattle.flow_link.specs.Composes.{is_coming};
 ghost use Rattle.flow_link.specs.declared.phase.Move.TheVariants.{Offer};
 ghost use Rattle.flow_link.specs.Lists.{is_empty};
 ghost use Rattle.flow_link.specs.Planned.{layout_of};
-ghost use Rattle.flow_net.specs.Events.{end_as, end_of_feed, move_of_node, move_of_feed, answer_by, is_hand, is_at_home, brings_completion, fault_brought, head_of, offer_of, expects_at, move_of_source, refusal_at, move_at, next_move, stage_into, stage_out, may_make, may_complete, fault_cause, is_still, next_fault, may_finish, event_at_link, value_at, has_stopped};
+ghost use Rattle.flow_net.specs.Events.{end_as, move_of_node, move_of_feed, is_hand, is_at_home, brings_completion, fault_brought, head_of, offer_of, expects_at, move_of_source, refusal_at, move_at, next_move, stage_into, stage_out, may_make, may_complete, next_fault, may_finish, event_at_link, value_at, has_stopped};
 ghost use Rattle.flow_net.specs.declared.fault.NetFault.TheVariants.{Ids};
 ghost use Rattle.flow_net.specs.Parts.{node_at, feed_at, line_at, fresh_node, fresh_line};
-ghost use Rattle.flow_net.specs.There.{EventIsThere, MayHappen, NeedsId};
+ghost use Rattle.flow_net.specs.There.{MayHappen, NeedsId};
 ghost use Rattle.flow_net.specs.Stage.{refusal_of, source_stage_of, target_stage_of};
 
 use crate::event::Event;

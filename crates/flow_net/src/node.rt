@@ -2,11 +2,11 @@
 //!
 //! A move that takes memory has two calls. `prepare_..` takes it, and may be refused; what follows takes none, and does not
 //! fail. An offer prepares its hand-over too, and a wish the taking of what comes.
-ghost use Rattle.std.specs.Prelude.{◌≡◌, ◌∷◌, [], ◌++◌, true, Some, option_map, OnOk, OnErr, IfOk, IfErr, is_some, Ok, ◌<◌, length, false};
+ghost use Rattle.std.specs.Prelude.{◌≡◌, ◌∷◌, [], true, Some, option_map, OnOk, OnErr, IfOk, IfErr, is_some, Ok, ◌<◌, length, false};
 ghost use Rattle.flow_link.specs.declared.draft.BlockKind.TheVariants.{Transform};
 ghost use Rattle.flow_link.specs.Making.{result_of};
 ghost use Rattle.flow_net.specs.Seen.{result_by_number};
-ghost use Rattle.flow_net.specs.Events.{first_of, rest_of, refusal_by, offers, gives, expecting, takes, sets_out, hands_on, works, yields, transforms, applies, completes, faults, finishes, value_at, sends, is_open, has_stopped, is_completing};
+ghost use Rattle.flow_net.specs.Events.{first_of, refusal_by, offers, gives, expecting, takes, sets_out, hands_on, works, yields, transforms, applies, completes, faults, finishes, sends, is_open, has_stopped, is_completing};
 ghost use Rattle.flow_net.specs.Stage.{refusal_of};
 ghost use Rattle.flow_net.specs.States.{state_by};
 ghost use Rattle.flow_net.specs.declared.fault.NetFault.TheVariants.{Memory};

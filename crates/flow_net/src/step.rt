@@ -1,12 +1,11 @@
 //! Does one event: the end that moves makes its move, and the other end looks. Memory is taken first, so that an event
 //! that is refused has changed nothing.
-ghost use Rattle.std.specs.Prelude.{◌≡◌, ◌<◌, length, true, is_some, ◌≢◌, OnOk, OnErr, IfErr};
-ghost use Rattle.flow_link.specs.Plan.{link_in};
+ghost use Rattle.std.specs.Prelude.{◌≡◌, ◌<◌, length, true, is_some, OnOk, OnErr, IfErr};
 ghost use Rattle.flow_link.specs.Planned.{layout_of};
 ghost use Rattle.flow_net.specs.Events.{offered, wanted, refused, given, taken_out, closed, ended, head_of, offer_of, expects_at, with_offer, with_wish, after_offer, after_want, after_refusal, after_give, after_opening, after_closing, after_move, refusal_at, takes_in_hand, closed_by, with_node, made_by, after};
 ghost use Rattle.flow_link.specs.declared.phase.Move.TheVariants.{Give, Close};
 ghost use Rattle.flow_net.specs.Seen.{works_of};
-ghost use Rattle.flow_net.specs.Parts.{line_at, node_at};
+ghost use Rattle.flow_net.specs.Parts.{line_at};
 ghost use Rattle.flow_net.specs.Stage.{refusal_of};
 ghost use Rattle.flow_net.specs.There.{SourceIsThere, TargetIsThere, MayHappen, Fits};
 ghost use Rattle.flow_net.specs.declared.fault.NetFault.TheVariants.{Memory};

@@ -1,5 +1,5 @@
 //! Runs a network text over records, from the first byte to the report.
-ghost use Rattle.std.specs.Prelude.{◌≡◌, ◌≤◌, IfOk, IfSome, OnOk, IfErr};
+ghost use Rattle.std.specs.Prelude.{◌≡◌, ◌≤◌, IfOk, OnOk, IfErr};
 ghost use Rattle.std.specs.Io.KnownBytes.{Appends};
 ghost use Rattle.flow_net.specs.Net.{run_of};
 ghost use Rattle.flow_value.specs.Function.{meaning_of};

@@ -1,5 +1,5 @@
 //! Reads records: each names an input and has a value for it.
-ghost use Rattle.std.specs.Prelude.{◌≡◌, ◌<◌, ◌+◌, ◌∷◌, ◌++◌, ◌⊎◌, [], List, ℕ, length, map, replicate, get_or, set, IfOk, IfErr, OnOk, IfSome, MatchOption, MatchResult, Some, cond, position};
+ghost use Rattle.std.specs.Prelude.{◌≡◌, ◌<◌, ◌+◌, ◌∷◌, ◌++◌, ◌⊎◌, [], length, replicate, get_or, set, IfOk, IfErr, OnOk, IfSome, MatchOption, MatchResult, Some, cond, position};
 ghost use Rattle.std.specs.Str.{IsUtf8, bytes_eq};
 ghost use Rattle.csv.specs.Records.{fields_of};
 ghost use Rattle.flow_link.specs.Planned.{layout_of};

@@ -1,5 +1,5 @@
 //! Prints what a run left behind: the lines of a report, one for each part of a block.
-ghost use Rattle.std.specs.Prelude.{◌≡◌, ◌+◌, ◌-◌, true, false, ◌∷◌, ◌++◌, [], List, ℕ, length, drop, take, count_by, HoldsAt, ◌<◌, ◌≤◌, if◌then◌else◌, IfErr, OnOk};
+ghost use Rattle.std.specs.Prelude.{◌≡◌, ◌+◌, ◌-◌, true, false, ◌∷◌, ◌++◌, [], length, drop, take, count_by, HoldsAt, ◌<◌, ◌≤◌, if◌then◌else◌, IfErr, OnOk};
 ghost use Rattle.std.specs.Option.{option_copied, option_to_list};
 ghost use Rattle.std.specs.Fmt.{decimal};
 ghost use Rattle.std.specs.Io.KnownBytes.{Appends};
@@ -8,7 +8,7 @@ ghost use Rattle.flow_link.specs.Layout.{IsLaidOut, input_link};
 ghost use Rattle.flow_link.specs.Plan.{begins_at, port_count};
 ghost use Rattle.flow_link.specs.Trace.{input_of, Run, took_at, took_over, gave_over, block_of, link_of, trace_of, marks_of, held_at, left_at, waits_over};
 ghost use Rattle.flow_run.specs.Printed.{list_text};
-ghost use Rattle.flow_run.specs.Report.{state_word, labelled, numbered, block_line, input_line, port_line, held_line, link_line, exit_line, settled_line, last_line, state_of, is_input, is_output, between_count, input_link_number, exit_link_number, input_part, exit_part, last_part, all_ports, all_links, block_report, report};
+ghost use Rattle.flow_run.specs.Report.{state_word, block_line, input_line, port_line, held_line, link_line, exit_line, settled_line, last_line, state_of, is_input, is_output, between_count, input_link_number, exit_link_number, input_part, exit_part, last_part, all_ports, all_links, block_report, report};
 
 use crate::fault::{TextFault, TextRefusal};
 use crate::value_text::{write_item, write_values};

@@ -1,5 +1,5 @@
 //! Cuts one text into a network and its records.
-ghost use Rattle.std.specs.Prelude.{◌≡◌, ℕ, ◌<◌, ◌≤◌, ◌↔◌, length, drop, IsTrue, MatchOption};
+ghost use Rattle.std.specs.Prelude.{◌≡◌, ◌<◌, ◌↔◌, length, drop, IsTrue, MatchOption};
 ghost use Rattle.flow_run.specs.Split.{IsCut, IsFirstCut, IsUncut, IsSplit};
 
 /// What stands before the first line that is exactly `%%`, and what stands after that line and its line feed.

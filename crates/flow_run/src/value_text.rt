@@ -1,5 +1,5 @@
 //! Prints values: numbers in decimal, texts between double quotes, rows and lists between brackets.
-ghost use Rattle.std.specs.Prelude.{◌≡◌, ◌<◌, ◌↔◌, [], ◌∷◌, ◌++◌, IsTrue, OnOk, List, ℕ};
+ghost use Rattle.std.specs.Prelude.{◌≡◌, ◌<◌, ◌↔◌, [], ◌∷◌, ◌++◌, IsTrue, OnOk};
 ghost use Rattle.std.specs.Io.KnownBytes.{Appends};
 ghost use Rattle.flow_run.specs.Printed.{hex_digit, escaped, escapes, quoted, value_text, list_text, comma_unless};
 

@@ -1,7 +1,7 @@
 //! One step of a named function, and what it makes of a value.
 ghost use Rattle.std.specs.Prelude.{◌≡◌, IfOk};
 ghost use Rattle.std.specs.Fmt.{signed_decimal};
-ghost use Rattle.flow_value.specs.Step.{applied, total_of, summed, ints_below, numbers_of, one_int};
+ghost use Rattle.flow_value.specs.Step.{applied, summed, ints_below, numbers_of, one_int};
 ghost use Rattle.flow_value.specs.Meaning.{RunsAs};
 ghost use Rattle.flow_value.specs.StepRuns.{AppliesAs, GivesOne, int_in, row_in};
 ghost use Rattle.flow_value.specs.declared.step.Step.TheVariants.{ToInt, ToText, Add, Mul, Field, Len, Sum, Reject, Spread, Upto, Repeat};

@@ -1,7 +1,6 @@
 //! Functions that a network names: lists of steps.
 ghost use Rattle.std.specs.Prelude.{◌≡◌, ◌≢◌, map, MatchResult, Ok, Err};
 ghost use Rattle.flow_value.specs.Function.{joined, meaning_of};
-ghost use Rattle.flow_value.specs.Meaning.{RunsAs};
 ghost use Rattle.flow_value.specs.declared.work.WorkFault.TheVariants.{Memory};
 
 use crate::step::{Applied, Step};

@@ -1,6 +1,5 @@
 use Rattle.std.proofs.Common.{rules, ◌≡◌, ℕ, true, is_none}
 use Rattle.flow_net.specs.Events.{event_at_block}
-use Rattle.flow_link.specs.Planned.{layout_of}
 use Rattle.flow_net.proofs.ScanLemmas.{one_more, none_is_none}
 use Rattle.flow_net.proofs.engine.Engine.event_at_blocks.Goals as goal
 
