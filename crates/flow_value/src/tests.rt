@@ -683,7 +683,7 @@ fn a_text_gives_its_string(rt: HostRuntime) -> Result<(), Fail> {
     assert_eq!(rt; text.as_str(), "é");
     assert_eq!(rt; text.len(), 2);
     assert!(rt; !text.is_empty());
-    let content = text.into_string().map_err(|_| "shared")?;
+    let content = text.into_string(alloc).map_err(|_| "out of memory")?;
     assert_eq!(rt; content.as_str(), "é");
     let none = Text::from_str(alloc, "")?;
     assert!(rt; none.is_empty());
@@ -701,7 +701,7 @@ fn long_content(alloc: Global) -> Result<String, AllocError> {
 }
 
 #[test]
-fn a_shared_text_comes_back(rt: HostRuntime) -> Result<(), Fail> {
+fn a_shared_text_gives_a_copy(rt: HostRuntime) -> Result<(), Fail> {
     let alloc = rt.alloc();
     let long = long_content(alloc)?;
     let text = Text::from_str(alloc, long.as_str())?;
@@ -709,10 +709,10 @@ fn a_shared_text_comes_back(rt: HostRuntime) -> Result<(), Fail> {
     assert!(rt; copy == text);
     assert!(rt; copy == Text::from_str(alloc, long.as_str())?);
     assert_eq!(rt; copy.len(), 3200);
-    let text = text.into_string().err().ok_or("not shared")?;
-    assert_eq!(rt; text.as_str(), long.as_str());
-    drop(copy);
-    let content = text.into_string().map_err(|_| "shared")?;
+    let content = text.into_string(alloc).map_err(|_| "out of memory")?;
+    assert!(rt; content == long);
+    assert_eq!(rt; copy.as_str(), long.as_str());
+    let content = copy.into_string(alloc).map_err(|_| "out of memory")?;
     assert!(rt; content == long);
     Ok(())
 }

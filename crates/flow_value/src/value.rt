@@ -110,13 +110,16 @@ impl Text {
         self.content.is_empty()
     }
 
-    /// The content, given back; where another text shares it, this text comes back.
-    pub fn into_string(self) -> Result<String, Text>
+    /// The content, given back, or a copy of it where another text shares it; where there is no memory for the copy, the
+    /// text comes back.
+    pub fn into_string(self, alloc: Global) -> Result<String, Text>
         ensures { MatchResult result (λ content. string_bytes content ≡ self) (λ back. back ≡ self) }
     {
         match Arc::try_unwrap(self.content) {
             Ok(content) => Ok(content),
-            Err(content) => Err(Text { content }),
+            Err(content) => {
+                String::from_str(alloc, content.as_str()).map_err(|_| Text { content })
+            }
         }
     }
 
