@@ -22,7 +22,7 @@ use Rattle.flow_net.specs.Parts.{NodeState, PartsState, node_at}
 use Rattle.flow_net.specs.States.{state_by}
 use Rattle.flow_net.specs.There.{MayHappen}
 use Rattle.flow_net.specs.declared.event.Event.{Event}
-use Rattle.flow_net.specs.declared.event.Event.TheVariants.{Link as at_link, Make, Complete, Fault, Done}
+use Rattle.flow_net.specs.declared.event.Event.TheVariants.{Link as at_link, Make, Complete, Fault, Done, Job}
 use Rattle.flow_net.specs.declared.posted.State.{State}
 use Rattle.flow_net.specs.declared.posted.State.TheVariants as state
 use Rattle.flow_net.proofs.NodeWell.{IsWell, well_of, one_changes}
@@ -362,8 +362,9 @@ module _ (result : Value → Result (List Value) ℕ) (node : NodeState) (incomi
   made_links _ = (refl, refl)
 
 -- the events of a block
-abbrev pub IsStep : Event → Type 0
+abbrev pub IsStep : {W : Type 0} → Event W → Type 0
 IsStep (at_link l step) = ⊥
+IsStep (Job works none) = ⊥
 IsStep _ = Unit {0}
 
 module _ {W : Type 0} (layout : Layout W) (meaning : ℕ → Value → Result (List Value) ℕ) (parts : PartsState) (keeps : Keeps layout parts) (all : AllKeep layout meaning parts) where
@@ -418,7 +419,7 @@ module _ {W : Type 0} (layout : Layout W) (meaning : ℕ → Value → Result (L
         (finished_is_well (block_makes layout meaning b) (kind_in layout b) node (stage_into parts node) (stage_out parts node) before
         first.0 still.0 still.1 (nothing_in node.held second.1) (nothing_in node.left third.1))
 
-  step_keeps_all : (event : Event) → IsStep event → MayHappen layout parts event → AllKeep layout meaning (after layout meaning parts event)
+  step_keeps_all : (event : Event W) → IsStep event → MayHappen layout parts event → AllKeep layout meaning (after layout meaning parts event)
   step_keeps_all (at_link l step) is may = absurd is
   step_keeps_all (Make b) is may = make_keeps_all b may.there may.enabled
   step_keeps_all (Complete b p) is may =
@@ -426,8 +427,9 @@ module _ {W : Type 0} (layout : Layout W) (meaning : ℕ → Value → Result (L
       (complete_keeps_all b may.there may.enabled.1)
   step_keeps_all (Fault b) is may = fault_keeps_all b may.there (next_fault parts (node_at parts b)) refl
   step_keeps_all (Done b) is may = done_keeps_all b may.there may.enabled
+  step_keeps_all (Job works none) is may = absurd is
 
-pub steps_keep_all : {W : Type 0} (layout : Layout W) (meaning : ℕ → Value → Result (List Value) ℕ) (parts : PartsState) (event : Event) → IsStep event
+pub steps_keep_all : {W : Type 0} (layout : Layout W) (meaning : ℕ → Value → Result (List Value) ℕ) (parts : PartsState) (event : Event W) → IsStep event
     → LeadsWell layout → IsBuilt layout.blocks layout.links → Keeps layout parts → AllKeep layout meaning parts → MayHappen layout parts event
     → AllKeep layout meaning (after layout meaning parts event)
 steps_keep_all layout meaning parts event is leads built keeps all may = step_keeps_all layout meaning parts keeps all event is may

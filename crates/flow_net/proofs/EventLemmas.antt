@@ -28,7 +28,7 @@ use Rattle.flow_net.specs.Seen.{given_from, taken_into}
 use Rattle.flow_net.specs.Statements.{EventsKeep}
 use Rattle.flow_net.specs.There.{MayHappen}
 use Rattle.flow_net.specs.declared.event.Event.{Event}
-use Rattle.flow_net.specs.declared.event.Event.TheVariants.{Link as at_link, Make, Complete, Fault, Done}
+use Rattle.flow_net.specs.declared.event.Event.TheVariants.{Link as at_link, Make, Complete, Fault, Done, Job}
 use Rattle.flow_net.proofs.BuiltLinks.{admits_any, room_for_all, may_end, IsOwnEnd, IdleMove, idle_move, links_serve_freely}
 use Rattle.flow_net.proofs.FrameLemmas.{IsPrepared, NodeIsPrepared, as_prepared, gave_nothing, took_nothing, keeps_on}
 use Rattle.flow_net.proofs.LineMoves.{IsKept, offers, wants, refuses, gives_value, opens_value, opens_what_came, closes, ends_line, came_before}
@@ -272,7 +272,7 @@ module _ {W : Type 0} (layout : Layout W) (parts : PartsState) (leads : LeadsWel
   fault_keeps b None = keeps
   fault_keeps b (Some n) = own_step_keeps b (faults n) (faulting_is_own n (node_at parts b))
 
-  event_keeps : (meaning : ℕ → Value → Result (List Value) ℕ) (event : Event) → MayHappen layout parts event → Keeps layout (after layout meaning parts event)
+  event_keeps : (meaning : ℕ → Value → Result (List Value) ℕ) (event : Event W) → MayHappen layout parts event → Keeps layout (after layout meaning parts event)
   event_keeps meaning (at_link l step) may = link_event_keeps l step may.there may.enabled
   event_keeps meaning (Make b) may =
       own_step_keeps b (made_by layout meaning parts b)
@@ -280,6 +280,7 @@ module _ {W : Type 0} (layout : Layout W) (parts : PartsState) (leads : LeadsWel
   event_keeps meaning (Complete b p) may = own_step_keeps b (completes p) (completing_is_own p (node_at parts b))
   event_keeps meaning (Fault b) may = fault_keeps b (next_fault parts (node_at parts b))
   event_keeps meaning (Done b) may = own_step_keeps b finishes (finishing_is_own (node_at parts b))
+  event_keeps meaning (Job works none) may = keeps
 
 module _ (W : Type 0) where
   pub events_keep : EventsKeep W

@@ -20,7 +20,7 @@ use Rattle.flow_net.specs.Parts.{NodeState, FeedState, LineState, PartsState, no
 use Rattle.flow_net.specs.Steps.{Happened}
 use Rattle.flow_net.specs.There.{Fits, MayHappen}
 use Rattle.flow_net.specs.declared.event.Event.{Event}
-use Rattle.flow_net.specs.declared.event.Event.TheVariants.{Link as at_link, Make, Complete, Fault, Done}
+use Rattle.flow_net.specs.declared.event.Event.TheVariants.{Link as at_link, Make, Complete, Fault, Done, Job}
 use Rattle.flow_net.proofs.EventLemmas.{events_keep}
 
 module _ {W : Type 0} (layout : Layout W) where
@@ -83,18 +83,19 @@ module _ {W : Type 0} (layout : Layout W) where
     fault_fits b None = fits
     fault_fits b (Some n) = node_fits b (faults n) parts fits
 
-    pub after_fits : (meaning : ℕ → Value → Result (List Value) ℕ) (event : Event) → Fits layout (after layout meaning parts event)
+    pub after_fits : (meaning : ℕ → Value → Result (List Value) ℕ) (event : Event W) → Fits layout (after layout meaning parts event)
     after_fits meaning (at_link l step) = move_fits l (link_in layout.links l) step
     after_fits meaning (Make b) = node_fits b (made_by layout meaning parts b) parts fits
     after_fits meaning (Complete b p) = node_fits b (completes p) parts fits
     after_fits meaning (Fault b) = fault_fits b (next_fault parts (node_at parts b))
     after_fits meaning (Done b) = node_fits b finishes parts fits
+    after_fits meaning (Job works none) = fits
 
   module _ (meaning : ℕ → Value → Result (List Value) ℕ) where
-    pub fits_on : (mid new : PartsState) (event : Event) → Fits layout mid → new ≡ after layout meaning mid event → Fits layout new
+    pub fits_on : (mid new : PartsState) (event : Event W) → Fits layout mid → new ≡ after layout meaning mid event → Fits layout new
     fits_on mid new event fits is = subst (λ (p : PartsState). Fits layout p) (sym is) (after_fits mid fits meaning event)
 
-    pub one_more_event : (n : ℕ) (start mid new : PartsState) (event : Event) → Happened layout meaning n start mid → MayHappen layout mid event
+    pub one_more_event : (n : ℕ) (start mid new : PartsState) (event : Event W) → Happened layout meaning n start mid → MayHappen layout mid event
         → new ≡ after layout meaning mid event → Happened layout meaning (n + 1) start new
     one_more_event n start mid new event happened may is =
         subst (λ (k : ℕ). Happened layout meaning k start new) (suc_is n) (mid, (happened, record { event = event; enabled = may; new_is = is }))

@@ -19,7 +19,7 @@ use Rattle.flow_net.specs.Parts.{FeedState, PartsState, node_at, line_at}
 use Rattle.flow_net.specs.Seen.{input_trace, input_traces}
 use Rattle.flow_net.specs.Steps.{Happened}
 use Rattle.flow_net.specs.declared.event.Event.{Event}
-use Rattle.flow_net.specs.declared.event.Event.TheVariants.{Link as at_link, Make, Complete, Fault, Done}
+use Rattle.flow_net.specs.declared.event.Event.TheVariants.{Link as at_link, Make, Complete, Fault, Done, Job}
 
 sent_one : (feeds : List (Option FeedState)) (b : ℕ) → input_traces (set feeds b (option_map sends (get_or feeds b None))) ≡ input_traces feeds
 sent_one [] b = refl
@@ -88,12 +88,13 @@ module _ (parts : PartsState) where
   fault_stays b (Some n) = refl
 
 module _ {W : Type 0} (layout : Layout W) (meaning : ℕ → Value → Result (List Value) ℕ) where
-  pub event_stays : (parts : PartsState) (event : Event) → inputs_of (after layout meaning parts event) ≡ inputs_of parts
+  pub event_stays : (parts : PartsState) (event : Event W) → inputs_of (after layout meaning parts event) ≡ inputs_of parts
   event_stays parts (at_link l step) = move_stays parts l (link_in layout.links l) step
   event_stays parts (Make b) = refl
   event_stays parts (Complete b p) = refl
   event_stays parts (Fault b) = fault_stays parts b (next_fault parts (node_at parts b))
   event_stays parts (Done b) = refl
+  event_stays parts (Job works none) = refl
 
   pub inputs_stay : (n : ℕ) (old new : PartsState) → Happened layout meaning n old new → inputs_of new ≡ inputs_of old
   inputs_stay zero old new same = ap inputs_of same

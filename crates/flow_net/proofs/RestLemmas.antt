@@ -215,7 +215,7 @@ module _ {W : Type 0} (layout : Layout W) (parts : PartsState) (keeps : Keeps la
 
   block_is_quiet : (b : ℕ) → b < length layout.blocks → BlockIsQuiet b
   block_is_quiet b small =
-      let none = passes_below (λ k. is_none (event_at_block parts k)) (length layout.blocks) b quiet.at_blocks small in
+      let none = passes_below (λ k. is_none (event_at_block layout parts k)) (length layout.blocks) b quiet.at_blocks small in
       let first = none_first (may_make (node_at parts b)) _ _ none in
       let second = none_first (may_complete parts (node_at parts b)) _ _ first.1 in
       let third = none_first (is_some (next_fault parts (node_at parts b))) _ _ second.1 in

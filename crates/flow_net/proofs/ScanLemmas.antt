@@ -9,7 +9,7 @@ use Rattle.flow_link.specs.declared.phase.Move.TheVariants.{Offer}
 use Rattle.flow_net.specs.Events.{event_at_link, event_at_block, next_move, may_make, may_complete, next_fault, may_finish, Enabled}
 use Rattle.flow_net.specs.There.{EventIsThere, MayHappen, NeedsId}
 use Rattle.flow_net.specs.declared.event.Event.{Event}
-use Rattle.flow_net.specs.declared.event.Event.TheVariants.{Link as at_link, Make, Complete, Fault, Done}
+use Rattle.flow_net.specs.declared.event.Event.TheVariants.{Link as at_link, Make, Complete, Fault, Done, Job}
 use Rattle.flow_net.specs.Parts.{PartsState, node_at}
 use Rattle.flow_net.specs.Steps.{IsQuiet}
 
@@ -21,11 +21,11 @@ one_more P n all last k small =
 
 pub quiet_by_places : {W : Type 0} (layout : Layout W) (parts : PartsState)
     → ((l : ℕ) → l < length layout.links → is_none (event_at_link layout parts l) ≡ true)
-    → ((b : ℕ) → b < length layout.blocks → is_none (event_at_block parts b) ≡ true)
+    → ((b : ℕ) → b < length layout.blocks → is_none (event_at_block layout parts b) ≡ true)
     → IsQuiet layout parts
 quiet_by_places layout parts links blocks = record {
   at_links = every_below (λ l. is_none (event_at_link layout parts l)) (length layout.links) links;
-  at_blocks = every_below (λ b. is_none (event_at_block parts b)) (length layout.blocks) blocks;
+  at_blocks = every_below (λ b. is_none (event_at_block layout parts b)) (length layout.blocks) blocks;
 }
 
 pub none_is_none : {A : Type 0} (o : Option A) → o ≡ None → is_none o ≡ true
@@ -52,12 +52,12 @@ module _ {W : Type 0} (layout : Layout W) (parts : PartsState) (quiet : IsQuiet 
   no_move : (l : ℕ) (step : Move) → l < length layout.links → next_move layout parts l ≡ Some step → ⊥
   no_move l step small e =
       let none = passes_below (λ k. is_none (event_at_link layout parts k)) (length layout.links) l quiet.at_links small in
-      let some : is_none (event_at_link layout parts l) ≡ false = ap (λ (m : Option Move). is_none (option_map (at_link l) m)) e in
+      let some : is_none (event_at_link layout parts l) ≡ false = ap (λ (m : Option Move). is_none {T = Event W} (option_map (at_link l) m)) e in
       cc
 
-  no_step : (b : ℕ) → b < length layout.blocks → is_none (event_at_block parts b) ≡ false → ⊥
+  no_step : (b : ℕ) → b < length layout.blocks → is_none (event_at_block layout parts b) ≡ false → ⊥
   no_step b small some =
-      let none = passes_below (λ k. is_none (event_at_block parts k)) (length layout.blocks) b quiet.at_blocks small in
+      let none = passes_below (λ k. is_none (event_at_block layout parts k)) (length layout.blocks) b quiet.at_blocks small in
       cc
 
   module _ (b : ℕ) where
@@ -73,18 +73,19 @@ module _ {W : Type 0} (layout : Layout W) (parts : PartsState) (quiet : IsQuiet 
     finishes : Bool
     finishes = may_finish parts (node_at parts b)
 
-  pub nothing_may_happen : (event : Event) → EventIsThere layout event → Enabled layout parts event → ⊥
+  pub nothing_may_happen : (event : Event W) → EventIsThere layout event → Enabled layout parts event → ⊥
   unfolding makes completes fails finishes
   nothing_may_happen (at_link l step) there e = no_move l step there e
   nothing_may_happen (Make b) there e = no_step b there (some_first (makes b) (Make b) _ e)
   nothing_may_happen (Complete b p) there e = no_step b there (some_later (makes b) (Make b) _ (some_first (completes b) (Complete b 0) _ e.1))
   nothing_may_happen (Fault b) there e = no_step b there (some_later (makes b) (Make b) _ (some_later (completes b) (Complete b 0) _ (some_first (fails b) (Fault b) _ e)))
   nothing_may_happen (Done b) there e = no_step b there (some_later (makes b) (Make b) _ (some_later (completes b) (Complete b 0) _ (some_later (fails b) (Fault b) _ (some_first (finishes b) (Done b) None e))))
+  nothing_may_happen (Job works none) there e = absurd there
 
   pub no_id_needed : NeedsId layout parts → ⊥
   no_id_needed needs = no_move needs.link (Offer needs.id) needs.there needs.offers
 
-pub quiet_where_none : {W : Type 0} (layout : Layout W) (parts : PartsState) (next : Option Event) (result : Bool)
+pub quiet_where_none : {W : Type 0} (layout : Layout W) (parts : PartsState) (next : Option (Event W)) (result : Bool)
     → is_some next ≡ not result → IfSome next (MayHappen layout parts) → IfNone next (IsQuiet layout parts) → IsTrue result ↔ IsQuiet layout parts
 quiet_where_none layout parts None true e some none = ((λ yes. none), (λ quiet. refl))
 quiet_where_none layout parts (Some event) false e some none = ((λ yes. absurd (cc)), (λ quiet. absurd (nothing_may_happen layout parts quiet event some.there some.enabled)))

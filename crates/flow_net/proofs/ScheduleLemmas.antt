@@ -16,14 +16,14 @@ use Rattle.flow_net.proofs.WholeLemmas.{IsKept, kept_at_start, kept_after, kept_
 module _ {W : Type 0} (layout : Layout W) (meaning : ℕ → Value → Result (List Value) ℕ) where
   module _ (leads : LeadsWell layout) (built : IsBuilt layout.blocks layout.links) where
     -- an event that is asked for
-    answer_on : (event : Event) (old new : PartsState) → Answers layout meaning event old new → IsKept layout meaning old → IsKept layout meaning new
+    answer_on : (event : Event W) (old new : PartsState) → Answers layout meaning event old new → IsKept layout meaning old → IsKept layout meaning new
     answer_on event old new answer kept =
         ⊎_elim
         (λ (one : Happens layout meaning event old new). kept_after layout leads built meaning old new event one.enabled one.new_is kept)
         (λ (none : IsPassedOver layout meaning event old new). subst (λ (p : PartsState). IsKept layout meaning p) (sym none.same) kept)
         answer
 
-    goes_on : (events : List Event) (old new : PartsState) → Goes layout meaning events old new → IsKept layout meaning old → IsKept layout meaning new
+    goes_on : (events : List (Event W)) (old new : PartsState) → Goes layout meaning events old new → IsKept layout meaning old → IsKept layout meaning new
     goes_on [] old new same kept = subst (λ (p : PartsState). IsKept layout meaning p) (sym same) kept
     goes_on (event ∷ events) old new (mid, (answer, rest)) kept = goes_on events mid new rest (answer_on event old mid answer kept)
 
@@ -31,14 +31,14 @@ module _ {W : Type 0} (layout : Layout W) (meaning : ℕ → Value → Result (L
   abbrev inputs_of : PartsState → List InputTrace
   inputs_of parts = input_traces parts.feeds
 
-  answer_stays : (event : Event) (old new : PartsState) → Answers layout meaning event old new → inputs_of new ≡ inputs_of old
+  answer_stays : (event : Event W) (old new : PartsState) → Answers layout meaning event old new → inputs_of new ≡ inputs_of old
   answer_stays event old new answer =
       ⊎_elim
       (λ (one : Happens layout meaning event old new). ap inputs_of one.new_is ∙ event_stays layout meaning old event)
       (λ (none : IsPassedOver layout meaning event old new). ap inputs_of none.same)
       answer
 
-  goes_stays : (events : List Event) (old new : PartsState) → Goes layout meaning events old new → inputs_of new ≡ inputs_of old
+  goes_stays : (events : List (Event W)) (old new : PartsState) → Goes layout meaning events old new → inputs_of new ≡ inputs_of old
   goes_stays [] old new same = ap inputs_of same
   goes_stays (event ∷ events) old new (mid, (answer, rest)) = goes_stays events mid new rest ∙ answer_stays event old mid answer
 

@@ -35,7 +35,7 @@ module _ {W : Type 0} (layout : Layout W) (leads : LeadsWell layout) (built : Is
       all = fresh_keeps_all _ layout meaning parts leads built fresh;
     }
 
-    pub kept_after : (old new : PartsState) (event : Event) → MayHappen layout old event → new ≡ after layout meaning old event
+    pub kept_after : (old new : PartsState) (event : Event W) → MayHappen layout old event → new ≡ after layout meaning old event
         → IsKept layout meaning old → IsKept layout meaning new
     kept_after old new event may is kept =
         subst (λ (p : PartsState). IsKept layout meaning p) (sym is)

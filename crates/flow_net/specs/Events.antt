@@ -26,7 +26,7 @@ use Rattle.flow_link.specs.Plan.{block_in, link_in}
 use Rattle.flow_link.specs.Views.{SourceStage, TargetStage, Refusal}
 use Rattle.flow_net.specs.Parts.{NodeState, FeedState, LineState, PartsState, node_at, feed_at, line_at}
 use Rattle.flow_net.specs.declared.event.Event.{Event}
-use Rattle.flow_net.specs.declared.event.Event.TheVariants.{Link as at_link, Make, Complete, Fault, Done}
+use Rattle.flow_net.specs.declared.event.Event.TheVariants.{Link as at_link, Make, Complete, Fault, Done, Job}
 use Rattle.flow_net.specs.declared.posted.State.{State}
 use Rattle.flow_net.specs.declared.posted.State.TheVariants as state
 
@@ -289,17 +289,6 @@ module _ (parts : PartsState) where
   abbrev pub may_finish : NodeState → Bool
   may_finish node = is_completing node.state && is_still node && is_empty node.held && is_empty node.left
 
-  -- the event that is first of those that may happen at a block
-  abbrev pub event_of : ℕ → NodeState → Option Event
-  event_of b node =
-      cond (may_make node) (Some (Make b))
-      (cond (may_complete node) (Some (Complete b 0))
-      (cond (is_some (next_fault node)) (Some (Fault b))
-      (cond (may_finish node) (Some (Done b)) None)))
-
-  abbrev pub event_at_block : ℕ → Option Event
-  event_at_block b = event_of b (node_at parts b)
-
   -- what a move has changed
   abbrev pub after_offer : ℕ → LinkSource → ℕ → PartsState
   after_offer l source i = with_offer source (with_line l (offered i) parts)
@@ -345,15 +334,27 @@ module _ {W : Type 0} (layout : Layout W) (parts : PartsState) where
   next_move l = move_at parts (link_in layout.links l) (line_at parts l) (line_at parts l).phase
 
   -- this may happen, at a link or block of the layout
-  abbrev pub Enabled : Event → Type 0
+  abbrev pub Enabled : Event W → Type 0
   Enabled (at_link l step) = next_move l ≡ Some step
   Enabled (Make b) = may_make (node_at parts b) ≡ true
   Enabled (Complete b p) = (p ≡ 0) × (may_complete parts (node_at parts b) ≡ true)
   Enabled (Fault b) = is_some (next_fault parts (node_at parts b)) ≡ true
   Enabled (Done b) = may_finish parts (node_at parts b) ≡ true
+  Enabled (Job works none) = ⊥
+
+  -- the event that is first of those that may happen at a block
+  abbrev pub event_of : ℕ → NodeState → Option (Event W)
+  event_of b node =
+      cond (may_make node) (Some (Make b))
+      (cond (may_complete parts node) (Some (Complete b 0))
+      (cond (is_some (next_fault parts node)) (Some (Fault b))
+      (cond (may_finish parts node) (Some (Done b)) None)))
+
+  abbrev pub event_at_block : ℕ → Option (Event W)
+  event_at_block b = event_of b (node_at parts b)
 
   -- the event that may happen at a link
-  abbrev pub event_at_link : ℕ → Option Event
+  abbrev pub event_at_link : ℕ → Option (Event W)
   event_at_link l = option_map (at_link l) (next_move l)
 
 -- what has changed when it has happened
@@ -361,9 +362,10 @@ module _ {W : Type 0} (layout : Layout W) (meaning : ℕ → Value → Result (L
   abbrev pub made_by : ℕ → NodeState → NodeState
   made_by b node = makes_as (kind_in layout b) (λ value. result_of (kind_in layout b) (meaning b value)) node
 
-  abbrev pub after : Event → PartsState
+  abbrev pub after : Event W → PartsState
   after (at_link l step) = after_move parts l (link_in layout.links l) step
   after (Make b) = with_node b (made_by b) parts
   after (Complete b p) = with_node b (completes p) parts
   after (Fault b) = after_fault parts b (next_fault parts (node_at parts b))
   after (Done b) = with_node b finishes parts
+  after (Job works none) = parts

@@ -15,20 +15,20 @@ use Rattle.flow_net.specs.declared.event.Event.{Event}
 
 module _ {W : Type 0} (layout : Layout W) (meaning : ℕ → Value → Result (List Value) ℕ) where
   -- the event that is asked for may happen, and has
-  pub record Happens (event : Event) (old new : PartsState) : Type 0 where
+  pub record Happens (event : Event W) (old new : PartsState) : Type 0 where
     pub enabled : MayHappen layout old event
     pub new_is : new ≡ after layout meaning old event
 
   -- it may not happen, and nothing has changed
-  pub record IsPassedOver (event : Event) (old new : PartsState) : Type 0 where
+  pub record IsPassedOver (event : Event W) (old new : PartsState) : Type 0 where
     pub not_enabled : MayHappen layout old event → ⊥
     pub same : new ≡ old
 
-  abbrev pub Answers : Event → PartsState → PartsState → Type 0
+  abbrev pub Answers : Event W → PartsState → PartsState → Type 0
   Answers event old new = Happens event old new ⊎ IsPassedOver event old new
 
   -- the whole list leads from one state to another
-  abbrev pub Goes : List Event → PartsState → PartsState → Type 0
+  abbrev pub Goes : List (Event W) → PartsState → PartsState → Type 0
   Goes [] old new = new ≡ old
   Goes (event ∷ events) old new = (mid : PartsState) × (Answers event old mid × Goes events mid new)
 

@@ -27,7 +27,7 @@ module _ (W : Type 0) where
   -- each event keeps what a network keeps
   abbrev pub EventsKeep : Type 0
   EventsKeep =
-      (layout : Layout W) (meaning : ℕ → Value → Result (List Value) ℕ) (parts : PartsState) (event : Event)
+      (layout : Layout W) (meaning : ℕ → Value → Result (List Value) ℕ) (parts : PartsState) (event : Event W)
       → LeadsWell layout → IsBuilt layout.blocks layout.links → Keeps layout parts → MayHappen layout parts event → Keeps layout (after layout meaning parts event)
 
   -- and then the link law holds of the run so far
@@ -47,7 +47,7 @@ module _ (W : Type 0) where
   -- each event keeps what each block and each input keeps
   abbrev pub EventsKeepAll : Type 0
   EventsKeepAll =
-      (layout : Layout W) (meaning : ℕ → Value → Result (List Value) ℕ) (parts : PartsState) (event : Event)
+      (layout : Layout W) (meaning : ℕ → Value → Result (List Value) ℕ) (parts : PartsState) (event : Event W)
       → LeadsWell layout → IsBuilt layout.blocks layout.links → Keeps layout parts → AllKeep layout meaning parts → MayHappen layout parts event
       → AllKeep layout meaning (after layout meaning parts event)
 
@@ -74,6 +74,6 @@ module _ (W : Type 0) where
   -- whatever events are asked for, in whatever order, the run so far is lawful
   abbrev pub SchedulesGoWell : Type 0
   SchedulesGoWell =
-      (meaning : W → Value → Result (List Value) WorkFault) (layout : Layout W) (events : List Event) (start now : PartsState)
+      (meaning : W → Value → Result (List Value) WorkFault) (layout : Layout W) (events : List (Event W)) (start now : PartsState)
       → LeadsWell layout → IsBuilt layout.blocks layout.links → IsFresh layout start → Goes layout (works_of meaning layout) events start now
       → GoesWell meaning layout start now

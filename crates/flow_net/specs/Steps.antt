@@ -11,7 +11,7 @@ use Rattle.flow_net.specs.declared.event.Event.{Event}
 module _ {W : Type 0} (layout : Layout W) (meaning : ℕ → Value → Result (List Value) ℕ) where
   -- an event leads from one state to another
   pub record Leads (old new : PartsState) : Type 0 where
-    pub event : Event
+    pub event : Event W
     pub enabled : MayHappen layout old event
     pub new_is : new ≡ after layout meaning old event
 
@@ -24,4 +24,4 @@ module _ {W : Type 0} (layout : Layout W) where
   -- nothing may happen any more
   pub record IsQuiet (parts : PartsState) : Type 0 where
     pub at_links : every (λ l. is_none (event_at_link layout parts l)) (below (length layout.links)) ≡ true
-    pub at_blocks : every (λ b. is_none (event_at_block parts b)) (below (length layout.blocks)) ≡ true
+    pub at_blocks : every (λ b. is_none (event_at_block layout parts b)) (below (length layout.blocks)) ≡ true

@@ -89,7 +89,7 @@ impl Agenda {
     }
 
     /// Lists where something may be able to happen after this event.
-    pub(crate) fn list_after<W>(&mut self, plan: &Plan<W>, parts: &Parts, event: &Event) {
+    pub(crate) fn list_after<W>(&mut self, plan: &Plan<W>, parts: &Parts, event: &Event<W>) {
         match *event {
             Event::Link(id, step) => {
                 if id < plan.link_count() {
@@ -104,6 +104,7 @@ impl Agenda {
                     self.list_round(number, node.into, node.out);
                 }
             }
+            Event::Job(_, none) => match none {},
         }
     }
 

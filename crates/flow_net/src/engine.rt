@@ -27,9 +27,9 @@ pub(crate) struct Engine<W> {
 
 impl<W: Work> Engine<W> {
     /// The event that is first of those that may happen at a block.
-    fn event_at_block(&self, number: usize) -> Option<Event>
+    fn event_at_block(&self, number: usize) -> Option<Event<W>>
         requires { number < length (layout_of self.now.plan).blocks }
-        ensures found { result ≡ event_at_block self.now.parts number }
+        ensures found { result ≡ event_at_block (layout_of self.now.plan) self.now.parts number }
         ensures enabled { IfSome result (MayHappen (layout_of self.now.plan) self.now.parts) }
     {
         let node = self.parts.node(number)?;
@@ -47,7 +47,7 @@ impl<W: Work> Engine<W> {
     }
 
     /// The event that may happen at this spot.
-    fn event_at(&self, spot: Spot) -> Result<Option<Event>, NetFault>
+    fn event_at(&self, spot: Spot) -> Result<Option<Event<W>>, NetFault>
         ensures enabled { IfOk result (λ next. IfSome next (MayHappen (layout_of self.now.plan) self.now.parts)) }
         ensures used_up { IfErr result (λ fault. (fault ≡ Ids) × NeedsId (layout_of self.now.plan) self.now.parts) }
     {
@@ -63,7 +63,7 @@ impl<W: Work> Engine<W> {
     }
 
     /// The first event that may happen at a link.
-    fn event_at_links(&self) -> Result<Option<Event>, NetFault>
+    fn event_at_links(&self) -> Result<Option<Event<W>>, NetFault>
         ensures enabled { IfOk result (λ next. IfSome next (MayHappen (layout_of self.now.plan) self.now.parts)) }
         ensures none { IfOk result (λ next. IfNone next ((l : ℕ) → l < length (layout_of self.now.plan).links → is_none (event_at_link (layout_of self.now.plan) self.now.parts l) ≡ true)) }
         ensures used_up { IfErr result (λ fault. (fault ≡ Ids) × NeedsId (layout_of self.now.plan) self.now.parts) }
@@ -77,9 +77,9 @@ impl<W: Work> Engine<W> {
     }
 
     /// The first event that may happen at a block.
-    fn event_at_blocks(&self) -> Option<Event>
+    fn event_at_blocks(&self) -> Option<Event<W>>
         ensures enabled { IfSome result (MayHappen (layout_of self.now.plan) self.now.parts) }
-        ensures none { IfNone result ((b : ℕ) → b < length (layout_of self.now.plan).blocks → is_none (event_at_block self.now.parts b) ≡ true) }
+        ensures none { IfNone result ((b : ℕ) → b < length (layout_of self.now.plan).blocks → is_none (event_at_block (layout_of self.now.plan) self.now.parts b) ≡ true) }
     {
         for number in 0..self.plan.block_count() {
             if let Some(event) = self.event_at_block(number) {
@@ -90,7 +90,7 @@ impl<W: Work> Engine<W> {
     }
 
     /// An event that may happen, looked for everywhere.
-    fn find_event(&self) -> Result<Option<Event>, NetFault>
+    fn find_event(&self) -> Result<Option<Event<W>>, NetFault>
         ensures enabled { IfOk result (λ next. IfSome next (MayHappen (layout_of self.now.plan) self.now.parts)) }
         ensures none { IfOk result (λ next. IfNone next (IsQuiet (layout_of self.now.plan) self.now.parts)) }
         ensures used_up { IfErr result (λ fault. (fault ≡ Ids) × NeedsId (layout_of self.now.plan) self.now.parts) }
@@ -102,7 +102,7 @@ impl<W: Work> Engine<W> {
     }
 
     /// An event that may happen: at a spot of the agenda if there is one there, and else anywhere.
-    fn next_event(&mut self) -> Result<Option<Event>, NetFault>
+    fn next_event(&mut self) -> Result<Option<Event<W>>, NetFault>
         ensures same_plan { self.new.plan ≡ self.old.plan }
         ensures same_parts { self.new.parts ≡ self.old.parts }
         ensures enabled { IfOk result (λ next. IfSome next (MayHappen (layout_of self.old.plan) self.old.parts)) }
@@ -128,11 +128,11 @@ impl<W: Work> Engine<W> {
     }
 
     /// Does an event that may happen, and lists where something may be able to happen after it.
-    fn go(&mut self, alloc: Global, event: Event) -> Result<(), NetFault>
+    fn go(&mut self, alloc: Global, event: &Event<W>) -> Result<(), NetFault>
         requires fits { Fits (layout_of self.old.plan) self.old.parts }
-        requires enabled { MayHappen (layout_of self.old.plan) self.old.parts event }
+        requires enabled { MayHappen (layout_of self.old.plan) self.old.parts event.now }
         ensures same_plan { self.new.plan ≡ self.old.plan }
-        ensures done { OnOk result (self.new.parts ≡ after (layout_of self.old.plan) (works_of W.meaning (layout_of self.old.plan)) self.old.parts event) }
+        ensures done { OnOk result (self.new.parts ≡ after (layout_of self.old.plan) (works_of W.meaning (layout_of self.old.plan)) self.old.parts event.now) }
         ensures kept { OnErr result (self.new.parts ≡ self.old.parts) }
         ensures memory { IfErr result (λ fault. fault ≡ Memory) }
     {
@@ -142,12 +142,12 @@ impl<W: Work> Engine<W> {
             agenda,
         } = self;
         parts.step(alloc, plan, event)?;
-        agenda.list_after(plan, parts, &event);
+        agenda.list_after(plan, parts, event);
         Ok(())
     }
 
     /// Does this event, if it may happen.
-    pub(crate) fn event(&mut self, alloc: Global, event: &Event) -> Result<(), NetFault>
+    pub(crate) fn event(&mut self, alloc: Global, event: &Event<W>) -> Result<(), NetFault>
         requires fits { Fits (layout_of self.old.plan) self.old.parts }
         ensures same_plan { self.new.plan ≡ self.old.plan }
         ensures enabled { OnOk result (MayHappen (layout_of self.old.plan) self.old.parts event.now) }
@@ -158,7 +158,7 @@ impl<W: Work> Engine<W> {
         ensures goes_on { GoesOn (layout_of self.old.plan) (works_of W.meaning (layout_of self.old.plan)) 1 self.old.parts self.new.parts }
     {
         if self.parts.may_happen(&self.plan, event)? {
-            self.go(alloc, *event)
+            self.go(alloc, event)
         } else {
             Err(NetFault::NotEnabled)
         }
@@ -176,7 +176,7 @@ impl<W: Work> Engine<W> {
     {
         for _ in 0..limit {
             match self.next_event()? {
-                Some(event) => self.go(alloc, event)?,
+                Some(event) => self.go(alloc, &event)?,
                 None => return Ok(Settled::Quiet),
             }
         }

@@ -4,10 +4,12 @@ ghost use Rattle.flow_link.specs.Planned.{layout_of};
 ghost use Rattle.flow_net.specs.There.{EventIsThere};
 
 use flow_link::{Move, Plan};
+use std::convert::Infallible;
+use std::marker::PhantomData;
 
-/// One thing that can happen, at a link or at a block, by their numbers.
-#[derive(Clone, Copy, Debug, PartialEq, Eq)]
-pub enum Event {
+/// One thing that can happen in a network with works of type `W`, at a link or at a block, by their numbers.
+#[derive(Debug, PartialEq, Eq, Drop)]
+pub enum Event<W> {
     /// An end of this link makes a move.
     Link(usize, Move),
     /// This block works on the next message that it holds.
@@ -18,11 +20,13 @@ pub enum Event {
     Fault(usize),
     /// This block has given all, and ends.
     Done(usize),
+    /// A job comes back to its block. No block has any, so there is no such event.
+    Job(PhantomData<W>, Infallible),
 }
 
-impl Event {
+impl<W> Event<W> {
     /// Whether the plan has the link or block that it names.
-    pub(crate) fn is_there<W>(&self, plan: &Plan<W>) -> bool
+    pub(crate) fn is_there(&self, plan: &Plan<W>) -> bool
         ensures { IsTrue result ↔ EventIsThere (layout_of plan.now) self.now }
     {
         match *self {
@@ -31,13 +35,16 @@ impl Event {
             | Event::Complete(number, _)
             | Event::Fault(number)
             | Event::Done(number) => number < plan.block_count(),
+            Event::Job(_, none) => match none {},
         }
     }
 }
 
 /// What came of an event that happened.
-#[derive(Clone, Copy, Debug, PartialEq, Eq, Hash)]
-pub enum Stepped {
+#[derive(Debug, PartialEq, Eq, Drop)]
+pub enum Stepped<W> {
     /// It is done.
     Moved,
+    /// A block has begun a job. No block has any, so nothing comes to this.
+    Began(PhantomData<W>, Infallible),
 }

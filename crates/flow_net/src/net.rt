@@ -58,7 +58,11 @@ impl<W: Work> Net<W> {
 
     /// Does this event, if it may happen. One that names a link, block or port which the plan has not is not enabled. After a
     /// refusal the network is as it was.
-    pub fn event(&mut self, alloc: Global, event: Event) -> Result<Stepped, (Event, NetFault)>
+    pub fn event(
+        &mut self,
+        alloc: Global,
+        event: Event<W>,
+    ) -> Result<Stepped<W>, (Event<W>, NetFault)>
         ensures same_plan { layout_in self.new ≡ layout_in self.old }
         ensures enabled { OnOk result (MayHappen (layout_in self.old) (parts_of self.old) event) }
         ensures moved { OnOk result (parts_of self.new ≡ after (layout_in self.old) (works_of W.meaning (layout_in self.old)) (parts_of self.old) event) }

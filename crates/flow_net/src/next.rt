@@ -380,7 +380,7 @@ impl Parts {
         &self,
         plan: &Plan<W>,
         id: usize,
-    ) -> Result<Option<Event>, NetFault>
+    ) -> Result<Option<Event<W>>, NetFault>
         requires { id < length (layout_of plan.now).links }
         ensures found { IfOk result (λ next. next ≡ event_at_link (layout_of plan.now) self.now id) }
         ensures enabled { IfOk result (λ next. IfSome next (MayHappen (layout_of plan.now) self.now)) }
@@ -411,7 +411,7 @@ impl Parts {
 
     /// Whether this event may happen. Ids says that it may not, and that the message which its link would offer next has no
     /// id left.
-    pub(crate) fn may_happen<W>(&self, plan: &Plan<W>, event: &Event) -> Result<bool, NetFault>
+    pub(crate) fn may_happen<W>(&self, plan: &Plan<W>, event: &Event<W>) -> Result<bool, NetFault>
         ensures told { IfOk result (λ may. IsTrue may ↔ MayHappen (layout_of plan.now) self.now event.now) }
         ensures used_up { IfErr result (λ fault. (fault ≡ Ids) × NeedsId (layout_of plan.now) self.now) }
         ensures not_then { OnErr result (MayHappen (layout_of plan.now) self.now event.now → ⊥) }
@@ -435,6 +435,7 @@ impl Parts {
             Event::Done(number) => {
                 Ok(self.node(number).is_some_and(|node| self.may_finish(node)))
             }
+            Event::Job(_, none) => match none {},
         }
     }
 }

@@ -282,15 +282,15 @@ impl Parts {
         &mut self,
         alloc: Global,
         plan: &Plan<W>,
-        event: Event,
+        event: &Event<W>,
     ) -> Result<(), NetFault>
         requires fits { Fits (layout_of plan.now) self.old }
-        requires enabled { MayHappen (layout_of plan.now) self.old event }
-        ensures done { OnOk result (self.new ≡ after (layout_of plan.now) (works_of W.meaning (layout_of plan.now)) self.old event) }
+        requires enabled { MayHappen (layout_of plan.now) self.old event.now }
+        ensures done { OnOk result (self.new ≡ after (layout_of plan.now) (works_of W.meaning (layout_of plan.now)) self.old event.now) }
         ensures kept { OnErr result (self.new ≡ self.old) }
         ensures memory { IfErr result (λ fault. fault ≡ Memory) }
     {
-        match event {
+        match *event {
             Event::Link(id, step) => self.make_move(alloc, id, &plan.link(id), step),
             Event::Make(number) => self.make(alloc, plan, number),
             Event::Complete(number, port) => self.nodes[number].complete(port),
@@ -299,6 +299,7 @@ impl Parts {
                 None => Ok(()),
             },
             Event::Done(number) => self.nodes[number].finish(),
+            Event::Job(_, none) => match none {},
         }
     }
 }

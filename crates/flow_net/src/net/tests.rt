@@ -366,8 +366,20 @@ fn header<R: Abort>(rt: &R, id: u64) -> MessageHeader {
     }
 }
 
-fn is_not_enabled(alloc: Global, net: &mut Net<Steps>, event: &Event) -> bool {
-    match net.event(alloc, *event) {
+/// The same event once more.
+fn again(event: &Event<Steps>) -> Event<Steps> {
+    match *event {
+        Event::Link(id, step) => Event::Link(id, step),
+        Event::Make(number) => Event::Make(number),
+        Event::Complete(number, port) => Event::Complete(number, port),
+        Event::Fault(number) => Event::Fault(number),
+        Event::Done(number) => Event::Done(number),
+        Event::Job(_, none) => match none {},
+    }
+}
+
+fn is_not_enabled(alloc: Global, net: &mut Net<Steps>, event: &Event<Steps>) -> bool {
+    match net.event(alloc, again(event)) {
         Err((back, NetFault::NotEnabled)) => back == *event,
         _ => false,
     }
@@ -552,7 +564,7 @@ fn move_by_number<R: Abort>(rt: &R, number: usize) -> Move {
     }
 }
 
-fn event_of<R: Abort>(rt: &R, choice: &Choice) -> Event {
+fn event_of<R: Abort>(rt: &R, choice: &Choice) -> Event<Steps> {
     let (is_link, number, step) = *choice;
     if is_link {
         return Event::Link(number, move_by_number(rt, step));

@@ -21,7 +21,7 @@ pub make_move-requires-clause-head : goal.make_move-requires-clause-head
 make_move-requires-clause-head g c is_give =
     let layout = layout_of c.args.plan.now in
     let parts = c.args.self.now in
-    let enabled = subst (λ (e : Event). Enabled layout parts e) c.in-Link.is c.requires.enabled.enabled in
+    let enabled = subst (λ (e : Event _). Enabled layout parts e) c.in-Link.is c.requires.enabled.enabled in
     let link = c.link.result in
     let ready : is_supplied parts link Give ≡ true =
     subst (λ (x : Link). is_supplied parts x Give ≡ true) (sym (c.link.ensures.its_number no_link))
@@ -32,7 +32,7 @@ pub make_move-requires-clause-ready : goal.make_move-requires-clause-ready
 make_move-requires-clause-ready g c is_give =
     let layout = layout_of c.args.plan.now in
     let parts = c.args.self.now in
-    let enabled = subst (λ (e : Event). Enabled layout parts e) c.in-Link.is c.requires.enabled.enabled in
+    let enabled = subst (λ (e : Event _). Enabled layout parts e) c.in-Link.is c.requires.enabled.enabled in
     let link = c.link.result in
     let ready : is_supplied parts link Give ≡ true =
     subst (λ (x : Link). is_supplied parts x Give ≡ true) (sym (c.link.ensures.its_number no_link))
@@ -43,6 +43,6 @@ pub make_move-requires-clause-room : goal.make_move-requires-clause-room
 make_move-requires-clause-room g c is_close =
     let layout = layout_of c.args.plan.now in
     let parts = c.args.self.now in
-    let enabled = subst (λ (e : Event). Enabled layout parts e) c.in-Link.is c.requires.enabled.enabled in
+    let enabled = subst (λ (e : Event _). Enabled layout parts e) c.in-Link.is c.requires.enabled.enabled in
     subst (λ (x : Link). is_supplied parts x Close ≡ true) (sym (c.link.ensures.its_number no_link))
     (next_is_supplied layout parts c.in-Link.id Close (enabled ∙ ap (λ (m : Move). Some m) is_close))
