@@ -1,12 +1,16 @@
 //! Prints values: numbers in decimal, texts between double quotes, rows and lists between brackets.
-ghost use Rattle.std.specs.Prelude.{◌≡◌, ◌<◌, ◌↔◌, [], ◌∷◌, ◌++◌, IsTrue, OnOk};
+ghost use Rattle.std.specs.Prelude.{◌≡◌, ◌<◌, ◌↔◌, [], ◌∷◌, ◌++◌, IsTrue, IfSome, OnOk};
 ghost use Rattle.std.specs.Io.KnownBytes.{Appends};
 ghost use Rattle.flow_run.specs.Printed.{hex_digit, escaped, escapes, quoted, value_text, list_text, comma_unless};
 
+use arrayvec::ArrayString;
 use flow_value::Value;
 use itoa::Buffer;
 use std::io;
 use std::io::Write;
+
+/// How many bytes go to the writer in one piece, at most.
+const PIECE: usize = 64;
 
 // Whether the byte stands for itself in a printed text.
 fn is_plain(byte: u8) -> bool
@@ -58,9 +62,52 @@ fn write_escapes<W: Write>(writer: &mut W, text: &[u8]) -> io::Result<()>
     writer.write_all(&text[start..])
 }
 
-fn write_quoted<W: Write>(writer: &mut W, text: &str) -> io::Result<()>
-    ensures { OnOk result (Appends (W.contents writer.old) (W.contents writer.new) (quoted text.now)) }
+// The comma before an item that is not the first.
+fn write_comma<W: Write>(writer: &mut W, is_first: bool) -> io::Result<()>
+    ensures { OnOk result (Appends (W.contents writer.old) (W.contents writer.new) (comma_unless is_first)) }
 {
+    if is_first {
+        return Ok(());
+    }
+    writer.write_all(b",")
+}
+
+// Whether each byte of the text stands for itself in print.
+fn is_plain_text(text: &[u8]) -> bool
+    ensures { IsTrue result → escapes text.now ≡ text.now }
+{
+    for byte in text {
+        if !is_plain(*byte) {
+            return false;
+        }
+    }
+    true
+}
+
+// A text as an item, in one piece; None where it is long or a byte of it is escaped.
+fn piece_of(is_first: bool, text: &str) -> Option<ArrayString<PIECE>>
+    ensures { IfSome result (λ piece. piece.bytes ≡ comma_unless is_first ++ quoted text.now) }
+{
+    if !is_plain_text(text.as_bytes()) {
+        return None;
+    }
+    let mut piece = ArrayString::new();
+    piece
+        .try_push_str(if is_first { "\"" } else { ",\"" })
+        .ok()?;
+    piece.try_push_str(text).ok()?;
+    piece.try_push_str("\"").ok()?;
+    Some(piece)
+}
+
+// Writes a text as an item. Most texts go to the writer in one call.
+fn write_text<W: Write>(writer: &mut W, is_first: bool, text: &str) -> io::Result<()>
+    ensures { OnOk result (Appends (W.contents writer.old) (W.contents writer.new) (comma_unless is_first ++ quoted text.now)) }
+{
+    if let Some(piece) = piece_of(is_first, text) {
+        return writer.write_all(piece.as_bytes());
+    }
+    write_comma(writer, is_first)?;
     writer.write_all(b"\"")?;
     write_escapes(writer, text.as_bytes())?;
     writer.write_all(b"\"")
@@ -73,7 +120,7 @@ pub(crate) fn write_value<W: Write>(writer: &mut W, value: &Value) -> io::Result
 {
     match value {
         Value::Int(number) => writer.write_all(Buffer::new().format(*number).as_bytes()),
-        Value::Text(text) => write_quoted(writer, text.as_str()),
+        Value::Text(text) => write_text(writer, true, text.as_str()),
         Value::Row(row) => write_values(writer, row.items()),
     }
 }
@@ -83,9 +130,10 @@ pub(crate) fn write_value<W: Write>(writer: &mut W, value: &Value) -> io::Result
 pub(crate) fn write_item<W: Write>(writer: &mut W, is_first: bool, value: &Value) -> io::Result<()>
     ensures { OnOk result (Appends (W.contents writer.old) (W.contents writer.new) (comma_unless is_first ++ value_text value.now)) }
 {
-    if !is_first {
-        writer.write_all(b",")?;
+    if let Value::Text(text) = value {
+        return write_text(writer, is_first, text.as_str());
     }
+    write_comma(writer, is_first)?;
     write_value(writer, value)
 }
 
@@ -160,6 +208,25 @@ mod tests {
                 &Value::Text(Text::from_str(rt.alloc(), text)?),
                 expected,
             )?;
+        }
+        Ok(())
+    }
+
+    // The first item goes to the writer in one piece up to 62 bytes, a later one up to 61.
+    #[test]
+    fn texts_of_any_length_are_quoted(rt: HostRuntime) -> Result<(), Fail> {
+        let alloc = rt.alloc();
+        let mut text = String::new(alloc);
+        for _ in 0..70 {
+            let values = [
+                Value::Text(Text::from_str(alloc, text.as_str())?),
+                Value::Text(Text::from_str(alloc, text.as_str())?),
+            ];
+            let mut printed = Vec::new(alloc);
+            write_values(&mut printed, &values)?;
+            let expected = format!(in alloc; "[\"{text}\",\"{text}\"]")?;
+            assert_eq!(rt; printed.as_slice(), expected.as_bytes());
+            text.push('x')?;
         }
         Ok(())
     }
