@@ -7,8 +7,6 @@ mod number;
 mod parcel;
 mod step;
 mod steps;
-#[cfg(test)]
-mod tests;
 mod value;
 mod when;
 mod work;
