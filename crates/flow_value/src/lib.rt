@@ -12,6 +12,7 @@ mod when;
 mod work;
 
 pub use message::{MAX_ID, MessageHeader, MessageStatus};
+pub use number::is_digits;
 pub use parcel::Parcel;
 pub use step::Step;
 pub use steps::{Steps, StepsError};
