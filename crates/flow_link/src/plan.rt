@@ -9,6 +9,8 @@ ghost use Rattle.flow_link.specs.contracts.plan.Link as link;
 
 use crate::draft::BlockDef;
 use flow_value::When;
+use std::fmt;
+use thiserror::Error;
 
 /// Where the messages of a link come from.
 #[derive(Clone, Copy, Debug, PartialEq, Eq, Hash)]
@@ -50,26 +52,44 @@ pub enum Place {
     Link(usize),
 }
 
+impl fmt::Display for Place {
+    fn fmt<F: fmt::Write>(&self, f: &mut fmt::Formatter<F>) -> fmt::Result {
+        match self {
+            Place::Block(block) => write!(f, "block {block}"),
+            Place::Link(link) => write!(f, "link {link}"),
+        }
+    }
+}
+
 /// Why a draft is no plan. They are looked for in this order, each over the blocks and then the links.
-#[derive(Clone, Copy, Debug, PartialEq, Eq, Hash)]
+#[derive(Clone, Copy, Debug, PartialEq, Eq, Hash, Error)]
 pub enum PlanFault {
     /// There are more than 256 blocks or 1,024 links.
+    #[error("there are more than 256 blocks or 1,024 links")]
     Limit,
     /// An earlier block has this block's name.
+    #[error("block {0} has the name of an earlier block")]
     DuplicateName(usize),
     /// This link names a block that is not there.
+    #[error("link {0} names a block that is not there")]
     UnknownBlock(usize),
     /// The target of this link has no such port.
+    #[error("link {0} leads to a port that its target does not have")]
     Port(usize),
     /// The source of this link gives nothing.
+    #[error("link {0} leaves a block that gives nothing")]
     NoOutput(usize),
     /// An option stands where its kind has none, is out of its range, or is wanting.
+    #[error("{0} has an option that is wrong, or lacks one")]
     BadOption(Place),
     /// This batch has no room for a group.
+    #[error("block {0} has no room for a group")]
     CapacityBelowSize(usize),
     /// One source leads into two ports of this reserving join.
+    #[error("one source leads into two ports of block {0}, which reserves")]
     SharedSource(usize),
     /// Messages could go round for ever.
+    #[error("messages could go round for ever")]
     Cycle,
 }
 
