@@ -2,6 +2,7 @@ pub mod BuiltLemmas
 pub mod CheckLemmas
 pub mod ComposeLemmas
 pub mod CopyLemmas
+pub mod EachLemmas
 pub mod EndingLemmas
 pub mod ExampleLemmas
 pub mod FirstFaultLemmas
