@@ -18,5 +18,6 @@ pub mod SourceMoves
 pub mod TargetMoves
 pub mod TestLemmas
 pub mod ToldLemmas
+pub mod WellFormedLemmas
 pub mod WholeLemmas
 pub mod WordLemmas

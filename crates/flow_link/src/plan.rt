@@ -4,6 +4,7 @@ ghost use Rattle.std.specs.Str.{bytes_eq};
 ghost use Rattle.flow_link.specs.Built.{IsBuilt};
 ghost use Rattle.flow_link.specs.Fault.{fault_number};
 ghost use Rattle.flow_link.specs.Layout.{IsLaidOut};
+ghost use Rattle.flow_link.specs.WellFormed.{IsWellFormed};
 ghost use Rattle.std.specs.Coded.{codes};
 ghost use Rattle.flow_link.specs.contracts.plan.Link as link;
 
@@ -115,11 +116,13 @@ impl PlanFault {
 /// A network that was checked.
 ///
 /// Blocks have the numbers of their places in the draft. So have links; after them comes a link for each input, and then
-/// one for each exit, both in the order of their blocks. Contracts see the plan as its layout. It uses only what is built.
+/// one for each exit, both in the order of their blocks. Contracts see the plan as its layout. It is well-formed, and uses only
+/// what is built.
 #[derive(Drop)]
 pub struct Plan<W> {
     blocks: Vec<BlockDef<W>>,
     links: Vec<Link>,
+    ghost well_formed: { IsWellFormed blocks.items links.items } by { Prim.hlevel (codes, link.the_row.coded) },
     ghost laid_out: { IsLaidOut blocks.items links.items } by { Prim.hlevel (codes, link.the_row.coded) },
     ghost built: { IsBuilt blocks.items links.items } by { Prim.hlevel (codes, link.the_row.coded) },
 }
@@ -129,6 +132,7 @@ impl<W> Plan<W> {
 
     /// The plan with these blocks and links.
     pub(crate) fn new(blocks: Vec<BlockDef<W>>, links: Vec<Link>) -> Plan<W>
+        requires well_formed { IsWellFormed blocks.items links.items }
         requires laid_out { IsLaidOut blocks.items links.items }
         requires built { IsBuilt blocks.items links.items }
         ensures blocks { (layout_of result).blocks ≡ blocks.items }
@@ -163,6 +167,7 @@ impl<W> Plan<W> {
     pub fn link(&self, id: usize) -> Link
         requires { id < length (layout_of self.now).links }
         ensures its_number { HoldsAt (λ link. result ≡ link) (layout_of self.now).links id }
+        ensures well_formed { IsWellFormed (layout_of self.now).blocks (layout_of self.now).links }
         ensures laid_out { IsLaidOut (layout_of self.now).blocks (layout_of self.now).links }
     {
         self.links[id]
