@@ -9,6 +9,7 @@ pub mod FirstFaultLemmas
 pub mod JournalLemmas
 pub mod LayoutLemmas
 pub mod ListLemmas
+pub mod LongWalks
 pub mod LookLemmas
 pub mod MidMoveLemmas
 pub mod PlanExampleLemmas

@@ -26,6 +26,7 @@ use Rattle.flow_link.proofs.CheckLemmas.{position_is_first}
 use Rattle.flow_link.proofs.EachLemmas.{Each, Fails, each_append, each_input, each_exit, each_named, both_ways, in_front, none_at}
 use Rattle.flow_link.proofs.FirstFaultLemmas.{named_link_at, length-named_links, none_front, none_back, fails_from}
 use Rattle.flow_link.proofs.LayoutLemmas.{neither, between_named, named_low}
+use Rattle.flow_link.proofs.LongWalks.{never_reached}
 use Rattle.flow_link.proofs.ListLemmas.{both_of, and_true}
 use Rattle.flow_link.proofs.RoundLemmas.{some_here_below, some_same_below}
 
@@ -398,10 +399,11 @@ module _ {W : Type 0} (blocks : List (BlockDef W)) (links : List LinkDef) (none 
       (each_append (Fails test) (input_links 0 blocks) (exit_links 0 blocks)
       (each_input (Fails test) 0 blocks (λ k low on. refl)) (each_exit (Fails test) 0 blocks (λ k low on. and_false ((0 + k) == a))))
 
-  no_cycle : (b : ℕ) → b < length blocks → walks (planned_links blocks links) (length blocks) (length blocks) b b ≡ false
-  no_cycle b low =
-      walks_front (named_links blocks links) (outer_links blocks) (length blocks) same_leads (length blocks) b b
-      ∙ none_below_of (λ k. walks (named_links blocks links) (length blocks) (length blocks) k k) (length blocks) b none.cycle low
+  no_cycle : (steps b : ℕ) → b < length blocks → walks (planned_links blocks links) (length blocks) steps b b ≡ false
+  no_cycle steps b low =
+      walks_front (named_links blocks links) (outer_links blocks) (length blocks) same_leads steps b b
+      ∙ never_reached (named_links blocks links) (length blocks) b steps b low
+      (none_below_of (λ k. walks (named_links blocks links) (length blocks) (length blocks) k k) (length blocks) b none.cycle low)
 
   well_formed : IsWellFormed blocks (planned_links blocks links)
   well_formed =

@@ -37,5 +37,5 @@ module _ {W : Type 0} (blocks : List (BlockDef W)) (links : List Link) where
     pub one_port : (k l source join p q : ℕ) → k < length links → l < length links → is_reserving (block_in blocks join) ≡ true
         → (link_in links k).source ≡ Block source → (link_in links k).target ≡ Port join p
         → (link_in links l).source ≡ Block source → (link_in links l).target ≡ Port join q → p ≡ q
-    -- no walk leads from a block back to it
-    pub no_cycle : (b : ℕ) → b < length blocks → walks links (length blocks) (length blocks) b b ≡ false
+    -- no walk over links, however long, leads from a block back to it
+    pub no_cycle : (steps b : ℕ) → b < length blocks → walks links (length blocks) steps b b ≡ false
