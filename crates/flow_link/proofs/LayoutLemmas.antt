@@ -4,7 +4,7 @@ use Rattle.std.specs.List.{position, position_from}
 use Rattle.std.specs.Str.{bytes_eq}
 use Rattle.std.proofs.Math.Seq.{take-append_seam}
 use Rattle.std.proofs.lemmas.Bool.{lt-ltb}
-use Rattle.std.proofs.lemmas.List.{map_more, append-nil}
+use Rattle.std.proofs.lemmas.List.{map_more}
 use Rattle.std.proofs.lemmas.List.Quantifiers.{position-Some}
 use Rattle.std.proofs.lemmas.Iterator.Adapters.{position_from-zero}
 use Rattle.flow_link.specs.declared.draft.BlockDef.{BlockDef}
@@ -60,15 +60,6 @@ module _ {W : Type 0} (blocks : List (BlockDef W)) where
       → next ++ exit_links (i + 1) (drop (i + 1) blocks) ≡ links ++ exit_links i (drop i blocks)
   one_more_exit i block links next low is e =
       by_blocks (λ k b. cond b.output (exit_link k ∷ []) []) exit_links (λ k b bs. refl) i block links next low is e
-
--- a link is pushed, or not
-pub pushed : (is_pushed : Bool) (before after : List Link) (made link : Link) → is_pushed ≡ true
-    → after ≡ before ++ made ∷ [] → made ≡ link → after ≡ before ++ cond is_pushed (link ∷ []) []
-pushed is_pushed before after made link is_so e el = rw is_so (e ∙ ap (λ l. before ++ l ∷ []) el)
-
-pub not_pushed : (is_pushed : Bool) (before after : List Link) (link : Link) → is_pushed ≡ false
-    → after ≡ before → after ≡ before ++ cond is_pushed (link ∷ []) []
-not_pushed is_pushed before after link is_not e = rw is_not (e ∙ sym (append-nil before))
 
 -- of two tests that both fail, each does
 option_is_some : {A : Type 0} (x : A) → None ≡ Some x → ⊥

@@ -1,5 +1,5 @@
 //! The links of a plan: those of the draft, between the blocks that they name, and those from and to the caller.
-ghost use Rattle.std.specs.Prelude.{◌≡◌, ◌≤◌, ◌++◌, length, take, IfOk, OnOk, unwrap_or};
+ghost use Rattle.std.specs.Prelude.{◌≡◌, ◌≤◌, [], ◌∷◌, ◌++◌, cond, length, take, IfOk, OnOk, unwrap_or};
 ghost use Rattle.flow_link.specs.Layout.{input_link, exit_link, input_links, exit_links, outer_links};
 ghost use Rattle.flow_link.specs.Plan.{block_named, named_link, named_links, planned_links};
 
@@ -69,9 +69,7 @@ fn push_input_links<W>(blocks: &[BlockDef<W>], links: &mut Vec<Link>) -> Result<
     ensures { OnOk result (links.new.items ≡ links.old.items ++ input_links 0 blocks.now) }
 {
     for (place, block) in blocks.iter().enumerate() {
-        if block.input {
-            links.push(input_link(place))?;
-        }
+        push_where(links, block.input, input_link(place))?;
     }
     Ok(())
 }
@@ -80,9 +78,17 @@ fn push_exit_links<W>(blocks: &[BlockDef<W>], links: &mut Vec<Link>) -> Result<(
     ensures { OnOk result (links.new.items ≡ links.old.items ++ exit_links 0 blocks.now) }
 {
     for (place, block) in blocks.iter().enumerate() {
-        if block.output {
-            links.push(exit_link(place))?;
-        }
+        push_where(links, block.output, exit_link(place))?;
+    }
+    Ok(())
+}
+
+/// Puts a link behind the others, or leaves it out.
+fn push_where(links: &mut Vec<Link>, is_there: bool, link: Link) -> Result<(), AllocError>
+    ensures { OnOk result (links.new.items ≡ links.old.items ++ cond is_there (link ∷ []) []) }
+{
+    if is_there {
+        links.push(link)?;
     }
     Ok(())
 }
