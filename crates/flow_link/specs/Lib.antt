@@ -33,3 +33,4 @@ pub mod Tests
 pub mod Told
 pub mod Trace
 pub mod Views
+pub mod WellFormed
