@@ -1,10 +1,8 @@
 -- Networks in which a part does not keep a law of its own, though each link is in order and the run so far is lawful. Such a
 -- part would make the run unlawful, or leave work undone, some time later.
-use Rattle.std.specs.Prelude.{ℕ, zero, suc, ◌<◌, List, [], ◌∷◌, length, None}
-use Rattle.flow_value.specs.declared.value.Value.{Value}
+use Rattle.std.specs.Prelude.{ℕ, zero, suc, ◌<◌, [], ◌∷◌, length}
 use Rattle.flow_link.specs.declared.draft.BlockKind.TheVariants.{Buffer, Action, Transform}
-use Rattle.flow_link.specs.declared.phase.Phase.{Phase}
-use Rattle.flow_link.specs.declared.phase.Phase.TheVariants.{Idle, Held, Refused, Ended}
+use Rattle.flow_link.specs.declared.phase.Phase.TheVariants.{Held, Refused, Ended}
 use Rattle.flow_link.specs.declared.phase.LinkEnd.TheVariants.{Plain}
 use Rattle.flow_link.specs.declared.trace.Mark.TheVariants.{Took, Gave}
 use Rattle.flow_link.specs.Views.{SourceStage, TargetStage, Refusal}
@@ -13,19 +11,8 @@ use Rattle.flow_link.specs.LinkOk.{LinkOk}
 use Rattle.flow_link.specs.Trace.{Run}
 use Rattle.flow_link.specs.Lawful.{Lawful}
 use Rattle.flow_link.specs.Examples.{Work, block, with_input, reserving_join, link, kept_apart, digit, row, leaves, leaves_nothing, holds, joins, posted_open, same, read_digit, run_of, with_refused}
+use Rattle.flow_link.specs.MidMove.{stands, rests_after}
 use Rattle.flow_link.specs.Composes.{Ends, SourceKeeps, TargetKeeps, SpeaksForOne, PartsKeep, facts_of}
-
--- a link over which these values were given and taken, where its ends stand so
-abbrev pub stands : Phase → List Value → SourceStage → TargetStage Value → Ends
-stands phase values source target = record {
-  phase = phase;
-  slot = None;
-  source = record { before = 0; given = values; last = 0; stage = source };
-  target = record { before = 0; taken = values; stage = target };
-}
-
-abbrev pub rests_after : List Value → Ends
-rests_after values = stands Idle values SourceStage.free TargetStage.free
 
 -- a buffer that is open ends its link, and has its message left
 abbrev pub left_behind : Run Work
