@@ -1,11 +1,12 @@
 -- The examples pass the tests that they are to pass, and no others.
-use Rattle.std.proofs.Common.{◌≡◌, ℕ, zero, suc, true, false, refl, arith}
+use Rattle.std.proofs.Common.{◌≡◌, ℕ, zero, suc, true, false, not, count_by, refl, arith}
 use Rattle.flow_link.specs.Trace.{Run}
 use Rattle.flow_link.specs.Examples.{Work}
 use Rattle.flow_link.specs.Tests.{all_pass, law_tests, quiet_tests}
 use Rattle.flow_link.specs.LawfulExamples.{IsLawfulAndQuiet, GoodRunsAreLawful, two_records, parse_three, upto_flattens, unrouted_head, link_limit, batch_remainder, greedy_join_leaves, reserving_join_leaves, write_once_takes_one, broadcast_beside_a_join, batched_join_groups, fault_in_the_middle, bounded_buffer_misses, fault_after_work, fault_before_work, more_than_one_result, kept_for_the_caller, room_for_two, refused_and_passed_on, rest_made_before_fault, rest_kept_at_fault}
 use Rattle.flow_link.specs.RefusedExamples.{WrongRunsAreRefused}
-use Rattle.flow_link.specs.UnfinishedExamples.{nothing_moved, message_on_the_way, work_not_done, done_not_marked, end_not_handed_on, value_not_given, copy_not_given, rest_not_made, UnfinishedRunsAreNotQuiet}
+use Rattle.flow_link.specs.UnfinishedExamples.{nothing_moved, message_on_the_way, work_not_done, done_not_marked, end_not_handed_on, value_not_given, copy_not_given, rest_not_made, IsUnfinished, UnfinishedRunsAreNotQuiet}
+use Rattle.flow_link.specs.Quiet.{Quiet}
 use Rattle.flow_link.proofs.TestLemmas.{lawful_by_tests, quiet_by_tests}
 
 good : (run : Run Work) → all_pass (law_tests run) ≡ true → all_pass (quiet_tests run) ≡ true → IsLawfulAndQuiet run
@@ -72,14 +73,18 @@ wrong_runs = record {
   no_port = record { broken = λ law. wrong_no_more law.ports; others_hold = refl };
 }
 
+unfinished : (run : Run Work) → all_pass (law_tests run) ≡ true → (Quiet run → ⊥)
+    → count_by (λ test. not test) (quiet_tests run) ≡ 1 → IsUnfinished run
+unfinished run laws rest one = record { lawful = lawful_by_tests run laws; not_quiet = rest; others_hold = one }
+
 pub unfinished_runs : UnfinishedRunsAreNotQuiet
 unfinished_runs = record {
-  not_moved = record { lawful = lawful_by_tests nothing_moved refl; not_quiet = λ quiet. wrong_no_more quiet.heads; others_hold = refl };
-  on_the_way = record { lawful = lawful_by_tests message_on_the_way refl; not_quiet = λ quiet. wrong_no_more quiet.home; others_hold = refl };
-  not_worked = record { lawful = lawful_by_tests work_not_done refl; not_quiet = λ quiet. wrong_no_more quiet.at_rest; others_hold = refl };
-  not_marked = record { lawful = lawful_by_tests done_not_marked refl; not_quiet = λ quiet. wrong_no_more quiet.done; others_hold = refl };
-  not_handed_on = record { lawful = lawful_by_tests end_not_handed_on refl; not_quiet = λ quiet. wrong_no_more quiet.ends_handed_on; others_hold = refl };
-  not_given = record { lawful = lawful_by_tests value_not_given refl; not_quiet = λ quiet. wrong_no_more quiet.heads; others_hold = refl };
-  not_copied = record { lawful = lawful_by_tests copy_not_given refl; not_quiet = λ quiet. wrong_no_more quiet.served; others_hold = refl };
-  not_made = record { lawful = lawful_by_tests rest_not_made refl; not_quiet = λ quiet. wrong_no_more quiet.at_rest; others_hold = refl };
+  not_moved = unfinished nothing_moved refl (λ quiet. wrong_no_more quiet.heads) refl;
+  on_the_way = unfinished message_on_the_way refl (λ quiet. wrong_no_more quiet.home) refl;
+  not_worked = unfinished work_not_done refl (λ quiet. wrong_no_more quiet.at_rest) refl;
+  not_marked = unfinished done_not_marked refl (λ quiet. wrong_no_more quiet.done) refl;
+  not_handed_on = unfinished end_not_handed_on refl (λ quiet. wrong_no_more quiet.ends_handed_on) refl;
+  not_given = unfinished value_not_given refl (λ quiet. wrong_no_more quiet.heads) refl;
+  not_copied = unfinished copy_not_given refl (λ quiet. wrong_no_more quiet.served) refl;
+  not_made = unfinished rest_not_made refl (λ quiet. wrong_no_more quiet.at_rest) refl;
 }

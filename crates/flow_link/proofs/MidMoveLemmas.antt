@@ -7,10 +7,10 @@ use Rattle.flow_link.specs.Trace.{link_of}
 use Rattle.flow_link.specs.LinkOk.{LinkOk, IsWithin}
 use Rattle.flow_link.specs.Views.{LinkFacts}
 use Rattle.flow_link.specs.Examples.{digit}
-use Rattle.flow_link.specs.Composes.{SourceKeeps, TargetKeeps, InputKeeps, ExitKeeps, NodeKeeps, facts_of, is_refused_phase}
+use Rattle.flow_link.specs.Composes.{SourceKeeps, TargetKeeps, InputKeeps, ExitKeeps, NodeKeeps, LinkKeeps, facts_of, is_refused_phase}
 use Rattle.flow_link.specs.MidMove.{rests_after, message_under_way, ends_under_way, KeptInMidMove}
 
-slot_in_order : LinkOk (facts_of message_under_way ends_under_way 0) (ends_under_way 0).phase (ends_under_way 0).slot (ends_under_way 0).source (ends_under_way 0).target
+slot_in_order : LinkKeeps message_under_way ends_under_way 0
 slot_in_order = record {
   same_start = refl;
   stages = refl;
@@ -30,7 +30,7 @@ rests_in_order facts values within = record {
   plan = record { put_off = tt; freely = tt; reserved = tt; within = within; room = tt; ends = tt };
 }
 
-links_in_order : (l : ℕ) → l < 2 → LinkOk (facts_of message_under_way ends_under_way l) (ends_under_way l).phase (ends_under_way l).slot (ends_under_way l).source (ends_under_way l).target
+links_in_order : (l : ℕ) → l < 2 → LinkKeeps message_under_way ends_under_way l
 links_in_order zero small = slot_in_order
 links_in_order (suc zero) small = rests_in_order (facts_of message_under_way ends_under_way 1) (digit 1 ∷ []) tt
 links_in_order (suc (suc l)) small = absurd (omega arith)
@@ -56,7 +56,8 @@ action_takes (suc zero) p small e = cc
 action_takes (suc (suc l)) p small e = absurd (omega arith)
 
 -- only the first link leads out of a block
-one_link : (b k l : ℕ) → k < 2 → l < 2 → (link_of message_under_way k).source ≡ Block b → (link_of message_under_way l).source ≡ Block b → k ≡ l
+one_link : (b k l : ℕ) → k < 2 → l < 2
+    → (link_of message_under_way k).source ≡ Block b → (link_of message_under_way l).source ≡ Block b → k ≡ l
 one_link b zero zero ks ls ek el = refl
 one_link b zero (suc zero) ks ls ek el = cc
 one_link b (suc zero) l ks ls ek el = cc

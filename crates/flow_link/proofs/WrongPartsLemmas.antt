@@ -3,7 +3,7 @@ use Rattle.std.proofs.Common.{◌≡◌, ℕ, zero, suc, ◌<◌, true, false, [
 use Rattle.flow_link.specs.Views.{Refusal, LinkFacts}
 use Rattle.flow_link.specs.Examples.{digit, row}
 use Rattle.flow_link.specs.LinkOk.{LinkOk, IsWithin, HasRoom}
-use Rattle.flow_link.specs.Composes.{SourceKeeps, TargetKeeps, SpeaksForOne, facts_of}
+use Rattle.flow_link.specs.Composes.{SourceKeeps, TargetKeeps, SpeaksForOne, LinkKeeps, facts_of}
 use Rattle.flow_link.specs.WrongParts.{left_behind, ends_left_behind, kept_for_two, kept_for_it, ends_kept_for_two, wrong_reason, ends_wrong_reason, WrongPartsAreRefused}
 use Rattle.flow_link.proofs.ExampleLemmas.{wrong_no_more, none_is_some}
 use Rattle.flow_link.proofs.MidMoveLemmas.{rests_in_order}
@@ -13,8 +13,7 @@ use Rattle.flow_link.proofs.TestLemmas.{lawful_by_tests}
 no_plain_end : SourceKeeps left_behind ends_left_behind 0 0 → ⊥
 no_plain_end keeps = wrong_no_more (keeps.after_plain refl)
 
-links_of_left_behind : (l : ℕ) → l < 2
-    → LinkOk (facts_of left_behind ends_left_behind l) (ends_left_behind l).phase (ends_left_behind l).slot (ends_left_behind l).source (ends_left_behind l).target
+links_of_left_behind : (l : ℕ) → l < 2 → LinkKeeps left_behind ends_left_behind l
 links_of_left_behind zero small = record {
   same_start = refl;
   stages = refl;
@@ -40,11 +39,17 @@ kept_in_order facts unsteady shared reserves unbounded =
       stages = (refl, refl);
       ids = omega arith;
       values = record { empty = refl; all = refl };
-      plan = record { put_off = record { not_steady = unsteady; not_the_first = λ sole. absurd (wrong_no_more (sym shared ∙ sole)) }; freely = tt; reserved = reserves; within = within; room = room; ends = tt };
+      plan = record {
+        put_off = record { not_steady = unsteady; not_the_first = λ sole. absurd (wrong_no_more (sym shared ∙ sole)) };
+        freely = tt;
+        reserved = reserves;
+        within = within;
+        room = room;
+        ends = tt;
+      };
     }
 
-links_of_kept_for_two : (l : ℕ) → l < 3
-    → LinkOk (facts_of kept_for_two ends_kept_for_two l) (ends_kept_for_two l).phase (ends_kept_for_two l).slot (ends_kept_for_two l).source (ends_kept_for_two l).target
+links_of_kept_for_two : (l : ℕ) → l < 3 → LinkKeeps kept_for_two ends_kept_for_two l
 links_of_kept_for_two zero small = kept_in_order (facts_of kept_for_two ends_kept_for_two 0) refl refl refl refl
 links_of_kept_for_two (suc zero) small = kept_in_order (facts_of kept_for_two ends_kept_for_two 1) refl refl refl refl
 links_of_kept_for_two (suc (suc zero)) small = rests_in_order (facts_of kept_for_two ends_kept_for_two 2) (digit 1 ∷ []) tt
@@ -54,8 +59,7 @@ links_of_kept_for_two (suc (suc (suc l))) small = absurd (omega arith)
 no_other_reason : TargetKeeps wrong_reason ends_wrong_reason 0 1 0 → ⊥
 no_other_reason keeps = wrong_no_more (keeps.refuses Refusal.port_ended refl)
 
-links_of_wrong_reason : (l : ℕ) → l < 2
-    → LinkOk (facts_of wrong_reason ends_wrong_reason l) (ends_wrong_reason l).phase (ends_wrong_reason l).slot (ends_wrong_reason l).source (ends_wrong_reason l).target
+links_of_wrong_reason : (l : ℕ) → l < 2 → LinkKeeps wrong_reason ends_wrong_reason l
 links_of_wrong_reason zero small = record {
   same_start = refl;
   stages = tt;

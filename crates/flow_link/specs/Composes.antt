@@ -187,13 +187,17 @@ module _ {W : Type 0} (run : Run W) (ends : ℕ → Ends) where
     pub sources : (l : ℕ) → l < length run.layout.links → (link_of run l).source ≡ Block b → SourceKeeps l b
     pub targets : (l p : ℕ) → l < length run.layout.links → (link_of run l).target ≡ Port b p → TargetKeeps l b p
 
+  -- a link is in order, by what the plan says of it
+  abbrev pub LinkKeeps : ℕ → Type 0
+  LinkKeeps l = LinkOk (facts_of l) (ends l).phase (ends l).slot (ends l).source (ends l).target
+
   -- each part of a network keeps its own laws, and no part knows another but by a link in order
   pub record PartsKeep : Type 0 where
     pub shape : Shape run
     pub nodes : (b : ℕ) → b < length run.layout.blocks → NodeKeeps b
     pub inputs : (l b : ℕ) → l < length run.layout.links → (link_of run l).source ≡ Input b → InputKeeps l b
     pub exits : (l : ℕ) → l < length run.layout.links → (link_of run l).target ≡ Exit → ExitKeeps l
-    pub links : (l : ℕ) → l < length run.layout.links → LinkOk (facts_of l) (ends l).phase (ends l).slot (ends l).source (ends l).target
+    pub links : (l : ℕ) → l < length run.layout.links → LinkKeeps l
     pub refused : (l : ℕ) → run.trace.refused l ≡ is_refused_phase (ends l).phase
     -- a link leads from a block that is there to a block that is there
     pub from_blocks : (l b : ℕ) → l < length run.layout.links → (link_of run l).source ≡ Block b → b < length run.layout.blocks

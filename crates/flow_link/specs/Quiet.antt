@@ -1,4 +1,4 @@
--- When a network is quiet: nothing is under way, and nothing that a block, a link or an input could still do is left to do.
+-- When a network is quiet: nothing is under way, and nothing is left that a block, a link or an input could still do.
 use Rattle.std.specs.Prelude.{◌≡◌, ℕ, ◌==◌, ltb, Bool, true, false, not, ◌&&◌, ◌||◌, List, [], ◌∷◌, length, map, sum, Option, Some, None}
 use Rattle.flow_value.specs.When.{admits}
 use Rattle.flow_value.specs.declared.value.Value.{Value}
@@ -50,8 +50,8 @@ module _ {W : Type 0} (run : Run W) where
   abbrev pub all_completed : ℕ → Bool
   all_completed b = every (λ p. has_complete p (marks_of run b)) (ports_of run b)
 
-  -- there is no group to make: not a whole one, nor the rest when all has come. The rest is made a group before a fault takes
-  -- effect that comes later; a fault that comes first lets it stay
+  -- there is no group to make: not a whole one, nor the rest when all has come. Where a fault comes after that, the rest
+  -- is made a group first; a fault that comes before lets it stay
   abbrev pub has_no_group : ℕ → Bool
   has_no_group b =
       ltb (held_in_all b) (group_size run b)

@@ -1,5 +1,5 @@
--- Networks in which a part does not keep a law of its own, though each link is in order and the run so far is lawful. Such a
--- part would make the run unlawful, or leave work undone, some time later.
+-- Networks in which a part does not keep a law of its own, though each link is in order and the run so far is lawful.
+-- Such a part would make the run unlawful, or leave work undone, some time later.
 use Rattle.std.specs.Prelude.{ℕ, zero, suc, ◌<◌, [], ◌∷◌, length}
 use Rattle.flow_link.specs.declared.draft.BlockKind.TheVariants.{Buffer, Action, Transform}
 use Rattle.flow_link.specs.declared.phase.Phase.TheVariants.{Held, Refused, Ended}
@@ -7,12 +7,11 @@ use Rattle.flow_link.specs.declared.phase.LinkEnd.TheVariants.{Plain}
 use Rattle.flow_link.specs.declared.trace.Mark.TheVariants.{Took, Gave}
 use Rattle.flow_link.specs.Views.{SourceStage, TargetStage, Refusal}
 use Rattle.flow_link.specs.Layout.{input_link}
-use Rattle.flow_link.specs.LinkOk.{LinkOk}
 use Rattle.flow_link.specs.Trace.{Run}
 use Rattle.flow_link.specs.Lawful.{Lawful}
 use Rattle.flow_link.specs.Examples.{Work, block, with_input, reserving_join, link, kept_apart, digit, row, leaves, leaves_nothing, holds, joins, posted_open, same, read_digit, run_of, with_refused}
 use Rattle.flow_link.specs.MidMove.{stands, rests_after}
-use Rattle.flow_link.specs.Composes.{Ends, SourceKeeps, TargetKeeps, SpeaksForOne, PartsKeep, facts_of}
+use Rattle.flow_link.specs.Composes.{Ends, SourceKeeps, TargetKeeps, SpeaksForOne, LinkKeeps, PartsKeep}
 
 -- a buffer that is open ends its link, and has its message left
 abbrev pub left_behind : Run Work
@@ -50,7 +49,9 @@ wrong_reason = with_refused 0 (run_of
     (with_input (block Buffer) ∷ block Transform ∷ [])
     (link 0 1 ∷ input_link 0 ∷ [])
     read_digit
-    (leaves_nothing (Took 0 1 (row []) ∷ Gave 0 (row []) ∷ []) ∷ holds (Took 0 0 (row []) ∷ []) ((row [] ∷ []) ∷ []) ∷ [])
+    (leaves_nothing (Took 0 1 (row []) ∷ Gave 0 (row []) ∷ [])
+    ∷ holds (Took 0 0 (row []) ∷ []) ((row [] ∷ []) ∷ [])
+    ∷ [])
     (posted_open (row [] ∷ []) ∷ []))
 
 abbrev pub ends_wrong_reason : ℕ → Ends
@@ -61,8 +62,7 @@ ends_wrong_reason (suc _) = rests_after (row [] ∷ [])
 pub record OnlyPartsShow (law : Type 0) (run : Run Work) (ends : ℕ → Ends) : Type 0 where
   pub broken : law → ⊥
   pub refused : PartsKeep run ends → ⊥
-  pub in_order : (l : ℕ) → l < length run.layout.links
-      → LinkOk (facts_of run ends l) (ends l).phase (ends l).slot (ends l).source (ends l).target
+  pub in_order : (l : ℕ) → l < length run.layout.links → LinkKeeps run ends l
   pub lawful : Lawful run
 
 pub record WrongPartsAreRefused : Type 0 where
