@@ -22,3 +22,4 @@ pub mod ToldLemmas
 pub mod WellFormedLemmas
 pub mod WholeLemmas
 pub mod WordLemmas
+pub mod WrongPartsLemmas

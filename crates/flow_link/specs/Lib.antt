@@ -29,8 +29,11 @@ pub mod Rebase
 pub mod Refusal
 pub mod RefusedExamples
 pub mod Rounds
+pub mod Shape
 pub mod Tests
 pub mod Told
 pub mod Trace
+pub mod UnfinishedExamples
 pub mod Views
 pub mod WellFormed
+pub mod WrongParts
