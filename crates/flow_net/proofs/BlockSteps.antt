@@ -96,7 +96,7 @@ module _ (result : Value → Result (List Value) ℕ) (kind : BlockKind) (node :
   makes_still Buffer took_same gave_same makes =
       took_same ∙ makes ∙ ap (λ (vs : List Value). (vs ++ node.left) ++ node.held) (sym gave_same)
   makes_still Action took_same gave_same makes =
-      subst (λ (vs : List Value). WorkedInto result vs node.held node.recorded) (sym took_same) makes
+      (subst (λ (vs : List Value). WorkedInto result vs node.held node.recorded) (sym took_same) makes.0, makes.1)
   makes_still Transform took_same gave_same makes =
       subst (λ (vs : List Value). WorkedInto result vs node.held (gave marked.journal ++ node.left)) (sym took_same)
       (subst (λ (vs : List Value). WorkedInto result (took node.journal) node.held (vs ++ node.left)) (sym gave_same) makes)
@@ -305,7 +305,7 @@ module _ (result : Value → Result (List Value) ℕ) (node : NodeState) (incomi
         → KindWell Action (works r node)
     action_by old value rest (Ok made) holds is =
         made_well result Action node incoming outgoing old going well (rest_of node.held) node.left (node.recorded ++ made)
-        (worked_on result (took node.journal) node.held value rest node.recorded made holds is old.makes)
+        (worked_on result (took node.journal) node.held value rest node.recorded made holds is old.makes.0, old.makes.1)
     action_by old value rest (Err n) holds is =
         made_fault result Action node incoming outgoing old going well value rest n holds refl is old.makes
 

@@ -230,7 +230,7 @@ module _ {W : Type 0} (meaning : W → Value → Result (List Value) WorkFault) 
     makes_so : (kind : BlockKind) → is_built_kind kind ≡ true → MakesAs (block_makes layout (works_of meaning layout) b) node kind → NodeMakes run ends b kind
     makes_so Buffer is makes =
         subst (λ (t : BlockTrace). took t.journal ≡ (gave t.journal ++ t.left) ++ get_or t.held 0 []) (sym trace_is) makes
-    makes_so Action is makes = works_so node.recorded (trace_of run b).recorded (sym (ap (λ (t : BlockTrace). t.recorded) trace_is)) makes
+    makes_so Action is makes = works_so node.recorded (trace_of run b).recorded (sym (ap (λ (t : BlockTrace). t.recorded) trace_is)) makes.0
     makes_so Transform is makes = works_so (gave node.journal ++ node.left) (outputs run b) outputs_are makes
     makes_so _ is makes = absurd (cc)
 

@@ -48,7 +48,7 @@ pub record WorkedInto (result : Value → Result (List Value) ℕ) (taken held m
 
 abbrev pub MakesAs : (Value → Result (List Value) ℕ) → NodeState → BlockKind → Type 0
 MakesAs result node Buffer = took node.journal ≡ (gave node.journal ++ node.left) ++ node.held
-MakesAs result node Action = WorkedInto result (took node.journal) node.held node.recorded
+MakesAs result node Action = WorkedInto result (took node.journal) node.held node.recorded × (node.left ≡ [])
 MakesAs result node Transform = WorkedInto result (took node.journal) node.held (gave node.journal ++ node.left)
 MakesAs result node kind = Unit {0}
 
