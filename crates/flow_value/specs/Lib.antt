@@ -3,6 +3,7 @@ pub mod Function
 pub mod Grammar
 pub mod Items
 pub mod Meaning
+pub mod NeverMemory
 pub mod Number
 pub mod Parts
 pub mod ReadsAs

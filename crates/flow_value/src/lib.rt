@@ -7,13 +7,12 @@ mod number;
 mod parcel;
 mod step;
 mod steps;
-#[cfg(test)]
-mod tests;
 mod value;
 mod when;
 mod work;
 
 pub use message::{MAX_ID, MessageHeader, MessageStatus};
+pub use number::is_digits;
 pub use parcel::Parcel;
 pub use step::Step;
 pub use steps::{Steps, StepsError};

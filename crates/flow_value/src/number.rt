@@ -28,7 +28,8 @@ fn without_minus(text: &str) -> &str
     }
 }
 
-fn is_digits(text: &str) -> bool
+/// Whether the text is decimal digits, one or more, and nothing else: no sign and no space.
+pub fn is_digits(text: &str) -> bool
     ensures { result ≡ is_digits text.now }
 {
     !text.is_empty() && text.bytes().all(|byte| byte.is_ascii_digit())

@@ -110,10 +110,13 @@ impl Work for Steps {
     ghost use Rattle.std.proofs.Common.{ap, rules};
     ghost use Rattle.std.proofs.lemmas.Slice.Eq.{slice_eq-Decides};
     ghost use Rattle.flow_value.specs.Function.{meaning_of};
+    ghost use Rattle.flow_value.specs.NeverMemory.{meaning_of-never};
 
     ghost meaning = { meaning_of };
 
     ghost same_meaning = { λ a b same v. ap (λ steps. meaning_of steps v) ((slice_eq-Decides (λ x y. Prim.search rules) a b _ refl).0 same) };
+
+    ghost never_memory = { meaning_of-never };
 
     fn run(&self, alloc: Global, value: &Value) -> Result<Vec<Value>, WorkFault> {
         let mut results = Vec::new(alloc);

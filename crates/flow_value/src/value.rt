@@ -24,7 +24,8 @@ pub enum Value {
 
 /// A text. Contracts see its UTF-8 bytes.
 ///
-/// A text never changes, so a copy shares the content with it, on any thread, and takes no memory.
+/// A text never changes, so its copies share the content with it, on any thread: a copy takes no memory but where their
+/// number can be counted no further.
 #[derive(Debug, Drop)]
 pub struct Text {
     content: Arc<String, Global>,
@@ -123,14 +124,15 @@ impl Text {
         }
     }
 
-    /// A second text that shares the content. It takes no memory: it is refused only where as many texts share the
-    /// content as can be counted.
-    pub fn copy(&self) -> Result<Text, AllocError>
+    /// A second text with the same content, which it shares. It takes memory only where as many texts share the content
+    /// as can be counted: then it has a content of its own.
+    pub fn copy(&self, alloc: Global) -> Result<Text, AllocError>
         ensures { IfOk result (λ text. text ≡ self.now) }
     {
-        Ok(Text {
-            content: Arc::try_clone(&self.content)?,
-        })
+        match Arc::try_clone(&self.content) {
+            Ok(content) => Ok(Text { content }),
+            Err(_) => Text::from_str(alloc, self.as_str()),
+        }
     }
 }
 
@@ -244,7 +246,7 @@ impl Value {
     {
         match self {
             Value::Int(number) => Ok(Value::Int(*number)),
-            Value::Text(text) => Ok(Value::Text(text.copy()?)),
+            Value::Text(text) => Ok(Value::Text(text.copy(alloc)?)),
             Value::Row(row) => Ok(Value::Row(row.copy(alloc)?)),
         }
     }

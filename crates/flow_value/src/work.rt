@@ -72,12 +72,14 @@ impl<T: Drop> From<AllocFailed<T>> for WorkFault {
 /// Microsoft: the delegate that an execution block is made with; here it is a value, so that it can be copied to other
 /// threads and compared.
 pub trait Work: Eq + Send + Sync + Drop {
-    ghost use Rattle.std.specs.Prelude.{◌≡◌, true, List, Result};
+    ghost use Rattle.std.specs.Prelude.{◌≡◌, ◌≢◌, true, List, Result, Err};
     ghost use Rattle.flow_value.specs.declared.value.Value.{Value};
     ghost use Rattle.flow_value.specs.declared.work.WorkFault.{WorkFault};
+    ghost use Rattle.flow_value.specs.declared.work.WorkFault.TheVariants.{Memory};
     ghost use Rattle.flow_value.specs.Meaning.{RunsAs};
 
-    /// The values that it gives for a value, or its fault.
+    /// The values that it gives for a value, or its fault. It holds whatever memory there is, so its fault is never
+    /// want of memory.
     ghost meaning: { Self → Value → Result (List Value) WorkFault };
 
     /// Applies it to a value; want of memory aside, the answer is its meaning.
@@ -89,4 +91,6 @@ pub trait Work: Eq + Send + Sync + Drop {
         ensures { IfOk result (λ work. IsTrue (Self.eq self.now work)) };
 
     ghost same_meaning: { (first second : Self) → Self.eq first second ≡ true → (value : Value) → meaning first value ≡ meaning second value };
+
+    ghost never_memory: { (work : Self) (value : Value) → meaning work value ≢ Err Memory };
 }
