@@ -131,12 +131,12 @@ module _ (result : Value → Result (List Value) ℕ) (kind : BlockKind) (node :
       }
 
 -- the fault is its own, or the link brought it when all was worked on
-record IsBrought (own : Option ℕ) (held : List Value) (brought : Option ℕ) (n : ℕ) : Type 0 where
-  no_own : own ≡ None
-  no_held : held ≡ []
-  comes : brought ≡ Some n
+pub record IsBrought (own : Option ℕ) (held : List Value) (brought : Option ℕ) (n : ℕ) : Type 0 where
+  pub no_own : own ≡ None
+  pub no_held : held ≡ []
+  pub comes : brought ≡ Some n
 
-caused : (own : Option ℕ) (held : List Value) (brought : Option ℕ) (n : ℕ)
+pub caused : (own : Option ℕ) (held : List Value) (brought : Option ℕ) (n : ℕ)
     → elim own [ Some m ↦ Some m | None ↦ cond (is_empty held) brought None ] ≡ Some n → (own ≡ Some n) ⊎ IsBrought own held brought n
 caused (Some m) held brought n e = inl e
 caused None [] brought n e = inr (record { no_own = refl; no_held = refl; comes = e })
@@ -146,7 +146,7 @@ not_true : (b : Bool) → not b ≡ true → b ≡ false
 not_true true e = absurd (cc)
 not_true false e = refl
 
-cond_some : (b : Bool) (fault : Option ℕ) (n : ℕ) → cond b fault None ≡ Some n → (b ≡ true) × (fault ≡ Some n)
+pub cond_some : (b : Bool) (fault : Option ℕ) (n : ℕ) → cond b fault None ≡ Some n → (b ≡ true) × (fault ≡ Some n)
 cond_some true fault n e = (refl, e)
 cond_some false fault n e = absurd (cc)
 

@@ -114,7 +114,7 @@ completion_over : (parts : PartsState) (into : Option ℕ)
 completion_over parts None e = absurd (cc)
 completion_over parts (Some l) e = (l, (refl, e))
 
-fault_over : (parts : PartsState) (into : Option ℕ) (n : ℕ)
+pub fault_over : (parts : PartsState) (into : Option ℕ) (n : ℕ)
     → fault_brought (elim into [ None ↦ TargetStage.free | Some l ↦ (line_at parts l).target ]) ≡ Some n
     → (l : ℕ) × ((into ≡ Some l) × (fault_brought (line_at parts l).target ≡ Some n))
 fault_over parts None n e = absurd (cc)
