@@ -11,8 +11,8 @@ use Rattle.flow_link.specs.declared.plan.LinkTarget.{LinkTarget}
 use Rattle.flow_link.specs.declared.plan.LinkTarget.TheVariants.{Port, Exit}
 use Rattle.flow_link.specs.LinkOk.{IsWithin}
 use Rattle.flow_link.specs.Told.{IsTakenOrUnderWay}
-use Rattle.flow_link.specs.Lists.{every, concat, same_values, is_front}
-use Rattle.flow_link.specs.Trace.{Run, took, gave_over, block_of, link_of, trace_of, marks_of, held_at, given_by, given_over, taken_by, taken_over, input_of}
+use Rattle.flow_link.specs.Lists.{every, is_empty, concat, same_values, is_front}
+use Rattle.flow_link.specs.Trace.{Run, took, gave_over, block_of, link_of, trace_of, marks_of, held_at, left_at, given_by, given_over, taken_by, taken_over, input_of}
 use Rattle.flow_link.specs.Making.{Making, makes, makes_as, results_of, block_result, is_made, outputs, worked, work_makes}
 use Rattle.flow_link.specs.Law.{LinkLaw, OneTaker, is_all_or_all_but_one, is_within, crosses, crosses_between, gives_admitted, gives_within, posted_before, takes_posted, has_own_marks}
 use Rattle.flow_link.specs.Composes.{Ends, SourceKeeps, TargetKeeps, WorksInto, NodeMakes, PartsKeep, facts_of}
@@ -144,7 +144,10 @@ module _ {W : Type 0} (run : Run W) (ends : ℕ → Ends) (keep : PartsKeep run 
   makes_so b Buffer e = same_values_where (took (marks_of run b)) (outputs run b ++ held_at run b 0) e
   makes_so b Broadcast e = e
   makes_so b WriteOnce e = e
-  makes_so b Action into = work_makes_so b (trace_of run b).recorded into
+  makes_so b Action records =
+      and_true (work_makes run b (trace_of run b).recorded) (is_empty (left_at run b))
+      (work_makes_so b (trace_of run b).recorded records.works)
+      (ap is_empty records.none_left)
   makes_so b Transform into = work_makes_so b (outputs run b) into
   makes_so b TransformMany into = work_makes_so b (outputs run b) into
   makes_so b Batch e = e

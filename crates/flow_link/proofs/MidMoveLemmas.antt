@@ -31,7 +31,7 @@ links_in_order (suc zero) small = home_in_order
 links_in_order (suc (suc l)) small = absurd (omega arith)
 
 buffer_gives : (l : ℕ) → l < 2 → (link_of message_under_way l).source ≡ Block 0 → SourceKeeps message_under_way ends_under_way l 0
-buffer_gives zero small e = record { from_start = refl; given = refl; admitted = refl; after_done = λ e. cc; after_fault = λ fault e. cc }
+buffer_gives zero small e = record { from_start = refl; given = refl; admitted = refl; after_done = λ e. cc; after_fault = λ fault e. cc; after_plain = λ e. cc }
 buffer_gives (suc zero) small e = cc
 buffer_gives (suc (suc l)) small e = absurd (omega arith)
 
@@ -50,6 +50,14 @@ action_takes zero p small e = record { from_start = refl; taken = refl; refuses 
 action_takes (suc zero) p small e = cc
 action_takes (suc (suc l)) p small e = absurd (omega arith)
 
+-- only the first link leads out of a block
+one_link : (b k l : ℕ) → k < 2 → l < 2 → (link_of message_under_way k).source ≡ Block b → (link_of message_under_way l).source ≡ Block b → k ≡ l
+one_link b zero zero ks ls ek el = refl
+one_link b zero (suc zero) ks ls ek el = cc
+one_link b (suc zero) l ks ls ek el = cc
+one_link b zero (suc (suc l)) ks ls ek el = absurd (omega arith)
+one_link b (suc (suc k)) l ks ls ek el = absurd (omega arith)
+
 nodes_keep : (b : ℕ) → b < 2 → NodeKeeps message_under_way ends_under_way b
 nodes_keep zero small = record {
   own_marks = refl;
@@ -62,12 +70,13 @@ nodes_keep zero small = record {
   done = refl;
   causes = refl;
   order_seen = refl;
+  one_at_a_time = λ taker k l ks ls ek el sk sl. one_link 0 k l ks ls ek el;
   sources = buffer_gives;
   targets = buffer_takes;
 }
 nodes_keep (suc zero) small = record {
   own_marks = refl;
-  makes = record { done = []; results = []; taken = refl; worked = refl; all = refl };
+  makes = record { works = record { done = []; results = []; taken = refl; worked = refl; all = refl }; none_left = refl };
   room = refl;
   level = refl;
   copies_seen = refl;
@@ -76,6 +85,7 @@ nodes_keep (suc zero) small = record {
   done = refl;
   causes = refl;
   order_seen = refl;
+  one_at_a_time = λ taker k l ks ls ek el sk sl. one_link 1 k l ks ls ek el;
   sources = action_gives;
   targets = action_takes;
 }
@@ -83,7 +93,7 @@ nodes_keep (suc (suc b)) small = absurd (omega arith)
 
 inputs_keep : (l b : ℕ) → l < 2 → (link_of message_under_way l).source ≡ Input b → InputKeeps message_under_way ends_under_way l b
 inputs_keep zero b small e = cc
-inputs_keep (suc zero) zero small e = record { from_start = refl; given = refl; after_complete = λ e. cc; after_fault = λ fault e. cc }
+inputs_keep (suc zero) zero small e = record { from_start = refl; given = refl; after_complete = λ e. cc; after_fault = λ fault e. cc; never_plain = λ e. cc }
 inputs_keep (suc zero) (suc b) small e = absurd (let no : 0 ≡ suc b = cc in omega arith)
 inputs_keep (suc (suc l)) b small e = absurd (omega arith)
 
@@ -108,6 +118,7 @@ to_blocks (suc (suc l)) b p small e = absurd (omega arith)
 
 pub kept_in_mid_move : KeptInMidMove
 kept_in_mid_move = record {
+  shape = record { blocks = refl; inputs = refl; ports = refl };
   nodes = nodes_keep;
   inputs = inputs_keep;
   exits = exits_keep;

@@ -1,7 +1,9 @@
 -- A run whose tests all pass is lawful, or quiet.
-use Rattle.std.proofs.Common.{◌≡◌, ℕ, zero, suc, Bool, true, false, ◌&&◌, List, [], ◌∷◌, get_or, refl}
-use Rattle.flow_link.specs.Trace.{Run}
-use Rattle.flow_link.specs.Tests.{all_pass, law_tests, quiet_tests}
+use Rattle.std.proofs.Common.{◌≡◌, ℕ, zero, suc, ◌==◌, Bool, true, false, ◌&&◌, List, [], ◌∷◌, length, get_or, refl, eqb-true}
+use Rattle.flow_link.specs.Trace.{Run, block_numbers}
+use Rattle.flow_link.specs.Lists.{every}
+use Rattle.flow_link.specs.Shape.{Shape, input_count, tells_each_port}
+use Rattle.flow_link.specs.Tests.{all_pass, is_in_shape, law_tests, quiet_tests}
 use Rattle.flow_link.specs.Lawful.{Lawful}
 use Rattle.flow_link.specs.Quiet.{Quiet}
 
@@ -20,10 +22,22 @@ test_passes (test ∷ tests) zero e = front_true test (all_pass tests) e
 test_passes (test ∷ tests) (suc k) e = test_passes tests k (back_true test (all_pass tests) e)
 
 module _ {W : Type 0} (run : Run W) where
+  in_shape : is_in_shape run ≡ true → Shape run
+  in_shape e =
+      let blocks = length run.trace.blocks == length run.layout.blocks in
+      let inputs = length run.trace.inputs == input_count run in
+      let ports = every (tells_each_port run) (block_numbers run) in
+      record {
+        blocks = eqb-true (length run.trace.blocks) (length run.layout.blocks) (front_true blocks inputs (front_true (blocks && inputs) ports e));
+        inputs = eqb-true (length run.trace.inputs) (input_count run) (back_true blocks inputs (front_true (blocks && inputs) ports e));
+        ports = back_true (blocks && inputs) ports e;
+      }
+
   pub lawful_by_tests : all_pass (law_tests run) ≡ true → Lawful run
   lawful_by_tests e =
       let passes : (k : ℕ) → get_or (law_tests run) k true ≡ true = λ k. test_passes (law_tests run) k e in
       record {
+        shape = in_shape (passes 15);
         link_law = record { between_blocks = passes 0; admitted = passes 1; within_max = passes 2; from_inputs = passes 3 };
         one_taker = record { own_marks = passes 4 };
         making = record { each_block = passes 5 };

@@ -6,6 +6,7 @@ use Rattle.flow_link.proofs.EndingLemmas.{counts_keep, ends_keep}
 
 pub composes : (W : Type 0) → Composes W
 composes W run ends keep = record {
+  shape = keep.shape;
   link_law = links_keep run ends keep;
   one_taker = marks_keep run ends keep;
   making = blocks_make run ends keep;

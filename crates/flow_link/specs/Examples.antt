@@ -1,5 +1,5 @@
 -- Words to write small networks and their traces with, for the examples of lawful and of refused runs.
-use Rattle.std.specs.Prelude.{ℕ, zero, suc, ◌+◌, ◌-◌, true, false, List, [], ◌∷◌, map, Some, None, Result, Ok, Err, pos}
+use Rattle.std.specs.Prelude.{ℕ, zero, suc, ◌+◌, ◌-◌, ◌==◌, true, false, List, [], ◌∷◌, map, Some, None, Result, Ok, Err, pos}
 use Rattle.flow_value.specs.View.{items_from}
 use Rattle.flow_value.specs.declared.value.Value.{Value}
 use Rattle.flow_value.specs.declared.value.Value.TheVariants.{Int, Text, Row}
@@ -86,9 +86,9 @@ gave_all l values = map (Gave l) values
 abbrev pub ended_well : List Mark
 ended_well = Complete 0 ∷ Done ∷ []
 
--- a block that holds nothing, and one that has nothing left either
+-- a block with one port that holds nothing, and one that has nothing left either
 abbrev pub leaves : List Mark → List Value → BlockTrace
-leaves marks values = record { journal = marks; held = []; left = values; recorded = [] }
+leaves marks values = record { journal = marks; held = [] ∷ []; left = values; recorded = [] }
 
 abbrev pub leaves_nothing : List Mark → BlockTrace
 leaves_nothing marks = leaves marks []
@@ -96,8 +96,13 @@ leaves_nothing marks = leaves marks []
 abbrev pub holds : List Mark → List (List Value) → BlockTrace
 holds marks held = record { journal = marks; held = held; left = []; recorded = [] }
 
+-- a join with two ports that holds nothing and has nothing left
+abbrev pub joins : List Mark → BlockTrace
+joins marks = holds marks ([] ∷ [] ∷ [])
+
+-- an action that holds nothing
 abbrev pub records : List Mark → List Value → BlockTrace
-records marks results = record { journal = marks; held = []; left = []; recorded = results }
+records marks results = record { journal = marks; held = [] ∷ []; left = []; recorded = results }
 
 abbrev pub posted : List Value → InputTrace
 posted values = record { posted = values; ending = ending_complete }
@@ -122,10 +127,13 @@ abbrev pub second_does : (Value → Result (List Value) ℕ) → ℕ → Value �
 second_does work (suc zero) value = work value
 second_does work _ value = same value
 
--- a run of a network in which no target refuses for good
+-- a run of a network in which no target refuses for good, and in which one does
 abbrev pub run_of : List (BlockDef Work) → List Link → (Value → Result (List Value) ℕ) → List BlockTrace → List InputTrace → Run Work
 run_of blocks links work traces inputs = record {
   layout = record { blocks = blocks; links = links };
   meaning = second_does work;
   trace = record { blocks = traces; inputs = inputs; refused = λ l. false };
 }
+
+abbrev pub with_refused : ℕ → Run Work → Run Work
+with_refused l run = record run { trace = record run.trace { refused = λ k. k == l } }

@@ -10,7 +10,7 @@ use Rattle.flow_link.specs.Layout.{input_link, exit_link}
 use Rattle.flow_link.specs.Trace.{BlockTrace, Run}
 use Rattle.flow_link.specs.Lawful.{Lawful}
 use Rattle.flow_link.specs.Quiet.{Quiet}
-use Rattle.flow_link.specs.Examples.{Work, block, with_input, with_size, with_capacity, reserving_join, link, to_port, when_even, at_most, kept_apart, int, digit, row, took_all, gave_all, ended_well, leaves, leaves_nothing, holds, records, posted, posted_with_fault, same, read_digit, read_up_to, run_of, word_a, word_b, digits_to, ints_to}
+use Rattle.flow_link.specs.Examples.{Work, block, with_input, with_size, with_capacity, reserving_join, link, to_port, when_even, at_most, kept_apart, int, digit, row, took_all, gave_all, ended_well, leaves, leaves_nothing, holds, joins, records, posted, posted_with_fault, same, read_digit, read_up_to, run_of, word_a, word_b, digits_to, ints_to}
 
 pub record IsLawfulAndQuiet (run : Run Work) : Type 0 where
   pub lawful : Lawful run
@@ -127,7 +127,7 @@ abbrev pub reserving_join_leaves : Run Work
 reserving_join_leaves = joined reserving_join
     (leaves (took_all 0 3 (digit 1 ∷ digit 2 ∷ digit 3 ∷ []) ++ Gave 0 (digit 1) ∷ Complete 0 ∷ []) (digit 2 ∷ digit 3 ∷ [])
     ∷ nine_joined
-    ∷ leaves_nothing (Took 0 0 (digit 1) ∷ Took 1 1 (digit 9) ∷ Gave 2 (row (digit 1 ∷ digit 9 ∷ [])) ∷ [])
+    ∷ joins (Took 0 0 (digit 1) ∷ Took 1 1 (digit 9) ∷ Gave 2 (row (digit 1 ∷ digit 9 ∷ [])) ∷ [])
     ∷ one_row ∷ [])
 
 -- a write-once block takes the first message, and the others wait at its input
@@ -152,7 +152,7 @@ broadcast_beside_a_join = run_of
     ∷ Took 0 0 (digit 3) ∷ Gave 1 (digit 3) ∷ Gave 2 (digit 3) ∷ ended_well)
     ∷ records (took_all 0 1 (digits_to 3) ++ ended_well) (digits_to 3)
     ∷ records (took_all 0 2 (digits_to 3) ++ ended_well) (digits_to 3)
-    ∷ leaves_nothing []
+    ∷ joins []
     ∷ [])
     (posted (digits_to 3) ∷ [])
 
@@ -164,7 +164,7 @@ batched_join_groups = run_of
     same
     (leaves_nothing (took_all 0 3 (digit 1 ∷ digit 2 ∷ []) ++ gave_all 0 (digit 1 ∷ digit 2 ∷ []) ++ ended_well)
     ∷ leaves_nothing (Took 0 4 (digit 9) ∷ Gave 1 (digit 9) ∷ ended_well)
-    ∷ leaves_nothing (Took 0 0 (digit 1) ∷ Took 1 1 (digit 9) ∷ Took 0 0 (digit 2)
+    ∷ joins (Took 0 0 (digit 1) ∷ Took 1 1 (digit 9) ∷ Took 0 0 (digit 2)
     ∷ Gave 2 (row (row (digit 1 ∷ digit 2 ∷ []) ∷ row (digit 9 ∷ []) ∷ [])) ∷ Complete 1 ∷ Complete 0 ∷ Done ∷ [])
     ∷ records (Took 0 2 (row (row (digit 1 ∷ digit 2 ∷ []) ∷ row (digit 9 ∷ []) ∷ [])) ∷ ended_well) (row (row (digit 1 ∷ digit 2 ∷ []) ∷ row (digit 9 ∷ []) ∷ []) ∷ [])
     ∷ [])

@@ -29,6 +29,7 @@ pub mod Rebase
 pub mod Refusal
 pub mod RefusedExamples
 pub mod Rounds
+pub mod Shape
 pub mod Tests
 pub mod Told
 pub mod Trace

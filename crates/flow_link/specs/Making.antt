@@ -7,7 +7,7 @@ use Rattle.flow_link.specs.declared.draft.BlockKind.{BlockKind}
 use Rattle.flow_link.specs.declared.draft.BlockKind.TheVariants.{Buffer, Broadcast, WriteOnce, Action, Transform, TransformMany, Batch, Join, BatchedJoin}
 use Rattle.flow_link.specs.declared.trace.Mark.{Mark}
 use Rattle.flow_link.specs.declared.trace.Mark.TheVariants.{Took, Gave, Complete, Fault, Done}
-use Rattle.flow_link.specs.Lists.{every, concat, same_values}
+use Rattle.flow_link.specs.Lists.{every, is_empty, concat, same_values}
 use Rattle.flow_link.specs.Trace.{Run, took, took_at, gave, has_complete, block_of, trace_of, marks_of, held_at, left_at, ports_of, block_numbers, partly_left}
 
 -- the fault of a transform whose work gives another number of values than one
@@ -136,6 +136,10 @@ module _ {W : Type 0} (run : Run W) (b : ℕ) where
       same_values (took (marks_of run b)) (worked ++ held_at run b 0)
       && is_made (results_of block_result worked) made
 
+  -- an action records its results, and has none to give
+  abbrev pub action_makes : Bool
+  action_makes = work_makes (trace_of run b).recorded && is_empty (left_at run b)
+
   -- the messages taken, in rows
   abbrev pub batch_makes : Bool
   batch_makes =
@@ -161,7 +165,7 @@ module _ {W : Type 0} (run : Run W) (b : ℕ) where
   makes_as Buffer = buffer_makes
   makes_as Broadcast = true
   makes_as WriteOnce = true
-  makes_as Action = work_makes (trace_of run b).recorded
+  makes_as Action = action_makes
   makes_as Transform = work_makes outputs
   makes_as TransformMany = work_makes outputs
   makes_as Batch = batch_makes

@@ -50,20 +50,21 @@ module _ {W : Type 0} (run : Run W) where
   abbrev pub all_completed : ℕ → Bool
   all_completed b = every (λ p. has_complete p (marks_of run b)) (ports_of run b)
 
-  -- there is no group to make: not a whole one, nor the rest when all has come, unless the rest may stay
-  abbrev pub has_no_group : ℕ → Bool → Bool
-  has_no_group b may_rest_stay =
+  -- there is no group to make: not a whole one, nor the rest when all has come. The rest is made a group before a fault takes
+  -- effect that comes later; a fault that comes first lets it stay
+  abbrev pub has_no_group : ℕ → Bool
+  has_no_group b =
       ltb (held_in_all b) (group_size run b)
-      && (may_rest_stay || not (all_completed b) || holds_nothing b)
+      && (not (all_completed b) || holds_nothing b)
 
   abbrev pub has_no_row : ℕ → Bool → Bool
   has_no_row b true = holds_nothing b
   has_no_row b false = some (λ p. is_empty (held_at run b p)) (ports_of run b)
 
-  -- nothing that is held could be worked on; a fault lets a batch keep its rest, but not a batched join
+  -- nothing that is held could be worked on
   abbrev pub rests_as : BlockKind → ℕ → Bool
-  rests_as Batch b = has_no_group b (is_faulted (marks_of run b))
-  rests_as BatchedJoin b = has_no_group b false
+  rests_as Batch b = has_no_group b
+  rests_as BatchedJoin b = has_no_group b
   rests_as Join b = has_no_row b (is_reserving (block_of run b))
   rests_as _ b = holds_nothing b
 

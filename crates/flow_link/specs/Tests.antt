@@ -1,7 +1,8 @@
 -- The laws of a run, one test after another: a run whose tests all pass is lawful, or quiet.
-use Rattle.std.specs.Prelude.{Bool, List, [], ◌∷◌}
+use Rattle.std.specs.Prelude.{◌==◌, Bool, ◌&&◌, List, [], ◌∷◌, length}
 use Rattle.flow_link.specs.Lists.{every}
 use Rattle.flow_link.specs.Trace.{Run, block_numbers, link_numbers}
+use Rattle.flow_link.specs.Shape.{input_count, tells_each_port}
 use Rattle.flow_link.specs.Making.{makes}
 use Rattle.flow_link.specs.Law.{crosses, gives_admitted, gives_within, takes_posted, has_own_marks, is_within_capacity, takes_level, keeps_link_order}
 use Rattle.flow_link.specs.Copies.{copies}
@@ -12,6 +13,12 @@ abbrev pub all_pass : List Bool → Bool
 all_pass tests = every (λ test. test) tests
 
 module _ {W : Type 0} (run : Run W) where
+  abbrev pub is_in_shape : Bool
+  is_in_shape =
+      length run.trace.blocks == length run.layout.blocks
+      && length run.trace.inputs == input_count run
+      && every (tells_each_port run) (block_numbers run)
+
   abbrev pub law_tests : List Bool
   law_tests =
       every (crosses run) (link_numbers run)
@@ -29,6 +36,7 @@ module _ {W : Type 0} (run : Run W) where
       ∷ every (has_causes run) (block_numbers run)
       ∷ every (is_rightly_refused run) (link_numbers run)
       ∷ every (keeps_link_order run) (block_numbers run)
+      ∷ is_in_shape
       ∷ []
 
   abbrev pub quiet_tests : List Bool
