@@ -1,5 +1,5 @@
 -- Where each part of a network keeps its own laws, what ends has a cause in the trace, and what is copied or passed over is so.
-use Rattle.std.proofs.Common.{◌≡◌, ℕ, ◌+◌, ◌<◌, ◌≤◌, inr, Bool, true, false, ◌&&◌, ◌||◌, not, is_some, List, length, drop, Option, Some, None, refl, ap, sym, subst, ◌∙◌, arith, le-leb, leb-true, ne_eqb, eqb-true, eq-eqb}
+use Rattle.std.proofs.Common.{◌≡◌, ℕ, ◌+◌, ◌<◌, ◌≤◌, inr, Bool, true, false, ◌&&◌, not, is_some, List, length, drop, Option, Some, None, refl, ap, sym, subst, ◌∙◌, arith, le-leb, leb-true, ne_eqb, eqb-true, eq-eqb}
 use Rattle.flow_value.specs.declared.value.Value.{Value}
 use Rattle.flow_link.specs.declared.phase.Phase.{Phase}
 use Rattle.flow_link.specs.declared.phase.Phase.TheVariants.{Refused}
@@ -22,7 +22,7 @@ use Rattle.flow_link.specs.Law.{Counts, has_room_for, is_within_capacity, takes_
 use Rattle.flow_link.specs.Endings.{Endings, own_fault, is_number, is_complete_ending, is_fault_ending, passes_on, brings_from, brings_completion, faults_from, brings_fault, has_cause, has_causes, refuses_rightly, is_rightly_refused, stops_at, completes_once_at, ends_rightly}
 use Rattle.flow_link.specs.Composes.{Ends, PartsKeep, facts_of, is_refused_phase, is_refused_stage, has_seen_completion, has_seen_fault, coming, has_room_at, has_seen_cause}
 use Rattle.flow_link.proofs.ToldLemmas.{links_tell}
-use Rattle.flow_link.proofs.ListLemmas.{and_true, both_of, every_below, every_weaker, or_weaker, some_weaker_below, drop_all}
+use Rattle.flow_link.proofs.ListLemmas.{and_true, both_of, or_first, or_second, or_not, every_below, every_weaker, or_weaker, some_weaker_below, drop_all}
 use Rattle.flow_link.proofs.ComposeLemmas.{source_keeps, target_keeps, given_is, taken_is}
 
 completion_stage : (stage : TargetStage Value) → has_seen_completion stage ≡ true → stage ≡ TargetStage.ended end_complete
@@ -42,14 +42,6 @@ refused_stage _ e = cc
 not_of_false : (b : Bool) → b ≡ false → not b ≡ true
 not_of_false true e = cc
 not_of_false false e = refl
-
-or_front : (a b : Bool) → a ≡ true → (a || b) ≡ true
-or_front true b e = refl
-or_front false b e = cc
-
-or_back : (a b : Bool) → b ≡ true → (a || b) ≡ true
-or_back true b e = refl
-or_back false b e = e
 
 -- where there is room for one more, not all have crossed
 not_used_up : (max : Option ℕ) (before : ℕ) (given values : List Value) → before ≡ 0 → given ≡ values → HasRoom max (before + length given) → is_used_up max values ≡ false
@@ -180,14 +172,10 @@ module _ {W : Type 0} (run : Run W) (ends : ℕ → Ends) (keep : PartsKeep run 
   refuses_so : (l : ℕ) (t : LinkTarget) → l < length run.layout.links → (link_of run l).target ≡ t
       → (why : Refusal) → (ends l).target.stage ≡ TargetStage.refused why → refuses_rightly run t ≡ true
   refuses_so l (Port b p) small et Refusal.port_ended e =
-      or_front (has_ended p (marks_of run b)) (is_some (own_fault run b)) ((target_keeps run ends keep l b p small et).refuses Refusal.port_ended e)
+      or_first (has_ended p (marks_of run b)) (is_some (own_fault run b)) ((target_keeps run ends keep l b p small et).refuses Refusal.port_ended e)
   refuses_so l (Port b p) small et Refusal.own_fault e =
-      or_back (has_ended p (marks_of run b)) (is_some (own_fault run b)) ((target_keeps run ends keep l b p small et).refuses Refusal.own_fault e)
+      or_second (has_ended p (marks_of run b)) (is_some (own_fault run b)) ((target_keeps run ends keep l b p small et).refuses Refusal.own_fault e)
   refuses_so l Exit small et why e = absurd ((keep.exits l small et).takes why e)
-
-  or_not : (a b : Bool) → (a ≡ true → b ≡ true) → (not a || b) ≡ true
-  or_not true b h = h refl
-  or_not false b h = refl
 
   refused_phase : (phase : Phase) → is_refused_phase phase ≡ true → phase ≡ Refused
   refused_phase Refused e = refl

@@ -1,10 +1,11 @@
 -- The examples pass the tests that they are to pass, and no others.
-use Rattle.std.proofs.Common.{◌≡◌, true, false, refl}
+use Rattle.std.proofs.Common.{◌≡◌, ℕ, zero, suc, true, false, refl, arith}
 use Rattle.flow_link.specs.Trace.{Run}
 use Rattle.flow_link.specs.Examples.{Work}
 use Rattle.flow_link.specs.Tests.{all_pass, law_tests, quiet_tests}
-use Rattle.flow_link.specs.LawfulExamples.{IsLawfulAndQuiet, GoodRunsAreLawful, two_records, parse_three, upto_flattens, unrouted_head, link_limit, batch_remainder, greedy_join_leaves, reserving_join_leaves, write_once_takes_one, broadcast_beside_a_join, batched_join_groups, fault_in_the_middle, bounded_buffer_misses, fault_after_work, fault_before_work, more_than_one_result, kept_for_the_caller}
-use Rattle.flow_link.specs.RefusedExamples.{message_on_the_way, work_not_done, done_not_marked, end_not_handed_on, nothing_moved, WrongRunsAreRefused}
+use Rattle.flow_link.specs.LawfulExamples.{IsLawfulAndQuiet, GoodRunsAreLawful, two_records, parse_three, upto_flattens, unrouted_head, link_limit, batch_remainder, greedy_join_leaves, reserving_join_leaves, write_once_takes_one, broadcast_beside_a_join, batched_join_groups, fault_in_the_middle, bounded_buffer_misses, fault_after_work, fault_before_work, more_than_one_result, kept_for_the_caller, room_for_two, refused_and_passed_on, rest_made_before_fault, rest_kept_at_fault}
+use Rattle.flow_link.specs.RefusedExamples.{WrongRunsAreRefused}
+use Rattle.flow_link.specs.UnfinishedExamples.{nothing_moved, message_on_the_way, work_not_done, done_not_marked, end_not_handed_on, value_not_given, copy_not_given, rest_not_made, UnfinishedRunsAreNotQuiet}
 use Rattle.flow_link.proofs.TestLemmas.{lawful_by_tests, quiet_by_tests}
 
 good : (run : Run Work) → all_pass (law_tests run) ≡ true → all_pass (quiet_tests run) ≡ true → IsLawfulAndQuiet run
@@ -29,10 +30,17 @@ good_runs = record {
   fault_before_work_is = good fault_before_work refl refl;
   more_than_one_result_is = good more_than_one_result refl refl;
   kept_for_the_caller_is = good kept_for_the_caller refl refl;
+  room_for_two_is = good room_for_two refl refl;
+  refused_and_passed_on_is = good refused_and_passed_on refl refl;
+  rest_made_before_fault_is = good rest_made_before_fault refl refl;
+  rest_kept_at_fault_is = good rest_kept_at_fault refl refl;
 }
 
-wrong_no_more : false ≡ true → ⊥
+pub wrong_no_more : false ≡ true → ⊥
 wrong_no_more e = cc
+
+pub none_is_some : (n : ℕ) → zero ≡ suc n → ⊥
+none_is_some n e = absurd (omega arith)
 
 pub wrong_runs : WrongRunsAreRefused
 wrong_runs = record {
@@ -49,10 +57,29 @@ wrong_runs = record {
   cut_completes = record { broken = λ law. wrong_no_more law.causes; others_hold = refl };
   open_completes = record { broken = λ law. wrong_no_more law.causes; others_hold = refl };
   to_nobody = record { broken = λ law. wrong_no_more law.own_marks; others_hold = refl };
-  not_moved = record { lawful = lawful_by_tests nothing_moved refl; not_quiet = λ quiet. wrong_no_more quiet.heads };
-  on_the_way = record { lawful = lawful_by_tests message_on_the_way refl; not_quiet = λ quiet. wrong_no_more quiet.home };
-  not_worked = record { lawful = lawful_by_tests work_not_done refl; not_quiet = λ quiet. wrong_no_more quiet.at_rest };
-  not_marked = record { lawful = lawful_by_tests done_not_marked refl; not_quiet = λ quiet. wrong_no_more quiet.done };
-  not_handed_on = record { lawful = lawful_by_tests end_not_handed_on refl; not_quiet = λ quiet. wrong_no_more quiet.ends_handed_on };
   other_number = record { broken = λ law. wrong_no_more law.causes; others_hold = refl };
+  too_many_held = record { broken = λ law. wrong_no_more law.within_capacity; others_hold = refl };
+  not_admitted = record { broken = λ law. wrong_no_more law.admitted; others_hold = refl };
+  too_many_given = record { broken = λ law. wrong_no_more law.within_max; others_hold = refl };
+  not_posted = record { broken = λ law. wrong_no_more law.from_inputs; others_hold = refl };
+  after_the_end = record { broken = λ law. wrong_no_more law.last; others_hold = refl };
+  done_too_early = record { broken = λ law. wrong_no_more law.done; others_hold = refl };
+  no_reason = record { broken = λ law. wrong_no_more law.refusals; others_hold = refl };
+  action_gives = record { broken = λ law. wrong_no_more law.each_block; others_hold = refl };
+  mixed_up = record { broken = λ law. wrong_no_more law.each_block; others_hold = refl };
+  no_blocks = record { broken = λ law. none_is_some 0 law.blocks; others_hold = refl };
+  no_inputs = record { broken = λ law. none_is_some 0 law.inputs; others_hold = refl };
+  no_port = record { broken = λ law. wrong_no_more law.ports; others_hold = refl };
+}
+
+pub unfinished_runs : UnfinishedRunsAreNotQuiet
+unfinished_runs = record {
+  not_moved = record { lawful = lawful_by_tests nothing_moved refl; not_quiet = λ quiet. wrong_no_more quiet.heads; others_hold = refl };
+  on_the_way = record { lawful = lawful_by_tests message_on_the_way refl; not_quiet = λ quiet. wrong_no_more quiet.home; others_hold = refl };
+  not_worked = record { lawful = lawful_by_tests work_not_done refl; not_quiet = λ quiet. wrong_no_more quiet.at_rest; others_hold = refl };
+  not_marked = record { lawful = lawful_by_tests done_not_marked refl; not_quiet = λ quiet. wrong_no_more quiet.done; others_hold = refl };
+  not_handed_on = record { lawful = lawful_by_tests end_not_handed_on refl; not_quiet = λ quiet. wrong_no_more quiet.ends_handed_on; others_hold = refl };
+  not_given = record { lawful = lawful_by_tests value_not_given refl; not_quiet = λ quiet. wrong_no_more quiet.heads; others_hold = refl };
+  not_copied = record { lawful = lawful_by_tests copy_not_given refl; not_quiet = λ quiet. wrong_no_more quiet.served; others_hold = refl };
+  not_made = record { lawful = lawful_by_tests rest_not_made refl; not_quiet = λ quiet. wrong_no_more quiet.at_rest; others_hold = refl };
 }

@@ -19,3 +19,4 @@ pub mod TestLemmas
 pub mod ToldLemmas
 pub mod WholeLemmas
 pub mod WordLemmas
+pub mod WrongPartsLemmas

@@ -1,5 +1,5 @@
 -- What the tests on lists tell.
-use Rattle.std.proofs.Common.{◌≡◌, ℕ, zero, suc, ◌+◌, ◌-◌, ◌<◌, Bool, true, false, ◌&&◌, ◌||◌, List, [], ◌∷◌, ◌++◌, length, take, drop, refl, subst, arith}
+use Rattle.std.proofs.Common.{◌≡◌, ℕ, zero, suc, ◌+◌, ◌-◌, ◌<◌, Bool, true, false, ◌&&◌, ◌||◌, not, List, [], ◌∷◌, ◌++◌, length, take, drop, refl, subst, arith}
 use Rattle.std.proofs.lemmas.List.{length-append}
 use Rattle.std.proofs.Math.Seq.{take-append_seam}
 use Rattle.flow_value.specs.declared.value.Value.{Value}
@@ -9,6 +9,22 @@ use Rattle.flow_link.specs.Lists.{every, some, is_empty, numbers_from, below, sa
 pub and_true : (a b : Bool) → a ≡ true → b ≡ true → (a && b) ≡ true
 and_true true b ea eb = eb
 and_true false b ea eb = cc
+
+pub both_of : (a b : Bool) → (a && b) ≡ true → (a ≡ true) × (b ≡ true)
+both_of true b e = (refl, e)
+both_of false b e = cc
+
+pub or_first : (a b : Bool) → a ≡ true → (a || b) ≡ true
+or_first true b e = refl
+or_first false b e = cc
+
+pub or_second : (a b : Bool) → b ≡ true → (a || b) ≡ true
+or_second true b e = refl
+or_second false b e = e
+
+pub or_not : (a b : Bool) → (a ≡ true → b ≡ true) → (not a || b) ≡ true
+or_not true b h = h refl
+or_not false b h = refl
 
 -- a test passes for each number below a bound where it passes for any
 pub every_from : (test : ℕ → Bool) (first count : ℕ) → ((k : ℕ) → k < first + count → test k ≡ true) → every test (numbers_from first count) ≡ true
@@ -38,10 +54,6 @@ front_append (u ∷ us) vs = and_true (same_value u u) (is_front us (us ++ vs)) 
 pub front_refl : (us : List Value) → is_front us us ≡ true
 front_refl [] = refl
 front_refl (u ∷ us) = and_true (same_value u u) (is_front us us) (same_value_refl u) (front_refl us)
-
-pub both_of : (a b : Bool) → (a && b) ≡ true → (a ≡ true) × (b ≡ true)
-both_of true b e = (refl, e)
-both_of false b e = cc
 
 -- what begins the front of a list begins the list
 pub front_of_front : (us vs ws : List Value) → is_front (us ++ vs) ws ≡ true → is_front us ws ≡ true

@@ -1,11 +1,14 @@
 -- Each part of the network with a message under way keeps its own laws.
-use Rattle.std.proofs.Common.{◌≡◌, ℕ, zero, suc, ◌<◌, [], refl, arith}
+use Rattle.std.proofs.Common.{◌≡◌, ℕ, zero, suc, ◌+◌, ◌<◌, List, [], ◌∷◌, length, refl, arith}
+use Rattle.flow_value.specs.declared.value.Value.{Value}
 use Rattle.flow_link.specs.declared.plan.LinkSource.TheVariants.{Block, Input}
 use Rattle.flow_link.specs.declared.plan.LinkTarget.TheVariants.{Port, Exit}
 use Rattle.flow_link.specs.Trace.{link_of}
-use Rattle.flow_link.specs.LinkOk.{LinkOk}
+use Rattle.flow_link.specs.LinkOk.{LinkOk, IsWithin}
+use Rattle.flow_link.specs.Views.{LinkFacts}
+use Rattle.flow_link.specs.Examples.{digit}
 use Rattle.flow_link.specs.Composes.{SourceKeeps, TargetKeeps, InputKeeps, ExitKeeps, NodeKeeps, facts_of, is_refused_phase}
-use Rattle.flow_link.specs.MidMove.{message_under_way, ends_under_way, KeptInMidMove}
+use Rattle.flow_link.specs.MidMove.{rests_after, message_under_way, ends_under_way, KeptInMidMove}
 
 slot_in_order : LinkOk (facts_of message_under_way ends_under_way 0) (ends_under_way 0).phase (ends_under_way 0).slot (ends_under_way 0).source (ends_under_way 0).target
 slot_in_order = record {
@@ -16,18 +19,20 @@ slot_in_order = record {
   plan = record { put_off = tt; freely = tt; reserved = tt; within = tt; room = tt; ends = tt };
 }
 
-home_in_order : LinkOk (facts_of message_under_way ends_under_way 1) (ends_under_way 1).phase (ends_under_way 1).slot (ends_under_way 1).source (ends_under_way 1).target
-home_in_order = record {
+-- a link at rest is in order, if it carried no more than it may
+pub rests_in_order : (facts : LinkFacts) (values : List Value) → IsWithin facts.max (0 + length values)
+    → LinkOk facts (rests_after values).phase (rests_after values).slot (rests_after values).source (rests_after values).target
+rests_in_order facts values within = record {
   same_start = refl;
   stages = tt;
   ids = tt;
   values = record { empty = refl; all = refl };
-  plan = record { put_off = tt; freely = tt; reserved = tt; within = tt; room = tt; ends = tt };
+  plan = record { put_off = tt; freely = tt; reserved = tt; within = within; room = tt; ends = tt };
 }
 
 links_in_order : (l : ℕ) → l < 2 → LinkOk (facts_of message_under_way ends_under_way l) (ends_under_way l).phase (ends_under_way l).slot (ends_under_way l).source (ends_under_way l).target
 links_in_order zero small = slot_in_order
-links_in_order (suc zero) small = home_in_order
+links_in_order (suc zero) small = rests_in_order (facts_of message_under_way ends_under_way 1) (digit 1 ∷ []) tt
 links_in_order (suc (suc l)) small = absurd (omega arith)
 
 buffer_gives : (l : ℕ) → l < 2 → (link_of message_under_way l).source ≡ Block 0 → SourceKeeps message_under_way ends_under_way l 0

@@ -1,25 +1,18 @@
 -- A run whose tests all pass is lawful, or quiet.
-use Rattle.std.proofs.Common.{◌≡◌, ℕ, zero, suc, ◌==◌, Bool, true, false, ◌&&◌, List, [], ◌∷◌, length, get_or, refl, eqb-true}
+use Rattle.std.proofs.Common.{◌≡◌, ℕ, zero, suc, ◌==◌, Bool, true, ◌&&◌, List, [], ◌∷◌, length, get_or, refl, eqb-true}
 use Rattle.flow_link.specs.Trace.{Run, block_numbers}
 use Rattle.flow_link.specs.Lists.{every}
 use Rattle.flow_link.specs.Shape.{Shape, input_count, tells_each_port}
 use Rattle.flow_link.specs.Tests.{all_pass, is_in_shape, law_tests, quiet_tests}
 use Rattle.flow_link.specs.Lawful.{Lawful}
 use Rattle.flow_link.specs.Quiet.{Quiet}
-
-pub front_true : (a b : Bool) → (a && b) ≡ true → a ≡ true
-front_true true b e = refl
-front_true false b e = e
-
-pub back_true : (a b : Bool) → (a && b) ≡ true → b ≡ true
-back_true true b e = e
-back_true false b e = cc
+use Rattle.flow_link.proofs.ListLemmas.{both_of}
 
 -- each test passes
 pub test_passes : (tests : List Bool) (k : ℕ) → all_pass tests ≡ true → get_or tests k true ≡ true
 test_passes [] k e = refl
-test_passes (test ∷ tests) zero e = front_true test (all_pass tests) e
-test_passes (test ∷ tests) (suc k) e = test_passes tests k (back_true test (all_pass tests) e)
+test_passes (test ∷ tests) zero e = (both_of test (all_pass tests) e).0
+test_passes (test ∷ tests) (suc k) e = test_passes tests k (both_of test (all_pass tests) e).1
 
 module _ {W : Type 0} (run : Run W) where
   in_shape : is_in_shape run ≡ true → Shape run
@@ -27,10 +20,12 @@ module _ {W : Type 0} (run : Run W) where
       let blocks = length run.trace.blocks == length run.layout.blocks in
       let inputs = length run.trace.inputs == input_count run in
       let ports = every (tells_each_port run) (block_numbers run) in
+      let all = both_of (blocks && inputs) ports e in
+      let counts = both_of blocks inputs all.0 in
       record {
-        blocks = eqb-true (length run.trace.blocks) (length run.layout.blocks) (front_true blocks inputs (front_true (blocks && inputs) ports e));
-        inputs = eqb-true (length run.trace.inputs) (input_count run) (back_true blocks inputs (front_true (blocks && inputs) ports e));
-        ports = back_true (blocks && inputs) ports e;
+        blocks = eqb-true (length run.trace.blocks) (length run.layout.blocks) counts.0;
+        inputs = eqb-true (length run.trace.inputs) (input_count run) counts.1;
+        ports = all.1;
       }
 
   pub lawful_by_tests : all_pass (law_tests run) ≡ true → Lawful run

@@ -12,7 +12,7 @@ use Rattle.flow_link.specs.declared.plan.LinkSource.TheVariants.{Block}
 use Rattle.flow_link.specs.declared.plan.LinkTarget.TheVariants.{Port}
 use Rattle.flow_link.specs.declared.trace.Mark.{Mark}
 use Rattle.flow_link.specs.declared.trace.Mark.TheVariants.{Took, Gave, Complete, Done}
-use Rattle.flow_link.specs.declared.trace.Ending.TheVariants.{Complete as ending_complete, Fault as ending_fault}
+use Rattle.flow_link.specs.declared.trace.Ending.TheVariants.{Open, Complete as ending_complete, Fault as ending_fault}
 use Rattle.flow_link.specs.Lists.{below, numbers_from}
 use Rattle.flow_link.specs.Plan.{no_block}
 use Rattle.flow_link.specs.Trace.{BlockTrace, InputTrace, Run}
@@ -106,6 +106,10 @@ records marks results = record { journal = marks; held = [] ∷ []; left = []; r
 
 abbrev pub posted : List Value → InputTrace
 posted values = record { posted = values; ending = ending_complete }
+
+-- an input that may still post
+abbrev pub posted_open : List Value → InputTrace
+posted_open values = record { posted = values; ending = Open }
 
 abbrev pub posted_with_fault : ℕ → List Value → InputTrace
 posted_with_fault fault values = record { posted = values; ending = ending_fault fault }

@@ -1,6 +1,5 @@
 -- Runs of small networks that are lawful and quiet.
 use Rattle.std.specs.Prelude.{List, [], ◌∷◌, ◌++◌}
-use Rattle.flow_value.specs.declared.value.Value.{Value}
 use Rattle.flow_link.specs.declared.draft.BlockDef.{BlockDef}
 use Rattle.flow_link.specs.declared.draft.BlockKind.TheVariants.{Buffer, Broadcast, WriteOnce, Action, Transform, TransformMany, Batch, Join, BatchedJoin}
 use Rattle.flow_value.specs.declared.value.Value.{Value}
@@ -10,7 +9,7 @@ use Rattle.flow_link.specs.Layout.{input_link, exit_link}
 use Rattle.flow_link.specs.Trace.{BlockTrace, Run}
 use Rattle.flow_link.specs.Lawful.{Lawful}
 use Rattle.flow_link.specs.Quiet.{Quiet}
-use Rattle.flow_link.specs.Examples.{Work, block, with_input, with_size, with_capacity, reserving_join, link, to_port, when_even, at_most, kept_apart, int, digit, row, took_all, gave_all, ended_well, leaves, leaves_nothing, holds, joins, records, posted, posted_with_fault, same, read_digit, read_up_to, run_of, word_a, word_b, digits_to, ints_to}
+use Rattle.flow_link.specs.Examples.{Work, block, with_input, with_size, with_capacity, reserving_join, link, to_port, when_even, at_most, kept_apart, int, digit, row, took_all, gave_all, ended_well, leaves, leaves_nothing, holds, joins, records, posted, posted_with_fault, same, read_digit, read_up_to, run_of, with_refused, word_a, word_b, digits_to, ints_to}
 
 pub record IsLawfulAndQuiet (run : Run Work) : Type 0 where
   pub lawful : Lawful run
@@ -229,6 +228,46 @@ kept_for_the_caller = run_of
     (leaves (took_all 0 0 (digit 1 ∷ digit 2 ∷ []) ++ Gave 1 (digit 1) ∷ Complete 0 ∷ []) (digit 2 ∷ []) ∷ [])
     (posted (digit 1 ∷ digit 2 ∷ []) ∷ [])
 
+-- a buffer with room for two messages holds the third back
+abbrev pub room_for_two : Run Work
+room_for_two = run_of
+    (with_input (block Buffer) ∷ with_capacity 2 (block Buffer) ∷ [])
+    (link 0 1 ∷ input_link 0 ∷ [])
+    same
+    (leaves (took_all 0 1 (digits_to 3) ++ gave_all 0 (digits_to 2) ++ Complete 0 ∷ []) (digit 3 ∷ [])
+    ∷ leaves (took_all 0 0 (digits_to 2)) (digits_to 2)
+    ∷ [])
+    (posted (digits_to 3) ∷ [])
+
+-- a transform that has faulted refuses what comes, and that goes over the second link
+abbrev pub refused_and_passed_on : Run Work
+refused_and_passed_on = with_refused 0 (run_of
+    (with_input (block Buffer) ∷ block Transform ∷ block Action ∷ [])
+    (link 0 1 ∷ link 0 2 ∷ input_link 0 ∷ [])
+    read_digit
+    (leaves_nothing (took_all 0 2 (row [] ∷ digit 3 ∷ []) ++ Gave 0 (row []) ∷ Gave 1 (digit 3) ∷ ended_well)
+    ∷ holds (Took 0 0 (row []) ∷ Fault 1 ∷ []) ((row [] ∷ []) ∷ [])
+    ∷ records (Took 0 1 (digit 3) ∷ ended_well) (digit 3 ∷ [])
+    ∷ [])
+    (posted (row [] ∷ digit 3 ∷ []) ∷ []))
+
+-- of the two sources of a batch of three the first is done, and the second faults
+abbrev pub faulting_batch : BlockTrace → Run Work
+faulting_batch batch = run_of
+    (with_input (block Buffer) ∷ with_input (block Buffer) ∷ with_size 3 (block Batch) ∷ [])
+    (link 0 2 ∷ link 1 2 ∷ input_link 0 ∷ input_link 1 ∷ [])
+    same
+    (leaves_nothing (Took 0 2 (digit 1) ∷ Gave 0 (digit 1) ∷ ended_well) ∷ leaves_nothing (Fault 5 ∷ []) ∷ batch ∷ [])
+    (posted (digit 1 ∷ []) ∷ posted_with_fault 5 [] ∷ [])
+
+-- where its port has completed first the batch makes the rest a smaller group, and then faults
+abbrev pub rest_made_before_fault : Run Work
+rest_made_before_fault = faulting_batch (leaves (Took 0 0 (digit 1) ∷ Complete 0 ∷ Fault 5 ∷ []) (row (digit 1 ∷ []) ∷ []))
+
+-- where the fault comes first the batch keeps the rest
+abbrev pub rest_kept_at_fault : Run Work
+rest_kept_at_fault = faulting_batch (holds (Took 0 0 (digit 1) ∷ Fault 5 ∷ []) ((digit 1 ∷ []) ∷ []))
+
 pub record GoodRunsAreLawful : Type 0 where
   pub two_records_is : IsLawfulAndQuiet two_records
   pub parse_three_is : IsLawfulAndQuiet parse_three
@@ -247,3 +286,7 @@ pub record GoodRunsAreLawful : Type 0 where
   pub fault_before_work_is : IsLawfulAndQuiet fault_before_work
   pub more_than_one_result_is : IsLawfulAndQuiet more_than_one_result
   pub kept_for_the_caller_is : IsLawfulAndQuiet kept_for_the_caller
+  pub room_for_two_is : IsLawfulAndQuiet room_for_two
+  pub refused_and_passed_on_is : IsLawfulAndQuiet refused_and_passed_on
+  pub rest_made_before_fault_is : IsLawfulAndQuiet rest_made_before_fault
+  pub rest_kept_at_fault_is : IsLawfulAndQuiet rest_kept_at_fault

@@ -33,4 +33,6 @@ pub mod Shape
 pub mod Tests
 pub mod Told
 pub mod Trace
+pub mod UnfinishedExamples
 pub mod Views
+pub mod WrongParts

@@ -1,6 +1,8 @@
 -- A network while a message is under way: each of its parts keeps its own laws, so these can be kept.
-use Rattle.std.specs.Prelude.{ℕ, zero, suc, [], ◌∷◌, Some, None}
+use Rattle.std.specs.Prelude.{ℕ, zero, suc, List, [], ◌∷◌, length, Some, None}
+use Rattle.flow_value.specs.declared.value.Value.{Value}
 use Rattle.flow_link.specs.declared.draft.BlockKind.TheVariants.{Buffer, Action}
+use Rattle.flow_link.specs.declared.phase.Phase.{Phase}
 use Rattle.flow_link.specs.declared.phase.Phase.TheVariants.{Idle, Given}
 use Rattle.flow_link.specs.declared.trace.Mark.TheVariants.{Took, Gave}
 use Rattle.flow_link.specs.Views.{SourceStage, TargetStage}
@@ -8,6 +10,18 @@ use Rattle.flow_link.specs.Layout.{input_link}
 use Rattle.flow_link.specs.Trace.{Run}
 use Rattle.flow_link.specs.Examples.{Work, block, with_input, link, digit, leaves_nothing, posted, same, run_of}
 use Rattle.flow_link.specs.Composes.{Ends, PartsKeep}
+
+-- the ends of a link over which these values were given and taken, and nothing is under way: they stand so, or at rest
+abbrev pub stands : Phase → List Value → SourceStage → TargetStage Value → Ends
+stands phase values source target = record {
+  phase = phase;
+  slot = None;
+  source = record { before = 0; given = values; last = length values; stage = source };
+  target = record { before = 0; taken = values; stage = target };
+}
+
+abbrev pub rests_after : List Value → Ends
+rests_after values = stands Idle values SourceStage.free TargetStage.free
 
 -- the buffer has given its message, and the action has not taken it yet; another waits at the input
 abbrev pub message_under_way : Run Work
@@ -26,17 +40,9 @@ in_the_slot = record {
   target = record { before = 0; taken = []; stage = TargetStage.arrived 1 };
 }
 
-abbrev pub at_home : Ends
-at_home = record {
-  phase = Idle;
-  slot = None;
-  source = record { before = 0; given = digit 1 ∷ []; last = 1; stage = SourceStage.free };
-  target = record { before = 0; taken = digit 1 ∷ []; stage = TargetStage.free };
-}
-
 abbrev pub ends_under_way : ℕ → Ends
 ends_under_way zero = in_the_slot
-ends_under_way (suc _) = at_home
+ends_under_way (suc _) = rests_after (digit 1 ∷ [])
 
 abbrev pub KeptInMidMove : Type 0
 KeptInMidMove = PartsKeep message_under_way ends_under_way

@@ -12,6 +12,8 @@ ghost use Rattle.flow_link.specs.PlanExamples.{FaultsOfDrafts};
 ghost use Rattle.flow_link.specs.Rebase.{Rebases};
 ghost use Rattle.flow_link.specs.RefusedExamples.{WrongRunsAreRefused};
 ghost use Rattle.flow_link.specs.Told.{LinksTell};
+ghost use Rattle.flow_link.specs.UnfinishedExamples.{UnfinishedRunsAreNotQuiet};
+ghost use Rattle.flow_link.specs.WrongParts.{WrongPartsAreRefused};
 
 /// The words of two different phases differ.
 pub fn words_differ()
@@ -46,9 +48,12 @@ pub fn good_runs_are_lawful()
     ensures { GoodRunsAreLawful }
 {}
 
-/// What a wrong program would leave is refused: for each of these wrongs there is an example.
+/// What a wrong program would leave is refused: for each of these wrongs there is an example. Some runs are not lawful,
+/// some are not quiet, and some a part of their network refuses before they show it.
 pub fn wrong_runs_are_refused()
-    ensures { WrongRunsAreRefused }
+    ensures not_lawful { WrongRunsAreRefused }
+    ensures not_quiet { UnfinishedRunsAreNotQuiet }
+    ensures not_kept { WrongPartsAreRefused }
 {}
 
 /// Of the faults of a draft the first in order is the one that counts, in an example of each.

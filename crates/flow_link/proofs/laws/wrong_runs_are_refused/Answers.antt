@@ -1,5 +1,12 @@
-use Rattle.flow_link.proofs.ExampleLemmas.{wrong_runs}
+use Rattle.flow_link.proofs.ExampleLemmas.{wrong_runs, unfinished_runs}
+use Rattle.flow_link.proofs.WrongPartsLemmas.{wrong_parts}
 use Rattle.flow_link.proofs.laws.wrong_runs_are_refused.Goals as goal
 
-pub returns : goal.returns
-returns c = wrong_runs
+pub returns-clause-not_lawful : goal.returns-clause-not_lawful
+returns-clause-not_lawful c = wrong_runs
+
+pub returns-clause-not_quiet : goal.returns-clause-not_quiet
+returns-clause-not_quiet c = unfinished_runs
+
+pub returns-clause-not_kept : goal.returns-clause-not_kept
+returns-clause-not_kept c = wrong_parts
