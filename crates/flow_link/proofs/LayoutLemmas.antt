@@ -90,10 +90,12 @@ is_there None e = absurd (true_is_false e)
 is_there (Some n) e = refl
 
 module _ {W : Type 0} (blocks : List (BlockDef W)) where
-  known_below : (name : List ℕ) → is_none (block_named blocks name) ≡ false → ltb (unwrap_or (block_named blocks name) 0) (length blocks) ≡ true
-  known_below name e =
-      lt-ltb (unwrap_or (block_named blocks name) 0) (length blocks)
+  pub named_low : (name : List ℕ) → is_none (block_named blocks name) ≡ false → unwrap_or (block_named blocks name) 0 < length blocks
+  named_low name e =
       (position-Some (λ block. bytes_eq block.name name) blocks (unwrap_or (block_named blocks name) 0) no_block (is_there (block_named blocks name) e)).0
+
+  known_below : (name : List ℕ) → is_none (block_named blocks name) ≡ false → ltb (unwrap_or (block_named blocks name) 0) (length blocks) ≡ true
+  known_below name e = lt-ltb (unwrap_or (block_named blocks name) 0) (length blocks) (named_low name e)
 
   -- where all names are known, each link leads from a block to a block
   all_known : (links : List LinkDef) (first : ℕ)
@@ -108,18 +110,22 @@ module _ {W : Type 0} (blocks : List (BlockDef W)) where
       (known_below link.from known.0) (known_below link.to known.1))
       (all_known links (first + 1) step.1)
 
+  -- the links of a plan between its blocks are those of its draft
+  pub between_named : (links : List LinkDef) → between_of blocks (planned_links blocks links) ≡ named_links blocks links
+  between_named links =
+      let named = named_links blocks links in
+      let outer = outer_links blocks in
+      let count : length (named ++ outer) - length outer ≡ length named = omega (arith, length-append named outer) in
+      ap (λ n. take n (named ++ outer)) count ∙ take-append_seam named outer
+
   -- the links of a draft whose names are known, and then those from and to the caller
   pub laid_out_of : (links : List LinkDef)
       → position (λ link. is_none (block_named blocks link.from) || is_none (block_named blocks link.to)) links ≡ None
       → IsLaidOut blocks (planned_links blocks links)
   laid_out_of links e =
-      let named = named_links blocks links in
-      let outer = outer_links blocks in
-      let count : length (named ++ outer) - length outer ≡ length named = omega (arith, length-append named outer) in
-      let between : between_of blocks (named ++ outer) ≡ named = ap (λ n. take n (named ++ outer)) count ∙ take-append_seam named outer in
       let none : position_from (λ link. is_none (block_named blocks link.from) || is_none (block_named blocks link.to)) 0 links ≡ None =
       sym (position_from-zero (λ link. is_none (block_named blocks link.from) || is_none (block_named blocks link.to)) links) ∙ e in
       record {
-        in_order = ap (λ front. front ++ outer) (sym between);
-        lead = ap (every (is_between_blocks (length blocks))) between ∙ all_known links 0 none;
+        in_order = ap (λ front. front ++ outer_links blocks) (sym (between_named links));
+        lead = ap (every (is_between_blocks (length blocks))) (between_named links) ∙ all_known links 0 none;
       }
