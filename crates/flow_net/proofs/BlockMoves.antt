@@ -1,5 +1,5 @@
 -- Each move of a link keeps what each block and each input keeps.
-use Rattle.std.proofs.Common.{◌≡◌, ℕ, suc, ◌<◌, ltb, ◌==◌, ◌&&◌, Bool, true, false, cond, List, ◌⊎◌, length, is_some, Option, Some, None, Result, refl, ap, sym, subst, ◌∙◌, arith, inl, inr, ⊎_elim, eqb-true, ltb-false}
+use Rattle.std.proofs.Common.{◌≡◌, ℕ, suc, ◌<◌, ltb, ◌==◌, ◌&&◌, Bool, true, false, cond, List, length, is_some, Option, Some, None, Result, refl, ap, sym, subst, ◌∙◌, arith, ⊎_elim, eqb-true, ltb-false}
 use Rattle.flow_value.specs.declared.value.Value.{Value}
 use Rattle.flow_link.specs.declared.phase.LinkEnd.{LinkEnd}
 use Rattle.flow_link.specs.declared.phase.LinkEnd.TheVariants.{Complete as end_complete, Fault as end_fault}
@@ -24,7 +24,7 @@ use Rattle.flow_link.specs.Plan.{link_in, ends_at}
 use Rattle.flow_link.specs.Trace.{has_fault}
 use Rattle.flow_link.specs.Views.{SourceStage, TargetStage, Refusal}
 use Rattle.flow_link.proofs.LookLemmas.{looks_keep}
-use Rattle.flow_net.specs.BlockKeeps.{block_makes, AllKeep}
+use Rattle.flow_net.specs.BlockKeeps.{block_makes, AllKeep, Refuses}
 use Rattle.flow_net.specs.Events.{is_open, has_stopped, refusal_by, end_as, move_of_node, end_of_feed, move_of_feed, move_of_source, answer_by, is_hand, is_at_home, brings_completion, fault_brought, offered, wanted, refused, given, opened, closed, closed_by, ended, expecting, takes, offers, gives, sets_out, sends, kind_in, with_line, with_offer, with_wish, with_source, with_target, head_of, offer_of, expects_at, refusal_at, move_at, after_want, after_refusal, after_give, after_opening, after_move, after}
 use Rattle.flow_net.specs.Keeps.{Keeps, LeadsWell, facts_in}
 use Rattle.flow_net.specs.Parts.{FeedState, LineState, PartsState, node_at, feed_at, line_at}
@@ -55,12 +55,16 @@ open_by_answer state.Completing fault e = absurd (cc)
 open_by_answer state.Done fault e = absurd (cc)
 open_by_answer (state.Faulted n) fault e = absurd (cc)
 
-reason_by_answer : (st : State) (fault : Option ℕ) (why : Refusal) → refusal_by st fault ≡ Some why → (is_open st ≡ false) ⊎ (is_some fault ≡ true)
+reason_by_answer : (st : State) (fault : Option ℕ) (why : Refusal) → refusal_by st fault ≡ Some why → Refuses why st fault
 reason_by_answer state.Open None why e = absurd (cc)
-reason_by_answer state.Open (Some n) why e = inr refl
-reason_by_answer state.Completing fault why e = inl refl
-reason_by_answer state.Done fault why e = inl refl
-reason_by_answer (state.Faulted n) fault why e = inl refl
+reason_by_answer state.Open (Some n) Refusal.port_ended e = absurd (cc)
+reason_by_answer state.Open (Some n) Refusal.own_fault e = refl
+reason_by_answer state.Completing fault Refusal.port_ended e = refl
+reason_by_answer state.Completing fault Refusal.own_fault e = absurd (cc)
+reason_by_answer state.Done fault Refusal.port_ended e = refl
+reason_by_answer state.Done fault Refusal.own_fault e = absurd (cc)
+reason_by_answer (state.Faulted n) fault Refusal.port_ended e = refl
+reason_by_answer (state.Faulted n) fault Refusal.own_fault e = absurd (cc)
 
 -- the stages of a target that waits, and of a source that has seen it wait
 waits_open : (i : ℕ) (stage : TargetStage Value) → Wants i stage → is_coming stage ≡ true
@@ -141,7 +145,7 @@ module _ {W : Type 0} (layout : Layout W) (meaning : ℕ → Value → Result (L
   into_next : (b : ℕ) → b < length layout.blocks → (node_at parts b).into ≡ Some l → (after next : TargetStage Value) → next ≡ after
       → brings_completion line.target ≡ false → fault_brought line.target ≡ None
       → (is_coming after ≡ true → is_open (node_at parts b).state ≡ true)
-      → ((why : Refusal) → after ≡ TargetStage.refused why → (is_open (node_at parts b).state ≡ false) ⊎ (is_some (node_at parts b).fault ≡ true))
+      → ((why : Refusal) → after ≡ TargetStage.refused why → Refuses why (node_at parts b).state (node_at parts b).fault)
       → IntoKeeps (node_at parts b) next
   into_next b small is after next same no_completion no_fault coming refusal =
       subst (λ (t : TargetStage Value). IntoKeeps (node_at parts b) t) (sym same)
@@ -218,7 +222,7 @@ module _ {W : Type 0} (layout : Layout W) (meaning : ℕ → Value → Result (L
 
   -- a target that refuses it has a reason
   reason_of : (b p : ℕ) (why : Refusal) → link.target ≡ Port b p → refusal_at parts link.target ≡ Some why
-      → (is_open (node_at parts b).state ≡ false) ⊎ (is_some (node_at parts b).fault ≡ true)
+      → Refuses why (node_at parts b).state (node_at parts b).fault
   reason_of b p why is some =
       reason_by_answer (node_at parts b).state (node_at parts b).fault why (subst (λ (target : LinkTarget). refusal_at parts target ≡ Some why) is some)
 
@@ -229,7 +233,9 @@ module _ {W : Type 0} (layout : Layout W) (meaning : ℕ → Value → Result (L
       (record {
         into = λ b small its. let port = target_is b small its in
             into_next b small its (TargetStage.refused why) _ refl (ap brings_completion at.1) (ap fault_brought at.1)
-            (λ e. absurd (cc)) (λ reason e. reason_of b port.port why port.is some);
+            (λ e. absurd (cc))
+            (λ reason e. let same : why ≡ reason = cc in
+            subst (λ (r : Refusal). Refuses r (node_at parts b).state (node_at parts b).fault) same (reason_of b port.port why port.is some));
         out = λ b small its. out_next b SourceStage.refused _ (ap (λ (s : SourceStage). source_finds s Refused) at.0) refl (λ e. absurd (cc));
       })
       (no_end (refused why line) (ap (λ (s : SourceStage). is_end (source_finds s Refused)) at.0))

@@ -9,7 +9,7 @@ use Rattle.flow_link.specs.Endings.{stops, completes_once}
 use Rattle.flow_link.specs.Lists.{every}
 use Rattle.flow_link.specs.Trace.{has_complete, has_fault, is_done}
 use Rattle.flow_link.specs.Views.{SourceStage, TargetStage, Refusal}
-use Rattle.flow_net.specs.BlockKeeps.{is_own, is_first_port, MakesAs, HasFaulted}
+use Rattle.flow_net.specs.BlockKeeps.{is_own, is_first_port, MakesAs, HasFaulted, Refuses}
 use Rattle.flow_net.specs.Events.{is_open, has_stopped, is_at_home, brings_completion, fault_brought}
 use Rattle.flow_net.specs.Parts.{NodeState}
 use Rattle.flow_net.specs.States.{state_by}
@@ -33,7 +33,7 @@ pub record IntoKeeps (node : NodeState) (stage : TargetStage Value) : Type 0 whe
   pub coming : is_coming stage ≡ true → is_open node.state ≡ true
   pub complete_cause : has_complete 0 node.journal ≡ true → brings_completion stage ≡ true
   pub fault_cause : (number : ℕ) → has_fault number node.journal ≡ true → (node.fault ≡ Some number) ⊎ (fault_brought stage ≡ Some number)
-  pub refusal_cause : (why : Refusal) → stage ≡ TargetStage.refused why → (is_open node.state ≡ false) ⊎ (is_some node.fault ≡ true)
+  pub refusal_cause : (why : Refusal) → stage ≡ TargetStage.refused why → Refuses why node.state node.fault
 
 -- and where its end of the link that leads out of it stands so
 pub record OutKeeps (node : NodeState) (stage : SourceStage) : Type 0 where
@@ -55,13 +55,18 @@ pub record EndsAsBefore (old new : NodeState) : Type 0 where
 pub as_before : (node : NodeState) → EndsAsBefore node node
 as_before node = record { into = refl; out = refl; state = refl; fault = refl; complete = refl; done = refl; faulted = λ number. refl }
 
+refuses_as_before : (why : Refusal) (old new : NodeState) → new.state ≡ old.state → new.fault ≡ old.fault
+    → Refuses why old.state old.fault → Refuses why new.state new.fault
+refuses_as_before Refusal.port_ended old new state fault closed = ap is_open state ∙ closed
+refuses_as_before Refusal.own_fault old new state fault own = ap is_some fault ∙ own
+
 -- it keeps what it has seen
 pub into_as_before : (old new : NodeState) (stage : TargetStage Value) → EndsAsBefore old new → IntoKeeps old stage → IntoKeeps new stage
 into_as_before old new stage same kept = record {
   coming = λ e. ap is_open same.state ∙ kept.coming e;
   complete_cause = λ e. kept.complete_cause (sym same.complete ∙ e);
   fault_cause = λ number e. ⊎_elim (λ own. inl (same.fault ∙ own)) (λ brought. inr brought) (kept.fault_cause number (sym (same.faulted number) ∙ e));
-  refusal_cause = λ why e. ⊎_elim (λ closed. inl (ap is_open same.state ∙ closed)) (λ own. inr (ap is_some same.fault ∙ own)) (kept.refusal_cause why e);
+  refusal_cause = λ why e. refuses_as_before why old new same.state same.fault (kept.refusal_cause why e);
 }
 
 pub out_as_before : (old new : NodeState) (stage : SourceStage) → EndsAsBefore old new → OutKeeps old stage → OutKeeps new stage
@@ -79,7 +84,7 @@ brought_none number brought none some = let wrong : None ≡ Some number = sym n
 pub into_moves : (node : NodeState) (before after : TargetStage Value) → IntoKeeps node before
     → brings_completion before ≡ false → fault_brought before ≡ None
     → (is_coming after ≡ true → is_open node.state ≡ true)
-    → ((why : Refusal) → after ≡ TargetStage.refused why → (is_open node.state ≡ false) ⊎ (is_some node.fault ≡ true))
+    → ((why : Refusal) → after ≡ TargetStage.refused why → Refuses why node.state node.fault)
     → IntoKeeps node after
 into_moves node before after kept no_completion no_fault coming refusal = record {
   coming = coming;

@@ -13,9 +13,9 @@ use Rattle.flow_link.specs.Lists.{concat, is_empty}
 use Rattle.flow_link.specs.Making.{with_result, results_of}
 use Rattle.flow_link.specs.Plan.{has_work}
 use Rattle.flow_link.specs.Trace.{took, gave, is_done_mark, is_fault_mark, is_complete_mark, has_complete}
-use Rattle.flow_link.specs.Views.{SourceStage, TargetStage}
+use Rattle.flow_link.specs.Views.{SourceStage, TargetStage, Refusal}
 use Rattle.flow_link.proofs.ListLemmas.{both_of}
-use Rattle.flow_net.specs.BlockKeeps.{AllKeep, HasFaulted, MakesAs, WorkedInto, block_makes, is_own, is_first_port}
+use Rattle.flow_net.specs.BlockKeeps.{AllKeep, HasFaulted, MakesAs, Refuses, WorkedInto, block_makes, is_own, is_first_port}
 use Rattle.flow_net.specs.Events.{first_of, rest_of, is_open, has_stopped, is_completing, is_at_home, stage_into, stage_out, brings_completion, fault_brought, works, yields, hands_on, makes_as, made_by, completes, faults, finishes, kind_in, may_make, may_complete, is_still, fault_cause, next_fault, may_finish, after, after_fault}
 use Rattle.flow_net.specs.Keeps.{Keeps, LeadsWell}
 use Rattle.flow_net.specs.Parts.{NodeState, PartsState, node_at}
@@ -96,7 +96,7 @@ module _ (result : Value → Result (List Value) ℕ) (kind : BlockKind) (node :
   makes_still Buffer took_same gave_same makes =
       took_same ∙ makes ∙ ap (λ (vs : List Value). (vs ++ node.left) ++ node.held) (sym gave_same)
   makes_still Action took_same gave_same makes =
-      subst (λ (vs : List Value). WorkedInto result vs node.held node.recorded) (sym took_same) makes
+      (subst (λ (vs : List Value). WorkedInto result vs node.held node.recorded) (sym took_same) makes.0, makes.1)
   makes_still Transform took_same gave_same makes =
       subst (λ (vs : List Value). WorkedInto result vs node.held (gave marked.journal ++ node.left)) (sym took_same)
       (subst (λ (vs : List Value). WorkedInto result (took node.journal) node.held (vs ++ node.left)) (sym gave_same) makes)
@@ -104,6 +104,10 @@ module _ (result : Value → Result (List Value) ℕ) (kind : BlockKind) (node :
 
   faulted_still : (number : ℕ) → HasFaulted result kind node number → HasFaulted result kind marked number
   faulted_still number has = record { works = has.works; message = has.message; rest = has.rest; held_is = has.held_is; fails = has.fails }
+
+  refuses_still : (why : Refusal) → is_open ends ≡ false → Refuses why node.state node.fault → Refuses why ends node.fault
+  refuses_still Refusal.port_ended closed cause = closed
+  refuses_still Refusal.own_fault closed cause = cause
 
   marked_is_well : IsWell result kind node incoming outgoing → MayMark → IsWell result kind marked incoming outgoing
   marked_is_well old may =
@@ -123,7 +127,7 @@ module _ (result : Value → Result (List Value) ℕ) (kind : BlockKind) (node :
             (⊎_elim old.done_complete may.done_so (some_of_more is_done_mark node.journal mark e));
         complete_cause = λ e. ⊎_elim old.complete_cause may.complete_so (some_of_more (is_complete_mark 0) node.journal mark e);
         fault_cause = λ number e. ⊎_elim (old.fault_cause number) (may.fault_so number) (some_of_more (is_fault_mark number) node.journal mark e);
-        refusal_cause = λ why e. inl may.closed;
+        refusal_cause = λ why e. refuses_still why may.closed (old.refusal_cause why e);
         end_done = λ e. some_before is_done_mark node.journal mark (old.end_done e);
         end_faulted = λ number e. some_before (is_fault_mark number) node.journal mark (old.end_faulted number e);
         end_stopped = λ how e. absurd (let going = may.going in let wrong : true ≡ false = sym (old.end_stopped how e) ∙ going in cc);
@@ -131,12 +135,12 @@ module _ (result : Value → Result (List Value) ℕ) (kind : BlockKind) (node :
       }
 
 -- the fault is its own, or the link brought it when all was worked on
-record IsBrought (own : Option ℕ) (held : List Value) (brought : Option ℕ) (n : ℕ) : Type 0 where
-  no_own : own ≡ None
-  no_held : held ≡ []
-  comes : brought ≡ Some n
+pub record IsBrought (own : Option ℕ) (held : List Value) (brought : Option ℕ) (n : ℕ) : Type 0 where
+  pub no_own : own ≡ None
+  pub no_held : held ≡ []
+  pub comes : brought ≡ Some n
 
-caused : (own : Option ℕ) (held : List Value) (brought : Option ℕ) (n : ℕ)
+pub caused : (own : Option ℕ) (held : List Value) (brought : Option ℕ) (n : ℕ)
     → elim own [ Some m ↦ Some m | None ↦ cond (is_empty held) brought None ] ≡ Some n → (own ≡ Some n) ⊎ IsBrought own held brought n
 caused (Some m) held brought n e = inl e
 caused None [] brought n e = inr (record { no_own = refl; no_held = refl; comes = e })
@@ -146,7 +150,7 @@ not_true : (b : Bool) → not b ≡ true → b ≡ false
 not_true true e = absurd (cc)
 not_true false e = refl
 
-cond_some : (b : Bool) (fault : Option ℕ) (n : ℕ) → cond b fault None ≡ Some n → (b ≡ true) × (fault ≡ Some n)
+pub cond_some : (b : Bool) (fault : Option ℕ) (n : ℕ) → cond b fault None ≡ Some n → (b ≡ true) × (fault ≡ Some n)
 cond_some true fault n e = (refl, e)
 cond_some false fault n e = absurd (cc)
 
@@ -234,6 +238,10 @@ module _ (result : Value → Result (List Value) ℕ) (kind : BlockKind) (node :
     abbrev now : List Value → List Value → List Value → Option ℕ → NodeState
     now held left recorded fault = record node { held = held; left = left; recorded = recorded; fault = fault }
 
+    refuses_now : (why : Refusal) (fault : Option ℕ) → Refuses why node.state node.fault → Refuses why node.state fault
+    refuses_now Refusal.port_ended fault cause = cause
+    refuses_now Refusal.own_fault fault cause = absurd (let wrong : false ≡ true = sym (ap is_some well) ∙ cause in cc)
+
     now_is_well : (held left recorded : List Value) (fault : Option ℕ) → MakesAs result (now held left recorded fault) kind
         → ((number : ℕ) → fault ≡ Some number → HasFaulted result kind (now held left recorded fault) number)
         → IsWell result kind (now held left recorded fault) incoming outgoing
@@ -254,10 +262,7 @@ module _ (result : Value → Result (List Value) ℕ) (kind : BlockKind) (node :
           (λ (is : node.fault ≡ Some number). absurd (let wrong : None ≡ Some number = sym well ∙ is in cc))
           (λ (is : fault_brought incoming ≡ Some number). inr is)
           (old.fault_cause number e);
-      refusal_cause = λ why e. ⊎_elim
-          (λ (is : is_open node.state ≡ false). inl is)
-          (λ (is : is_some node.fault ≡ true). absurd (let wrong : false ≡ true = sym (ap is_some well) ∙ is in cc))
-          (old.refusal_cause why e);
+      refusal_cause = λ why e. refuses_now why fault (old.refusal_cause why e);
       end_done = old.end_done;
       end_faulted = old.end_faulted;
       end_stopped = old.end_stopped;
@@ -305,7 +310,7 @@ module _ (result : Value → Result (List Value) ℕ) (node : NodeState) (incomi
         → KindWell Action (works r node)
     action_by old value rest (Ok made) holds is =
         made_well result Action node incoming outgoing old going well (rest_of node.held) node.left (node.recorded ++ made)
-        (worked_on result (took node.journal) node.held value rest node.recorded made holds is old.makes)
+        (worked_on result (took node.journal) node.held value rest node.recorded made holds is old.makes.0, old.makes.1)
     action_by old value rest (Err n) holds is =
         made_fault result Action node incoming outgoing old going well value rest n holds refl is old.makes
 

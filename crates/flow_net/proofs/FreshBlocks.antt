@@ -26,7 +26,7 @@ module _ (result : Value → Result (List Value) ℕ) (into out : Option ℕ) wh
   -- what has made nothing of nothing makes as its kind does
   makes_nothing : (kind : BlockKind) → MakesAs result unused kind
   makes_nothing Buffer = refl
-  makes_nothing Action = record { done = []; results = []; taken_is = refl; worked = refl; all = refl }
+  makes_nothing Action = (record { done = []; results = []; taken_is = refl; worked = refl; all = refl }, refl)
   makes_nothing Transform = record { done = []; results = []; taken_is = refl; worked = refl; all = refl }
   makes_nothing _ = tt
 

@@ -1,6 +1,7 @@
 -- What is known of a network without the proof that it keeps it: it goes on keeping it, and its run is lawful.
 use Rattle.std.proofs.Common.{◌≡◌, ℕ, Bool, true, List, Result, Ok, IfOk, refl, sym, subst}
 use Rattle.std.proofs.Math.Bool.{Bool-set}
+use Rattle.std.proofs.Math.Nat.{ℕ_set}
 use Rattle.std.proofs.Math.Logic.{∥∥₁_elim, ∥∥₁_map, ∥∥₁_prop}
 use Rattle.flow_value.specs.declared.value.Value.{Value}
 use Rattle.flow_value.specs.declared.work.WorkFault.{WorkFault}
@@ -37,8 +38,16 @@ kept_on old new meaning count before now same happened kept =
 holds : {A : Type 0} (test : Bool) → ∥ A ∥₁ → (A → test ≡ true) → test ≡ true
 holds test some each = ∥∥₁_elim some (Bool-set _ _) each
 
+same_where : {A : Type 0} (m n : ℕ) → ∥ A ∥₁ → (A → m ≡ n) → m ≡ n
+same_where m n some each = ∥∥₁_elim some (ℕ_set m n) each
+
 lawful_where : {W A : Type 0} (run : Run W) → ∥ A ∥₁ → (A → Lawful run) → Lawful run
 lawful_where run some each = record {
+  shape = record {
+    blocks = same_where _ _ some (λ a. (each a).shape.blocks);
+    inputs = same_where _ _ some (λ a. (each a).shape.inputs);
+    ports = holds _ some (λ a. (each a).shape.ports);
+  };
   link_law = record {
     between_blocks = holds _ some (λ a. (each a).link_law.between_blocks);
     admitted = holds _ some (λ a. (each a).link_law.admitted);

@@ -20,6 +20,7 @@ pub mod MarksTell
 pub mod MoveLemmas
 pub mod NodeChanges
 pub mod NodeWell
+pub mod NumberLemmas
 pub mod PartsLemmas
 pub mod PostedLemmas
 pub mod QuietLemmas

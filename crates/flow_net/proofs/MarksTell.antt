@@ -21,6 +21,10 @@ pub or_second : (a b : Bool) → b ≡ true → a || b ≡ true
 or_second true b e = refl
 or_second false b e = e
 
+pub or_either : (a b c : Bool) → b || c ≡ true → a || b || c ≡ true
+or_either true b c e = refl
+or_either false b c e = e
+
 pub or_not : (a b : Bool) → (a ≡ true → b ≡ true) → (not a || b) ≡ true
 or_not true b h = h refl
 or_not false b h = refl
@@ -94,6 +98,17 @@ stopped_from (Some n) d c e = refl
 pub stopped_where : (marks : List Mark) → is_done marks || is_faulted marks ≡ true → has_stopped (state_by marks) ≡ true
 stopped_where marks e =
     stopped_from (fault_in marks) (is_done marks) (has_complete 0 marks) (ap (λ (f : Bool). is_done marks || f) (sym (faulted_is marks)) ∙ e)
+
+stops_from : (f : Option ℕ) (d c : Bool) → has_stopped (state_from f d c) ≡ true → d || is_some f ≡ true
+stops_from None true c e = refl
+stops_from None false true e = absurd (cc)
+stops_from None false false e = absurd (cc)
+stops_from (Some n) true c e = refl
+stops_from (Some n) false c e = refl
+
+pub stopped_tells : (marks : List Mark) → has_stopped (state_by marks) ≡ true → is_done marks || is_faulted marks ≡ true
+stopped_tells marks e =
+    ap (λ (f : Bool). is_done marks || f) (faulted_is marks) ∙ stops_from (fault_in marks) (is_done marks) (has_complete 0 marks) e
 
 going_from : (f : Option ℕ) (d c : Bool) → is_some f ≡ false → d ≡ false → c ≡ true → is_completing (state_from f d c) ≡ true
 going_from None false true ef ed ec = refl

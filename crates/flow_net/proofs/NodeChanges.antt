@@ -1,5 +1,5 @@
 -- A block that offers, expects, gives or takes a message keeps what it keeps of itself, and comes no nearer to its end.
-use Rattle.std.proofs.Common.{◌≡◌, ℕ, ◌==◌, true, false, List, [], ◌∷◌, ◌++◌, Option, Some, Result, refl, ap, sym, ◌∙◌, eq-eqb}
+use Rattle.std.proofs.Common.{◌≡◌, ℕ, ◌==◌, true, false, List, [], ◌∷◌, ◌++◌, Option, Some, None, Result, refl, ap, sym, ◌∙◌, eq-eqb}
 use Rattle.std.proofs.lemmas.List.{append_assoc}
 use Rattle.flow_value.specs.declared.value.Value.{Value}
 use Rattle.flow_link.specs.declared.draft.BlockKind.{BlockKind}
@@ -34,13 +34,16 @@ module _ (result : Value → Result (List Value) ℕ) where
       ap took ej ∙ made ∙ sym (ap (λ (vs : List Value). (vs ++ new.left) ++ new.held) (ap gave ej)
       ∙ ap (λ (vs : List Value). (gave old.journal ++ vs) ++ new.held) el
       ∙ ap (λ (vs : List Value). (gave old.journal ++ old.left) ++ vs) eh)
-  makes_with Action old new ej eh el er made = record {
-    done = made.done;
-    results = made.results;
-    taken_is = ap took ej ∙ made.taken_is ∙ ap (λ (vs : List Value). made.done ++ vs) (sym eh);
-    worked = made.worked;
-    all = er ∙ made.all;
-  }
+  makes_with Action old new ej eh el er (made, none) = (
+    record {
+      done = made.done;
+      results = made.results;
+      taken_is = ap took ej ∙ made.taken_is ∙ ap (λ (vs : List Value). made.done ++ vs) (sym eh);
+      worked = made.worked;
+      all = er ∙ made.all;
+    },
+    el ∙ none,
+  )
   makes_with Transform old new ej eh el er made = record {
     done = made.done;
     results = made.results;
@@ -95,13 +98,7 @@ module _ (result : Value → Result (List Value) ℕ) where
       → MakesAs result node kind → MakesAs result (gives l value node) kind
   makes_gives Buffer node l value head made =
       took_by_gave node.journal l value ∙ made ∙ ap (λ (vs : List Value). vs ++ node.held) (sym (given_and_left node l value head))
-  makes_gives Action node l value head made = record {
-    done = made.done;
-    results = made.results;
-    taken_is = took_by_gave node.journal l value ∙ made.taken_is;
-    worked = made.worked;
-    all = made.all;
-  }
+  makes_gives Action node l value head (made, none) = absurd (let wrong : None ≡ Some value = sym (ap first_of none) ∙ head in cc)
   makes_gives Transform node l value head made = record {
     done = made.done;
     results = made.results;
@@ -138,13 +135,16 @@ module _ (result : Value → Result (List Value) ℕ) where
   makes_takes Buffer node p l value made =
       took_by_took node.journal p l value ∙ taken_more (took node.journal) (gave node.journal ++ node.left) node.held value made
       ∙ ap (λ (vs : List Value). (vs ++ node.left) ++ (node.held ++ value ∷ [])) (sym (gave_by_took node.journal p l value))
-  makes_takes Action node p l value made = record {
-    done = made.done;
-    results = made.results;
-    taken_is = took_by_took node.journal p l value ∙ taken_more (took node.journal) made.done node.held value made.taken_is;
-    worked = made.worked;
-    all = made.all;
-  }
+  makes_takes Action node p l value (made, none) = (
+    record {
+      done = made.done;
+      results = made.results;
+      taken_is = took_by_took node.journal p l value ∙ taken_more (took node.journal) made.done node.held value made.taken_is;
+      worked = made.worked;
+      all = made.all;
+    },
+    none,
+  )
   makes_takes Transform node p l value made = record {
     done = made.done;
     results = made.results;

@@ -1,5 +1,5 @@
 -- What a block keeps, said of its state and of the stages of its two links alone, so that a step of it is judged with nothing else in sight.
-use Rattle.std.proofs.Common.{◌≡◌, ◌≢◌, ℕ, ◌<◌, true, false, List, [], length, Option, Some, None, Result, ◌⊎◌, is_some, refl, ap, sym, subst, ⊎_elim, get_or-set_same, get_or-set_other}
+use Rattle.std.proofs.Common.{◌≡◌, ◌≢◌, ℕ, ◌<◌, true, false, List, [], length, Option, Some, None, Result, ◌⊎◌, refl, ap, sym, subst, ⊎_elim, get_or-set_same, get_or-set_other}
 use Rattle.std.proofs.lemmas.Bool.{cases_eq}
 use Rattle.flow_value.specs.declared.value.Value.{Value}
 use Rattle.flow_link.specs.declared.draft.BlockKind.{BlockKind}
@@ -12,7 +12,7 @@ use Rattle.flow_link.specs.Lists.{every}
 use Rattle.flow_link.specs.Plan.{link_in, begins_at, ends_at}
 use Rattle.flow_link.specs.Trace.{has_complete, has_fault, is_done}
 use Rattle.flow_link.specs.Views.{SourceStage, TargetStage, Refusal}
-use Rattle.flow_net.specs.BlockKeeps.{AllKeep, BlockKeeps, HasFaulted, MakesAs, block_makes, is_own, is_first_port}
+use Rattle.flow_net.specs.BlockKeeps.{AllKeep, BlockKeeps, HasFaulted, MakesAs, Refuses, block_makes, is_own, is_first_port}
 use Rattle.flow_net.specs.Events.{kind_in, is_open, has_stopped, is_at_home, stage_into, stage_out, brings_completion, fault_brought, with_node}
 use Rattle.flow_net.specs.Parts.{NodeState, PartsState, fresh_node, node_at, line_at}
 use Rattle.flow_net.specs.States.{state_by}
@@ -33,7 +33,7 @@ pub record IsWell (result : Value → Result (List Value) ℕ) (kind : BlockKind
   pub done_complete : is_done node.journal ≡ true → has_complete 0 node.journal ≡ true
   pub complete_cause : has_complete 0 node.journal ≡ true → brings_completion incoming ≡ true
   pub fault_cause : (number : ℕ) → has_fault number node.journal ≡ true → (node.fault ≡ Some number) ⊎ (fault_brought incoming ≡ Some number)
-  pub refusal_cause : (why : Refusal) → incoming ≡ TargetStage.refused why → (is_open node.state ≡ false) ⊎ (is_some node.fault ≡ true)
+  pub refusal_cause : (why : Refusal) → incoming ≡ TargetStage.refused why → Refuses why node.state node.fault
   pub end_done : outgoing ≡ SourceStage.ended end_complete → is_done node.journal ≡ true
   pub end_faulted : (number : ℕ) → outgoing ≡ SourceStage.ended (end_fault number) → has_fault number node.journal ≡ true
   pub end_stopped : (how : LinkEnd) → outgoing ≡ SourceStage.ended how → has_stopped node.state ≡ true

@@ -1,14 +1,18 @@
 -- Where each link, block and input of a network keeps what it should, its parts keep their own laws, and the run so far is lawful.
-use Rattle.std.proofs.Common.{◌≡◌, ℕ, zero, suc, ◌+◌, ◌==◌, ◌<◌, ◌≤◌, ltb, Bool, true, false, not, ◌&&◌, ◌||◌, is_some, is_none, unwrap_or, List, [], ◌∷◌, ◌++◌, ◌⊎◌, length, get_or, take, map, Option, Some, None, Result, refl, ap, sym, subst, ◌∙◌, arith, ⊎_elim, eq-eqb, eqb-true, lt-ltb, take_all}
+use Rattle.std.proofs.Common.{◌≡◌, ℕ, zero, suc, ◌+◌, ◌==◌, ◌<◌, ◌≤◌, ltb, Bool, true, false, not, ◌&&◌, ◌||◌, is_some, is_none, unwrap_or, cond, count_by, List, [], ◌∷◌, ◌++◌, length, get_or, take, map, Option, Some, None, Result, refl, ap, sym, subst, ◌∙◌, arith, ⊎_elim, eq-eqb, eqb-true, lt-ltb, take_all}
 use Rattle.std.proofs.lemmas.Bool.{cases_eq}
-use Rattle.std.proofs.lemmas.List.{get_or-map}
+use Rattle.std.proofs.lemmas.List.{get_or-map, length-map}
+use Rattle.std.proofs.lemmas.List.Sums.{sum_by-cons}
 use Rattle.flow_value.specs.When.{admits}
 use Rattle.flow_value.specs.declared.value.Value.{Value}
 use Rattle.flow_value.specs.declared.work.WorkFault.{WorkFault}
 use Rattle.flow_link.specs.declared.draft.BlockDef.{BlockDef}
 use Rattle.flow_link.specs.declared.draft.BlockKind.{BlockKind}
 use Rattle.flow_link.specs.declared.draft.BlockKind.TheVariants.{Buffer, Action, Transform}
-use Rattle.flow_link.specs.declared.phase.LinkEnd.TheVariants.{Complete as end_complete, Fault as end_fault}
+use Rattle.flow_link.specs.declared.phase.LinkEnd.{LinkEnd}
+use Rattle.flow_link.specs.declared.phase.LinkEnd.TheVariants.{Plain, Complete as end_complete, Fault as end_fault}
+use Rattle.flow_link.specs.declared.phase.Phase.{Phase}
+use Rattle.flow_link.specs.declared.phase.Phase.TheVariants.{Ended}
 use Rattle.flow_link.specs.declared.plan.LinkSource.{LinkSource}
 use Rattle.flow_link.specs.declared.plan.LinkSource.TheVariants.{Block, Input}
 use Rattle.flow_link.specs.declared.plan.LinkTarget.{LinkTarget}
@@ -16,30 +20,31 @@ use Rattle.flow_link.specs.declared.plan.LinkTarget.TheVariants.{Port, Exit}
 use Rattle.flow_link.specs.declared.trace.Mark.{Mark}
 use Rattle.flow_link.specs.declared.trace.Mark.TheVariants.{Took, Gave, Complete, Fault, Done}
 use Rattle.flow_link.specs.Built.{IsBuilt, is_first_port}
-use Rattle.flow_link.specs.Composes.{Ends, SourceKeeps, TargetKeeps, InputKeeps, ExitKeeps, WorksInto, NodeMakes, NodeKeeps, PartsKeep, as_seen, facts_of, reserves_at, has_seen_completion, has_seen_fault, has_seen_cause, has_room_at, coming}
+use Rattle.flow_link.specs.Composes.{Ends, SourceKeeps, TargetKeeps, InputKeeps, ExitKeeps, WorksInto, NodeMakes, NodeKeeps, RefusesFor, PartsKeep, as_seen, facts_of, reserves_at, has_seen_completion, has_seen_fault, has_seen_cause, has_room_at, coming}
 use Rattle.flow_link.specs.Copies.{copies_as}
 use Rattle.flow_link.specs.Endings.{first_fault, fault_by_kind, fault_of, own_fault, is_number, is_complete, is_complete_as, has_nothing, stops, completes_once}
 use Rattle.flow_link.specs.Law.{is_own_mark, has_own_marks, has_room_for, takes_level, is_passed, gives_in_order, keeps_link_order}
 use Rattle.flow_link.specs.Layout.{Layout}
-use Rattle.flow_link.specs.LinkOk.{LinkOk}
+use Rattle.flow_link.specs.LinkOk.{LinkOk, StandAt, MayEnd, EndsWell}
 use Rattle.flow_link.specs.Lists.{every, some, numbers_from, below, is_empty, is_front}
 use Rattle.flow_link.specs.Making.{outputs, load}
 use Rattle.flow_link.specs.NotBuilt.{is_built_kind, is_built_block}
-use Rattle.flow_link.specs.Plan.{block_in, link_in, begins_at, ends_at, ends_at_port, is_one_taker, is_reserving, reserves_by_kind, ports_by_kind}
-use Rattle.flow_link.specs.Trace.{BlockTrace, InputTrace, Run, nothing_left, took, gave, gave_over, took_over, has_complete, has_fault, has_ended, is_done, link_numbers, trace_of, marks_of, held_at, left_at, ports_of, input_of}
-use Rattle.flow_link.specs.Views.{SourceStage, TargetStage, LinkFacts}
+use Rattle.flow_link.specs.Plan.{block_in, link_in, begins_at, ends_at, ends_at_port, is_one_taker, is_reserving, reserves_by_kind, ports_by_kind, port_count}
+use Rattle.flow_link.specs.Shape.{Shape, tells_each_port}
+use Rattle.flow_link.specs.Trace.{BlockTrace, InputTrace, Run, nothing_left, took, gave, gave_over, took_over, has_complete, has_fault, has_ended, is_done, is_faulted, is_cut, link_numbers, trace_of, marks_of, held_at, left_at, ports_of, input_of}
+use Rattle.flow_link.specs.Views.{SourceStage, TargetStage, LinkFacts, Refusal}
 use Rattle.flow_link.proofs.ListLemmas.{and_true, both_of, every_below}
 use Rattle.flow_link.proofs.WholeLemmas.{composes}
-use Rattle.flow_net.specs.BlockKeeps.{is_link, is_own, is_first_port as is_first, WorkedInto, MakesAs, BlockKeeps, AllKeep, block_makes}
-use Rattle.flow_net.specs.Events.{is_open, stage_into, stage_out, brings_completion, fault_brought}
+use Rattle.flow_net.specs.BlockKeeps.{is_link, is_own, is_first_port as is_first, WorkedInto, MakesAs, Refuses, BlockKeeps, AllKeep, block_makes}
+use Rattle.flow_net.specs.Events.{is_open, has_stopped, stage_into, stage_out, brings_completion, fault_brought}
 use Rattle.flow_net.specs.Keeps.{Keeps, LeadsWell, facts_in, reserves_in}
 use Rattle.flow_net.specs.Parts.{NodeState, FeedState, PartsState, fresh_node, node_at, feed_at, line_at}
-use Rattle.flow_net.specs.Seen.{block_trace, input_trace, run_with, works_of, sent_by, given_from, taken_into, source_view, target_view}
+use Rattle.flow_net.specs.Seen.{block_trace, input_trace, input_traces, run_with, works_of, sent_by, given_from, taken_into, source_view, target_view}
 use Rattle.flow_net.specs.Statements.{AllKeptIsLawful}
 use Rattle.flow_net.specs.declared.posted.State.TheVariants as state
 use Rattle.flow_net.proofs.LawLemmas.{input_found}
 use Rattle.flow_net.proofs.LawLemmas.{front_taken}
-use Rattle.flow_net.proofs.MarksTell.{or_first, or_second, or_not, false_where, every_all, every_by_two, link_is, ended_where, done_where, port_is, every_mark}
+use Rattle.flow_net.proofs.MarksTell.{or_first, or_second, or_either, or_not, false_where, every_all, every_by_two, link_is, ended_where, stopped_tells, done_where, port_is, every_mark}
 
 -- what holds of each kind that is built
 pub by_kind : (P : BlockKind → Type 0) → P Buffer → P Action → P Transform → (kind : BlockKind) → is_built_kind kind ≡ true → P kind
@@ -114,7 +119,7 @@ completion_over : (parts : PartsState) (into : Option ℕ)
 completion_over parts None e = absurd (cc)
 completion_over parts (Some l) e = (l, (refl, e))
 
-fault_over : (parts : PartsState) (into : Option ℕ) (n : ℕ)
+pub fault_over : (parts : PartsState) (into : Option ℕ) (n : ℕ)
     → fault_brought (elim into [ None ↦ TargetStage.free | Some l ↦ (line_at parts l).target ]) ≡ Some n
     → (l : ℕ) × ((into ≡ Some l) × (fault_brought (line_at parts l).target ≡ Some n))
 fault_over parts None n e = absurd (cc)
@@ -130,6 +135,46 @@ place_of (feed ∷ feeds) (block ∷ blocks) zero e = cc
 place_of (feed ∷ feeds) (block ∷ blocks) (suc b) e =
     let rest : map is_some feeds ≡ map (λ block. block.input) blocks = cc in
     place_of feeds blocks b rest
+
+-- there are as many inputs
+inputs_counted : {W : Type 0} (feeds : List (Option FeedState)) (blocks : List (BlockDef W))
+    → map is_some feeds ≡ map (λ block. block.input) blocks → length (input_traces feeds) ≡ count_by (λ block. block.input) blocks
+inputs_counted [] [] e = refl
+inputs_counted [] (block ∷ blocks) e = absurd (cc)
+inputs_counted (feed ∷ feeds) [] e = absurd (cc)
+inputs_counted (None ∷ feeds) (block ∷ blocks) e =
+    let is : false ≡ block.input = cc in
+    let rest : map is_some feeds ≡ map (λ block. block.input) blocks = cc in
+    let n = count_by (λ block. block.input) blocks in
+    let none : n ≡ 0 + n = omega arith in
+    inputs_counted feeds blocks rest ∙ none
+    ∙ ap (λ (i : Bool). cond i 1 0 + n) is
+    ∙ sym (sum_by-cons (λ block. cond block.input 1 0) block blocks)
+inputs_counted (Some feed ∷ feeds) (block ∷ blocks) e =
+    let is : true ≡ block.input = cc in
+    let rest : map is_some feeds ≡ map (λ block. block.input) blocks = cc in
+    let n = count_by (λ block. block.input) blocks in
+    let one : suc n ≡ 1 + n = omega arith in
+    ap suc (inputs_counted feeds blocks rest) ∙ one
+    ∙ ap (λ (i : Bool). cond i 1 0 + n) is
+    ∙ sym (sum_by-cons (λ block. cond block.input 1 0) block blocks)
+
+-- an end by the source is the phase, and a link that passes its source's end on ends plainly only where it is cut
+ended_phase : (phase : Phase) (how : LinkEnd) (target : TargetStage Value) → StandAt phase (SourceStage.ended how) target → phase ≡ Ended how
+ended_phase (Ended other) how TargetStage.free stand = ap Ended (sym stand)
+ended_phase (Ended other) how (TargetStage.ended yours) stand = ap Ended (sym stand.0)
+ended_phase (Ended other) how (TargetStage.postponed i) stand = ap Ended (sym stand)
+ended_phase (Ended other) how (TargetStage.consuming i) stand = ap Ended (sym stand)
+ended_phase (Ended other) how (TargetStage.asking i) stand = ap Ended (sym stand)
+ended_phase (Ended other) how _ stand = absurd stand
+ended_phase _ how target stand = absurd stand
+
+never_plain : (facts : LinkFacts) (phase : Phase) (source : SourceStage) (target : TargetStage Value) (count : ℕ)
+    → StandAt phase source target → EndsWell facts count phase → source ≡ SourceStage.ended Plain → facts.propagates ≡ true → facts.max ≡ None → ⊥
+never_plain facts phase source target count stand well is passes unbounded =
+    let ended = ended_phase phase Plain target (subst (λ (s : SourceStage). StandAt phase s target) is stand) in
+    let may : MayEnd facts count Plain = subst (λ (p : Phase). EndsWell facts count p) ended well in
+    let wrong : None ≡ Some count = sym unbounded ∙ may passes in cc
 
 there_where : (feed : Option FeedState) → is_some feed ≡ true → (f : FeedState) × (feed ≡ Some f)
 there_where None e = absurd (cc)
@@ -230,7 +275,10 @@ module _ {W : Type 0} (meaning : W → Value → Result (List Value) WorkFault) 
     makes_so : (kind : BlockKind) → is_built_kind kind ≡ true → MakesAs (block_makes layout (works_of meaning layout) b) node kind → NodeMakes run ends b kind
     makes_so Buffer is makes =
         subst (λ (t : BlockTrace). took t.journal ≡ (gave t.journal ++ t.left) ++ get_or t.held 0 []) (sym trace_is) makes
-    makes_so Action is makes = works_so node.recorded (trace_of run b).recorded (sym (ap (λ (t : BlockTrace). t.recorded) trace_is)) makes
+    makes_so Action is makes = record {
+      works = works_so node.recorded (trace_of run b).recorded (sym (ap (λ (t : BlockTrace). t.recorded) trace_is)) makes.0;
+      none_left = left_is ∙ makes.1;
+    }
     makes_so Transform is makes = works_so (gave node.journal ++ node.left) (outputs run b) outputs_are makes
     makes_so _ is makes = absurd (cc)
 
@@ -350,6 +398,9 @@ module _ {W : Type 0} (meaning : W → Value → Result (List Value) WorkFault) 
           admitted = of_marks (λ marks. every (admits (link_in layout.links l).when) (gave_over l marks) ≡ true) (keeps.admits_all l b there is).admitted;
           after_done = λ e. of_marks (λ marks. is_done marks ≡ true) (mine.end_done (same ∙ e));
           after_fault = λ n e. of_marks (λ marks. has_fault n marks ≡ true) (mine.end_faulted n (same ∙ e));
+          after_plain = λ e. or_either (is_cut run l) (is_done (marks_of run b)) (is_faulted (marks_of run b))
+              (of_marks (λ marks. is_done marks || is_faulted marks ≡ true)
+              (stopped_tells node.journal (ap has_stopped (sym mine.state_is) ∙ mine.end_stopped Plain (same ∙ e))));
         }
 
     has_own_fault : (o : Option ℕ) → node.fault ≡ o → is_some o ≡ true → is_some (own_fault run b) ≡ true
@@ -361,19 +412,15 @@ module _ {W : Type 0} (meaning : W → Value → Result (List Value) WorkFault) 
     port_ended e =
         of_marks (λ marks. has_ended 0 marks ≡ true) (ended_where node.journal (ap is_open (sym mine.state_is) ∙ e))
 
-    refuses_so : (p : ℕ) → p ≡ 0 → (is_open node.state ≡ false) ⊎ (is_some node.fault ≡ true) → (has_ended p (marks_of run b) || is_some (own_fault run b)) ≡ true
-    refuses_so p is why =
-        ⊎_elim
-        (λ closed. or_first (has_ended p (marks_of run b)) (is_some (own_fault run b))
-        (subst (λ (q : ℕ). has_ended q (marks_of run b) ≡ true) (sym is) (port_ended closed)))
-        (λ own. or_second (has_ended p (marks_of run b)) (is_some (own_fault run b)) (has_own_fault node.fault refl own))
-        why
+    refuses_so : (p : ℕ) → p ≡ 0 → (why : Refusal) → Refuses why node.state node.fault → RefusesFor run ends b p why
+    refuses_so p is Refusal.port_ended closed = subst (λ (q : ℕ). has_ended q (marks_of run b) ≡ true) (sym is) (port_ended closed)
+    refuses_so p is Refusal.own_fault own = has_own_fault node.fault refl own
 
     target_keeps : (l p : ℕ) → l < length layout.links → (link_in layout.links l).target ≡ Port b p → TargetKeeps run ends l b p
     target_keeps l p there is = record {
       from_start = refl;
       taken = ap (λ (target : LinkTarget). taken_into layout parts l target) is ∙ sym (ap (took_over l) marks_are);
-      refuses = λ why e. refuses_so p (first_port_is (link_in layout.links l).target b p (built.first_port l there) is)
+      refuses = λ why e. refuses_so p (first_port_is (link_in layout.links l).target b p (built.first_port l there) is) why
           (mine.refusal_cause why (into_stage l b p there is ∙ e));
     }
 
@@ -390,6 +437,7 @@ module _ {W : Type 0} (meaning : W → Value → Result (List Value) WorkFault) 
       done = or_not (is_done (marks_of run b)) (is_complete run b && has_nothing run b) done_so;
       causes = causes_so;
       order_seen = order_seen_so;
+      one_at_a_time = λ kind k l small smaller ek el spoken heard. built.one_out k l b small smaller ek el;
       sources = source_keeps;
       targets = target_keeps;
     }
@@ -412,6 +460,8 @@ module _ {W : Type 0} (meaning : W → Value → Result (List Value) WorkFault) 
             (subst (λ (t : InputTrace). is_front (take feed.sent feed.posted) t.posted ≡ true) (sym input) (front_taken feed.sent feed.posted));
         after_complete = λ e. let both = mine.completed e in (ending_is ∙ both.0, whole both.1);
         after_fault = λ n e. let both = mine.faulted n e in (ending_is ∙ both.0, whole both.1);
+        never_plain = λ e. never_plain (facts_in layout l) (line_at parts l).phase (line_at parts l).source (line_at parts l).target _
+            (keeps.lines l small).in_order.stages (keeps.lines l small).in_order.plan.ends e (leads.inputs_pass l b small is) (built.unbounded l small);
       }
 
   -- no link leads to the caller
@@ -425,8 +475,19 @@ module _ {W : Type 0} (meaning : W → Value → Result (List Value) WorkFault) 
   same_facts : (l : ℕ) → facts_in layout l ≡ facts_of run ends l
   same_facts l = ap (λ (reserves : Bool). record (facts_in layout l) { reserving = reserves }) (same_reserves (link_in layout.links l).target)
 
+  shape : Shape run
+  shape = record {
+    blocks = length-map parts.nodes block_trace ∙ keeps.node_count;
+    inputs = inputs_counted parts.feeds layout.blocks keeps.feed_places;
+    ports = every_below (tells_each_port run) (length layout.blocks)
+        (λ b small. eq-eqb (length (trace_of run b).held) (port_count (block_in layout.blocks b))
+        (ap (λ (t : BlockTrace). length t.held) (trace_is b small)
+        ∙ sym (one_port (block_in layout.blocks b).kind (block_in layout.blocks b).ports (plain b small).kind)));
+  }
+
   pub parts_keep : PartsKeep run ends
   parts_keep = record {
+    shape = shape;
     nodes = node_keeps;
     inputs = input_keeps;
     exits = exit_keeps;

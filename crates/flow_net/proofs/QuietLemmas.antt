@@ -26,7 +26,7 @@ use Rattle.flow_link.specs.Views.{TargetStage, Refusal, crossed}
 use Rattle.flow_link.proofs.ListLemmas.{and_true, both_of, every_below, same_values_where, drop_all}
 use Rattle.flow_link.proofs.LookLemmas.{looks_keep}
 use Rattle.flow_net.specs.AtRest.{AtRest, is_rest, is_going}
-use Rattle.flow_net.specs.BlockKeeps.{BlockKeeps, AllKeep}
+use Rattle.flow_net.specs.BlockKeeps.{BlockKeeps, AllKeep, Refuses}
 use Rattle.flow_net.specs.Events.{is_open, has_stopped, is_completing, stage_into, brings_completion, fault_brought, is_still}
 use Rattle.flow_net.specs.Keeps.{Keeps, LeadsWell, facts_in}
 use Rattle.flow_net.specs.Parts.{NodeState, PartsState, node_at, line_at}
@@ -214,12 +214,13 @@ module _ {W : Type 0} (meaning : W → Value → Result (List Value) WorkFault) 
     port_ended_by (end_fault n) is not_plain = closed (closed_where node.state (stopped_by n (ap fault_brought is)))
 
     -- and so has a refusal of its own
+    refused_by : (why : Refusal) → Refuses why node.state node.fault → has_ended 0 (marks_of run b) ≡ true
+    refused_by Refusal.port_ended is_closed = closed is_closed
+    refused_by Refusal.own_fault own =
+        closed (closed_where node.state (true_where (has_stopped node.state) (λ going. none_is_some node.fault (no_fault going) own)))
+
     port_ended_where : (why : Refusal) → stage_into parts node ≡ TargetStage.refused why → has_ended 0 (marks_of run b) ≡ true
-    port_ended_where why is =
-        ⊎_elim closed
-        (λ own. closed (closed_where node.state
-        (true_where (has_stopped node.state) (λ going. none_is_some node.fault (no_fault going) own))))
-        (mine.refusal_cause why is)
+    port_ended_where why is = refused_by why (mine.refusal_cause why is)
 
     has_served : has_served_all run b ≡ true
     has_served =

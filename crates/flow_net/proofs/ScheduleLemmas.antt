@@ -16,7 +16,7 @@ use Rattle.flow_net.proofs.WholeLemmas.{IsKept, kept_at_start, kept_after, kept_
 module _ {W : Type 0} (layout : Layout W) (meaning : ℕ → Value → Result (List Value) ℕ) where
   module _ (leads : LeadsWell layout) (built : IsBuilt layout.blocks layout.links) where
     -- an event that is asked for
-    answer_on : (event : Event W) (old new : PartsState) → Answers layout meaning event old new → IsKept layout meaning old → IsKept layout meaning new
+    pub answer_on : (event : Event W) (old new : PartsState) → Answers layout meaning event old new → IsKept layout meaning old → IsKept layout meaning new
     answer_on event old new answer kept =
         ⊎_elim
         (λ (one : Happens layout meaning event old new). kept_after layout leads built meaning old new event one.enabled one.new_is kept)
@@ -31,7 +31,7 @@ module _ {W : Type 0} (layout : Layout W) (meaning : ℕ → Value → Result (L
   abbrev inputs_of : PartsState → List InputTrace
   inputs_of parts = input_traces parts.feeds
 
-  answer_stays : (event : Event W) (old new : PartsState) → Answers layout meaning event old new → inputs_of new ≡ inputs_of old
+  pub answer_stays : (event : Event W) (old new : PartsState) → Answers layout meaning event old new → inputs_of new ≡ inputs_of old
   answer_stays event old new answer =
       ⊎_elim
       (λ (one : Happens layout meaning event old new). ap inputs_of one.new_is ∙ event_stays layout meaning old event)

@@ -21,6 +21,7 @@ use Rattle.flow_link.specs.Views.{SourceStage, TargetStage, Refusal}
 use Rattle.flow_net.specs.Events.{kind_in, is_open, has_stopped, is_at_home, stage_into, stage_out, brings_completion, fault_brought}
 use Rattle.flow_net.specs.Parts.{NodeState, FeedState, PartsState, node_at, feed_at, line_at}
 use Rattle.flow_net.specs.States.{state_by}
+use Rattle.flow_net.specs.declared.posted.State.{State}
 use Rattle.flow_net.specs.declared.posted.State.TheVariants as state
 
 abbrev pub is_link : ℕ → Option ℕ → Bool
@@ -48,7 +49,7 @@ pub record WorkedInto (result : Value → Result (List Value) ℕ) (taken held m
 
 abbrev pub MakesAs : (Value → Result (List Value) ℕ) → NodeState → BlockKind → Type 0
 MakesAs result node Buffer = took node.journal ≡ (gave node.journal ++ node.left) ++ node.held
-MakesAs result node Action = WorkedInto result (took node.journal) node.held node.recorded
+MakesAs result node Action = WorkedInto result (took node.journal) node.held node.recorded × (node.left ≡ [])
 MakesAs result node Transform = WorkedInto result (took node.journal) node.held (gave node.journal ++ node.left)
 MakesAs result node kind = Unit {0}
 
@@ -59,6 +60,11 @@ pub record HasFaulted (result : Value → Result (List Value) ℕ) (kind : Block
   pub rest : List Value
   pub held_is : node.held ≡ message ∷ rest
   pub fails : result message ≡ Err number
+
+-- a block that has become so, and has this fault of its own, takes no message any more for this reason
+abbrev pub Refuses : Refusal → State → Option ℕ → Type 0
+Refuses Refusal.port_ended became fault = is_open became ≡ false
+Refuses Refusal.own_fault became fault = is_some fault ≡ true
 
 module _ {W : Type 0} (layout : Layout W) (meaning : ℕ → Value → Result (List Value) ℕ) where
   -- what a block makes of a message
@@ -91,7 +97,7 @@ module _ {W : Type 0} (layout : Layout W) (meaning : ℕ → Value → Result (L
       pub fault_cause : (number : ℕ) → has_fault number (node_at parts b).journal ≡ true
           → ((node_at parts b).fault ≡ Some number) ⊎ (fault_brought (stage_into parts (node_at parts b)) ≡ Some number)
       pub refusal_cause : (why : Refusal) → stage_into parts (node_at parts b) ≡ TargetStage.refused why
-          → (is_open (node_at parts b).state ≡ false) ⊎ (is_some (node_at parts b).fault ≡ true)
+          → Refuses why (node_at parts b).state (node_at parts b).fault
       -- it ends the link that leads out of it as it ended
       pub end_done : stage_out parts (node_at parts b) ≡ SourceStage.ended end_complete → is_done (node_at parts b).journal ≡ true
       pub end_faulted : (number : ℕ) → stage_out parts (node_at parts b) ≡ SourceStage.ended (end_fault number)

@@ -41,11 +41,12 @@ rest_of (_ ∷ values) = values
 abbrev pub value_at : List Value → ℕ → Option Value
 value_at values n = get_or (map Some values) n None
 
--- the block takes no message any more, of itself or by its own fault
+-- nothing has ended the block's port; whether a fault of its own keeps it from taking messages is another question
 abbrev pub is_open : State → Bool
 is_open state.Open = true
 is_open _ = false
 
+-- the block has ended, and does no more
 abbrev pub has_stopped : State → Bool
 has_stopped state.Done = true
 has_stopped (state.Faulted _) = true

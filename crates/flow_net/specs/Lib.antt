@@ -5,6 +5,7 @@ pub mod Fresh
 pub mod Keeps
 pub mod Made
 pub mod Net
+pub mod Numbers
 pub mod Parts
 pub mod Schedules
 pub mod Seen

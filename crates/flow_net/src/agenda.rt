@@ -8,14 +8,14 @@ use flow_link::{Link, LinkSource, LinkTarget, Move, Plan};
 use std::alloc::{AllocError, Global};
 
 /// A link or a block.
-#[derive(Clone, Copy, Debug, PartialEq, Eq)]
+#[derive(Clone, Copy)]
 pub(crate) enum Spot {
     Link(usize),
     Block(usize),
 }
 
 /// The spots to look at, the newest first, each of them once.
-#[derive(Debug, Drop)]
+#[derive(Drop)]
 pub(crate) struct Agenda {
     spots: Vec<Spot>,
     has_link: Vec<bool>,

@@ -1,5 +1,8 @@
 //! Laws about the states of a network. Each stands on a function that does nothing: whoever calls it has the whole law.
+ghost use Rattle.flow_net.specs.Numbers.{BlocksFaultByNumber, WorksFaultByNumber};
 ghost use Rattle.flow_net.specs.Statements.{AllKeptIsLawful, EventsKeep, EventsKeepAll, FreshKeeps, FreshKeepsAll, KeptIsLawful, PlansLeadWell, QuietAtRest, RestIsQuiet, SchedulesGoWell};
+
+use flow_value::Work;
 
 /// The links of a plan lead from blocks and inputs that are there to blocks that are there.
 pub fn plans_lead_well<W>()
@@ -51,4 +54,14 @@ pub fn networks_at_rest_are_quiet<W>()
 /// each link is in order, what was posted stays, and where nothing may happen any more the run is quiet.
 pub fn every_schedule_is_lawful<W>()
     ensures { SchedulesGoWell W }
+{}
+
+/// What a block's work means of a value is never fault 0: want of memory, which has no number, is no meaning.
+pub fn works_fault_by_number<W: Work>()
+    ensures { WorksFaultByNumber W W.meaning }
+{}
+
+/// No block ends by fault 0, whatever events are asked for, where no input does.
+pub fn blocks_fault_by_number<W: Work>()
+    ensures { BlocksFaultByNumber W W.meaning }
 {}

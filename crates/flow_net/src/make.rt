@@ -30,11 +30,11 @@ struct Frame {
 }
 
 impl<W: Work> Net<W> {
-    ghost use Rattle.flow_net.specs.Net.{layout_in, parts_of};
+    ghost use Rattle.flow_net.specs.Net.{layout_in, parts_of, run_of};
     ghost use Rattle.flow_net.specs.Fresh.{IsFresh};
 
-    /// A network in which nothing has happened, with these posted values: one list for each block that is an input, in the
-    /// order of the blocks. For want of memory both come back.
+    /// A network in which nothing has happened, with these posted values and endings: one list for each block that is an input,
+    /// in the order of the blocks. For want of memory both come back.
     pub fn new(
         alloc: Global,
         plan: Plan<W>,
@@ -42,7 +42,7 @@ impl<W: Work> Net<W> {
     ) -> Result<Net<W>, (Plan<W>, Vec<Posted>)>
         requires one_each { length posted.items ≡ count_by (λ block. block.input) (layout_of plan).blocks }
         ensures planned { IfOk result (λ net. layout_in net ≡ layout_of plan) }
-        ensures made { IfOk result (λ net. input_traces (parts_of net).feeds ≡ map input_of posted.items) }
+        ensures made { IfOk result (λ net. (run_of W.meaning net).trace.inputs ≡ map input_of posted.items) }
         ensures fresh { IfOk result (λ net. IsFresh (layout_in net) (parts_of net)) }
         ensures plan_back { IfErr result (λ back. back.0 ≡ plan) }
         ensures posted_back { IfErr result (λ back. back.1 ≡ posted) }

@@ -146,6 +146,3 @@ impl<W: Work> Net<W> {
         self.engine.parts.nodes[block].record()
     }
 }
-
-#[cfg(test)]
-mod tests;

@@ -9,7 +9,7 @@ use flow_link::{LinkEnd, Phase};
 use flow_value::{MessageHeader, Parcel};
 
 /// Where the source's end stands.
-#[derive(Clone, Copy, Debug, PartialEq, Eq)]
+#[derive(Clone, Copy)]
 pub(crate) enum SourceStage {
     /// Nothing is under way.
     Free,
@@ -26,7 +26,7 @@ pub(crate) enum SourceStage {
 }
 
 /// Why a target takes no message any more.
-#[derive(Clone, Copy, Debug, PartialEq, Eq)]
+#[derive(Clone, Copy)]
 pub(crate) enum Refusal {
     /// The port has ended.
     PortEnded,
@@ -35,7 +35,7 @@ pub(crate) enum Refusal {
 }
 
 /// Where the target's end stands.
-#[derive(Debug, Drop)]
+#[derive(Drop)]
 pub(crate) enum TargetStage {
     /// Nothing is under way.
     Free,
