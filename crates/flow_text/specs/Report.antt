@@ -2,6 +2,8 @@
 use Rattle.std.specs.Prelude.{ℕ, ◌+◌, ◌-◌, Bool, true, false, cond, List, [], ◌∷◌, ◌++◌, length, map, take, count_by, codes}
 use Rattle.std.specs.List.{filter, concat}
 use Rattle.std.specs.Fmt.{decimal}
+use Rattle.flow_value.specs.Function.{meaning_of}
+use Rattle.flow_value.specs.declared.steps.Steps.{Steps}
 use Rattle.flow_value.specs.declared.value.Value.{Value}
 use Rattle.flow_link.specs.declared.draft.BlockDef.{BlockDef}
 use Rattle.flow_link.specs.declared.draft.BlockKind.{BlockKind}
@@ -11,6 +13,8 @@ use Rattle.flow_link.specs.Layout.{outer_links}
 use Rattle.flow_link.specs.Plan.{begins_at}
 use Rattle.flow_link.specs.Lists.{below}
 use Rattle.flow_link.specs.Trace.{Run, took_at, gave_over, block_of, link_of, marks_of, trace_of, held_at, left_at, waits_over, ports_of, block_numbers}
+use Rattle.flow_net.specs.Net.{run_of}
+use Rattle.flow_net.specs.declared.net.Net.{Net}
 use Rattle.flow_net.specs.declared.posted.Settled.{Settled}
 use Rattle.flow_net.specs.declared.posted.Settled.TheVariants.{Quiet, Stopped}
 use Rattle.flow_net.specs.States.{state_by}
@@ -109,3 +113,7 @@ module _ {W : Type 0} (run : Run W) where
 
   abbrev pub report : Settled → List ℕ
   report settled = concat (map block_report (block_numbers run)) ++ settled_line settled
+
+-- the run of a network of steps, so far
+abbrev pub run_in : {w : _} {e : _} → Net Steps w e → Run Steps
+run_in net = run_of meaning_of net

@@ -7,11 +7,11 @@ mod network;
 mod plan_line;
 mod records;
 mod report;
-mod reported;
+mod seen;
 mod value_text;
 
 pub use complete::is_complete;
 pub use fault::{TextFault, TextPlace, TextRefusal};
 pub use network::read_plan;
 pub use records::read_records;
-pub use reported::write_report;
+pub use report::write_report;

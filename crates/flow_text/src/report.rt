@@ -8,12 +8,13 @@ ghost use Rattle.flow_link.specs.Layout.{IsLaidOut, input_link};
 ghost use Rattle.flow_link.specs.Plan.{begins_at, port_count};
 ghost use Rattle.flow_link.specs.Trace.{input_of, Run, took_at, took_over, gave_over, block_of, link_of, trace_of, marks_of, held_at, left_at, waits_over};
 ghost use Rattle.flow_text.specs.Printed.{list_text};
-ghost use Rattle.flow_text.specs.Report.{state_word, block_line, input_line, port_line, held_line, link_line, exit_line, settled_line, last_line, state_of, is_input, is_output, between_count, input_link_number, exit_link_number, input_part, exit_part, last_part, all_ports, all_links, block_report, report};
+ghost use Rattle.flow_text.specs.Report.{state_word, block_line, input_line, port_line, held_line, link_line, exit_line, settled_line, last_line, state_of, is_input, is_output, between_count, input_link_number, exit_link_number, input_part, exit_part, last_part, all_ports, all_links, block_report, report, run_in};
 
 use crate::fault::{TextFault, TextRefusal};
+use crate::seen::{block_at, block_count, held_at, left_at, link_at, link_count};
 use crate::value_text::{write_item, write_values};
 use flow_link::{BlockDef, BlockKind, Link, LinkSource, Mark};
-use flow_net::{Settled, State};
+use flow_net::{Net, Settled, State};
 use flow_value::{Steps, Value};
 use itoa::Buffer;
 use std::io;
@@ -234,65 +235,14 @@ fn write_settled_line<W: Write>(writer: &mut W, settled: Settled) -> io::Result<
     }
 }
 
-/// What a report reads of a network.
-pub(crate) trait Reported {
-    ghost run: { Self → Run Steps };
-
-    fn block_count(&self) -> usize
-        ensures { result ≡ length (run self.now).layout.blocks };
-
-    fn block(&self, number: usize) -> &BlockDef<Steps>
-        requires { number < length (run self.now).layout.blocks }
-        ensures { HoldsAt (λ block. result.now ≡ block) (run self.now).layout.blocks number };
-
-    /// How many links there are; those of inputs and exits come last.
-    fn link_count(&self) -> usize
-        ensures count { result ≡ length (run self.now).layout.links }
-        ensures laid_out { IsLaidOut (run self.now).layout.blocks (run self.now).layout.links };
-
-    fn link(&self, id: usize) -> Link
-        requires { id < length (run self.now).layout.links }
-        ensures { HoldsAt (λ link. result ≡ link) (run self.now).layout.links id };
-
-    fn state(&self, block: usize) -> State
-        requires { block < length (run self.now).layout.blocks }
-        ensures { result ≡ state_of (run self.now) block };
-
-    fn journal(&self, block: usize) -> &[Mark]
-        requires { block < length (run self.now).layout.blocks }
-        ensures { result.now ≡ marks_of (run self.now) block };
-
-    /// What was posted to the input of a block that is one.
-    fn posted(&self, block: usize) -> &[Value]
-        requires known { block < length (run self.now).layout.blocks }
-        requires is_input { (block_of (run self.now) block).input ≡ true }
-        ensures { result.now ≡ (input_of (run self.now) block).posted };
-
-    /// What a port holds, in two parts.
-    fn held(&self, block: usize, port: u32) -> (&[Value], &[Value])
-        requires block { block < length (run self.now).layout.blocks }
-        requires port { port < port_count (block_of (run self.now) block) }
-        ensures { result.0.now ++ result.1.now ≡ held_at (run self.now) block port };
-
-    /// The outputs that weren't given, in two parts.
-    fn left(&self, block: usize) -> (&[Value], &[Value])
-        requires { block < length (run self.now).layout.blocks }
-        ensures { result.0.now ++ result.1.now ≡ left_at (run self.now) block };
-
-    /// The results that an action keeps.
-    fn record(&self, block: usize) -> &[Value]
-        requires { block < length (run self.now).layout.blocks }
-        ensures { result.now ≡ (trace_of (run self.now) block).recorded };
-}
-
 // How many inputs have a smaller number.
-fn inputs_before<N: Reported>(net: &N, block: usize) -> usize
-    requires { block ≤ length (N.run net.now).layout.blocks }
-    ensures { result ≡ count_by is_input (take block (N.run net.now).layout.blocks) }
+fn inputs_before(net: &Net<Steps>, block: usize) -> usize
+    requires { block ≤ length (run_in net.now).layout.blocks }
+    ensures { result ≡ count_by is_input (take block (run_in net.now).layout.blocks) }
 {
     let mut count = 0;
     for number in 0..block {
-        if net.block(number).input {
+        if block_at(net, number).input {
             count += 1;
         }
     }
@@ -300,13 +250,13 @@ fn inputs_before<N: Reported>(net: &N, block: usize) -> usize
 }
 
 // How many blocks with an exit have a smaller number.
-fn exits_before<N: Reported>(net: &N, block: usize) -> usize
-    requires { block ≤ length (N.run net.now).layout.blocks }
-    ensures { result ≡ count_by is_output (take block (N.run net.now).layout.blocks) }
+fn exits_before(net: &Net<Steps>, block: usize) -> usize
+    requires { block ≤ length (run_in net.now).layout.blocks }
+    ensures { result ≡ count_by is_output (take block (run_in net.now).layout.blocks) }
 {
     let mut count = 0;
     for number in 0..block {
-        if net.block(number).output {
+        if block_at(net, number).output {
             count += 1;
         }
     }
@@ -314,34 +264,34 @@ fn exits_before<N: Reported>(net: &N, block: usize) -> usize
 }
 
 // How many of so many links lead from one block to another.
-fn links_between<N: Reported>(net: &N, links: usize) -> usize
-    requires { links ≡ length (N.run net.now).layout.links }
-    ensures { result ≡ between_count (N.run net.now) }
+fn links_between(net: &Net<Steps>, links: usize) -> usize
+    requires { links ≡ length (run_in net.now).layout.links }
+    ensures { result ≡ between_count (run_in net.now) }
 {
-    let blocks = net.block_count();
+    let blocks = block_count(net);
     let inner = links.saturating_sub(inputs_before(net, blocks));
     inner.saturating_sub(exits_before(net, blocks))
 }
 
 // The number of the link of a block that is an input.
-fn input_link_of<N: Reported>(net: &N, block: usize) -> usize
-    requires { block < length (N.run net.now).layout.blocks }
-    ensures number { result ≡ input_link_number (N.run net.now) block }
-    ensures leads { (block_of (N.run net.now) block).input ≡ true → link_of (N.run net.now) result ≡ input_link block }
+fn input_link_of(net: &Net<Steps>, block: usize) -> usize
+    requires { block < length (run_in net.now).layout.blocks }
+    ensures number { result ≡ input_link_number (run_in net.now) block }
+    ensures leads { (block_of (run_in net.now) block).input ≡ true → link_of (run_in net.now) result ≡ input_link block }
 {
-    let links = net.link_count();
+    let links = link_count(net);
     links_between(net, links) + inputs_before(net, block)
 }
 
 // The number of the link of a block with an exit.
-fn exit_link_of<N: Reported>(net: &N, block: usize) -> usize
-    requires { block < length (N.run net.now).layout.blocks }
-    ensures { result ≡ exit_link_number (N.run net.now) block }
+fn exit_link_of(net: &Net<Steps>, block: usize) -> usize
+    requires { block < length (run_in net.now).layout.blocks }
+    ensures { result ≡ exit_link_number (run_in net.now) block }
 {
-    let links = net.link_count();
-    let inputs = inputs_before(net, net.block_count());
+    let links = link_count(net);
+    let inputs = inputs_before(net, block_count(net));
     let inner = links.saturating_sub(inputs);
-    let between = inner.saturating_sub(exits_before(net, net.block_count()));
+    let between = inner.saturating_sub(exits_before(net, block_count(net)));
     between + inputs + exits_before(net, block)
 }
 
@@ -354,13 +304,13 @@ fn ports_of(block: &BlockDef<Steps>) -> u32
     }
 }
 
-fn write_ports<N: Reported, W: Write>(writer: &mut W, net: &N, block: usize) -> io::Result<()>
-    requires { block < length (N.run net.now).layout.blocks }
-    ensures { OnOk result (Appends (W.contents writer.old) (W.contents writer.new) (all_ports (N.run net.now) block)) }
+fn write_ports<W: Write>(writer: &mut W, net: &Net<Steps>, block: usize) -> io::Result<()>
+    requires { block < length (run_in net.now).layout.blocks }
+    ensures { OnOk result (Appends (W.contents writer.old) (W.contents writer.new) (all_ports (run_in net.now) block)) }
 {
-    for port in 0..ports_of(net.block(block)) {
+    for port in 0..ports_of(block_at(net, block)) {
         write_port_line(writer, port, net.journal(block))?;
-        let (front, back) = net.held(block, port);
+        let (front, back) = held_at(net, block, port);
         write_held_line(writer, port, front, back)?;
     }
     Ok(())
@@ -375,12 +325,12 @@ fn is_from(link: Link, block: usize) -> bool
     }
 }
 
-fn write_links<N: Reported, W: Write>(writer: &mut W, net: &N, block: usize) -> io::Result<()>
-    requires { block < length (N.run net.now).layout.blocks }
-    ensures { OnOk result (Appends (W.contents writer.old) (W.contents writer.new) (all_links (N.run net.now) block)) }
+fn write_links<W: Write>(writer: &mut W, net: &Net<Steps>, block: usize) -> io::Result<()>
+    requires { block < length (run_in net.now).layout.blocks }
+    ensures { OnOk result (Appends (W.contents writer.old) (W.contents writer.new) (all_links (run_in net.now) block)) }
 {
-    for id in 0..links_between(net, net.link_count()) {
-        if is_from(net.link(id), block) {
+    for id in 0..links_between(net, link_count(net)) {
+        if is_from(link_at(net, id), block) {
             write_link_line(writer, id, net.journal(block))?;
         }
     }
@@ -388,53 +338,53 @@ fn write_links<N: Reported, W: Write>(writer: &mut W, net: &N, block: usize) -> 
 }
 
 /// What waits at the input of a block that is one.
-pub(crate) fn waiting<N: Reported>(net: &N, block: usize) -> &[Value]
-    requires known { block < length (N.run net.now).layout.blocks }
-    requires is_input { (block_of (N.run net.now) block).input ≡ true }
-    ensures { result.now ≡ waits_over (N.run net.now) block (input_link_number (N.run net.now) block) }
+pub(crate) fn waiting(net: &Net<Steps>, block: usize) -> &[Value]
+    requires known { block < length (run_in net.now).layout.blocks }
+    requires is_input { (block_of (run_in net.now) block).input ≡ true }
+    ensures { result.now ≡ waits_over (run_in net.now) block (input_link_number (run_in net.now) block) }
 {
     let taken = count_taken(net.journal(block), input_link_of(net, block));
     not_taken(net.posted(block), taken)
 }
 
-fn write_input<N: Reported, W: Write>(writer: &mut W, net: &N, block: usize) -> io::Result<()>
-    requires { block < length (N.run net.now).layout.blocks }
-    ensures { OnOk result (Appends (W.contents writer.old) (W.contents writer.new) (input_part (N.run net.now) block)) }
+fn write_input<W: Write>(writer: &mut W, net: &Net<Steps>, block: usize) -> io::Result<()>
+    requires { block < length (run_in net.now).layout.blocks }
+    ensures { OnOk result (Appends (W.contents writer.old) (W.contents writer.new) (input_part (run_in net.now) block)) }
 {
-    if net.block(block).input {
+    if block_at(net, block).input {
         write_input_line(writer, waiting(net, block))?;
     }
     Ok(())
 }
 
-fn write_exit<N: Reported, W: Write>(writer: &mut W, net: &N, block: usize) -> io::Result<()>
-    requires { block < length (N.run net.now).layout.blocks }
-    ensures { OnOk result (Appends (W.contents writer.old) (W.contents writer.new) (exit_part (N.run net.now) block)) }
+fn write_exit<W: Write>(writer: &mut W, net: &Net<Steps>, block: usize) -> io::Result<()>
+    requires { block < length (run_in net.now).layout.blocks }
+    ensures { OnOk result (Appends (W.contents writer.old) (W.contents writer.new) (exit_part (run_in net.now) block)) }
 {
-    if net.block(block).output {
+    if block_at(net, block).output {
         write_exit_line(writer, exit_link_of(net, block), net.journal(block))?;
     }
     Ok(())
 }
 
-fn write_last<N: Reported, W: Write>(writer: &mut W, net: &N, block: usize) -> io::Result<()>
-    requires { block < length (N.run net.now).layout.blocks }
-    ensures { OnOk result (Appends (W.contents writer.old) (W.contents writer.new) (last_part (N.run net.now) block)) }
+fn write_last<W: Write>(writer: &mut W, net: &Net<Steps>, block: usize) -> io::Result<()>
+    requires { block < length (run_in net.now).layout.blocks }
+    ensures { OnOk result (Appends (W.contents writer.old) (W.contents writer.new) (last_part (run_in net.now) block)) }
 {
-    match net.block(block).kind {
+    match block_at(net, block).kind {
         BlockKind::Action => write_record_line(writer, net.record(block)),
         _ => {
-            let (front, back) = net.left(block);
+            let (front, back) = left_at(net, block);
             write_left_line(writer, front, back)
         }
     }
 }
 
-fn write_block<N: Reported, W: Write>(writer: &mut W, net: &N, block: usize) -> io::Result<()>
-    requires { block < length (N.run net.now).layout.blocks }
-    ensures { OnOk result (Appends (W.contents writer.old) (W.contents writer.new) (block_report (N.run net.now) block)) }
+fn write_block<W: Write>(writer: &mut W, net: &Net<Steps>, block: usize) -> io::Result<()>
+    requires { block < length (run_in net.now).layout.blocks }
+    ensures { OnOk result (Appends (W.contents writer.old) (W.contents writer.new) (block_report (run_in net.now) block)) }
 {
-    write_block_line(writer, net.block(block).name.as_str(), net.state(block))?;
+    write_block_line(writer, block_at(net, block).name.as_str(), net.state(block))?;
     write_input(writer, net, block)?;
     write_ports(writer, net, block)?;
     write_links(writer, net, block)?;
@@ -443,26 +393,22 @@ fn write_block<N: Reported, W: Write>(writer: &mut W, net: &N, block: usize) -> 
 }
 
 /// Writes the report of a network that stopped so.
-pub(crate) fn write_lines<N: Reported, W: Write>(
-    writer: &mut W,
-    net: &N,
-    settled: Settled,
-) -> io::Result<()>
-    ensures { OnOk result (Appends (W.contents writer.old) (W.contents writer.new) (report (N.run net.now) settled)) }
+fn write_lines<W: Write>(writer: &mut W, net: &Net<Steps>, settled: Settled) -> io::Result<()>
+    ensures { OnOk result (Appends (W.contents writer.old) (W.contents writer.new) (report (run_in net.now) settled)) }
 {
-    for block in 0..net.block_count() {
+    for block in 0..block_count(net) {
         write_block(writer, net, block)?;
     }
     write_settled_line(writer, settled)
 }
 
 /// Writes the report of a network that stopped so, in many small pieces: the writer should gather them.
-pub(crate) fn write_report_of<N: Reported, W: Write>(
-    net: &N,
+pub fn write_report<W: Write>(
+    net: &Net<Steps>,
     settled: Settled,
     writer: &mut W,
 ) -> Result<(), TextRefusal>
-    ensures written { OnOk result (Appends (W.contents writer.old) (W.contents writer.new) (report (N.run net.now) settled)) }
+    ensures written { OnOk result (Appends (W.contents writer.old) (W.contents writer.new) (report (run_in net.now) settled)) }
     ensures refused { IfErr result (λ refusal. refusal ≡ TextRefusal.Fault TextFault.Write) }
 {
     match write_lines(writer, net, settled) {

@@ -2,16 +2,16 @@ use Rattle.std.proofs.Common.{◌++◌}
 use Rattle.std.proofs.lemmas.Result.{on_ok_weaker}
 use Rattle.flow_link.specs.Plan.{no_block}
 use Rattle.flow_link.specs.Trace.{block_of}
-use Rattle.flow_text.specs.Report.{block_line, state_of, input_part, all_ports, all_links, exit_part, last_part}
+use Rattle.flow_text.specs.Report.{block_line, state_of, input_part, all_ports, all_links, exit_part, last_part, run_in}
 use Rattle.flow_text.proofs.PrintLemmas.{appends-both}
 use Rattle.flow_text.proofs.report.write_block.Goals as goal
 
 pub returns : goal.returns
 returns g c =
-    let run = g.N.Reported.run c.args.net.now in
+    let run = run_in c.args.net.now in
     let b = c.args.block in
     let line = block_line (block_of run b).name (state_of run b) in
-    let first = rw (c.as_str.ensures, c.block.ensures no_block, c.state.ensures) at c.in_ok-write_block_line.ensures in
+    let first = rw (c.as_str.ensures, c.block_at.ensures no_block, c.state.ensures) at c.in_ok-write_block_line.ensures in
     let second = appends-both _ _ _ line (input_part run b) first c.in_ok-write_input.ensures in
     let third = appends-both _ _ _ (line ++ input_part run b) (all_ports run b) second c.in_ok-write_ports.ensures in
     let fourth = appends-both _ _ _ (line ++ input_part run b ++ all_ports run b) (all_links run b) third c.in_ok-write_links.ensures in

@@ -1,6 +1,6 @@
-use Rattle.flow_text.specs.Report.{block_report}
+use Rattle.flow_text.specs.Report.{block_report, run_in}
 use Rattle.flow_text.proofs.ReportLemmas.{lines-more}
 use Rattle.flow_text.proofs.report.write_lines.Goals as goal
 
 pub loop-block-preserved : goal.loop-block-preserved
-loop-block-preserved g c = lines-more (block_report (g.N.Reported.run c.args.net.now)) c.loop-block.block _ _ _ c.loop-block.invariant c.in_ok-write_block.ensures
+loop-block-preserved g c = lines-more (block_report (run_in c.args.net.now)) c.loop-block.block _ _ _ c.loop-block.invariant c.in_ok-write_block.ensures

@@ -1,11 +1,11 @@
-use Rattle.flow_text.specs.Report.{port_lines}
+use Rattle.flow_text.specs.Report.{port_lines, run_in}
 use Rattle.flow_text.proofs.PrintLemmas.{appends-both}
 use Rattle.flow_text.proofs.ReportLemmas.{lines-more}
 use Rattle.flow_text.proofs.report.write_ports.Goals as goal
 
 pub loop-port-preserved : goal.loop-port-preserved
 loop-port-preserved g c =
-    let run = g.N.Reported.run c.args.net.now in
+    let run = run_in c.args.net.now in
     let port = rw c.journal.ensures at c.in_ok-write_port_line.ensures in
-    let held = rw c.held.ensures at c.in_ok-write_held_line.ensures in
+    let held = rw c.held_at.ensures at c.in_ok-write_held_line.ensures in
     lines-more (port_lines run c.args.block) c.loop-port.port _ _ _ c.loop-port.invariant (appends-both _ _ _ _ _ port held)
