@@ -10,7 +10,7 @@ use Rattle.flow_value.specs.Items.{Items, done, int_then, text_then, row_then, v
 use Rattle.flow_value.specs.View.{items_from, values_of, items_from-values_of}
 use Rattle.flow_value.specs.declared.value.Value.{Value}
 use Rattle.flow_value.specs.declared.value.Value.TheVariants.{Int, Text, Row}
-use Rattle.flow_text.specs.Printed.{escaped, escapes, item_texts, value_text, comma_unless, opened}
+use Rattle.flow_text.specs.Printed.{escaped, escapes, item_texts, value_text, list_text, comma_unless, opened}
 
 -- how many values there are in a value, with those in its rows
 abbrev pub weight : Value → ℕ
@@ -100,6 +100,11 @@ item_texts-are done = refl
 item_texts-are (int_then n rest) = ap (λ texts. value_text (Int n) ∷ texts) (item_texts-are rest)
 item_texts-are (text_then t rest) = ap (λ texts. value_text (Text t) ∷ texts) (item_texts-are rest)
 item_texts-are (row_then inner rest) = ap (λ texts. value_text (Row inner) ∷ texts) (item_texts-are rest)
+
+-- a row as an item of a list
+pub row-item : (old mid new : Option (List ℕ)) (first : Bool) (v : Value) (row : Items) (values : List Value) → v ≡ Row row → values ≡ values_of row
+    → Appends old mid (comma_unless first) → Appends mid new (list_text values) → Appends old new (comma_unless first ++ value_text v)
+row-item old mid new first v row values is all before after = rw (is, item_texts-are row, ← all) (appends-both old mid new _ _ before after)
 
 -- one more item of a list
 join-more : (v : Value) (vs : List Value)

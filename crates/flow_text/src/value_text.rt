@@ -113,28 +113,22 @@ fn write_text<W: Write>(writer: &mut W, is_first: bool, text: &str) -> io::Resul
     writer.write_all(b"\"")
 }
 
-/// Writes the value.
-#[cycle(printing)]
-pub(crate) fn write_value<W: Write>(writer: &mut W, value: &Value) -> io::Result<()>
-    ensures { OnOk result (Appends (W.contents writer.old) (W.contents writer.new) (value_text value.now)) }
-{
-    match value {
-        Value::Int(number) => writer.write_all(Buffer::new().format(*number).as_bytes()),
-        Value::Text(text) => write_text(writer, true, text.as_str()),
-        Value::Row(row) => write_values(writer, row.items()),
-    }
-}
-
 /// Writes the value as an item of a list: with a comma before it, unless it is the first.
 #[cycle(printing)]
 pub(crate) fn write_item<W: Write>(writer: &mut W, is_first: bool, value: &Value) -> io::Result<()>
     ensures { OnOk result (Appends (W.contents writer.old) (W.contents writer.new) (comma_unless is_first ++ value_text value.now)) }
 {
-    if let Value::Text(text) = value {
-        return write_text(writer, is_first, text.as_str());
+    match value {
+        Value::Int(number) => {
+            write_comma(writer, is_first)?;
+            writer.write_all(Buffer::new().format(*number).as_bytes())
+        }
+        Value::Text(text) => write_text(writer, is_first, text.as_str()),
+        Value::Row(row) => {
+            write_comma(writer, is_first)?;
+            write_values(writer, row.items())
+        }
     }
-    write_comma(writer, is_first)?;
-    write_value(writer, value)
 }
 
 /// Writes the list of these values.

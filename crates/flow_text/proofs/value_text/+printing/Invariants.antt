@@ -6,14 +6,11 @@ use Rattle.flow_text.specs.Printed.{opened}
 use Rattle.flow_text.proofs.PrintLemmas.{weight}
 use Rattle.flow_text.proofs.value_text.+printing.Given as goal
 
-abbrev pub decreases-write_value : goal.decreases-write_value
-decreases-write_value g l = 3 * weight l.value.now
-
 abbrev pub decreases-write_item : goal.decreases-write_item
-decreases-write_item g l = 3 * weight l.value.now + 1
+decreases-write_item g l = 2 * weight l.value.now
 
 abbrev pub decreases-write_values : goal.decreases-write_values
-decreases-write_values g l = 3 * value_count (items_from l.values.now) + 2
+decreases-write_values g l = 2 * value_count (items_from l.values.now) + 1
 
 abbrev pub invariant-write_values-loop-at : goal.invariant-write_values-loop-at
 invariant-write_values-loop-at g l = Appends (g.W.Write.contents l.fn.writer) (g.W.Write.contents l.writer) (opened (take l.at l.values))
