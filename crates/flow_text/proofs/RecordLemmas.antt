@@ -1,5 +1,5 @@
 -- How the values of each input grow by the records that are read.
-use Rattle.std.proofs.Common.{◌≡◌, ◌≤◌, ◌<◌, ◌+◌, ℕ, suc, zero, List, [], ◌∷◌, ◌++◌, length, take, get_or, set, map, refl, ap, sym, ◌∙◌, arith, append_assoc, length-append, Option, Some, None, Bool, true, false, cond, subst, nat_eq, Bor, position, replicate}
+use Rattle.std.proofs.Common.{◌≡◌, ◌≤◌, ◌<◌, ◌+◌, ◌-◌, ◌^◌, min, ℕ, suc, zero, List, [], ◌∷◌, ◌++◌, length, take, get_or, set, map, refl, ap, sym, ◌∙◌, arith, append_assoc, length-append, Option, Some, None, Bool, true, false, cond, subst, nat_eq, Bor, position, replicate}
 use Rattle.std.specs.Prelude.{IfSome, not, option_map}
 use Rattle.std.specs.List.{filter, prefix_len}
 use Rattle.std.specs.Str.{bytes_eq}
@@ -22,7 +22,7 @@ use Rattle.csv.proofs.ReadFacts.{rows-more, rows-end}
 use Rattle.flow_text.specs.declared.fault.TextFault.{TextFault}
 use Rattle.flow_text.specs.declared.fault.TextFault.TheVariants.{Csv, NotUtf8, UnknownInput, Read}
 use Rattle.flow_text.specs.declared.fault.TextRefusal.TheVariants.{Fault}
-use Rattle.flow_text.specs.Records.{HasFault, IsFirstFault, Explains, PostAll, Row, texts_of, input_names, input_named, is_this, posts_to, value_of, values_for, records, IsFirstOf, IsFine, AllFine, PostsTo, posted_values, posted_endings}
+use Rattle.flow_text.specs.Records.{HasFault, IsFirstFault, IsOfRecords, Explains, PostAll, told_number, room, Row, texts_of, input_names, input_named, is_this, posts_to, value_of, values_for, records, IsFirstOf, IsFine, AllFine, PostsTo, posted_values, posted_endings}
 
 -- a place among references is that among what they point to
 prefix-texts : (test : List ℕ → Bool) (names : List (Bor (List ℕ))) → prefix_len (λ name. not (test name.now)) names ≡ prefix_len (λ name. not (test name)) (texts_of names)
@@ -106,15 +106,35 @@ values-more names rows row j =
     one true = refl
     one false = refl
 
+-- the values of an input
+pub values-at : (posted : List Posted) (i : ℕ) (slot : Posted) → i < length posted → slot ≡ get_or posted i slot
+    → get_or (posted_values posted) i [] ≡ slot.values.items
+values-at posted i slot within is =
+    get_or-map (λ (input : Posted). input.values.items) posted i slot [] within ∙ ap (λ (input : Posted). input.values.items) (sym is)
+
 -- what an input that gets one more value shows
 pub set-values : (posted : List Posted) (i : ℕ) (slot new : Posted) (v : Value) → i < length posted → slot ≡ get_or posted i slot
     → new.values.items ≡ slot.values.items ++ v ∷ []
     → posted_values (set posted i new) ≡ set (posted_values posted) i (get_or (posted_values posted) i [] ++ v ∷ [])
 set-values posted i slot new v within is items =
-    let there : get_or (posted_values posted) i [] ≡ slot.values.items =
-    get_or-map (λ (input : Posted). input.values.items) posted i slot [] within ∙ ap (λ (input : Posted). input.values.items) (sym is) in
+    let there = values-at posted i slot within is in
     map-set (λ (input : Posted). input.values.items) posted i new
     ∙ ap (λ values. set (posted_values posted) i values) (items ∙ ap (λ values. values ++ v ∷ []) (sym there))
+
+-- it has fewer than 2^64, as each list
+few-values : (input : Posted) → length input.values.items < 2 ^ 64
+few-values input = omega (arith, input.values.ok, input.values.small)
+
+one-longer : (values more : List Value) (v : Value) → more ≡ values ++ v ∷ [] → length more ≡ length values + 1
+one-longer values more v is = ap length is ∙ length-append values (v ∷ [])
+
+-- so there is less room behind it
+pub room-less : (posted : List Posted) (i : ℕ) (slot new : Posted) (v : Value) → i < length posted → slot ≡ get_or posted i slot
+    → new.values.items ≡ slot.values.items ++ v ∷ [] → room (posted_values (set posted i new)) < room (posted_values posted)
+room-less [] i slot new v within is items = absurd (omega arith)
+room-less (input ∷ posted) zero slot new v within is items =
+    omega (arith, few-values input, one-longer slot.values.items new.values.items v items, ap (λ (one : Posted). length one.values.items) is)
+room-less (input ∷ posted) (suc i) slot new v within is items = omega (arith, room-less posted i slot new v (omega arith) is items)
 
 pub set-endings : (posted : List Posted) (i : ℕ) (slot new : Posted) → slot ≡ get_or posted i slot → new.ending ≡ slot.ending
     → posted_endings (set posted i new) ≡ posted_endings posted
@@ -198,6 +218,25 @@ explained names bytes (NotUtf8 n) first = first
 explained names bytes (UnknownInput n) first = first
 explained names bytes _ first = first
 
+-- the number of the next record
+next-number : (number next count : ℕ) → number ≡ told_number count → next ≡ min (number + 1) (2 ^ 64 - 1) → next ≡ told_number (count + 1)
+next-number number next count here counted = omega (arith, here, counted)
+
+counted-on : (rows : List Row) (row : Row) (number next : ℕ) → number ≡ told_number (length rows) → next ≡ min (number + 1) (2 ^ 64 - 1)
+    → next ≡ told_number (length (rows ++ row ∷ []))
+counted-on rows row number next here counted = next-number number next (length rows) here counted ∙ ap told_number (sym (length-append rows (row ∷ [])))
+
+-- a fault of a record is one that reading stops for
+pub fault-of_records : (names : List (List ℕ)) (number : ℕ) (row : Row) (fault : TextFault) → HasFault names number row fault → IsOfRecords (Fault fault)
+fault-of_records names number row (Csv n) h = tt
+fault-of_records names number row (NotUtf8 n) h = tt
+fault-of_records names number row (UnknownInput n) h = tt
+fault-of_records names number row Read h = tt
+fault-of_records names number [] _ h = h
+fault-of_records names number (_ ∷ []) _ h = h
+fault-of_records names number (_ ∷ _ ∷ []) _ h = h
+fault-of_records names number (_ ∷ _ ∷ _ ∷ _) _ h = h
+
 -- what was read of a text so far: its first records, which can all be posted, and what they post
 pub record SoFar {R : Type 0} (known : R → Option (List ℕ)) (names : List (List ℕ)) (number : ℕ) (values : List (List Value)) (reader : Reader R) (bytes : List ℕ) : Type 0 where
   pub rows : List Row
@@ -205,13 +244,13 @@ pub record SoFar {R : Type 0} (known : R → Option (List ℕ)) (names : List (L
   pub source : source_of known reader ≡ Some left
   pub reached : Reached default_config at.StartRecord (strip_bom bytes) rows (reader_state reader) left
   pub fine : AllFine names rows
-  pub count : number ≡ length rows + 1
+  pub count : number ≡ told_number (length rows)
   pub posted : values ≡ records names rows
 
 -- nothing was read
 pub read-start : {R : Type 0} (known : R → Option (List ℕ)) (names : List (List ℕ)) (count : ℕ) (values : List (List Value)) (a : Reader R) (bytes : Option (List ℕ))
     → count ≡ length names → values ≡ replicate count [] → source_of known a ≡ option_map strip_bom bytes → reader_state a ≡ at.StartRecord
-    → IfSome bytes (SoFar known names 1 values a)
+    → IfSome bytes (SoFar known names 0 values a)
 unfolding Reached
 read-start known names count values a None counted none source state = tt
 read-start known names count values a (Some bytes) counted none source state = record {
@@ -227,11 +266,11 @@ read-start known names count values a (Some bytes) counted none source state = r
 module _ {R : Type 0} (known : R → Option (List ℕ)) (names : List (List ℕ)) (number : ℕ) (values : List (List Value)) (a b : Reader R) (row : Row)
     (config : reader_config a ≡ default_config) where
   -- one more record that is posted
-  pub read-more : (bytes : Option (List ℕ)) (i : ℕ) (text : List ℕ) (after : List (List Value)) → IfSome bytes (SoFar known names number values a)
+  pub read-more : (bytes : Option (List ℕ)) (next i : ℕ) (text : List ℕ) (after : List (List Value)) → IfSome bytes (SoFar known names number values a)
       → ReadRecord known a b true row → PostsTo names row i text → after ≡ set values i (get_or values i [] ++ Text text ∷ [])
-      → IfSome bytes (SoFar known names (number + 1) after b)
-  read-more None i text after so_far read posts is = tt
-  read-more (Some bytes) i text after so_far read posts is =
+      → next ≡ min (number + 1) (2 ^ 64 - 1) → IfSome bytes (SoFar known names next after b)
+  read-more None next i text after so_far read posts is counted = tt
+  read-more (Some bytes) next i text after so_far read posts is counted =
       let more = rows-more known a b row default_config at.StartRecord (strip_bom bytes) so_far.left so_far.rows config so_far.source so_far.reached read in
       record {
         rows = so_far.rows ++ row ∷ [];
@@ -239,7 +278,7 @@ module _ {R : Type 0} (known : R → Option (List ℕ)) (names : List (List ℕ)
         source = more.1;
         reached = more.2;
         fine = all-fine-more names so_far.rows row so_far.fine (posts-fine names row i text posts);
-        count = ap (λ n. n + 1) so_far.count ∙ ap (λ n. n + 1) (sym (length-append so_far.rows (row ∷ [])));
+        count = counted-on so_far.rows row number next so_far.count counted;
         posted = is ∙ ap (λ vs. set vs i (get_or vs i [] ++ Text text ∷ [])) so_far.posted ∙ sym (records-more names so_far.rows row i text posts);
       }
 
@@ -251,9 +290,9 @@ module _ {R : Type 0} (known : R → Option (List ℕ)) (names : List (List ℕ)
       (so_far.rows, (reader_state a, so_far.left, so_far.reached, rows-end known a b row default_config so_far.left config so_far.source read), so_far.fine, so_far.posted)
 
   -- one that can't be posted
-  pub read-fault : (bytes : Option (List ℕ)) (fault : TextFault) → IfSome bytes (SoFar known names number values a)
-      → ReadRecord known a b true row → HasFault names number row fault → IfSome bytes (λ text. Explains names text (Fault fault))
-  read-fault None fault so_far read faulty = tt
-  read-fault (Some bytes) fault so_far read faulty =
+  pub read-fault : (bytes : Option (List ℕ)) (next : ℕ) (fault : TextFault) → IfSome bytes (SoFar known names number values a)
+      → ReadRecord known a b true row → next ≡ min (number + 1) (2 ^ 64 - 1) → HasFault names next row fault → IfSome bytes (λ text. Explains names text (Fault fault))
+  read-fault None next fault so_far read counted faulty = tt
+  read-fault (Some bytes) next fault so_far read counted faulty =
       let more = rows-more known a b row default_config at.StartRecord (strip_bom bytes) so_far.left so_far.rows config so_far.source so_far.reached read in
-      explained names bytes fault (so_far.rows, row, reader_state b, more.0, more.2, so_far.fine, subst (λ n. HasFault names n row fault) so_far.count faulty)
+      explained names bytes fault (so_far.rows, row, reader_state b, more.0, more.2, so_far.fine, subst (λ n. HasFault names n row fault) (next-number number next (length so_far.rows) so_far.count counted) faulty)

@@ -1,5 +1,5 @@
 -- Which values the records of a text post to each input, and which record is the first that can't be posted.
-use Rattle.std.specs.Prelude.{◌≡◌, ◌≢◌, ℕ, ◌+◌, ◌<◌, get_or, nat_eq, Bool, false, List, [], ◌∷◌, ◌++◌, length, map, position, cond, Option, Some, None, IsSome}
+use Rattle.std.specs.Prelude.{◌≡◌, ◌≢◌, ℕ, ◌+◌, ◌-◌, ◌^◌, ◌<◌, min, get_or, nat_eq, Bool, false, List, [], ◌∷◌, ◌++◌, length, map, position, cond, Option, Some, None, IsSome}
 use Rattle.std.specs.Borrow.{Bor}
 use Rattle.std.specs.List.{filter}
 use Rattle.std.specs.Str.{bytes_eq, IsUtf8}
@@ -73,6 +73,10 @@ abbrev pub PostsTo : List (List ℕ) → Row → ℕ → List ℕ → Type 0
 PostsTo names (first ∷ second ∷ []) i text = (input_named names first ≡ Some i) × (second ≡ text) × IsUtf8 first × IsUtf8 second
 PostsTo names _ i text = ⊥
 
+-- the number by which a record is told: past 64 bits the greatest one
+abbrev pub told_number : ℕ → ℕ
+told_number n = min n (2 ^ 64 - 1)
+
 -- why the record with this number can't be posted
 abbrev pub HasFault : List (List ℕ) → ℕ → Row → TextFault → Type 0
 HasFault names number row (Csv n) = (n ≡ number) × (length row ≢ 2)
@@ -90,7 +94,16 @@ abbrev pub IsFirstFault : List (List ℕ) → List ℕ → TextFault → Type 0
 IsFirstFault names bytes fault =
     (rows : List Row) × (row : Row) × (state : State) × (rest : List ℕ)
     × Reached default_config at.StartRecord (strip_bom bytes) (rows ++ row ∷ []) state rest
-    × AllFine names rows × HasFault names (length rows + 1) row fault
+    × AllFine names rows × HasFault names (told_number (length rows + 1)) row fault
+
+-- reading stopped for a fault of a record, or of the reader, or for want of memory
+abbrev pub IsOfRecords : TextRefusal → Type 0
+IsOfRecords (Fault (Csv _)) = Unit {0}
+IsOfRecords (Fault (NotUtf8 _)) = Unit {0}
+IsOfRecords (Fault (UnknownInput _)) = Unit {0}
+IsOfRecords (Fault Read) = Unit {0}
+IsOfRecords (Fault _) = ⊥
+IsOfRecords Memory = Unit {0}
 
 -- why reading stopped; of a reader that failed, and of memory, nothing is said
 abbrev pub Explains : List (List ℕ) → List ℕ → TextRefusal → Type 0
@@ -103,3 +116,8 @@ posted_values posted = map (λ input. input.values.items) posted
 
 abbrev pub posted_endings : List Posted → List Ending
 posted_endings posted = map (λ input. input.ending) posted
+
+-- how many more values there may be before no list of them has room, since a list has fewer than 2^64
+abbrev pub room : List (List Value) → ℕ
+room [] = 0
+room (values ∷ rest) = (2 ^ 64 - length values) + room rest

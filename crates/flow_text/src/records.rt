@@ -3,7 +3,7 @@ ghost use Rattle.std.specs.Prelude.{◌≡◌, ◌<◌, ◌+◌, ◌∷◌, ◌+
 ghost use Rattle.std.specs.Str.{IsUtf8, bytes_eq};
 ghost use Rattle.csv.specs.Records.{fields_of};
 ghost use Rattle.flow_link.specs.Planned.{layout_of};
-ghost use Rattle.flow_text.specs.Records.{texts_of, input_names, input_named, IsFirstOf, HasFault, PostsTo, PostAll, Explains, posted_values, posted_endings};
+ghost use Rattle.flow_text.specs.Records.{texts_of, input_names, input_named, IsFirstOf, HasFault, PostsTo, PostAll, IsOfRecords, Explains, room, posted_values, posted_endings};
 
 use crate::fault::{TextFault, TextRefusal};
 use csv::{ByteRecord, Error, ErrorKind, ReaderBuilder};
@@ -105,6 +105,7 @@ fn post(
     ensures values { OnOk result (posted_values posted.new.items
         ≡ set (posted_values posted.old.items) input (get_or (posted_values posted.old.items) input [] ++ Value.Text text.now ∷ [])) }
     ensures endings { OnOk result (posted_endings posted.new.items ≡ posted_endings posted.old.items) }
+    ensures room { OnOk result (room (posted_values posted.new.items) < room (posted_values posted.old.items)) }
     ensures refused { IfErr result (λ refusal. refusal ≡ TextRefusal.Memory) }
 {
     let Ok(text) = Text::from_str(alloc, text) else {
@@ -145,7 +146,7 @@ fn reading_failed(error: &Error) -> TextRefusal
     }
 }
 
-// The values of the inputs with these names.
+// The values of the inputs with these names. The count stops at the greatest number, the reading does not.
 fn read_named<R: Read + Drop>(
     alloc: Global,
     reader: R,
@@ -153,6 +154,7 @@ fn read_named<R: Read + Drop>(
 ) -> Result<Vec<Posted>, TextRefusal>
     ensures endings { IfOk result (λ posted. posted_endings posted.items ≡ replicate (length names.now) Ending.Complete) }
     ensures values { IfOk result (λ posted. IfSome (R.remaining reader) (λ bytes. PostAll (texts_of names.now) bytes (posted_values posted.items))) }
+    ensures of_records { IfErr result IsOfRecords }
     ensures refused { IfErr result (λ refusal. IfSome (R.remaining reader) (λ bytes. Explains (texts_of names.now) bytes refusal)) }
 {
     let mut records = ReaderBuilder::new()
@@ -163,12 +165,14 @@ fn read_named<R: Read + Drop>(
     let mut posted = nothing_posted(alloc, names.len())?;
     // the input of the last record; at first that of none
     let mut last = names.len();
-    for number in 1..u64::MAX {
+    let mut number = 0u64;
+    'reading: loop {
         match records.read_byte_record(&mut row) {
             Ok(true) => {}
             Ok(false) => return Ok(posted),
             Err(error) => return Err(reading_failed(&error)),
         }
+        number = number.saturating_add(1);
         match read_fields(names, last, &row, number) {
             Ok((input, text)) => {
                 post(alloc, &mut posted, input, text)?;
@@ -177,7 +181,6 @@ fn read_named<R: Read + Drop>(
             Err(fault) => return Err(TextRefusal::Fault(fault)),
         }
     }
-    Err(TextRefusal::Memory)
 }
 
 /// The values that the records of a text post to each input, in the order of the plan's blocks; nothing follows them.
@@ -190,6 +193,7 @@ pub fn read_records<R: Read + Drop>(
 ) -> Result<Vec<Posted>, TextRefusal>
     ensures endings { IfOk result (λ posted. posted_endings posted.items ≡ replicate (length (input_names (layout_of plan.now).blocks)) Ending.Complete) }
     ensures values { IfOk result (λ posted. IfSome (R.remaining reader) (λ bytes. PostAll (input_names (layout_of plan.now).blocks) bytes (posted_values posted.items))) }
+    ensures of_records { IfErr result IsOfRecords }
     ensures refused { IfErr result (λ refusal. IfSome (R.remaining reader) (λ bytes. Explains (input_names (layout_of plan.now).blocks) bytes refusal)) }
 {
     let names = names_of(alloc, plan)?;
