@@ -2,6 +2,7 @@ pub mod BuildLemmas
 pub mod CompleteLemmas
 pub mod KeyLemmas
 pub mod PassLemmas
+pub mod PieceLemmas
 pub mod PlanLemmas
 pub mod PrintLemmas
 pub mod RecordLemmas

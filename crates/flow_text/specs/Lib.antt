@@ -9,3 +9,4 @@ pub mod Read
 pub mod Records
 pub mod Report
 pub mod Rules
+pub mod Written

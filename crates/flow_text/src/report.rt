@@ -3,6 +3,7 @@ ghost use Rattle.std.specs.Prelude.{◌≡◌, ◌+◌, ◌-◌, true, false, �
 ghost use Rattle.std.specs.Option.{option_copied, option_to_list};
 ghost use Rattle.std.specs.Fmt.{decimal};
 ghost use Rattle.std.specs.Io.KnownBytes.{Appends};
+ghost use Rattle.flow_text.specs.Written.{StaysInFront};
 ghost use Rattle.flow_value.specs.declared.steps.Steps.{Steps};
 ghost use Rattle.flow_link.specs.Layout.{IsLaidOut, input_link};
 ghost use Rattle.flow_link.specs.Plan.{begins_at, port_count};
@@ -11,6 +12,7 @@ ghost use Rattle.flow_text.specs.Printed.{list_text};
 ghost use Rattle.flow_text.specs.Report.{state_word, block_line, input_line, port_line, held_line, link_line, exit_line, settled_line, last_line, state_of, is_input, is_output, between_count, input_link_number, exit_link_number, input_part, exit_part, last_part, all_ports, all_links, block_report, report, run_in};
 
 use crate::fault::{TextFault, TextRefusal};
+use crate::piece::write_bytes;
 use crate::seen::{block_at, block_count, held_at, left_at, link_at, link_count};
 use crate::value_text::{write_item, write_values};
 use flow_link::{BlockDef, BlockKind, Link, LinkSource, Mark};
@@ -41,9 +43,10 @@ fn given_over(mark: &Mark, link: usize) -> Option<&Value>
 }
 
 fn write_taken<W: Write>(writer: &mut W, journal: &[Mark], port: u32) -> io::Result<()>
-    ensures { OnOk result (Appends (W.contents writer.old) (W.contents writer.new) (list_text (took_at port journal.now))) }
+    ensures written { OnOk result (Appends (W.contents writer.old) (W.contents writer.new) (list_text (took_at port journal.now))) }
+    ensures kept { StaysInFront (W.contents writer.old) (W.contents writer.new) }
 {
-    writer.write_all(b"[")?;
+    write_bytes(writer, b"[")?;
     let mut is_first = true;
     for mark in journal {
         match taken_at(mark, port) {
@@ -54,13 +57,14 @@ fn write_taken<W: Write>(writer: &mut W, journal: &[Mark], port: u32) -> io::Res
             None => {}
         }
     }
-    writer.write_all(b"]")
+    write_bytes(writer, b"]")
 }
 
 fn write_given<W: Write>(writer: &mut W, journal: &[Mark], link: usize) -> io::Result<()>
-    ensures { OnOk result (Appends (W.contents writer.old) (W.contents writer.new) (list_text (gave_over link journal.now))) }
+    ensures written { OnOk result (Appends (W.contents writer.old) (W.contents writer.new) (list_text (gave_over link journal.now))) }
+    ensures kept { StaysInFront (W.contents writer.old) (W.contents writer.new) }
 {
-    writer.write_all(b"[")?;
+    write_bytes(writer, b"[")?;
     let mut is_first = true;
     for mark in journal {
         match given_over(mark, link) {
@@ -71,14 +75,15 @@ fn write_given<W: Write>(writer: &mut W, journal: &[Mark], link: usize) -> io::R
             None => {}
         }
     }
-    writer.write_all(b"]")
+    write_bytes(writer, b"]")
 }
 
 // The values of two parts, as one list.
 fn write_parts<W: Write>(writer: &mut W, front: &[Value], back: &[Value]) -> io::Result<()>
-    ensures { OnOk result (Appends (W.contents writer.old) (W.contents writer.new) (list_text (front.now ++ back.now))) }
+    ensures written { OnOk result (Appends (W.contents writer.old) (W.contents writer.new) (list_text (front.now ++ back.now))) }
+    ensures kept { StaysInFront (W.contents writer.old) (W.contents writer.new) }
 {
-    writer.write_all(b"[")?;
+    write_bytes(writer, b"[")?;
     let mut is_first = true;
     'front: for value in front {
         write_item(writer, is_first, value)?;
@@ -88,7 +93,7 @@ fn write_parts<W: Write>(writer: &mut W, front: &[Value], back: &[Value]) -> io:
         write_item(writer, is_first, value)?;
         is_first = false;
     }
-    writer.write_all(b"]")
+    write_bytes(writer, b"]")
 }
 
 // How many values the journal took over this link.
@@ -114,20 +119,22 @@ fn is_taken_over(mark: &Mark, link: usize) -> bool
 }
 
 fn write_number<W: Write>(writer: &mut W, number: u64) -> io::Result<()>
-    ensures { OnOk result (Appends (W.contents writer.old) (W.contents writer.new) (decimal number)) }
+    ensures written { OnOk result (Appends (W.contents writer.old) (W.contents writer.new) (decimal number)) }
+    ensures kept { StaysInFront (W.contents writer.old) (W.contents writer.new) }
 {
-    writer.write_all(Buffer::new().format(number).as_bytes())
+    write_bytes(writer, Buffer::new().format(number).as_bytes())
 }
 
 fn write_state<W: Write>(writer: &mut W, state: State) -> io::Result<()>
-    ensures { OnOk result (Appends (W.contents writer.old) (W.contents writer.new) (state_word state)) }
+    ensures written { OnOk result (Appends (W.contents writer.old) (W.contents writer.new) (state_word state)) }
+    ensures kept { StaysInFront (W.contents writer.old) (W.contents writer.new) }
 {
     match state {
-        State::Open => writer.write_all(b"open"),
-        State::Completing => writer.write_all(b"completing"),
-        State::Done => writer.write_all(b"done"),
+        State::Open => write_bytes(writer, b"open"),
+        State::Completing => write_bytes(writer, b"completing"),
+        State::Done => write_bytes(writer, b"done"),
         State::Faulted(number) => {
-            writer.write_all(b"faulted ")?;
+            write_bytes(writer, b"faulted ")?;
             write_number(writer, u64::from(number))
         }
     }
@@ -135,13 +142,14 @@ fn write_state<W: Write>(writer: &mut W, state: State) -> io::Result<()>
 
 /// Writes the line of a block's name and state.
 fn write_block_line<W: Write>(writer: &mut W, name: &str, state: State) -> io::Result<()>
-    ensures { OnOk result (Appends (W.contents writer.old) (W.contents writer.new) (block_line name.now state)) }
+    ensures written { OnOk result (Appends (W.contents writer.old) (W.contents writer.new) (block_line name.now state)) }
+    ensures kept { StaysInFront (W.contents writer.old) (W.contents writer.new) }
 {
-    writer.write_all(b"block ")?;
-    writer.write_all(name.as_bytes())?;
-    writer.write_all(b" ")?;
+    write_bytes(writer, b"block ")?;
+    write_bytes(writer, name.as_bytes())?;
+    write_bytes(writer, b" ")?;
     write_state(writer, state)?;
-    writer.write_all(b"\n")
+    write_bytes(writer, b"\n")
 }
 
 // Those of the posted values that were not taken, of which there are so many that were.
@@ -153,22 +161,24 @@ fn not_taken(posted: &[Value], taken: usize) -> &[Value]
 
 /// Writes the line of what waits at an input.
 fn write_input_line<W: Write>(writer: &mut W, waits: &[Value]) -> io::Result<()>
-    ensures { OnOk result (Appends (W.contents writer.old) (W.contents writer.new) (input_line waits.now)) }
+    ensures written { OnOk result (Appends (W.contents writer.old) (W.contents writer.new) (input_line waits.now)) }
+    ensures kept { StaysInFront (W.contents writer.old) (W.contents writer.new) }
 {
-    writer.write_all(b"input ")?;
+    write_bytes(writer, b"input ")?;
     write_values(writer, waits)?;
-    writer.write_all(b"\n")
+    write_bytes(writer, b"\n")
 }
 
 /// Writes the line of what was taken at a port.
 fn write_port_line<W: Write>(writer: &mut W, port: u32, journal: &[Mark]) -> io::Result<()>
-    ensures { OnOk result (Appends (W.contents writer.old) (W.contents writer.new) (port_line port journal.now)) }
+    ensures written { OnOk result (Appends (W.contents writer.old) (W.contents writer.new) (port_line port journal.now)) }
+    ensures kept { StaysInFront (W.contents writer.old) (W.contents writer.new) }
 {
-    writer.write_all(b"port ")?;
+    write_bytes(writer, b"port ")?;
     write_number(writer, u64::from(port))?;
-    writer.write_all(b" ")?;
+    write_bytes(writer, b" ")?;
     write_taken(writer, journal, port)?;
-    writer.write_all(b"\n")
+    write_bytes(writer, b"\n")
 }
 
 /// Writes the line of what a port holds, given in two parts.
@@ -178,60 +188,66 @@ fn write_held_line<W: Write>(
     front: &[Value],
     back: &[Value],
 ) -> io::Result<()>
-    ensures { OnOk result (Appends (W.contents writer.old) (W.contents writer.new) (held_line port (front.now ++ back.now))) }
+    ensures written { OnOk result (Appends (W.contents writer.old) (W.contents writer.new) (held_line port (front.now ++ back.now))) }
+    ensures kept { StaysInFront (W.contents writer.old) (W.contents writer.new) }
 {
-    writer.write_all(b"held ")?;
+    write_bytes(writer, b"held ")?;
     write_number(writer, u64::from(port))?;
-    writer.write_all(b" ")?;
+    write_bytes(writer, b" ")?;
     write_parts(writer, front, back)?;
-    writer.write_all(b"\n")
+    write_bytes(writer, b"\n")
 }
 
 /// Writes the line of what was given over a link.
 fn write_link_line<W: Write>(writer: &mut W, link: usize, journal: &[Mark]) -> io::Result<()>
-    ensures { OnOk result (Appends (W.contents writer.old) (W.contents writer.new) (link_line link journal.now)) }
+    ensures written { OnOk result (Appends (W.contents writer.old) (W.contents writer.new) (link_line link journal.now)) }
+    ensures kept { StaysInFront (W.contents writer.old) (W.contents writer.new) }
 {
-    writer.write_all(b"link ")?;
+    write_bytes(writer, b"link ")?;
     write_number(writer, link as u64)?;
-    writer.write_all(b" ")?;
+    write_bytes(writer, b" ")?;
     write_given(writer, journal, link)?;
-    writer.write_all(b"\n")
+    write_bytes(writer, b"\n")
 }
 
 /// Writes the line of what was given over an exit.
 fn write_exit_line<W: Write>(writer: &mut W, link: usize, journal: &[Mark]) -> io::Result<()>
-    ensures { OnOk result (Appends (W.contents writer.old) (W.contents writer.new) (exit_line link journal.now)) }
+    ensures written { OnOk result (Appends (W.contents writer.old) (W.contents writer.new) (exit_line link journal.now)) }
+    ensures kept { StaysInFront (W.contents writer.old) (W.contents writer.new) }
 {
-    writer.write_all(b"exit ")?;
+    write_bytes(writer, b"exit ")?;
     write_given(writer, journal, link)?;
-    writer.write_all(b"\n")
+    write_bytes(writer, b"\n")
 }
 
 /// Writes the line of the results that an action keeps.
 fn write_record_line<W: Write>(writer: &mut W, recorded: &[Value]) -> io::Result<()>
-    ensures { OnOk result (Appends (W.contents writer.old) (W.contents writer.new) (last_line true recorded.now [])) }
+    ensures written { OnOk result (Appends (W.contents writer.old) (W.contents writer.new) (last_line true recorded.now [])) }
+    ensures kept { StaysInFront (W.contents writer.old) (W.contents writer.new) }
 {
-    writer.write_all(b"record ")?;
+    write_bytes(writer, b"record ")?;
     write_values(writer, recorded)?;
-    writer.write_all(b"\n")
+    write_bytes(writer, b"\n")
 }
 
 /// Writes the line of the outputs that weren't given, in two parts.
 fn write_left_line<W: Write>(writer: &mut W, front: &[Value], back: &[Value]) -> io::Result<()>
-    ensures { OnOk result (Appends (W.contents writer.old) (W.contents writer.new) (last_line false [] (front.now ++ back.now))) }
+    ensures written { OnOk result (Appends (W.contents writer.old) (W.contents writer.new) (last_line false [] (front.now ++ back.now))) }
+    ensures kept { StaysInFront (W.contents writer.old) (W.contents writer.new) }
 {
-    writer.write_all(b"left ")?;
+    write_bytes(writer, b"left ")?;
     write_parts(writer, front, back)?;
-    writer.write_all(b"\n")
+    write_bytes(writer, b"\n")
 }
 
 /// Writes the last line.
 fn write_settled_line<W: Write>(writer: &mut W, settled: Settled) -> io::Result<()>
-    ensures { OnOk result (Appends (W.contents writer.old) (W.contents writer.new) (settled_line settled)) }
+    ensures written { OnOk result (Appends (W.contents writer.old) (W.contents writer.new) (settled_line settled)) }
+    ensures kept { StaysInFront (W.contents writer.old) (W.contents writer.new) }
 {
     match settled {
-        Settled::Quiet => writer.write_all(b"quiet\n"),
-        Settled::Stopped => writer.write_all(b"stopped\n"),
+        Settled::Quiet => write_bytes(writer, b"quiet\n"),
+        Settled::Stopped => write_bytes(writer, b"stopped\n"),
     }
 }
 
@@ -306,7 +322,8 @@ fn ports_of(block: &BlockDef<Steps>) -> u32
 
 fn write_ports<W: Write>(writer: &mut W, net: &Net<Steps>, block: usize) -> io::Result<()>
     requires { block < length (run_in net.now).layout.blocks }
-    ensures { OnOk result (Appends (W.contents writer.old) (W.contents writer.new) (all_ports (run_in net.now) block)) }
+    ensures written { OnOk result (Appends (W.contents writer.old) (W.contents writer.new) (all_ports (run_in net.now) block)) }
+    ensures kept { StaysInFront (W.contents writer.old) (W.contents writer.new) }
 {
     for port in 0..ports_of(block_at(net, block)) {
         write_port_line(writer, port, net.journal(block))?;
@@ -327,7 +344,8 @@ fn is_from(link: Link, block: usize) -> bool
 
 fn write_links<W: Write>(writer: &mut W, net: &Net<Steps>, block: usize) -> io::Result<()>
     requires { block < length (run_in net.now).layout.blocks }
-    ensures { OnOk result (Appends (W.contents writer.old) (W.contents writer.new) (all_links (run_in net.now) block)) }
+    ensures written { OnOk result (Appends (W.contents writer.old) (W.contents writer.new) (all_links (run_in net.now) block)) }
+    ensures kept { StaysInFront (W.contents writer.old) (W.contents writer.new) }
 {
     for id in 0..links_between(net, link_count(net)) {
         if is_from(link_at(net, id), block) {
@@ -349,7 +367,8 @@ pub(crate) fn waiting(net: &Net<Steps>, block: usize) -> &[Value]
 
 fn write_input<W: Write>(writer: &mut W, net: &Net<Steps>, block: usize) -> io::Result<()>
     requires { block < length (run_in net.now).layout.blocks }
-    ensures { OnOk result (Appends (W.contents writer.old) (W.contents writer.new) (input_part (run_in net.now) block)) }
+    ensures written { OnOk result (Appends (W.contents writer.old) (W.contents writer.new) (input_part (run_in net.now) block)) }
+    ensures kept { StaysInFront (W.contents writer.old) (W.contents writer.new) }
 {
     if block_at(net, block).input {
         write_input_line(writer, waiting(net, block))?;
@@ -359,7 +378,8 @@ fn write_input<W: Write>(writer: &mut W, net: &Net<Steps>, block: usize) -> io::
 
 fn write_exit<W: Write>(writer: &mut W, net: &Net<Steps>, block: usize) -> io::Result<()>
     requires { block < length (run_in net.now).layout.blocks }
-    ensures { OnOk result (Appends (W.contents writer.old) (W.contents writer.new) (exit_part (run_in net.now) block)) }
+    ensures written { OnOk result (Appends (W.contents writer.old) (W.contents writer.new) (exit_part (run_in net.now) block)) }
+    ensures kept { StaysInFront (W.contents writer.old) (W.contents writer.new) }
 {
     if block_at(net, block).output {
         write_exit_line(writer, exit_link_of(net, block), net.journal(block))?;
@@ -369,7 +389,8 @@ fn write_exit<W: Write>(writer: &mut W, net: &Net<Steps>, block: usize) -> io::R
 
 fn write_last<W: Write>(writer: &mut W, net: &Net<Steps>, block: usize) -> io::Result<()>
     requires { block < length (run_in net.now).layout.blocks }
-    ensures { OnOk result (Appends (W.contents writer.old) (W.contents writer.new) (last_part (run_in net.now) block)) }
+    ensures written { OnOk result (Appends (W.contents writer.old) (W.contents writer.new) (last_part (run_in net.now) block)) }
+    ensures kept { StaysInFront (W.contents writer.old) (W.contents writer.new) }
 {
     match block_at(net, block).kind {
         BlockKind::Action => write_record_line(writer, net.record(block)),
@@ -382,7 +403,8 @@ fn write_last<W: Write>(writer: &mut W, net: &Net<Steps>, block: usize) -> io::R
 
 fn write_block<W: Write>(writer: &mut W, net: &Net<Steps>, block: usize) -> io::Result<()>
     requires { block < length (run_in net.now).layout.blocks }
-    ensures { OnOk result (Appends (W.contents writer.old) (W.contents writer.new) (block_report (run_in net.now) block)) }
+    ensures written { OnOk result (Appends (W.contents writer.old) (W.contents writer.new) (block_report (run_in net.now) block)) }
+    ensures kept { StaysInFront (W.contents writer.old) (W.contents writer.new) }
 {
     write_block_line(writer, block_at(net, block).name.as_str(), net.state(block))?;
     write_input(writer, net, block)?;
@@ -394,7 +416,8 @@ fn write_block<W: Write>(writer: &mut W, net: &Net<Steps>, block: usize) -> io::
 
 /// Writes the report of a network that stopped so.
 fn write_lines<W: Write>(writer: &mut W, net: &Net<Steps>, settled: Settled) -> io::Result<()>
-    ensures { OnOk result (Appends (W.contents writer.old) (W.contents writer.new) (report (run_in net.now) settled)) }
+    ensures written { OnOk result (Appends (W.contents writer.old) (W.contents writer.new) (report (run_in net.now) settled)) }
+    ensures kept { StaysInFront (W.contents writer.old) (W.contents writer.new) }
 {
     for block in 0..block_count(net) {
         write_block(writer, net, block)?;
@@ -410,6 +433,7 @@ pub fn write_report<W: Write>(
 ) -> Result<(), TextRefusal>
     ensures written { OnOk result (Appends (W.contents writer.old) (W.contents writer.new) (report (run_in net.now) settled)) }
     ensures refused { IfErr result (λ refusal. refusal ≡ TextRefusal.Fault TextFault.Write) }
+    ensures kept { StaysInFront (W.contents writer.old) (W.contents writer.new) }
 {
     match write_lines(writer, net, settled) {
         Ok(()) => Ok(()),

@@ -6,16 +6,16 @@ use Rattle.flow_text.specs.Report.{block_line, state_of, input_part, all_ports, 
 use Rattle.flow_text.proofs.PrintLemmas.{appends-both}
 use Rattle.flow_text.proofs.report.write_block.Goals as goal
 
-pub returns : goal.returns
-returns g c =
+pub returns-clause-written : goal.returns-clause-written
+returns-clause-written g c =
     let run = run_in c.args.net.now in
     let b = c.args.block in
     let line = block_line (block_of run b).name (state_of run b) in
-    let first = rw (c.as_str.ensures, c.block_at.ensures no_block, c.state.ensures) at c.in_ok-write_block_line.ensures in
-    let second = appends-both _ _ _ line (input_part run b) first c.in_ok-write_input.ensures in
-    let third = appends-both _ _ _ (line ++ input_part run b) (all_ports run b) second c.in_ok-write_ports.ensures in
-    let fourth = appends-both _ _ _ (line ++ input_part run b ++ all_ports run b) (all_links run b) third c.in_ok-write_links.ensures in
-    let fifth = appends-both _ _ _ (line ++ input_part run b ++ all_ports run b ++ all_links run b) (exit_part run b) fourth c.in_ok-write_exit.ensures in
+    let first = rw (c.as_str.ensures, c.block_at.ensures no_block, c.state.ensures) at c.in_ok-write_block_line.ensures.written in
+    let second = appends-both _ _ _ line (input_part run b) first c.in_ok-write_input.ensures.written in
+    let third = appends-both _ _ _ (line ++ input_part run b) (all_ports run b) second c.in_ok-write_ports.ensures.written in
+    let fourth = appends-both _ _ _ (line ++ input_part run b ++ all_ports run b) (all_links run b) third c.in_ok-write_links.ensures.written in
+    let fifth = appends-both _ _ _ (line ++ input_part run b ++ all_ports run b ++ all_links run b) (exit_part run b) fourth c.in_ok-write_exit.ensures.written in
     on_ok_weaker c.write_last.result
     (λ last. appends-both _ _ _ (line ++ input_part run b ++ all_ports run b ++ all_links run b ++ exit_part run b) (last_part run b) fifth last)
-    c.write_last.ensures
+    c.write_last.ensures.written

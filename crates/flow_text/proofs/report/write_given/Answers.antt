@@ -11,9 +11,10 @@ loop-mark-preserved g c =
           let one = one-more _ _ _ w.in-Some.value.now grown w.in-Some.ensures in
           rw (w.writer-is, w.is_first-is) (record {
             first = not-empty _ _ _ one;
-            written = opened-next _ _ _ _ _ _ _ one c.loop-mark.invariant.first c.loop-mark.invariant.written w.in_ok-write_item-in-Some.ensures;
+            written = opened-next _ _ _ _ _ _ _ one c.loop-mark.invariant.first c.loop-mark.invariant.written w.in_ok-write_item-in-Some.ensures.written;
+            kept = λ front begins. w.in_ok-write_item-in-Some.ensures.kept front (c.loop-mark.invariant.kept front begins);
           })
       | in-None w ↦
           let none = none-more _ _ _ grown w.in-None.ensures in
-          rw (w.writer-is, w.is_first-is, ← none) (record { first = c.loop-mark.invariant.first; written = c.loop-mark.invariant.written })
+          rw (w.writer-is, w.is_first-is, ← none) (record { first = c.loop-mark.invariant.first; written = c.loop-mark.invariant.written; kept = c.loop-mark.invariant.kept })
     ]

@@ -12,11 +12,11 @@ write_item-write_values-requires g t c κs within =
     let whole : weight c.args.value.now ≡ weight (Row c.in-Row.row) = ap weight c.in-Row.is in
     (omega (arith, inside, whole), within)
 
-pub write_item-returns-in_ok-write_comma-in-Row : goal.write_item-returns-in_ok-write_comma-in-Row
-write_item-returns-in_ok-write_comma-in-Row g t c =
+pub write_item-returns-in_ok-write_comma-in-Row-clause-written : goal.write_item-returns-in_ok-write_comma-in-Row-clause-written
+write_item-returns-in_ok-write_comma-in-Row-clause-written g t c =
     on_ok_weaker c.write_values.result
-    (λ last. row-item _ _ _ c.args.is_first c.args.value.now c.in-Row.row c.items.result.now c.in-Row.is c.items.ensures c.in_ok-write_comma-in-Row.ensures last)
-    c.write_values.ensures
+    (λ last. row-item _ _ _ c.args.is_first c.args.value.now c.in-Row.row c.items.result.now c.in-Row.is c.items.ensures c.in_ok-write_comma-in-Row.ensures.written last)
+    c.write_values.ensures.written
 
 pub write_values-write_item-requires : goal.write_values-write_item-requires
 write_values-write_item-requires g t c κs within =
@@ -24,4 +24,7 @@ write_values-write_item-requires g t c κs within =
 
 pub write_values-loop-at-preserved : goal.write_values-loop-at-preserved
 write_values-loop-at-preserved g t c =
-    items-more c.args.values.now c.loop-at.at c.index-values-at.result c.loop-at-test.true c.index-values-at.is _ _ _ c.loop-at.invariant c.in_ok-write_item.ensures
+    record {
+      written = items-more c.args.values.now c.loop-at.at c.index-values-at.result c.loop-at-test.true c.index-values-at.is _ _ _ c.loop-at.invariant.written c.in_ok-write_item.ensures.written;
+      kept = λ front begins. c.in_ok-write_item.ensures.kept front (c.loop-at.invariant.kept front begins);
+    }
