@@ -1,11 +1,2 @@
-pub mod BuildLemmas
-pub mod CompleteLemmas
-pub mod KeyLemmas
-pub mod PassLemmas
 pub mod PipelineLemmas
-pub mod PrintLemmas
-pub mod RecordLemmas
-pub mod ReportLemmas
-pub mod RunLemmas
-pub mod SoundLemmas
 pub mod SplitLemmas

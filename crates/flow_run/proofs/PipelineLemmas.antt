@@ -9,11 +9,6 @@ use Rattle.flow_link.specs.declared.draft.BlockDef.{BlockDef}
 use Rattle.flow_link.specs.declared.trace.Ending.TheVariants.{Complete}
 use Rattle.flow_link.specs.Layout.{Layout}
 use Rattle.flow_link.specs.Trace.{InputTrace}
-use Rattle.flow_link.specs.NotBuilt.{first_fault_now}
-use Rattle.flow_link.specs.Refusal.{IsWhy}
-use Rattle.flow_link.specs.declared.check.PlanRefusal.{PlanRefusal}
-use Rattle.flow_link.specs.declared.check.PlanRefusal.TheVariants as unplanned_for
-use Rattle.flow_link.specs.declared.draft.Draft.{Draft}
 use Rattle.flow_net.specs.Fresh.{IsFresh}
 use Rattle.flow_net.specs.Made.{input_of}
 use Rattle.flow_net.specs.Parts.{PartsState}
@@ -23,14 +18,13 @@ use Rattle.flow_net.specs.declared.fault.NetFault.{NetFault}
 use Rattle.flow_net.specs.declared.fault.NetFault.TheVariants as net_fault
 use Rattle.flow_net.specs.declared.posted.Posted.{Posted}
 use Rattle.flow_net.specs.declared.posted.Settled.{Settled}
-use Rattle.flow_run.specs.declared.fault.TextFault.TheVariants.{Write}
-use Rattle.flow_run.specs.declared.fault.TextRefusal.{TextRefusal}
-use Rattle.flow_run.specs.declared.fault.TextRefusal.TheVariants.{Fault, Memory}
-use Rattle.flow_run.specs.Plan.{IsPlannedAs, IsUnplannedFor}
+use Rattle.flow_text.specs.declared.fault.TextFault.TheVariants.{Write}
+use Rattle.flow_text.specs.declared.fault.TextRefusal.{TextRefusal}
+use Rattle.flow_text.specs.declared.fault.TextRefusal.TheVariants.{Fault, Memory}
+use Rattle.flow_text.specs.Plan.{IsPlannedAs, IsUnplannedFor}
 use Rattle.flow_run.specs.Ran.{HasUnreadRecords, UsesUpIds, IsUnreported}
-use Rattle.flow_run.specs.Read.{IsReadAs}
-use Rattle.flow_run.specs.Refusal.{refusal_of, refusal_of_net, refusal_of_plan}
-use Rattle.flow_run.specs.Records.{PostAll, input_names, posted_endings, posted_values}
+use Rattle.flow_run.specs.Refusal.{refusal_of, refusal_of_net}
+use Rattle.flow_text.specs.Records.{PostAll, input_names, posted_endings, posted_values}
 
 names_more : (b : Bool) (name : List ℕ) (rest : List (List ℕ)) → length (cond b (name ∷ []) [] ++ rest) ≡ cond {A = ℕ} b 1 0 + length rest
 names_more true name rest = omega arith
@@ -78,11 +72,6 @@ pub planned_as : {now layout : Layout Steps} {text : List ℕ} → now ≡ layou
 planned_as {text = text} same planned = subst (λ (l : Layout Steps). IsPlannedAs text l) (sym same) planned
 
 -- why there is no network, no posted values, no end of the run, or no report
-pub unplanned : (text : List ℕ) (draft : Draft Steps) (refusal : PlanRefusal) → IsReadAs text draft
-    → IsWhy (first_fault_now draft.blocks.items draft.links.items) refusal → IsUnplannedFor text (refusal_of_plan refusal)
-unplanned text draft (unplanned_for.Fault fault) read why = inr (record { draft = draft; read = read; first = why })
-unplanned text draft unplanned_for.Memory read why = inr tt
-
 module _ (text : List ℕ) (records : Option (List ℕ)) (limit : ℕ) where
   pub no_plan : (refusal : TextRefusal) → IsUnplannedFor text refusal → IsUnreported text records limit (refusal_of refusal)
   no_plan (Fault fault) h = inl h

@@ -1,14 +1,4 @@
-pub mod Built
-pub mod Complete
-pub mod Keys
-pub mod Passes
-pub mod Plan
-pub mod Printed
 pub mod Ran
-pub mod Read
-pub mod Records
 pub mod Refusal
-pub mod Report
-pub mod Rules
 pub mod Split
 pub mod Status

@@ -12,13 +12,13 @@ use Rattle.flow_net.specs.Parts.{PartsState}
 use Rattle.flow_net.specs.Seen.{run_with, works_of}
 use Rattle.flow_net.specs.Settles.{Settles, GoesOn}
 use Rattle.flow_net.specs.There.{NeedsId}
-use Rattle.flow_run.specs.Complete.{is_complete}
-use Rattle.flow_run.specs.Plan.{IsPlannedAs, IsUnplannedFor}
-use Rattle.flow_run.specs.Records.{PostAll, Explains, input_names}
-use Rattle.flow_run.specs.Report.{report}
-use Rattle.flow_run.specs.declared.fault.TextFault.TheVariants.{Write}
-use Rattle.flow_run.specs.declared.fault.TextRefusal.{TextRefusal}
-use Rattle.flow_run.specs.declared.fault.TextRefusal.TheVariants.{Fault}
+use Rattle.flow_text.specs.Complete.{is_complete}
+use Rattle.flow_text.specs.Plan.{IsPlannedAs, IsUnplannedFor}
+use Rattle.flow_text.specs.Records.{PostAll, Explains, input_names}
+use Rattle.flow_text.specs.Report.{report}
+use Rattle.flow_text.specs.declared.fault.TextFault.TheVariants.{Write}
+use Rattle.flow_text.specs.declared.fault.TextRefusal.{TextRefusal}
+use Rattle.flow_text.specs.declared.fault.TextRefusal.TheVariants.{Fault}
 use Rattle.flow_net.specs.declared.posted.Settled.TheVariants.{Quiet}
 use Rattle.flow_run.specs.declared.outcome.Ran.{Ran}
 use Rattle.flow_run.specs.declared.outcome.RunRefusal.{RunRefusal}

@@ -2,8 +2,8 @@
 ghost use Rattle.std.specs.Prelude.{◌≡◌};
 ghost use Rattle.flow_run.specs.Status.{status_of, run_status, fault_status};
 
-use crate::fault::{TextFault, TextRefusal};
 use flow_net::Settled;
+use flow_text::{TextFault, TextRefusal};
 
 /// What a run came to.
 #[derive(Clone, Copy, Debug, PartialEq, Eq)]
@@ -68,6 +68,3 @@ fn status_of_fault(fault: &TextFault) -> u8
         _ => 2,
     }
 }
-
-#[cfg(test)]
-mod tests;

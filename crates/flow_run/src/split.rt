@@ -47,6 +47,3 @@ fn is_cut(text: &[u8], at: usize) -> bool
     let begins_line = at == 0 || text[at - 1] == b'\n';
     begins_line && matches!(&text[at..], [b'%', b'%'] | [b'%', b'%', b'\n', ..])
 }
-
-#[cfg(test)]
-mod tests;

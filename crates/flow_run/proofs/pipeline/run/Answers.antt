@@ -6,7 +6,7 @@ use Rattle.flow_link.specs.Layout.{Layout}
 use Rattle.flow_link.specs.Planned.{layout_of}
 use Rattle.flow_link.specs.Trace.{InputTrace}
 use Rattle.flow_net.specs.Net.{layout_in, parts_of, run_of}
-use Rattle.flow_run.specs.Records.{input_names, posted_values}
+use Rattle.flow_text.specs.Records.{input_names, posted_values}
 use Rattle.flow_run.proofs.PipelineLemmas.{answered, names_count, as_many, given_values, posts_as, fresh_as, settles_as, goes_on_as, planned_as, no_plan, no_records, no_end}
 use Rattle.flow_run.proofs.pipeline.run.Goals as goal
 

@@ -1,9 +1,0 @@
-use Rattle.std.proofs.Common.{◌≡◌, ◌≤◌, take, count_by}
-use Rattle.flow_run.specs.Report.{is_output}
-use Rattle.flow_run.proofs.report.exits_before.Given as goal
-
-abbrev pub invariant-loop-number : goal.invariant-loop-number
-invariant-loop-number g l = record {
-  counted : l.count ≡ count_by is_output (take l.number (g.N.Reported.run l.net).layout.blocks);
-  few : l.count ≤ l.number;
-}

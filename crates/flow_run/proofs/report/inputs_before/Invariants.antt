@@ -1,9 +1,0 @@
-use Rattle.std.proofs.Common.{◌≡◌, ◌≤◌, take, count_by}
-use Rattle.flow_run.specs.Report.{is_input}
-use Rattle.flow_run.proofs.report.inputs_before.Given as goal
-
-abbrev pub invariant-loop-number : goal.invariant-loop-number
-invariant-loop-number g l = record {
-  counted : l.count ≡ count_by is_input (take l.number (g.N.Reported.run l.net).layout.blocks);
-  few : l.count ≤ l.number;
-}

@@ -1,6 +1,0 @@
-use Rattle.flow_run.specs.Report.{block_report}
-use Rattle.flow_run.proofs.ReportLemmas.{lines-more}
-use Rattle.flow_run.proofs.report.write_lines.Goals as goal
-
-pub loop-block-preserved : goal.loop-block-preserved
-loop-block-preserved g c = lines-more (block_report (g.N.Reported.run c.args.net.now)) c.loop-block.block _ _ _ c.loop-block.invariant c.in_ok-write_block.ensures

@@ -1,0 +1,11 @@
+pub mod BuildLemmas
+pub mod CompleteLemmas
+pub mod KeyLemmas
+pub mod PassLemmas
+pub mod PieceLemmas
+pub mod PlanLemmas
+pub mod PrintLemmas
+pub mod RecordLemmas
+pub mod ReportLemmas
+pub mod RunLemmas
+pub mod SoundLemmas

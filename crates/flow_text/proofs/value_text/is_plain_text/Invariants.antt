@@ -1,0 +1,6 @@
+use Rattle.std.proofs.Common.{◌≡◌, take}
+use Rattle.flow_text.specs.Printed.{escapes}
+use Rattle.flow_text.proofs.value_text.is_plain_text.Given as goal
+
+abbrev pub invariant-loop-byte : goal.invariant-loop-byte
+invariant-loop-byte l = escapes (take l.byte-index l.text) ≡ take l.byte-index l.text

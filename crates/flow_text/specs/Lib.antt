@@ -1,0 +1,12 @@
+pub mod Built
+pub mod Complete
+pub mod FaultText
+pub mod Keys
+pub mod Passes
+pub mod Plan
+pub mod Printed
+pub mod Read
+pub mod Records
+pub mod Report
+pub mod Rules
+pub mod Written
