@@ -1,6 +1,7 @@
 pub mod Built
 pub mod Composes
 pub mod Copies
+pub mod Drafts
 pub mod Endings
 pub mod Examples
 pub mod Fault

@@ -1,4 +1,7 @@
 //! What a caller writes of a network, before anything of it is checked.
+ghost use Rattle.std.specs.Prelude.{◌≡◌};
+ghost use Rattle.flow_link.specs.Drafts.{block_alone, link_alone};
+
 use flow_value::{Text, When};
 
 /// What a block does with its messages.
@@ -64,6 +67,26 @@ pub struct BlockDef<W> {
     pub greedy: Option<bool>,
 }
 
+impl<W> BlockDef<W> {
+    /// A block with this name and kind, and with no option. Options are set on it, or written before `..BlockDef::new(..)`.
+    pub fn new(name: Text, kind: BlockKind) -> BlockDef<W>
+        ensures { result ≡ block_alone name kind }
+    {
+        BlockDef {
+            name,
+            kind,
+            input: false,
+            output: false,
+            capacity: None,
+            work: None,
+            lanes: None,
+            size: None,
+            ports: None,
+            greedy: None,
+        }
+    }
+}
+
 /// A link as it is written, between two blocks that it names.
 #[derive(Debug, Drop)]
 pub struct LinkDef {
@@ -77,6 +100,24 @@ pub struct LinkDef {
     pub max: Option<u32>,
     /// Whether the end of the source ends the target.
     pub propagate: bool,
+}
+
+impl LinkDef {
+    /// A link between the blocks with these names, with no option.
+    ///
+    /// Microsoft: `LinkTo` with the default `DataflowLinkOptions`.
+    pub fn new(from: Text, to: Text) -> LinkDef
+        ensures { result ≡ link_alone from to }
+    {
+        LinkDef {
+            from,
+            to,
+            port: None,
+            when: None,
+            max: None,
+            propagate: false,
+        }
+    }
 }
 
 /// A network as it is written.

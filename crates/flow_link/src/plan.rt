@@ -1,5 +1,5 @@
 //! A network that was checked: its blocks and links by their numbers, and what can be wrong with a draft.
-ghost use Rattle.std.specs.Prelude.{◌≡◌, ◌<◌, length, HoldsAt, position};
+ghost use Rattle.std.specs.Prelude.{◌≡◌, ◌<◌, count_by, length, HoldsAt, position};
 ghost use Rattle.std.specs.Str.{bytes_eq};
 ghost use Rattle.flow_link.specs.Built.{IsBuilt};
 ghost use Rattle.flow_link.specs.Fault.{fault_number};
@@ -171,6 +171,13 @@ impl<W> Plan<W> {
         ensures laid_out { IsLaidOut (layout_of self.now).blocks (layout_of self.now).links }
     {
         self.links[id]
+    }
+
+    /// How many inputs there are: of so many blocks values are posted.
+    pub fn input_count(&self) -> usize
+        ensures { result ≡ count_by (λ block. block.input) (layout_of self.now).blocks }
+    {
+        self.blocks.iter().filter(|block| block.input).count()
     }
 
     /// The number of the block with this name, if there is one.
