@@ -18,7 +18,6 @@ use Rattle.flow_link.specs.declared.plan.LinkSource.{LinkSource}
 use Rattle.flow_link.specs.declared.plan.LinkSource.TheVariants.{Block as at_block, Input}
 use Rattle.flow_link.specs.declared.plan.LinkTarget.{LinkTarget}
 use Rattle.flow_link.specs.declared.plan.LinkTarget.TheVariants.{Port as at_port, Exit}
-use Rattle.flow_link.specs.declared.plan.PlanFault.{PlanFault}
 use Rattle.flow_link.specs.declared.plan.PlanFault.TheVariants.{DuplicateName, UnknownBlock, Port, NoOutput, BadOption, Limit}
 use Rattle.flow_link.specs.declared.plan.Place.TheVariants.{Block, Link as at_link}
 use Rattle.flow_link.specs.Built.{IsBuilt, is_first_port}
@@ -27,37 +26,14 @@ use Rattle.flow_link.specs.Lists.{some, below}
 use Rattle.flow_link.specs.NotBuilt.{stands_now, first_fault_now, name_faults, end_faults, option_faults, is_built_kind, is_built_block, is_bad_block, is_built_link, is_further_link, leaves_with, enters_with, shares_an_end, enters_input}
 use Rattle.flow_link.specs.Plan.{block_named, block_in, link_in, begins_at, ends_at, named_link, named_links, planned_links, ports_by_kind, no_block}
 use Rattle.flow_link.specs.PlanFaults.{options_fit, is_in, lacks_port}
-use Rattle.flow_link.proofs.FirstFaultLemmas.{named_link_at, length-named_links, bad_link_at, find_of_images, first_fault_of, first_fault_along, fails_from, none_front, none_back, none_behind, none_image}
+use Rattle.flow_link.proofs.EachLemmas.{Each, each_append, Fails, both_ways, in_front, each_input, no_def, none_at, each_named}
+use Rattle.flow_link.proofs.FirstFaultLemmas.{named_link_at, length-named_links, bad_link_at, first_fault_of, none_front, none_back, none_behind}
 use Rattle.flow_link.proofs.LayoutLemmas.{neither}
 use Rattle.flow_link.proofs.ListLemmas.{both_of}
 
--- what holds of each link of a list
-abbrev Each : (Link → Type 0) → List Link → Type 0
-Each P links = (l : ℕ) → l < length links → P (link_in links l)
-
-each_cons : (P : Link → Type 0) (link : Link) (links : List Link) → P link → Each P links → Each P (link ∷ links)
-each_cons P link links here rest zero small = here
-each_cons P link links here rest (suc l) small = rest l (omega arith)
-
-each_append : (P : Link → Type 0) (first last : List Link) → Each P first → Each P last → Each P (first ++ last)
-each_append P [] last a b = b
-each_append P (link ∷ first) last a b =
-    each_cons P link (first ++ last) (a 0 (omega arith)) (each_append P first last (λ l small. a (suc l) (omega arith)) b)
-
-each_cond : (P : Link → Type 0) (b : Bool) (link : Link) (links : List Link) → (b ≡ true → P link) → Each P links → Each P (cond b (link ∷ []) [] ++ links)
-each_cond P true link links here rest = each_cons P link links (here refl) rest
-each_cond P false link links here rest = rest
-
--- a link that fails a test, and a list in which at most one link passes it
-abbrev Fails : (Link → Bool) → Link → Type 0
-Fails test link = test link ≡ false
-
+-- at most one link of the list passes
 abbrev AtMostOne : (Link → Bool) → List Link → Type 0
 AtMostOne test links = (k l : ℕ) → k < length links → l < length links → test (link_in links k) ≡ true → test (link_in links l) ≡ true → k ≡ l
-
-both_ways : (b : Bool) → b ≡ true → b ≡ false → ⊥
-both_ways true is not_so = cc
-both_ways false is not_so = cc
 
 one_more : (test : Link → Bool) (link : Link) (links : List Link) → (test link ≡ true → Each (Fails test) links) → AtMostOne test links → AtMostOne test (link ∷ links)
 one_more test link links apart rest zero zero small smaller ek el = refl
@@ -75,15 +51,6 @@ one_after test [] last none one = one
 one_after test (link ∷ first) last none one =
     one_more test link (first ++ last) (λ is. absurd (both_ways (test link) is (none 0 (omega arith))))
     (one_after test first last (λ l small. none (suc l) (omega arith)) one)
-
-in_front : (test : Link → Bool) (first last : List Link) (k : ℕ) → Each (Fails test) last → k < length (first ++ last)
-    → test (link_in (first ++ last) k) ≡ true → (k < length first) × (test (link_in first k) ≡ true)
-in_front test [] last k none small e = absurd (both_ways (test (link_in last k)) e (none k small))
-in_front test (link ∷ first) last zero none small e = (omega arith, e)
-in_front test (link ∷ first) last (suc k) none small e =
-    let rest = in_front test first last k none (omega arith) e in
-    let low : k < length first = rest.0 in
-    (omega arith, rest.1)
 
 one_before : (test : Link → Bool) (first last : List Link) → AtMostOne test first → Each (Fails test) last → AtMostOne test (first ++ last)
 one_before test first last one none k l small smaller ek el =
@@ -167,17 +134,6 @@ module _ {W : Type 0} where
       let here : block.output ≡ false = none 0 (omega arith) in
       rw (here, no_exits (suc first) blocks (λ b small. none (suc b) (omega arith))) refl
 
-  -- the links of the inputs
-  each_input : (P : Link → Type 0) (first : ℕ) (blocks : List (BlockDef W))
-      → ((b : ℕ) → b < length blocks → (block_in blocks b).input ≡ true → P (input_link (first + b))) → Each P (input_links first blocks)
-  each_input P first [] h = λ l small. absurd (omega arith)
-  each_input P first (block ∷ blocks) h =
-      let zeroth : first + 0 ≡ first = omega arith in
-      let moved : (b : ℕ) → first + suc b ≡ suc first + b = λ b. omega arith in
-      each_cond P block.input (input_link first) (input_links (suc first) blocks)
-      (λ is. subst (λ (n : ℕ). P (input_link n)) zeroth (h 0 (omega arith) is))
-      (each_input P (suc first) blocks (λ b small is. subst (λ (n : ℕ). P (input_link n)) (moved b) (h (suc b) (omega arith) is)))
-
   one_input : (t first : ℕ) (blocks : List (BlockDef W)) → AtMostOne (λ link. ends_at t link.target) (input_links first blocks)
   one_input t first [] = λ k l small smaller ek el. absurd (omega arith)
   one_input t first (block ∷ blocks) =
@@ -208,17 +164,6 @@ module _ {W : Type 0} where
       let one = one_port (block_in blocks b).kind (block_in blocks b).ports (kinds b refl) in
       let low = leb-false (ports_by_kind (block_in blocks b).kind (block_in blocks b).ports) port has in
       eq-eqb port 0 (omega (arith, one, low))
-
--- what stands at a place where no link is
-no_def : LinkDef
-no_def = record { from = []; to = []; port = None; when = None; max = None; propagate = false }
-
--- no fault of a kind stands where none is found
-none_at : (test : PlanFault → Bool) (fault : ℕ → PlanFault) (count k : ℕ) → k < count → find test (map fault (below count)) ≡ None → test (fault k) ≡ false
-none_at test fault count k low e =
-    let zeroth : k ≡ 0 + k = omega arith in
-    ap (λ n. test (fault n)) zeroth
-    ∙ fails_from (λ n. test (fault n)) 0 count k low (none_image fault _ (sym (find_of_images test fault (below count)) ∙ e))
 
 module _ {W : Type 0} (blocks : List (BlockDef W)) (links : List LinkDef) (fine : first_fault_now blocks links ≡ None) where
   no_end_fault : find (stands_now blocks links) (end_faults blocks links) ≡ None
@@ -283,13 +228,6 @@ module _ {W : Type 0} (blocks : List (BlockDef W)) (links : List LinkDef) (fine 
       (λ b at. built_has_kind (block_in blocks b) (blocks_are_built b (position-Some (λ block. bytes_eq block.name link.to) blocks b no_block at).0))
       (ap (λ x. lacks_port blocks links x (named_link blocks link).target) (sym place) ∙ ap (lacks_port blocks links (get_or (map (λ x. block_named blocks x.to) links) l None)) (sym target) ∙ has)
 
-  each_named : (P : Link → Type 0) → ((l : ℕ) (link : LinkDef) → l < length links → link ≡ get_or links l link → P (named_link blocks link))
-      → Each P (named_links blocks links)
-  each_named P h l small =
-      let low : l < length links = omega (arith, length-named_links blocks links) in
-      let link = get_or links l no_def in
-      subst P (sym (named_link_at blocks links l no_def low)) (h l link low (get_or_default links l no_def link low))
-
   -- no named link enters a block to which values are posted
   enters_no_input : (l : ℕ) → l < length (named_links blocks links) → enters_input blocks (link_in (named_links blocks links) l).target ≡ false
   enters_no_input l small =
@@ -327,7 +265,7 @@ module _ {W : Type 0} (blocks : List (BlockDef W)) (links : List LinkDef) (fine 
   each_led : (P : Link → Type 0) → ((l : ℕ) (link : LinkDef) → l < length links → link ≡ get_or links l link → P (named_link blocks link))
       → ((b : ℕ) → P (input_link b)) → Each P (named_links blocks links ++ input_links 0 blocks)
   each_led P named input =
-      each_append P (named_links blocks links) (input_links 0 blocks) (each_named P named) (each_input P 0 blocks (λ b small is. input (0 + b)))
+      each_append P (named_links blocks links) (input_links 0 blocks) (each_named blocks links P named) (each_input P 0 blocks (λ b small is. input (0 + b)))
 
   one_led_out : (s : ℕ) → AtMostOne (λ link. begins_at s link.source) (named_links blocks links ++ input_links 0 blocks)
   one_led_out s =
@@ -365,11 +303,5 @@ module _ {W : Type 0} (blocks : List (BlockDef W)) (links : List LinkDef) (fine 
       let outer : outer_links blocks ≡ input_links 0 blocks = ap (λ last. input_links 0 blocks ++ last) none ∙ append-nil (input_links 0 blocks) in
       subst (λ (all : List Link). IsBuilt blocks all) (ap (λ last. named_links blocks links ++ last) (sym outer)) built_led
 
-module _ {W : Type 0} (blocks : List (BlockDef W)) (links : List LinkDef) where
-  -- the same of a plan that is made of the same blocks and links
-  pub built_along : (bs : List (BlockDef W)) (ls : List LinkDef) (planned : List Link) → bs ≡ blocks → ls ≡ links
-      → planned ≡ planned_links bs ls → first_fault_now bs ls ≡ None → IsBuilt blocks planned
-  built_along bs ls planned eb el ep e =
-      let same : planned_links blocks links ≡ planned =
-      sym (ep ∙ ap (λ x. planned_links x ls) eb ∙ ap (λ x. planned_links blocks x) el) in
-      subst (λ (all : List Link). IsBuilt blocks all) same (built_where_none blocks links (sym (first_fault_along blocks links bs ls eb el) ∙ e))
+  pub built_along : (planned : List Link) → planned ≡ planned_links blocks links → IsBuilt blocks planned
+  built_along planned ep = subst (λ (all : List Link). IsBuilt blocks all) (sym ep) built_where_none

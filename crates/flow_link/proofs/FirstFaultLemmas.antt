@@ -261,11 +261,11 @@ module _ {W : Type 0} (blocks : List (BlockDef W)) (links : List LinkDef) where
       ∙ rest options eo
 
   -- a cycle stands where it is found in the links that the draft's links become
-  pub cycle_stands : (seen named : List Link) (found answer : Bool) → seen ≡ named → named ≡ named_links blocks links
-      → found ≡ some (λ b. walks seen (length blocks) (length blocks) b b) (below (length blocks)) → found ≡ answer
+  pub cycle_stands : (named : List Link) (found answer : Bool) → named ≡ named_links blocks links
+      → found ≡ some (λ b. walks named (length blocks) (length blocks) b b) (below (length blocks)) → found ≡ answer
       → stands_now blocks links Cycle ≡ answer
-  cycle_stands seen named found answer es en ef ea =
-      ap (λ x. some (λ b. walks x (length blocks) (length blocks) b b) (below (length blocks))) (sym (es ∙ en)) ∙ sym ef ∙ ea
+  cycle_stands named found answer en ef ea =
+      ap (λ x. some (λ b. walks x (length blocks) (length blocks) b b) (below (length blocks))) (sym en) ∙ sym ef ∙ ea
 
   -- where no fault is first, all names are known
   pub known_where_none : first_fault_now blocks links ≡ None
@@ -286,14 +286,15 @@ module _ {W : Type 0} (blocks : List (BlockDef W)) (links : List LinkDef) where
       → first_fault_now bs ls ≡ first_fault_now blocks links
   first_fault_along bs ls eb el = ap (λ x. first_fault_now x ls) eb ∙ ap (λ x. first_fault_now blocks x) el
 
+  -- the links of a plan of the same blocks and links
+  pub planned_along : (bs : List (BlockDef W)) (ls : List LinkDef) (planned : List Link) → bs ≡ blocks → ls ≡ links
+      → planned ≡ planned_links bs ls → planned ≡ planned_links blocks links
+  planned_along bs ls planned eb el ep = ep ∙ ap (λ x. planned_links x ls) eb ∙ ap (λ x. planned_links blocks x) el
+
   -- a plan is laid out where its draft has no fault
-  pub laid_out_where_none : (bs : List (BlockDef W)) (ls : List LinkDef) (planned : List Link) → bs ≡ blocks → ls ≡ links
-      → planned ≡ planned_links bs ls → first_fault_now bs ls ≡ None → IsLaidOut blocks planned
-  laid_out_where_none bs ls planned eb el ep e =
-      let P : List Link → Type 0 = λ x. IsLaidOut blocks x in
-      let same : planned_links blocks links ≡ planned =
-      sym (ep ∙ ap (λ x. planned_links x ls) eb ∙ ap (λ x. planned_links blocks x) el) in
-      subst P same (laid_out_of blocks links (known_where_none (sym (first_fault_along bs ls eb el) ∙ e)))
+  pub laid_out_where_none : (planned : List Link) → planned ≡ planned_links blocks links → first_fault_now blocks links ≡ None
+      → IsLaidOut blocks planned
+  laid_out_where_none planned ep e = subst (λ (all : List Link). IsLaidOut blocks all) (sym ep) (laid_out_of blocks links (known_where_none e))
 
 some_is_none : {A : Type 0} (x : A) → Some x ≡ None → ⊥
 some_is_none x e = cc

@@ -4,7 +4,7 @@ use Rattle.std.specs.List.{position, position_from}
 use Rattle.std.specs.Str.{bytes_eq}
 use Rattle.std.proofs.Math.Seq.{take-append_seam}
 use Rattle.std.proofs.lemmas.Bool.{lt-ltb}
-use Rattle.std.proofs.lemmas.List.{map_more, append-nil}
+use Rattle.std.proofs.lemmas.List.{map_more}
 use Rattle.std.proofs.lemmas.List.Quantifiers.{position-Some}
 use Rattle.std.proofs.lemmas.Iterator.Adapters.{position_from-zero}
 use Rattle.flow_link.specs.declared.draft.BlockDef.{BlockDef}
@@ -61,15 +61,6 @@ module _ {W : Type 0} (blocks : List (BlockDef W)) where
   one_more_exit i block links next low is e =
       by_blocks (λ k b. cond b.output (exit_link k ∷ []) []) exit_links (λ k b bs. refl) i block links next low is e
 
--- a link is pushed, or not
-pub pushed : (is_pushed : Bool) (before after : List Link) (made link : Link) → is_pushed ≡ true
-    → after ≡ before ++ made ∷ [] → made ≡ link → after ≡ before ++ cond is_pushed (link ∷ []) []
-pushed is_pushed before after made link is_so e el = rw is_so (e ∙ ap (λ l. before ++ l ∷ []) el)
-
-pub not_pushed : (is_pushed : Bool) (before after : List Link) (link : Link) → is_pushed ≡ false
-    → after ≡ before → after ≡ before ++ cond is_pushed (link ∷ []) []
-not_pushed is_pushed before after link is_not e = rw is_not (e ∙ sym (append-nil before))
-
 -- of two tests that both fail, each does
 option_is_some : {A : Type 0} (x : A) → None ≡ Some x → ⊥
 option_is_some x e = cc
@@ -90,10 +81,12 @@ is_there None e = absurd (true_is_false e)
 is_there (Some n) e = refl
 
 module _ {W : Type 0} (blocks : List (BlockDef W)) where
-  known_below : (name : List ℕ) → is_none (block_named blocks name) ≡ false → ltb (unwrap_or (block_named blocks name) 0) (length blocks) ≡ true
-  known_below name e =
-      lt-ltb (unwrap_or (block_named blocks name) 0) (length blocks)
+  pub named_low : (name : List ℕ) → is_none (block_named blocks name) ≡ false → unwrap_or (block_named blocks name) 0 < length blocks
+  named_low name e =
       (position-Some (λ block. bytes_eq block.name name) blocks (unwrap_or (block_named blocks name) 0) no_block (is_there (block_named blocks name) e)).0
+
+  known_below : (name : List ℕ) → is_none (block_named blocks name) ≡ false → ltb (unwrap_or (block_named blocks name) 0) (length blocks) ≡ true
+  known_below name e = lt-ltb (unwrap_or (block_named blocks name) 0) (length blocks) (named_low name e)
 
   -- where all names are known, each link leads from a block to a block
   all_known : (links : List LinkDef) (first : ℕ)
@@ -108,18 +101,22 @@ module _ {W : Type 0} (blocks : List (BlockDef W)) where
       (known_below link.from known.0) (known_below link.to known.1))
       (all_known links (first + 1) step.1)
 
+  -- the links of a plan between its blocks are those of its draft
+  pub between_named : (links : List LinkDef) → between_of blocks (planned_links blocks links) ≡ named_links blocks links
+  between_named links =
+      let named = named_links blocks links in
+      let outer = outer_links blocks in
+      let count : length (named ++ outer) - length outer ≡ length named = omega (arith, length-append named outer) in
+      ap (λ n. take n (named ++ outer)) count ∙ take-append_seam named outer
+
   -- the links of a draft whose names are known, and then those from and to the caller
   pub laid_out_of : (links : List LinkDef)
       → position (λ link. is_none (block_named blocks link.from) || is_none (block_named blocks link.to)) links ≡ None
       → IsLaidOut blocks (planned_links blocks links)
   laid_out_of links e =
-      let named = named_links blocks links in
-      let outer = outer_links blocks in
-      let count : length (named ++ outer) - length outer ≡ length named = omega (arith, length-append named outer) in
-      let between : between_of blocks (named ++ outer) ≡ named = ap (λ n. take n (named ++ outer)) count ∙ take-append_seam named outer in
       let none : position_from (λ link. is_none (block_named blocks link.from) || is_none (block_named blocks link.to)) 0 links ≡ None =
       sym (position_from-zero (λ link. is_none (block_named blocks link.from) || is_none (block_named blocks link.to)) links) ∙ e in
       record {
-        in_order = ap (λ front. front ++ outer) (sym between);
-        lead = ap (every (is_between_blocks (length blocks))) between ∙ all_known links 0 none;
+        in_order = ap (λ front. front ++ outer_links blocks) (sym (between_named links));
+        lead = ap (every (is_between_blocks (length blocks))) (between_named links) ∙ all_known links 0 none;
       }

@@ -2,12 +2,14 @@ pub mod BuiltLemmas
 pub mod CheckLemmas
 pub mod ComposeLemmas
 pub mod CopyLemmas
+pub mod EachLemmas
 pub mod EndingLemmas
 pub mod ExampleLemmas
 pub mod FirstFaultLemmas
 pub mod JournalLemmas
 pub mod LayoutLemmas
 pub mod ListLemmas
+pub mod LongWalks
 pub mod LookLemmas
 pub mod MidMoveLemmas
 pub mod PlanExampleLemmas
@@ -17,6 +19,7 @@ pub mod SourceMoves
 pub mod TargetMoves
 pub mod TestLemmas
 pub mod ToldLemmas
+pub mod WellFormedLemmas
 pub mod WholeLemmas
 pub mod WordLemmas
 pub mod WrongPartsLemmas

@@ -35,4 +35,5 @@ pub mod Told
 pub mod Trace
 pub mod UnfinishedExamples
 pub mod Views
+pub mod WellFormed
 pub mod WrongParts

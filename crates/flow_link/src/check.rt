@@ -12,40 +12,29 @@ ghost use Rattle.flow_link.specs.Refusal.{IsWhy};
 ghost use Rattle.flow_link.specs.PlanFaults.{gives_nothing, lacks_port, lacks_output, is_in, first_plan_fault};
 ghost use Rattle.flow_link.specs.NotBuilt.{first_fault_now, stands_now, first_at, name_faults, end_faults, option_faults, is_bad_block, is_built_link, is_further_link, shares_an_end, enters_input, leaves_with, enters_with};
 
-use crate::cycle::has_cycle;
+use crate::cycle::{MOST_BLOCKS, has_cycle};
 use crate::draft::{BlockDef, BlockKind, Draft, LinkDef};
-use crate::layout::{named_links, push_outer_links};
+use crate::layout::{NO_LINK, name_links, planned_links};
 use crate::options::{is_built_block, is_built_link, max_fits, options_fit, port_count};
 use crate::plan::{Link, LinkSource, LinkTarget, Place, Plan, PlanFault};
-use std::alloc::{AllocError, Global};
-
-/// The most blocks that a network has.
-const MOST_BLOCKS: usize = 256;
+use std::alloc::Global;
+use thiserror::Error;
 
 /// The most links that a draft has.
 const MOST_LINKS: usize = 1024;
 
 /// Why a draft is no plan.
-#[derive(Clone, Copy, Debug, PartialEq, Eq)]
+#[derive(Clone, Copy, Debug, PartialEq, Eq, Error)]
 pub enum PlanRefusal {
     /// This fault stands, and none that comes before it in the order.
+    #[error("{0}")]
     Fault(PlanFault),
-    /// There is no memory for the plan.
+    /// No fault stands, and there is no memory for the plan.
+    #[error("out of memory")]
     Memory,
 }
 
-impl From<AllocError> for PlanRefusal {
-    ghost use Rattle.std.specs.Prelude.{◌≡◌};
-    ghost use Rattle.flow_link.specs.declared.check.PlanRefusal.TheVariants.{Memory};
-
-    ghost from_gives = { λ _ refusal. refusal ≡ Memory };
-
-    fn from(_error: AllocError) -> PlanRefusal {
-        PlanRefusal::Memory
-    }
-}
-
-/// The plan of a draft, or the draft again with its first fault; want of memory aside.
+/// The plan of a draft, or the draft again with its first fault. Out of memory comes last: where no fault stands.
 pub fn plan_check<W>(alloc: Global, draft: Draft<W>) -> Result<Plan<W>, (Draft<W>, PlanRefusal)>
     ensures no_fault { OnOk result (first_fault_now draft.blocks.items draft.links.items ≡ None) }
     ensures none_by_the_format { OnOk result (first_plan_fault draft.blocks.items draft.links.items ≡ None) }
@@ -54,40 +43,38 @@ pub fn plan_check<W>(alloc: Global, draft: Draft<W>) -> Result<Plan<W>, (Draft<W
     ensures why { IfErr result (λ refused. IsWhy (first_fault_now draft.blocks.items draft.links.items) refused.1) }
     ensures handed_back { IfErr result (λ refused. refused.0 ≡ draft) }
 {
-    match links_of(alloc, &draft.blocks, &draft.links) {
+    if let Some(fault) = first_fault(&draft.blocks, &draft.links) {
+        return Err((draft, PlanRefusal::Fault(fault)));
+    }
+    match planned_links(alloc, &draft.blocks, &draft.links) {
         Ok(links) => {
             let Draft { blocks, links: _ } = draft;
             Ok(Plan::new(blocks, links))
         }
-        Err(refusal) => Err((draft, refusal)),
+        Err(_) => Err((draft, PlanRefusal::Memory)),
     }
 }
 
-/// The links of the plan of a draft with these blocks and links.
-fn links_of<W>(
-    alloc: Global,
-    blocks: &[BlockDef<W>],
-    links: &[LinkDef],
-) -> Result<Vec<Link>, PlanRefusal>
-    ensures no_fault { OnOk result (first_fault_now blocks.now links.now ≡ None) }
-    ensures planned { IfOk result (λ planned. planned.items ≡ planned_links blocks.now links.now) }
-    ensures why { IfErr result (IsWhy (first_fault_now blocks.now links.now)) }
+/// The first fault of a draft with these blocks and links. It takes no memory.
+fn first_fault<W>(blocks: &[BlockDef<W>], links: &[LinkDef]) -> Option<PlanFault>
+    ensures { result ≡ first_fault_now blocks.now links.now }
 {
     if let Some(fault) = fault_of_names(blocks, links) {
-        return Err(PlanRefusal::Fault(fault));
+        return Some(fault);
     }
     if let Some(fault) = fault_of_ends(blocks, links) {
-        return Err(PlanRefusal::Fault(fault));
+        return Some(fault);
     }
-    let mut planned = named_links(alloc, blocks, links)?;
-    if let Some(fault) = fault_of_options(blocks, links, &planned) {
-        return Err(PlanRefusal::Fault(fault));
+    let mut room = [NO_LINK; MOST_LINKS];
+    name_links(blocks, links, &mut room);
+    let named = &room[..links.len()];
+    if let Some(fault) = fault_of_options(blocks, links, named) {
+        return Some(fault);
     }
-    if has_cycle(alloc, &planned, blocks.len())? {
-        return Err(PlanRefusal::Fault(PlanFault::Cycle));
+    if has_cycle(named, blocks.len()) {
+        return Some(PlanFault::Cycle);
     }
-    push_outer_links(blocks, &mut planned)?;
-    Ok(planned)
+    None
 }
 
 /// The first fault among those of numbers and names.

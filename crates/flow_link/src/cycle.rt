@@ -2,27 +2,30 @@
 //!
 //! For one block after another a row says from which blocks a walk leads to it. Each round allows walks of one link
 //! more, and after as many rounds as there are blocks no longer walk is of interest.
-ghost use Rattle.std.specs.Prelude.{◌≡◌, ◌<◌, ◌↔◌, ◌&&◌, ◌||◌, true, false, length, slice_index_or, EachIndex, IfOk};
+ghost use Rattle.std.specs.Prelude.{◌≡◌, ◌<◌, ◌≤◌, ◌↔◌, ◌&&◌, ◌||◌, true, false, length, slice_index_or, EachIndex};
 ghost use Rattle.flow_link.specs.Lists.{some, below};
 ghost use Rattle.flow_link.specs.Plan.{begins_at};
 ghost use Rattle.flow_link.specs.PlanFaults.{walks};
 ghost use Rattle.flow_link.specs.Rounds.{goes_on, sets_out};
 
 use crate::plan::{Link, LinkSource, LinkTarget};
-use std::alloc::{AllocError, Global};
+
+/// The most blocks that a network has.
+pub const MOST_BLOCKS: usize = 256;
 
 /// Whether a walk leads from one of the first so many blocks back to it.
-pub fn has_cycle(alloc: Global, links: &[Link], count: usize) -> Result<bool, AllocError>
-    ensures { IfOk result (λ found. found ≡ some (λ block. walks links.now count count block block) (below count)) }
+pub fn has_cycle(links: &[Link], count: usize) -> bool
+    requires { count ≤ 256 }
+    ensures { result ≡ some (λ block. walks links.now count count block block) (below count) }
 {
-    let mut row = vec![in alloc; false; count]?;
-    let mut next = vec![in alloc; false; count]?;
+    let mut row = [false; MOST_BLOCKS];
+    let mut next = [false; MOST_BLOCKS];
     for block in 0..count {
-        if leads_back(links, block, &mut row, &mut next) {
-            return Ok(true);
+        if leads_back(links, block, &mut row[..count], &mut next[..count]) {
+            return true;
         }
     }
-    Ok(false)
+    false
 }
 
 /// Whether a walk leads from this block back to it.

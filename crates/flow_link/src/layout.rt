@@ -1,7 +1,7 @@
 //! The links of a plan: those of the draft, between the blocks that they name, and those from and to the caller.
-ghost use Rattle.std.specs.Prelude.{◌≡◌, ◌++◌, IfOk, OnOk, unwrap_or};
+ghost use Rattle.std.specs.Prelude.{◌≡◌, ◌≤◌, [], ◌∷◌, ◌++◌, cond, length, take, IfOk, OnOk, unwrap_or};
 ghost use Rattle.flow_link.specs.Layout.{input_link, exit_link, input_links, exit_links, outer_links};
-ghost use Rattle.flow_link.specs.Plan.{block_named, named_link, named_links};
+ghost use Rattle.flow_link.specs.Plan.{block_named, named_link, named_links, planned_links};
 
 use crate::check::block_named;
 use crate::draft::{BlockDef, LinkDef};
@@ -9,8 +9,41 @@ use crate::plan::{Link, LinkSource, LinkTarget};
 use flow_value::When;
 use std::alloc::{AllocError, Global};
 
+/// What fills room in which no link stands yet.
+pub const NO_LINK: Link = Link {
+    source: LinkSource::Input(0),
+    target: LinkTarget::Exit,
+    when: When::Any,
+    max: None,
+    propagate: false,
+};
+
+/// Writes the links of the draft to the front of this room; a name that no block has counts as that of the first.
+pub fn name_links<W>(blocks: &[BlockDef<W>], links: &[LinkDef], room: &mut [Link])
+    requires { length links.now ≤ length room.old }
+    ensures named { take (length links.now) room.new ≡ named_links blocks.now links.now }
+    ensures same_length { length room.new ≡ length room.old }
+{
+    for (place, link) in links.iter().enumerate() {
+        room[place] = named_link(blocks, link);
+    }
+}
+
+/// The links of the plan of a draft with these blocks and links.
+pub fn planned_links<W>(
+    alloc: Global,
+    blocks: &[BlockDef<W>],
+    links: &[LinkDef],
+) -> Result<Vec<Link>, AllocError>
+    ensures { IfOk result (λ planned. planned.items ≡ planned_links blocks.now links.now) }
+{
+    let mut planned = named_links(alloc, blocks, links)?;
+    push_outer_links(blocks, &mut planned)?;
+    Ok(planned)
+}
+
 /// The links of the draft; a name that no block has counts as that of the first.
-pub fn named_links<W>(
+fn named_links<W>(
     alloc: Global,
     blocks: &[BlockDef<W>],
     links: &[LinkDef],
@@ -25,7 +58,7 @@ pub fn named_links<W>(
 }
 
 /// Puts the links of inputs and exits behind the others.
-pub fn push_outer_links<W>(blocks: &[BlockDef<W>], links: &mut Vec<Link>) -> Result<(), AllocError>
+fn push_outer_links<W>(blocks: &[BlockDef<W>], links: &mut Vec<Link>) -> Result<(), AllocError>
     ensures { OnOk result (links.new.items ≡ links.old.items ++ outer_links blocks.now) }
 {
     push_input_links(blocks, links)?;
@@ -36,9 +69,7 @@ fn push_input_links<W>(blocks: &[BlockDef<W>], links: &mut Vec<Link>) -> Result<
     ensures { OnOk result (links.new.items ≡ links.old.items ++ input_links 0 blocks.now) }
 {
     for (place, block) in blocks.iter().enumerate() {
-        if block.input {
-            links.push(input_link(place))?;
-        }
+        push_where(links, block.input, input_link(place))?;
     }
     Ok(())
 }
@@ -47,9 +78,17 @@ fn push_exit_links<W>(blocks: &[BlockDef<W>], links: &mut Vec<Link>) -> Result<(
     ensures { OnOk result (links.new.items ≡ links.old.items ++ exit_links 0 blocks.now) }
 {
     for (place, block) in blocks.iter().enumerate() {
-        if block.output {
-            links.push(exit_link(place))?;
-        }
+        push_where(links, block.output, exit_link(place))?;
+    }
+    Ok(())
+}
+
+/// Puts a link behind the others, or leaves it out.
+fn push_where(links: &mut Vec<Link>, is_there: bool, link: Link) -> Result<(), AllocError>
+    ensures { OnOk result (links.new.items ≡ links.old.items ++ cond is_there (link ∷ []) []) }
+{
+    if is_there {
+        links.push(link)?;
     }
     Ok(())
 }

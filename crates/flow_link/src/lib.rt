@@ -18,8 +18,6 @@ mod layout;
 mod options;
 mod phase;
 mod plan;
-#[cfg(test)]
-mod tests;
 mod trace;
 
 pub use check::{PlanRefusal, plan_check};

@@ -4,11 +4,14 @@ ghost use Rattle.std.specs.Str.{bytes_eq};
 ghost use Rattle.flow_link.specs.Built.{IsBuilt};
 ghost use Rattle.flow_link.specs.Fault.{fault_number};
 ghost use Rattle.flow_link.specs.Layout.{IsLaidOut};
+ghost use Rattle.flow_link.specs.WellFormed.{IsWellFormed};
 ghost use Rattle.std.specs.Coded.{codes};
 ghost use Rattle.flow_link.specs.contracts.plan.Link as link;
 
 use crate::draft::BlockDef;
 use flow_value::When;
+use std::fmt;
+use thiserror::Error;
 
 /// Where the messages of a link come from.
 #[derive(Clone, Copy, Debug, PartialEq, Eq, Hash)]
@@ -50,26 +53,44 @@ pub enum Place {
     Link(usize),
 }
 
+impl fmt::Display for Place {
+    fn fmt<F: fmt::Write>(&self, f: &mut fmt::Formatter<F>) -> fmt::Result {
+        match self {
+            Place::Block(block) => write!(f, "block {block}"),
+            Place::Link(link) => write!(f, "link {link}"),
+        }
+    }
+}
+
 /// Why a draft is no plan. They are looked for in this order, each over the blocks and then the links.
-#[derive(Clone, Copy, Debug, PartialEq, Eq, Hash)]
+#[derive(Clone, Copy, Debug, PartialEq, Eq, Hash, Error)]
 pub enum PlanFault {
     /// There are more than 256 blocks or 1,024 links.
+    #[error("there are more than 256 blocks or 1,024 links")]
     Limit,
     /// An earlier block has this block's name.
+    #[error("block {0} has the name of an earlier block")]
     DuplicateName(usize),
     /// This link names a block that is not there.
+    #[error("link {0} names a block that is not there")]
     UnknownBlock(usize),
     /// The target of this link has no such port.
+    #[error("link {0} leads to a port that its target does not have")]
     Port(usize),
     /// The source of this link gives nothing.
+    #[error("link {0} leaves a block that gives nothing")]
     NoOutput(usize),
     /// An option stands where its kind has none, is out of its range, or is wanting.
+    #[error("{0} has an option that is wrong, or lacks one")]
     BadOption(Place),
     /// This batch has no room for a group.
+    #[error("block {0} has no room for a group")]
     CapacityBelowSize(usize),
     /// One source leads into two ports of this reserving join.
+    #[error("one source leads into two ports of block {0}, which reserves")]
     SharedSource(usize),
     /// Messages could go round for ever.
+    #[error("messages could go round for ever")]
     Cycle,
 }
 
@@ -95,11 +116,13 @@ impl PlanFault {
 /// A network that was checked.
 ///
 /// Blocks have the numbers of their places in the draft. So have links; after them comes a link for each input, and then
-/// one for each exit, both in the order of their blocks. Contracts see the plan as its layout. It uses only what is built.
+/// one for each exit, both in the order of their blocks. Contracts see the plan as its layout. It is well-formed, and uses only
+/// what is built.
 #[derive(Drop)]
 pub struct Plan<W> {
     blocks: Vec<BlockDef<W>>,
     links: Vec<Link>,
+    ghost well_formed: { IsWellFormed blocks.items links.items } by { Prim.hlevel (codes, link.the_row.coded) },
     ghost laid_out: { IsLaidOut blocks.items links.items } by { Prim.hlevel (codes, link.the_row.coded) },
     ghost built: { IsBuilt blocks.items links.items } by { Prim.hlevel (codes, link.the_row.coded) },
 }
@@ -109,6 +132,7 @@ impl<W> Plan<W> {
 
     /// The plan with these blocks and links.
     pub(crate) fn new(blocks: Vec<BlockDef<W>>, links: Vec<Link>) -> Plan<W>
+        requires well_formed { IsWellFormed blocks.items links.items }
         requires laid_out { IsLaidOut blocks.items links.items }
         requires built { IsBuilt blocks.items links.items }
         ensures blocks { (layout_of result).blocks ≡ blocks.items }
@@ -143,6 +167,7 @@ impl<W> Plan<W> {
     pub fn link(&self, id: usize) -> Link
         requires { id < length (layout_of self.now).links }
         ensures its_number { HoldsAt (λ link. result ≡ link) (layout_of self.now).links id }
+        ensures well_formed { IsWellFormed (layout_of self.now).blocks (layout_of self.now).links }
         ensures laid_out { IsLaidOut (layout_of self.now).blocks (layout_of self.now).links }
     {
         self.links[id]

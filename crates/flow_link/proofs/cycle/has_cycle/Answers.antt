@@ -1,11 +1,12 @@
-use Rattle.std.proofs.Common.{◌≡◌, ◌∙◌, sym, ap, length, arith}
+use Rattle.std.proofs.Common.{◌≡◌, ◌∙◌, sym, ap, length, take, arith}
+use Rattle.std.proofs.lemmas.List.{length-take}
 use Rattle.flow_link.specs.PlanFaults.{walks}
 use Rattle.flow_link.proofs.RoundLemmas.{some_here_below, some_none_below}
 use Rattle.flow_link.proofs.cycle.has_cycle.Goals as goal
 
 pub returns-then-leads_back : goal.returns-then-leads_back
 returns-then-leads_back c =
-    let rounds : length c.deref_mut.result.now ≡ c.args.count = ap length c.deref_mut.ensures.value ∙ c.loop-block.invariant.row_length in
+    let rounds : length (take c.args.count c.loop-block.row) ≡ c.args.count = omega (arith, length-take c.args.count c.loop-block.row, c.loop-block.invariant.row_length) in
     sym (some_here_below (λ b. walks c.args.links.now c.args.count c.args.count b b) c.args.count c.loop-block.block (omega arith)
     (ap (λ n. walks c.args.links.now n n c.loop-block.block c.loop-block.block) (sym rounds) ∙ sym c.leads_back.ensures ∙ c.if-leads_back.true))
 
