@@ -68,6 +68,8 @@ wrong_runs = record {
   no_reason = record { broken = λ law. wrong_no_more law.refusals; others_hold = refl };
   action_gives = record { broken = λ law. wrong_no_more law.each_block; others_hold = refl };
   mixed_up = record { broken = λ law. wrong_no_more law.each_block; others_hold = refl };
+  left_out = record { broken = λ law. wrong_no_more law.each_block; others_hold = refl };
+  other_row = record { broken = λ law. wrong_no_more law.each_block; others_hold = refl };
   no_blocks = record { broken = λ law. none_is_some 0 law.blocks; others_hold = refl };
   no_inputs = record { broken = λ law. none_is_some 0 law.inputs; others_hold = refl };
   no_port = record { broken = λ law. wrong_no_more law.ports; others_hold = refl };

@@ -1,6 +1,6 @@
 -- Runs that a wrong program would leave: each is not lawful, by one law.
 use Rattle.std.specs.Prelude.{◌≡◌, not, count_by, List, [], ◌∷◌, ◌++◌}
-use Rattle.flow_link.specs.declared.draft.BlockKind.TheVariants.{Buffer, Broadcast, WriteOnce, Action, Transform, Batch, Join}
+use Rattle.flow_link.specs.declared.draft.BlockKind.TheVariants.{Buffer, Broadcast, WriteOnce, Action, Transform, TransformMany, Batch, Join, BatchedJoin}
 use Rattle.flow_link.specs.declared.trace.Mark.TheVariants.{Took, Gave, Complete, Fault, Done}
 use Rattle.flow_link.specs.Layout.{input_link}
 use Rattle.flow_link.specs.Trace.{BlockTrace, InputTrace, Run}
@@ -10,7 +10,7 @@ use Rattle.flow_link.specs.Copies.{Copies}
 use Rattle.flow_link.specs.Endings.{Endings}
 use Rattle.flow_link.specs.Shape.{Shape}
 use Rattle.flow_link.specs.Tests.{law_tests}
-use Rattle.flow_link.specs.Examples.{Work, block, with_input, with_size, with_capacity, reserving_join, link, to_port, when_even, at_most, int, digit, row, digits_to, took_all, gave_all, ended_well, leaves, leaves_nothing, holds, records, posted, posted_open, posted_with_fault, same, read_digit, read_up_to, run_of, with_refused}
+use Rattle.flow_link.specs.Examples.{Work, block, with_input, with_size, with_capacity, reserving_join, link, to_port, when_even, at_most, int, digit, row, digits_to, took_all, gave_all, ended_well, leaves, leaves_nothing, holds, joins, records, posted, posted_open, posted_with_fault, same, read_digit, read_up_to, run_of, with_refused}
 
 -- a buffer gives its one message to each of two links, whose targets have little room
 abbrev pub head_given_twice : Run Work
@@ -260,6 +260,31 @@ partners_mixed_up = run_of
     ∷ [])
     (posted (digits_to 2) ∷ posted (digit 9 ∷ []) ∷ [])
 
+-- a transform that gives many leaves out the last of its results
+abbrev pub result_left_out : Run Work
+result_left_out = run_of
+    (with_input (block Buffer) ∷ block TransformMany ∷ [])
+    (link 0 1 ∷ input_link 0 ∷ [])
+    read_up_to
+    (leaves_nothing (Took 0 1 (digit 2) ∷ Gave 0 (digit 2) ∷ ended_well)
+    ∷ leaves (Took 0 0 (digit 2) ∷ Complete 0 ∷ []) (int 0 ∷ [])
+    ∷ [])
+    (posted (digit 2 ∷ []) ∷ [])
+
+-- a batched join puts the messages of each port into the row of the other
+abbrev pub rows_mixed_up : Run Work
+rows_mixed_up = run_of
+    (with_input (block Buffer) ∷ with_input (block Buffer) ∷ with_size 2 (block BatchedJoin) ∷ [])
+    (link 0 2 ∷ to_port 2 1 (link 1 2) ∷ input_link 0 ∷ input_link 1 ∷ [])
+    same
+    (leaves_nothing (Took 0 2 (digit 1) ∷ Gave 0 (digit 1) ∷ ended_well)
+    ∷ leaves_nothing (Took 0 3 (digit 9) ∷ Gave 1 (digit 9) ∷ ended_well)
+    ∷ record (joins (Took 0 0 (digit 1) ∷ Took 1 1 (digit 9) ∷ [])) {
+      left = row (row (digit 9 ∷ []) ∷ row (digit 1 ∷ []) ∷ []) ∷ [];
+    }
+    ∷ [])
+    (posted (digit 1 ∷ []) ∷ posted (digit 9 ∷ []) ∷ [])
+
 -- a network of one block that is an input, where nothing is told of the block, or nothing of its input
 abbrev pub one_buffer : List BlockTrace → List InputTrace → Run Work
 one_buffer = run_of (with_input (block Buffer) ∷ []) (input_link 0 ∷ []) same
@@ -303,6 +328,8 @@ pub record WrongRunsAreRefused : Type 0 where
   pub no_reason : BreaksOnly (Endings refused_for_nothing) refused_for_nothing
   pub action_gives : BreaksOnly (Making action_has_something_left) action_has_something_left
   pub mixed_up : BreaksOnly (Making partners_mixed_up) partners_mixed_up
+  pub left_out : BreaksOnly (Making result_left_out) result_left_out
+  pub other_row : BreaksOnly (Making rows_mixed_up) rows_mixed_up
   pub no_blocks : BreaksOnly (Shape block_not_told) block_not_told
   pub no_inputs : BreaksOnly (Shape input_not_told) input_not_told
   pub no_port : BreaksOnly (Shape held_at_no_port) held_at_no_port
