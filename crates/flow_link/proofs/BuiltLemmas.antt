@@ -29,7 +29,7 @@ use Rattle.flow_link.specs.PlanFaults.{options_fit, is_in, lacks_port}
 use Rattle.flow_link.proofs.EachLemmas.{Each, each_append, Fails, both_ways, in_front, each_input, no_def, none_at, each_named}
 use Rattle.flow_link.proofs.FirstFaultLemmas.{named_link_at, length-named_links, bad_link_at, first_fault_of, none_front, none_back, none_behind}
 use Rattle.flow_link.proofs.LayoutLemmas.{neither}
-use Rattle.flow_link.proofs.ListLemmas.{both_of}
+use Rattle.flow_link.proofs.ListTests.{both_of}
 
 -- at most one link of the list passes
 abbrev AtMostOne : (Link → Bool) → List Link → Type 0

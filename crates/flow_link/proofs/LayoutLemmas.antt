@@ -13,7 +13,7 @@ use Rattle.flow_link.specs.declared.plan.Link.{Link}
 use Rattle.flow_link.specs.Lists.{every}
 use Rattle.flow_link.specs.Layout.{IsLaidOut, input_link, input_links, exit_link, exit_links, outer_links, between_of, is_between_blocks}
 use Rattle.flow_link.specs.Plan.{block_named, named_link, named_links, planned_links, no_block}
-use Rattle.flow_link.proofs.ListLemmas.{and_true}
+use Rattle.flow_link.proofs.ListTests.{and_true}
 
 module _ {W : Type 0} (blocks : List (BlockDef W)) where
   named_links_are : (links : List LinkDef) → named_links blocks links ≡ map (named_link blocks) links

@@ -11,7 +11,7 @@ use Rattle.flow_link.specs.Plan.{begins_at, ends_at}
 use Rattle.flow_link.specs.PlanFaults.{leads, walks}
 use Rattle.flow_link.specs.Rounds.{goes_on, sets_out, IsRound}
 use Rattle.flow_link.proofs.CheckLemmas.{any_is_some}
-use Rattle.flow_link.proofs.ListLemmas.{and_true}
+use Rattle.flow_link.proofs.ListTests.{and_true}
 
 -- one more element
 pub some_more : {A : Type 0} (test : A → Bool) (xs : List A) (i : ℕ) (d : A) → i < length xs

@@ -27,7 +27,7 @@ use Rattle.flow_link.proofs.EachLemmas.{Each, Fails, each_append, each_input, ea
 use Rattle.flow_link.proofs.FirstFaultLemmas.{named_link_at, length-named_links, none_front, none_back, fails_from}
 use Rattle.flow_link.proofs.LayoutLemmas.{neither, between_named, named_low}
 use Rattle.flow_link.proofs.LongWalks.{never_reached}
-use Rattle.flow_link.proofs.ListLemmas.{both_of, and_true}
+use Rattle.flow_link.proofs.ListTests.{both_of, and_true}
 use Rattle.flow_link.proofs.RoundLemmas.{some_here_below, some_same_below}
 
 -- of tests that fail

@@ -23,7 +23,7 @@ use Rattle.flow_link.specs.LooksKeep.{SeenAt, HasSeenWanted, Wants}
 use Rattle.flow_link.specs.Plan.{link_in, ends_at}
 use Rattle.flow_link.specs.Trace.{has_fault}
 use Rattle.flow_link.specs.Views.{SourceStage, TargetStage, Refusal}
-use Rattle.flow_link.proofs.LookLemmas.{looks_keep}
+use Rattle.flow_link.proofs.LooksKeepOrder.{looks_keep}
 use Rattle.flow_net.specs.BlockKeeps.{block_makes, AllKeep, Refuses}
 use Rattle.flow_net.specs.Events.{is_open, has_stopped, refusal_by, end_as, move_of_node, end_of_feed, move_of_feed, move_of_source, answer_by, is_hand, is_at_home, brings_completion, fault_brought, offered, wanted, refused, given, opened, closed, closed_by, ended, expecting, takes, offers, gives, sets_out, sends, kind_in, with_line, with_offer, with_wish, with_source, with_target, head_of, offer_of, expects_at, refusal_at, move_at, after_want, after_refusal, after_give, after_opening, after_move, after}
 use Rattle.flow_net.specs.Keeps.{Keeps, LeadsWell, facts_in}

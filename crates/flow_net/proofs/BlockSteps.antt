@@ -14,7 +14,7 @@ use Rattle.flow_link.specs.Making.{with_result, results_of}
 use Rattle.flow_link.specs.Plan.{has_work}
 use Rattle.flow_link.specs.Trace.{took, gave, is_done_mark, is_fault_mark, is_complete_mark, has_complete}
 use Rattle.flow_link.specs.Views.{SourceStage, TargetStage, Refusal}
-use Rattle.flow_link.proofs.ListLemmas.{both_of}
+use Rattle.flow_link.proofs.ListTests.{both_of}
 use Rattle.flow_net.specs.BlockKeeps.{AllKeep, HasFaulted, MakesAs, Refuses, WorkedInto, block_makes, is_own, is_first_port}
 use Rattle.flow_net.specs.Events.{first_of, rest_of, is_open, has_stopped, is_completing, is_at_home, stage_into, stage_out, brings_completion, fault_brought, works, yields, hands_on, makes_as, made_by, completes, faults, finishes, kind_in, may_make, may_complete, is_still, fault_cause, next_fault, may_finish, after, after_fault}
 use Rattle.flow_net.specs.Keeps.{Keeps, LeadsWell}

@@ -14,7 +14,7 @@ use Rattle.flow_link.specs.Layout.{Layout}
 use Rattle.flow_link.specs.Lists.{every}
 use Rattle.flow_link.specs.Plan.{link_in}
 use Rattle.flow_link.specs.Trace.{gave_over, took_over}
-use Rattle.flow_link.proofs.JournalLemmas.{gave_more, took_more}
+use Rattle.flow_link.proofs.JournalsGrow.{gave_more, took_more}
 use Rattle.flow_net.specs.Events.{value_at, first_of, head_of, offer_of, expects_at}
 use Rattle.flow_net.specs.Keeps.{Keeps, LineKeeps, GivesAdmitted, facts_in, awaits_head}
 use Rattle.flow_net.specs.Parts.{NodeState, FeedState, LineState, PartsState, node_at, feed_at, line_at}

@@ -18,7 +18,7 @@ use Rattle.flow_link.specs.Lists.{every, numbers_from, below}
 use Rattle.flow_link.specs.Plan.{begins_at, ends_at, no_link, link_in}
 use Rattle.flow_link.specs.Trace.{gave_over, took_over}
 use Rattle.flow_link.specs.Views.{LinkFacts}
-use Rattle.flow_link.proofs.LookLemmas.{looks_keep}
+use Rattle.flow_link.proofs.LooksKeepOrder.{looks_keep}
 use Rattle.flow_net.specs.Fresh.{IsFresh}
 use Rattle.flow_net.specs.Keeps.{Keeps, LineKeeps, LeadsWell, facts_in, awaits_head}
 use Rattle.flow_net.specs.Made.{node_in}

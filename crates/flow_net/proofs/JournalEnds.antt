@@ -6,8 +6,8 @@ use Rattle.flow_link.specs.declared.trace.Mark.TheVariants.{Took, Gave, Complete
 use Rattle.flow_link.specs.Endings.{completes_once}
 use Rattle.flow_link.specs.Lists.{every, some, is_empty}
 use Rattle.flow_link.specs.Trace.{took, gave, took_at, has_complete, has_fault, is_done, is_complete_mark}
-use Rattle.flow_link.proofs.JournalLemmas.{gave_more, took_more}
-use Rattle.flow_link.proofs.ListLemmas.{both_of}
+use Rattle.flow_link.proofs.JournalsGrow.{gave_more, took_more}
+use Rattle.flow_link.proofs.ListTests.{both_of}
 use Rattle.flow_net.specs.BlockKeeps.{is_own}
 use Rattle.flow_net.specs.Events.{is_open, has_stopped}
 use Rattle.flow_net.specs.States.{fault_in, state_from, state_by}

@@ -17,8 +17,8 @@ use Rattle.flow_link.specs.Lists.{every, is_front}
 use Rattle.flow_link.specs.Plan.{link_in}
 use Rattle.flow_link.specs.Told.{IsTakenOrUnderWay}
 use Rattle.flow_link.specs.Trace.{InputTrace, Run, nothing_left, nothing_posted, gave_over, took_over, marks_of, given_by, given_over, taken_by, taken_over, input_of}
-use Rattle.flow_link.proofs.ListLemmas.{and_true, every_below, front_append, front_refl, front_of_front, same_value_refl}
-use Rattle.flow_link.proofs.ToldLemmas.{links_tell}
+use Rattle.flow_link.proofs.ListTests.{and_true, every_below, front_append, front_refl, front_of_front, same_value_refl}
+use Rattle.flow_link.proofs.LinksTell.{links_tell}
 use Rattle.flow_net.specs.Keeps.{Keeps, facts_in}
 use Rattle.flow_net.specs.Parts.{NodeState, FeedState, PartsState, fresh_node, node_at, feed_at, line_at}
 use Rattle.flow_net.specs.Seen.{block_trace, input_trace, input_traces, run_with, sent_by, given_from, taken_into, source_view, target_view}

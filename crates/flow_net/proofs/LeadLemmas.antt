@@ -1,6 +1,6 @@
 -- The links of a plan lead from blocks and inputs that are there, to blocks that are there, and each input has one.
 use Rattle.std.proofs.Common.{◌≡◌, ℕ, zero, suc, ◌<◌, ◌≤◌, ltb, Bool, true, false, cond, List, [], ◌∷◌, ◌++◌, length, refl, ap, sym, subst, arith, ltb-true, append_assoc, ◌+◌, ◌∙◌}
-use Rattle.flow_link.proofs.ListLemmas.{both_of}
+use Rattle.flow_link.proofs.ListTests.{both_of}
 use Rattle.flow_link.specs.declared.draft.BlockDef.{BlockDef}
 use Rattle.flow_link.specs.declared.plan.Link.{Link}
 use Rattle.flow_link.specs.declared.plan.LinkSource.{LinkSource}

@@ -10,7 +10,7 @@ use Rattle.flow_link.specs.Composes.{is_coming}
 use Rattle.flow_link.specs.Looks.{Seen, target_finds, looking_out, looking_in}
 use Rattle.flow_link.specs.LooksKeep.{SeenAt, HasSeenWanted}
 use Rattle.flow_link.specs.Moves.{offering, giving, ending, wanting, refusing, opening, closing}
-use Rattle.flow_link.proofs.LookLemmas.{looks_keep}
+use Rattle.flow_link.proofs.LooksKeepOrder.{looks_keep}
 use Rattle.flow_link.proofs.SourceMoves.{source_moves_keep}
 use Rattle.flow_link.proofs.TargetMoves.{target_moves_keep}
 use Rattle.flow_net.specs.Events.{offered, wanted, refused, given, opened, closed, ended}

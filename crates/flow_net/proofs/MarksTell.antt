@@ -6,7 +6,7 @@ use Rattle.flow_link.specs.declared.trace.Mark.TheVariants.{Took, Gave, Complete
 use Rattle.flow_link.specs.Endings.{stops}
 use Rattle.flow_link.specs.Lists.{every, is_empty}
 use Rattle.flow_link.specs.Trace.{has_complete, has_fault, is_faulted, is_done, has_ended}
-use Rattle.flow_link.proofs.ListLemmas.{and_true, both_of}
+use Rattle.flow_link.proofs.ListTests.{and_true, both_of}
 use Rattle.flow_net.specs.BlockKeeps.{is_link, is_own}
 use Rattle.flow_net.specs.Events.{is_open, has_stopped, is_completing}
 use Rattle.flow_net.specs.States.{fault_in, state_from, state_by}

@@ -28,8 +28,8 @@ use Rattle.flow_link.specs.Making.{result_of}
 use Rattle.flow_link.specs.Plan.{link_in}
 use Rattle.flow_link.specs.Trace.{nothing_left, is_fault_mark, has_fault}
 use Rattle.flow_link.specs.Views.{SourceStage, TargetStage, Refusal}
-use Rattle.flow_link.proofs.ListLemmas.{both_of}
-use Rattle.flow_link.proofs.ToldLemmas.{links_tell}
+use Rattle.flow_link.proofs.ListTests.{both_of}
+use Rattle.flow_link.proofs.LinksTell.{links_tell}
 use Rattle.flow_net.specs.Events.{first_of, has_stopped, fault_brought, expecting, offers, gives, takes_in_hand, works, yields, makes_as, made_by, completes, faults, finishes, kind_in, offered, wanted, given, closed_by, with_node, with_line, with_offer, with_wish, with_source, with_target, head_of, offer_of, refusal_at, stage_into, is_still, fault_cause, next_fault, after_want, after_refusal, after_give, after_opening, after_move, after_fault, after}
 use Rattle.flow_net.specs.Fresh.{IsFresh}
 use Rattle.flow_net.specs.Keeps.{LeadsWell, facts_in}

@@ -33,8 +33,8 @@ use Rattle.flow_link.specs.Plan.{block_in, link_in, begins_at, ends_at, ends_at_
 use Rattle.flow_link.specs.Shape.{Shape, tells_each_port}
 use Rattle.flow_link.specs.Trace.{BlockTrace, InputTrace, Run, nothing_left, took, gave, gave_over, took_over, has_complete, has_fault, has_ended, is_done, is_faulted, is_cut, link_numbers, trace_of, marks_of, held_at, left_at, ports_of, input_of}
 use Rattle.flow_link.specs.Views.{SourceStage, TargetStage, LinkFacts, Refusal}
-use Rattle.flow_link.proofs.ListLemmas.{and_true, both_of, every_below}
-use Rattle.flow_link.proofs.WholeLemmas.{composes}
+use Rattle.flow_link.proofs.ListTests.{and_true, both_of, every_below}
+use Rattle.flow_link.proofs.LawfulByParts.{composes}
 use Rattle.flow_net.specs.BlockKeeps.{is_link, is_own, is_first_port as is_first, WorkedInto, MakesAs, Refuses, BlockKeeps, AllKeep, block_makes}
 use Rattle.flow_net.specs.Events.{is_open, has_stopped, stage_into, stage_out, brings_completion, fault_brought}
 use Rattle.flow_net.specs.Keeps.{Keeps, LeadsWell, facts_in, reserves_in}

@@ -23,8 +23,8 @@ use Rattle.flow_link.specs.Plan.{block_in, link_in, is_broadcast}
 use Rattle.flow_link.specs.Quiet.{Quiet, is_open as is_ending_open, first_of, is_home, is_home_between, has_this_fault, holds_nothing, rests, rests_as, is_done_if_can, end_comes_from, end_reaches, hands_its_end_on, head_as, head_from, admits_head, has_not_ended, could_cross, carries_no_more, holds_back, has_served_all}
 use Rattle.flow_link.specs.Trace.{InputTrace, Run, gave_over, took_over, has_complete, has_fault, has_ended, is_faulted, is_done, marks_of, held_at, left_at, ports_of, given_by, given_over, taken_by, taken_over, input_of, waits_over, is_cut, is_refused}
 use Rattle.flow_link.specs.Views.{TargetStage, Refusal, crossed}
-use Rattle.flow_link.proofs.ListLemmas.{and_true, both_of, every_below, same_values_where, drop_all}
-use Rattle.flow_link.proofs.LookLemmas.{looks_keep}
+use Rattle.flow_link.proofs.ListTests.{and_true, both_of, every_below, same_values_where, drop_all}
+use Rattle.flow_link.proofs.LooksKeepOrder.{looks_keep}
 use Rattle.flow_net.specs.AtRest.{AtRest, is_rest, is_going}
 use Rattle.flow_net.specs.BlockKeeps.{BlockKeeps, AllKeep, Refuses}
 use Rattle.flow_net.specs.Events.{is_open, has_stopped, is_completing, stage_into, brings_completion, fault_brought, is_still}

@@ -17,7 +17,7 @@ use Rattle.flow_link.specs.Lists.{every, numbers_from, below, is_empty}
 use Rattle.flow_link.specs.LooksKeep.{SeenAt}
 use Rattle.flow_link.specs.Plan.{link_in}
 use Rattle.flow_link.specs.Views.{SourceStage, TargetStage}
-use Rattle.flow_link.proofs.ListLemmas.{both_of, and_true}
+use Rattle.flow_link.proofs.ListTests.{both_of, and_true}
 use Rattle.flow_net.specs.AtRest.{is_rest, is_going, LinkRests, BlockHasGivenAll, InputHasGivenAll, AtRest}
 use Rattle.flow_net.specs.Events.{has_stopped, is_at_home, is_hand, is_still, stage_into, stage_out, fault_cause, next_fault, may_make, may_complete, may_finish, move_of_node, move_of_feed, move_of_source, end_of_feed, head_of, offer_of, expects_at, move_at, next_move, event_at_link, event_at_block}
 use Rattle.flow_net.specs.Keeps.{Keeps, facts_in, is_in_use, awaits_head}

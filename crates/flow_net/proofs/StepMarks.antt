@@ -7,8 +7,8 @@ use Rattle.flow_link.specs.Endings.{stops, completes_once}
 use Rattle.flow_link.specs.JournalGrows.{taken_by_mark, given_by_mark}
 use Rattle.flow_link.specs.Lists.{every, some, is_empty}
 use Rattle.flow_link.specs.Trace.{took, took_at, gave, has_complete, is_done, is_complete_mark}
-use Rattle.flow_link.proofs.JournalLemmas.{took_more, gave_more}
-use Rattle.flow_link.proofs.ListLemmas.{and_true, both_of}
+use Rattle.flow_link.proofs.JournalsGrow.{took_more, gave_more}
+use Rattle.flow_link.proofs.ListTests.{and_true, both_of}
 use Rattle.flow_net.specs.Events.{is_open, has_stopped, is_completing}
 use Rattle.flow_net.specs.States.{fault_in, state_from, state_by}
 

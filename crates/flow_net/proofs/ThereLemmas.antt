@@ -15,7 +15,7 @@ use Rattle.flow_link.specs.declared.trace.Ending.TheVariants.{Open as ending_ope
 use Rattle.flow_link.specs.Layout.{Layout}
 use Rattle.flow_link.specs.Lists.{is_empty}
 use Rattle.flow_link.specs.Views.{Refusal}
-use Rattle.flow_link.proofs.ListLemmas.{both_of}
+use Rattle.flow_link.proofs.ListTests.{both_of}
 use Rattle.flow_net.specs.Events.{answer_by, end_as, end_of_feed, expects_at, head_of, is_hand, move_at, move_of_feed, move_of_source, next_move, offer_of, refusal_at}
 use Rattle.flow_net.specs.declared.posted.State.{State}
 use Rattle.flow_net.specs.declared.posted.State.TheVariants as state

@@ -1,7 +1,7 @@
 -- What has passed block by block has passed in all.
 use Rattle.std.proofs.Common.{◌≡◌, ℕ, ◌+◌, ◌<◌, Bool, true, false, refl}
 use Rattle.flow_link.specs.Lists.{every, below}
-use Rattle.flow_link.proofs.ListLemmas.{every_below}
+use Rattle.flow_link.proofs.ListTests.{every_below}
 use Rattle.flow_net.proofs.RestLemmas.{passes_below}
 use Rattle.flow_net.proofs.ScanLemmas.{one_more}
 

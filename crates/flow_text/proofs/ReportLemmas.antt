@@ -16,7 +16,7 @@ use Rattle.flow_link.specs.declared.plan.Link.{Link}
 use Rattle.flow_link.specs.Plan.{block_in, link_in, no_block, no_link}
 use Rattle.flow_text.specs.Report.{is_input, is_output}
 use Rattle.flow_link.specs.Trace.{took_where, gave_where}
-use Rattle.flow_link.proofs.JournalLemmas.{took_more, gave_more}
+use Rattle.flow_link.proofs.JournalsGrow.{took_more, gave_more}
 use Rattle.flow_text.specs.Printed.{value_text, comma_unless, opened}
 use Rattle.flow_text.proofs.PrintLemmas.{appends-both, opened-more}
 

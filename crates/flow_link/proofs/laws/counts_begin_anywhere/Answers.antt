@@ -1,5 +1,5 @@
 use Rattle.flow_value.specs.declared.value.Value.{Value}
-use Rattle.flow_link.proofs.RebaseLemmas.{rebases}
+use Rattle.flow_link.proofs.CountsBeginAnywhere.{rebases}
 use Rattle.flow_link.proofs.laws.counts_begin_anywhere.Goals as goal
 
 pub returns : goal.returns

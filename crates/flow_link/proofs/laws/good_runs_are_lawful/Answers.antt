@@ -1,4 +1,4 @@
-use Rattle.flow_link.proofs.ExampleLemmas.{good_runs}
+use Rattle.flow_link.proofs.ExamplesDecided.{good_runs}
 use Rattle.flow_link.proofs.laws.good_runs_are_lawful.Goals as goal
 
 pub returns : goal.returns

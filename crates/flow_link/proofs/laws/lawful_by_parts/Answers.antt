@@ -1,4 +1,4 @@
-use Rattle.flow_link.proofs.WholeLemmas.{composes}
+use Rattle.flow_link.proofs.LawfulByParts.{composes}
 use Rattle.flow_link.proofs.laws.lawful_by_parts.Goals as goal
 
 pub returns : goal.returns

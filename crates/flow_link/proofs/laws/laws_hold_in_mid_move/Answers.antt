@@ -1,4 +1,4 @@
-use Rattle.flow_link.proofs.MidMoveLemmas.{kept_in_mid_move}
+use Rattle.flow_link.proofs.KeptInMidMove.{kept_in_mid_move}
 use Rattle.flow_link.proofs.laws.laws_hold_in_mid_move.Goals as goal
 
 pub returns : goal.returns

@@ -1,5 +1,5 @@
 use Rattle.flow_value.specs.declared.value.Value.{Value}
-use Rattle.flow_link.proofs.ToldLemmas.{links_tell}
+use Rattle.flow_link.proofs.LinksTell.{links_tell}
 use Rattle.flow_link.proofs.laws.links_in_order_tell.Goals as goal
 
 pub returns : goal.returns

@@ -1,4 +1,4 @@
-use Rattle.flow_link.proofs.WordLemmas.{words_tell}
+use Rattle.flow_link.proofs.WordsDiffer.{words_tell}
 use Rattle.flow_link.proofs.laws.words_differ.Goals as goal
 
 pub returns : goal.returns

@@ -1,5 +1,5 @@
-use Rattle.flow_link.proofs.ExampleLemmas.{wrong_runs, unfinished_runs}
-use Rattle.flow_link.proofs.WrongPartsLemmas.{wrong_parts}
+use Rattle.flow_link.proofs.ExamplesDecided.{wrong_runs, unfinished_runs}
+use Rattle.flow_link.proofs.WrongPartsRefused.{wrong_parts}
 use Rattle.flow_link.proofs.laws.wrong_runs_are_refused.Goals as goal
 
 pub returns-clause-not_lawful : goal.returns-clause-not_lawful

@@ -4,7 +4,7 @@ use Rattle.flow_link.specs.declared.phase.Move.{Move}
 use Rattle.flow_link.specs.declared.phase.Move.TheVariants.{Give, Close}
 use Rattle.flow_link.specs.Plan.{no_link}
 use Rattle.flow_link.specs.Planned.{layout_of}
-use Rattle.flow_link.proofs.ListLemmas.{both_of}
+use Rattle.flow_link.proofs.ListTests.{both_of}
 use Rattle.flow_net.specs.Events.{Enabled, head_of, offer_of}
 use Rattle.flow_net.specs.declared.event.Event.{Event}
 use Rattle.flow_net.proofs.LeadLemmas.{plans_lead_well}

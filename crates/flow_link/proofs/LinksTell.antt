@@ -11,7 +11,7 @@ use Rattle.flow_link.specs.Views.{SourceStage, TargetStage, Refusal, SourceView,
 use Rattle.flow_link.specs.LinkOk.{StandAt, CrossedAt, IsHome, LinkOk, MayPutOff, is_put_off, source_put_off}
 use Rattle.flow_link.specs.Looks.{source_finds, target_finds, tells_release, tells_withdrawal}
 use Rattle.flow_link.specs.Told.{IsAtRest, IsSettled, IsFilling, HasInHand, RestTold, FreeIsIdle, SlotHasOneHolder, IsTakenOrUnderWay, MayDeny, IsKept, HoldsOn, HasWish, WishStands, HasEnded, LinkLaw, NeverDenied, HeldIsKept, ClaimedIsKept, ReleaseTold, WithdrawalTold, PutOffTold, NeverPutOff, CloseTold, EndTold, RefusalTold, LinksTell}
-use Rattle.flow_link.proofs.LookLemmas.{look_out_keeps}
+use Rattle.flow_link.proofs.LooksKeepOrder.{look_out_keeps}
 
 -- what cannot be is not
 never_where : (b : Bool) {P : Type 0} → (P → ⊥) → OnTrue b P → b ≡ false

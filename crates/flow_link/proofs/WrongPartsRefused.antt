@@ -5,9 +5,9 @@ use Rattle.flow_link.specs.Examples.{digit, row}
 use Rattle.flow_link.specs.LinkOk.{LinkOk, IsWithin, HasRoom}
 use Rattle.flow_link.specs.Composes.{SourceKeeps, TargetKeeps, SpeaksForOne, LinkKeeps, facts_of}
 use Rattle.flow_link.specs.WrongParts.{left_behind, ends_left_behind, kept_for_two, kept_for_it, ends_kept_for_two, wrong_reason, ends_wrong_reason, WrongPartsAreRefused}
-use Rattle.flow_link.proofs.ExampleLemmas.{wrong_no_more, none_is_some}
-use Rattle.flow_link.proofs.MidMoveLemmas.{rests_in_order}
-use Rattle.flow_link.proofs.TestLemmas.{lawful_by_tests}
+use Rattle.flow_link.proofs.ExamplesDecided.{wrong_no_more, none_is_some}
+use Rattle.flow_link.proofs.KeptInMidMove.{rests_in_order}
+use Rattle.flow_link.proofs.LawfulByTests.{lawful_by_tests}
 
 -- the buffer is not done with its link
 no_plain_end : SourceKeeps left_behind ends_left_behind 0 0 → ⊥

@@ -12,8 +12,8 @@ use Rattle.flow_link.specs.Trace.{Run, took, gave_over, is_used_up, block_of, li
 use Rattle.flow_link.specs.Law.{LinkOrder, is_own_mark, is_passed, gives_in_order, keeps_link_order}
 use Rattle.flow_link.specs.Copies.{Copies, copies, copies_as, elements, newest_left, owes, carries_all, carries_first, carried_of, broadcasts_over, is_served, gives_it_once}
 use Rattle.flow_link.specs.Composes.{Ends, PartsKeep, as_seen, is_refused_phase}
-use Rattle.flow_link.proofs.ListLemmas.{both_of, every_below, every_weaker_below, or_weaker, and_weaker}
-use Rattle.flow_link.proofs.EndingLemmas.{refusal, refused_stage}
+use Rattle.flow_link.proofs.ListTests.{both_of, every_below, every_weaker_below, or_weaker, and_weaker}
+use Rattle.flow_link.proofs.EndingsByParts.{refusal, refused_stage}
 
 module _ {W : Type 0} (run : Run W) (ends : ℕ → Ends) (keep : PartsKeep run ends) where
   -- what a source has seen refused is refused

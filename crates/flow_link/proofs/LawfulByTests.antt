@@ -6,7 +6,7 @@ use Rattle.flow_link.specs.Shape.{Shape, input_count, tells_each_port}
 use Rattle.flow_link.specs.Tests.{all_pass, is_in_shape, law_tests, quiet_tests}
 use Rattle.flow_link.specs.Lawful.{Lawful}
 use Rattle.flow_link.specs.Quiet.{Quiet}
-use Rattle.flow_link.proofs.ListLemmas.{both_of}
+use Rattle.flow_link.proofs.ListTests.{both_of}
 
 -- each test passes
 pub test_passes : (tests : List Bool) (k : ℕ) → all_pass tests ≡ true → get_or tests k true ≡ true

@@ -7,7 +7,7 @@ use Rattle.flow_link.specs.LawfulExamples.{IsLawfulAndQuiet, GoodRunsAreLawful, 
 use Rattle.flow_link.specs.RefusedExamples.{WrongRunsAreRefused}
 use Rattle.flow_link.specs.UnfinishedExamples.{nothing_moved, message_on_the_way, work_not_done, done_not_marked, end_not_handed_on, value_not_given, copy_not_given, rest_not_made, IsUnfinished, UnfinishedRunsAreNotQuiet}
 use Rattle.flow_link.specs.Quiet.{Quiet}
-use Rattle.flow_link.proofs.TestLemmas.{lawful_by_tests, quiet_by_tests}
+use Rattle.flow_link.proofs.LawfulByTests.{lawful_by_tests, quiet_by_tests}
 
 good : (run : Run Work) → all_pass (law_tests run) ≡ true → all_pass (quiet_tests run) ≡ true → IsLawfulAndQuiet run
 good run laws rest = record { lawful = lawful_by_tests run laws; quiet = quiet_by_tests run rest }
