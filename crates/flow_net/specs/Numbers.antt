@@ -27,6 +27,7 @@ module _ (W : Type 0) (meaning : W → Value → Result (List Value) WorkFault) 
   abbrev pub BlocksFaultByNumber : Type 0
   BlocksFaultByNumber =
       (layout : Layout W) (events : List (Event W)) (start now : PartsState)
-      → LeadsWell layout → IsBuilt layout.blocks layout.links → IsFresh layout start → Goes layout (works_of meaning layout) events start now
+      → LeadsWell layout → IsBuilt layout.blocks layout.links → IsFresh layout start
+      → Goes layout (works_of meaning layout) events start now
       → every ends_by_number (run_with meaning layout start).trace.inputs ≡ true
       → (b : ℕ) → has_fault 0 (marks_of (run_with meaning layout now) b) ≡ false
