@@ -1,8 +1,8 @@
 -- What one more write adds to what is written, and leaves in front.
-use Rattle.std.proofs.Common.{◌≡◌, ◌-◌, ◌≤◌, ℕ, List, [], ◌++◌, length, length-drop, arith, take, drop, Option, Some, None, refl, ap, sym, ◌∙◌, append_assoc}
+use Rattle.std.proofs.Common.{◌≡◌, ◌-◌, ℕ, List, [], ◌++◌, length, length-drop, arith, take, drop, Option, Some, None, refl, ap, sym, ◌∙◌, append_assoc}
 use Rattle.std.proofs.lemmas.List.{append-nil, take-append-drop, take_all}
 use Rattle.std.specs.Io.KnownBytes.{Appends, Keeps}
-use Rattle.flow_text.specs.Written.{BeginsWith, StaysInFront}
+use Rattle.flow_text.specs.Written.{StaysInFront}
 use Rattle.flow_text.proofs.PrintLemmas.{appends-both}
 
 -- what is appended leaves the front

@@ -1,5 +1,5 @@
 -- Why a text that is read as a draft is no plan.
-use Rattle.std.proofs.Common.{◌≡◌, ℕ, List, inr}
+use Rattle.std.proofs.Common.{ℕ, List, inr}
 use Rattle.flow_link.specs.NotBuilt.{first_fault_now}
 use Rattle.flow_link.specs.Refusal.{IsWhy}
 use Rattle.flow_link.specs.declared.check.PlanRefusal.{PlanRefusal}

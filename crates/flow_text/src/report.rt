@@ -1,15 +1,14 @@
 //! Prints what a run left behind: the lines of a report, one for each part of a block.
-ghost use Rattle.std.specs.Prelude.{◌≡◌, ◌+◌, ◌-◌, true, false, ◌∷◌, ◌++◌, [], length, drop, take, count_by, HoldsAt, ◌<◌, ◌≤◌, if◌then◌else◌, IfErr, OnOk};
+ghost use Rattle.std.specs.Prelude.{◌≡◌, ◌+◌, ◌-◌, true, false, ◌∷◌, ◌++◌, [], length, drop, take, count_by, ◌<◌, ◌≤◌, if◌then◌else◌, IfErr, OnOk};
 ghost use Rattle.std.specs.Option.{option_copied, option_to_list};
 ghost use Rattle.std.specs.Fmt.{decimal};
 ghost use Rattle.std.specs.Io.KnownBytes.{Appends};
 ghost use Rattle.flow_text.specs.Written.{StaysInFront};
-ghost use Rattle.flow_value.specs.declared.steps.Steps.{Steps};
-ghost use Rattle.flow_link.specs.Layout.{IsLaidOut, input_link};
+ghost use Rattle.flow_link.specs.Layout.{input_link};
 ghost use Rattle.flow_link.specs.Plan.{begins_at, port_count};
-ghost use Rattle.flow_link.specs.Trace.{input_of, Run, took_at, took_over, gave_over, block_of, link_of, trace_of, marks_of, held_at, left_at, waits_over};
+ghost use Rattle.flow_link.specs.Trace.{took_at, took_over, gave_over, block_of, link_of, held_at, left_at, waits_over};
 ghost use Rattle.flow_text.specs.Printed.{list_text};
-ghost use Rattle.flow_text.specs.Report.{state_word, block_line, input_line, port_line, held_line, link_line, exit_line, settled_line, last_line, state_of, is_input, is_output, between_count, input_link_number, exit_link_number, input_part, exit_part, last_part, all_ports, all_links, block_report, report, run_in};
+ghost use Rattle.flow_text.specs.Report.{state_word, block_line, input_line, port_line, held_line, link_line, exit_line, settled_line, last_line, is_input, is_output, between_count, input_link_number, exit_link_number, input_part, exit_part, last_part, all_ports, all_links, block_report, report, run_in};
 
 use crate::fault::{TextFault, TextRefusal};
 use crate::piece::write_bytes;
