@@ -1,6 +1,13 @@
 -- A report of the records behind a cut, or why there is none, as it is told of the whole text.
-use Rattle.std.proofs.Common.{◌≡◌, ◌⊎◌, inl, inr, ℕ, List, Option, Some, None, Result, Ok, Err, IfOk, IfErr, IfSome, subst, ◌∙◌}
-use Rattle.flow_run.specs.Ran.{IsReported, IsUnreported}
+use Rattle.std.proofs.Common.{◌⊎◌, inl, inr, ℕ, List, Option, Some, None, Result, Ok, Err, IfOk, IfErr, IfSome, ◌≡◌, [], ◌∷◌, length, take, ◌∙◌, ap, refl}
+use Rattle.flow_value.specs.declared.steps.Steps.{Steps}
+use Rattle.flow_link.specs.Layout.{Layout}
+use Rattle.flow_link.specs.Trace.{Run}
+use Rattle.flow_net.specs.Parts.{PartsState}
+use Rattle.flow_text.specs.declared.fault.TextRefusal.{TextRefusal}
+use Rattle.flow_text.specs.declared.fault.TextRefusal.TheVariants.{Fault}
+use Rattle.flow_run.specs.Left.{IsLeft}
+use Rattle.flow_run.specs.Ran.{Begins, IsPosted, HasUnreadRecords, IsReported, IsUnreported}
 use Rattle.flow_run.specs.Split.{IsSplit}
 use Rattle.flow_run.specs.declared.outcome.Ran.{Ran}
 use Rattle.flow_run.specs.declared.outcome.RunRefusal.{RunRefusal}
@@ -13,28 +20,28 @@ pub ok_carries : {T E : Type 0} (r : Result T E) (P Q : T → Type 0) → IfOk r
 ok_carries (Ok x) P Q p carries = carries x p
 ok_carries (Err e) P Q p carries = p
 
--- a report of known records is one of any
-pub of_any : {text : List ℕ} {limit : ℕ} {Written : List ℕ → Type 0} {ran : Ran} (records : Option (List ℕ)) → IsReported text records limit Written ran → IsReported text None limit Written ran
-of_any records r = record {
+-- what known records post is what any do
+pub posted_of_any : {W : Type 0} {run : Run W} (records : Option (List ℕ)) → IsPosted records run → IsPosted None run
+posted_of_any records posted = record { values = tt; endings = posted.endings }
+
+pub begins_of_any : {text : List ℕ} {layout : Layout Steps} {start : PartsState} (records : Option (List ℕ)) → Begins text records layout start → Begins text None layout start
+begins_of_any records begins = record { planned = begins.planned; fresh = begins.fresh; posted = posted_of_any records begins.posted }
+
+-- a report of known records that were written somehow is one of any
+pub of_any : (text : List ℕ) (limit : ℕ) (Written : List ℕ → Type 0) (ran : Ran) (records : Option (List ℕ)) → IsReported text records limit Written ran
+    → IsReported text None limit (λ report. Unit {0}) ran
+of_any text limit Written ran records r = record {
   layout = r.layout;
   start = r.start;
   now = r.now;
-  planned = r.planned;
-  fresh = r.fresh;
+  begins = begins_of_any records r.begins;
   settles = r.settles;
-  posted = tt;
-  written = r.written;
+  posted = posted_of_any records r.posted;
+  written = tt;
   lawful = r.lawful;
   quiet = r.quiet;
   complete = r.complete;
 }
-
--- a report of the records behind the cut is one of the text, as far as that is known
-pub reported_in : (known : Option (List ℕ)) (read text before after : List ℕ) → IfSome known (λ bytes. read ≡ bytes) → text ≡ read → IsSplit text before after
-    → (limit : ℕ) (Written : List ℕ → Type 0) (ran : Ran) → IsReported before (Some after) limit Written ran → IsReportedIn known limit Written ran
-reported_in None read text before after is same split limit Written ran r = (before, of_any (Some after) r)
-reported_in (Some bytes) read text before after is same split limit Written ran r =
-    record { before = before; after = after; split = subst (λ t. IsSplit t before after) (same ∙ is) split; reported = r }
 
 -- what a fact of a refusal implies holds of the refusal
 pub err_carries : {T E : Type 0} (r : Result T E) (P Q : E → Type 0) → IfErr r P → ((e : E) → P e → Q e) → IfErr r Q
@@ -42,16 +49,40 @@ err_carries (Ok x) P Q p carries = p
 err_carries (Err e) P Q p carries = carries e p
 
 -- why known records were not run over is why any were not
+pub unread_of_any : (text : List ℕ) (records : Option (List ℕ)) (refusal : TextRefusal) → HasUnreadRecords text records refusal → HasUnreadRecords text None refusal
+unread_of_any text records refusal h = record { layout = h.layout; planned = h.planned; of_records = h.of_records; explained = tt }
+
 pub refused_of_any : (text : List ℕ) (records : Option (List ℕ)) (limit : ℕ) (refusal : RunRefusal) → IsUnreported text records limit refusal → IsUnreported text None limit refusal
-refused_of_any text records limit (Text fault) (inl unplanned) = inl unplanned
-refused_of_any text records limit (Text fault) (inr (inl unread)) = inr (inl (record { layout = unread.layout; planned = unread.planned; explained = tt }))
-refused_of_any text records limit (Text fault) (inr (inr unwritten)) = inr (inr unwritten)
-refused_of_any text records limit Ids used_up = used_up
+refused_of_any text records limit (Text fault) (inl (inl unplanned)) = inl (inl unplanned)
+refused_of_any text records limit (Text fault) (inl (inr unread)) = inl (inr (unread_of_any text records (Fault fault) unread))
+refused_of_any text records limit (Text fault) (inr h) =
+    inr (record { is_write = h.is_write; layout = h.layout; start = h.start; now = h.now; settled = h.settled; begins = begins_of_any records h.begins; settles = h.settles })
+refused_of_any text records limit Ids h =
+    record { layout = h.layout; start = h.start; now = h.now; begins = begins_of_any records h.begins; goes_on = h.goes_on; used_up = h.used_up }
 refused_of_any text records limit Memory _ = tt
 
--- why the records behind the cut were not run over, as far as the text is known
+-- what is read is the same bytes as what is cut
+whole_as : (known : Option (List ℕ)) (read text : List ℕ) → IfSome known (λ bytes. read ≡ bytes) → text ≡ read → IfSome known (λ bytes. text ≡ bytes)
+whole_as None read text is same = tt
+whole_as (Some bytes) read text is same = same ∙ is
+
+-- a report of the records behind the cut is one of the text
+pub reported_in : (known : Option (List ℕ)) (read text before after : List ℕ) → IfSome known (λ bytes. read ≡ bytes) → text ≡ read → IsSplit text before after
+    → (limit : ℕ) (Written : List ℕ → Type 0) (ran : Ran) → IsReported before (Some after) limit Written ran → IsReportedIn known limit Written ran
+reported_in known read text before after is same split limit Written ran r =
+    record { text = text; whole = whole_as known read text is same; before = before; after = after; split = split; reported = r }
+
+-- why the records behind the cut were not run over
 pub refused_in : (known : Option (List ℕ)) (read text before after : List ℕ) → IfSome known (λ bytes. read ≡ bytes) → text ≡ read → IsSplit text before after
     → (limit : ℕ) (refusal : RunRefusal) → IsUnreported before (Some after) limit refusal → IsUnread refusal ⊎ IsRefusedIn known limit refusal
-refused_in None read text before after is same split limit refusal r = inr (before, refused_of_any before (Some after) limit refusal r)
-refused_in (Some bytes) read text before after is same split limit refusal r =
-    inr (record { before = before; after = after; split = subst (λ t. IsSplit t before after) (same ∙ is) split; refused = r })
+refused_in known read text before after is same split limit refusal r =
+    inr (record { text = text; whole = whole_as known read text is same; before = before; after = after; split = split; refused = r })
+
+whole : (bytes : List ℕ) → take (length bytes) bytes ≡ bytes
+whole [] = refl
+whole (x ∷ bytes) = ap (λ (xs : List ℕ). x ∷ xs) (whole bytes)
+
+-- a writer that nothing was written to is as it was
+pub untouched : (refusal : RunRefusal) (contents : Option (List ℕ)) → IsLeft refusal contents contents
+untouched refusal None = record { in_front = tt; as_it_was = λ _. refl }
+untouched refusal (Some bytes) = record { in_front = whole bytes; as_it_was = λ _. refl }

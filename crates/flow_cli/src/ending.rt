@@ -46,6 +46,3 @@ fn write_usage<W: Write>(writer: &mut W) -> Result<(), TextFault>
         Err(_) => Err(TextFault::Write),
     }
 }
-
-#[cfg(test)]
-mod tests;

@@ -1,7 +1,7 @@
-//! Runs a network over records, from standard input and files to standard output, both buffered.
+//! Runs a network over records, from standard input and files to standard output.
 ghost use Rattle.std.specs.Prelude.{◌≡◌, ◌⊎◌, IfOk, IfErr, IfSome};
 ghost use Rattle.std.specs.Io.KnownBytes.{Appends};
-ghost use Rattle.flow_run.specs.Ran.{IsReported, IsUnreported};
+ghost use Rattle.flow_run.specs.Left.{IsLeft};
 ghost use Rattle.flow_cli.specs.Failure.{unread_refusal, IsUnread};
 ghost use Rattle.flow_cli.specs.Reported.{IsReportedIn, IsReportedOfAny, IsRefusedIn, IsRefusedOfAny};
 ghost use Rattle.flow_cli.specs.Request.{IsCrew, default_limit};
@@ -10,7 +10,7 @@ use crate::request::{Bounds, DEFAULT_BOUNDS};
 use flow_run::{Ran, RunRefusal, TextFault, run, split_input};
 use std::alloc::Global;
 use std::fs::Files;
-use std::io::{BufReader, BufWriter, ErrorKind, Input, Read, Write};
+use std::io::{BufReader, ErrorKind, Input, Read, Write};
 use std::{fs, io};
 
 /// Runs the network in this file over the records in standard input.
@@ -25,25 +25,31 @@ pub fn run_file<R: Files + Input + Print + AllocGlobal>(
 {
     let plan = fs::read(rt, path).map_err(|error| unread(&error))?;
     let records = BufReader::new(rt.alloc(), rt.reader()).map_err(|error| unread(&error))?;
-    let (ran, _) = run_buffered(rt.alloc(), &plan, records, io::writer(rt), bounds)?;
-    Ok(ran)
+    let Bounds { workers, limit } = bounds;
+    run(
+        rt.alloc(),
+        &plan,
+        records,
+        &mut io::writer(rt),
+        workers,
+        limit,
+    )
 }
 
 /// Runs the network at the beginning of what is read over the records behind it.
-///
-/// The writer comes back when all is written.
-pub fn run_input<R: Read + Drop, W: Write + Drop>(
+pub fn run_input<R: Read + Drop, W: Write>(
     alloc: Global,
     reader: R,
-    writer: W,
-) -> Result<(Ran, W), RunRefusal>
-    ensures reported { IfOk result (λ done. IsReportedIn (R.remaining reader) default_limit
-        (Appends (W.contents writer) (W.contents done.1)) done.0) }
+    writer: &mut W,
+) -> Result<Ran, RunRefusal>
+    ensures reported { IfOk result (IsReportedIn (R.remaining reader) default_limit (Appends (W.contents writer.old) (W.contents writer.new))) }
     ensures refused { IfErr result (λ refusal. IsUnread refusal ⊎ IsRefusedIn (R.remaining reader) default_limit refusal) }
+    ensures left { IfErr result (λ refusal. IsLeft refusal (W.contents writer.old) (W.contents writer.new)) }
 {
     let text = whole_input(alloc, reader)?;
     let (plan, records) = split_input(&text);
-    run_buffered(alloc, plan, records, writer, DEFAULT_BOUNDS)
+    let Bounds { workers, limit } = DEFAULT_BOUNDS;
+    run(alloc, plan, records, writer, workers, limit)
 }
 
 /// All that is read.
@@ -58,36 +64,6 @@ fn whole_input<R: Read + Drop>(alloc: Global, mut reader: R) -> Result<Vec<u8>, 
     }
 }
 
-/// Runs a network, and writes its report through a buffer. The writer comes back when all is written.
-fn run_buffered<R: Read + Drop, W: Write + Drop>(
-    alloc: Global,
-    plan: &[u8],
-    records: R,
-    writer: W,
-    bounds: Bounds,
-) -> Result<(Ran, W), RunRefusal>
-    requires { IsCrew bounds.workers }
-    ensures reported { IfOk result (λ done. IsReported plan.now (R.remaining records) bounds.limit
-        (Appends (W.contents writer) (W.contents done.1)) done.0) }
-    ensures refused { IfErr result (IsUnreported plan.now (R.remaining records) bounds.limit) }
-{
-    let Ok(mut buffer) = BufWriter::new(alloc, writer) else {
-        return Err(RunRefusal::Memory);
-    };
-    let ran = run(
-        alloc,
-        plan,
-        records,
-        &mut buffer,
-        bounds.workers,
-        bounds.limit,
-    )?;
-    match buffer.into_inner() {
-        Ok(writer) => Ok((ran, writer)),
-        Err(_) => Err(RunRefusal::Text(TextFault::Write)),
-    }
-}
-
 /// What a failure to read comes to: want of memory is told as such.
 pub fn unread(error: &io::Error) -> RunRefusal
     ensures refusal { result ≡ unread_refusal error.now }
@@ -98,6 +74,3 @@ pub fn unread(error: &io::Error) -> RunRefusal
         _ => RunRefusal::Text(TextFault::Read),
     }
 }
-
-#[cfg(test)]
-mod tests;

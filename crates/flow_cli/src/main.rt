@@ -59,8 +59,7 @@ fn answer<R: Files + Input + Print + AllocGlobal>(rt: &R, arguments: &[String]) 
 {
     match read_request(arguments) {
         Some(Request::Input) => {
-            let outcome = run_input(rt.alloc(), rt.reader(), io::writer(rt));
-            Ending::Run(outcome.map(|(ran, _)| ran))
+            Ending::Run(run_input(rt.alloc(), rt.reader(), &mut io::writer(rt)))
         }
         Some(Request::File { path, bounds }) => Ending::Run(run_file(rt, path, bounds)),
         None => Ending::Usage,

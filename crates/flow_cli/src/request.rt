@@ -76,6 +76,3 @@ fn read_workers(text: &str) -> Option<u32>
         _ => None,
     }
 }
-
-#[cfg(test)]
-mod tests;

@@ -1,2 +1,3 @@
 pub mod PipelineLemmas
 pub mod SplitLemmas
+pub mod WritingLemmas

@@ -1,5 +1,5 @@
 -- What the records post is what the inputs of a network are given.
-use Rattle.std.proofs.Common.{◌≡◌, ℕ, ◌+◌, Bool, true, false, cond, List, [], ◌∷◌, ◌++◌, length, map, replicate, IfSome, Option, count_by, Result, Ok, refl, ap, sym, subst, inl, inr, ◌∙◌, arith}
+use Rattle.std.proofs.Common.{◌≡◌, ℕ, ◌+◌, Bool, true, false, cond, List, [], ◌∷◌, ◌++◌, length, map, replicate, IfSome, Option, None, Some, ◌⊎◌, ◌≢◌, take, rules, count_by, Result, Ok, refl, ap, sym, subst, inl, inr, ◌∙◌, arith}
 use Rattle.std.proofs.lemmas.List.{length-map, length-replicate}
 use Rattle.std.proofs.lemmas.List.Sums.{sum_by-cons}
 use Rattle.flow_value.specs.Function.{meaning_of}
@@ -9,10 +9,11 @@ use Rattle.flow_link.specs.declared.draft.BlockDef.{BlockDef}
 use Rattle.flow_link.specs.declared.trace.Ending.TheVariants.{Complete}
 use Rattle.flow_link.specs.Layout.{Layout}
 use Rattle.flow_link.specs.Trace.{InputTrace}
+use Rattle.flow_link.specs.declared.trace.Ending.{Ending}
 use Rattle.flow_net.specs.Fresh.{IsFresh}
 use Rattle.flow_net.specs.Made.{input_of}
 use Rattle.flow_net.specs.Parts.{PartsState}
-use Rattle.flow_net.specs.Seen.{works_of}
+use Rattle.flow_net.specs.Seen.{works_of, run_with, trace_of_parts}
 use Rattle.flow_net.specs.Settles.{Settles, GoesOn}
 use Rattle.flow_net.specs.declared.fault.NetFault.{NetFault}
 use Rattle.flow_net.specs.declared.fault.NetFault.TheVariants as net_fault
@@ -22,8 +23,12 @@ use Rattle.flow_text.specs.declared.fault.TextFault.TheVariants.{Write}
 use Rattle.flow_text.specs.declared.fault.TextRefusal.{TextRefusal}
 use Rattle.flow_text.specs.declared.fault.TextRefusal.TheVariants.{Fault, Memory}
 use Rattle.flow_text.specs.Plan.{IsPlannedAs, IsUnplannedFor}
-use Rattle.flow_run.specs.Ran.{HasUnreadRecords, UsesUpIds, IsUnreported}
-use Rattle.flow_run.specs.Refusal.{refusal_of, refusal_of_net}
+use Rattle.flow_run.specs.Left.{StaysInFront, IsLeft}
+use Rattle.flow_run.specs.Ran.{Begins, IsPosted, HasUnreadRecords, UsesUpIds, HasUnwrittenReport, IsUnbegun, IsUnreported}
+use Rattle.flow_run.proofs.WritingLemmas.{stays}
+use Rattle.flow_run.specs.Refusal.{refusal_of, IsToldAs}
+use Rattle.flow_run.specs.declared.outcome.RunRefusal.{RunRefusal}
+use Rattle.flow_run.specs.declared.outcome.RunRefusal.TheVariants as refused
 use Rattle.flow_text.specs.Records.{PostAll, input_names, posted_endings, posted_values}
 
 names_more : (b : Bool) (name : List ℕ) (rest : List (List ℕ)) → length (cond b (name ∷ []) [] ++ rest) ≡ cond {A = ℕ} b 1 0 + length rest
@@ -43,16 +48,34 @@ pub given_values : (posted : List Posted) → map (λ (input : InputTrace). inpu
 given_values [] = refl
 given_values (input ∷ posted) = ap (λ (values : List (List Value)). input.values.items ∷ values) (given_values posted)
 
--- the records post to the inputs of the run what they posted to those of the plan
-pub posts_as : (records : Option (List ℕ)) (names other : List (List ℕ)) (values given : List (List Value)) → other ≡ names → given ≡ values
-    → IfSome records (λ bytes. PostAll names bytes values) → IfSome records (λ bytes. PostAll other bytes given)
-posts_as records names other values given same_names same_values posts =
-    subst (λ (n : List (List ℕ)). IfSome records (λ bytes. PostAll n bytes given)) (sym same_names)
-    (subst (λ (v : List (List Value)). IfSome records (λ bytes. PostAll names bytes v)) (sym same_values) posts)
+pub given_endings : (posted : List Posted) → map (λ (input : InputTrace). input.ending) (map input_of posted) ≡ posted_endings posted
+given_endings [] = refl
+given_endings (input ∷ posted) = ap (λ (endings : List Ending). input.ending ∷ endings) (given_endings posted)
+
+-- the inputs of a network are given what was posted to those of its plan
+pub posts_to_inputs : (records : Option (List ℕ)) (layout : Layout Steps) (start : PartsState) (posted : List Posted) → (trace_of_parts start).inputs ≡ map input_of posted
+    → IfSome records (λ bytes. PostAll (input_names layout.blocks) bytes (posted_values posted))
+    → posted_endings posted ≡ replicate (length (input_names layout.blocks)) Complete → IsPosted records (run_with meaning_of layout start)
+posts_to_inputs records layout start posted made values endings =
+    let given : map (λ (input : InputTrace). input.posted) (trace_of_parts start).inputs ≡ posted_values posted =
+    ap (map (λ (input : InputTrace). input.posted)) made ∙ given_values posted in
+    record {
+      values = subst (λ (v : List (List Value)). IfSome records (λ bytes. PostAll (input_names layout.blocks) bytes v)) (sym given) values;
+      endings = ap (map (λ (input : InputTrace). input.ending)) made ∙ given_endings posted ∙ endings;
+    }
+
+-- as long as no input changes, they are given the same
+pub posted_as : (records : Option (List ℕ)) (layout : Layout Steps) (start now : PartsState) → (trace_of_parts now).inputs ≡ (trace_of_parts start).inputs
+    → IsPosted records (run_with meaning_of layout start) → IsPosted records (run_with meaning_of layout now)
+posted_as records layout start now same posted = record {
+  values = subst (λ (inputs : List InputTrace). IfSome records (λ bytes. PostAll (input_names layout.blocks) bytes (map (λ (input : InputTrace). input.posted) inputs))) (sym same) posted.values;
+  endings = ap (map (λ (input : InputTrace). input.ending)) same ∙ posted.endings;
+}
 
 -- a network keeps its plan
-pub fresh_as : {now layout : Layout Steps} {start : PartsState} → now ≡ layout → IsFresh layout start → IsFresh now start
-fresh_as {start = start} same fresh = subst (λ (l : Layout Steps). IsFresh l start) (sym same) fresh
+pub begins_as : {now layout : Layout Steps} {start : PartsState} {text : List ℕ} {records : Option (List ℕ)} → now ≡ layout
+    → Begins text records layout start → Begins text records now start
+begins_as {start = start} {text = text} {records = records} same begins = subst (λ (l : Layout Steps). Begins text records l start) (sym same) begins
 
 -- an answer that was no refusal
 abbrev pub answered : Settled → Result Settled NetFault
@@ -68,24 +91,36 @@ pub goes_on_as : {now layout : Layout Steps} {limit : ℕ} {old new : PartsState
 goes_on_as {limit = limit} {old = old} {new = new} same goes_on =
     subst (λ (l : Layout Steps). GoesOn l (works_of meaning_of l) limit old new) (sym same) goes_on
 
-pub planned_as : {now layout : Layout Steps} {text : List ℕ} → now ≡ layout → IsPlannedAs text layout → IsPlannedAs text now
-planned_as {text = text} same planned = subst (λ (l : Layout Steps). IsPlannedAs text l) (sym same) planned
-
--- why there is no network, no posted values, no end of the run, or no report
-module _ (text : List ℕ) (records : Option (List ℕ)) (limit : ℕ) where
-  pub no_plan : (refusal : TextRefusal) → IsUnplannedFor text refusal → IsUnreported text records limit (refusal_of refusal)
+-- why there is no plan, no posted values, no network, no end of the run, or no report
+module _ (text : List ℕ) (records : Option (List ℕ)) where
+  pub no_plan : (refusal : TextRefusal) → IsUnplannedFor text refusal → IsUnbegun text records (refusal_of refusal)
   no_plan (Fault fault) h = inl h
   no_plan Memory h = tt
 
-  pub no_records : (refusal : TextRefusal) → HasUnreadRecords text records refusal → IsUnreported text records limit (refusal_of refusal)
-  no_records (Fault fault) h = inr (inl h)
+  pub no_records : (refusal : TextRefusal) → HasUnreadRecords text records refusal → IsUnbegun text records (refusal_of refusal)
+  no_records (Fault fault) h = inr h
   no_records Memory h = tt
 
-  pub no_report : (refusal : TextRefusal) → refusal ≡ Fault Write → IsUnreported text records limit (refusal_of refusal)
-  no_report (Fault fault) e = inr (inr (cc))
-  no_report Memory e = tt
+  pub no_network : (limit : ℕ) (refusal : RunRefusal) → IsUnbegun text records refusal → IsUnreported text records limit refusal
+  no_network limit (refused.Text fault) h = inl h
+  no_network limit refused.Ids h = absurd h
+  no_network limit refused.Memory h = tt
 
-  pub no_end : (fault : NetFault) → (fault ≡ net_fault.Ids → UsesUpIds text limit) → IsUnreported text records limit (refusal_of_net fault)
-  no_end net_fault.NotEnabled h = tt
-  no_end net_fault.Ids h = h refl
-  no_end net_fault.Memory h = tt
+  pub no_end : (limit : ℕ) (fault : NetFault) (refusal : RunRefusal) → IsToldAs fault refusal → (fault ≡ net_fault.Ids → UsesUpIds text records limit)
+      → IsUnreported text records limit refusal
+  no_end limit net_fault.NotEnabled refusal told h = absurd told
+  no_end limit net_fault.Ids refusal told h = subst (IsUnreported text records limit) (sym told) (h refl)
+  no_end limit net_fault.Memory refusal told h = subst (IsUnreported text records limit) (sym told) tt
+
+  pub no_report : (limit : ℕ) (refusal : RunRefusal) → (refusal ≡ refused.Memory) ⊎ (refusal ≡ refused.Text Write) → HasUnwrittenReport text records limit Write
+      → IsUnreported text records limit refusal
+  no_report limit refusal (inl memory) h = subst (IsUnreported text records limit) (sym memory) tt
+  no_report limit refusal (inr write) h = subst (IsUnreported text records limit) (sym write) (inr h)
+
+-- a writer that nothing was written to is as it was
+pub untouched : (refusal : RunRefusal) (contents : Option (List ℕ)) → IsLeft refusal contents contents
+untouched refusal contents = record { in_front = stays contents; as_it_was = λ _. refl }
+
+-- a writer that failed keeps what was there
+pub failed : (old new : Option (List ℕ)) → StaysInFront old new → IsLeft (refused.Text Write) old new
+failed old new stays = record { in_front = stays; as_it_was = λ differs. absurd (differs refl) }

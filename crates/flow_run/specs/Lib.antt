@@ -1,3 +1,4 @@
+pub mod Left
 pub mod Ran
 pub mod Refusal
 pub mod Split

@@ -1,5 +1,5 @@
 -- The line that tells of a refusal: its number, its name and its place.
-use Rattle.std.specs.Prelude.{List, ℕ, [], ◌∷◌, ◌++◌, codes}
+use Rattle.std.specs.Prelude.{◌≡◌, List, ℕ, [], ◌∷◌, ◌++◌, codes}
 use Rattle.flow_net.specs.declared.fault.NetFault.{NetFault}
 use Rattle.flow_net.specs.declared.fault.NetFault.TheVariants as net
 use Rattle.flow_text.specs.FaultText.{fault_text}
@@ -18,11 +18,11 @@ refusal_text Memory = codes "memory"
 abbrev pub refusal_line : RunRefusal → List ℕ
 refusal_line refusal = codes "flow_run: " ++ refusal_text refusal ++ 10 ∷ []
 
--- there is no run where a network can't go on; `settle` asks for no event that may not happen
-abbrev pub refusal_of_net : NetFault → RunRefusal
-refusal_of_net net.NotEnabled = Memory
-refusal_of_net net.Ids = Ids
-refusal_of_net net.Memory = Memory
+-- there is no run where a network can't go on; that an event may not happen is no reason for that
+abbrev pub IsToldAs : NetFault → RunRefusal → Type 0
+IsToldAs net.NotEnabled refusal = ⊥
+IsToldAs net.Ids refusal = refusal ≡ Ids
+IsToldAs net.Memory refusal = refusal ≡ Memory
 
 -- nor where a text is refused
 abbrev pub refusal_of : TextRefusal → RunRefusal

@@ -1,17 +1,23 @@
 //! Runs a network text over records, from the first byte to the report.
-ghost use Rattle.std.specs.Prelude.{◌≤◌, IfOk, IfErr};
+ghost use Rattle.std.specs.Prelude.{◌≡◌, ◌≢◌, ◌≤◌, ◌⊎◌, IfOk, IfErr, OnOk};
 ghost use Rattle.std.specs.Io.KnownBytes.{Appends};
-ghost use Rattle.flow_run.specs.Ran.{IsReported, IsUnreported};
+ghost use Rattle.flow_net.specs.Net.{layout_in, parts_of};
+ghost use Rattle.flow_text.specs.Report.{report, run_in};
+ghost use Rattle.flow_run.specs.Left.{IsLeft};
+ghost use Rattle.flow_run.specs.Ran.{Begins, IsReported, IsUnbegun, IsUnreported};
+ghost use Rattle.flow_run.specs.Refusal.{IsToldAs};
 
 use crate::outcome::{Ran, RunRefusal};
-use flow_net::{Net, NetFault};
-use flow_text::{is_complete, read_plan, read_records, write_report};
+use crate::writing::write_bytes;
+use flow_net::{Net, NetFault, Settled};
+use flow_text::{TextFault, is_complete, read_plan, read_records, write_report};
+use flow_value::Steps;
 use std::alloc::Global;
 use std::io::{Read, Write};
 
 /// Reads a network, runs it over the records until it is quiet or `limit` events are done, and writes its report.
 ///
-/// The writer should gather what is written, since it comes in many small pieces. One thread does the work for now.
+/// The report is written in one piece, once all of it is there. One thread does the work for now.
 pub fn run<R: Read + Drop, W: Write>(
     alloc: Global,
     plan: &[u8],
@@ -23,30 +29,61 @@ pub fn run<R: Read + Drop, W: Write>(
     requires { (1 ≤ workers) × (workers ≤ 64) }
     ensures reported { IfOk result (IsReported plan.now (R.remaining reader) limit (Appends (W.contents writer.old) (W.contents writer.new))) }
     ensures refused { IfErr result (IsUnreported plan.now (R.remaining reader) limit) }
+    ensures left { IfErr result (λ refusal. IsLeft refusal (W.contents writer.old) (W.contents writer.new)) }
 {
-    let plan = read_plan(alloc, plan)?;
-    let posted = read_records(alloc, reader, &plan)?;
-    let mut net = match Net::new(alloc, plan, posted) {
-        Ok(net) => net,
-        Err(_) => return Err(RunRefusal::Memory),
+    let mut net = begin(alloc, plan, reader)?;
+    let settled = match net.settle(alloc, limit) {
+        Ok(settled) => settled,
+        Err(fault) => return Err(refusal_of_net(fault)),
     };
-    let settled = net.settle(alloc, limit)?;
-    write_report(&net, settled, writer)?;
+    write_whole_report(alloc, &net, settled, writer)?;
     let complete = is_complete(&net);
     Ok(Ran { settled, complete })
 }
 
-impl From<NetFault> for RunRefusal {
-    ghost use Rattle.std.specs.Prelude.{◌≡◌};
-    ghost use Rattle.flow_run.specs.Refusal.{refusal_of_net};
+/// The network of a text, to which the records are posted.
+fn begin<R: Read + Drop>(alloc: Global, plan: &[u8], reader: R) -> Result<Net<Steps>, RunRefusal>
+    ensures begins { IfOk result (λ net. Begins plan.now (R.remaining reader) (layout_in net) (parts_of net)) }
+    ensures refused { IfErr result (IsUnbegun plan.now (R.remaining reader)) }
+{
+    let plan = read_plan(alloc, plan)?;
+    let posted = read_records(alloc, reader, &plan)?;
+    match Net::new(alloc, plan, posted) {
+        Ok(net) => Ok(net),
+        Err(_) => Err(RunRefusal::Memory),
+    }
+}
 
-    ghost from_gives = { λ fault refusal. refusal ≡ refusal_of_net fault };
+/// Why a network did not settle; `settle`, whose fault this is, asks for no event that may not happen.
+fn refusal_of_net(fault: NetFault) -> RunRefusal
+    requires { fault ≢ NetFault.NotEnabled }
+    ensures { IsToldAs fault result }
+{
+    match fault {
+        NetFault::NotEnabled => unreachable!(),
+        NetFault::Ids => RunRefusal::Ids,
+        NetFault::Memory => RunRefusal::Memory,
+    }
+}
 
-    fn from(fault: NetFault) -> RunRefusal {
-        match fault {
-            NetFault::Ids => RunRefusal::Ids,
-            // `settle`, whose fault this is, asks for no event that may not happen.
-            NetFault::NotEnabled | NetFault::Memory => RunRefusal::Memory,
-        }
+/// Writes the report of a network that settled so, once all of it is there.
+fn write_whole_report<W: Write>(
+    alloc: Global,
+    net: &Net<Steps>,
+    settled: Settled,
+    writer: &mut W,
+) -> Result<(), RunRefusal>
+    ensures written { OnOk result (Appends (W.contents writer.old) (W.contents writer.new) (report (run_in net.now) settled)) }
+    ensures refused { IfErr result (λ refusal. (refusal ≡ RunRefusal.Memory) ⊎ (refusal ≡ RunRefusal.Text TextFault.Write)) }
+    ensures left { IfErr result (λ refusal. IsLeft refusal (W.contents writer.old) (W.contents writer.new)) }
+{
+    let mut report: Vec<u8> = Vec::new(alloc);
+    // A vector takes all that is written, as long as there is memory.
+    let Ok(()) = write_report(net, settled, &mut report) else {
+        return Err(RunRefusal::Memory);
+    };
+    match write_bytes(writer, &report) {
+        Ok(()) => Ok(()),
+        Err(fault) => Err(RunRefusal::Text(fault)),
     }
 }

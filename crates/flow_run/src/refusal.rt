@@ -1,21 +1,30 @@
 //! The line that a refusal is told by.
 ghost use Rattle.std.specs.Prelude.{◌≡◌, Some, OnOk, IfErr};
 ghost use Rattle.std.specs.Io.KnownBytes.{Appends};
+ghost use Rattle.flow_run.specs.Left.{StaysInFront};
 ghost use Rattle.flow_run.specs.Refusal.{refusal_text, refusal_line};
 
 use crate::outcome::RunRefusal;
+use crate::writing::write_bytes;
+use arrayvec::ArrayString;
 use flow_text::TextFault;
 use std::error::Error;
 use std::fmt;
+use std::fmt::Write as _;
 use std::io::Write;
+
+/// Room for a line: the longest one has 64 bytes.
+const LINE_ROOM: usize = 128;
 
 /// Writes the one line that tells why there was no run, or no report of it.
 pub fn write_refusal<W: Write>(refusal: &RunRefusal, writer: &mut W) -> Result<(), TextFault>
     ensures written { OnOk result (Appends (W.contents writer.old) (W.contents writer.new) (refusal_line refusal.now)) }
+    ensures kept { IfErr result (λ fault. StaysInFront (W.contents writer.old) (W.contents writer.new)) }
     ensures failed { IfErr result (λ fault. fault ≡ TextFault.Write) }
 {
-    match writeln!(writer, "flow_run: {refusal}") {
-        Ok(()) => Ok(()),
+    let mut line = ArrayString::<LINE_ROOM>::new();
+    match writeln!(line, "flow_run: {refusal}") {
+        Ok(()) => write_bytes(writer, line.as_str().as_bytes()),
         Err(_) => Err(TextFault::Write),
     }
 }

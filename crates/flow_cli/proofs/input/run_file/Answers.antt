@@ -1,9 +1,11 @@
 use Rattle.std.proofs.Common.{inr}
-use Rattle.std.proofs.lemmas.Result.{err_from_is_err_and}
-use Rattle.flow_cli.proofs.ReportLemmas.{refused_of_any}
+use Rattle.flow_cli.proofs.ReportLemmas.{ok_carries, err_carries, of_any, refused_of_any}
 use Rattle.flow_cli.proofs.input.run_file.Goals as goal
 
-pub returns-in_err-ran-clause-refused : goal.returns-in_err-ran-clause-refused
-returns-in_err-ran-clause-refused g c =
-    let p = err_from_is_err_and c.from_residual-in_err-ran.result c.from_residual-in_err-ran.ensures.1 in
-    rw (p.1, p.2) (inr (c.deref.result.now, refused_of_any c.deref.result.now _ c.args.bounds.limit c.in_err-ran.field-0.0 c.in_err-ran.ensures.refused))
+pub returns-clause-reported : goal.returns-clause-reported
+returns-clause-reported g c =
+    ok_carries c.run.result _ _ c.run.ensures.reported (λ ran reported. (c.deref.result.now, of_any c.deref.result.now _ _ ran _ reported))
+
+pub returns-clause-refused : goal.returns-clause-refused
+returns-clause-refused g c =
+    err_carries c.run.result _ _ c.run.ensures.refused (λ refusal refused. inr (c.deref.result.now, refused_of_any c.deref.result.now _ c.args.bounds.limit refusal refused))

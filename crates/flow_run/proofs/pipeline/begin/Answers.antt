@@ -1,0 +1,46 @@
+use Rattle.std.proofs.Common.{◌≡◌, ◌∙◌, ap, length, subst, sym}
+use Rattle.std.proofs.lemmas.Result.{err_from_is_err_and}
+use Rattle.flow_value.specs.declared.steps.Steps.{Steps}
+use Rattle.flow_link.specs.Layout.{Layout}
+use Rattle.flow_link.specs.Planned.{layout_of}
+use Rattle.flow_net.specs.Fresh.{IsFresh}
+use Rattle.flow_net.specs.Net.{parts_of}
+use Rattle.flow_text.specs.Plan.{IsPlannedAs}
+use Rattle.flow_text.specs.Records.{input_names, posted_values, posted_endings}
+use Rattle.flow_run.specs.Ran.{Begins}
+use Rattle.flow_run.proofs.PipelineLemmas.{names_count, as_many, posts_to_inputs, begins_as, no_plan, no_records}
+use Rattle.flow_run.proofs.pipeline.begin.Goals as goal
+
+pub new-requires-clause-one_each : goal.new-requires-clause-one_each
+new-requires-clause-one_each g c _ =
+    let blocks = (layout_of c.in_ok-plan.plan).blocks in
+    as_many c.in_ok-posted.posted.items (length (input_names blocks)) c.in_ok-posted.ensures.endings ∙ names_count blocks
+
+pub returns-in-Ok-clause-begins : goal.returns-in-Ok-clause-begins
+returns-in-Ok-clause-begins g c =
+    let plan = layout_of c.in_ok-plan.plan in
+    let net = c.in-Ok.net in
+    begins_as c.in-Ok.ensures.planned
+    (record {
+      planned = c.in_ok-plan.ensures.planned;
+      fresh = subst (λ (l : Layout Steps). IsFresh l (parts_of net)) c.in-Ok.ensures.planned c.in-Ok.ensures.fresh;
+      posted = posts_to_inputs (g.R.Read.remaining c.args.reader) plan (parts_of net) c.in_ok-posted.posted.items c.in-Ok.ensures.made
+          c.in_ok-posted.ensures.values c.in_ok-posted.ensures.endings;
+    })
+
+pub returns-in_err-plan-clause-refused : goal.returns-in_err-plan-clause-refused
+returns-in_err-plan-clause-refused g c =
+    let p = err_from_is_err_and c.from_residual.result c.from_residual.ensures.1 in
+    rw (p.1, p.2) (no_plan c.args.plan.now (g.R.Read.remaining c.args.reader) c.in_err-plan.field-0.0 c.in_err-plan.ensures.refused)
+
+pub returns-in_err-posted-clause-refused : goal.returns-in_err-posted-clause-refused
+returns-in_err-posted-clause-refused g c =
+    let p = err_from_is_err_and c.from_residual-in_err-posted.result c.from_residual-in_err-posted.ensures.1 in
+    rw (p.1, p.2)
+    (no_records c.args.plan.now (g.R.Read.remaining c.args.reader) c.in_err-posted.field-0.0
+    (record {
+      layout = layout_of c.in_ok-plan.plan;
+      planned = c.in_ok-plan.ensures.planned;
+      of_records = c.in_err-posted.ensures.of_records;
+      explained = c.in_err-posted.ensures.refused;
+    }))
