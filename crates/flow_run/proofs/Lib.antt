@@ -1,3 +1,2 @@
 pub mod PipelineLemmas
 pub mod SplitLemmas
-pub mod WritingLemmas

@@ -23,9 +23,9 @@ use Rattle.flow_text.specs.declared.fault.TextFault.TheVariants.{Write}
 use Rattle.flow_text.specs.declared.fault.TextRefusal.{TextRefusal}
 use Rattle.flow_text.specs.declared.fault.TextRefusal.TheVariants.{Fault, Memory}
 use Rattle.flow_text.specs.Plan.{IsPlannedAs, IsUnplannedFor}
-use Rattle.flow_run.specs.Left.{StaysInFront, IsLeft}
+use Rattle.flow_text.specs.Written.{StaysInFront}
+use Rattle.flow_run.specs.Left.{IsLeft}
 use Rattle.flow_run.specs.Ran.{Begins, IsPosted, HasUnreadRecords, UsesUpIds, HasUnwrittenReport, IsUnbegun, IsUnreported}
-use Rattle.flow_run.proofs.WritingLemmas.{stays}
 use Rattle.flow_run.specs.Refusal.{refusal_of, IsToldAs}
 use Rattle.flow_run.specs.declared.outcome.RunRefusal.{RunRefusal}
 use Rattle.flow_run.specs.declared.outcome.RunRefusal.TheVariants as refused
@@ -112,15 +112,17 @@ module _ (text : List ℕ) (records : Option (List ℕ)) where
   no_end limit net_fault.Ids refusal told h = subst (IsUnreported text records limit) (sym told) (h refl)
   no_end limit net_fault.Memory refusal told h = subst (IsUnreported text records limit) (sym told) tt
 
-  pub no_report : (limit : ℕ) (refusal : RunRefusal) → (refusal ≡ refused.Memory) ⊎ (refusal ≡ refused.Text Write) → HasUnwrittenReport text records limit Write
-      → IsUnreported text records limit refusal
-  no_report limit refusal (inl memory) h = subst (IsUnreported text records limit) (sym memory) tt
-  no_report limit refusal (inr write) h = subst (IsUnreported text records limit) (sym write) (inr h)
+  pub no_report : (limit : ℕ) (refusal : TextRefusal) → refusal ≡ Fault Write → HasUnwrittenReport text records limit Write
+      → IsUnreported text records limit (refusal_of refusal)
+  no_report limit refusal is h = subst (λ (r : TextRefusal). IsUnreported text records limit (refusal_of r)) (sym is) (inr h)
 
 -- a writer that nothing was written to is as it was
 pub untouched : (refusal : RunRefusal) (contents : Option (List ℕ)) → IsLeft refusal contents contents
-untouched refusal contents = record { in_front = stays contents; as_it_was = λ _. refl }
+untouched refusal contents = record { in_front = λ front begins. begins; as_it_was = λ _. refl }
 
 -- a writer that failed keeps what was there
-pub failed : (old new : Option (List ℕ)) → StaysInFront old new → IsLeft (refused.Text Write) old new
-failed old new stays = record { in_front = stays; as_it_was = λ differs. absurd (differs refl) }
+pub failed : (old new : Option (List ℕ)) (refusal : TextRefusal) → refusal ≡ Fault Write → StaysInFront old new → IsLeft (refusal_of refusal) old new
+failed old new refusal is stays = record {
+  in_front = stays;
+  as_it_was = λ differs. absurd (differs (ap refusal_of is));
+}

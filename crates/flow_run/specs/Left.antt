@@ -1,15 +1,9 @@
 -- What a refusal leaves in the writer, where it is known what the writer holds.
-use Rattle.std.specs.Prelude.{◌≡◌, ◌≢◌, ℕ, List, Option, None, Some, ⊤}
-use Rattle.std.specs.Io.{StartsWith}
+use Rattle.std.specs.Prelude.{◌≡◌, ◌≢◌, ℕ, List, Option}
+use Rattle.flow_text.specs.Written.{StaysInFront}
 use Rattle.flow_text.specs.declared.fault.TextFault.TheVariants.{Write}
 use Rattle.flow_run.specs.declared.outcome.RunRefusal.{RunRefusal}
 use Rattle.flow_run.specs.declared.outcome.RunRefusal.TheVariants.{Text}
-
--- what was there stays in front
-abbrev pub StaysInFront : Option (List ℕ) → Option (List ℕ) → Type 0
-StaysInFront None new = ⊤
-StaysInFront (Some old) None = ⊥
-StaysInFront (Some old) (Some new) = StartsWith new old
 
 -- only a writer that failed may have taken a part of the report
 pub record IsLeft (refusal : RunRefusal) (old new : Option (List ℕ)) : Type 0 where

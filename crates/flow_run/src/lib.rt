@@ -5,7 +5,6 @@ mod outcome;
 mod pipeline;
 mod refusal;
 mod split;
-mod writing;
 
 pub use flow_text::{TextFault, TextPlace, TextRefusal};
 pub use outcome::{Ran, RunRefusal, status};

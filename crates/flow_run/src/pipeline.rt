@@ -1,23 +1,21 @@
 //! Runs a network text over records, from the first byte to the report.
-ghost use Rattle.std.specs.Prelude.{◌≡◌, ◌≢◌, ◌≤◌, ◌⊎◌, IfOk, IfErr, OnOk};
+ghost use Rattle.std.specs.Prelude.{◌≡◌, ◌≢◌, ◌≤◌, IfOk, IfErr};
 ghost use Rattle.std.specs.Io.KnownBytes.{Appends};
 ghost use Rattle.flow_net.specs.Net.{layout_in, parts_of};
-ghost use Rattle.flow_text.specs.Report.{report, run_in};
 ghost use Rattle.flow_run.specs.Left.{IsLeft};
 ghost use Rattle.flow_run.specs.Ran.{Begins, IsReported, IsUnbegun, IsUnreported};
 ghost use Rattle.flow_run.specs.Refusal.{IsToldAs};
 
 use crate::outcome::{Ran, RunRefusal};
-use crate::writing::write_bytes;
-use flow_net::{Net, NetFault, Settled};
-use flow_text::{TextFault, is_complete, read_plan, read_records, write_report};
+use flow_net::{Net, NetFault};
+use flow_text::{is_complete, read_plan, read_records, write_report};
 use flow_value::Steps;
 use std::alloc::Global;
 use std::io::{Read, Write};
 
 /// Reads a network, runs it over the records until it is quiet or `limit` events are done, and writes its report.
 ///
-/// The report is written in one piece, once all of it is there. One thread does the work for now.
+/// The writer should gather what is written, since the report comes in many small pieces. One thread does the work for now.
 pub fn run<R: Read + Drop, W: Write>(
     alloc: Global,
     plan: &[u8],
@@ -36,7 +34,7 @@ pub fn run<R: Read + Drop, W: Write>(
         Ok(settled) => settled,
         Err(fault) => return Err(refusal_of_net(fault)),
     };
-    write_whole_report(alloc, &net, settled, writer)?;
+    write_report(&net, settled, writer)?;
     let complete = is_complete(&net);
     Ok(Ran { settled, complete })
 }
@@ -63,27 +61,5 @@ fn refusal_of_net(fault: NetFault) -> RunRefusal
         NetFault::NotEnabled => unreachable!(),
         NetFault::Ids => RunRefusal::Ids,
         NetFault::Memory => RunRefusal::Memory,
-    }
-}
-
-/// Writes the report of a network that settled so, once all of it is there.
-fn write_whole_report<W: Write>(
-    alloc: Global,
-    net: &Net<Steps>,
-    settled: Settled,
-    writer: &mut W,
-) -> Result<(), RunRefusal>
-    ensures written { OnOk result (Appends (W.contents writer.old) (W.contents writer.new) (report (run_in net.now) settled)) }
-    ensures refused { IfErr result (λ refusal. (refusal ≡ RunRefusal.Memory) ⊎ (refusal ≡ RunRefusal.Text TextFault.Write)) }
-    ensures left { IfErr result (λ refusal. IsLeft refusal (W.contents writer.old) (W.contents writer.new)) }
-{
-    let mut report: Vec<u8> = Vec::new(alloc);
-    // A vector takes all that is written, as long as there is memory.
-    let Ok(()) = write_report(net, settled, &mut report) else {
-        return Err(RunRefusal::Memory);
-    };
-    match write_bytes(writer, &report) {
-        Ok(()) => Ok(()),
-        Err(fault) => Err(RunRefusal::Text(fault)),
     }
 }

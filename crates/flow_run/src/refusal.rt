@@ -1,13 +1,12 @@
 //! The line that a refusal is told by.
 ghost use Rattle.std.specs.Prelude.{◌≡◌, Some, OnOk, IfErr};
 ghost use Rattle.std.specs.Io.KnownBytes.{Appends};
-ghost use Rattle.flow_run.specs.Left.{StaysInFront};
+ghost use Rattle.flow_text.specs.Written.{StaysInFront};
 ghost use Rattle.flow_run.specs.Refusal.{refusal_text, refusal_line};
 
 use crate::outcome::RunRefusal;
-use crate::writing::write_bytes;
 use arrayvec::ArrayString;
-use flow_text::TextFault;
+use flow_text::{TextFault, write_bytes};
 use std::error::Error;
 use std::fmt;
 use std::fmt::Write as _;
@@ -24,7 +23,18 @@ pub fn write_refusal<W: Write>(refusal: &RunRefusal, writer: &mut W) -> Result<(
 {
     let mut line = ArrayString::<LINE_ROOM>::new();
     match writeln!(line, "flow_run: {refusal}") {
-        Ok(()) => write_bytes(writer, line.as_str().as_bytes()),
+        Ok(()) => write_line(writer, line.as_str().as_bytes()),
+        Err(_) => Err(TextFault::Write),
+    }
+}
+
+fn write_line<W: Write>(writer: &mut W, line: &[u8]) -> Result<(), TextFault>
+    ensures written { OnOk result (Appends (W.contents writer.old) (W.contents writer.new) line.now) }
+    ensures kept { StaysInFront (W.contents writer.old) (W.contents writer.new) }
+    ensures failed { IfErr result (λ fault. fault ≡ TextFault.Write) }
+{
+    match write_bytes(writer, line) {
+        Ok(()) => Ok(()),
         Err(_) => Err(TextFault::Write),
     }
 }

@@ -14,5 +14,6 @@ mod value_text;
 pub use complete::is_complete;
 pub use fault::{TextFault, TextPlace, TextRefusal};
 pub use network::read_plan;
+pub use piece::write_bytes;
 pub use records::read_records;
 pub use report::write_report;

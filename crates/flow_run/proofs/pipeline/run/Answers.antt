@@ -16,19 +16,19 @@ returns-clause-reported g c =
       begins = begins;
       settles = settles_as same_plan c.in-Ok.ensures.settled;
       posted = posted_as (g.R.Read.remaining c.args.reader) (layout_in net) (parts_of c.in_ok-net.net) (parts_of net) c.in-Ok.ensures.same_inputs begins.posted;
-      written = c.in_ok-write_whole_report.ensures.written;
+      written = c.in_ok-write_report.ensures.written;
       lawful = c.in-Ok.ensures.lawful;
       quiet = λ is_quiet. c.in-Ok.ensures.quiet (ap answered is_quiet);
       complete = c.is_complete-complete.ensures;
     }
 
-pub returns-in_err-write_whole_report-clause-refused : goal.returns-in_err-write_whole_report-clause-refused
-returns-in_err-write_whole_report-clause-refused g c =
-    let p = err_from_is_err_and c.from_residual-in_err-write_whole_report.result c.from_residual-in_err-write_whole_report.ensures.1 in
+pub returns-in_err-write_report-clause-refused : goal.returns-in_err-write_report-clause-refused
+returns-in_err-write_report-clause-refused g c =
+    let p = err_from_is_err_and c.from_residual-in_err-write_report.result c.from_residual-in_err-write_report.ensures.1 in
     let net = c.settle.new.self in
     let same_plan = c.in-Ok.ensures.same_plan in
     rw (p.1, p.2)
-    (no_report c.args.plan.now (g.R.Read.remaining c.args.reader) c.args.limit c.in_err-write_whole_report.field-0.0 c.in_err-write_whole_report.ensures.refused
+    (no_report c.args.plan.now (g.R.Read.remaining c.args.reader) c.args.limit c.in_err-write_report.field-0.0 c.in_err-write_report.ensures.refused
     (record {
       is_write = refl;
       layout = layout_in net;

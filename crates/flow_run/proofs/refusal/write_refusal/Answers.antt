@@ -11,5 +11,5 @@ returns-in-Ok-clause-written g c =
     c.as_bytes.ensures.value ∙ c.as_str.ensures.value
     ∙ contents_after_writes _ (λ (line : ArrayString 128). line.bytes) (λ line bytes more gives. gives) c.new-line.result (refusal_line c.args.refusal.now) c.writeln.new.self c.in-Ok.ensures.writes
     ∙ ap (λ (bytes : List ℕ). bytes ++ refusal_line c.args.refusal.now) c.new-line.ensures in
-    subst (λ (bytes : List ℕ). OnOk c.write_bytes.result (Appends (g.W.Write.contents c.args.writer.now) (g.W.Write.contents c.write_bytes.new.writer) bytes))
-    line c.write_bytes.ensures.written
+    subst (λ (bytes : List ℕ). OnOk c.write_line.result (Appends (g.W.Write.contents c.args.writer.now) (g.W.Write.contents c.write_line.new.writer) bytes))
+    line c.write_line.ensures.written
