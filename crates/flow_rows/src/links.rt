@@ -1,0 +1,131 @@
+//! Links of plans, with what no text says of them, and how far a message has come over one.
+use flow_link::{
+    BlockDef, BlockKind, Draft, LinkDef, LinkEnd, LinkSource, LinkTarget, Move, Phase, Place,
+    PlanFault, PlanRefusal, phase_of, plan_check, step_of, word_of,
+};
+use flow_value::{MessageHeader, Steps, Text, When};
+use std::alloc::{AllocError, Global};
+use std::process::Abort;
+use std::test::Fail;
+
+/// A port, a capacity and a predicate.
+type Options = (Option<u32>, Option<u32>, Option<When>);
+
+/// Options of a link from a buffer to another and of both buffers, and the fault of the draft.
+const WRONG: &[(Options, PlanFault)] = &[
+    ((Some(1), None, None), PlanFault::Port(0)),
+    ((Some(1), Some(0), None), PlanFault::Port(0)),
+    ((None, Some(0), None), PlanFault::BadOption(Place::Block(0))),
+    (
+        (None, None, Some(When::Even)),
+        PlanFault::BadOption(Place::Link(0)),
+    ),
+];
+
+/// Two buffers, of which the first is an input and linked to the second.
+fn draft(alloc: Global, options: &Options) -> Result<Draft<Steps>, AllocError> {
+    let (port, capacity, when) = *options;
+    let mut blocks = Vec::new(alloc);
+    for name in ["a", "b"] {
+        blocks.push(BlockDef {
+            name: Text::from_str(alloc, name)?,
+            kind: BlockKind::Buffer,
+            input: name == "a",
+            output: false,
+            capacity,
+            work: None,
+            lanes: None,
+            size: None,
+            ports: None,
+            greedy: None,
+        })?;
+    }
+    let mut links = Vec::new(alloc);
+    links.push(LinkDef {
+        from: Text::from_str(alloc, "a")?,
+        to: Text::from_str(alloc, "b")?,
+        port,
+        when,
+        max: None,
+        propagate: true,
+    })?;
+    Ok(Draft { blocks, links })
+}
+
+#[test]
+fn a_refused_draft_comes_back(rt: HostRuntime) -> Result<(), Fail> {
+    for (options, fault) in WRONG {
+        let Err((back, refusal)) = plan_check(rt.alloc(), draft(rt.alloc(), options)?) else {
+            panic!(&rt; "{fault:?} is not found");
+        };
+        assert_eq!(rt; refusal, PlanRefusal::Fault(*fault));
+        assert!(rt;
+            back.blocks.len() == 2 && back.links.len() == 1,
+            "{fault:?}"
+        );
+    }
+    Ok(())
+}
+
+#[test]
+fn links_of_inputs_follow_those_of_the_draft(rt: HostRuntime) -> Result<(), Fail> {
+    let draft = draft(rt.alloc(), &(Some(0), None, None))?;
+    let Ok(plan) = plan_check(rt.alloc(), draft) else {
+        panic!(&rt; "nothing is wrong with the draft");
+    };
+    assert!(rt; plan.block_count() == 2 && plan.link_count() == 2);
+    assert!(rt; plan.find("b") == Some(1) && plan.find("c").is_none());
+    assert!(rt; plan.block(0).input && !plan.block(1).input);
+    let (first, second) = (plan.link(0), plan.link(1));
+    assert!(rt; first.source == LinkSource::Block(0) && first.target == LinkTarget::Port(1, 0));
+    assert!(rt; second.source == LinkSource::Input(0) && second.target == LinkTarget::Port(0, 0));
+    assert!(rt; first.propagate && first.when == When::Any && first.max.is_none());
+    Ok(())
+}
+
+#[test]
+fn phases_have_their_words(rt: HostRuntime) -> Result<(), Fail> {
+    let one = MessageHeader::new(1).ok_or("no id")?;
+    for (phase, word) in [
+        (Phase::Idle, 0),
+        (Phase::Wanted(one), 2_305_843_009_213_693_953),
+        (Phase::Refused, 5_188_146_770_730_811_392),
+        (Phase::Ended(LinkEnd::Fault(7)), 6_917_529_027_641_081_863),
+    ] {
+        assert!(rt;
+            word_of(phase) == word && phase_of(word) == Some(phase),
+            "{phase:?}"
+        );
+    }
+    // A message needs an id, a fault has a number that is not too great, and there are thirteen kinds of phase.
+    for word in [
+        2_305_843_009_213_693_952,
+        6_917_529_031_936_049_152,
+        7_493_989_779_944_505_344,
+    ] {
+        assert_eq!(rt; phase_of(word), None);
+    }
+    Ok(())
+}
+
+#[test]
+fn a_message_crosses(rt: HostRuntime) -> Result<(), Fail> {
+    let one = MessageHeader::new(1).ok_or("no id")?;
+    let mut phase = Phase::Idle;
+    for step in [
+        Move::Offer(one),
+        Move::Postpone,
+        Move::Ask,
+        Move::Hold,
+        Move::Claim,
+        Move::Give,
+        Move::Open,
+        Move::Close,
+    ] {
+        assert!(rt; step_of(Phase::Refused, step).is_none());
+        phase = step_of(phase, step).ok_or("not allowed")?;
+        assert!(rt; phase == Phase::Idle || phase.id() == Some(one));
+    }
+    assert_eq!(rt; phase, Phase::Idle);
+    Ok(())
+}

@@ -1,0 +1,333 @@
+//! Networks that are refused, each with its line, and some that are read and look as if they were not.
+use crate::driver::{ENOUGH, chain, has_lines, is_report, told_by};
+use std::alloc::Global;
+use std::io;
+use std::io::Write;
+use std::process::Abort;
+use std::test::Fail;
+
+/// A whole text, and the line that it is refused with.
+const WHOLE: &[(&[u8], &str)] = &[
+    (b"format", "1 Syntax"),
+    (b"format = 1\nformat = 1\nblock = []\n", "1 Syntax"),
+    (b"format = 1\nblock = []\n# \xff\n", "1 Syntax"),
+    (b"\xff", "1 Syntax"),
+    (b"format = 1\nblock = [", "1 Syntax"),
+    (b"format = 9223372036854775808\n", "1 Syntax"),
+    // A fault of the format stands before it in the text, and is told after it.
+    (b"format = 2\n[[block]\n", "1 Syntax"),
+    // Half of a mark of byte order.
+    (b"\xef\xbbformat = 1\nblock = []\n", "1 Syntax"),
+    (b"", "3 MissingKey top"),
+    (b"block = 3\nstrange = 1\n", "3 MissingKey top"),
+    (b"format = \"1\"\nblock = []\n", "4 WrongType top"),
+    (b"format = 1.0\nblock = []\n", "4 WrongType top"),
+    (b"format = true\nstrange = 1\n", "4 WrongType top"),
+    (b"format = 0\nstrange = 1\n", "7 BadFormat"),
+    (b"format = 3\nblock = [{strange = 1}]\n", "7 BadFormat"),
+    (b"format = -1\nblock = 3\n", "7 BadFormat"),
+    (b"format = 4294967297\nblock = []\n", "7 BadFormat"),
+    (b"\xef\xbb\xbfformat = 3\n", "7 BadFormat"),
+];
+
+/// In each row the line of a refusal, and a text without its first line, which names the format; ' ; ' stands for the
+/// end of a line.
+const TEXTS: &str = r#"
+# Keys that there are not.
+2 UnknownKey top | block = [] ; exit = []
+2 UnknownKey top | block = [] ; Format = 1
+2 UnknownKey top | block = [] ; "" = 1
+2 UnknownKey block 0 | block = [{name = "a", kind = "buffer", capasity = 1}]
+2 UnknownKey block 0 | block = [{capacity = -1}]
+2 UnknownKey block 0 | block = [{lanes = 1}]
+2 UnknownKey block 0 | block = [{size = 1}]
+2 UnknownKey block 0 | block = [{ports = 1}]
+2 UnknownKey block 0 | block = [{greedy = true}]
+2 UnknownKey block 0 | block = [{output = true}]
+2 UnknownKey block 2 | block = [{}, {}, {strange = 1}, {strange = 1}]
+2 UnknownKey link 0 | block = [] ; link = [{port = 0}]
+2 UnknownKey link 0 | block = [] ; link = [{when = "evn"}]
+2 UnknownKey link 0 | block = [] ; link = [{max = 1}]
+2 UnknownKey link 1 | block = [] ; link = [{}, {strange = 1}]
+# Keys that are required.
+3 MissingKey top | # nothing else
+3 MissingKey top | link = []
+3 MissingKey block 0 | block = [{kind = "buffer"}, {name = "a", kind = "transfrom"}]
+3 MissingKey block 0 | block = [{name = "a"}]
+3 MissingKey block 1 | block = [{name = "a", kind = "buffer"}, {}]
+3 MissingKey link 0 | block = [] ; link = [{to = "a"}]
+3 MissingKey link 0 | block = [] ; link = [{from = "a"}]
+3 MissingKey link 1 | block = [] ; link = [{from = "a", to = "a"}, {}]
+# Values of other types.
+4 WrongType top | block = 3
+4 WrongType top | block = "[]"
+4 WrongType top | [block] ; name = "a" ; kind = "buffer"
+4 WrongType top | block = [1]
+4 WrongType top | block = [{name = "a", kind = "buffer"}, 1]
+4 WrongType top | block = [] ; link = 3
+4 WrongType top | block = [] ; link = [1]
+4 WrongType block 0 | block = [{name = 1, kind = "buffer"}]
+4 WrongType block 0 | block = [{name = "a", kind = 1}]
+4 WrongType block 0 | block = [{name = "a", kind = "Buffer"}]
+4 WrongType block 0 | block = [{name = "a", kind = "transfrom"}]
+# Kinds that are not built yet.
+4 WrongType block 0 | block = [{name = "a", kind = "broadcast"}]
+4 WrongType block 0 | block = [{name = "a", kind = "write_once"}]
+4 WrongType block 0 | block = [{name = "a", kind = "transform_many", work = []}]
+4 WrongType block 1 | block = [{name = "a", kind = "buffer"}, {name = "b", kind = "batch"}]
+4 WrongType block 0 | block = [{name = "a", kind = "join"}]
+4 WrongType block 0 | block = [{name = "a", kind = "batched_join"}]
+4 WrongType block 0 | block = [{name = "a", kind = "buffer", input = "true"}]
+4 WrongType block 0 | block = [{name = "a", kind = "action", work = "id"}]
+4 WrongType block 0 | block = [{name = "a", kind = "action", work = ["id", 2]}]
+4 WrongType link 0 | block = [] ; link = [{from = 1, to = "a"}]
+4 WrongType link 0 | block = [] ; link = [{from = "a", to = 0}]
+4 WrongType link 0 | block = [] ; link = [{from = "a", to = "b", propagate = "true"}]
+4 WrongType link 1 | block = [] ; link = [{from = "a", to = "b"}, {from = "a", to = "b", propagate = 1}]
+# Blocks that are in no plan.
+8 Plan 2 DuplicateName block 1 | block = [{name = "a", kind = "buffer"}, {name = "a", kind = "buffer"}]
+8 Plan 6 BadOption block 0 | block = [{name = "a", kind = "action"}]
+8 Plan 6 BadOption block 0 | block = [{name = "a", kind = "transform"}]
+8 Plan 6 BadOption block 0 | block = [{name = "a", kind = "buffer", work = []}]
+8 Plan 6 BadOption block 1 | block = [{name = "a", kind = "buffer"}, {name = "", kind = "buffer"}]
+8 Plan 6 BadOption block 0 | block = [{name = "a b", kind = "buffer"}]
+8 Plan 6 BadOption block 0 | block = [{name = "\u00e9", kind = "buffer"}]
+# With two faults the first in order counts.
+# An unknown key comes before one that is missing, wherever they stand.
+2 UnknownKey link 0 | block = [{}] ; link = [{strange = 1}]
+2 UnknownKey block 0 | block = [{strange = 1, name = 1, kind = 1}]
+# A missing key comes before a wrong type.
+3 MissingKey link 0 | block = [{name = 1, kind = "buffer"}] ; link = [{from = "a"}]
+3 MissingKey block 1 | block = [{name = "a", kind = "no"}, {}]
+3 MissingKey top | link = 3
+# A wrong type comes before a function that is none.
+4 WrongType link 0 | block = [{name = "a", kind = "action", work = ["no"]}] ; link = [{from = 1, to = "a"}]
+4 WrongType block 1 | block = [{name = "a", kind = "action", work = ["no"]}, {name = "a", kind = "no"}]
+4 WrongType block 0 | block = [{name = "a", kind = "action", work = ["no", 1]}]
+# A function that is none comes before what is wrong with the plan, and is looked at where its kind has none too.
+5 BadWork block 1 | block = [{name = "a", kind = "buffer"}, {name = "a", kind = "buffer", work = ["no"]}]
+5 BadWork block 0 | block = [{name = "a", kind = "action", work = ["no"]}, {name = "b", kind = "action", work = ["no"]}]
+# Within a pass the top comes first, the blocks then, the links last.
+2 UnknownKey top | strange = 1 ; block = [{strange = 1}]
+2 UnknownKey block 1 | link = [{strange = 1}] ; block = [{}, {strange = 1}]
+3 MissingKey top | link = [{}]
+3 MissingKey block 1 | link = [{}] ; block = [{name = "a", kind = "buffer"}, {name = "a"}]
+4 WrongType top | link = [1] ; block = [{name = 1, kind = "buffer"}]
+4 WrongType block 0 | link = [{from = 1, to = 1}] ; block = [{name = 1, kind = "buffer"}]
+# What is no array of tables is skipped until its type is looked at.
+4 WrongType top | block = [{strange = 1}, 1]
+2 UnknownKey link 0 | block = [1, {strange = 1}] ; link = [{strange = 1}]
+4 WrongType top | block = [{}, 1] ; link = [{from = "a", to = "a", propagate = 1}]
+"#;
+
+/// In each row what stands for the function of an action, and is none.
+const WORKS: &str = r#"
+["addd 1"]
+["int", "addd 1"]
+["int", ""]
+["Int"]
+[" int"]
+["int "]
+["id 1"]
+["add"]
+["add "]
+["add  1"]
+["add +1"]
+["add -"]
+["add 1.0"]
+["add 9223372036854775808"]
+["add -9223372036854775809"]
+["field"]
+["field -1"]
+["field 4096"]
+["repeat -1"]
+["repeat 1001"]
+["id","id","id","id","id","id","id","id","id","id","id","id","id","id","id","id","id"]
+"#;
+
+/// Three buffers, an action and an input.
+const FIVE: &str = r#"block = [
+    {name = "a", kind = "buffer"}, {name = "b", kind = "buffer"}, {name = "c", kind = "buffer"},
+    {name = "out", kind = "action", work = []}, {name = "in", kind = "buffer", input = true},
+]"#;
+
+/// In each row the line of a refusal, and links among those five.
+const LINKS: &str = "
+8 Plan 3 UnknownBlock link 0 | no>b
+8 Plan 3 UnknownBlock link 1 | a>b b>oot
+8 Plan 5 NoOutput link 1 | a>b out>c
+# Links that are not built yet: a second one into a block or out of it. What is posted to an input counts.
+8 Plan 6 BadOption link 1 | a>c b>c
+8 Plan 6 BadOption link 1 | a>b a>c
+8 Plan 6 BadOption link 0 | a>in
+8 Plan 9 Cycle | a>b b>a
+8 Plan 9 Cycle | b>b
+8 Plan 9 Cycle | in>out c>a a>b b>c
+# With two faults the first in order counts.
+8 Plan 3 UnknownBlock link 1 | out>b a>oot
+8 Plan 5 NoOutput link 1 | a>in out>b
+8 Plan 6 BadOption link 2 | a>b b>a c>b
+";
+
+/// The beginning and the rest of a text that is a network, and its report where nothing is posted.
+const READ: &[(&[u8], &str, &[&str])] = &[
+    (b"format = 1\n", "block = []", &["quiet"]),
+    (
+        b"\xef\xbb\xbf",
+        "link = []\nblock = []\nformat = 1",
+        &["quiet"],
+    ),
+    (b"format = 0x1\r\n", "block = [] # none\r", &["quiet"]),
+    (
+        b"format = 1\nlink = [{to = \"b\", from = \"a\"}]\n",
+        r#"block = [{name = "b", kind = "action", work = []}, {kind = "buffer", name = "a"}]"#,
+        &[
+            "block b open ; port 0 [] ; held 0 [] ; record []",
+            "block a open ; port 0 [] ; held 0 [] ; link 0 [] ; left [] ; quiet",
+        ],
+    ),
+];
+
+// Tests that a network is refused with this line.
+fn check(rt: &(impl Abort + Print), alloc: Global, text: &[u8], line: &str) -> Result<(), Fail> {
+    let told = told_by(rt, alloc, text, &b""[..], ENOUGH)?;
+    let mut due = Vec::new(alloc);
+    writeln!(&mut due, "flow_run: {line}")?;
+    assert!(rt;
+        told.status == 2 && told.text == due,
+        "{:?} is not {line}",
+        str::from_utf8(text)
+    );
+    Ok(())
+}
+
+#[test]
+fn the_syntax_and_the_format_come_first(rt: HostRuntime) -> Result<(), Fail> {
+    for (text, line) in WHOLE {
+        check(&rt, rt.alloc(), text, line)?;
+    }
+    Ok(())
+}
+
+#[test]
+fn the_first_fault_of_a_text_is_told(rt: HostRuntime) -> Result<(), Fail> {
+    for row in TEXTS.lines().skip(1).filter(|row| !row.starts_with("#")) {
+        let (line, written) = row.split_once(" | ").ok_or("no row")?;
+        let mut text = Vec::new(rt.alloc());
+        writeln!(&mut text, "format = 1")?;
+        for part in written.split(" ; ") {
+            writeln!(&mut text, "{part}")?;
+        }
+        check(&rt, rt.alloc(), text.as_slice(), line)?;
+    }
+    Ok(())
+}
+
+#[test]
+fn functions_have_known_steps(rt: HostRuntime) -> Result<(), Fail> {
+    for work in WORKS.lines().skip(1) {
+        let mut text = Vec::new(rt.alloc());
+        writeln!(
+            &mut text,
+            "format = 1\nblock = [{{name = \"a\", kind = \"action\", work = {work}}}]"
+        )?;
+        check(&rt, rt.alloc(), text.as_slice(), "5 BadWork block 0")?;
+    }
+    Ok(())
+}
+
+#[test]
+fn links_lead_from_outputs_to_free_ports(rt: HostRuntime) -> Result<(), Fail> {
+    for row in LINKS.lines().skip(1).filter(|row| !row.starts_with("#")) {
+        let (line, drawn) = row.split_once(" | ").ok_or("no row")?;
+        let mut text = Vec::new(rt.alloc());
+        writeln!(&mut text, "format = 1\n{FIVE}")?;
+        for link in drawn.split(" ") {
+            let (from, to) = link.split_once(">").ok_or("no link")?;
+            writeln!(&mut text, "[[link]]\nfrom = \"{from}\"\nto = \"{to}\"")?;
+        }
+        check(&rt, rt.alloc(), text.as_slice(), line)?;
+    }
+    Ok(())
+}
+
+#[test]
+fn other_spellings_are_read(rt: HostRuntime) -> Result<(), Fail> {
+    for (beginning, rest, report) in READ {
+        let mut text = Vec::new(rt.alloc());
+        text.extend_from_slice(beginning)?;
+        writeln!(&mut text, "{rest}")?;
+        let told = told_by(&rt, rt.alloc(), text.as_slice(), &b""[..], ENOUGH)?;
+        assert!(rt;
+            is_report(rt.alloc(), told.text.as_slice(), report)?,
+            "{rest}"
+        );
+    }
+    Ok(())
+}
+
+/// Writes so many buffers, each linked to the next, and then so many links to a block that there is not.
+fn write_large(text: &mut Vec<u8>, buffers: u32, strays: u32) -> io::Result<()> {
+    writeln!(text, "format = 1")?;
+    for number in 0..buffers {
+        writeln!(text, "[[block]]\nname = \"b{number}\"\nkind = \"buffer\"")?;
+    }
+    for number in 1..buffers {
+        let before = number - 1;
+        writeln!(text, "[[link]]\nfrom = \"b{before}\"\nto = \"b{number}\"")?;
+    }
+    for _ in 0..strays {
+        writeln!(text, "[[link]]\nfrom = \"b0\"\nto = \"no\"")?;
+    }
+    Ok(())
+}
+
+/// So many buffers in a chain, so many links to no block, what stands at the end, and the line.
+const LARGE: &[(u32, u32, &str, &str)] = &[
+    (257, 1, "", "8 Plan 1 Limit"),
+    (1, 1_025, "", "8 Plan 1 Limit"),
+    (1, 1_024, "", "8 Plan 3 UnknownBlock link 0"),
+    (256, 769, "", "8 Plan 3 UnknownBlock link 255"),
+    (256, 770, "", "8 Plan 1 Limit"),
+    (
+        256,
+        0,
+        "[[link]]\nfrom = \"b255\"\nto = \"b0\"",
+        "8 Plan 9 Cycle",
+    ),
+];
+
+#[test]
+fn networks_have_their_limits(rt: HostRuntime) -> Result<(), Fail> {
+    for (buffers, strays, end, line) in LARGE {
+        let mut text = Vec::new(rt.alloc());
+        write_large(&mut text, *buffers, *strays)?;
+        writeln!(&mut text, "{end}")?;
+        check(&rt, rt.alloc(), text.as_slice(), line)?;
+    }
+    let mut text = Vec::new(rt.alloc());
+    write_large(&mut text, 256, 0)?;
+    let told = told_by(&rt, rt.alloc(), text.as_slice(), &b""[..], ENOUGH)?;
+    let last = "block b254 open ; link 254 [] ; block b255 open ; left [] ; quiet";
+    assert!(rt; told.status == 1 && has_lines(told.text.as_slice(), last));
+    Ok(())
+}
+
+/// 64 bytes, of each sort that a name may have but one.
+const LONGEST: &str = "abcdefghijklmnopqrstuvwxyzABCDEFGHIJKLMNOPQRSTUVWXYZ0123456789_-";
+
+#[test]
+fn names_have_64_bytes_at_most(rt: HostRuntime) -> Result<(), Fail> {
+    let named = format!(in rt.alloc(); "{LONGEST} buffer")?;
+    let network = chain(rt.alloc(), named.as_str())?;
+    let told = told_by(&rt, rt.alloc(), network.as_slice(), &b""[..], ENOUGH)?;
+    assert!(rt; told.status == 0);
+    let named = format!(in rt.alloc(); "{LONGEST}. buffer")?;
+    let network = chain(rt.alloc(), named.as_str())?;
+    check(
+        &rt,
+        rt.alloc(),
+        network.as_slice(),
+        "8 Plan 6 BadOption block 0",
+    )
+}
