@@ -1,16 +1,19 @@
-//! Runs a network over records, from standard input and files to standard output.
-ghost use Rattle.std.specs.Prelude.{◌≡◌, ◌⊎◌, IfOk, IfErr, IfSome};
+//! Runs a network over records, from standard input and files to standard output. Where the promise is about the writer, the whole
+//! report is made before any of it is written; else it goes through a buffer.
+ghost use Rattle.std.specs.Prelude.{◌≡◌, ◌⊎◌, IfOk, IfErr, IfSome, None, Some};
 ghost use Rattle.std.specs.Io.KnownBytes.{Appends};
 ghost use Rattle.flow_run.specs.Left.{IsLeft};
-ghost use Rattle.flow_cli.specs.Failure.{unread_refusal, IsUnread};
+ghost use Rattle.flow_run.specs.Ran.{IsReported, IsUnreported};
+ghost use Rattle.flow_cli.specs.Failure.{unread_refusal, refusal_in_memory, IsUnread};
 ghost use Rattle.flow_cli.specs.Reported.{IsReportedIn, IsReportedOfAny, IsRefusedIn, IsRefusedOfAny};
 ghost use Rattle.flow_cli.specs.Request.{IsCrew, default_limit};
 
 use crate::request::{Bounds, DEFAULT_BOUNDS};
 use flow_run::{Ran, RunRefusal, TextFault, run, split_input};
+use flow_text::write_bytes;
 use std::alloc::Global;
 use std::fs::Files;
-use std::io::{BufReader, ErrorKind, Input, Read, Write};
+use std::io::{BufReader, BufWriter, ErrorKind, Input, Read, Write};
 use std::{fs, io};
 
 /// Runs the network in this file over the records in standard input.
@@ -25,15 +28,30 @@ pub fn run_file<R: Files + Input + Print + AllocGlobal>(
 {
     let plan = fs::read(rt, path).map_err(|error| unread(&error))?;
     let records = BufReader::new(rt.alloc(), rt.reader()).map_err(|error| unread(&error))?;
+    run_buffered(rt.alloc(), &plan, records, io::writer(rt), bounds)
+}
+
+/// Runs a network over records, and writes its report through a buffer.
+fn run_buffered<R: Read + Drop, W: Write + Drop>(
+    alloc: Global,
+    plan: &[u8],
+    records: R,
+    writer: W,
+    bounds: Bounds,
+) -> Result<Ran, RunRefusal>
+    requires { IsCrew bounds.workers }
+    ensures reported { IfOk result (IsReported plan.now None bounds.limit (λ report. Unit {0})) }
+    ensures refused { IfErr result (IsUnreported plan.now None bounds.limit) }
+{
+    let Ok(mut buffer) = BufWriter::new(alloc, writer) else {
+        return Err(RunRefusal::Memory);
+    };
     let Bounds { workers, limit } = bounds;
-    run(
-        rt.alloc(),
-        &plan,
-        records,
-        &mut io::writer(rt),
-        workers,
-        limit,
-    )
+    let ran = run(alloc, plan, records, &mut buffer, workers, limit)?;
+    match buffer.into_inner() {
+        Ok(_) => Ok(ran),
+        Err(_) => Err(RunRefusal::Text(TextFault::Write)),
+    }
 }
 
 /// Runs the network at the beginning of what is read over the records behind it.
@@ -48,8 +66,42 @@ pub fn run_input<R: Read + Drop, W: Write>(
 {
     let text = whole_input(alloc, reader)?;
     let (plan, records) = split_input(&text);
-    let Bounds { workers, limit } = DEFAULT_BOUNDS;
-    run(alloc, plan, records, writer, workers, limit)
+    run_whole(alloc, plan, records, writer, DEFAULT_BOUNDS)
+}
+
+/// Runs a network over records, and writes its report once all of it is there.
+fn run_whole<W: Write>(
+    alloc: Global,
+    plan: &[u8],
+    records: &[u8],
+    writer: &mut W,
+    bounds: Bounds,
+) -> Result<Ran, RunRefusal>
+    requires { IsCrew bounds.workers }
+    ensures reported { IfOk result (IsReported plan.now (Some records.now) bounds.limit (Appends (W.contents writer.old) (W.contents writer.new))) }
+    ensures refused { IfErr result (IsUnreported plan.now (Some records.now) bounds.limit) }
+    ensures left { IfErr result (λ refusal. IsLeft refusal (W.contents writer.old) (W.contents writer.new)) }
+{
+    let mut report: Vec<u8> = Vec::new(alloc);
+    let Bounds { workers, limit } = bounds;
+    let ran = match run(alloc, plan, records, &mut report, workers, limit) {
+        Ok(ran) => ran,
+        Err(refusal) => return Err(in_memory(refusal)),
+    };
+    match write_bytes(writer, &report) {
+        Ok(()) => Ok(ran),
+        Err(_) => Err(RunRefusal::Text(TextFault::Write)),
+    }
+}
+
+/// A refusal of a run whose report is made in memory: a vector takes all that is written, as long as there is memory.
+fn in_memory(refusal: RunRefusal) -> RunRefusal
+    ensures { result ≡ refusal_in_memory refusal }
+{
+    match refusal {
+        RunRefusal::Text(TextFault::Write) => RunRefusal::Memory,
+        _ => refusal,
+    }
 }
 
 /// All that is read.
