@@ -1,4 +1,5 @@
-// Builds a network in code, and runs it: texts go in, a transform reads them as numbers, and an action keeps them in cents.
+// Builds a network in code, and runs it: texts go in, a transform reads them as numbers, and an action keeps them in
+// cents.
 #![tactic(auto)]
 
 use anyhow::{Result, anyhow};
@@ -13,7 +14,12 @@ const LIMIT: u64 = 10_000;
 fn main(rt: HostRuntime) -> Result<()> {
     let alloc = rt.alloc();
     let plan = plan_check(alloc, draft(alloc)?).map_err(|(_, refusal)| refusal)?;
-    let posted = vec![in alloc; Posted { values: prices(alloc)?, ending: Ending::Complete }]?;
+    let posted = vec![in alloc;
+        Posted {
+            values: prices(alloc)?,
+            ending: Ending::Complete
+        },
+    ]?;
     if posted.len() != plan.input_count() {
         return Err(anyhow!("there is one list for each input"));
     }
@@ -22,7 +28,11 @@ fn main(rt: HostRuntime) -> Result<()> {
     println!(rt; "{settled:?}")?;
     for block in 0..net.plan().block_count() {
         let name = net.plan().block(block).name.as_str();
-        println!(rt; "{name}: {:?}, recorded {:?}", net.state(block), net.record(block))?;
+        println!(rt;
+            "{name}: {:?}, recorded {:?}",
+            net.state(block),
+            net.record(block)
+        )?;
     }
     Ok(())
 }
@@ -33,9 +43,18 @@ fn draft(alloc: Global) -> Result<Draft<Steps>> {
     let parse = BlockDef::new(text(alloc, "parse")?, BlockKind::Transform);
     let ledger = BlockDef::new(text(alloc, "ledger")?, BlockKind::Action);
     let blocks = vec![in alloc;
-        BlockDef { input: true, ..input },
-        BlockDef { work: Some(Steps::read(alloc, &["int"])?), ..parse },
-        BlockDef { work: Some(Steps::read(alloc, &["mul 100"])?), ..ledger },
+        BlockDef {
+            input: true,
+            ..input
+        },
+        BlockDef {
+            work: Some(Steps::read(alloc, &["int"])?),
+            ..parse
+        },
+        BlockDef {
+            work: Some(Steps::read(alloc, &["mul 100"])?),
+            ..ledger
+        },
     ]?;
     let links = vec![in alloc;
         link(alloc, "prices", "parse")?,
@@ -47,7 +66,10 @@ fn draft(alloc: Global) -> Result<Draft<Steps>> {
 /// A link that hands the end of its source on.
 fn link(alloc: Global, from: &str, to: &str) -> Result<LinkDef, AllocError> {
     let link = LinkDef::new(text(alloc, from)?, text(alloc, to)?);
-    Ok(LinkDef { propagate: true, ..link })
+    Ok(LinkDef {
+        propagate: true,
+        ..link
+    })
 }
 
 fn prices(alloc: Global) -> Result<Vec<Value>, AllocError> {

@@ -1,2 +1,2 @@
-pub mod NumberLemmas
-pub mod ReportLemmas
+pub mod DigitsAlone
+pub mod ReportBehindCut

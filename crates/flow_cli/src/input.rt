@@ -1,5 +1,5 @@
-//! Runs a network over records, from standard input and files to standard output. Where the promise is about the writer, the whole
-//! report is made before any of it is written; else it goes through a buffer.
+//! Runs a network over records, from standard input and files to standard output. Where the promise is about the
+//! writer, the whole report is made before any of it is written; else it goes through a buffer.
 ghost use Rattle.std.specs.Prelude.{◌≡◌, ◌⊎◌, IfOk, IfErr, IfSome, None, Some};
 ghost use Rattle.std.specs.Io.KnownBytes.{Appends};
 ghost use Rattle.flow_run.specs.Left.{IsLeft};
@@ -60,8 +60,10 @@ pub fn run_input<R: Read + Drop, W: Write>(
     reader: R,
     writer: &mut W,
 ) -> Result<Ran, RunRefusal>
-    ensures reported { IfOk result (IsReportedIn (R.remaining reader) default_limit (Appends (W.contents writer.old) (W.contents writer.new))) }
-    ensures refused { IfErr result (λ refusal. IsUnread refusal ⊎ IsRefusedIn (R.remaining reader) default_limit refusal) }
+    ensures reported { IfOk result (IsReportedIn (R.remaining reader) default_limit
+        (Appends (W.contents writer.old) (W.contents writer.new))) }
+    ensures refused { IfErr result (λ refusal. IsUnread refusal ⊎ IsRefusedIn (R.remaining reader) default_limit
+        refusal) }
     ensures left { IfErr result (λ refusal. IsLeft refusal (W.contents writer.old) (W.contents writer.new)) }
 {
     let text = whole_input(alloc, reader)?;
@@ -78,7 +80,8 @@ fn run_whole<W: Write>(
     bounds: Bounds,
 ) -> Result<Ran, RunRefusal>
     requires { IsCrew bounds.workers }
-    ensures reported { IfOk result (IsReported plan.now (Some records.now) bounds.limit (Appends (W.contents writer.old) (W.contents writer.new))) }
+    ensures reported { IfOk result (IsReported plan.now (Some records.now) bounds.limit
+        (Appends (W.contents writer.old) (W.contents writer.new))) }
     ensures refused { IfErr result (IsUnreported plan.now (Some records.now) bounds.limit) }
     ensures left { IfErr result (λ refusal. IsLeft refusal (W.contents writer.old) (W.contents writer.new)) }
 {

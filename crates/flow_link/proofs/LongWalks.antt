@@ -4,9 +4,9 @@ use Rattle.std.proofs.Common.{◌≡◌, ℕ, zero, suc, ◌+◌, ◌-◌, ◌<�
 use Rattle.flow_link.specs.declared.plan.Link.{Link}
 use Rattle.flow_link.specs.Lists.{every, some, numbers_from, below}
 use Rattle.flow_link.specs.PlanFaults.{leads, walks}
-use Rattle.flow_link.proofs.EachLemmas.{both_ways}
+use Rattle.flow_link.proofs.EachLinkOf.{both_ways}
 use Rattle.flow_link.proofs.ListTests.{both_of, or_weaker, and_weaker, some_weaker_below}
-use Rattle.flow_link.proofs.RoundLemmas.{some_same_below}
+use Rattle.flow_link.proofs.RoundsOfWalks.{some_same_below}
 
 abbrev alike : Bool → Bool → Bool
 alike true b = b

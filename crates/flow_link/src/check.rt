@@ -2,15 +2,19 @@
 //!
 //! Two of the nine cannot come first yet: CapacityBelowSize is of a batch and SharedSource of a join, and neither kind
 //! is built.
-ghost use Rattle.std.specs.Prelude.{◌≡◌, ◌<◌, [], length, ◌||◌, not, find, position, IfOk, IfErr, IfSome, OnOk, None, is_none};
+ghost use Rattle.std.specs.Prelude.{◌≡◌, ◌<◌, [], length, ◌||◌, not, find, position, IfOk, IfErr, IfSome, OnOk, None};
+ghost use Rattle.std.specs.Prelude.{is_none};
 ghost use Rattle.std.specs.List.{list_any};
-ghost use Rattle.flow_link.specs.declared.plan.PlanFault.TheVariants.{Limit, DuplicateName, UnknownBlock, Port, NoOutput, BadOption};
+ghost use Rattle.flow_link.specs.declared.plan.PlanFault.TheVariants.{Limit, DuplicateName, UnknownBlock, Port};
+ghost use Rattle.flow_link.specs.declared.plan.PlanFault.TheVariants.{NoOutput, BadOption};
 ghost use Rattle.flow_link.specs.declared.plan.Place.TheVariants.{Block, Link as at_link};
 ghost use Rattle.flow_link.specs.Plan.{block_named, named_link, named_links, planned_links};
 ghost use Rattle.flow_link.specs.Planned.{layout_of};
 ghost use Rattle.flow_link.specs.Refusal.{IsWhy};
 ghost use Rattle.flow_link.specs.PlanFaults.{gives_nothing, lacks_port, lacks_output, is_in, first_plan_fault};
-ghost use Rattle.flow_link.specs.NotBuilt.{first_fault_now, stands_now, first_at, name_faults, end_faults, option_faults, is_bad_block, is_built_link, is_further_link, shares_an_end, enters_input, leaves_with, enters_with};
+ghost use Rattle.flow_link.specs.NotBuilt.{first_fault_now, stands_now, first_at, name_faults, end_faults};
+ghost use Rattle.flow_link.specs.NotBuilt.{option_faults, is_bad_block, is_built_link, is_further_link, shares_an_end};
+ghost use Rattle.flow_link.specs.NotBuilt.{enters_input, leaves_with, enters_with};
 
 use crate::cycle::{MOST_BLOCKS, has_cycle};
 use crate::draft::{BlockDef, BlockKind, Draft, LinkDef};
@@ -39,7 +43,8 @@ pub fn plan_check<W>(alloc: Global, draft: Draft<W>) -> Result<Plan<W>, (Draft<W
     ensures no_fault { OnOk result (first_fault_now draft.blocks.items draft.links.items ≡ None) }
     ensures none_by_the_format { OnOk result (first_plan_fault draft.blocks.items draft.links.items ≡ None) }
     ensures same_blocks { IfOk result (λ plan. (layout_of plan).blocks ≡ draft.blocks.items) }
-    ensures its_links { IfOk result (λ plan. (layout_of plan).links ≡ planned_links draft.blocks.items draft.links.items) }
+    ensures its_links { IfOk result
+        (λ plan. (layout_of plan).links ≡ planned_links draft.blocks.items draft.links.items) }
     ensures why { IfErr result (λ refused. IsWhy (first_fault_now draft.blocks.items draft.links.items) refused.1) }
     ensures handed_back { IfErr result (λ refused. refused.0 ≡ draft) }
 {
@@ -143,13 +148,15 @@ fn first_duplicate_name<W>(blocks: &[BlockDef<W>]) -> Option<usize>
 }
 
 fn first_unknown_block<W>(blocks: &[BlockDef<W>], links: &[LinkDef]) -> Option<usize>
-    ensures { result ≡ position (λ link. is_none (block_named blocks.now link.from) || is_none (block_named blocks.now link.to)) links.now }
+    ensures { result ≡ position (λ link. is_none (block_named blocks.now link.from) || is_none
+        (block_named blocks.now link.to)) links.now }
 {
     links.iter().position(|link| is_unknown(blocks, link))
 }
 
 fn first_missing_port<W>(blocks: &[BlockDef<W>], links: &[LinkDef]) -> Option<usize>
-    ensures { result ≡ position (λ link. lacks_port blocks.now [] (block_named blocks.now link.to) (named_link blocks.now link).target) links.now }
+    ensures { result ≡ position (λ link. lacks_port blocks.now [] (block_named blocks.now link.to)
+        (named_link blocks.now link).target) links.now }
 {
     links.iter().position(|link| lacks_port(blocks, link))
 }
@@ -187,14 +194,16 @@ pub(crate) fn block_named<W>(blocks: &[BlockDef<W>], name: &str) -> Option<usize
 }
 
 fn is_unknown<W>(blocks: &[BlockDef<W>], link: &LinkDef) -> bool
-    ensures { result ≡ (is_none (block_named blocks.now link.now.from) || is_none (block_named blocks.now link.now.to)) }
+    ensures { result ≡ (is_none (block_named blocks.now link.now.from) || is_none
+        (block_named blocks.now link.now.to)) }
 {
     block_named(blocks, link.from.as_str()).is_none()
         || block_named(blocks, link.to.as_str()).is_none()
 }
 
 fn lacks_port<W>(blocks: &[BlockDef<W>], link: &LinkDef) -> bool
-    ensures { result ≡ lacks_port blocks.now [] (block_named blocks.now link.now.to) (named_link blocks.now link.now).target }
+    ensures { result ≡ lacks_port blocks.now [] (block_named blocks.now link.now.to)
+        (named_link blocks.now link.now).target }
 {
     match block_named(blocks, link.to.as_str()) {
         Some(place) => {
@@ -234,7 +243,7 @@ fn gives_nothing(kind: BlockKind) -> bool
 }
 
 /// Whether an earlier link enters the link's target, an input's link counted, or leaves its source.
-#[tactic(auto, using(crate::proofs::CheckLemmas::any_is_some))]
+#[tactic(auto, using(crate::proofs::FirstInOrder::any_is_some))]
 fn is_further_link<W>(blocks: &[BlockDef<W>], named: &[Link], place: usize) -> bool
     requires { place < length named.now }
     ensures { result ≡ is_further_link blocks.now named.now place }

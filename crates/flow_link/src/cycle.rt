@@ -63,7 +63,8 @@ fn lengthen(links: &[Link], end: usize, row: &[bool], next: &mut [bool])
 
 /// Writes into the row that the end is reached from this source, where it is.
 fn mark(row: &mut [bool], source: LinkSource, is_reached: bool)
-    ensures { EachIndex row.new (λ block. slice_index_or row.new block false ≡ (slice_index_or row.old block false || begins_at block source && is_reached)) }
+    ensures { EachIndex row.new (λ block. slice_index_or row.new block false ≡
+        (slice_index_or row.old block false || begins_at block source && is_reached)) }
 {
     if let LinkSource::Block(block) = source {
         if is_reached && block < row.len() {

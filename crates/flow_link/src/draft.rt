@@ -68,7 +68,8 @@ pub struct BlockDef<W> {
 }
 
 impl<W> BlockDef<W> {
-    /// A block with this name and kind, and with no option. Options are set on it, or written before `..BlockDef::new(..)`.
+    /// A block with this name and kind, and with no option. Options are set on it, or written before
+    /// `..BlockDef::new(..)`.
     pub fn new(name: Text, kind: BlockKind) -> BlockDef<W>
         ensures { result ≡ block_alone name kind }
     {

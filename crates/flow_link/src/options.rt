@@ -2,7 +2,9 @@
 ghost use Rattle.std.specs.Prelude.{◌≡◌};
 ghost use Rattle.std.specs.List.{list_all};
 ghost use Rattle.flow_link.specs.Plan.{ports_by_kind};
-ghost use Rattle.flow_link.specs.PlanFaults.{is_between, is_name, is_name_byte, is_in, allows, input_rule, output_rule, capacity_rule, work_rule, lanes_rule, size_rule, ports_rule, greedy_rule, keys_fit, ranges_fit, options_fit};
+ghost use Rattle.flow_link.specs.PlanFaults.{is_between, is_name, is_name_byte, is_in, allows, input_rule, output_rule};
+ghost use Rattle.flow_link.specs.PlanFaults.{capacity_rule, work_rule, lanes_rule, size_rule, ports_rule, greedy_rule};
+ghost use Rattle.flow_link.specs.PlanFaults.{keys_fit, ranges_fit, options_fit};
 ghost use Rattle.flow_link.specs.NotBuilt.{is_built_kind, is_built_block, is_built_link};
 
 use crate::draft::{BlockDef, BlockKind, LinkDef};
@@ -69,7 +71,7 @@ fn is_built_kind(kind: BlockKind) -> bool
     )
 }
 
-#[tactic(auto, using(crate::proofs::CheckLemmas::all_is_every))]
+#[tactic(auto, using(crate::proofs::FirstInOrder::all_is_every))]
 fn is_name(name: &str) -> bool
     ensures { result ≡ is_name name.now }
 {

@@ -14,7 +14,8 @@
 //!
 //! At Postponed both ends may move, so there each move is a compare and exchange, and one end wins.
 ghost use Rattle.std.specs.Prelude.{◌≡◌, ◌≤◌, ◌<◌, ◌^◌, Some, IfSome};
-ghost use Rattle.flow_link.specs.declared.phase.Phase.TheVariants.{Idle, Posted, Offered, Postponed, Wanted, Asked, Held};
+ghost use Rattle.flow_link.specs.declared.phase.Phase.TheVariants.{Idle, Posted, Offered, Postponed, Wanted, Asked};
+ghost use Rattle.flow_link.specs.declared.phase.Phase.TheVariants.{Held};
 ghost use Rattle.flow_link.specs.Phase.{phase_after, message_id, code_of, id_of, word_of_phase, IsPhase};
 
 use flow_value::{MAX_ID, MessageHeader};

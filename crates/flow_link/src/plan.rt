@@ -115,9 +115,9 @@ impl PlanFault {
 
 /// A network that was checked.
 ///
-/// Blocks have the numbers of their places in the draft. So have links; after them comes a link for each input, and then
-/// one for each exit, both in the order of their blocks. Contracts see the plan as its layout. It is well-formed, and uses only
-/// what is built.
+/// Blocks have the numbers of their places in the draft. So have links; after them comes a link for each input, and
+/// then one for each exit, both in the order of their blocks. Contracts see the plan as its layout. It is well-formed,
+/// and uses only what is built.
 #[derive(Drop)]
 pub struct Plan<W> {
     blocks: Vec<BlockDef<W>>,

@@ -1,5 +1,5 @@
-//! Where something may be able to happen: a hint, which saves looking everywhere. Whoever takes a spot from it tests it; and
-//! nothing rests on all such spots being on it.
+//! Where something may be able to happen: a hint, which saves looking everywhere. Whoever takes a spot from it tests
+//! it; and nothing rests on all such spots being on it.
 ghost use Rattle.std.specs.Prelude.{◌≡◌, ◌<◌, IfSome, vec_len};
 
 use crate::event::Event;

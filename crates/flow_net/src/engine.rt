@@ -1,5 +1,6 @@
 //! Drives the blocks and links of a network: finds an event that may happen, does it, and goes on.
-ghost use Rattle.std.specs.Prelude.{◌≡◌, ◌≢◌, ℕ, ◌<◌, length, true, is_none, IsTrue, IfOk, IfErr, IfSome, IfNone, ◌↔◌, OnOk, OnErr, Err};
+ghost use Rattle.std.specs.Prelude.{◌≡◌, ◌≢◌, ℕ, ◌<◌, length, true, is_none, IsTrue, IfOk, IfErr, IfSome, IfNone, ◌↔◌};
+ghost use Rattle.std.specs.Prelude.{OnOk, OnErr, Err};
 ghost use Rattle.flow_link.specs.Planned.{layout_of};
 ghost use Rattle.flow_net.specs.Events.{after, event_at_link, event_at_block};
 ghost use Rattle.flow_net.specs.Seen.{works_of};
@@ -65,7 +66,9 @@ impl<W: Work> Engine<W> {
     /// The first event that may happen at a link.
     fn event_at_links(&self) -> Result<Option<Event<W>>, NetFault>
         ensures enabled { IfOk result (λ next. IfSome next (MayHappen (layout_of self.now.plan) self.now.parts)) }
-        ensures none { IfOk result (λ next. IfNone next ((l : ℕ) → l < length (layout_of self.now.plan).links → is_none (event_at_link (layout_of self.now.plan) self.now.parts l) ≡ true)) }
+        ensures none { IfOk result (λ next. IfNone next
+            ((l : ℕ) → l < length (layout_of self.now.plan).links → is_none
+            (event_at_link (layout_of self.now.plan) self.now.parts l) ≡ true)) }
         ensures used_up { IfErr result (λ fault. (fault ≡ Ids) × NeedsId (layout_of self.now.plan) self.now.parts) }
     {
         for id in 0..self.plan.link_count() {
@@ -79,7 +82,8 @@ impl<W: Work> Engine<W> {
     /// The first event that may happen at a block.
     fn event_at_blocks(&self) -> Option<Event<W>>
         ensures enabled { IfSome result (MayHappen (layout_of self.now.plan) self.now.parts) }
-        ensures none { IfNone result ((b : ℕ) → b < length (layout_of self.now.plan).blocks → is_none (event_at_block (layout_of self.now.plan) self.now.parts b) ≡ true) }
+        ensures none { IfNone result ((b : ℕ) → b < length (layout_of self.now.plan).blocks → is_none
+            (event_at_block (layout_of self.now.plan) self.now.parts b) ≡ true) }
     {
         for number in 0..self.plan.block_count() {
             if let Some(event) = self.event_at_block(number) {
@@ -132,7 +136,8 @@ impl<W: Work> Engine<W> {
         requires fits { Fits (layout_of self.old.plan) self.old.parts }
         requires enabled { MayHappen (layout_of self.old.plan) self.old.parts event.now }
         ensures same_plan { self.new.plan ≡ self.old.plan }
-        ensures done { OnOk result (self.new.parts ≡ after (layout_of self.old.plan) (works_of W.meaning (layout_of self.old.plan)) self.old.parts event.now) }
+        ensures done { OnOk result (self.new.parts ≡ after (layout_of self.old.plan)
+            (works_of W.meaning (layout_of self.old.plan)) self.old.parts event.now) }
         ensures kept { OnErr result (self.new.parts ≡ self.old.parts) }
         ensures memory { IfErr result (λ fault. fault ≡ Memory) }
     {
@@ -151,11 +156,13 @@ impl<W: Work> Engine<W> {
         requires fits { Fits (layout_of self.old.plan) self.old.parts }
         ensures same_plan { self.new.plan ≡ self.old.plan }
         ensures enabled { OnOk result (MayHappen (layout_of self.old.plan) self.old.parts event.now) }
-        ensures done { OnOk result (self.new.parts ≡ after (layout_of self.old.plan) (works_of W.meaning (layout_of self.old.plan)) self.old.parts event.now) }
+        ensures done { OnOk result (self.new.parts ≡ after (layout_of self.old.plan)
+            (works_of W.meaning (layout_of self.old.plan)) self.old.parts event.now) }
         ensures kept { OnErr result (self.new.parts ≡ self.old.parts) }
         ensures why { IfErr result (IsWhyNot (layout_of self.old.plan) self.old.parts event.now) }
         ensures still_fits { Fits (layout_of self.old.plan) self.new.parts }
-        ensures goes_on { GoesOn (layout_of self.old.plan) (works_of W.meaning (layout_of self.old.plan)) 1 self.old.parts self.new.parts }
+        ensures goes_on { GoesOn (layout_of self.old.plan) (works_of W.meaning (layout_of self.old.plan)) 1
+            self.old.parts self.new.parts }
     {
         if self.parts.may_happen(&self.plan, event)? {
             self.go(alloc, event)
@@ -168,9 +175,11 @@ impl<W: Work> Engine<W> {
     pub(crate) fn settle(&mut self, alloc: Global, limit: u64) -> Result<Settled, NetFault>
         requires fits { Fits (layout_of self.old.plan) self.old.parts }
         ensures same_plan { self.new.plan ≡ self.old.plan }
-        ensures settled { IfOk result (Settles (layout_of self.old.plan) (works_of W.meaning (layout_of self.old.plan)) limit self.old.parts self.new.parts) }
+        ensures settled { IfOk result (Settles (layout_of self.old.plan)
+            (works_of W.meaning (layout_of self.old.plan)) limit self.old.parts self.new.parts) }
         ensures still_fits { Fits (layout_of self.old.plan) self.new.parts }
-        ensures goes_on { GoesOn (layout_of self.old.plan) (works_of W.meaning (layout_of self.old.plan)) limit self.old.parts self.new.parts }
+        ensures goes_on { GoesOn (layout_of self.old.plan) (works_of W.meaning (layout_of self.old.plan)) limit
+            self.old.parts self.new.parts }
         ensures used_up { result ≡ Err Ids → NeedsId (layout_of self.new.plan) self.new.parts }
         ensures never { result ≢ Err NotEnabled }
     {

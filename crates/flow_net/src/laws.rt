@@ -1,6 +1,7 @@
 //! Laws about the states of a network. Each stands on a function that does nothing: whoever calls it has the whole law.
 ghost use Rattle.flow_net.specs.Numbers.{BlocksFaultByNumber, WorksFaultByNumber};
-ghost use Rattle.flow_net.specs.Statements.{AllKeptIsLawful, EventsKeep, EventsKeepAll, FreshKeeps, FreshKeepsAll, KeptIsLawful, PlansLeadWell, QuietAtRest, RestIsQuiet, SchedulesGoWell};
+ghost use Rattle.flow_net.specs.Statements.{AllKeptIsLawful, EventsKeep, EventsKeepAll, FreshKeeps, FreshKeepsAll};
+ghost use Rattle.flow_net.specs.Statements.{KeptIsLawful, PlansLeadWell, QuietAtRest, RestIsQuiet, SchedulesGoWell};
 
 use flow_value::Work;
 
@@ -50,8 +51,8 @@ pub fn networks_at_rest_are_quiet<W>()
     ensures { RestIsQuiet W }
 {}
 
-/// Whatever events are asked for, in whatever order, from a network in which nothing has happened: the run so far is lawful,
-/// each link is in order, what was posted stays, and where nothing may happen any more the run is quiet.
+/// Whatever events are asked for, in whatever order, from a network in which nothing has happened: the run so far is
+/// lawful, each link is in order, what was posted stays, and where nothing may happen any more the run is quiet.
 pub fn every_schedule_is_lawful<W>()
     ensures { SchedulesGoWell W }
 {}

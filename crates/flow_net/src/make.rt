@@ -1,6 +1,7 @@
-//! Makes a network in which nothing has happened. All memory is taken first, so that what came in goes back where there is
-//! none.
-ghost use Rattle.std.specs.Prelude.{◌≡◌, ◌+◌, ◌<◌, ◌≤◌, true, cond, Some, All, [], ◌∷◌, ◌++◌, length, map, is_some, count_by, position, replicate, vec_capacity, IfOk, IfErr};
+//! Makes a network in which nothing has happened. All memory is taken first, so that what came in goes back where there
+//! is none.
+ghost use Rattle.std.specs.Prelude.{◌≡◌, ◌+◌, ◌<◌, ◌≤◌, true, cond, Some, All, [], ◌∷◌, ◌++◌, length, map, is_some};
+ghost use Rattle.std.specs.Prelude.{count_by, position, replicate, vec_capacity, IfOk, IfErr};
 ghost use Rattle.std.specs.Vec.Iter.{into_iter_items};
 ghost use Rattle.flow_link.specs.Plan.{begins_at, ends_at};
 ghost use Rattle.flow_link.specs.Planned.{layout_of};
@@ -33,8 +34,8 @@ impl<W: Work> Net<W> {
     ghost use Rattle.flow_net.specs.Net.{layout_in, parts_of, run_of};
     ghost use Rattle.flow_net.specs.Fresh.{IsFresh};
 
-    /// A network in which nothing has happened, with these posted values and endings: one list for each block that is an input,
-    /// in the order of the blocks. For want of memory both come back.
+    /// A network in which nothing has happened, with these posted values and endings: one list for each block that is
+    /// an input, in the order of the blocks. For want of memory both come back.
     pub fn new(
         alloc: Global,
         plan: Plan<W>,
@@ -71,7 +72,8 @@ impl<W: Work> Net<W> {
 /// Whatever a network of this plan needs memory for.
 fn fresh_frame<W>(alloc: Global, plan: &Plan<W>) -> Result<Frame, AllocError>
     ensures nodes { IfOk result (λ frame. frame.nodes.items ≡ nodes_of (layout_of plan.now)) }
-    ensures lines { IfOk result (λ frame. frame.lines.items ≡ replicate (length (layout_of plan.now).links) fresh_line) }
+    ensures lines { IfOk result (λ frame. frame.lines.items ≡ replicate (length (layout_of plan.now).links)
+        fresh_line) }
     ensures no_feeds { IfOk result (λ frame. frame.feeds.items ≡ []) }
     ensures room { IfOk result (λ frame. length (layout_of plan.now).blocks ≤ vec_capacity frame.feeds) }
 {
@@ -211,7 +213,8 @@ fn fill_feeds<W>(
 fn next_feed(is_input: bool, rest: &mut IntoIter<Posted>) -> Option<Feed>
     requires { is_input ≡ true → 0 < length (into_iter_items rest.old) }
     ensures place { is_some result ≡ is_input }
-    ensures taken { map input_of (into_iter_items rest.old) ≡ input_traces (result ∷ []) ++ map input_of (into_iter_items rest.new) }
+    ensures taken { map input_of (into_iter_items rest.old) ≡ input_traces (result ∷ []) ++ map input_of
+        (into_iter_items rest.new) }
     ensures count { length (into_iter_items rest.old) ≡ cond is_input 1 0 + length (into_iter_items rest.new) }
     ensures not_begun { (feed : FeedState) → result ≡ Some feed → HasNotBegun feed }
 {

@@ -40,12 +40,14 @@ impl<W: Work> Net<W> {
     ghost use Rattle.flow_net.specs.declared.fault.NetFault.TheVariants.{NotEnabled, Ids};
     ghost use Rattle.flow_net.specs.declared.posted.Settled.TheVariants as Settled;
 
-    /// Does events until nothing may happen any more, or as many as the limit are done. After a refusal the events that were
-    /// done stay.
+    /// Does events until nothing may happen any more, or as many as the limit are done. After a refusal the events that
+    /// were done stay.
     pub fn settle(&mut self, alloc: Global, limit: u64) -> Result<Settled, NetFault>
         ensures same_plan { layout_in self.new ≡ layout_in self.old }
-        ensures settled { IfOk result (Settles (layout_in self.old) (works_of W.meaning (layout_in self.old)) limit (parts_of self.old) (parts_of self.new)) }
-        ensures goes_on { GoesOn (layout_in self.old) (works_of W.meaning (layout_in self.old)) limit (parts_of self.old) (parts_of self.new) }
+        ensures settled { IfOk result (Settles (layout_in self.old) (works_of W.meaning (layout_in self.old)) limit
+            (parts_of self.old) (parts_of self.new)) }
+        ensures goes_on { GoesOn (layout_in self.old) (works_of W.meaning (layout_in self.old)) limit
+            (parts_of self.old) (parts_of self.new) }
         ensures lawful { Lawful (run_of W.meaning self.new) }
         ensures quiet { result ≡ Ok Settled.Quiet → Quiet (run_of W.meaning self.new) }
         ensures at_rest { result ≡ Ok Settled.Quiet → ∥ AtRest (layout_in self.new) (parts_of self.new) ∥₁ }
@@ -56,8 +58,8 @@ impl<W: Work> Net<W> {
         self.engine.settle(alloc, limit)
     }
 
-    /// Does this event, if it may happen. One that names a link, block or port which the plan has not is not enabled. After a
-    /// refusal the network is as it was.
+    /// Does this event, if it may happen. One that names a link, block or port which the plan has not is not enabled.
+    /// After a refusal the network is as it was.
     pub fn event(
         &mut self,
         alloc: Global,
@@ -65,7 +67,8 @@ impl<W: Work> Net<W> {
     ) -> Result<Stepped<W>, (Event<W>, NetFault)>
         ensures same_plan { layout_in self.new ≡ layout_in self.old }
         ensures enabled { OnOk result (MayHappen (layout_in self.old) (parts_of self.old) event) }
-        ensures moved { OnOk result (parts_of self.new ≡ after (layout_in self.old) (works_of W.meaning (layout_in self.old)) (parts_of self.old) event) }
+        ensures moved { OnOk result (parts_of self.new ≡ after (layout_in self.old)
+            (works_of W.meaning (layout_in self.old)) (parts_of self.old) event) }
         ensures kept { OnErr result (parts_of self.new ≡ parts_of self.old) }
         ensures why { IfErr result (λ refused. IsWhyNot (layout_in self.old) (parts_of self.old) event refused.1) }
         ensures back { IfErr result (λ refused. refused.0 ≡ event) }
@@ -112,7 +115,8 @@ impl<W: Work> Net<W> {
     /// What was posted to the input of this block, in order; none where the block is no input.
     pub fn posted(&self, block: usize) -> &[Value]
         requires { block < length (layout_in self.now).blocks }
-        ensures posted { (block_of (run_of W.meaning self.now) block).input ≡ true → result.now ≡ (input_of (run_of W.meaning self.now) block).posted }
+        ensures posted { (block_of (run_of W.meaning self.now) block).input ≡ true → result.now ≡
+            (input_of (run_of W.meaning self.now) block).posted }
         ensures none { (block_of (run_of W.meaning self.now) block).input ≡ false → result.now ≡ [] }
     {
         match self.engine.parts.feed(block) {

@@ -1,11 +1,15 @@
 //! What may happen next, at a link and at a block: pure tests, which neither change anything nor take memory.
-ghost use Rattle.std.specs.Prelude.{◌≡◌, suc, ◌<◌, ◌≤◌, ◌^◌, length, true, Some, None, option_map, is_some, IfOk, IfErr, IsTrue, ◌↔◌, OnErr, IfSome, IfNone, unwrap_or, not, ◌&&◌, is_none};
+ghost use Rattle.std.specs.Prelude.{◌≡◌, suc, ◌<◌, ◌≤◌, ◌^◌, length, true, Some, None, option_map, is_some, IfOk};
+ghost use Rattle.std.specs.Prelude.{IfErr, IsTrue, ◌↔◌, OnErr, IfSome, IfNone, unwrap_or, not, ◌&&◌, is_none};
 ghost use Rattle.flow_value.specs.declared.value.Value.{Value};
 ghost use Rattle.flow_link.specs.Composes.{is_coming};
 ghost use Rattle.flow_link.specs.declared.phase.Move.TheVariants.{Offer};
 ghost use Rattle.flow_link.specs.Lists.{is_empty};
 ghost use Rattle.flow_link.specs.Planned.{layout_of};
-ghost use Rattle.flow_net.specs.Events.{end_as, move_of_node, move_of_feed, is_hand, is_at_home, brings_completion, fault_brought, head_of, offer_of, expects_at, move_of_source, refusal_at, move_at, next_move, stage_into, stage_out, may_make, may_complete, next_fault, may_finish, event_at_link, value_at, has_stopped};
+ghost use Rattle.flow_net.specs.Events.{end_as, move_of_node, move_of_feed, is_hand, is_at_home, brings_completion};
+ghost use Rattle.flow_net.specs.Events.{fault_brought, head_of, offer_of, expects_at, move_of_source, refusal_at};
+ghost use Rattle.flow_net.specs.Events.{move_at, next_move, stage_into, stage_out, may_make, may_complete, next_fault};
+ghost use Rattle.flow_net.specs.Events.{may_finish, event_at_link, value_at, has_stopped};
 ghost use Rattle.flow_net.specs.declared.fault.NetFault.TheVariants.{Ids};
 ghost use Rattle.flow_net.specs.Parts.{node_at, feed_at, line_at, fresh_node, fresh_line};
 ghost use Rattle.flow_net.specs.There.{MayHappen, NeedsId};
@@ -101,7 +105,8 @@ impl Node {
     /// What it does at the link that leads out of it, where nothing is under way.
     fn next_move(&self, passes: bool, last: Option<MessageHeader>) -> Result<Option<Move>, NetFault>
         ensures found { IfOk result (λ next. next ≡ move_of_node passes self.now (unwrap_or last 0)) }
-        ensures offers { OnErr result (move_of_node passes self.now (unwrap_or last 0) ≡ Some (Offer (suc (unwrap_or last 0)))) }
+        ensures offers { OnErr result (move_of_node passes self.now (unwrap_or last 0) ≡ Some
+            (Offer (suc (unwrap_or last 0)))) }
         ensures used_up { IfErr result (λ fault. (fault ≡ Ids) × (2 ^ 59 ≤ suc (unwrap_or last 0))) }
     {
         match self.state {
@@ -140,7 +145,8 @@ impl Feed {
     /// What it does at its link, where nothing is under way.
     fn next_move(&self, passes: bool, last: Option<MessageHeader>) -> Result<Option<Move>, NetFault>
         ensures found { IfOk result (λ next. next ≡ move_of_feed passes (Some self.now) (unwrap_or last 0)) }
-        ensures offers { OnErr result (move_of_feed passes (Some self.now) (unwrap_or last 0) ≡ Some (Offer (suc (unwrap_or last 0)))) }
+        ensures offers { OnErr result (move_of_feed passes (Some self.now) (unwrap_or last 0) ≡ Some
+            (Offer (suc (unwrap_or last 0)))) }
         ensures used_up { IfErr result (λ fault. (fault ≡ Ids) × (2 ^ 59 ≤ suc (unwrap_or last 0))) }
     {
         if self.sent < self.values.len() {
@@ -246,8 +252,10 @@ impl Parts {
         link: &Link,
         last: Option<MessageHeader>,
     ) -> Result<Option<Move>, NetFault>
-        ensures found { IfOk result (λ next. next ≡ move_of_source self.now link.now.propagate link.now.source (unwrap_or last 0)) }
-        ensures offers { OnErr result (move_of_source self.now link.now.propagate link.now.source (unwrap_or last 0) ≡ Some (Offer (suc (unwrap_or last 0)))) }
+        ensures found { IfOk result (λ next. next ≡ move_of_source self.now link.now.propagate link.now.source
+            (unwrap_or last 0)) }
+        ensures offers { OnErr result (move_of_source self.now link.now.propagate link.now.source (unwrap_or last 0) ≡
+            Some (Offer (suc (unwrap_or last 0)))) }
         ensures used_up { IfErr result (λ fault. (fault ≡ Ids) × (2 ^ 59 ≤ suc (unwrap_or last 0))) }
     {
         match link.source {
@@ -279,7 +287,8 @@ impl Parts {
     pub(crate) fn next_move<W>(&self, plan: &Plan<W>, id: usize) -> Result<Option<Move>, NetFault>
         requires { id < length (layout_of plan.now).links }
         ensures found { IfOk result (λ next. next ≡ next_move (layout_of plan.now) self.now id) }
-        ensures offers { OnErr result (next_move (layout_of plan.now) self.now id ≡ Some (Offer (suc (line_at self.now id).last))) }
+        ensures offers { OnErr result (next_move (layout_of plan.now) self.now id ≡ Some
+            (Offer (suc (line_at self.now id).last))) }
         ensures used_up { IfErr result (λ fault. (fault ≡ Ids) × (2 ^ 59 ≤ suc (line_at self.now id).last)) }
     {
         let link = plan.link(id);
@@ -292,7 +301,8 @@ impl Parts {
     /// The move that is next at this link, in its phase.
     fn move_at(&self, link: &Link, line: &Line) -> Result<Option<Move>, NetFault>
         ensures found { IfOk result (λ next. next ≡ move_at self.now link.now line.now line.now.phase) }
-        ensures offers { OnErr result (move_at self.now link.now line.now line.now.phase ≡ Some (Offer (suc line.now.last))) }
+        ensures offers { OnErr result (move_at self.now link.now line.now line.now.phase ≡ Some
+            (Offer (suc line.now.last))) }
         ensures used_up { IfErr result (λ fault. (fault ≡ Ids) × (2 ^ 59 ≤ suc line.now.last)) }
     {
         let next = match line.state.phase {
@@ -311,8 +321,8 @@ impl Parts {
         Ok(next)
     }
 
-    /// Where the target's end stands of the link that leads into this block: whether a message is on its way, whether the
-    /// link has ended with completion, and the fault with which it has ended.
+    /// Where the target's end stands of the link that leads into this block: whether a message is on its way, whether
+    /// the link has ended with completion, and the fault with which it has ended.
     fn coming(&self, node: &Node) -> Coming
         ensures on_its_way { result.on_its_way ≡ is_coming (stage_into self.now node.now) }
         ensures completion { result.completion ≡ brings_completion (stage_into self.now node.now) }
@@ -409,8 +419,8 @@ impl Parts {
         }
     }
 
-    /// Whether this event may happen. Ids says that it may not, and that the message which its link would offer next has no
-    /// id left.
+    /// Whether this event may happen. Ids says that it may not, and that the message which its link would offer next
+    /// has no id left.
     pub(crate) fn may_happen<W>(&self, plan: &Plan<W>, event: &Event<W>) -> Result<bool, NetFault>
         ensures told { IfOk result (λ may. IsTrue may ↔ MayHappen (layout_of plan.now) self.now event.now) }
         ensures used_up { IfErr result (λ fault. (fault ≡ Ids) × NeedsId (layout_of plan.now) self.now) }

@@ -1,12 +1,15 @@
 //! What a block does by itself: its side of each move, and its own steps.
 //!
-//! A move that takes memory has two calls. `prepare_..` takes it, and may be refused; what follows takes none, and does not
-//! fail. An offer prepares its hand-over too, and a wish the taking of what comes.
-ghost use Rattle.std.specs.Prelude.{◌≡◌, ◌∷◌, [], true, Some, option_map, OnOk, OnErr, IfOk, IfErr, is_some, Ok, ◌<◌, length, false};
+//! A move that takes memory has two calls. `prepare_..` takes it, and may be refused; what follows takes none, and does
+//! not fail. An offer prepares its hand-over too, and a wish the taking of what comes.
+ghost use Rattle.std.specs.Prelude.{◌≡◌, ◌∷◌, [], true, Some, option_map, OnOk, OnErr, IfOk, IfErr, is_some, Ok, ◌<◌};
+ghost use Rattle.std.specs.Prelude.{length, false};
 ghost use Rattle.flow_link.specs.declared.draft.BlockKind.TheVariants.{Transform};
 ghost use Rattle.flow_link.specs.Making.{result_of};
 ghost use Rattle.flow_net.specs.Seen.{result_by_number};
-ghost use Rattle.flow_net.specs.Events.{first_of, refusal_by, offers, gives, expecting, takes, sets_out, hands_on, works, yields, transforms, applies, completes, faults, finishes, sends, is_open, has_stopped, is_completing};
+ghost use Rattle.flow_net.specs.Events.{first_of, refusal_by, offers, gives, expecting, takes, sets_out, hands_on};
+ghost use Rattle.flow_net.specs.Events.{works, yields, transforms, applies, completes, faults, finishes, sends};
+ghost use Rattle.flow_net.specs.Events.{is_open, has_stopped, is_completing};
 ghost use Rattle.flow_net.specs.Stage.{refusal_of};
 ghost use Rattle.flow_net.specs.States.{state_by};
 ghost use Rattle.flow_net.specs.declared.fault.NetFault.TheVariants.{Memory};
@@ -150,7 +153,8 @@ impl Node {
 
     /// Applies this work to the next message that it holds, and keeps the results, or learns of its fault.
     pub(crate) fn apply<W: Work>(&mut self, alloc: Global, work: &W) -> Result<(), NetFault>
-        ensures done { OnOk result (self.new ≡ applies (λ value. result_by_number (W.meaning work.now value)) self.old) }
+        ensures done { OnOk result (self.new ≡ applies (λ value. result_by_number (W.meaning work.now value))
+            self.old) }
         ensures kept { OnErr result (self.new ≡ self.old) }
         ensures memory { IfErr result (λ fault. fault ≡ Memory) }
     {
@@ -196,7 +200,8 @@ impl Node {
 
     /// Applies this work to the next message that it holds, and has the result to give, or learns of its fault.
     pub(crate) fn transform<W: Work>(&mut self, alloc: Global, work: &W) -> Result<(), NetFault>
-        ensures done { OnOk result (self.new ≡ transforms (λ value. result_of Transform (result_by_number (W.meaning work.now value))) self.old) }
+        ensures done { OnOk result (self.new ≡ transforms
+            (λ value. result_of Transform (result_by_number (W.meaning work.now value))) self.old) }
         ensures kept { OnErr result (self.new ≡ self.old) }
         ensures memory { IfErr result (λ fault. fault ≡ Memory) }
     {

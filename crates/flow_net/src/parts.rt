@@ -41,9 +41,24 @@ impl Model for Node {
 
     ghost coded = { Prim.hlevel (codes, mark.the_row.coded, content.the_row.coded) };
 
-    ghost view = { λ n. record { into = n.into; out = n.out; journal = n.journal.items; held = n.held.items; left = n.left.items; recorded = n.record.items; fault = n.fault; state = n.state; offer = n.offer; expects = n.expects } };
+    ghost view = { λ n. record {
+      into = n.into;
+      out = n.out;
+      journal = n.journal.items;
+      held = n.held.items;
+      left =
+          n.left.items;
+      recorded = n.record.items;
+      fault = n.fault;
+      state = n.state;
+      offer = n.offer;
+      expects =
+          n.expects;
+    } };
 
-    ghost invariant = { λ n. (n.state ≡ state_by n.journal.items) × (vec_len n.journal + cond (is_some n.offer) 1 0 + cond n.expects 1 0 ≤ vec_capacity n.journal) × (deque_len n.held + cond n.expects 1 0 ≤ deque_capacity n.held) };
+    ghost invariant = { λ n. (n.state ≡ state_by n.journal.items) ×
+        (vec_len n.journal + cond (is_some n.offer) 1 0 + cond n.expects 1 0 ≤ vec_capacity n.journal) ×
+        (deque_len n.held + cond n.expects 1 0 ≤ deque_capacity n.held) };
 }
 
 /// The values that are posted to a block.
@@ -92,7 +107,14 @@ impl Model for Line {
 
     ghost coded = { Prim.hlevel (codes, mark.the_row.coded, content.the_row.coded) };
 
-    ghost view = { λ l. record { phase = l.state.phase; slot = l.state.slot; source = source_stage_of l.source; target = target_stage_of l.target; last = unwrap_or l.last 0 } };
+    ghost view = { λ l. record {
+      phase = l.state.phase;
+      slot = l.state.slot;
+      source = source_stage_of l.source;
+      target
+          = target_stage_of l.target;
+      last = unwrap_or l.last 0;
+    } };
 }
 
 /// All blocks and links by their numbers, and for each block its input, if it is one.

@@ -1,5 +1,5 @@
-//! Where each end of a link stands: what it last found or wrote there. The other end may have moved since, until this end
-//! looks.
+//! Where each end of a link stands: what it last found or wrote there. The other end may have moved since, until this
+//! end looks.
 ghost use Rattle.std.specs.Prelude.{◌≡◌, true};
 ghost use Rattle.flow_link.specs.Looks.{source_finds, target_finds};
 ghost use Rattle.flow_net.specs.Keeps.{is_in_use};

@@ -2,7 +2,10 @@
 //! that is refused has changed nothing.
 ghost use Rattle.std.specs.Prelude.{◌≡◌, ◌<◌, length, true, is_some, OnOk, OnErr, IfErr};
 ghost use Rattle.flow_link.specs.Planned.{layout_of};
-ghost use Rattle.flow_net.specs.Events.{offered, wanted, refused, given, taken_out, closed, ended, head_of, offer_of, expects_at, with_offer, with_wish, after_offer, after_want, after_refusal, after_give, after_opening, after_closing, after_move, refusal_at, takes_in_hand, closed_by, with_node, made_by, after};
+ghost use Rattle.flow_net.specs.Events.{offered, wanted, refused, given, taken_out, closed, ended, head_of, offer_of};
+ghost use Rattle.flow_net.specs.Events.{expects_at, with_offer, with_wish, after_offer, after_want, after_refusal};
+ghost use Rattle.flow_net.specs.Events.{after_give, after_opening, after_closing, after_move, refusal_at};
+ghost use Rattle.flow_net.specs.Events.{takes_in_hand, closed_by, with_node, made_by, after};
 ghost use Rattle.flow_link.specs.declared.phase.Move.TheVariants.{Give, Close};
 ghost use Rattle.flow_net.specs.Seen.{works_of};
 ghost use Rattle.flow_net.specs.Parts.{line_at};
@@ -178,7 +181,8 @@ impl Parts {
         requires there { SourceIsThere self.old source }
         requires head { is_some (head_of self.old source) ≡ true }
         requires ready { is_some (offer_of self.old source) ≡ true }
-        ensures { self.new ≡ after_give self.old id source (line_at self.old id).phase (head_of self.old source) (offer_of self.old source) }
+        ensures { self.new ≡ after_give self.old id source (line_at self.old id).phase (head_of self.old source)
+            (offer_of self.old source) }
     {
         let phase = self.lines[id].state.phase;
         if let Phase::Wanted(header) = phase {
@@ -258,7 +262,8 @@ impl Parts {
     ) -> Result<(), NetFault>
         requires known { number < length (layout_of plan.now).blocks }
         requires there { number < length self.old.nodes }
-        ensures done { OnOk result (self.new ≡ with_node number (made_by (layout_of plan.now) (works_of W.meaning (layout_of plan.now)) self.old number) self.old) }
+        ensures done { OnOk result (self.new ≡ with_node number
+            (made_by (layout_of plan.now) (works_of W.meaning (layout_of plan.now)) self.old number) self.old) }
         ensures kept { OnErr result (self.new ≡ self.old) }
         ensures memory { IfErr result (λ fault. fault ≡ Memory) }
     {
@@ -286,7 +291,8 @@ impl Parts {
     ) -> Result<(), NetFault>
         requires fits { Fits (layout_of plan.now) self.old }
         requires enabled { MayHappen (layout_of plan.now) self.old event.now }
-        ensures done { OnOk result (self.new ≡ after (layout_of plan.now) (works_of W.meaning (layout_of plan.now)) self.old event.now) }
+        ensures done { OnOk result (self.new ≡ after (layout_of plan.now) (works_of W.meaning (layout_of plan.now))
+            self.old event.now) }
         ensures kept { OnErr result (self.new ≡ self.old) }
         ensures memory { IfErr result (λ fault. fault ≡ Memory) }
     {

@@ -145,7 +145,8 @@ fn posted_for(
     texts: &str,
     ending: Ending,
 ) -> Result<Vec<Posted>, Fail>
-    ensures { IfOk result (λ posted. length posted.items ≡ count_by (λ block. block.input) (layout_of plan.now).blocks) }
+    ensures { IfOk result (λ posted. length posted.items ≡ count_by (λ block. block.input)
+        (layout_of plan.now).blocks) }
 {
     let mut posted = Vec::new(alloc);
     for number in 0..plan.block_count() {

@@ -1,2 +1,2 @@
-pub mod PipelineLemmas
-pub mod SplitLemmas
+pub mod CutInTwo
+pub mod InputsAsPosted

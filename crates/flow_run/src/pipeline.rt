@@ -15,7 +15,8 @@ use std::io::{Read, Write};
 
 /// Reads a network, runs it over the records until it is quiet or `limit` events are done, and writes its report.
 ///
-/// The writer should gather what is written, since the report comes in many small pieces. One thread does the work for now.
+/// The writer should gather what is written, since the report comes in many small pieces. One thread does the work for
+/// now.
 pub fn run<R: Read + Drop, W: Write>(
     alloc: Global,
     plan: &[u8],
@@ -25,7 +26,8 @@ pub fn run<R: Read + Drop, W: Write>(
     limit: u64,
 ) -> Result<Ran, RunRefusal>
     requires { (1 ≤ workers) × (workers ≤ 64) }
-    ensures reported { IfOk result (IsReported plan.now (R.remaining reader) limit (Appends (W.contents writer.old) (W.contents writer.new))) }
+    ensures reported { IfOk result (IsReported plan.now (R.remaining reader) limit
+        (Appends (W.contents writer.old) (W.contents writer.new))) }
     ensures refused { IfErr result (IsUnreported plan.now (R.remaining reader) limit) }
     ensures left { IfErr result (λ refusal. IsLeft refusal (W.contents writer.old) (W.contents writer.new)) }
 {

@@ -8,7 +8,8 @@ use std::io::{Error, ErrorKind, Write};
 
 /// Writes all of the bytes, again where a write was interrupted.
 ///
-/// A writer may do anything in `write_all`. Here it is asked for one `write` after another, each of which adds to what it holds.
+/// A writer may do anything in `write_all`. Here it is asked for one `write` after another, each of which adds to what
+/// it holds.
 pub fn write_bytes<W: Write>(writer: &mut W, bytes: &[u8]) -> io::Result<()>
     ensures written { OnOk result (Appends (W.contents writer.old) (W.contents writer.new) bytes.now) }
     ensures kept { StaysInFront (W.contents writer.old) (W.contents writer.new) }

@@ -1,9 +1,11 @@
 //! Reads records: each names an input and has a value for it.
-ghost use Rattle.std.specs.Prelude.{◌≡◌, ◌<◌, ◌+◌, ◌∷◌, ◌++◌, ◌⊎◌, [], length, replicate, get_or, set, IfOk, IfErr, OnOk, IfSome, MatchOption, MatchResult, Some, cond, position};
+ghost use Rattle.std.specs.Prelude.{◌≡◌, ◌<◌, ◌+◌, ◌∷◌, ◌++◌, ◌⊎◌, [], length, replicate, get_or, set, IfOk, IfErr};
+ghost use Rattle.std.specs.Prelude.{OnOk, IfSome, MatchOption, MatchResult, Some, cond, position};
 ghost use Rattle.std.specs.Str.{IsUtf8, bytes_eq};
 ghost use Rattle.csv.specs.Records.{fields_of};
 ghost use Rattle.flow_link.specs.Planned.{layout_of};
-ghost use Rattle.flow_text.specs.Records.{texts_of, input_names, input_named, IsFirstOf, HasFault, PostsTo, PostAll, IsOfRecords, Explains, room, posted_values, posted_endings};
+ghost use Rattle.flow_text.specs.Records.{texts_of, input_names, input_named, IsFirstOf, HasFault, PostsTo, PostAll};
+ghost use Rattle.flow_text.specs.Records.{IsOfRecords, Explains, room, posted_values, posted_endings};
 
 use crate::fault::{TextFault, TextRefusal};
 use csv::{ByteRecord, Error, ErrorKind, ReaderBuilder};
@@ -26,7 +28,8 @@ fn names_of<'p>(alloc: Global, plan: &'p Plan<Steps>) -> Result<Vec<&'p str>, Te
 
 fn push_name<'p>(names: &mut Vec<&'p str>, block: &'p BlockDef<Steps>) -> Result<(), TextRefusal>
     ensures refused { IfErr result (λ refusal. refusal ≡ TextRefusal.Memory) }
-    ensures names { OnOk result (texts_of names.new.items ≡ texts_of names.old.items ++ cond block.now.input (block.now.name ∷ []) []) }
+    ensures names { OnOk result (texts_of names.new.items ≡ texts_of names.old.items ++ cond block.now.input
+        (block.now.name ∷ []) []) }
 {
     if block.input {
         if names.push(block.name.as_str()).is_err() {
@@ -57,7 +60,8 @@ fn name_place(names: &[&str], name: &str) -> Option<usize>
 
 fn text_field(row: &ByteRecord, place: usize) -> Option<&str>
     requires { place < length (fields_of row.now) }
-    ensures { MatchOption result (IsUtf8 (get_or (fields_of row.now) place []) → ⊥) (λ text. (text.now ≡ get_or (fields_of row.now) place []) × IsUtf8 text.now) }
+    ensures { MatchOption result (IsUtf8 (get_or (fields_of row.now) place []) → ⊥)
+        (λ text. (text.now ≡ get_or (fields_of row.now) place []) × IsUtf8 text.now) }
 {
     match row.get(place) {
         Some(field) => match str::from_utf8(field) {
@@ -103,7 +107,8 @@ fn post(
 ) -> Result<(), TextRefusal>
     requires { input < length posted.old.items }
     ensures values { OnOk result (posted_values posted.new.items
-        ≡ set (posted_values posted.old.items) input (get_or (posted_values posted.old.items) input [] ++ Value.Text text.now ∷ [])) }
+        ≡ set (posted_values posted.old.items) input
+        (get_or (posted_values posted.old.items) input [] ++ Value.Text text.now ∷ [])) }
     ensures endings { OnOk result (posted_endings posted.new.items ≡ posted_endings posted.old.items) }
     ensures room { OnOk result (room (posted_values posted.new.items) < room (posted_values posted.old.items)) }
     ensures refused { IfErr result (λ refusal. refusal ≡ TextRefusal.Memory) }
@@ -152,10 +157,13 @@ fn read_named<R: Read + Drop>(
     reader: R,
     names: &[&str],
 ) -> Result<Vec<Posted>, TextRefusal>
-    ensures endings { IfOk result (λ posted. posted_endings posted.items ≡ replicate (length names.now) Ending.Complete) }
-    ensures values { IfOk result (λ posted. IfSome (R.remaining reader) (λ bytes. PostAll (texts_of names.now) bytes (posted_values posted.items))) }
+    ensures endings { IfOk result (λ posted. posted_endings posted.items ≡ replicate (length names.now)
+        Ending.Complete) }
+    ensures values { IfOk result (λ posted. IfSome (R.remaining reader)
+        (λ bytes. PostAll (texts_of names.now) bytes (posted_values posted.items))) }
     ensures of_records { IfErr result IsOfRecords }
-    ensures refused { IfErr result (λ refusal. IfSome (R.remaining reader) (λ bytes. Explains (texts_of names.now) bytes refusal)) }
+    ensures refused { IfErr result (λ refusal. IfSome (R.remaining reader)
+        (λ bytes. Explains (texts_of names.now) bytes refusal)) }
 {
     let mut records = ReaderBuilder::new()
         .has_headers(false)
@@ -191,10 +199,13 @@ pub fn read_records<R: Read + Drop>(
     reader: R,
     plan: &Plan<Steps>,
 ) -> Result<Vec<Posted>, TextRefusal>
-    ensures endings { IfOk result (λ posted. posted_endings posted.items ≡ replicate (length (input_names (layout_of plan.now).blocks)) Ending.Complete) }
-    ensures values { IfOk result (λ posted. IfSome (R.remaining reader) (λ bytes. PostAll (input_names (layout_of plan.now).blocks) bytes (posted_values posted.items))) }
+    ensures endings { IfOk result (λ posted. posted_endings posted.items ≡ replicate
+        (length (input_names (layout_of plan.now).blocks)) Ending.Complete) }
+    ensures values { IfOk result (λ posted. IfSome (R.remaining reader)
+        (λ bytes. PostAll (input_names (layout_of plan.now).blocks) bytes (posted_values posted.items))) }
     ensures of_records { IfErr result IsOfRecords }
-    ensures refused { IfErr result (λ refusal. IfSome (R.remaining reader) (λ bytes. Explains (input_names (layout_of plan.now).blocks) bytes refusal)) }
+    ensures refused { IfErr result (λ refusal. IfSome (R.remaining reader)
+        (λ bytes. Explains (input_names (layout_of plan.now).blocks) bytes refusal)) }
 {
     let names = names_of(alloc, plan)?;
     read_named(alloc, reader, names.as_slice())

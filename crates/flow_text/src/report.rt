@@ -1,5 +1,6 @@
 //! Prints what a run left behind: the lines of a report, one for each part of a block.
-ghost use Rattle.std.specs.Prelude.{◌≡◌, ◌+◌, ◌-◌, true, false, ◌∷◌, ◌++◌, [], length, drop, take, count_by, ◌<◌, ◌≤◌, if◌then◌else◌, IfErr, OnOk};
+ghost use Rattle.std.specs.Prelude.{◌≡◌, ◌+◌, ◌-◌, true, false, ◌∷◌, ◌++◌, [], length, drop, take, count_by, ◌<◌, ◌≤◌};
+ghost use Rattle.std.specs.Prelude.{if◌then◌else◌, IfErr, OnOk};
 ghost use Rattle.std.specs.Option.{option_copied, option_to_list};
 ghost use Rattle.std.specs.Fmt.{decimal};
 ghost use Rattle.std.specs.Io.KnownBytes.{Appends};
@@ -8,7 +9,10 @@ ghost use Rattle.flow_link.specs.Layout.{input_link};
 ghost use Rattle.flow_link.specs.Plan.{begins_at, port_count};
 ghost use Rattle.flow_link.specs.Trace.{took_at, took_over, gave_over, block_of, link_of, held_at, left_at, waits_over};
 ghost use Rattle.flow_text.specs.Printed.{list_text};
-ghost use Rattle.flow_text.specs.Report.{state_word, block_line, input_line, port_line, held_line, link_line, exit_line, settled_line, last_line, is_input, is_output, between_count, input_link_number, exit_link_number, input_part, exit_part, last_part, all_ports, all_links, block_report, report, run_in};
+ghost use Rattle.flow_text.specs.Report.{state_word, block_line, input_line, port_line, held_line, link_line};
+ghost use Rattle.flow_text.specs.Report.{exit_line, settled_line, last_line, is_input, is_output, between_count};
+ghost use Rattle.flow_text.specs.Report.{input_link_number, exit_link_number, input_part, exit_part, last_part};
+ghost use Rattle.flow_text.specs.Report.{all_ports, all_links, block_report, report, run_in};
 
 use crate::fault::{TextFault, TextRefusal};
 use crate::piece::write_bytes;
@@ -42,7 +46,8 @@ fn given_over(mark: &Mark, link: usize) -> Option<&Value>
 }
 
 fn write_taken<W: Write>(writer: &mut W, journal: &[Mark], port: u32) -> io::Result<()>
-    ensures written { OnOk result (Appends (W.contents writer.old) (W.contents writer.new) (list_text (took_at port journal.now))) }
+    ensures written { OnOk result (Appends (W.contents writer.old) (W.contents writer.new)
+        (list_text (took_at port journal.now))) }
     ensures kept { StaysInFront (W.contents writer.old) (W.contents writer.new) }
 {
     write_bytes(writer, b"[")?;
@@ -60,7 +65,8 @@ fn write_taken<W: Write>(writer: &mut W, journal: &[Mark], port: u32) -> io::Res
 }
 
 fn write_given<W: Write>(writer: &mut W, journal: &[Mark], link: usize) -> io::Result<()>
-    ensures written { OnOk result (Appends (W.contents writer.old) (W.contents writer.new) (list_text (gave_over link journal.now))) }
+    ensures written { OnOk result (Appends (W.contents writer.old) (W.contents writer.new)
+        (list_text (gave_over link journal.now))) }
     ensures kept { StaysInFront (W.contents writer.old) (W.contents writer.new) }
 {
     write_bytes(writer, b"[")?;
@@ -79,7 +85,8 @@ fn write_given<W: Write>(writer: &mut W, journal: &[Mark], link: usize) -> io::R
 
 // The values of two parts, as one list.
 fn write_parts<W: Write>(writer: &mut W, front: &[Value], back: &[Value]) -> io::Result<()>
-    ensures written { OnOk result (Appends (W.contents writer.old) (W.contents writer.new) (list_text (front.now ++ back.now))) }
+    ensures written { OnOk result (Appends (W.contents writer.old) (W.contents writer.new)
+        (list_text (front.now ++ back.now))) }
     ensures kept { StaysInFront (W.contents writer.old) (W.contents writer.new) }
 {
     write_bytes(writer, b"[")?;
@@ -141,7 +148,8 @@ fn write_state<W: Write>(writer: &mut W, state: State) -> io::Result<()>
 
 /// Writes the line of a block's name and state.
 fn write_block_line<W: Write>(writer: &mut W, name: &str, state: State) -> io::Result<()>
-    ensures written { OnOk result (Appends (W.contents writer.old) (W.contents writer.new) (block_line name.now state)) }
+    ensures written { OnOk result (Appends (W.contents writer.old) (W.contents writer.new)
+        (block_line name.now state)) }
     ensures kept { StaysInFront (W.contents writer.old) (W.contents writer.new) }
 {
     write_bytes(writer, b"block ")?;
@@ -170,7 +178,8 @@ fn write_input_line<W: Write>(writer: &mut W, waits: &[Value]) -> io::Result<()>
 
 /// Writes the line of what was taken at a port.
 fn write_port_line<W: Write>(writer: &mut W, port: u32, journal: &[Mark]) -> io::Result<()>
-    ensures written { OnOk result (Appends (W.contents writer.old) (W.contents writer.new) (port_line port journal.now)) }
+    ensures written { OnOk result (Appends (W.contents writer.old) (W.contents writer.new)
+        (port_line port journal.now)) }
     ensures kept { StaysInFront (W.contents writer.old) (W.contents writer.new) }
 {
     write_bytes(writer, b"port ")?;
@@ -187,7 +196,8 @@ fn write_held_line<W: Write>(
     front: &[Value],
     back: &[Value],
 ) -> io::Result<()>
-    ensures written { OnOk result (Appends (W.contents writer.old) (W.contents writer.new) (held_line port (front.now ++ back.now))) }
+    ensures written { OnOk result (Appends (W.contents writer.old) (W.contents writer.new)
+        (held_line port (front.now ++ back.now))) }
     ensures kept { StaysInFront (W.contents writer.old) (W.contents writer.new) }
 {
     write_bytes(writer, b"held ")?;
@@ -199,7 +209,8 @@ fn write_held_line<W: Write>(
 
 /// Writes the line of what was given over a link.
 fn write_link_line<W: Write>(writer: &mut W, link: usize, journal: &[Mark]) -> io::Result<()>
-    ensures written { OnOk result (Appends (W.contents writer.old) (W.contents writer.new) (link_line link journal.now)) }
+    ensures written { OnOk result (Appends (W.contents writer.old) (W.contents writer.new)
+        (link_line link journal.now)) }
     ensures kept { StaysInFront (W.contents writer.old) (W.contents writer.new) }
 {
     write_bytes(writer, b"link ")?;
@@ -211,7 +222,8 @@ fn write_link_line<W: Write>(writer: &mut W, link: usize, journal: &[Mark]) -> i
 
 /// Writes the line of what was given over an exit.
 fn write_exit_line<W: Write>(writer: &mut W, link: usize, journal: &[Mark]) -> io::Result<()>
-    ensures written { OnOk result (Appends (W.contents writer.old) (W.contents writer.new) (exit_line link journal.now)) }
+    ensures written { OnOk result (Appends (W.contents writer.old) (W.contents writer.new)
+        (exit_line link journal.now)) }
     ensures kept { StaysInFront (W.contents writer.old) (W.contents writer.new) }
 {
     write_bytes(writer, b"exit ")?;
@@ -221,7 +233,8 @@ fn write_exit_line<W: Write>(writer: &mut W, link: usize, journal: &[Mark]) -> i
 
 /// Writes the line of the results that an action keeps.
 fn write_record_line<W: Write>(writer: &mut W, recorded: &[Value]) -> io::Result<()>
-    ensures written { OnOk result (Appends (W.contents writer.old) (W.contents writer.new) (last_line true recorded.now [])) }
+    ensures written { OnOk result (Appends (W.contents writer.old) (W.contents writer.new)
+        (last_line true recorded.now [])) }
     ensures kept { StaysInFront (W.contents writer.old) (W.contents writer.new) }
 {
     write_bytes(writer, b"record ")?;
@@ -231,7 +244,8 @@ fn write_record_line<W: Write>(writer: &mut W, recorded: &[Value]) -> io::Result
 
 /// Writes the line of the outputs that weren't given, in two parts.
 fn write_left_line<W: Write>(writer: &mut W, front: &[Value], back: &[Value]) -> io::Result<()>
-    ensures written { OnOk result (Appends (W.contents writer.old) (W.contents writer.new) (last_line false [] (front.now ++ back.now))) }
+    ensures written { OnOk result (Appends (W.contents writer.old) (W.contents writer.new)
+        (last_line false [] (front.now ++ back.now))) }
     ensures kept { StaysInFront (W.contents writer.old) (W.contents writer.new) }
 {
     write_bytes(writer, b"left ")?;
@@ -292,7 +306,8 @@ fn links_between(net: &Net<Steps>, links: usize) -> usize
 fn input_link_of(net: &Net<Steps>, block: usize) -> usize
     requires { block < length (run_in net.now).layout.blocks }
     ensures number { result ≡ input_link_number (run_in net.now) block }
-    ensures leads { (block_of (run_in net.now) block).input ≡ true → link_of (run_in net.now) result ≡ input_link block }
+    ensures leads { (block_of (run_in net.now) block).input ≡ true → link_of (run_in net.now) result ≡ input_link
+        block }
 {
     let links = link_count(net);
     links_between(net, links) + inputs_before(net, block)
@@ -321,7 +336,8 @@ fn ports_of(block: &BlockDef<Steps>) -> u32
 
 fn write_ports<W: Write>(writer: &mut W, net: &Net<Steps>, block: usize) -> io::Result<()>
     requires { block < length (run_in net.now).layout.blocks }
-    ensures written { OnOk result (Appends (W.contents writer.old) (W.contents writer.new) (all_ports (run_in net.now) block)) }
+    ensures written { OnOk result (Appends (W.contents writer.old) (W.contents writer.new)
+        (all_ports (run_in net.now) block)) }
     ensures kept { StaysInFront (W.contents writer.old) (W.contents writer.new) }
 {
     for port in 0..ports_of(block_at(net, block)) {
@@ -343,7 +359,8 @@ fn is_from(link: Link, block: usize) -> bool
 
 fn write_links<W: Write>(writer: &mut W, net: &Net<Steps>, block: usize) -> io::Result<()>
     requires { block < length (run_in net.now).layout.blocks }
-    ensures written { OnOk result (Appends (W.contents writer.old) (W.contents writer.new) (all_links (run_in net.now) block)) }
+    ensures written { OnOk result (Appends (W.contents writer.old) (W.contents writer.new)
+        (all_links (run_in net.now) block)) }
     ensures kept { StaysInFront (W.contents writer.old) (W.contents writer.new) }
 {
     for id in 0..links_between(net, link_count(net)) {
@@ -366,7 +383,8 @@ pub(crate) fn waiting(net: &Net<Steps>, block: usize) -> &[Value]
 
 fn write_input<W: Write>(writer: &mut W, net: &Net<Steps>, block: usize) -> io::Result<()>
     requires { block < length (run_in net.now).layout.blocks }
-    ensures written { OnOk result (Appends (W.contents writer.old) (W.contents writer.new) (input_part (run_in net.now) block)) }
+    ensures written { OnOk result (Appends (W.contents writer.old) (W.contents writer.new)
+        (input_part (run_in net.now) block)) }
     ensures kept { StaysInFront (W.contents writer.old) (W.contents writer.new) }
 {
     if block_at(net, block).input {
@@ -377,7 +395,8 @@ fn write_input<W: Write>(writer: &mut W, net: &Net<Steps>, block: usize) -> io::
 
 fn write_exit<W: Write>(writer: &mut W, net: &Net<Steps>, block: usize) -> io::Result<()>
     requires { block < length (run_in net.now).layout.blocks }
-    ensures written { OnOk result (Appends (W.contents writer.old) (W.contents writer.new) (exit_part (run_in net.now) block)) }
+    ensures written { OnOk result (Appends (W.contents writer.old) (W.contents writer.new)
+        (exit_part (run_in net.now) block)) }
     ensures kept { StaysInFront (W.contents writer.old) (W.contents writer.new) }
 {
     if block_at(net, block).output {
@@ -388,7 +407,8 @@ fn write_exit<W: Write>(writer: &mut W, net: &Net<Steps>, block: usize) -> io::R
 
 fn write_last<W: Write>(writer: &mut W, net: &Net<Steps>, block: usize) -> io::Result<()>
     requires { block < length (run_in net.now).layout.blocks }
-    ensures written { OnOk result (Appends (W.contents writer.old) (W.contents writer.new) (last_part (run_in net.now) block)) }
+    ensures written { OnOk result (Appends (W.contents writer.old) (W.contents writer.new)
+        (last_part (run_in net.now) block)) }
     ensures kept { StaysInFront (W.contents writer.old) (W.contents writer.new) }
 {
     match block_at(net, block).kind {
@@ -402,7 +422,8 @@ fn write_last<W: Write>(writer: &mut W, net: &Net<Steps>, block: usize) -> io::R
 
 fn write_block<W: Write>(writer: &mut W, net: &Net<Steps>, block: usize) -> io::Result<()>
     requires { block < length (run_in net.now).layout.blocks }
-    ensures written { OnOk result (Appends (W.contents writer.old) (W.contents writer.new) (block_report (run_in net.now) block)) }
+    ensures written { OnOk result (Appends (W.contents writer.old) (W.contents writer.new)
+        (block_report (run_in net.now) block)) }
     ensures kept { StaysInFront (W.contents writer.old) (W.contents writer.new) }
 {
     write_block_line(writer, block_at(net, block).name.as_str(), net.state(block))?;
@@ -415,7 +436,8 @@ fn write_block<W: Write>(writer: &mut W, net: &Net<Steps>, block: usize) -> io::
 
 /// Writes the report of a network that stopped so.
 fn write_lines<W: Write>(writer: &mut W, net: &Net<Steps>, settled: Settled) -> io::Result<()>
-    ensures written { OnOk result (Appends (W.contents writer.old) (W.contents writer.new) (report (run_in net.now) settled)) }
+    ensures written { OnOk result (Appends (W.contents writer.old) (W.contents writer.new)
+        (report (run_in net.now) settled)) }
     ensures kept { StaysInFront (W.contents writer.old) (W.contents writer.new) }
 {
     for block in 0..block_count(net) {
@@ -430,7 +452,8 @@ pub fn write_report<W: Write>(
     settled: Settled,
     writer: &mut W,
 ) -> Result<(), TextRefusal>
-    ensures written { OnOk result (Appends (W.contents writer.old) (W.contents writer.new) (report (run_in net.now) settled)) }
+    ensures written { OnOk result (Appends (W.contents writer.old) (W.contents writer.new)
+        (report (run_in net.now) settled)) }
     ensures refused { IfErr result (λ refusal. refusal ≡ TextRefusal.Fault TextFault.Write) }
     ensures kept { StaysInFront (W.contents writer.old) (W.contents writer.new) }
 {

@@ -110,7 +110,8 @@ fn piece_of(is_first: bool, text: &str) -> Option<ArrayString<PIECE>>
 
 // Writes a text as an item. Most texts go to the writer in one call.
 fn write_text<W: Write>(writer: &mut W, is_first: bool, text: &str) -> io::Result<()>
-    ensures written { OnOk result (Appends (W.contents writer.old) (W.contents writer.new) (comma_unless is_first ++ quoted text.now)) }
+    ensures written { OnOk result (Appends (W.contents writer.old) (W.contents writer.new)
+        (comma_unless is_first ++ quoted text.now)) }
     ensures kept { StaysInFront (W.contents writer.old) (W.contents writer.new) }
 {
     if let Some(piece) = piece_of(is_first, text) {
@@ -125,7 +126,8 @@ fn write_text<W: Write>(writer: &mut W, is_first: bool, text: &str) -> io::Resul
 /// Writes the value as an item of a list: with a comma before it, unless it is the first.
 #[cycle(printing)]
 pub(crate) fn write_item<W: Write>(writer: &mut W, is_first: bool, value: &Value) -> io::Result<()>
-    ensures written { OnOk result (Appends (W.contents writer.old) (W.contents writer.new) (comma_unless is_first ++ value_text value.now)) }
+    ensures written { OnOk result (Appends (W.contents writer.old) (W.contents writer.new)
+        (comma_unless is_first ++ value_text value.now)) }
     ensures kept { StaysInFront (W.contents writer.old) (W.contents writer.new) }
 {
     match value {

@@ -1,5 +1,5 @@
-pub mod FunctionLemmas
-pub mod GrammarLemmas
-pub mod NumberLemmas
-pub mod RowLemmas
-pub mod StepLemmas
+pub mod DigitsParsed
+pub mod ResultsGrow
+pub mod RowsDiffer
+pub mod WordsGrow
+pub mod WrittenOneWay

@@ -4,7 +4,8 @@ ghost use Rattle.std.specs.Fmt.{signed_decimal};
 ghost use Rattle.flow_value.specs.Step.{applied, summed, ints_below, numbers_of, one_int};
 ghost use Rattle.flow_value.specs.Meaning.{RunsAs};
 ghost use Rattle.flow_value.specs.StepRuns.{AppliesAs, GivesOne, int_in, row_in};
-ghost use Rattle.flow_value.specs.declared.step.Step.TheVariants.{ToInt, ToText, Add, Mul, Field, Len, Sum, Reject, Spread, Upto, Repeat};
+ghost use Rattle.flow_value.specs.declared.step.Step.TheVariants.{ToInt, ToText, Add, Mul, Field, Len, Sum, Reject};
+ghost use Rattle.flow_value.specs.declared.step.Step.TheVariants.{Spread, Upto, Repeat};
 
 use crate::number::read_int;
 use crate::value::{Row, Text, Value};

@@ -89,7 +89,8 @@ impl PartialEq for Steps {
 
     ghost eq = { pointwise ⟦<Step as PartialEq>⟧.eq };
 
-    ghost laws = { partial_equiv_from_equiv (decided _ (λ a b. slice_eq-Decides (λ x y. Prim.search rules) a b _ refl)) };
+    ghost laws = { partial_equiv_from_equiv
+        (decided _ (λ a b. slice_eq-Decides (λ x y. Prim.search rules) a b _ refl)) };
 
     fn eq(&self, other: &Steps) -> bool {
         self.as_slice() == other.as_slice()
@@ -114,7 +115,8 @@ impl Work for Steps {
 
     ghost meaning = { meaning_of };
 
-    ghost same_meaning = { λ a b same v. ap (λ steps. meaning_of steps v) ((slice_eq-Decides (λ x y. Prim.search rules) a b _ refl).0 same) };
+    ghost same_meaning = { λ a b same v. ap (λ steps. meaning_of steps v)
+        ((slice_eq-Decides (λ x y. Prim.search rules) a b _ refl).0 same) };
 
     ghost never_memory = { meaning_of-never };
 

@@ -111,8 +111,8 @@ impl Text {
         self.content.is_empty()
     }
 
-    /// The content, given back, or a copy of it where another text shares it; where there is no memory for the copy, the
-    /// text comes back.
+    /// The content, given back, or a copy of it where another text shares it; where there is no memory for the copy,
+    /// the text comes back.
     pub fn into_string(self, alloc: Global) -> Result<String, Text>
         ensures { MatchResult result (λ content. string_bytes content ≡ self) (λ back. back ≡ self) }
     {

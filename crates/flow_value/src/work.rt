@@ -90,7 +90,8 @@ pub trait Work: Eq + Send + Sync + Drop {
     fn copy(&self, alloc: Global) -> Result<Self, AllocError>
         ensures { IfOk result (λ work. IsTrue (Self.eq self.now work)) };
 
-    ghost same_meaning: { (first second : Self) → Self.eq first second ≡ true → (value : Value) → meaning first value ≡ meaning second value };
+    ghost same_meaning: { (first second : Self) → Self.eq first second ≡ true → (value : Value) → meaning first value
+        ≡ meaning second value };
 
     ghost never_memory: { (work : Self) (value : Value) → meaning work value ≢ Err Memory };
 }

@@ -3,7 +3,8 @@ ghost use Rattle.std.specs.Prelude.{◌≡◌, Some, true, map, option_map, is_s
 ghost use Rattle.toml.specs.Data.{as_table};
 ghost use Rattle.toml.specs.View.{view, table_view, items_view};
 ghost use Rattle.flow_text.specs.Keys.{all_items};
-ghost use Rattle.flow_text.specs.Read.{text_at, kind_at, flag_at, texts_of, texts, IsWork, IsBlock, IsLink, AreEach, is_sound, is_sound_in};
+ghost use Rattle.flow_text.specs.Read.{text_at, kind_at, flag_at, texts_of, texts, IsWork, IsBlock, IsLink, AreEach};
+ghost use Rattle.flow_text.specs.Read.{is_sound, is_sound_in};
 ghost use Rattle.flow_text.specs.Built.{IsWorkRefusal, IsBlocksRefusal};
 
 use super::keys::{Part, kind_of, value_at};

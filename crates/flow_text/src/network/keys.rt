@@ -1,7 +1,8 @@
 //! The keys of a network's text, the types of their values, and what can be wrong with the keys of one table.
 ghost use Rattle.std.specs.Prelude.{◌≡◌, map, option_map};
 ghost use Rattle.toml.specs.View.{view, table_view, items_view};
-ghost use Rattle.flow_text.specs.Keys.{rules_of, kind_named, is_table, fits, knows, is_wrong, all_items, is_text, is_missed, is_misfit};
+ghost use Rattle.flow_text.specs.Keys.{rules_of, kind_named, is_table, fits, knows, is_wrong, all_items, is_text};
+ghost use Rattle.flow_text.specs.Keys.{is_missed, is_misfit};
 ghost use Rattle.flow_text.specs.Passes.{is_wrong_in, section, tables_of};
 ghost use Rattle.flow_text.specs.Rules.{rule_of};
 ghost use Rattle.toml.specs.Data.{get_member};

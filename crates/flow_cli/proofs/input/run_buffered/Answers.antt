@@ -1,5 +1,5 @@
 use Rattle.std.proofs.lemmas.Result.{err_from_is_err_and}
-use Rattle.flow_cli.proofs.ReportLemmas.{refused_of_any}
+use Rattle.flow_cli.proofs.ReportBehindCut.{refused_of_any}
 use Rattle.flow_cli.proofs.input.run_buffered.Goals as goal
 
 pub returns-in_err-ran-clause-refused : goal.returns-in_err-ran-clause-refused

@@ -1,5 +1,5 @@
 use Rattle.std.proofs.Common.{inr}
-use Rattle.flow_cli.proofs.ReportLemmas.{ok_carries, err_carries, of_any, refused_of_any}
+use Rattle.flow_cli.proofs.ReportBehindCut.{ok_carries, err_carries, of_any, refused_of_any}
 use Rattle.flow_cli.proofs.input.run_file.Goals as goal
 
 pub returns-clause-reported : goal.returns-clause-reported

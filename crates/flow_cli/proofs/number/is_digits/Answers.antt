@@ -4,7 +4,7 @@ use Rattle.std.specs.List.{list_all}
 use Rattle.std.proofs.lemmas.Bool.{eqb-false}
 use Rattle.std.proofs.lemmas.Iterator.Adapters.{YieldsList-from_bytes}
 use Rattle.std.proofs.lemmas.Iterator.Search.{all_from_yields_List}
-use Rattle.flow_cli.proofs.NumberLemmas.{all_of_some}
+use Rattle.flow_cli.proofs.DigitsAlone.{all_of_some}
 use Rattle.flow_cli.proofs.number.is_digits.Goals as goal
 
 pub returns-then-not-is_empty : goal.returns-then-not-is_empty

@@ -1,5 +1,5 @@
 use Rattle.std.proofs.Common.{true, false, Some, None, sym, ◌∙◌, refl}
-use Rattle.flow_link.proofs.FirstFaultLemmas.{first_name_fault}
+use Rattle.flow_link.proofs.FirstOfEachFault.{first_name_fault}
 use Rattle.flow_link.proofs.check.fault_of_names.Goals as goal
 
 pub returns-then-is_over_limit : goal.returns-then-is_over_limit

@@ -1,5 +1,5 @@
 use Rattle.std.proofs.Common.{Some, None, sym, ◌∙◌, refl}
-use Rattle.flow_link.proofs.FirstFaultLemmas.{first_option_fault}
+use Rattle.flow_link.proofs.FirstOfEachFault.{first_option_fault}
 use Rattle.flow_link.proofs.check.fault_of_options.Goals as goal
 
 pub returns-in-Some : goal.returns-in-Some

@@ -2,8 +2,8 @@ use Rattle.std.proofs.Common.{◌≡◌, ◌<◌, ◌||◌, Bool, true, refl, sy
 use Rattle.flow_link.specs.declared.plan.PlanFault.TheVariants.{BadOption}
 use Rattle.flow_link.specs.declared.plan.Place.TheVariants.{Link as at_link}
 use Rattle.flow_link.specs.NotBuilt.{stands_now, is_further_link}
-use Rattle.flow_link.proofs.CheckLemmas.{first_below, none_below}
-use Rattle.flow_link.proofs.FirstFaultLemmas.{bad_link_at, length-named_links}
+use Rattle.flow_link.proofs.FirstInOrder.{first_below, none_below}
+use Rattle.flow_link.proofs.FirstOfEachFault.{bad_link_at, length-named_links}
 use Rattle.flow_link.proofs.check.first_bad_link.Goals as goal
 use Rattle.flow_link.proofs.check.first_bad_link.Goals.{then-is_bad_link-via-then-is_bad_link, then-is_bad_link-via-else-is_bad_link+then-is_further_link}
 

@@ -1,5 +1,5 @@
 use Rattle.std.proofs.Common.{◌∙◌, Some, None, true, false, refl, sym, length, take}
-use Rattle.flow_link.proofs.FirstFaultLemmas.{first_fault_of, cycle_stands}
+use Rattle.flow_link.proofs.FirstOfEachFault.{first_fault_of, cycle_stands}
 use Rattle.flow_link.proofs.check.first_fault.Goals as goal
 
 pub returns-in-Some : goal.returns-in-Some

@@ -1,8 +1,8 @@
 use Rattle.std.proofs.Common.{◌≡◌, ◌∙◌, None, sym}
 use Rattle.flow_link.specs.NotBuilt.{first_fault_now}
-use Rattle.flow_link.proofs.BuiltLemmas.{built_along}
-use Rattle.flow_link.proofs.FirstFaultLemmas.{first_fault_along, none_by_the_format, planned_along, laid_out_where_none}
-use Rattle.flow_link.proofs.WellFormedLemmas.{well_formed_along}
+use Rattle.flow_link.proofs.PlansAreBuilt.{built_along}
+use Rattle.flow_link.proofs.FirstOfEachFault.{first_fault_along, none_by_the_format, planned_along, laid_out_where_none}
+use Rattle.flow_link.proofs.PlansAreWellFormed.{well_formed_along}
 use Rattle.flow_link.proofs.check.plan_check.Goals as goal
 
 pub returns-in-Some-clause-why : goal.returns-in-Some-clause-why

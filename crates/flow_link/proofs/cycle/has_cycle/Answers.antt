@@ -1,7 +1,7 @@
 use Rattle.std.proofs.Common.{◌≡◌, ◌∙◌, sym, ap, length, take, arith}
 use Rattle.std.proofs.lemmas.List.{length-take}
 use Rattle.flow_link.specs.PlanFaults.{walks}
-use Rattle.flow_link.proofs.RoundLemmas.{some_here_below, some_none_below}
+use Rattle.flow_link.proofs.RoundsOfWalks.{some_here_below, some_none_below}
 use Rattle.flow_link.proofs.cycle.has_cycle.Goals as goal
 
 pub returns-then-leads_back : goal.returns-then-leads_back

@@ -1,7 +1,7 @@
 use Rattle.std.proofs.Common.{◌≡◌, ◌∙◌, ◌<◌, ◌+◌, suc, sym, ap, subst, length, arith, List, Bool, ℕ, get_or, false}
 use Rattle.flow_link.specs.Rounds.{IsRound}
 use Rattle.flow_link.specs.PlanFaults.{walks}
-use Rattle.flow_link.proofs.RoundLemmas.{next_round, settled, finished}
+use Rattle.flow_link.proofs.RoundsOfWalks.{next_round, settled, finished}
 use Rattle.flow_link.proofs.cycle.leads_back.Goals as goal
 use Rattle.flow_link.proofs.cycle.leads_back.Goals.{else-loop-round-test, then-loop-round-test+then-is_same}
 

@@ -1,5 +1,5 @@
 use Rattle.std.proofs.Common.{◌<◌, ◌∙◌, length, arith}
-use Rattle.flow_link.proofs.RoundLemmas.{marks_more}
+use Rattle.flow_link.proofs.RoundsOfWalks.{marks_more}
 use Rattle.flow_link.proofs.cycle.lengthen.Goals as goal
 
 pub loop-link-preserved : goal.loop-link-preserved

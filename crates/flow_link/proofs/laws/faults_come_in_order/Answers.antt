@@ -1,4 +1,4 @@
-use Rattle.flow_link.proofs.PlanExampleLemmas.{faults_of_drafts}
+use Rattle.flow_link.proofs.FaultsComeInOrder.{faults_of_drafts}
 use Rattle.flow_link.proofs.laws.faults_come_in_order.Goals as goal
 
 pub returns : goal.returns

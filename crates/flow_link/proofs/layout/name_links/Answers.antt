@@ -1,6 +1,6 @@
 use Rattle.std.proofs.Common.{◌∙◌, arith}
 use Rattle.std.proofs.lemmas.List.{take_more_set, length-set}
-use Rattle.flow_link.proofs.LayoutLemmas.{pushes_named}
+use Rattle.flow_link.proofs.LinksLaidOut.{pushes_named}
 use Rattle.flow_link.proofs.layout.name_links.Goals as goal
 
 pub loop-place-preserved : goal.loop-place-preserved

@@ -1,5 +1,5 @@
 use Rattle.std.proofs.Common.{arith}
-use Rattle.flow_link.proofs.LayoutLemmas.{pushes_named}
+use Rattle.flow_link.proofs.LinksLaidOut.{pushes_named}
 use Rattle.flow_link.proofs.layout.named_links.Goals as goal
 
 pub loop-link-preserved : goal.loop-link-preserved

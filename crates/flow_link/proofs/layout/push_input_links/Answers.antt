@@ -1,7 +1,7 @@
 use Rattle.std.proofs.Common.{◌≡◌, ◌∙◌, ◌++◌, ◌∷◌, [], ap, cond, arith}
 use Rattle.flow_link.specs.declared.plan.Link.{Link}
 use Rattle.flow_link.specs.Layout.{input_link}
-use Rattle.flow_link.proofs.LayoutLemmas.{one_more_input}
+use Rattle.flow_link.proofs.LinksLaidOut.{one_more_input}
 use Rattle.flow_link.proofs.layout.push_input_links.Goals as goal
 
 pub loop-place-preserved : goal.loop-place-preserved

@@ -8,7 +8,7 @@ use Rattle.flow_net.specs.Net.{parts_of}
 use Rattle.flow_text.specs.Plan.{IsPlannedAs}
 use Rattle.flow_text.specs.Records.{input_names, posted_values, posted_endings}
 use Rattle.flow_run.specs.Ran.{Begins}
-use Rattle.flow_run.proofs.PipelineLemmas.{names_count, as_many, posts_to_inputs, begins_as, no_plan, no_records}
+use Rattle.flow_run.proofs.InputsAsPosted.{names_count, as_many, posts_to_inputs, begins_as, no_plan, no_records}
 use Rattle.flow_run.proofs.pipeline.begin.Goals as goal
 
 pub new-requires-clause-one_each : goal.new-requires-clause-one_each

@@ -1,7 +1,7 @@
 use Rattle.std.proofs.Common.{ap, refl}
 use Rattle.std.proofs.lemmas.Result.{err_from_is_err_and}
 use Rattle.flow_net.specs.Net.{layout_in, parts_of}
-use Rattle.flow_run.proofs.PipelineLemmas.{answered, begins_as, posted_as, settles_as, goes_on_as, no_network, no_end, no_report, untouched}
+use Rattle.flow_run.proofs.InputsAsPosted.{answered, begins_as, posted_as, settles_as, goes_on_as, no_network, no_end, no_report, untouched}
 use Rattle.flow_run.proofs.pipeline.run.Goals as goal
 
 pub returns-clause-reported : goal.returns-clause-reported

@@ -1,4 +1,4 @@
-use Rattle.flow_run.proofs.SplitLemmas.{split_at_cut}
+use Rattle.flow_run.proofs.CutInTwo.{split_at_cut}
 use Rattle.flow_run.proofs.split.split_input.Goals as goal
 
 pub returns-in-Some : goal.returns-in-Some

@@ -1,7 +1,7 @@
 use Rattle.std.proofs.Common.{◌<◌, ◌∙◌, arith, length, sym}
 use Rattle.flow_text.specs.Complete.{has_gone_through}
 use Rattle.flow_text.specs.Report.{run_in}
-use Rattle.flow_text.proofs.CompleteLemmas.{one_more_passes, one_fails}
+use Rattle.flow_text.proofs.AllGoneThrough.{one_more_passes, one_fails}
 use Rattle.flow_text.proofs.complete.is_complete.Goals as goal
 
 pub returns-then-not-has_gone_through : goal.returns-then-not-has_gone_through

@@ -1,6 +1,6 @@
 use Rattle.std.proofs.Common.{ap, ◌∙◌}
 use Rattle.flow_text.specs.Passes.{first_from, is_wrong_in}
-use Rattle.flow_text.proofs.PassLemmas.{position_view}
+use Rattle.flow_text.proofs.FirstInPass.{position_view}
 use Rattle.flow_text.proofs.network.first_in.Goals as goal
 
 pub returns : goal.returns

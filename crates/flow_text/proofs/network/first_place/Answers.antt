@@ -1,6 +1,6 @@
 use Rattle.std.proofs.Common.{sym, ◌∙◌}
 use Rattle.toml.specs.View.{table_view}
-use Rattle.flow_text.proofs.PassLemmas.{place_of_block}
+use Rattle.flow_text.proofs.FirstInPass.{place_of_block}
 use Rattle.flow_text.proofs.network.first_place.Goals as goal
 
 pub returns-in-Some : goal.returns-in-Some

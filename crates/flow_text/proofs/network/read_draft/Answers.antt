@@ -3,7 +3,7 @@ use Rattle.toml.specs.View.{table_view}
 use Rattle.flow_text.specs.Keys.{all_items}
 use Rattle.flow_text.specs.Read.{is_sound_in}
 use Rattle.flow_text.specs.declared.network.keys.Part.TheVariants.{Block, Link}
-use Rattle.flow_text.proofs.SoundLemmas.{sound_blocks, sound_links}
+use Rattle.flow_text.proofs.TablesSound.{sound_blocks, sound_links}
 use Rattle.flow_text.proofs.network.read_draft.Goals as goal
 
 pub blocks-requires : goal.blocks-requires

@@ -1,4 +1,4 @@
-use Rattle.flow_text.proofs.PlanLemmas.{unplanned}
+use Rattle.flow_text.proofs.NoPlanFor.{unplanned}
 use Rattle.flow_text.proofs.network.read_plan.Goals as goal
 
 pub returns-in-Err-clause-refused : goal.returns-in-Err-clause-refused

@@ -1,4 +1,4 @@
-use Rattle.flow_text.proofs.PieceLemmas.{front-of-appends, front-of-keeps, wrote-none, wrote-more, wrote-same}
+use Rattle.flow_text.proofs.WritesAddUp.{front-of-appends, front-of-keeps, wrote-none, wrote-more, wrote-same}
 use Rattle.flow_text.proofs.piece.write_bytes.Goals as goal
 use Rattle.flow_text.proofs.piece.write_bytes.Goals.{in-Ok, in-Err+else-ne}
 

@@ -1,5 +1,5 @@
 use Rattle.flow_text.specs.Written.{StaysInFront}
-use Rattle.flow_text.proofs.PieceLemmas.{WroteUpTo}
+use Rattle.flow_text.proofs.WritesAddUp.{WroteUpTo}
 use Rattle.flow_text.proofs.piece.write_bytes.Given as goal
 
 abbrev pub invariant-writes : goal.invariant-writes

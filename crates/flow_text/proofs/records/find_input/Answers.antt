@@ -1,5 +1,5 @@
 use Rattle.std.proofs.Common.{◌∙◌, sym}
-use Rattle.flow_text.proofs.RecordLemmas.{named-texts, named-last_text}
+use Rattle.flow_text.proofs.RecordsPost.{named-texts, named-last_text}
 use Rattle.flow_text.proofs.records.find_input.Goals as goal
 
 pub returns-then-eq : goal.returns-then-eq

@@ -1,5 +1,5 @@
 use Rattle.std.proofs.Common.{◌<◌, ◌∙◌, ◌++◌, ◌∷◌, [], length, ap, sym, cond, arith}
-use Rattle.flow_text.proofs.RecordLemmas.{input_names-more}
+use Rattle.flow_text.proofs.RecordsPost.{input_names-more}
 use Rattle.flow_text.proofs.records.names_of.Goals as goal
 
 pub loop-number-preserved : goal.loop-number-preserved

@@ -1,7 +1,7 @@
 use Rattle.std.proofs.Common.{◌≡◌, true, refl, rules}
 use Rattle.std.specs.Result.{is_ok}
 use Rattle.flow_value.specs.declared.value.Value.TheVariants.{Text}
-use Rattle.flow_text.proofs.RecordLemmas.{set-values, set-endings, room-less}
+use Rattle.flow_text.proofs.RecordsPost.{set-values, set-endings, room-less}
 use Rattle.flow_text.proofs.records.post.Goals as goal
 
 pub returns-clause-values : goal.returns-clause-values

@@ -3,7 +3,7 @@ use Rattle.std.proofs.lemmas.List.{length-map, length-replicate}
 use Rattle.csv.specs.Records.{fields_of}
 use Rattle.flow_net.specs.declared.posted.Posted.{Posted}
 use Rattle.flow_text.specs.Records.{texts_of, posted_values}
-use Rattle.flow_text.proofs.RecordLemmas.{read-start, read-more, read-end, read-fault, fault-of_records, posts-within, posts-first}
+use Rattle.flow_text.proofs.RecordsPost.{read-start, read-more, read-end, read-fault, fault-of_records, posts-within, posts-first}
 use Rattle.flow_text.proofs.records.read_named.Goals as goal
 
 pub reading-init : goal.reading-init

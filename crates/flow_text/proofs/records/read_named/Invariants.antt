@@ -4,7 +4,7 @@ use Rattle.csv.specs.Reading.{Ready, default_config, reader_config, reader_trim}
 use Rattle.csv.specs.declared.reader.Trim.TheVariants as trim
 use Rattle.flow_link.specs.declared.trace.Ending.TheVariants.{Complete}
 use Rattle.flow_text.specs.Records.{texts_of, IsFirstOf, room, posted_values, posted_endings}
-use Rattle.flow_text.proofs.RecordLemmas.{SoFar}
+use Rattle.flow_text.proofs.RecordsPost.{SoFar}
 use Rattle.flow_text.proofs.records.read_named.Given as goal
 
 abbrev pub decreases-reading : goal.decreases-reading

@@ -1,6 +1,6 @@
 use Rattle.std.proofs.Common.{◌≡◌, ◌∙◌, get_or, []}
 use Rattle.csv.specs.Records.{fields_of}
-use Rattle.flow_text.proofs.RecordLemmas.{field-at}
+use Rattle.flow_text.proofs.RecordsPost.{field-at}
 use Rattle.flow_text.proofs.records.text_field.Goals as goal
 
 pub returns-in-Ok : goal.returns-in-Ok

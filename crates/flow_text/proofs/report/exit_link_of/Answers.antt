@@ -1,6 +1,6 @@
 use Rattle.std.proofs.Common.{◌≡◌, ◌∙◌, count_by, arith}
 use Rattle.flow_text.specs.Report.{is_input, is_output, run_in}
-use Rattle.flow_text.proofs.ReportLemmas.{count-few, count-all, length-outer, outer-fit}
+use Rattle.flow_text.proofs.ReportGrows.{count-few, count-all, length-outer, outer-fit}
 use Rattle.flow_text.proofs.report.exit_link_of.Goals as goal
 
 pub overflow_add-result-2 : goal.overflow_add-result-2

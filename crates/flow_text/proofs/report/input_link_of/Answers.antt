@@ -1,7 +1,7 @@
 use Rattle.std.proofs.Common.{◌≡◌, ◌+◌, ap, ◌∙◌, arith}
 use Rattle.flow_link.specs.Trace.{link_of}
 use Rattle.flow_text.specs.Report.{is_input, input_link_number, run_in}
-use Rattle.flow_text.proofs.ReportLemmas.{count-few, length-outer, outer-fit, laid-out_input}
+use Rattle.flow_text.proofs.ReportGrows.{count-few, length-outer, outer-fit, laid-out_input}
 use Rattle.flow_text.proofs.report.input_link_of.Goals as goal
 
 pub overflow_add-result : goal.overflow_add-result

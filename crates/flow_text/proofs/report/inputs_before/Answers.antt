@@ -1,6 +1,6 @@
 use Rattle.std.proofs.Common.{◌<◌, arith, length}
 use Rattle.flow_text.specs.Report.{is_input, run_in}
-use Rattle.flow_text.proofs.ReportLemmas.{count-next}
+use Rattle.flow_text.proofs.ReportGrows.{count-next}
 use Rattle.flow_text.proofs.report.inputs_before.Goals as goal
 use Rattle.flow_text.proofs.report.inputs_before.Goals.{then-block_at, else-block_at}
 

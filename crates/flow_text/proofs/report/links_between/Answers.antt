@@ -1,6 +1,6 @@
 use Rattle.std.proofs.Common.{◌≡◌, ◌∙◌, count_by, arith}
 use Rattle.flow_text.specs.Report.{is_input, is_output, run_in}
-use Rattle.flow_text.proofs.ReportLemmas.{count-all, length-outer}
+use Rattle.flow_text.proofs.ReportGrows.{count-all, length-outer}
 use Rattle.flow_text.proofs.report.links_between.Goals as goal
 
 pub returns : goal.returns

@@ -3,7 +3,7 @@ use Rattle.std.proofs.lemmas.Result.{on_ok_weaker}
 use Rattle.flow_link.specs.Plan.{no_block}
 use Rattle.flow_link.specs.Trace.{block_of}
 use Rattle.flow_text.specs.Report.{block_line, state_of, input_part, all_ports, all_links, exit_part, last_part, run_in}
-use Rattle.flow_text.proofs.PrintLemmas.{appends-both}
+use Rattle.flow_text.proofs.PrintedGrows.{appends-both}
 use Rattle.flow_text.proofs.report.write_block.Goals as goal
 
 pub returns-clause-written : goal.returns-clause-written

@@ -1,5 +1,5 @@
 use Rattle.std.proofs.Common.{◌==◌}
-use Rattle.flow_text.proofs.ReportLemmas.{given-next, none-more, one-more, opened-next, not-empty}
+use Rattle.flow_text.proofs.ReportGrows.{given-next, none-more, one-more, opened-next, not-empty}
 use Rattle.flow_text.proofs.report.write_given.Goals as goal
 use Rattle.flow_text.proofs.report.write_given.Goals.{in-Some+in_ok-write_item-in-Some, in-None}
 

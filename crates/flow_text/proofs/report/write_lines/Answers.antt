@@ -1,5 +1,5 @@
 use Rattle.flow_text.specs.Report.{block_report, run_in}
-use Rattle.flow_text.proofs.ReportLemmas.{lines-more}
+use Rattle.flow_text.proofs.ReportGrows.{lines-more}
 use Rattle.flow_text.proofs.report.write_lines.Goals as goal
 
 pub loop-block-preserved : goal.loop-block-preserved

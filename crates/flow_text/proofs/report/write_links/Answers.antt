@@ -3,7 +3,7 @@ use Rattle.flow_link.specs.declared.plan.Link.{Link}
 use Rattle.flow_link.specs.Plan.{begins_at, no_link}
 use Rattle.flow_link.specs.Trace.{link_of, marks_of}
 use Rattle.flow_text.specs.Report.{link_line, run_in}
-use Rattle.flow_text.proofs.ReportLemmas.{lines-more_if, lines-same}
+use Rattle.flow_text.proofs.ReportGrows.{lines-more_if, lines-same}
 use Rattle.flow_text.proofs.report.write_links.Goals as goal
 use Rattle.flow_text.proofs.report.write_links.Goals.{then-is_from+in_ok-write_link_line, else-is_from}
 

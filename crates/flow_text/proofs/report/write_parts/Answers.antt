@@ -1,5 +1,5 @@
 use Rattle.std.proofs.Common.{◌∙◌, ◌++◌, ◌∷◌, [], take, sym, ap, append_assoc}
-use Rattle.flow_text.proofs.ReportLemmas.{take-next, opened-next, not-empty}
+use Rattle.flow_text.proofs.ReportGrows.{take-next, opened-next, not-empty}
 use Rattle.flow_text.proofs.report.write_parts.Goals as goal
 
 pub front-preserved : goal.front-preserved

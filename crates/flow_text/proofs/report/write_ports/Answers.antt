@@ -1,6 +1,6 @@
 use Rattle.flow_text.specs.Report.{port_lines, run_in}
-use Rattle.flow_text.proofs.PrintLemmas.{appends-both}
-use Rattle.flow_text.proofs.ReportLemmas.{lines-more}
+use Rattle.flow_text.proofs.PrintedGrows.{appends-both}
+use Rattle.flow_text.proofs.ReportGrows.{lines-more}
 use Rattle.flow_text.proofs.report.write_ports.Goals as goal
 
 pub loop-port-preserved : goal.loop-port-preserved

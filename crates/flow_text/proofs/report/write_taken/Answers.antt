@@ -1,5 +1,5 @@
 use Rattle.std.proofs.Common.{◌==◌}
-use Rattle.flow_text.proofs.ReportLemmas.{taken-next, none-more, one-more, opened-next, not-empty}
+use Rattle.flow_text.proofs.ReportGrows.{taken-next, none-more, one-more, opened-next, not-empty}
 use Rattle.flow_text.proofs.report.write_taken.Goals as goal
 use Rattle.flow_text.proofs.report.write_taken.Goals.{in-Some+in_ok-write_item-in-Some, in-None}
 

@@ -1,6 +1,6 @@
 use Rattle.std.proofs.Common.{rules, sym}
 use Rattle.flow_net.specs.Net.{parts_of}
-use Rattle.flow_text.proofs.RunLemmas.{none_held}
+use Rattle.flow_text.proofs.OnePort.{none_held}
 use Rattle.flow_text.proofs.seen.held_at.Goals as goal
 
 pub returns-else-port-eq0 : goal.returns-else-port-eq0

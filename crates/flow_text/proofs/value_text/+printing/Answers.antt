@@ -3,7 +3,7 @@ use Rattle.std.proofs.lemmas.Result.{on_ok_weaker}
 use Rattle.flow_value.specs.Items.{value_count}
 use Rattle.flow_value.specs.View.{items_from}
 use Rattle.flow_value.specs.declared.value.Value.TheVariants.{Row}
-use Rattle.flow_text.proofs.PrintLemmas.{weight, weight-at, row-count, row-item, items-more}
+use Rattle.flow_text.proofs.PrintedGrows.{weight, weight-at, row-count, row-item, items-more}
 use Rattle.flow_text.proofs.value_text.+printing.Goals as goal
 
 pub write_item-write_values-requires : goal.write_item-write_values-requires

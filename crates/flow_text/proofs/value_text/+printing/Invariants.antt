@@ -4,7 +4,7 @@ use Rattle.flow_value.specs.Items.{value_count}
 use Rattle.flow_value.specs.View.{items_from}
 use Rattle.flow_text.specs.Printed.{opened}
 use Rattle.flow_text.specs.Written.{StaysInFront}
-use Rattle.flow_text.proofs.PrintLemmas.{weight}
+use Rattle.flow_text.proofs.PrintedGrows.{weight}
 use Rattle.flow_text.proofs.value_text.+printing.Given as goal
 
 abbrev pub decreases-write_item : goal.decreases-write_item

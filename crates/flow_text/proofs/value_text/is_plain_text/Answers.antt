@@ -1,5 +1,5 @@
 use Rattle.std.proofs.Common.{refl}
-use Rattle.flow_text.proofs.PrintLemmas.{all-plain-more}
+use Rattle.flow_text.proofs.PrintedGrows.{all-plain-more}
 use Rattle.flow_text.proofs.value_text.is_plain_text.Goals as goal
 
 pub loop-byte-preserved : goal.loop-byte-preserved

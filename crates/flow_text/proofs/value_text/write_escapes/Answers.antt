@@ -1,5 +1,5 @@
 use Rattle.std.proofs.Common.{arith, refl}
-use Rattle.flow_text.proofs.PrintLemmas.{plain-more, plain-none, escaped-more}
+use Rattle.flow_text.proofs.PrintedGrows.{plain-more, plain-none, escaped-more}
 use Rattle.flow_text.proofs.value_text.write_escapes.Goals as goal
 use Rattle.flow_text.proofs.value_text.write_escapes.Goals.{then-not-is_plain+in_ok-write_bytes+in_ok-write_escaped, else-not-is_plain}
 

@@ -2,7 +2,7 @@ use Rattle.std.proofs.Common.{◌≡◌, Ok, Err, Some, None, sym, ap, ◌∙◌
 use Rattle.std.proofs.lemmas.Int.{ints}
 use Rattle.std.proofs.lemmas.Str.Pattern.{split_parts}
 use Rattle.flow_value.specs.Number.{int_of}
-use Rattle.flow_value.proofs.GrammarLemmas.{only_name, only_split}
+use Rattle.flow_value.proofs.WrittenOneWay.{only_name, only_split}
 use Rattle.flow_value.proofs.grammar.name_and_number.Goals as goal
 use mir.Syntax.{w64}
 use mir.Val.{SFits, to_z, of_z}

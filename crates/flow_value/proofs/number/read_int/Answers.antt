@@ -1,6 +1,6 @@
 use Rattle.std.proofs.Common.{◌≡◌, true, sym, ◌∙◌, ap}
 use Rattle.flow_value.specs.Number.{without_minus, is_digits}
-use Rattle.flow_value.proofs.NumberLemmas.{int_of-over, numeral_behind_sign}
+use Rattle.flow_value.proofs.DigitsParsed.{int_of-over, numeral_behind_sign}
 use Rattle.flow_value.proofs.number.read_int.Goals as goal
 
 pub returns-in-Err : goal.returns-in-Err

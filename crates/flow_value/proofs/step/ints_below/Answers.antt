@@ -1,6 +1,6 @@
 use Rattle.std.proofs.Common.{◌≡◌, [], ◌∷◌, ◌++◌, ap, ◌∙◌, arith, pos}
 use Rattle.std.proofs.lemmas.Int.{ints}
-use Rattle.flow_value.proofs.StepLemmas.{ints_below-push}
+use Rattle.flow_value.proofs.WordsGrow.{ints_below-push}
 use Rattle.flow_value.specs.declared.value.Value.TheVariants.{Int}
 use Rattle.flow_value.proofs.step.ints_below.Goals as goal
 use mir.Syntax.{w64}

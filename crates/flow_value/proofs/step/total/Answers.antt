@@ -3,7 +3,7 @@ use Rattle.std.proofs.lemmas.Int.{ints}
 use Rattle.std.proofs.lemmas.List.{take_more}
 use Rattle.flow_value.specs.Step.{numbers_of, summed}
 use Rattle.flow_value.specs.declared.value.Value.TheVariants.{Int}
-use Rattle.flow_value.proofs.StepLemmas.{numbers_of-push, numbers_of-other, total_of-push}
+use Rattle.flow_value.proofs.WordsGrow.{numbers_of-push, numbers_of-other, total_of-push}
 use Rattle.flow_value.proofs.step.total.Goals as goal
 use mir.Syntax.{w64, w128}
 use mir.Val.{SFits, to_z, of_z}

@@ -4,7 +4,7 @@ use Rattle.std.proofs.lemmas.List.{append-nil, nil_from_length}
 use Rattle.std.proofs.lemmas.Result.{err_from_is_err_and}
 use Rattle.flow_value.specs.Function.{joined, each, meaning_of}
 use Rattle.flow_value.specs.Step.{applied}
-use Rattle.flow_value.proofs.FunctionLemmas.{each-more, each-fault, meaning_of-many}
+use Rattle.flow_value.proofs.ResultsGrow.{each-more, each-fault, meaning_of-many}
 use Rattle.flow_value.proofs.steps.+run_onto.Goals as goal
 
 pub loop-next-preserved : goal.loop-next-preserved

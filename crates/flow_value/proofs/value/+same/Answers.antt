@@ -1,6 +1,6 @@
 use Rattle.std.proofs.Common.{◌≡◌, ◌<◌, length, get_or, arith, ap, sym, ◌∙◌, refl}
 use Rattle.flow_value.specs.View.{items_from, values_of, values_of-is}
-use Rattle.flow_value.proofs.RowLemmas.{boxed_values, values_differ}
+use Rattle.flow_value.proofs.RowsDiffer.{boxed_values, values_differ}
 use Rattle.flow_value.proofs.value.+same.Goals as goal
 
 pub Row::is_same-returns-then-len : goal.Row::is_same-returns-then-len

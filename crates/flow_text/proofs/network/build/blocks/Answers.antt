@@ -2,7 +2,7 @@ use Rattle.std.proofs.lemmas.Result.{err_from_is_err_and}
 use Rattle.toml.specs.View.{view, table_view}
 use Rattle.flow_text.specs.Read.{IsBlock, is_sound_in}
 use Rattle.flow_text.specs.declared.network.keys.Part.TheVariants.{Block}
-use Rattle.flow_text.proofs.BuildLemmas.{all_at, table_known, table_sound, each_more, blocks_refused}
+use Rattle.flow_text.proofs.TablesRead.{all_at, table_known, table_sound, each_more, blocks_refused}
 use Rattle.flow_text.proofs.network.build.blocks.Goals as goal
 
 pub table_of-table-requires : goal.table_of-table-requires

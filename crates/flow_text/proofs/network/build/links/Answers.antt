@@ -1,7 +1,7 @@
 use Rattle.toml.specs.View.{view, table_view}
 use Rattle.flow_text.specs.Read.{IsLink, is_sound_in}
 use Rattle.flow_text.specs.declared.network.keys.Part.TheVariants.{Link}
-use Rattle.flow_text.proofs.BuildLemmas.{all_at, table_known, table_sound, each_more}
+use Rattle.flow_text.proofs.TablesRead.{all_at, table_known, table_sound, each_more}
 use Rattle.flow_text.proofs.network.build.links.Goals as goal
 
 pub table_of-requires : goal.table_of-requires

@@ -3,7 +3,7 @@ use Rattle.std.proofs.lemmas.Iterator.{YieldsList-from_slice}
 use Rattle.std.proofs.lemmas.Iterator.Search.{all_from_yields_List}
 use Rattle.toml.specs.View.{view}
 use Rattle.flow_text.specs.Keys.{is_text}
-use Rattle.flow_text.proofs.KeyLemmas.{all_items_view}
+use Rattle.flow_text.proofs.KeyTestsTell.{all_items_view}
 use Rattle.flow_text.proofs.network.keys.are_texts.Goals as goal
 
 pub returns : goal.returns

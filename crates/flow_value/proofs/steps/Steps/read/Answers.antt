@@ -1,5 +1,5 @@
 use Rattle.std.proofs.Common.{arith}
-use Rattle.flow_value.proofs.GrammarLemmas.{too_many, no_step, one_more_step}
+use Rattle.flow_value.proofs.WrittenOneWay.{too_many, no_step, one_more_step}
 use Rattle.flow_value.proofs.steps.Steps.read.Goals as goal
 
 pub returns-then-place-ge-MOST_STEPS : goal.returns-then-place-ge-MOST_STEPS

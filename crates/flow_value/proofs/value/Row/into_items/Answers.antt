@@ -1,4 +1,4 @@
-use Rattle.flow_value.proofs.RowLemmas.{boxed_values}
+use Rattle.flow_value.proofs.RowsDiffer.{boxed_values}
 use Rattle.flow_value.proofs.value.Row.into_items.Goals as goal
 
 pub returns : goal.returns

@@ -1,7 +1,7 @@
 use Rattle.std.proofs.Common.{ap, ◌∙◌, length}
 use Rattle.flow_value.specs.View.{values_of}
-use Rattle.flow_value.proofs.RowLemmas.{boxed_values}
-use Rattle.flow_value.proofs.StepLemmas.{empty_test}
+use Rattle.flow_value.proofs.RowsDiffer.{boxed_values}
+use Rattle.flow_value.proofs.WordsGrow.{empty_test}
 use Rattle.flow_value.proofs.value.Row.is_empty.Goals as goal
 
 pub returns : goal.returns

@@ -1,5 +1,5 @@
 use Rattle.std.proofs.Common.{◌∙◌}
-use Rattle.flow_value.proofs.RowLemmas.{boxed_values}
+use Rattle.flow_value.proofs.RowsDiffer.{boxed_values}
 use Rattle.flow_value.proofs.value.Row.items.Goals as goal
 
 pub returns : goal.returns

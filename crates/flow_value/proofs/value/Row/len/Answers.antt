@@ -1,5 +1,5 @@
 use Rattle.std.proofs.Common.{length, ap, ◌∙◌}
-use Rattle.flow_value.proofs.RowLemmas.{boxed_values}
+use Rattle.flow_value.proofs.RowsDiffer.{boxed_values}
 use Rattle.flow_value.proofs.value.Row.len.Goals as goal
 
 pub returns-clause-count : goal.returns-clause-count

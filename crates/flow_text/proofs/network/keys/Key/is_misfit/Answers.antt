@@ -1,7 +1,7 @@
 use Rattle.toml.proofs.Views.{table_get}
 use Rattle.toml.specs.View.{view, table_view}
 use Rattle.flow_text.specs.Rules.{rule_of}
-use Rattle.flow_text.proofs.KeyLemmas.{misfit_at, misfit_nowhere}
+use Rattle.flow_text.proofs.KeyTestsTell.{misfit_at, misfit_nowhere}
 use Rattle.flow_text.proofs.network.keys.Key.is_misfit.Goals as goal
 
 pub returns-in-Some : goal.returns-in-Some

@@ -1,7 +1,7 @@
 use Rattle.toml.proofs.Views.{table_get}
 use Rattle.toml.specs.View.{table_view}
 use Rattle.flow_text.specs.Rules.{rule_of}
-use Rattle.flow_text.proofs.KeyLemmas.{missed_at}
+use Rattle.flow_text.proofs.KeyTestsTell.{missed_at}
 use Rattle.flow_text.proofs.network.keys.Key.is_missed.Goals as goal
 
 pub returns-then-self : goal.returns-then-self

@@ -4,7 +4,7 @@ use Rattle.std.proofs.lemmas.Iterator.Search.{any_from_yields_List}
 use Rattle.toml.specs.View.{table_view}
 use Rattle.flow_text.specs.Keys.{is_misfit}
 use Rattle.flow_text.specs.Rules.{rule_of}
-use Rattle.flow_text.proofs.KeyLemmas.{any_rule}
+use Rattle.flow_text.proofs.KeyTestsTell.{any_rule}
 use Rattle.flow_text.proofs.network.keys.Part.has_misfit.Goals as goal
 
 pub returns : goal.returns

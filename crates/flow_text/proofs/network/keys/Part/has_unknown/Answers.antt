@@ -3,7 +3,7 @@ use Rattle.std.proofs.lemmas.Iterator.Consumers.{YieldsList-from_rest}
 use Rattle.std.proofs.lemmas.Iterator.Search.{any_from_yields_List}
 use Rattle.std.specs.Map.{keys_of}
 use Rattle.flow_text.specs.Keys.{knows}
-use Rattle.flow_text.proofs.KeyLemmas.{has_unknown_view}
+use Rattle.flow_text.proofs.KeyTestsTell.{has_unknown_view}
 use Rattle.flow_text.proofs.network.keys.Part.has_unknown.Goals as goal
 
 pub returns : goal.returns

@@ -3,7 +3,7 @@ use Rattle.std.proofs.lemmas.Iterator.{YieldsList-from_slice}
 use Rattle.std.proofs.lemmas.Iterator.Search.{any_from_yields_List}
 use Rattle.std.specs.Str.{bytes_eq}
 use Rattle.flow_text.specs.Rules.{rule_of}
-use Rattle.flow_text.proofs.KeyLemmas.{any_rule}
+use Rattle.flow_text.proofs.KeyTestsTell.{any_rule}
 use Rattle.flow_text.proofs.network.keys.Part.knows.Goals as goal
 
 pub returns : goal.returns

@@ -10,7 +10,7 @@ use Rattle.flow_link.specs.Lists.{some, numbers_from, below}
 use Rattle.flow_link.specs.Plan.{begins_at, ends_at}
 use Rattle.flow_link.specs.PlanFaults.{leads, walks}
 use Rattle.flow_link.specs.Rounds.{goes_on, sets_out, IsRound}
-use Rattle.flow_link.proofs.CheckLemmas.{any_is_some}
+use Rattle.flow_link.proofs.FirstInOrder.{any_is_some}
 use Rattle.flow_link.proofs.ListTests.{and_true}
 
 -- one more element

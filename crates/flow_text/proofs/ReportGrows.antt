@@ -18,7 +18,7 @@ use Rattle.flow_text.specs.Report.{is_input, is_output}
 use Rattle.flow_link.specs.Trace.{took_where, gave_where}
 use Rattle.flow_link.proofs.JournalsGrow.{took_more, gave_more}
 use Rattle.flow_text.specs.Printed.{value_text, comma_unless, opened}
-use Rattle.flow_text.proofs.PrintLemmas.{appends-both, opened-more}
+use Rattle.flow_text.proofs.PrintedGrows.{appends-both, opened-more}
 
 -- a list with a value behind it has values
 pub not-empty : (values more : List Value) (v : Value) → more ≡ values ++ v ∷ [] → false ≡ is_empty more

@@ -26,9 +26,9 @@ use Rattle.flow_link.specs.Lists.{some, below}
 use Rattle.flow_link.specs.NotBuilt.{stands_now, first_fault_now, name_faults, end_faults, option_faults, is_built_kind, is_built_block, is_bad_block, is_built_link, is_further_link, leaves_with, enters_with, shares_an_end, enters_input}
 use Rattle.flow_link.specs.Plan.{block_named, block_in, link_in, begins_at, ends_at, named_link, named_links, planned_links, ports_by_kind, no_block}
 use Rattle.flow_link.specs.PlanFaults.{options_fit, is_in, lacks_port}
-use Rattle.flow_link.proofs.EachLemmas.{Each, each_append, Fails, both_ways, in_front, each_input, no_def, none_at, each_named}
-use Rattle.flow_link.proofs.FirstFaultLemmas.{named_link_at, length-named_links, bad_link_at, first_fault_of, none_front, none_back, none_behind}
-use Rattle.flow_link.proofs.LayoutLemmas.{neither}
+use Rattle.flow_link.proofs.EachLinkOf.{Each, each_append, Fails, both_ways, in_front, each_input, no_def, none_at, each_named}
+use Rattle.flow_link.proofs.FirstOfEachFault.{named_link_at, length-named_links, bad_link_at, first_fault_of, none_front, none_back, none_behind}
+use Rattle.flow_link.proofs.LinksLaidOut.{neither}
 use Rattle.flow_link.proofs.ListTests.{both_of}
 
 -- at most one link of the list passes

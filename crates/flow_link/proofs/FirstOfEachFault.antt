@@ -17,8 +17,8 @@ use Rattle.flow_link.specs.Plan.{block_named, block_in, link_in, named_link, nam
 use Rattle.flow_link.specs.PlanFaults.{lacks_port, lacks_output, options_fit, is_in, holds_no_group, stands, walks, faults_in_order, first_plan_fault}
 use Rattle.flow_link.specs.NotBuilt.{stands_now, first_at, name_faults, end_faults, option_faults, is_built_kind, is_built_block, is_bad_block, is_built_link, is_further_link, first_fault_now}
 use Rattle.flow_link.specs.Layout.{IsLaidOut}
-use Rattle.flow_link.proofs.LayoutLemmas.{laid_out_of}
-use Rattle.flow_link.proofs.CheckLemmas.{position_is_first, none_below}
+use Rattle.flow_link.proofs.LinksLaidOut.{laid_out_of}
+use Rattle.flow_link.proofs.FirstInOrder.{position_is_first, none_below}
 
 module _ {W : Type 0} (blocks : List (BlockDef W)) where
   pub named_link_at : (links : List LinkDef) (l : ℕ) (d : LinkDef) → l < length links

@@ -3,7 +3,7 @@ use Rattle.std.proofs.Common.{◌≡◌, ◌-◌, ℕ, List, [], ◌++◌, lengt
 use Rattle.std.proofs.lemmas.List.{append-nil, take-append-drop, take_all}
 use Rattle.std.specs.Io.KnownBytes.{Appends, Keeps}
 use Rattle.flow_text.specs.Written.{StaysInFront}
-use Rattle.flow_text.proofs.PrintLemmas.{appends-both}
+use Rattle.flow_text.proofs.PrintedGrows.{appends-both}
 
 -- what is appended leaves the front
 pub front-of-appends : (old new : Option (List ℕ)) (bytes : List ℕ) → Appends old new bytes → StaysInFront old new
