@@ -5,7 +5,8 @@ use Rattle.std.specs.List.{list_all}
 use Rattle.std.specs.Str.Parse.{digits_value, ParsesUnsigned}
 use Rattle.std.proofs.lemmas.Bool.Decides.{Decides-ltb}
 use Rattle.std.proofs.lemmas.Str.Parse.{IsNumeralModel, numerals_by_value, parse_digits}
-use Rattle.flow_cli.specs.Number.{is_digits, in_64_bits, number_of}
+use Rattle.flow_value.specs.Number.{is_digits}
+use Rattle.flow_cli.specs.Number.{in_64_bits, number_of}
 
 numerals : IsNumeralModel (λ ds. list_all is_ascii_digit ds ≡ true) (digits_value 10)
 numerals = numerals_by_value _ (search rules)
@@ -18,10 +19,6 @@ both_true false b e = cc
 not_true : (b : Bool) → (b ≡ true → ⊥) → b ≡ false
 not_true true h = absurd (h refl)
 not_true false h = refl
-
--- a text that is not empty is all digits where each byte is one
-pub all_of_some : (bs : List ℕ) → 0 < length bs → is_digits bs ≡ list_all is_ascii_digit bs
-all_of_some bs some = ap (λ b. b && list_all is_ascii_digit bs) ((Decides-ltb 0 (length bs)).1 some)
 
 -- digits that `parse` refuses are past 64 bits
 pub number_of-refused : {E : Type 0} (bs : List ℕ) (error : E) → is_digits bs ≡ true → ParsesUnsigned 64 10 bs (Err error) → None ≡ number_of bs

@@ -1,4 +1,4 @@
-pub mod Ending
+pub mod Conclusion
 pub mod Failure
 pub mod Number
 pub mod Reported

@@ -1,12 +1,7 @@
 -- A number as an argument writes it: decimal digits, one or more, and nothing else.
-use Rattle.std.specs.Prelude.{ℕ, ◌^◌, nat_lt, Bool, ◌&&◌, if◌then◌else◌, List, length, Option, Some, None}
-use Rattle.std.specs.Char.{is_ascii_digit}
-use Rattle.std.specs.List.{list_all}
+use Rattle.std.specs.Prelude.{ℕ, ◌^◌, nat_lt, if◌then◌else◌, List, Option, Some, None}
 use Rattle.std.specs.Str.Parse.{digits_value}
-
--- there are digits, and nothing but digits
-abbrev pub is_digits : List ℕ → Bool
-is_digits text = nat_lt 0 (length text) && list_all is_ascii_digit text
+use Rattle.flow_value.specs.Number.{is_digits}
 
 -- a number that 64 bits hold
 abbrev pub in_64_bits : ℕ → Option ℕ

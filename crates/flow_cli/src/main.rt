@@ -4,12 +4,12 @@
 ghost use Rattle.std.specs.Prelude.{◌≡◌, ◌↔◌, None};
 ghost use Rattle.flow_cli.specs.Request.{Asks};
 
-mod ending;
+mod conclusion;
 mod input;
 mod number;
 mod request;
 
-use crate::ending::{Ending, status_of_ending, write_ending};
+use crate::conclusion::{Conclusion, status_of_conclusion, write_conclusion};
 use crate::input::{run_file, run_input, unread};
 use crate::request::{Request, read_request};
 use flow_run::RunRefusal;
@@ -20,48 +20,48 @@ use std::process::ExitCode;
 use std::{env, io};
 
 fn main(rt: HostRuntime) -> ExitCode {
-    let ending = perform(&rt);
+    let conclusion = perform(&rt);
     // Nobody is left to tell where standard error fails.
-    let _ = write_ending(&ending, &mut rt.stderr());
-    ExitCode::from(status_of_ending(&ending))
+    let _ = write_conclusion(&conclusion, &mut rt.stderr());
+    ExitCode::from(status_of_conclusion(&conclusion))
 }
 
 /// Does what the arguments of the process ask for.
-fn perform<R: Env + Files + Input + Print + AllocGlobal>(rt: &R) -> Ending {
+fn perform<R: Env + Files + Input + Print + AllocGlobal>(rt: &R) -> Conclusion {
     match arguments(rt) {
         Ok(arguments) => answer(rt, &arguments),
-        Err(ending) => ending,
+        Err(conclusion) => conclusion,
     }
 }
 
 /// The arguments behind the program's name.
-fn arguments<R: Env + AllocGlobal>(rt: &R) -> Result<Vec<String>, Ending> {
+fn arguments<R: Env + AllocGlobal>(rt: &R) -> Result<Vec<String>, Conclusion> {
     match env::args(rt) {
         Ok(arguments) => match arguments.skip(1).collect(rt.alloc()) {
             Ok(arguments) => Ok(arguments),
-            Err(_) => Err(Ending::Run(Err(RunRefusal::Memory))),
+            Err(_) => Err(Conclusion::Run(Err(RunRefusal::Memory))),
         },
         Err(error) => Err(unread_arguments(&error)),
     }
 }
 
 /// An argument that is no UTF-8 is refused as other arguments are.
-fn unread_arguments(error: &io::Error) -> Ending {
+fn unread_arguments(error: &io::Error) -> Conclusion {
     match unread(error) {
-        RunRefusal::Memory => Ending::Run(Err(RunRefusal::Memory)),
-        _ => Ending::Usage,
+        RunRefusal::Memory => Conclusion::Run(Err(RunRefusal::Memory)),
+        _ => Conclusion::Usage,
     }
 }
 
 /// Does what these arguments ask for.
-fn answer<R: Files + Input + Print + AllocGlobal>(rt: &R, arguments: &[String]) -> Ending
-    ensures { (result ≡ Ending.Usage) ↔ Asks arguments.now None }
+fn answer<R: Files + Input + Print + AllocGlobal>(rt: &R, arguments: &[String]) -> Conclusion
+    ensures { (result ≡ Conclusion.Usage) ↔ Asks arguments.now None }
 {
     match read_request(arguments) {
         Some(Request::Input) => {
-            Ending::Run(run_input(rt.alloc(), rt.reader(), &mut io::writer(rt)))
+            Conclusion::Run(run_input(rt.alloc(), rt.reader(), &mut io::writer(rt)))
         }
-        Some(Request::File { path, bounds }) => Ending::Run(run_file(rt, path, bounds)),
-        None => Ending::Usage,
+        Some(Request::File { path, bounds }) => Conclusion::Run(run_file(rt, path, bounds)),
+        None => Conclusion::Usage,
     }
 }

@@ -1,6 +1,8 @@
 //! Numbers as arguments write them.
 ghost use Rattle.std.specs.Prelude.{◌≡◌};
-ghost use Rattle.flow_cli.specs.Number.{is_digits, number_of};
+ghost use Rattle.flow_cli.specs.Number.{number_of};
+
+use flow_value::is_digits;
 
 /// The number that the text is: decimal digits and nothing else, below 2^64.
 pub fn read_number(text: &str) -> Option<u64>
@@ -13,10 +15,4 @@ pub fn read_number(text: &str) -> Option<u64>
         Ok(number) => Some(number),
         Err(_) => None,
     }
-}
-
-fn is_digits(text: &str) -> bool
-    ensures { result ≡ is_digits text.now }
-{
-    !text.is_empty() && text.bytes().all(|byte| byte.is_ascii_digit())
 }

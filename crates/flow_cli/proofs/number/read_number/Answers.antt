@@ -1,5 +1,5 @@
 use Rattle.std.proofs.Common.{◌≡◌, true, sym, ◌∙◌}
-use Rattle.flow_cli.specs.Number.{is_digits}
+use Rattle.flow_value.specs.Number.{is_digits}
 use Rattle.flow_cli.proofs.DigitsAlone.{number_of-refused}
 use Rattle.flow_cli.proofs.number.read_number.Goals as goal
 
