@@ -9,7 +9,7 @@ use Rattle.flow_text.specs.declared.fault.TextFault.TheVariants.{Read, Write}
 use Rattle.flow_run.specs.declared.outcome.RunRefusal.{RunRefusal}
 use Rattle.flow_run.specs.declared.outcome.RunRefusal.TheVariants.{Text, Memory}
 
--- want of memory is told as such
+-- out of memory is told as such
 abbrev pub refusal_of_kind : ErrorKind → RunRefusal
 refusal_of_kind OutOfMemory = Memory
 refusal_of_kind _ = Text Read
@@ -17,7 +17,7 @@ refusal_of_kind _ = Text Read
 abbrev pub unread_refusal : Error → RunRefusal
 unread_refusal error = refusal_of_kind (error_kind error)
 
--- nothing was run, for want of memory or since a reader failed
+-- nothing was run, since memory was out or a reader failed
 abbrev pub IsUnread : RunRefusal → Type 0
 IsUnread refusal = (refusal ≡ Memory) ⊎ (refusal ≡ Text Read)
 

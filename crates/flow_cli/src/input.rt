@@ -26,28 +26,28 @@ pub fn run_file<R: Files + Input + Print + AllocGlobal>(
     ensures reported { IfOk result (IsReportedOfAny bounds.limit (λ report. Unit {0})) }
     ensures refused { IfErr result (λ refusal. IsUnread refusal ⊎ IsRefusedOfAny bounds.limit refusal) }
 {
-    let plan = fs::read(rt, path).map_err(|error| unread(&error))?;
+    let text = fs::read(rt, path).map_err(|error| unread(&error))?;
     let records = BufReader::new(rt.alloc(), rt.reader()).map_err(|error| unread(&error))?;
-    run_buffered(rt.alloc(), &plan, records, io::writer(rt), bounds)
+    run_buffered(rt.alloc(), &text, records, io::writer(rt), bounds)
 }
 
 /// Runs a network over records, and writes its report through a buffer.
 fn run_buffered<R: Read + Drop, W: Write + Drop>(
     alloc: Global,
-    plan: &[u8],
+    text: &[u8],
     records: R,
     writer: W,
     bounds: Bounds,
 ) -> Result<Ran, RunRefusal>
     requires { IsCrew bounds.workers }
-    ensures reported { IfOk result (IsReported plan.now None bounds.limit (λ report. Unit {0})) }
-    ensures refused { IfErr result (IsUnreported plan.now None bounds.limit) }
+    ensures reported { IfOk result (IsReported text.now None bounds.limit (λ report. Unit {0})) }
+    ensures refused { IfErr result (IsUnreported text.now None bounds.limit) }
 {
     let Ok(mut buffer) = BufWriter::new(alloc, writer) else {
         return Err(RunRefusal::Memory);
     };
     let Bounds { workers, limit } = bounds;
-    let ran = run(alloc, plan, records, &mut buffer, workers, limit)?;
+    let ran = run(alloc, text, records, &mut buffer, workers, limit)?;
     match buffer.into_inner() {
         Ok(_) => Ok(ran),
         Err(_) => Err(RunRefusal::Text(TextFault::Write)),
@@ -67,27 +67,27 @@ pub fn run_input<R: Read + Drop, W: Write>(
     ensures left { IfErr result (λ refusal. IsLeft refusal (W.contents writer.old) (W.contents writer.new)) }
 {
     let text = whole_input(alloc, reader)?;
-    let (plan, records) = split_input(&text);
-    run_whole(alloc, plan, records, writer, DEFAULT_BOUNDS)
+    let (network, records) = split_input(&text);
+    run_whole(alloc, network, records, writer, DEFAULT_BOUNDS)
 }
 
 /// Runs a network over records, and writes its report once all of it is there.
 fn run_whole<W: Write>(
     alloc: Global,
-    plan: &[u8],
+    text: &[u8],
     records: &[u8],
     writer: &mut W,
     bounds: Bounds,
 ) -> Result<Ran, RunRefusal>
     requires { IsCrew bounds.workers }
-    ensures reported { IfOk result (IsReported plan.now (Some records.now) bounds.limit
+    ensures reported { IfOk result (IsReported text.now (Some records.now) bounds.limit
         (Appends (W.contents writer.old) (W.contents writer.new))) }
-    ensures refused { IfErr result (IsUnreported plan.now (Some records.now) bounds.limit) }
+    ensures refused { IfErr result (IsUnreported text.now (Some records.now) bounds.limit) }
     ensures left { IfErr result (λ refusal. IsLeft refusal (W.contents writer.old) (W.contents writer.new)) }
 {
     let mut report: Vec<u8> = Vec::new(alloc);
     let Bounds { workers, limit } = bounds;
-    let ran = match run(alloc, plan, records, &mut report, workers, limit) {
+    let ran = match run(alloc, text, records, &mut report, workers, limit) {
         Ok(ran) => ran,
         Err(refusal) => return Err(in_memory(refusal)),
     };
@@ -119,7 +119,7 @@ fn whole_input<R: Read + Drop>(alloc: Global, mut reader: R) -> Result<Vec<u8>, 
     }
 }
 
-/// What a failure to read comes to: want of memory is told as such.
+/// What a failure to read comes to; out of memory is told as such.
 pub fn unread(error: &io::Error) -> RunRefusal
     ensures refusal { result ≡ unread_refusal error.now }
     ensures unread { IsUnread result }

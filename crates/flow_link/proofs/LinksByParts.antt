@@ -20,7 +20,7 @@ use Rattle.flow_link.proofs.LinksTell.{links_tell}
 use Rattle.flow_link.proofs.ListTests.{and_true, every_below, same_values_where, front_append, front_refl, front_of_front, front_without}
 
 -- all but one is a front that is shorter by one
-all_or_all_but_one : (given taken : List Value) → IsTakenOrUnderWay given taken → is_all_or_all_but_one given taken ≡ true
+pub all_or_all_but_one : (given taken : List Value) → IsTakenOrUnderWay given taken → is_all_or_all_but_one given taken ≡ true
 all_or_all_but_one given taken how =
     ⊎_elim
     (λ e. let P : List Value → Type 0 = λ all. is_all_or_all_but_one all taken ≡ true in
@@ -33,7 +33,7 @@ all_or_all_but_one given taken how =
     how
 
 -- what was taken begins what was given
-taken_is_front : (given taken posted : List Value) → IsTakenOrUnderWay given taken → is_front given posted ≡ true → is_front taken posted ≡ true
+pub taken_is_front : (given taken posted : List Value) → IsTakenOrUnderWay given taken → is_front given posted ≡ true → is_front taken posted ≡ true
 taken_is_front given taken posted how front =
     ⊎_elim
     (λ e. let P : List Value → Type 0 = λ all. is_front all posted ≡ true in subst P e front)
@@ -41,7 +41,7 @@ taken_is_front given taken posted how front =
     front_of_front taken (one.0 ∷ []) posted (subst P one.1 front))
     how
 
-within_test : (max : Option ℕ) (values : List Value) → IsWithin max (length values) → is_within max values ≡ true
+pub within_test : (max : Option ℕ) (values : List Value) → IsWithin max (length values) → is_within max values ≡ true
 within_test None values h = refl
 within_test (Some max) values h = le-leb (length values) max h
 

@@ -1,5 +1,5 @@
 -- What the tests on lists tell.
-use Rattle.std.proofs.Common.{◌≡◌, ℕ, zero, suc, ◌+◌, ◌-◌, ◌<◌, Bool, true, false, ◌&&◌, ◌||◌, not, List, [], ◌∷◌, ◌++◌, length, take, drop, refl, subst, arith}
+use Rattle.std.proofs.Common.{◌≡◌, ℕ, zero, suc, ◌+◌, ◌-◌, ◌<◌, Bool, true, false, ◌&&◌, ◌||◌, not, List, [], ◌∷◌, ◌++◌, length, take, drop, refl, ap, ◌∙◌, subst, arith}
 use Rattle.std.proofs.lemmas.List.{length-append}
 use Rattle.std.proofs.Math.Seq.{take-append_seam}
 use Rattle.flow_value.specs.declared.value.Value.{Value}
@@ -117,3 +117,20 @@ some_weaker_below f g count h e = some_weaker_from f g 0 count (λ k small. h k 
 pub drop_all : (vs : List Value) → is_empty (drop (length vs) vs) ≡ true
 drop_all [] = refl
 drop_all (v ∷ vs) = drop_all vs
+
+-- one more number
+pub numbers_more : (first count : ℕ) → numbers_from first (suc count) ≡ numbers_from first count ++ (first + count) ∷ []
+numbers_more first zero = ap (λ (n : ℕ). n ∷ []) (omega arith)
+numbers_more first (suc count) =
+    let e : suc first + count ≡ first + suc count = omega arith in
+    ap (λ (ns : List ℕ). first ∷ ns) (numbers_more (suc first) count ∙ ap (λ (n : ℕ). numbers_from (suc first) count ++ n ∷ []) e)
+
+pub below_more : (n : ℕ) → below (n + 1) ≡ below n ++ n ∷ []
+below_more n =
+    let next : n + 1 ≡ suc n = omega arith in
+    let last : 0 + n ≡ n = omega arith in
+    ap below next ∙ numbers_more 0 n ∙ ap (λ (k : ℕ). below n ++ k ∷ []) last
+
+pub length_numbers : (first count : ℕ) → length (numbers_from first count) ≡ count
+length_numbers first zero = refl
+length_numbers first (suc count) = ap suc (length_numbers (suc first) count)

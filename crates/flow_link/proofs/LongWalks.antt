@@ -5,7 +5,7 @@ use Rattle.flow_link.specs.declared.plan.Link.{Link}
 use Rattle.flow_link.specs.Lists.{every, some, numbers_from, below}
 use Rattle.flow_link.specs.PlanFaults.{leads, walks}
 use Rattle.flow_link.proofs.EachLinkOf.{both_ways}
-use Rattle.flow_link.proofs.ListTests.{both_of, or_weaker, and_weaker, some_weaker_below}
+use Rattle.flow_link.proofs.ListTests.{length_numbers, both_of, or_weaker, and_weaker, some_weaker_below}
 use Rattle.flow_link.proofs.RoundsOfWalks.{some_same_below}
 
 abbrev alike : Bool → Bool → Bool
@@ -61,10 +61,6 @@ more f g (n ∷ ns) h e =
       | false ↦ λ is none. let first = more_here (f n) (g n) (h n) is in omega arith
     ] in
     go (alike (f n) (g n)) refl e
-
-length_numbers : (first count : ℕ) → length (numbers_from first count) ≡ count
-length_numbers first zero = refl
-length_numbers first (suc count) = ap suc (length_numbers (suc first) count)
 
 every_at : (test : ℕ → Bool) (first count k : ℕ) → every test (numbers_from first count) ≡ true → k < count → test (first + k) ≡ true
 every_at test first zero k e low = absurd (omega arith)

@@ -18,37 +18,18 @@ use Rattle.flow_link.specs.Plan.{link_in}
 use Rattle.flow_link.specs.Told.{IsTakenOrUnderWay}
 use Rattle.flow_link.specs.Trace.{InputTrace, Run, nothing_left, nothing_posted, gave_over, took_over, marks_of, given_by, given_over, taken_by, taken_over, input_of}
 use Rattle.flow_link.proofs.ListTests.{and_true, every_below, front_append, front_refl, front_of_front, same_value_refl}
+use Rattle.flow_link.proofs.LinksByParts.{all_or_all_but_one, taken_is_front, within_test}
 use Rattle.flow_link.proofs.LinksTell.{links_tell}
 use Rattle.flow_net.specs.Keeps.{Keeps, facts_in}
 use Rattle.flow_net.specs.Parts.{NodeState, FeedState, PartsState, fresh_node, node_at, feed_at, line_at}
 use Rattle.flow_net.specs.Seen.{block_trace, input_trace, input_traces, run_with, sent_by, given_from, taken_into, source_view, target_view}
 use Rattle.flow_net.specs.Statements.{KeptIsLawful}
 
--- all but one is a front that is shorter by one
-all_or_all_but_one : (given taken : List Value) → IsTakenOrUnderWay given taken → is_all_or_all_but_one given taken ≡ true
-all_or_all_but_one given taken how =
-    let P : List Value → Type 0 = λ all. is_all_or_all_but_one all taken ≡ true in
-    ⊎_elim
-    (λ e. subst P (sym e)
-    (and_true (is_front taken taken) (leb (length taken) (length taken + 1)) (front_refl taken) (le-leb (length taken) (length taken + 1) (omega arith))))
-    (λ one. subst P (sym one.1)
-    (and_true (is_front taken (taken ++ one.0 ∷ [])) (leb (length (taken ++ one.0 ∷ [])) (length taken + 1))
-    (front_append taken (one.0 ∷ []))
-    (le-leb (length (taken ++ one.0 ∷ [])) (length taken + 1) (omega (arith, length-append taken (one.0 ∷ []))))))
-    how
-
--- what was taken begins what was given
-taken_is_front : (given taken posted : List Value) → IsTakenOrUnderWay given taken → is_front given posted ≡ true → is_front taken posted ≡ true
-taken_is_front given taken posted how front =
-    let P : List Value → Type 0 = λ all. is_front all posted ≡ true in
-    ⊎_elim
-    (λ e. subst P e front)
-    (λ one. front_of_front taken (one.0 ∷ []) posted (subst P one.1 front))
-    how
-
-within_test : (max : Option ℕ) (values : List Value) → IsWithin max (0 + length values) → is_within max values ≡ true
-within_test None values h = refl
-within_test (Some max) values h = le-leb (length values) max (omega arith)
+within_from_zero : (max : Option ℕ) (values : List Value) → IsWithin max (0 + length values) → is_within max values ≡ true
+within_from_zero max values h =
+    let P : ℕ → Type 0 = λ n. IsWithin max n in
+    let same : 0 + length values ≡ length values = omega arith in
+    within_test max values (subst P same h)
 
 within_none : (max : Option ℕ) → is_within max [] ≡ true
 within_none None = refl
@@ -147,7 +128,7 @@ module _ {W : Type 0} (meaning : W → Value → Result (List Value) WorkFault) 
       let max = (link_in layout.links l).max in
       subst (λ (vs : List Value). is_within max vs ≡ true) (given_is l s)
       (subst (λ (source : LinkSource). is_within max (given_from layout parts l source) ≡ true) is
-      (within_test max (given_from layout parts l (link_in layout.links l).source) (keeps.lines l small).in_order.plan.within))
+      (within_from_zero max (given_from layout parts l (link_in layout.links l).source) (keeps.lines l small).in_order.plan.within))
   within_at l (Input b) small is = within_none (link_in layout.links l).max
 
   sent_is_front : (b : ℕ) (feed : Option FeedState) → feed_at parts b ≡ feed → is_front (sent_by layout parts feed) (input_of run b).posted ≡ true

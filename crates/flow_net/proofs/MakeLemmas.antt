@@ -8,6 +8,7 @@ use Rattle.flow_link.specs.declared.draft.BlockDef.{BlockDef}
 use Rattle.flow_link.specs.Layout.{Layout}
 use Rattle.flow_link.specs.Lists.{numbers_from, below}
 use Rattle.flow_link.specs.Trace.{InputTrace}
+use Rattle.flow_link.proofs.ListTests.{below_more, length_numbers}
 use Rattle.flow_net.specs.Fresh.{IsFresh}
 use Rattle.flow_net.specs.Made.{node_in, nodes_of, HasNotBegun, NotBegun}
 use Rattle.flow_net.specs.Parts.{FeedState, LineState, PartsState, fresh_line}
@@ -38,23 +39,6 @@ module _ {X : Type 0} (p : X → Bool) (xs : List X) where
 
   pub none_at_all : length xs ≤ position_or_len p xs → position p xs ≡ None
   none_at_all past = grind arith
-
--- one more number
-pub numbers_more : (first count : ℕ) → numbers_from first (suc count) ≡ numbers_from first count ++ (first + count) ∷ []
-numbers_more first zero = ap (λ (n : ℕ). n ∷ []) (omega arith)
-numbers_more first (suc count) =
-    let e : suc first + count ≡ first + suc count = omega arith in
-    ap (λ (ns : List ℕ). first ∷ ns) (numbers_more (suc first) count ∙ ap (λ (n : ℕ). numbers_from (suc first) count ++ n ∷ []) e)
-
-pub below_more : (n : ℕ) → below (n + 1) ≡ below n ++ n ∷ []
-below_more n =
-    let next : n + 1 ≡ suc n = omega arith in
-    let last : 0 + n ≡ n = omega arith in
-    ap below next ∙ numbers_more 0 n ∙ ap (λ (k : ℕ). below n ++ k ∷ []) last
-
-pub length_numbers : (first count : ℕ) → length (numbers_from first count) ≡ count
-length_numbers first zero = refl
-length_numbers first (suc count) = ap suc (length_numbers (suc first) count)
 
 -- one more element that a function gives for its place
 pub mapped_more : {Y : Type 0} (f : ℕ → Y) (ys : List Y) (n : ℕ) (y : Y) → ys ≡ map f (below n) → y ≡ f n → ys ++ y ∷ [] ≡ map f (below (n + 1))

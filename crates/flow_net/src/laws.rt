@@ -57,7 +57,7 @@ pub fn every_schedule_is_lawful<W>()
     ensures { SchedulesGoWell W }
 {}
 
-/// What a block's work means of a value is never fault 0: want of memory, which has no number, is no meaning.
+/// What a block's work means of a value is never fault 0: out of memory, which has no number, is no meaning.
 pub fn works_fault_by_number<W: Work>()
     ensures { WorksFaultByNumber W W.meaning }
 {}

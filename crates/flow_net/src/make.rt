@@ -35,7 +35,7 @@ impl<W: Work> Net<W> {
     ghost use Rattle.flow_net.specs.Fresh.{IsFresh};
 
     /// A network in which nothing has happened, with these posted values and endings: one list for each block that is
-    /// an input, in the order of the blocks. For want of memory both come back.
+    /// an input, in the order of the blocks. Where memory is out, both come back.
     pub fn new(
         alloc: Global,
         plan: Plan<W>,

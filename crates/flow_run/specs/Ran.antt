@@ -64,7 +64,7 @@ pub record HasUnreadRecords (text : List ℕ) (records : Option (List ℕ)) (ref
   pub of_records : IsOfRecords refusal
   pub explained : IfSome records (λ bytes. Explains (input_names layout.blocks) bytes refusal)
 
--- why there is no network to which the records are posted; of want of memory nothing is said
+-- why there is no network to which the records are posted; of when memory is out nothing is said
 abbrev pub IsUnbegun : List ℕ → Option (List ℕ) → RunRefusal → Type 0
 IsUnbegun text records (Text fault) = IsUnplannedFor text (Fault fault) ⊎ HasUnreadRecords text records (Fault fault)
 IsUnbegun text records Ids = ⊥
@@ -89,7 +89,7 @@ pub record HasUnwrittenReport (text : List ℕ) (records : Option (List ℕ)) (l
   pub begins : Begins text records layout start
   pub settles : Settles layout (works_of meaning_of layout) limit start now settled
 
--- why there was no run, or no report of it; of want of memory nothing is said
+-- why there was no run, or no report of it; of when memory is out nothing is said
 abbrev pub IsUnreported : List ℕ → Option (List ℕ) → ℕ → RunRefusal → Type 0
 IsUnreported text records limit (Text fault) = IsUnbegun text records (Text fault) ⊎ HasUnwrittenReport text records limit fault
 IsUnreported text records limit Ids = UsesUpIds text records limit

@@ -19,19 +19,19 @@ use std::io::{Read, Write};
 /// now.
 pub fn run<R: Read + Drop, W: Write>(
     alloc: Global,
-    plan: &[u8],
+    text: &[u8],
     reader: R,
     writer: &mut W,
     workers: u32,
     limit: u64,
 ) -> Result<Ran, RunRefusal>
     requires { (1 ≤ workers) × (workers ≤ 64) }
-    ensures reported { IfOk result (IsReported plan.now (R.remaining reader) limit
+    ensures reported { IfOk result (IsReported text.now (R.remaining reader) limit
         (Appends (W.contents writer.old) (W.contents writer.new))) }
-    ensures refused { IfErr result (IsUnreported plan.now (R.remaining reader) limit) }
+    ensures refused { IfErr result (IsUnreported text.now (R.remaining reader) limit) }
     ensures left { IfErr result (λ refusal. IsLeft refusal (W.contents writer.old) (W.contents writer.new)) }
 {
-    let mut net = begin(alloc, plan, reader)?;
+    let mut net = begin(alloc, text, reader)?;
     let settled = match net.settle(alloc, limit) {
         Ok(settled) => settled,
         Err(fault) => return Err(refusal_of_net(fault)),
@@ -42,11 +42,11 @@ pub fn run<R: Read + Drop, W: Write>(
 }
 
 /// The network of a text, to which the records are posted.
-fn begin<R: Read + Drop>(alloc: Global, plan: &[u8], reader: R) -> Result<Net<Steps>, RunRefusal>
-    ensures begins { IfOk result (λ net. Begins plan.now (R.remaining reader) (layout_in net) (parts_of net)) }
-    ensures refused { IfErr result (IsUnbegun plan.now (R.remaining reader)) }
+fn begin<R: Read + Drop>(alloc: Global, text: &[u8], reader: R) -> Result<Net<Steps>, RunRefusal>
+    ensures begins { IfOk result (λ net. Begins text.now (R.remaining reader) (layout_in net) (parts_of net)) }
+    ensures refused { IfErr result (IsUnbegun text.now (R.remaining reader)) }
 {
-    let plan = read_plan(alloc, plan)?;
+    let plan = read_plan(alloc, text)?;
     let posted = read_records(alloc, reader, &plan)?;
     match Net::new(alloc, plan, posted) {
         Ok(net) => Ok(net),

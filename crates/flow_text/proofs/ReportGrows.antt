@@ -7,6 +7,7 @@ use Rattle.std.proofs.Math.Seq.{take-length}
 use Rattle.std.proofs.lemmas.List.Elements.{filter-append}
 use Rattle.std.specs.List.{filter, concat}
 use Rattle.std.specs.Io.KnownBytes.{Appends}
+use Rattle.flow_link.proofs.ListTests.{below_more}
 use Rattle.flow_value.specs.declared.value.Value.{Value}
 use Rattle.flow_link.specs.declared.trace.Mark.{Mark}
 use Rattle.flow_link.specs.Lists.{is_empty, below, numbers_from}
@@ -52,16 +53,6 @@ pub one-more : (values more last : List Value) (v : Value) → more ≡ values +
 one-more values more last v is one = is ∙ ap (λ rest. values ++ rest) (sym one)
 
 -- one more line
-numbers-more : (first count : ℕ) → numbers_from first (suc count) ≡ numbers_from first count ++ (first + count) ∷ []
-numbers-more first zero = ap (λ n. n ∷ []) (omega arith)
-numbers-more first (suc count) = ap (λ rest. first ∷ rest) (numbers-more (suc first) count ∙ ap (λ n. numbers_from (suc first) count ++ n ∷ []) (omega arith))
-
-pub below-more : (n : ℕ) → below (n + 1) ≡ below n ++ n ∷ []
-below-more n =
-    let next : n + 1 ≡ suc n = omega arith in
-    let last : 0 + n ≡ n = omega arith in
-    ap below next ∙ numbers-more 0 n ∙ ap (λ m. below n ++ m ∷ []) last
-
 concat-more : (lines : List (List ℕ)) (line : List ℕ) → concat (lines ++ line ∷ []) ≡ concat lines ++ line
 concat-more [] line = append-nil line
 concat-more (x ∷ lines) line = ap (λ rest. x ++ rest) (concat-more lines line) ∙ sym (append_assoc x (concat lines) line)
@@ -70,7 +61,7 @@ pub lines-more : (f : ℕ → List ℕ) (n : ℕ) (old mid new : Option (List �
     → Appends old new (concat (map f (below (n + 1))))
 lines-more f n old mid new before last =
     let grown : concat (map f (below (n + 1))) ≡ concat (map f (below n)) ++ f n =
-    ap (λ ns. concat (map f ns)) (below-more n) ∙ ap concat (map-append f (below n) (n ∷ [])) ∙ concat-more (map f (below n)) (f n) in
+    ap (λ ns. concat (map f ns)) (below_more n) ∙ ap concat (map-append f (below n) (n ∷ [])) ∙ concat-more (map f (below n)) (f n) in
     rw grown (appends-both old mid new _ _ before last)
 
 -- the same, of the numbers that pass
@@ -78,14 +69,14 @@ pub lines-more_if : (test : ℕ → Bool) (f : ℕ → List ℕ) (n : ℕ) (old 
     → Appends old mid (concat (map f (filter test (below n)))) → Appends mid new (f n) → Appends old new (concat (map f (filter test (below (n + 1)))))
 lines-more_if test f n old mid new passes before last =
     let kept : filter test (below (n + 1)) ≡ filter test (below n) ++ n ∷ [] =
-    ap (filter test) (below-more n) ∙ filter-append test (below n) (n ∷ []) ∙ ap (λ b. filter test (below n) ++ cond b (n ∷ []) []) passes in
+    ap (filter test) (below_more n) ∙ filter-append test (below n) (n ∷ []) ∙ ap (λ b. filter test (below n) ++ cond b (n ∷ []) []) passes in
     let grown : concat (map f (filter test (below (n + 1)))) ≡ concat (map f (filter test (below n))) ++ f n =
     ap (λ ns. concat (map f ns)) kept ∙ ap concat (map-append f (filter test (below n)) (n ∷ [])) ∙ concat-more (map f (filter test (below n))) (f n) in
     rw grown (appends-both old mid new _ _ before last)
 
 pub lines-same : (test : ℕ → Bool) (n : ℕ) → test n ≡ false → filter test (below (n + 1)) ≡ filter test (below n)
 lines-same test n fails =
-    ap (filter test) (below-more n) ∙ filter-append test (below n) (n ∷ []) ∙ ap (λ b. filter test (below n) ++ cond b (n ∷ []) []) fails ∙ append-nil _
+    ap (filter test) (below_more n) ∙ filter-append test (below n) (n ∷ []) ∙ ap (λ b. filter test (below n) ++ cond b (n ∷ []) []) fails ∙ append-nil _
 
 -- one more block that is counted, or not
 pub count-next : {A : Type 0} (test : A → Bool) (xs : List A) (at : ℕ) (x : A) → at < length xs → x ≡ get_or xs at x

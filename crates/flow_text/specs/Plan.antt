@@ -27,7 +27,7 @@ pub record HasPlanFault (text : List ℕ) (fault : PlanFault) : Type 0 where
   pub read : IsReadAs text draft
   pub first : first_fault_now draft.blocks.items draft.links.items ≡ Some fault
 
--- the text is read as a draft that is refused so; of want of memory nothing is said
+-- the text is read as a draft that is refused so; of when memory is out nothing is said
 abbrev pub IsNoPlanFor : List ℕ → TextRefusal → Type 0
 IsNoPlanFor text (Fault (Plan fault)) = HasPlanFault text fault
 IsNoPlanFor text (Fault _) = ⊥

@@ -116,7 +116,7 @@ pub record HasFault (text : List ℕ) (fault : TextFault) : Type 0 where
 abbrev pub IsSyntaxFault : List ℕ → TextFault → Type 0
 IsSyntaxFault text fault = (fault ≡ Syntax) × (IsUtf8 text → parse_document text ≡ None)
 
--- why a text is refused; of want of memory nothing is said
+-- why a text is refused; of when memory is out nothing is said
 abbrev pub IsRefusedFor : List ℕ → TextRefusal → Type 0
 IsRefusedFor text (Fault fault) = IsSyntaxFault text fault ⊎ HasFault text fault
 IsRefusedFor text Memory = Unit {0}

@@ -96,7 +96,7 @@ IsFirstFault names bytes fault =
     × Reached default_config at.StartRecord (strip_bom bytes) (rows ++ row ∷ []) state rest
     × AllFine names rows × HasFault names (told_number (length rows + 1)) row fault
 
--- reading stopped for a fault of a record, or of the reader, or for want of memory
+-- reading stopped for a fault of a record, or of the reader, or since memory was out
 abbrev pub IsOfRecords : TextRefusal → Type 0
 IsOfRecords (Fault (Csv _)) = Unit {0}
 IsOfRecords (Fault (NotUtf8 _)) = Unit {0}

@@ -3,7 +3,7 @@ use Rattle.std.specs.Prelude.{ℕ, Option, Some, None}
 use Rattle.flow_value.specs.declared.work.WorkFault.{WorkFault}
 use Rattle.flow_value.specs.declared.work.WorkFault.TheVariants.{NotInt, NotText, NotRow, NoField, Range, Rejected, Memory}
 
--- the number by which a report names a fault; want of memory faults no block and has none
+-- the number by which a report names a fault; out of memory faults no block and has none
 abbrev pub number_of : WorkFault → Option ℕ
 number_of NotInt = Some 1
 number_of NotText = Some 2

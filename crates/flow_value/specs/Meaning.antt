@@ -6,7 +6,7 @@ use Rattle.flow_value.specs.declared.value.Value.{Value}
 use Rattle.flow_value.specs.declared.work.WorkFault.{WorkFault}
 use Rattle.flow_value.specs.declared.work.WorkFault.TheVariants.{Memory}
 
--- values are the meaning's values, and a fault is the meaning's, unless memory was wanting
+-- values are the meaning's values, and a fault is the meaning's, unless memory was out
 abbrev pub RunsAs : Result (List Value) WorkFault → Result (Vec Value Global) WorkFault → Type 0
 RunsAs meaning (Ok values) = meaning ≡ Ok values.items
 RunsAs meaning (Err fault) = fault ≢ Memory → meaning ≡ Err fault

@@ -1,4 +1,4 @@
--- A function's faults are those of its steps, and a step's are its own: none is that memory was wanting.
+-- A function's faults are those of its steps, and a step's are its own: none is that memory was out.
 use Rattle.std.specs.Prelude.{◌≡◌, ◌≢◌, ℕ, ◌≤◌, nat_le, List, [], ◌∷◌, Bool, true, false, if◌then◌else◌, slice_get, Option, Some, None, Result, Ok, Err, ℤ, pos, negsuc, ◌+ℤ◌, ◌*ℤ◌}
 use Rattle.std.specs.Ordering.{int_eq}
 use Rattle.std.specs.Str.Parse.{signed_digits_value}
@@ -44,7 +44,7 @@ counted_to-never : (n : ℤ) → counted_to n ≢ Err Memory
 counted_to-never (pos n) e = chosen-never (nat_le n 1000) (Ok (ints_below n)) (Err Range) (λ e. cc) (λ e. cc) e
 counted_to-never (negsuc n) e = cc
 
--- no step's fault is want of memory
+-- no step's fault is out of memory
 pub applied-never : (step : Step) (v : Value) → applied step v ≢ Err Memory
 applied-never Id v e = cc
 applied-never ToInt (Int n) e = cc
@@ -99,7 +99,7 @@ meaning_of-never [] v e = cc
 meaning_of-never (step ∷ rest) v e =
     then_each-never (applied step v) (meaning_of rest) (applied-never step v) (meaning_of-never rest) e
 
--- a fault that is not want of memory has a number, from 1 to 6
+-- a fault that is not out of memory has a number, from 1 to 6
 pub number_of-some : (fault : WorkFault) → fault ≢ Memory → (n : ℕ) × (number_of fault ≡ Some n) × (1 ≤ n) × (n ≤ 6)
 number_of-some NotInt never = (1, refl, omega arith, omega arith)
 number_of-some NotText never = (2, refl, omega arith, omega arith)

@@ -21,7 +21,7 @@ row_in (Int _) = Err NotRow
 row_in (Text _) = Err NotRow
 row_in (Row items) = Ok items
 
--- one value is what is given, or the fault, unless memory was wanting
+-- one value is what is given, or the fault, unless memory was out
 abbrev pub GivesOne : Given → Result Value WorkFault → Type 0
 GivesOne given (Ok v) = given ≡ one v
 GivesOne given (Err fault) = fault ≢ Memory → given ≡ Err fault

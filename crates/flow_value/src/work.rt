@@ -8,7 +8,7 @@ use thiserror::Error;
 
 /// Why a work gave no values.
 ///
-/// Each fault but want of memory has a number; 7 is not among them, since a transform gives it to a result that is not
+/// Each fault but out of memory has a number; 7 is not among them, since a transform gives it to a result that is not
 /// one value.
 #[derive(Clone, Copy, Debug, PartialEq, Eq, Hash, Error)]
 pub enum WorkFault {
@@ -29,7 +29,7 @@ pub enum WorkFault {
 }
 
 impl WorkFault {
-    /// The number by which a report names the fault: 1 to 6, and none for want of memory.
+    /// The number by which a report names the fault: 1 to 6, and none for out of memory.
     pub fn number(self) -> Option<u32>
         ensures { result ≡ number_of self }
     {
@@ -79,10 +79,10 @@ pub trait Work: Eq + Send + Sync + Drop {
     ghost use Rattle.flow_value.specs.Meaning.{RunsAs};
 
     /// The values that it gives for a value, or its fault. It holds whatever memory there is, so its fault is never
-    /// want of memory.
+    /// out of memory.
     ghost meaning: { Self → Value → Result (List Value) WorkFault };
 
-    /// Applies it to a value; want of memory aside, the answer is its meaning.
+    /// Applies it to a value. Unless memory is out, the answer is its meaning.
     fn run(&self, alloc: Global, value: &Value) -> Result<Vec<Value>, WorkFault>
         ensures { RunsAs (meaning self.now value.now) result };
 

@@ -5,4 +5,4 @@ use Rattle.flow_cli.proofs.input.run_buffered.Goals as goal
 pub returns-in_err-ran-clause-refused : goal.returns-in_err-ran-clause-refused
 returns-in_err-ran-clause-refused g c =
     let p = err_from_is_err_and c.from_residual.result c.from_residual.ensures.1 in
-    rw (p.1, p.2) (refused_of_any c.args.plan.now _ c.args.bounds.limit c.in_err-ran.field-0.0 c.in_err-ran.ensures.refused)
+    rw (p.1, p.2) (refused_of_any c.args.text.now _ c.args.bounds.limit c.in_err-ran.field-0.0 c.in_err-ran.ensures.refused)

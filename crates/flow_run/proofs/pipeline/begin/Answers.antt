@@ -31,13 +31,13 @@ returns-in-Ok-clause-begins g c =
 pub returns-in_err-plan-clause-refused : goal.returns-in_err-plan-clause-refused
 returns-in_err-plan-clause-refused g c =
     let p = err_from_is_err_and c.from_residual.result c.from_residual.ensures.1 in
-    rw (p.1, p.2) (no_plan c.args.plan.now (g.R.Read.remaining c.args.reader) c.in_err-plan.field-0.0 c.in_err-plan.ensures.refused)
+    rw (p.1, p.2) (no_plan c.args.text.now (g.R.Read.remaining c.args.reader) c.in_err-plan.field-0.0 c.in_err-plan.ensures.refused)
 
 pub returns-in_err-posted-clause-refused : goal.returns-in_err-posted-clause-refused
 returns-in_err-posted-clause-refused g c =
     let p = err_from_is_err_and c.from_residual-in_err-posted.result c.from_residual-in_err-posted.ensures.1 in
     rw (p.1, p.2)
-    (no_records c.args.plan.now (g.R.Read.remaining c.args.reader) c.in_err-posted.field-0.0
+    (no_records c.args.text.now (g.R.Read.remaining c.args.reader) c.in_err-posted.field-0.0
     (record {
       layout = layout_of c.in_ok-plan.plan;
       planned = c.in_ok-plan.ensures.planned;

@@ -28,7 +28,7 @@ returns-in_err-write_report-clause-refused g c =
     let net = c.settle.new.self in
     let same_plan = c.in-Ok.ensures.same_plan in
     rw (p.1, p.2)
-    (no_report c.args.plan.now (g.R.Read.remaining c.args.reader) c.args.limit c.in_err-write_report.field-0.0 c.in_err-write_report.ensures.refused
+    (no_report c.args.text.now (g.R.Read.remaining c.args.reader) c.args.limit c.in_err-write_report.field-0.0 c.in_err-write_report.ensures.refused
     (record {
       is_write = refl;
       layout = layout_in net;
