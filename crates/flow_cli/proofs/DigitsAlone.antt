@@ -1,24 +1,11 @@
 -- What `parse` makes of digits alone.
-use Rattle.std.proofs.Common.{◌≡◌, ℕ, ◌<◌, ◌^◌, List, length, Bool, true, false, refl, ◌∙◌, ap, rules, cond, ◌&&◌, Err, Some, None, sym}
-use Rattle.std.specs.Char.{is_ascii_digit}
-use Rattle.std.specs.List.{list_all}
+use Rattle.std.proofs.Common.{◌≡◌, ℕ, ◌<◌, ◌^◌, List, length, true, ◌∙◌, ap, cond, Err, Some, None, sym}
 use Rattle.std.specs.Str.Parse.{digits_value, ParsesUnsigned}
 use Rattle.std.proofs.lemmas.Bool.Decides.{Decides-ltb}
-use Rattle.std.proofs.lemmas.Str.Parse.{IsNumeralModel, numerals_by_value, parse_digits}
+use Rattle.std.proofs.lemmas.Str.Parse.{parse_digits}
 use Rattle.flow_value.specs.Number.{is_digits}
+use Rattle.flow_value.proofs.DigitsParsed.{numerals, both_true, not_true}
 use Rattle.flow_cli.specs.Number.{in_64_bits, number_of}
-
-numerals : IsNumeralModel (λ ds. list_all is_ascii_digit ds ≡ true) (digits_value 10)
-numerals = numerals_by_value _ (search rules)
-
-both_true : (a b : Bool) → (a && b) ≡ true → (a ≡ true) × (b ≡ true)
-both_true true true e = (refl, refl)
-both_true true false e = cc
-both_true false b e = cc
-
-not_true : (b : Bool) → (b ≡ true → ⊥) → b ≡ false
-not_true true h = absurd (h refl)
-not_true false h = refl
 
 -- digits that `parse` refuses are past 64 bits
 pub number_of-refused : {E : Type 0} (bs : List ℕ) (error : E) → is_digits bs ≡ true → ParsesUnsigned 64 10 bs (Err error) → None ≡ number_of bs

@@ -18,6 +18,7 @@ use Rattle.flow_link.specs.PlanFaults.{lacks_port, lacks_output, options_fit, is
 use Rattle.flow_link.specs.NotBuilt.{stands_now, first_at, name_faults, end_faults, option_faults, is_built_kind, is_built_block, is_bad_block, is_built_link, is_further_link, first_fault_now}
 use Rattle.flow_link.specs.Layout.{IsLaidOut}
 use Rattle.flow_link.proofs.LinksLaidOut.{laid_out_of}
+use Rattle.flow_link.proofs.ListTests.{or_first}
 use Rattle.flow_link.proofs.FirstInOrder.{position_is_first, none_below}
 
 module _ {W : Type 0} (blocks : List (BlockDef W)) where
@@ -307,9 +308,6 @@ contrary : (a b : Bool) → (a ≡ true → b ≡ true) → b ≡ false → a �
 contrary true b implies e = let h = implies refl in cc
 contrary false b implies e = refl
 
-or_left : (a b : Bool) → a ≡ true → (a || b) ≡ true
-or_left a b e = rw e refl
-
 -- where the weaker test passes nothing, the stronger passes nothing
 none_of_stronger : {A : Type 0} (strong weak : A → Bool) (xs : List A) → ((x : A) → strong x ≡ true → weak x ≡ true)
     → find weak xs ≡ None → find strong xs ≡ None
@@ -322,10 +320,10 @@ module _ {W : Type 0} (blocks : List (BlockDef W)) (links : List LinkDef) where
   -- what stands by the format stands now
   pub stands_then_now : (fault : PlanFault) → stands blocks links fault ≡ true → stands_now blocks links fault ≡ true
   unfolding is_bad_block
-  stands_then_now (BadOption (Block b)) e = or_left (not (options_fit (block_in blocks b))) (not (is_built_block (block_in blocks b))) e
+  stands_then_now (BadOption (Block b)) e = or_first (not (options_fit (block_in blocks b))) (not (is_built_block (block_in blocks b))) e
   stands_then_now (BadOption (at_link l)) e =
-      or_left _ (is_further_link blocks (named_links blocks links) l)
-      (or_left (not (is_in 1 2147483647 (link_in (named_links blocks links) l).max)) (get_or (map (λ link. not (is_built_link link)) links) l false) e)
+      or_first _ (is_further_link blocks (named_links blocks links) l)
+      (or_first (not (is_in 1 2147483647 (link_in (named_links blocks links) l).max)) (get_or (map (λ link. not (is_built_link link)) links) l false) e)
   stands_then_now Limit e = e
   stands_then_now (DuplicateName b) e = e
   stands_then_now (UnknownBlock l) e = e

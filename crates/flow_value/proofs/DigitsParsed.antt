@@ -10,7 +10,7 @@ use Rattle.std.proofs.lemmas.Str.Parse.{IsNumeralModel, numerals_by_value}
 use Rattle.flow_value.specs.Number.{without_minus, is_digits, is_i64, int_of}
 use Rattle.flow_value.specs.declared.work.WorkFault.TheVariants.{NotInt, Range}
 
-numerals : IsNumeralModel (λ ds. list_all is_ascii_digit ds ≡ true) (digits_value 10)
+pub numerals : IsNumeralModel (λ ds. list_all is_ascii_digit ds ≡ true) (digits_value 10)
 numerals = numerals_by_value _ (search rules)
 
 pub chosen : {A : Type 0} (b : Bool) (x y : A) → b ≡ true → cond b x y ≡ x
@@ -19,12 +19,12 @@ chosen b x y e = ap (λ v. cond v x y) e
 pub left_over : {A : Type 0} (b : Bool) (x y : A) → b ≡ false → cond b x y ≡ y
 left_over b x y e = ap (λ v. cond v x y) e
 
-both_true : (a b : Bool) → (a && b) ≡ true → (a ≡ true) × (b ≡ true)
+pub both_true : (a b : Bool) → (a && b) ≡ true → (a ≡ true) × (b ≡ true)
 both_true true true e = (refl, refl)
 both_true true false e = cc
 both_true false b e = cc
 
-not_true : (b : Bool) → (b ≡ true → ⊥) → b ≡ false
+pub not_true : (b : Bool) → (b ≡ true → ⊥) → b ≡ false
 not_true true h = absurd (h refl)
 not_true false h = refl
 
