@@ -5,7 +5,7 @@ ghost use Rattle.flow_link.specs.Drafts.{block_alone, link_alone};
 use flow_value::{Text, When};
 
 /// What a block does with its messages.
-#[derive(Clone, Copy, Debug, PartialEq, Eq, Hash)]
+#[derive(Clone, Copy, Debug, PartialEq, Eq)]
 pub enum BlockKind {
     /// Hands each message on as it is.
     ///

@@ -21,7 +21,7 @@ ghost use Rattle.flow_link.specs.Phase.{phase_after, message_id, code_of, id_of,
 use flow_value::{MAX_ID, MessageHeader};
 
 /// How a link ended.
-#[derive(Clone, Copy, Debug, PartialEq, Eq, Hash)]
+#[derive(Clone, Copy, Debug, PartialEq, Eq)]
 pub enum LinkEnd {
     /// Nothing is passed on: the link has carried all that it may, or it does not propagate.
     Plain,
@@ -36,7 +36,7 @@ pub enum LinkEnd {
 }
 
 /// How far the hand-over of a message over one link has come.
-#[derive(Clone, Copy, Debug, PartialEq, Eq, Hash)]
+#[derive(Clone, Copy, Debug, PartialEq, Eq)]
 pub enum Phase {
     /// Nothing is under way.
     Idle,
@@ -67,7 +67,7 @@ pub enum Phase {
 }
 
 /// What an end of a link does to its phase.
-#[derive(Clone, Copy, Debug, PartialEq, Eq, Hash)]
+#[derive(Clone, Copy, Debug, PartialEq, Eq)]
 pub enum Move {
     /// The source offers a message, which the target may postpone.
     ///

@@ -14,7 +14,7 @@ use std::fmt;
 use thiserror::Error;
 
 /// Where the messages of a link come from.
-#[derive(Clone, Copy, Debug, PartialEq, Eq, Hash)]
+#[derive(Clone, Copy, Debug, PartialEq, Eq)]
 pub enum LinkSource {
     /// A block, by its number.
     Block(usize),
@@ -23,7 +23,7 @@ pub enum LinkSource {
 }
 
 /// Where the messages of a link go to.
-#[derive(Clone, Copy, Debug, PartialEq, Eq, Hash)]
+#[derive(Clone, Copy, Debug, PartialEq, Eq)]
 pub enum LinkTarget {
     /// A port of a block, by their numbers.
     Port(usize, u32),
@@ -32,7 +32,7 @@ pub enum LinkTarget {
 }
 
 /// A link as it was checked.
-#[derive(Clone, Copy, Debug, PartialEq, Eq, Hash)]
+#[derive(Clone, Copy, Debug, PartialEq, Eq)]
 pub struct Link {
     pub source: LinkSource,
     pub target: LinkTarget,
@@ -45,7 +45,7 @@ pub struct Link {
 }
 
 /// What a fault of a draft stands at.
-#[derive(Clone, Copy, Debug, PartialEq, Eq, Hash)]
+#[derive(Clone, Copy, Debug, PartialEq, Eq)]
 pub enum Place {
     /// A block, by its number.
     Block(usize),
@@ -63,7 +63,7 @@ impl fmt::Display for Place {
 }
 
 /// Why a draft is no plan. They are looked for in this order, each over the blocks and then the links.
-#[derive(Clone, Copy, Debug, PartialEq, Eq, Hash, Error)]
+#[derive(Clone, Copy, Debug, PartialEq, Eq, Error)]
 pub enum PlanFault {
     /// There are more than 256 blocks or 1,024 links.
     #[error("there are more than 256 blocks or 1,024 links")]

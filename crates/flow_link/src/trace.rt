@@ -21,7 +21,7 @@ pub enum Mark {
 }
 
 /// How a block ended.
-#[derive(Clone, Copy, Debug, PartialEq, Eq, Hash)]
+#[derive(Clone, Copy, Debug, PartialEq, Eq)]
 pub enum Outcome {
     /// It worked on all that it took, and gave it all.
     Done,
@@ -30,7 +30,7 @@ pub enum Outcome {
 }
 
 /// How the values of an input end.
-#[derive(Clone, Copy, Debug, PartialEq, Eq, Hash)]
+#[derive(Clone, Copy, Debug, PartialEq, Eq)]
 pub enum Ending {
     /// More may be posted.
     Open,

@@ -10,7 +10,7 @@ pub struct Posted {
 }
 
 /// How a run stopped.
-#[derive(Clone, Copy, Debug, PartialEq, Eq, Hash)]
+#[derive(Clone, Copy, Debug, PartialEq, Eq)]
 pub enum Settled {
     /// Nothing can move any more.
     Quiet,
@@ -19,7 +19,7 @@ pub enum Settled {
 }
 
 /// What became of a block.
-#[derive(Clone, Copy, Debug, PartialEq, Eq, Hash)]
+#[derive(Clone, Copy, Debug, PartialEq, Eq)]
 pub enum State {
     /// It takes messages.
     Open,

@@ -50,7 +50,7 @@ impl MessageHeader {
 /// A target's answer to an offer, or a source's to a wish.
 ///
 /// Microsoft: `DataflowMessageStatus`, with the same numbers.
-#[derive(Clone, Copy, Debug, PartialEq, Eq, PartialOrd, Ord, Hash)]
+#[derive(Clone, Copy, Debug, PartialEq, Eq)]
 pub enum MessageStatus {
     /// The target takes the message.
     Accepted = 0,

@@ -7,7 +7,7 @@ use crate::grammar::name_and_number;
 use crate::value::Value;
 
 /// A predicate; but for `Any` it admits numbers alone.
-#[derive(Clone, Copy, Debug, PartialEq, Eq, Hash)]
+#[derive(Clone, Copy, Debug, PartialEq, Eq)]
 pub enum When {
     /// `any`: every value.
     Any,

@@ -10,7 +10,7 @@ use thiserror::Error;
 ///
 /// Each fault but out of memory has a number; 7 is not among them, since a transform gives it to a result that is not
 /// one value.
-#[derive(Clone, Copy, Debug, PartialEq, Eq, Hash, Error)]
+#[derive(Clone, Copy, Debug, PartialEq, Eq, Error)]
 pub enum WorkFault {
     #[error("not a number")]
     NotInt,
