@@ -10,7 +10,7 @@ use Rattle.std.specs.Io.KnownBytes.{Appends}
 use Rattle.flow_link.proofs.ListTests.{below_more}
 use Rattle.flow_value.specs.declared.value.Value.{Value}
 use Rattle.flow_link.specs.declared.trace.Mark.{Mark}
-use Rattle.flow_link.specs.Lists.{is_empty, below, numbers_from}
+use Rattle.flow_link.specs.Lists.{is_empty, below}
 use Rattle.flow_link.specs.declared.draft.BlockDef.{BlockDef}
 use Rattle.flow_link.specs.Layout.{input_link as the_input_link, input_links, IsLaidOut, between_of, exit_link as the_exit_link, exit_links, outer_links}
 use Rattle.flow_link.specs.declared.plan.Link.{Link}

@@ -2,6 +2,7 @@ pub mod Built
 pub mod Complete
 pub mod FaultText
 pub mod Keys
+pub mod Listed
 pub mod Passes
 pub mod Plan
 pub mod Printed

@@ -3,7 +3,9 @@ use Rattle.std.specs.Prelude.{◌≡◌, ◌≢◌, ℕ, ◌+◌, ◌-◌, ◌^�
 use Rattle.std.specs.Borrow.{Bor}
 use Rattle.std.specs.List.{filter}
 use Rattle.std.specs.Str.{bytes_eq, IsUtf8}
-use Rattle.csv.specs.Reading.{default_config, strip_bom, Reached, AreRecords}
+use Rattle.csv.specs.Reading.{default_config, strip_bom, Reached, AreRecords, Ready, reader_config, reader_trim}
+use Rattle.csv.specs.declared.reader.Reader.{Reader}
+use Rattle.csv.specs.declared.reader.Trim.TheVariants as trim
 use Rattle.csv.specs.declared.parser.State.{State}
 use Rattle.csv.specs.declared.parser.State.TheVariants as at
 use Rattle.flow_value.specs.declared.value.Value.{Value}
@@ -20,6 +22,12 @@ use Rattle.flow_text.specs.declared.fault.TextRefusal.TheVariants.{Fault, Memory
 -- the fields of a record, and records
 abbrev pub Row : Type 0
 Row = List (List ℕ)
+
+-- the reader gives each record of a text, the first too, in the usual format and with all that stands in its fields
+pub record TakesAll {R : Type 0} (reader : Reader R) : Type 0 where
+  pub trim : reader_trim reader ≡ trim.None
+  pub ready : Ready reader
+  pub config : reader_config reader ≡ default_config
 
 -- the names of the blocks that are inputs
 abbrev pub input_names : {W : Type 0} → List (BlockDef W) → List (List ℕ)

@@ -1,5 +1,5 @@
 -- The report of a run: for each block what it did and what it has left, line by line.
-use Rattle.std.specs.Prelude.{ℕ, ◌+◌, ◌-◌, Bool, true, false, cond, List, [], ◌∷◌, ◌++◌, length, map, take, count_by, codes}
+use Rattle.std.specs.Prelude.{ℕ, ◌+◌, ◌-◌, Bool, true, false, cond, List, [], ◌∷◌, ◌++◌, length, map, take, count_by, codes, Option, Some, None}
 use Rattle.std.specs.List.{filter, concat}
 use Rattle.std.specs.Fmt.{decimal}
 use Rattle.flow_value.specs.Function.{meaning_of}
@@ -34,6 +34,11 @@ labelled label values = label ++ (32 ∷ []) ++ list_text values ++ (10 ∷ [])
 
 abbrev pub numbered : List ℕ → ℕ → List Value → List ℕ
 numbered label number values = labelled (label ++ decimal number) values
+
+-- a label, and a number behind it if there is one
+abbrev pub label_text : List ℕ → Option ℕ → List ℕ
+label_text label None = label
+label_text label (Some number) = label ++ decimal number
 
 abbrev pub block_line : List ℕ → State → List ℕ
 block_line name state = codes "block " ++ name ++ (32 ∷ []) ++ state_word state ++ (10 ∷ [])

@@ -7,7 +7,7 @@ use flow_link::{Place, PlanFault};
 use std::fmt;
 
 /// A fault of a plan, as a refusal's line has it.
-#[derive(Clone, Copy, Debug)]
+#[derive(Clone, Copy)]
 pub(crate) struct PlanLine(pub(crate) PlanFault);
 
 impl fmt::Display for PlanLine {

@@ -1,14 +1,16 @@
 //! Reads records: each names an input and has a value for it.
 ghost use Rattle.std.specs.Prelude.{◌≡◌, ◌<◌, ◌+◌, ◌∷◌, ◌++◌, ◌⊎◌, [], length, replicate, get_or, set, IfOk, IfErr};
-ghost use Rattle.std.specs.Prelude.{OnOk, IfSome, MatchOption, MatchResult, Some, cond, position};
+ghost use Rattle.std.specs.Prelude.{OnOk, IfSome, MatchOption, MatchResult, Some, cond, option_map, position, true};
 ghost use Rattle.std.specs.Str.{IsUtf8, bytes_eq};
+ghost use Rattle.csv.specs.Reading.{ReadRecord, reader_state, source_of, strip_bom};
 ghost use Rattle.csv.specs.Records.{fields_of};
+ghost use Rattle.csv.specs.declared.parser.State.TheVariants as at;
 ghost use Rattle.flow_link.specs.Planned.{layout_of};
 ghost use Rattle.flow_text.specs.Records.{texts_of, input_names, input_named, IsFirstOf, HasFault, PostsTo, PostAll};
-ghost use Rattle.flow_text.specs.Records.{IsOfRecords, Explains, room, posted_values, posted_endings};
+ghost use Rattle.flow_text.specs.Records.{IsOfRecords, Explains, TakesAll, room, posted_values, posted_endings};
 
 use crate::fault::{TextFault, TextRefusal};
-use csv::{ByteRecord, Error, ErrorKind, ReaderBuilder};
+use csv::{ByteRecord, Error, ErrorKind, Reader, ReaderBuilder};
 use flow_link::{BlockDef, Ending, Plan};
 use flow_net::Posted;
 use flow_value::{Steps, Text, Value};
@@ -151,6 +153,35 @@ fn reading_failed(error: &Error) -> TextRefusal
     }
 }
 
+// A reader that gives each record of a text, the first too, whatever number of fields it has.
+fn record_reader<R: Read + Drop>(alloc: Global, reader: R) -> Reader<R>
+    ensures takes { TakesAll result }
+    ensures state { reader_state result ≡ at.StartRecord }
+    ensures source { source_of R.remaining result ≡ option_map strip_bom (R.remaining reader) }
+{
+    ReaderBuilder::new()
+        .has_headers(false)
+        .flexible(true)
+        .from_reader(alloc, reader)
+}
+
+// Reads the next record, if there is one.
+fn read_row<R: Read + Drop>(
+    records: &mut Reader<R>,
+    row: &mut ByteRecord,
+) -> Result<bool, TextRefusal>
+    requires { TakesAll records.old }
+    ensures reads { IfOk result (λ found. ReadRecord R.remaining records.old records.new found (fields_of row.new)) }
+    ensures takes { IfOk result (λ found. found ≡ true → TakesAll records.new) }
+    ensures refused { IfErr result (λ refusal. (refusal ≡ TextRefusal.Memory)
+        ⊎ (refusal ≡ TextRefusal.Fault TextFault.Read)) }
+{
+    match records.read_byte_record(row) {
+        Ok(found) => Ok(found),
+        Err(error) => Err(reading_failed(&error)),
+    }
+}
+
 // The values of the inputs with these names. The count stops at the greatest number, the reading does not.
 fn read_named<R: Read + Drop>(
     alloc: Global,
@@ -165,20 +196,16 @@ fn read_named<R: Read + Drop>(
     ensures refused { IfErr result (λ refusal. IfSome (R.remaining reader)
         (λ bytes. Explains (texts_of names.now) bytes refusal)) }
 {
-    let mut records = ReaderBuilder::new()
-        .has_headers(false)
-        .flexible(true)
-        .from_reader(alloc, reader);
+    let mut records = record_reader(alloc, reader);
     let mut row = ByteRecord::new(alloc);
     let mut posted = nothing_posted(alloc, names.len())?;
     // the input of the last record; at first that of none
     let mut last = names.len();
     let mut number = 0u64;
     'reading: loop {
-        match records.read_byte_record(&mut row) {
-            Ok(true) => {}
-            Ok(false) => return Ok(posted),
-            Err(error) => return Err(reading_failed(&error)),
+        let found = read_row(&mut records, &mut row)?;
+        if !found {
+            return Ok(posted);
         }
         number = number.saturating_add(1);
         match read_fields(names, last, &row, number) {

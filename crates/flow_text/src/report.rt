@@ -13,17 +13,30 @@ ghost use Rattle.flow_text.specs.Report.{state_word, block_line, input_line, por
 ghost use Rattle.flow_text.specs.Report.{exit_line, settled_line, last_line, is_input, is_output, between_count};
 ghost use Rattle.flow_text.specs.Report.{input_link_number, exit_link_number, input_part, exit_part, last_part};
 ghost use Rattle.flow_text.specs.Report.{all_ports, all_links, block_report, report, run_in};
+ghost use Rattle.flow_text.specs.Report.{labelled, label_text};
+ghost use Rattle.flow_text.specs.Listed.{listed};
 
 use crate::fault::{TextFault, TextRefusal};
 use crate::piece::write_bytes;
 use crate::seen::{block_at, block_count, held_at, left_at, link_at, link_count};
-use crate::value_text::{write_item, write_values};
+use crate::value_text::write_item;
 use flow_link::{BlockDef, BlockKind, Link, LinkSource, Mark};
 use flow_net::{Net, Settled, State};
 use flow_value::{Steps, Value};
 use itoa::Buffer;
 use std::io;
 use std::io::Write;
+
+/// The values that a line lists.
+#[derive(Clone, Copy)]
+enum Listed<'a> {
+    /// Those that were taken at this port.
+    Taken(&'a [Mark], u32),
+    /// Those that were given over this link.
+    Given(&'a [Mark], usize),
+    /// Those of two parts.
+    Parts(&'a [Value], &'a [Value]),
+}
 
 // The value that this mark took at this port.
 fn taken_at(mark: &Mark, port: u32) -> Option<&Value>
@@ -159,6 +172,49 @@ fn write_block_line<W: Write>(writer: &mut W, name: &str, state: State) -> io::R
     write_bytes(writer, b"\n")
 }
 
+fn write_list<W: Write>(writer: &mut W, values: Listed) -> io::Result<()>
+    ensures written { OnOk result (Appends (W.contents writer.old) (W.contents writer.new)
+        (list_text (listed values.entry))) }
+    ensures kept { StaysInFront (W.contents writer.old) (W.contents writer.new) }
+{
+    match values {
+        Listed::Taken(journal, port) => write_taken(writer, journal, port),
+        Listed::Given(journal, link) => write_given(writer, journal, link),
+        Listed::Parts(front, back) => write_parts(writer, front, back),
+    }
+}
+
+fn write_label<W: Write>(writer: &mut W, label: &[u8], number: Option<u64>) -> io::Result<()>
+    ensures written { OnOk result (Appends (W.contents writer.old) (W.contents writer.new)
+        (label_text label.now number)) }
+    ensures kept { StaysInFront (W.contents writer.old) (W.contents writer.new) }
+{
+    match number {
+        Some(number) => {
+            write_bytes(writer, label)?;
+            write_number(writer, number)
+        }
+        None => write_bytes(writer, label),
+    }
+}
+
+// Writes a line that ends with a list.
+fn write_line<W: Write>(
+    writer: &mut W,
+    label: &[u8],
+    number: Option<u64>,
+    values: Listed,
+) -> io::Result<()>
+    ensures written { OnOk result (Appends (W.contents writer.old) (W.contents writer.new)
+        (labelled (label_text label.now number) (listed values.entry))) }
+    ensures kept { StaysInFront (W.contents writer.old) (W.contents writer.new) }
+{
+    write_label(writer, label, number)?;
+    write_bytes(writer, b" ")?;
+    write_list(writer, values)?;
+    write_bytes(writer, b"\n")
+}
+
 // Those of the posted values that were not taken, of which there are so many that were.
 fn not_taken(posted: &[Value], taken: usize) -> &[Value]
     ensures { result.now ≡ drop taken posted.now }
@@ -171,9 +227,7 @@ fn write_input_line<W: Write>(writer: &mut W, waits: &[Value]) -> io::Result<()>
     ensures written { OnOk result (Appends (W.contents writer.old) (W.contents writer.new) (input_line waits.now)) }
     ensures kept { StaysInFront (W.contents writer.old) (W.contents writer.new) }
 {
-    write_bytes(writer, b"input ")?;
-    write_values(writer, waits)?;
-    write_bytes(writer, b"\n")
+    write_line(writer, b"input", None, Listed::Parts(waits, &[]))
 }
 
 /// Writes the line of what was taken at a port.
@@ -182,11 +236,12 @@ fn write_port_line<W: Write>(writer: &mut W, port: u32, journal: &[Mark]) -> io:
         (port_line port journal.now)) }
     ensures kept { StaysInFront (W.contents writer.old) (W.contents writer.new) }
 {
-    write_bytes(writer, b"port ")?;
-    write_number(writer, u64::from(port))?;
-    write_bytes(writer, b" ")?;
-    write_taken(writer, journal, port)?;
-    write_bytes(writer, b"\n")
+    write_line(
+        writer,
+        b"port ",
+        Some(u64::from(port)),
+        Listed::Taken(journal, port),
+    )
 }
 
 /// Writes the line of what a port holds, given in two parts.
@@ -200,11 +255,12 @@ fn write_held_line<W: Write>(
         (held_line port (front.now ++ back.now))) }
     ensures kept { StaysInFront (W.contents writer.old) (W.contents writer.new) }
 {
-    write_bytes(writer, b"held ")?;
-    write_number(writer, u64::from(port))?;
-    write_bytes(writer, b" ")?;
-    write_parts(writer, front, back)?;
-    write_bytes(writer, b"\n")
+    write_line(
+        writer,
+        b"held ",
+        Some(u64::from(port)),
+        Listed::Parts(front, back),
+    )
 }
 
 /// Writes the line of what was given over a link.
@@ -213,11 +269,12 @@ fn write_link_line<W: Write>(writer: &mut W, link: usize, journal: &[Mark]) -> i
         (link_line link journal.now)) }
     ensures kept { StaysInFront (W.contents writer.old) (W.contents writer.new) }
 {
-    write_bytes(writer, b"link ")?;
-    write_number(writer, link as u64)?;
-    write_bytes(writer, b" ")?;
-    write_given(writer, journal, link)?;
-    write_bytes(writer, b"\n")
+    write_line(
+        writer,
+        b"link ",
+        Some(link as u64),
+        Listed::Given(journal, link),
+    )
 }
 
 /// Writes the line of what was given over an exit.
@@ -226,9 +283,7 @@ fn write_exit_line<W: Write>(writer: &mut W, link: usize, journal: &[Mark]) -> i
         (exit_line link journal.now)) }
     ensures kept { StaysInFront (W.contents writer.old) (W.contents writer.new) }
 {
-    write_bytes(writer, b"exit ")?;
-    write_given(writer, journal, link)?;
-    write_bytes(writer, b"\n")
+    write_line(writer, b"exit", None, Listed::Given(journal, link))
 }
 
 /// Writes the line of the results that an action keeps.
@@ -237,9 +292,7 @@ fn write_record_line<W: Write>(writer: &mut W, recorded: &[Value]) -> io::Result
         (last_line true recorded.now [])) }
     ensures kept { StaysInFront (W.contents writer.old) (W.contents writer.new) }
 {
-    write_bytes(writer, b"record ")?;
-    write_values(writer, recorded)?;
-    write_bytes(writer, b"\n")
+    write_line(writer, b"record", None, Listed::Parts(recorded, &[]))
 }
 
 /// Writes the line of the outputs that weren't given, in two parts.
@@ -248,9 +301,7 @@ fn write_left_line<W: Write>(writer: &mut W, front: &[Value], back: &[Value]) ->
         (last_line false [] (front.now ++ back.now))) }
     ensures kept { StaysInFront (W.contents writer.old) (W.contents writer.new) }
 {
-    write_bytes(writer, b"left ")?;
-    write_parts(writer, front, back)?;
-    write_bytes(writer, b"\n")
+    write_line(writer, b"left", None, Listed::Parts(front, back))
 }
 
 /// Writes the last line.

@@ -11,7 +11,7 @@ use flow_link::BlockKind;
 use toml::{Table, Value};
 
 /// A part of the text that has keys of its own.
-#[derive(Clone, Copy, Debug, PartialEq, Eq)]
+#[derive(Clone, Copy)]
 pub(super) enum Part {
     Top,
     Block,
@@ -19,7 +19,7 @@ pub(super) enum Part {
 }
 
 /// What the value at a key is to be.
-#[derive(Clone, Copy, Debug, PartialEq, Eq)]
+#[derive(Clone, Copy)]
 pub(super) enum Form {
     Boolean,
     Integer,
@@ -33,7 +33,7 @@ pub(super) enum Form {
 }
 
 /// What can be wrong with the keys of a table.
-#[derive(Clone, Copy, Debug, PartialEq, Eq)]
+#[derive(Clone, Copy)]
 pub(super) enum Check {
     /// It has a key that its part does not know.
     UnknownKey,
@@ -44,7 +44,7 @@ pub(super) enum Check {
 }
 
 /// A key, and what its value is to be.
-#[derive(Clone, Copy, Debug)]
+#[derive(Clone, Copy)]
 struct Key {
     name: &'static str,
     form: Form,

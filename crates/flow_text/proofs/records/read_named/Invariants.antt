@@ -1,9 +1,7 @@
 use Rattle.std.proofs.Common.{◌≡◌, length, replicate}
 use Rattle.std.specs.Prelude.{IfSome}
-use Rattle.csv.specs.Reading.{Ready, default_config, reader_config, reader_trim}
-use Rattle.csv.specs.declared.reader.Trim.TheVariants as trim
 use Rattle.flow_link.specs.declared.trace.Ending.TheVariants.{Complete}
-use Rattle.flow_text.specs.Records.{texts_of, IsFirstOf, room, posted_values, posted_endings}
+use Rattle.flow_text.specs.Records.{TakesAll, texts_of, IsFirstOf, room, posted_values, posted_endings}
 use Rattle.flow_text.proofs.RecordsPost.{SoFar}
 use Rattle.flow_text.proofs.records.read_named.Given as goal
 
@@ -12,9 +10,7 @@ decreases-reading g l = room (posted_values l.posted.items)
 
 abbrev pub invariant-reading : goal.invariant-reading
 invariant-reading g l = record {
-  trim : reader_trim l.records ≡ trim.None;
-  ready : Ready l.records;
-  config : reader_config l.records ≡ default_config;
+  takes : TakesAll l.records;
   first : IsFirstOf (texts_of l.names) l.last;
   endings : posted_endings l.posted.items ≡ replicate (length l.names) Complete;
   so_far : IfSome (g.R.Read.remaining l.fn.reader) (SoFar g.R.Read.remaining (texts_of l.names) l.number (posted_values l.posted.items) l.records);
