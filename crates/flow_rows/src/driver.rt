@@ -1,8 +1,9 @@
-//! What the tests share: runs of texts, networks that are drawn in a line, and tables of rows.
+//! What the tests share: runs of texts, networks that are drawn in a line, values that are written as words, and tables
+//! of rows.
 use flow_run::{run, status, write_refusal};
-use std::alloc::Global;
-use std::io;
-use std::io::{Read, Write};
+use flow_value::{Row, Text, Value};
+use std::alloc::{AllocError, Global};
+use std::io::Read;
 use std::process::Abort;
 use std::test::Fail;
 
@@ -36,11 +37,24 @@ pub(crate) fn told_by<R: Read + Drop>(
     })
 }
 
+/// Tests that the case with this name comes out as it should.
+pub(crate) fn check(rt: &(impl Abort + Print), name: &str, holds: bool) {
+    assert!(rt; holds, "{name}");
+}
+
+/// Puts these parts at the end of a text.
+pub(crate) fn add(text: &mut Vec<u8>, parts: &[&str]) -> Result<(), AllocError> {
+    for part in parts {
+        text.extend_from_slice(part.as_bytes())?;
+    }
+    Ok(())
+}
+
 /// The text of a chain that is drawn as `in buffer => t transform ["int"] -> out action []`: the first block is an
 /// input, and a link drawn by `=>` propagates.
 pub(crate) fn chain(alloc: Global, drawn: &str) -> Result<Vec<u8>, Fail> {
     let mut text = Vec::new(alloc);
-    writeln!(&mut text, "format = 1")?;
+    add(&mut text, &["format = 1\n"])?;
     let mut before = None;
     for part in drawn.split("> ") {
         let block = part
@@ -48,34 +62,51 @@ pub(crate) fn chain(alloc: Global, drawn: &str) -> Result<Vec<u8>, Fail> {
             .or(part.strip_suffix(" -"))
             .unwrap_or(part);
         let (name, others) = block.split_once(" ").ok_or("no kind")?;
-        let (kind, work) = others.split_once(" ").unwrap_or((others, ""));
-        write_block(&mut text, name, kind, work, before.is_none())?;
+        add_block(&mut text, name, others, before.is_none())?;
         if let Some((from, propagate)) = before {
-            writeln!(
-                &mut text,
-                "[[link]]\nfrom = \"{from}\"\nto = \"{name}\"\npropagate = {propagate}"
-            )?;
+            add_link(&mut text, from, name, propagate)?;
         }
         before = Some((name, part.ends_with(" =")));
     }
     Ok(text)
 }
 
-fn write_block(
+fn add_block(
     text: &mut Vec<u8>,
     name: &str,
-    kind: &str,
-    work: &str,
-    input: bool,
-) -> io::Result<()> {
-    writeln!(
-        text,
-        "[[block]]\nname = \"{name}\"\nkind = \"{kind}\"\ninput = {input}"
-    )?;
+    others: &str,
+    is_input: bool,
+) -> Result<(), AllocError> {
+    let (kind, work) = others.split_once(" ").unwrap_or((others, ""));
+    let input = if is_input { "true" } else { "false" };
+    let parts = [
+        "[[block]]\nname = \"",
+        name,
+        "\"\ninput = ",
+        input,
+        "\nkind = \"",
+        kind,
+        "\"\n",
+    ];
+    add(text, &parts)?;
     if !work.is_empty() {
-        writeln!(text, "work = {work}")?;
+        add(text, &["work = ", work, "\n"])?;
     }
     Ok(())
+}
+
+fn add_link(text: &mut Vec<u8>, from: &str, to: &str, propagate: bool) -> Result<(), AllocError> {
+    let word = if propagate { "true" } else { "false" };
+    let parts = [
+        "[[link]]\nfrom = \"",
+        from,
+        "\"\nto = \"",
+        to,
+        "\"\npropagate = ",
+        word,
+        "\n",
+    ];
+    add(text, &parts)
 }
 
 /// Whether these lines, between which ' ; ' stands, are lines of a report, in this order.
@@ -94,14 +125,28 @@ pub(crate) fn has_lines(report: &[u8], lines: &str) -> bool {
 }
 
 /// Whether a report is these lines, between which ' ; ' or the end of a row stands.
-pub(crate) fn is_report(alloc: Global, report: &[u8], rows: &[&str]) -> io::Result<bool> {
-    let mut due = Vec::new(alloc);
+pub(crate) fn is_report(report: &[u8], rows: &[&str]) -> bool {
+    let Ok(report) = str::from_utf8(report) else {
+        return false;
+    };
+    let mut lines = report.split("\n");
     for row in rows {
         for line in row.split(" ; ") {
-            writeln!(&mut due, "{line}")?;
+            if lines.next() != Some(line) {
+                return false;
+            }
         }
     }
-    Ok(due.as_slice() == report)
+    lines.next() == Some("") && lines.next().is_none()
+}
+
+/// Whether a text is the line of this refusal.
+pub(crate) fn is_refusal(text: &[u8], refusal: &str) -> bool {
+    let Ok(text) = str::from_utf8(text) else {
+        return false;
+    };
+    let refused = text.strip_prefix("flow_run: ").unwrap_or("");
+    refused.strip_suffix("\n") == Some(refusal)
 }
 
 /// The three cells of a row of a table.
@@ -109,4 +154,45 @@ pub(crate) fn cells(row: &str) -> Option<(&str, &str, &str)> {
     let (first, others) = row.split_once(" | ")?;
     let (second, third) = others.split_once(" | ")?;
     Some((first, second, third))
+}
+
+/// The integer or the text that a word is: an integer where it reads as one, and else a text, as `'7` is.
+pub(crate) fn atom(alloc: Global, word: &str) -> Result<Value, AllocError> {
+    match word.parse::<i64>() {
+        Ok(number) => Ok(Value::Int(number)),
+        Err(_) => {
+            let text = Text::from_str(alloc, word.strip_prefix("'").unwrap_or(word))?;
+            Ok(Value::Text(text))
+        }
+    }
+}
+
+pub(crate) fn row_of(alloc: Global, items: Vec<Value>) -> Result<Value, AllocError> {
+    match Row::new(alloc, items) {
+        Ok(row) => Ok(Value::Row(row)),
+        Err(_) => Err(AllocError),
+    }
+}
+
+/// The value that a word is: a row where it is in brackets, as `(7,a)`.
+fn value_of(alloc: Global, word: &str) -> Result<Value, AllocError> {
+    let Some(inner) = word.strip_prefix("(") else {
+        return atom(alloc, word);
+    };
+    let mut items = Vec::new(alloc);
+    for item in inner.strip_suffix(")").unwrap_or(inner).split(",") {
+        items.push(atom(alloc, item)?)?;
+    }
+    row_of(alloc, items)
+}
+
+/// The values that these words are; `none` is no value.
+pub(crate) fn values_of(alloc: Global, words: &str) -> Result<Vec<Value>, AllocError> {
+    let mut values = Vec::new(alloc);
+    for word in words.split(" ") {
+        if word != "none" {
+            values.push(value_of(alloc, word)?)?;
+        }
+    }
+    Ok(values)
 }

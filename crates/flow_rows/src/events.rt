@@ -2,11 +2,11 @@
 ghost use Rattle.std.specs.Prelude.{◌≡◌, ◌+◌, ◌≤◌, IfOk, OnOk, cond, count_by, length};
 ghost use Rattle.flow_link.specs.Planned.{layout_of};
 
-use crate::driver::{ENOUGH, chain, has_lines, is_report};
+use crate::driver::{ENOUGH, chain, check, has_lines, is_report, values_of};
 use flow_link::{Ending, LinkEnd, Mark, Move, Plan};
 use flow_net::{Event, Net, NetFault, Posted, Settled, State, Stepped};
-use flow_text::{read_plan, write_report};
-use flow_value::{MessageHeader, Steps, Text, Value};
+use flow_text::{TextRefusal, read_plan, write_report};
+use flow_value::{MessageHeader, Steps};
 use std::alloc::{AllocError, Global};
 use std::process::Abort;
 use std::test::Fail;
@@ -15,7 +15,7 @@ const PAIR: &str = "in buffer => out action []";
 
 const THREE: &str = r#"in buffer => t transform ["int"] => out action []"#;
 
-/// What a network comes to: its name, the network, drawn, the texts that are posted, how they end, and lines of the
+/// What a network comes to: its name, the network, drawn, the values that are posted, how they end, and lines of the
 /// report. Where there are several lists of lines, each schedule comes to one of them, and each comes of some schedule.
 type Case = (
     &'static str,
@@ -29,56 +29,56 @@ const CASES: &[Case] = &[
     (
         "parse three",
         THREE,
-        "1 2 3",
+        "'1 '2 '3",
         Ending::Complete,
         &["block in done ; block t done ; block out done ; record [1,2,3]"],
     ),
     (
         "nothing posted",
         THREE,
-        "",
+        "none",
         Ending::Complete,
         &["block in done ; block t done ; block out done ; record []"],
     ),
     (
         "a transform as input",
         r#"in transform ["int"] => out action ["add 1"]"#,
-        "1 -1",
+        "'1 '-1",
         Ending::Complete,
         &["block in done ; block out done ; record [2,0]"],
     ),
     (
         "two transforms",
         r#"in buffer => t transform ["int", "add 1"] => u transform ["mul 2"] => out action []"#,
-        "1 2 3",
+        "'1 '2 '3",
         Ending::Complete,
         &["block in done ; block t done ; block u done ; block out done ; record [4,6,8]"],
     ),
     (
         "two buffers and several results",
         r#"in buffer => b buffer => out action ["int", "upto"]"#,
-        "3 0 2",
+        "'3 '0 '2",
         Ending::Complete,
         &["block in done ; block b done ; block out done ; record [0,1,2,0,1]"],
     ),
     (
         "a plain link",
         r#"in buffer => t transform ["int"] -> out action []"#,
-        "1 2",
+        "'1 '2",
         Ending::Complete,
         &["block in done ; block t done ; block out open ; record [1,2]"],
     ),
     (
         "an open input",
         THREE,
-        "1 2",
+        "'1 '2",
         Ending::Open,
         &["block in open ; block t open ; block out open ; record [1,2]"],
     ),
     (
         "a fault behind what is recorded",
         r#"in buffer => out action ["int"]"#,
-        "1 x 3",
+        "'1 x '3",
         Ending::Complete,
         &[
             r#"block in done ; left [] ; block out faulted 1 ; held 0 ["x","3"] ; record [1]"#,
@@ -88,7 +88,7 @@ const CASES: &[Case] = &[
     (
         "a fault in the middle",
         THREE,
-        "1 x",
+        "'1 x",
         Ending::Complete,
         &[
             r#"block t faulted 1 ; held 0 ["x"] ; left [1] ; block out faulted 1 ; record []"#,
@@ -98,7 +98,7 @@ const CASES: &[Case] = &[
     (
         "a faulting input",
         PAIR,
-        "1",
+        "'1",
         Ending::Fault(5),
         &[
             r#"block in faulted 5 ; left ["1"] ; block out faulted 5 ; held 0 [] ; record []"#,
@@ -108,7 +108,7 @@ const CASES: &[Case] = &[
     (
         "a faulting input before a transform",
         THREE,
-        "1",
+        "'1",
         Ending::Fault(5),
         &[
             r#"left ["1"] ; block t faulted 5 ; held 0 [] ; left [] ; block out faulted 5 ; record []"#,
@@ -118,60 +118,53 @@ const CASES: &[Case] = &[
     ),
 ];
 
-/// Posts these texts and their ending, if there is an input for them.
+/// Posts these values and their ending, if there is an input for them.
 fn post_to(
     alloc: Global,
     posted: &mut Vec<Posted>,
     is_input: bool,
-    texts: &str,
+    words: &str,
     ending: Ending,
-) -> Result<(), Fail>
+) -> Result<(), AllocError>
     ensures { OnOk result (length posted.new.items ≡ length posted.old.items + cond is_input 1 0) }
 {
     if is_input {
-        let mut values = Vec::new(alloc);
-        for text in texts.split(" ").filter(|text| !text.is_empty()) {
-            values.push(Value::Text(Text::from_str(alloc, text)?))?;
-        }
+        let values = values_of(alloc, words)?;
         posted.push(Posted { values, ending })?;
     }
     Ok(())
 }
 
-/// These texts and their ending for each input of a plan.
+/// These values and their ending for each input of a plan.
 fn posted_for(
     alloc: Global,
     plan: &Plan<Steps>,
-    texts: &str,
+    words: &str,
     ending: Ending,
-) -> Result<Vec<Posted>, Fail>
+) -> Result<Vec<Posted>, AllocError>
     ensures { IfOk result (λ posted. length posted.items ≡ count_by (λ block. block.input)
         (layout_of plan.now).blocks) }
 {
     let mut posted = Vec::new(alloc);
     for number in 0..plan.block_count() {
-        post_to(alloc, &mut posted, plan.block(number).input, texts, ending)?;
+        post_to(alloc, &mut posted, plan.block(number).input, words, ending)?;
     }
     Ok(posted)
 }
 
-/// The network that is drawn so, to which these texts are posted, which end so.
-fn network(alloc: Global, drawn: &str, texts: &str, ending: Ending) -> Result<Net<Steps>, Fail> {
+/// The network that is drawn so, to which these values are posted, which end so.
+fn network(alloc: Global, drawn: &str, words: &str, ending: Ending) -> Result<Net<Steps>, Fail> {
     let text = chain(alloc, drawn)?;
     let plan = read_plan(alloc, text.as_slice())?;
-    let posted = posted_for(alloc, &plan, texts, ending)?;
-    Ok(Net::new(alloc, plan, posted).map_err(|_| "out of memory")?)
-}
-
-fn header<R: Abort>(rt: &R, id: u64) -> MessageHeader {
-    match MessageHeader::new(id) {
-        Some(header) => header,
-        None => panic!(rt; "no message has this id"),
+    let posted = posted_for(alloc, &plan, words, ending)?;
+    match Net::new(alloc, plan, posted) {
+        Ok(net) => Ok(net),
+        Err(_) => Err(Fail::new("out of memory")),
     }
 }
 
 /// Something that may be asked of a network: a move of a link, or a step of a block.
-#[derive(Clone, Copy, Debug)]
+#[derive(Clone, Copy)]
 enum Asked {
     Link(usize, Move),
     Make(usize),
@@ -193,14 +186,11 @@ impl Asked {
 }
 
 /// Asks for this event. Tells whether it is done; where it is not, it has to come back as not enabled.
-fn is_done(rt: &(impl Abort + Print), alloc: Global, net: &mut Net<Steps>, asked: Asked) -> bool {
+fn is_done(rt: &impl Abort, alloc: Global, net: &mut Net<Steps>, asked: Asked) -> bool {
     match net.event(alloc, asked.event()) {
         Ok(Stepped::Moved) => true,
         Err((back, fault)) => {
-            assert!(rt;
-                back == asked.event() && fault == NetFault::NotEnabled,
-                "{asked:?}: {fault}"
-            );
+            assert!(rt; back == asked.event() && fault == NetFault::NotEnabled);
             false
         }
     }
@@ -229,95 +219,74 @@ impl Chance {
     }
 }
 
-/// What may be asked, by numbers: whether it is a link's, the number of the link or block, and which of its moves or
-/// steps.
-type Choice = (bool, usize, usize);
-
-/// How many moves of a link are tried.
-const MOVES: usize = 23;
-
 /// Moves that a link makes in a run here, and some that it never makes.
-fn move_by_number<R: Abort>(rt: &R, number: usize) -> Move {
-    match number {
-        0 => Move::Offer(header(rt, 1)),
-        1 => Move::Offer(header(rt, 2)),
-        2 => Move::Offer(header(rt, 3)),
-        3 => Move::Offer(header(rt, 4)),
-        4 => Move::Want,
-        5 => Move::Refuse,
-        6 => Move::Give,
-        7 => Move::Open,
-        8 => Move::Close,
-        9 => Move::End(LinkEnd::Plain),
-        10 => Move::End(LinkEnd::Complete),
-        11 => Move::End(LinkEnd::Fault(1)),
-        12 => Move::End(LinkEnd::Fault(5)),
-        13 => Move::Post(header(rt, 1)),
-        14 => Move::TurnDown,
-        15 => Move::Postpone,
-        16 => Move::Consume,
-        17 => Move::Withdraw,
-        18 => Move::Deny,
-        19 => Move::Ask,
-        20 => Move::Hold,
-        21 => Move::Claim,
-        _ => Move::Release,
+fn moves(alloc: Global) -> Result<Vec<Move>, Fail> {
+    let plain = [
+        Move::Want,
+        Move::Refuse,
+        Move::Give,
+        Move::Open,
+        Move::Close,
+        Move::End(LinkEnd::Plain),
+        Move::End(LinkEnd::Complete),
+        Move::End(LinkEnd::Fault(1)),
+        Move::End(LinkEnd::Fault(5)),
+        Move::TurnDown,
+        Move::Postpone,
+        Move::Consume,
+        Move::Withdraw,
+        Move::Deny,
+        Move::Ask,
+        Move::Hold,
+        Move::Claim,
+        Move::Release,
+        Move::Post(header(1)?),
+    ];
+    let mut moves = plain.to_vec(alloc)?;
+    for id in 1..5 {
+        moves.push(Move::Offer(header(id)?))?;
     }
+    Ok(moves)
 }
 
-fn asked_by<R: Abort>(rt: &R, choice: &Choice) -> Asked {
-    let (is_link, number, step) = *choice;
-    if is_link {
-        return Asked::Link(number, move_by_number(rt, step));
-    }
-    match step {
-        0 => Asked::Make(number),
-        1 => Asked::Complete(number, 0),
-        2 => Asked::Fault(number),
-        _ => Asked::Done(number),
-    }
+fn header(id: u64) -> Result<MessageHeader, Fail> {
+    Ok(MessageHeader::new(id).ok_or("no id")?)
 }
 
-/// Puts so many choices at this link or block among the others.
-fn put(
-    choices: &mut Vec<Choice>,
-    is_link: bool,
-    number: usize,
-    count: usize,
-    chance: &mut Chance,
-) -> Result<(), AllocError> {
-    for step in 0..count {
+/// Puts these among the others, each at a place of chance.
+fn put(choices: &mut Vec<Asked>, these: &[Asked], chance: &mut Chance) -> Result<(), AllocError> {
+    for asked in these {
         let place = chance.up_to(choices.len());
-        choices.insert(place, (is_link, number, step))?;
+        choices.insert(place, *asked)?;
     }
     Ok(())
 }
 
-/// All choices of a network in an order of chance.
-fn shuffled(
-    alloc: Global,
-    plan: &Plan<Steps>,
-    chance: &mut Chance,
-) -> Result<Vec<Choice>, AllocError> {
+/// All that may be asked of a network, in an order of chance.
+fn shuffled(alloc: Global, plan: &Plan<Steps>, chance: &mut Chance) -> Result<Vec<Asked>, Fail> {
+    let moves = moves(alloc)?;
     let mut choices = Vec::new(alloc);
-    for number in 0..plan.link_count() {
-        put(&mut choices, true, number, MOVES, chance)?;
+    for id in 0..plan.link_count() {
+        for step in &moves {
+            put(&mut choices, &[Asked::Link(id, *step)], chance)?;
+        }
     }
     for number in 0..plan.block_count() {
-        put(&mut choices, false, number, 4, chance)?;
+        let steps = [
+            Asked::Make(number),
+            Asked::Complete(number, 0),
+            Asked::Fault(number),
+            Asked::Done(number),
+        ];
+        put(&mut choices, &steps, chance)?;
     }
     Ok(choices)
 }
 
 /// Does the first of these that may happen, and tells whether there is one.
-fn do_one(
-    rt: &(impl Abort + Print),
-    alloc: Global,
-    net: &mut Net<Steps>,
-    choices: &[Choice],
-) -> bool {
-    for choice in choices {
-        if is_done(rt, alloc, net, asked_by(rt, choice)) {
+fn do_one(rt: &impl Abort, alloc: Global, net: &mut Net<Steps>, choices: &[Asked]) -> bool {
+    for asked in choices {
+        if is_done(rt, alloc, net, *asked) {
             return true;
         }
     }
@@ -326,12 +295,7 @@ fn do_one(
 
 /// Does events until none may happen, and tells whether the network is quiet then, and was not before. With an even
 /// seed the first in an order of chance is done each time, with an odd one the search begins anywhere in that order.
-fn wander(
-    rt: &(impl Abort + Print),
-    alloc: Global,
-    net: &mut Net<Steps>,
-    seed: u64,
-) -> Result<bool, Fail> {
+fn wander(rt: &impl Abort, alloc: Global, net: &mut Net<Steps>, seed: u64) -> Result<bool, Fail> {
     let mut chance = Chance { state: seed };
     let choices = shuffled(alloc, net.plan(), &mut chance)?;
     let always_first = seed % 2 == 0;
@@ -351,15 +315,37 @@ fn wander(
     Ok(false)
 }
 
+/// Does events until none may happen, and tells whether the network is quiet then.
+fn settles(alloc: Global, net: &mut Net<Steps>) -> bool {
+    net.settle(alloc, ENOUGH) == Ok(Settled::Quiet) && net.is_quiet()
+}
+
 /// Which of these lists of lines stands in the report of a network that is quiet.
-fn came_to(alloc: Global, net: &Net<Steps>, lists: &[&str]) -> Result<Option<usize>, Fail> {
+fn came_to(alloc: Global, net: &Net<Steps>, lists: &[&str]) -> Result<Option<usize>, TextRefusal> {
     let mut report = Vec::new(alloc);
     write_report(net, Settled::Quiet, &mut report)?;
-    Ok(
-        lists
-            .iter()
-            .position(|lines| has_lines(report.as_slice(), lines)),
-    )
+    for (place, lines) in lists.iter().enumerate() {
+        if has_lines(report.as_slice(), lines) {
+            return Ok(Some(place));
+        }
+    }
+    Ok(None)
+}
+
+/// Where a network comes to by the schedule with this seed.
+fn end_by_seed(
+    rt: &impl Abort,
+    alloc: Global,
+    case: &Case,
+    seed: u64,
+) -> Result<Option<usize>, Fail> {
+    let (_, drawn, words, ending, lists) = *case;
+    let mut net = network(alloc, drawn, words, ending)?;
+    if wander(rt, alloc, &mut net, seed)? {
+        Ok(came_to(alloc, &net, lists)?)
+    } else {
+        Ok(None)
+    }
 }
 
 /// How many schedules each network is driven by.
@@ -367,26 +353,25 @@ const SEEDS: u64 = 48;
 
 #[test]
 fn seeded_schedules_agree(rt: HostRuntime) -> Result<(), Fail> {
-    let alloc = rt.alloc();
-    for (name, drawn, texts, ending, lists) in CASES {
-        let mut net = network(alloc, drawn, texts, *ending)?;
-        assert!(rt; net.settle(alloc, ENOUGH) == Ok(Settled::Quiet), "{name}");
-        assert!(rt;
-            net.is_quiet() && came_to(alloc, &net, lists)?.is_some(),
-            "{name}"
-        );
-        let mut found = Vec::new(alloc);
+    for case in CASES {
+        let mut ends = Vec::new(rt.alloc());
         for seed in 0..SEEDS {
-            let mut net = network(alloc, drawn, texts, *ending)?;
-            assert!(rt; wander(&rt, alloc, &mut net, seed)?, "{name}, seed {seed}");
-            let Some(place) = came_to(alloc, &net, lists)? else {
-                panic!(&rt; "{name}, seed {seed}: no such end");
-            };
-            found.push(place)?;
+            ends.push(end_by_seed(&rt, rt.alloc(), case, seed)?)?;
         }
-        for place in 0..lists.len() {
-            assert!(rt; found.contains(&place), "{name}: end {place} never comes");
+        check(&rt, case.0, !ends.contains(&None));
+        for place in 0..case.4.len() {
+            check(&rt, case.0, ends.contains(&Some(place)));
         }
+    }
+    Ok(())
+}
+
+#[test]
+fn networks_settle_in_one_of_their_ends(rt: HostRuntime) -> Result<(), Fail> {
+    for (name, drawn, words, ending, lists) in CASES {
+        let mut net = network(rt.alloc(), drawn, words, *ending)?;
+        check(&rt, name, settles(rt.alloc(), &mut net));
+        check(&rt, name, came_to(rt.alloc(), &net, lists)?.is_some());
     }
     Ok(())
 }
@@ -396,7 +381,7 @@ fn seeded_schedules_agree(rt: HostRuntime) -> Result<(), Fail> {
 fn settle_in_two_parts(rt: HostRuntime) -> Result<(), Fail> {
     let alloc = rt.alloc();
     for limit in 0..64 {
-        let mut net = network(alloc, THREE, "1 2 3", Ending::Complete)?;
+        let mut net = network(alloc, THREE, "'1 '2 '3", Ending::Complete)?;
         let is_last = limit == 63;
         let first = if is_last {
             Settled::Quiet
@@ -405,9 +390,9 @@ fn settle_in_two_parts(rt: HostRuntime) -> Result<(), Fail> {
         };
         assert!(rt; net.settle(alloc, limit) == Ok(first), "{limit}");
         assert!(rt; net.is_quiet() == is_last, "{limit}");
-        assert!(rt; net.settle(alloc, ENOUGH) == Ok(Settled::Quiet), "{limit}");
-        let end = came_to(alloc, &net, &["block out done ; record [1,2,3]"])?;
-        assert!(rt; net.is_quiet() && end.is_some(), "{limit}");
+        let is_due = settles(alloc, &mut net)
+            && came_to(alloc, &net, &["block out done ; record [1,2,3]"])?.is_some();
+        assert!(rt; is_due, "{limit}");
     }
     Ok(())
 }
@@ -420,8 +405,9 @@ const UNTOUCHED: &[&str] = &[
 #[test]
 fn what_may_not_happen_changes_nothing(rt: HostRuntime) -> Result<(), Fail> {
     let alloc = rt.alloc();
-    let mut net = network(alloc, PAIR, "1", Ending::Complete)?;
-    let first = header(&rt, 1);
+    let mut net = network(alloc, PAIR, "'1", Ending::Complete)?;
+    let first = header(1)?;
+    let mut place = 0u8;
     for asked in [
         Asked::Done(0),
         Asked::Make(0),
@@ -429,7 +415,7 @@ fn what_may_not_happen_changes_nothing(rt: HostRuntime) -> Result<(), Fail> {
         Asked::Complete(0, 1),
         Asked::Fault(1),
         Asked::Link(0, Move::Offer(first)),
-        Asked::Link(1, Move::Offer(header(&rt, 2))),
+        Asked::Link(1, Move::Offer(header(2)?)),
         Asked::Link(1, Move::Want),
         Asked::Link(1, Move::Give),
         Asked::Link(1, Move::Post(first)),
@@ -440,12 +426,13 @@ fn what_may_not_happen_changes_nothing(rt: HostRuntime) -> Result<(), Fail> {
         Asked::Fault(2),
         Asked::Done(2),
     ] {
-        assert!(rt; !is_done(&rt, alloc, &mut net, asked), "{asked:?}");
+        place = place.wrapping_add(1);
+        assert!(rt; !is_done(&rt, alloc, &mut net, asked), "event {place}");
     }
     assert!(rt; !net.is_quiet());
     let mut report = Vec::new(alloc);
     write_report(&net, Settled::Stopped, &mut report)?;
-    assert!(rt; is_report(alloc, report.as_slice(), UNTOUCHED)?);
+    assert!(rt; is_report(report.as_slice(), UNTOUCHED));
     Ok(())
 }
 
@@ -453,8 +440,9 @@ fn what_may_not_happen_changes_nothing(rt: HostRuntime) -> Result<(), Fail> {
 #[test]
 fn what_may_happen_is_done_once(rt: HostRuntime) -> Result<(), Fail> {
     let alloc = rt.alloc();
-    let mut net = network(alloc, PAIR, "1", Ending::Complete)?;
-    let first = header(&rt, 1);
+    let mut net = network(alloc, PAIR, "'1", Ending::Complete)?;
+    let first = header(1)?;
+    let mut place = 0u8;
     for asked in [
         Asked::Link(1, Move::Offer(first)),
         Asked::Link(1, Move::Want),
@@ -471,8 +459,9 @@ fn what_may_happen_is_done_once(rt: HostRuntime) -> Result<(), Fail> {
         Asked::Link(0, Move::Close),
         Asked::Done(0),
     ] {
-        assert!(rt; is_done(&rt, alloc, &mut net, asked), "{asked:?}");
-        assert!(rt; !is_done(&rt, alloc, &mut net, asked), "{asked:?}");
+        place = place.wrapping_add(1);
+        assert!(rt; is_done(&rt, alloc, &mut net, asked), "event {place}");
+        assert!(rt; !is_done(&rt, alloc, &mut net, asked), "event {place}");
     }
     let end = r#"block in done ; left [] ; block out open ; held 0 ["1"] ; record []"#;
     assert!(rt; came_to(alloc, &net, &[end])?.is_some());
@@ -482,8 +471,8 @@ fn what_may_happen_is_done_once(rt: HostRuntime) -> Result<(), Fail> {
 #[test]
 fn a_network_shows_its_parts(rt: HostRuntime) -> Result<(), Fail> {
     let alloc = rt.alloc();
-    let mut net = network(alloc, THREE, "1 x", Ending::Complete)?;
-    assert!(rt; net.settle(alloc, ENOUGH) == Ok(Settled::Quiet));
+    let mut net = network(alloc, THREE, "'1 x", Ending::Complete)?;
+    assert!(rt; settles(alloc, &mut net));
     assert!(rt; net.plan().block_count() == 3);
     assert!(rt; net.state(0) == State::Done && net.state(1) == State::Faulted(1));
     assert!(rt;

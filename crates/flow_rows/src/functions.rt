@@ -1,5 +1,5 @@
 //! What each function makes of a text, as an action's record or a fault's number tells it.
-use crate::driver::{ENOUGH, cells, chain, has_lines, told_by};
+use crate::driver::{ENOUGH, Told, cells, chain, check, has_lines, told_by};
 use std::alloc::Global;
 use std::process::Abort;
 use std::test::Fail;
@@ -75,9 +75,16 @@ const TRANSFORMS: &str = r#"
 ["int", "add 1"] | 9223372036854775807 | block f faulted 5
 "#;
 
+/// The network that is drawn so, over one text.
+fn told_of(rt: &impl Abort, alloc: Global, drawn: &str, given: &str) -> Result<Told, Fail> {
+    let network = chain(alloc, drawn)?;
+    let records = ["in,", given].concat(alloc)?;
+    told_by(rt, alloc, network.as_slice(), records.as_bytes(), ENOUGH)
+}
+
 /// Runs an input and a block with the function of each row over the row's text, and tests that what is due comes of it.
 /// The block is drawn as this kind, and others may follow it.
-fn check(
+fn check_rows(
     rt: &(impl Abort + Print),
     alloc: Global,
     table: &str,
@@ -86,14 +93,13 @@ fn check(
 ) -> Result<(), Fail> {
     for row in table.lines().skip(1) {
         let (work, given, due) = cells(row).ok_or("no row")?;
-        let drawn = format!(in alloc; "in buffer => f {kind} {work}{others}")?;
-        let network = chain(alloc, drawn.as_str())?;
-        let records = format!(in alloc; "in,{given}")?;
-        let told = told_by(rt, alloc, network.as_slice(), records.as_bytes(), ENOUGH)?;
+        let drawn = ["in buffer => f ", kind, " ", work, others].concat(alloc)?;
+        let told = told_of(rt, alloc, drawn.as_str(), given)?;
         let status = if due.starts_with("block") { 1 } else { 0 };
-        assert!(rt;
+        check(
+            rt,
+            row,
             told.status == status && has_lines(told.text.as_slice(), due),
-            "{row}"
         );
     }
     Ok(())
@@ -101,16 +107,11 @@ fn check(
 
 #[test]
 fn actions_record_what_their_functions_give(rt: HostRuntime) -> Result<(), Fail> {
-    check(&rt, rt.alloc(), ACTIONS, "action", "")
+    check_rows(&rt, rt.alloc(), ACTIONS, "action", "")
 }
 
 #[test]
 fn transforms_give_one_value_for_each(rt: HostRuntime) -> Result<(), Fail> {
-    check(
-        &rt,
-        rt.alloc(),
-        TRANSFORMS,
-        "transform",
-        " => out action []",
-    )
+    let others = " => out action []";
+    check_rows(&rt, rt.alloc(), TRANSFORMS, "transform", others)
 }

@@ -1,4 +1,5 @@
 //! Links of plans, with what no text says of them, and how far a message has come over one.
+use crate::driver::check;
 use flow_link::{
     BlockDef, BlockKind, Draft, LinkDef, LinkEnd, LinkSource, LinkTarget, Move, Phase, Place,
     PlanFault, PlanRefusal, phase_of, plan_check, step_of, word_of,
@@ -11,12 +12,25 @@ use std::test::Fail;
 /// A port, a capacity and a predicate.
 type Options = (Option<u32>, Option<u32>, Option<When>);
 
-/// Options of a link from a buffer to another and of both buffers, and the fault of the draft.
-const WRONG: &[(Options, PlanFault)] = &[
-    ((Some(1), None, None), PlanFault::Port(0)),
-    ((Some(1), Some(0), None), PlanFault::Port(0)),
-    ((None, Some(0), None), PlanFault::BadOption(Place::Block(0))),
+/// What is wrong, options of a link from a buffer to another and of both buffers, and the fault of the draft.
+const WRONG: &[(&str, Options, PlanFault)] = &[
     (
+        "a port that there is not",
+        (Some(1), None, None),
+        PlanFault::Port(0),
+    ),
+    (
+        "the port comes first",
+        (Some(1), Some(0), None),
+        PlanFault::Port(0),
+    ),
+    (
+        "no room",
+        (None, Some(0), None),
+        PlanFault::BadOption(Place::Block(0)),
+    ),
+    (
+        "a predicate on no numbers",
         (None, None, Some(When::Even)),
         PlanFault::BadOption(Place::Link(0)),
     ),
@@ -54,15 +68,12 @@ fn draft(alloc: Global, options: &Options) -> Result<Draft<Steps>, AllocError> {
 
 #[test]
 fn a_refused_draft_comes_back(rt: HostRuntime) -> Result<(), Fail> {
-    for (options, fault) in WRONG {
+    for (name, options, fault) in WRONG {
         let Err((back, refusal)) = plan_check(rt.alloc(), draft(rt.alloc(), options)?) else {
-            panic!(&rt; "{fault:?} is not found");
+            panic!(&rt; "{name}");
         };
-        assert_eq!(rt; refusal, PlanRefusal::Fault(*fault));
-        assert!(rt;
-            back.blocks.len() == 2 && back.links.len() == 1,
-            "{fault:?}"
-        );
+        check(&rt, name, refusal == PlanRefusal::Fault(*fault));
+        check(&rt, name, back.blocks.len() == 2 && back.links.len() == 1);
     }
     Ok(())
 }
@@ -94,7 +105,7 @@ fn phases_have_their_words(rt: HostRuntime) -> Result<(), Fail> {
     ] {
         assert!(rt;
             word_of(phase) == word && phase_of(word) == Some(phase),
-            "{phase:?}"
+            "{word}"
         );
     }
     // A message needs an id, a fault has a number that is not too great, and there are thirteen kinds of phase.
@@ -103,7 +114,7 @@ fn phases_have_their_words(rt: HostRuntime) -> Result<(), Fail> {
         6_917_529_031_936_049_152,
         7_493_989_779_944_505_344,
     ] {
-        assert_eq!(rt; phase_of(word), None);
+        assert!(rt; phase_of(word).is_none(), "{word}");
     }
     Ok(())
 }
@@ -126,6 +137,6 @@ fn a_message_crosses(rt: HostRuntime) -> Result<(), Fail> {
         phase = step_of(phase, step).ok_or("not allowed")?;
         assert!(rt; phase == Phase::Idle || phase.id() == Some(one));
     }
-    assert_eq!(rt; phase, Phase::Idle);
+    assert!(rt; phase == Phase::Idle);
     Ok(())
 }

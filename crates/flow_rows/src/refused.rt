@@ -1,6 +1,6 @@
 //! Networks that are refused, each with its line, and some that are read and look as if they were not.
-use crate::driver::{ENOUGH, chain, has_lines, is_report, told_by};
-use std::alloc::Global;
+use crate::driver::{ENOUGH, add, chain, check, has_lines, is_refusal, is_report, told_by};
+use std::alloc::{AllocError, Global};
 use std::io;
 use std::io::Write;
 use std::process::Abort;
@@ -189,14 +189,12 @@ const READ: &[(&[u8], &str, &[&str])] = &[
 ];
 
 // Tests that a network is refused with this line.
-fn check(rt: &(impl Abort + Print), alloc: Global, text: &[u8], line: &str) -> Result<(), Fail> {
+fn refuses(rt: &(impl Abort + Print), alloc: Global, text: &[u8], line: &str) -> Result<(), Fail> {
     let told = told_by(rt, alloc, text, &b""[..], ENOUGH)?;
-    let mut due = Vec::new(alloc);
-    writeln!(&mut due, "flow_run: {line}")?;
-    assert!(rt;
-        told.status == 2 && told.text == due,
-        "{:?} is not {line}",
-        str::from_utf8(text)
+    check(
+        rt,
+        line,
+        told.status == 2 && is_refusal(told.text.as_slice(), line),
     );
     Ok(())
 }
@@ -204,71 +202,91 @@ fn check(rt: &(impl Abort + Print), alloc: Global, text: &[u8], line: &str) -> R
 #[test]
 fn the_syntax_and_the_format_come_first(rt: HostRuntime) -> Result<(), Fail> {
     for (text, line) in WHOLE {
-        check(&rt, rt.alloc(), text, line)?;
+        refuses(&rt, rt.alloc(), text, line)?;
+    }
+    Ok(())
+}
+
+/// A text whose first line names the format, and whose others are these, between which ' ; ' stands.
+fn written(alloc: Global, lines: &str) -> Result<Vec<u8>, AllocError> {
+    let mut text = Vec::new(alloc);
+    add(&mut text, &["format = 1\n"])?;
+    for line in lines.split(" ; ") {
+        add(&mut text, &[line, "\n"])?;
+    }
+    Ok(text)
+}
+
+/// Tests each row of a table, in which the line of a refusal stands before what makes a text.
+fn check_rows(
+    rt: &(impl Abort + Print),
+    alloc: Global,
+    table: &str,
+    has_links: bool,
+) -> Result<(), Fail> {
+    for row in table.lines().skip(1) {
+        if row.starts_with("#") {
+            continue;
+        }
+        let (line, others) = row.split_once(" | ").ok_or("no row")?;
+        let text = if has_links {
+            linked(alloc, others)?
+        } else {
+            written(alloc, others)?
+        };
+        refuses(rt, alloc, text.as_slice(), line)?;
     }
     Ok(())
 }
 
 #[test]
 fn the_first_fault_of_a_text_is_told(rt: HostRuntime) -> Result<(), Fail> {
-    for row in TEXTS.lines().skip(1).filter(|row| !row.starts_with("#")) {
-        let (line, written) = row.split_once(" | ").ok_or("no row")?;
-        let mut text = Vec::new(rt.alloc());
-        writeln!(&mut text, "format = 1")?;
-        for part in written.split(" ; ") {
-            writeln!(&mut text, "{part}")?;
-        }
-        check(&rt, rt.alloc(), text.as_slice(), line)?;
-    }
-    Ok(())
+    check_rows(&rt, rt.alloc(), TEXTS, false)
 }
 
 #[test]
 fn functions_have_known_steps(rt: HostRuntime) -> Result<(), Fail> {
     for work in WORKS.lines().skip(1) {
         let mut text = Vec::new(rt.alloc());
-        writeln!(
-            &mut text,
-            "format = 1\nblock = [{{name = \"a\", kind = \"action\", work = {work}}}]"
-        )?;
-        check(&rt, rt.alloc(), text.as_slice(), "5 BadWork block 0")?;
+        let block = "format = 1\nblock = [{name = \"a\", kind = \"action\", work = ";
+        add(&mut text, &[block, work, "}]\n"])?;
+        refuses(&rt, rt.alloc(), text.as_slice(), "5 BadWork block 0")?;
     }
     Ok(())
 }
 
+/// The five blocks with these links, each written as `a>b`.
+fn linked(alloc: Global, links: &str) -> Result<Vec<u8>, Fail> {
+    let mut text = Vec::new(alloc);
+    add(&mut text, &["format = 1\n", FIVE])?;
+    for link in links.split(" ") {
+        let (from, to) = link.split_once(">").ok_or("no link")?;
+        add(
+            &mut text,
+            &["\n[[link]]\nfrom = \"", from, "\"\nto = \"", to, "\"\n"],
+        )?;
+    }
+    Ok(text)
+}
+
 #[test]
 fn links_lead_from_outputs_to_free_ports(rt: HostRuntime) -> Result<(), Fail> {
-    for row in LINKS.lines().skip(1).filter(|row| !row.starts_with("#")) {
-        let (line, drawn) = row.split_once(" | ").ok_or("no row")?;
-        let mut text = Vec::new(rt.alloc());
-        writeln!(&mut text, "format = 1\n{FIVE}")?;
-        for link in drawn.split(" ") {
-            let (from, to) = link.split_once(">").ok_or("no link")?;
-            writeln!(&mut text, "[[link]]\nfrom = \"{from}\"\nto = \"{to}\"")?;
-        }
-        check(&rt, rt.alloc(), text.as_slice(), line)?;
-    }
-    Ok(())
+    check_rows(&rt, rt.alloc(), LINKS, true)
 }
 
 #[test]
 fn other_spellings_are_read(rt: HostRuntime) -> Result<(), Fail> {
     for (beginning, rest, report) in READ {
-        let mut text = Vec::new(rt.alloc());
-        text.extend_from_slice(beginning)?;
-        writeln!(&mut text, "{rest}")?;
+        let mut text = beginning.to_vec(rt.alloc())?;
+        add(&mut text, &[rest, "\n"])?;
         let told = told_by(&rt, rt.alloc(), text.as_slice(), &b""[..], ENOUGH)?;
-        assert!(rt;
-            is_report(rt.alloc(), told.text.as_slice(), report)?,
-            "{rest}"
-        );
+        check(&rt, rest, is_report(told.text.as_slice(), report));
     }
     Ok(())
 }
 
-/// Writes so many buffers, each linked to the next, and then so many links to a block that there is not.
-fn write_large(text: &mut Vec<u8>, buffers: u32, strays: u32) -> io::Result<()> {
-    writeln!(text, "format = 1")?;
+/// Writes so many buffers, each linked to the one before.
+fn add_buffers(text: &mut Vec<u8>, buffers: u32) -> io::Result<()> {
     for number in 0..buffers {
         writeln!(text, "[[block]]\nname = \"b{number}\"\nkind = \"buffer\"")?;
     }
@@ -276,10 +294,18 @@ fn write_large(text: &mut Vec<u8>, buffers: u32, strays: u32) -> io::Result<()> 
         let before = number - 1;
         writeln!(text, "[[link]]\nfrom = \"b{before}\"\nto = \"b{number}\"")?;
     }
-    for _ in 0..strays {
-        writeln!(text, "[[link]]\nfrom = \"b0\"\nto = \"no\"")?;
-    }
     Ok(())
+}
+
+/// So many buffers, each linked to the next, and then so many links to a block that there is not.
+fn large(alloc: Global, buffers: u32, strays: u32) -> Result<Vec<u8>, Fail> {
+    let mut text = Vec::new(alloc);
+    add(&mut text, &["format = 1\n"])?;
+    add_buffers(&mut text, buffers)?;
+    for _ in 0..strays {
+        add(&mut text, &["[[link]]\nfrom = \"b0\"\nto = \"no\"\n"])?;
+    }
+    Ok(text)
 }
 
 /// So many buffers in a chain, so many links to no block, what stands at the end, and the line.
@@ -300,31 +326,34 @@ const LARGE: &[(u32, u32, &str, &str)] = &[
 #[test]
 fn networks_have_their_limits(rt: HostRuntime) -> Result<(), Fail> {
     for (buffers, strays, end, line) in LARGE {
-        let mut text = Vec::new(rt.alloc());
-        write_large(&mut text, *buffers, *strays)?;
-        writeln!(&mut text, "{end}")?;
-        check(&rt, rt.alloc(), text.as_slice(), line)?;
+        let mut text = large(rt.alloc(), *buffers, *strays)?;
+        add(&mut text, &[end])?;
+        refuses(&rt, rt.alloc(), text.as_slice(), line)?;
     }
-    let mut text = Vec::new(rt.alloc());
-    write_large(&mut text, 256, 0)?;
+    Ok(())
+}
+
+#[test]
+fn the_largest_network_runs(rt: HostRuntime) -> Result<(), Fail> {
+    let text = large(rt.alloc(), 256, 0)?;
     let told = told_by(&rt, rt.alloc(), text.as_slice(), &b""[..], ENOUGH)?;
     let last = "block b254 open ; link 254 [] ; block b255 open ; left [] ; quiet";
     assert!(rt; told.status == 1 && has_lines(told.text.as_slice(), last));
     Ok(())
 }
 
-/// 64 bytes, of each sort that a name may have but one.
-const LONGEST: &str = "abcdefghijklmnopqrstuvwxyzABCDEFGHIJKLMNOPQRSTUVWXYZ0123456789_-";
+/// A name of 64 bytes, of each sort that it may have but one, and one of 65.
+const LONGEST: &str = "abcdefghijklmnopqrstuvwxyzABCDEFGHIJKLMNOPQRSTUVWXYZ0123456789_- buffer";
+
+const TOO_LONG: &str = "abcdefghijklmnopqrstuvwxyzABCDEFGHIJKLMNOPQRSTUVWXYZ0123456789_-. buffer";
 
 #[test]
 fn names_have_64_bytes_at_most(rt: HostRuntime) -> Result<(), Fail> {
-    let named = format!(in rt.alloc(); "{LONGEST} buffer")?;
-    let network = chain(rt.alloc(), named.as_str())?;
+    let network = chain(rt.alloc(), LONGEST)?;
     let told = told_by(&rt, rt.alloc(), network.as_slice(), &b""[..], ENOUGH)?;
     assert!(rt; told.status == 0);
-    let named = format!(in rt.alloc(); "{LONGEST}. buffer")?;
-    let network = chain(rt.alloc(), named.as_str())?;
-    check(
+    let network = chain(rt.alloc(), TOO_LONG)?;
+    refuses(
         &rt,
         rt.alloc(),
         network.as_slice(),

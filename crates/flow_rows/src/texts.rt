@@ -1,10 +1,9 @@
 //! Whole runs: a network and records, and all that is written of them.
-use crate::driver::{ENOUGH, chain, is_report, told_by};
+use crate::driver::{ENOUGH, Told, chain, check, is_refusal, is_report, told_by};
 use flow_link::{Place, PlanFault};
 use flow_run::{RunRefusal, split_input, status, write_refusal};
 use flow_text::{TextFault, TextPlace};
 use std::alloc::Global;
-use std::io::Write;
 use std::process::Abort;
 use std::test::Fail;
 
@@ -137,15 +136,13 @@ const RUNS: &[Case] = &[
 
 #[test]
 fn runs_are_reported(rt: HostRuntime) -> Result<(), Fail> {
-    let alloc = rt.alloc();
     for (name, drawn, records, limit, status, due) in RUNS {
-        let network = chain(alloc, drawn)?;
-        let told = told_by(&rt, alloc, network.as_slice(), *records, *limit)?;
-        let is_due = told.status == *status && is_report(alloc, told.text.as_slice(), due)?;
-        assert!(rt;
-            is_due,
-            "{name}: {:?}",
-            str::from_utf8(told.text.as_slice())
+        let network = chain(rt.alloc(), drawn)?;
+        let told = told_by(&rt, rt.alloc(), network.as_slice(), *records, *limit)?;
+        check(
+            &rt,
+            name,
+            told.status == *status && is_report(told.text.as_slice(), due),
         );
     }
     Ok(())
@@ -166,19 +163,23 @@ const UNTOUCHED: &[&str] = &[
 /// 48 moves over the three links, 9 Make, 3 Complete and 3 Done.
 const PARSED_BY: u64 = 63;
 
+/// Whether this is what is due of parse three after so many events.
+fn is_parsed(told: &Told, limit: u64) -> bool {
+    let report = told.text.as_slice();
+    if limit == 0 {
+        told.status == 3 && is_report(report, UNTOUCHED)
+    } else if limit < PARSED_BY {
+        told.status == 3 && report.ends_with(b"\nstopped\n")
+    } else {
+        told.status == 0 && is_report(report, PARSED)
+    }
+}
+
 #[test]
 fn parse_three_is_stopped_before_its_last_event(rt: HostRuntime) -> Result<(), Fail> {
     for limit in 0..=PARSED_BY {
         let told = told_by(&rt, rt.alloc(), PARSE_THREE.as_bytes(), THREE, limit)?;
-        let report = told.text.as_slice();
-        let is_due = if limit == 0 {
-            told.status == 3 && is_report(rt.alloc(), report, UNTOUCHED)?
-        } else if limit < PARSED_BY {
-            told.status == 3 && report.ends_with(b"\nstopped\n")
-        } else {
-            told.status == 0 && is_report(rt.alloc(), report, PARSED)?
-        };
-        assert!(rt; is_due, "{limit}");
+        assert!(rt; is_parsed(&told, limit), "{limit}");
     }
     Ok(())
 }
@@ -224,12 +225,10 @@ const RECORDS: &[(&str, &[u8], &str)] = &[
 fn records_are_refused(rt: HostRuntime) -> Result<(), Fail> {
     for (name, records, line) in RECORDS {
         let told = told_by(&rt, rt.alloc(), PARSE_THREE.as_bytes(), *records, ENOUGH)?;
-        let mut due = Vec::new(rt.alloc());
-        writeln!(&mut due, "flow_run: {line}")?;
-        assert!(rt;
-            told.status == 2 && told.text == due,
-            "{name}: {:?}",
-            told.text
+        check(
+            &rt,
+            name,
+            told.status == 2 && is_refusal(told.text.as_slice(), line),
         );
     }
     Ok(())
@@ -267,14 +266,13 @@ fn check_line(
     refusal: RunRefusal,
     number: u8,
     line: &str,
-) -> Result<(), Fail> {
+) -> Result<(), TextFault> {
     let mut written = Vec::new(alloc);
     write_refusal(&refusal, &mut written)?;
-    let mut due = Vec::new(alloc);
-    writeln!(&mut due, "flow_run: {line}")?;
-    assert!(rt;
-        status(&Err(refusal)) == number && written == due,
-        "{refusal:?}"
+    check(
+        rt,
+        line,
+        status(&Err(refusal)) == number && is_refusal(written.as_slice(), line),
     );
     Ok(())
 }
@@ -284,15 +282,11 @@ fn refusals_have_their_status_and_line(rt: HostRuntime) -> Result<(), Fail> {
     for (fault, line) in FAULTS {
         check_line(&rt, rt.alloc(), RunRefusal::Text(*fault), 2, line)?;
     }
-    check_line(
-        &rt,
-        rt.alloc(),
-        RunRefusal::Text(TextFault::Write),
-        5,
-        "13 Write",
-    )?;
+    let write = RunRefusal::Text(TextFault::Write);
+    check_line(&rt, rt.alloc(), write, 5, "13 Write")?;
     check_line(&rt, rt.alloc(), RunRefusal::Ids, 3, "ids")?;
-    check_line(&rt, rt.alloc(), RunRefusal::Memory, 4, "memory")
+    check_line(&rt, rt.alloc(), RunRefusal::Memory, 4, "memory")?;
+    Ok(())
 }
 
 /// A text, what stands before its cut, and what stands after it.
@@ -316,6 +310,9 @@ const CUTS: &[Cut] = &[
 fn input_is_cut_at_the_first_line_of_two_signs(rt: HostRuntime) {
     for (text, before, after) in CUTS {
         let (network, records) = split_input(text);
-        assert!(rt; network == *before && records == *after, "{text:?}");
+        assert!(rt;
+            network == *before && records == *after,
+            "{before:?} and {after:?}"
+        );
     }
 }

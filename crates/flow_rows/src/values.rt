@@ -1,5 +1,5 @@
 //! Values, functions and predicates where no text reaches them, and each of their calls once.
-use crate::driver::cells;
+use crate::driver::{atom, cells, check, row_of, values_of};
 use flow_value::{
     MAX_ID, MessageHeader, MessageStatus, Parcel, Row, Steps, StepsError, Text, Value, When, Work,
     WorkFault,
@@ -46,63 +46,35 @@ spread, int, add 1 | '1 '9223372036854775807 x | fault 5
 spread, int, add 1 | '1 x '9223372036854775807 | fault 1
 ";
 
-/// The integer or the text that a word is.
-fn atom(alloc: Global, word: &str) -> Result<Value, AllocError> {
-    match word.parse::<i64>() {
-        Ok(number) => Ok(Value::Int(number)),
-        Err(_) => {
-            let text = Text::from_str(alloc, word.strip_prefix("'").unwrap_or(word))?;
-            Ok(Value::Text(text))
-        }
+/// What these steps give.
+fn given_by(alloc: Global, work: &str, items: &str) -> Result<Result<Vec<Value>, WorkFault>, Fail> {
+    let mut texts = Vec::new(alloc);
+    for text in work.split(", ") {
+        texts.push(text)?;
     }
-}
-
-fn row_of(alloc: Global, items: Vec<Value>) -> Result<Value, AllocError> {
-    Ok(Value::Row(Row::new(alloc, items).map_err(|_| AllocError)?))
-}
-
-/// The values that these words are.
-fn values_of(alloc: Global, words: &str) -> Result<Vec<Value>, AllocError> {
-    let mut values = Vec::new(alloc);
-    for word in words.split(" ") {
-        match word
-            .strip_prefix("(")
-            .and_then(|word| word.strip_suffix(")"))
-        {
-            Some(inner) => {
-                let mut items = Vec::new(alloc);
-                for item in inner.split(",") {
-                    items.push(atom(alloc, item)?)?;
-                }
-                values.push(row_of(alloc, items)?)?;
-            }
-            None if word == "none" => {}
-            None => values.push(atom(alloc, word)?)?,
-        }
-    }
-    Ok(values)
+    let steps = Steps::read(alloc, texts.as_slice())?;
+    let argument = row_of(alloc, values_of(alloc, items)?)?;
+    Ok(steps.run(alloc, &argument))
 }
 
 #[test]
 fn functions_take_rows(rt: HostRuntime) -> Result<(), Fail> {
-    let alloc = rt.alloc();
     for row in ROWS.lines().skip(1) {
         let (work, items, due) = cells(row).ok_or("no row")?;
-        let mut texts = Vec::new(alloc);
-        for text in work.split(", ") {
-            texts.push(text)?;
-        }
-        let steps = Steps::read(alloc, texts.as_slice())?;
-        let argument = row_of(alloc, values_of(alloc, items)?)?;
-        let given = steps.run(alloc, &argument);
-        let is_due = match (&given, due.strip_prefix("fault ")) {
-            (Ok(values), None) => *values == values_of(alloc, due)?,
-            (Err(fault), Some(number)) => fault.number() == number.parse::<u32>().ok(),
-            _ => false,
+        let is_due = match given_by(rt.alloc(), work, items)? {
+            Ok(values) => values == values_of(rt.alloc(), due)?,
+            Err(fault) => is_number(due.strip_prefix("fault "), fault),
         };
-        assert!(rt; is_due, "{row}: {given:?}");
+        check(&rt, row, is_due);
     }
     Ok(())
+}
+
+fn is_number(digits: Option<&str>, fault: WorkFault) -> bool {
+    match digits {
+        Some(digits) => fault.number() == digits.parse::<u32>().ok(),
+        None => false,
+    }
 }
 
 #[test]
@@ -142,14 +114,14 @@ fn predicates_are_read_and_admit_numbers(rt: HostRuntime) -> Result<(), Fail> {
     let row = row_of(rt.alloc(), values_of(rt.alloc(), "2")?)?;
     for (name, admitted, refused) in PREDICATES {
         let when = When::read(name).ok_or("no predicate")?;
-        assert!(rt; when.admits(&Value::Int(*admitted)), "{name} {admitted}");
-        assert!(rt; !when.admits(&Value::Int(*refused)), "{name} {refused}");
-        assert!(rt; !when.admits(&text) && !when.admits(&row), "{name}");
+        check(&rt, name, when.admits(&Value::Int(*admitted)));
+        check(&rt, name, !when.admits(&Value::Int(*refused)));
+        check(&rt, name, !when.admits(&text) && !when.admits(&row));
     }
     let any = When::read("any").ok_or("no predicate")?;
     assert!(rt; any.admits(&Value::Int(0)) && any.admits(&text) && any.admits(&row));
     for name in NO_PREDICATES.split("/") {
-        assert!(rt; When::read(name).is_none(), "{name}");
+        check(&rt, name, When::read(name).is_none());
     }
     Ok(())
 }
@@ -157,12 +129,10 @@ fn predicates_are_read_and_admit_numbers(rt: HostRuntime) -> Result<(), Fail> {
 #[test]
 fn headers_have_ids_from_one(rt: HostRuntime) {
     assert!(rt; MessageHeader::new(0).is_none());
-    assert_eq!(rt; MessageHeader::new(1).map(|header| header.id()), Some(1));
-    assert_eq!(rt; MAX_ID, 576_460_752_303_423_487);
-    assert_eq!(rt;
-        MessageHeader::new(MAX_ID).map(|header| header.id()),
-        Some(MAX_ID)
-    );
+    assert!(rt; MAX_ID == 576_460_752_303_423_487);
+    for id in [1, MAX_ID] {
+        assert!(rt; matches!(MessageHeader::new(id), Some(header) if header.id() == id));
+    }
     assert!(rt; MessageHeader::new(MAX_ID + 1).is_none());
 }
 
@@ -175,39 +145,63 @@ fn statuses_and_faults_have_numbers(rt: HostRuntime) {
         (MessageStatus::NotAvailable, 3),
         (MessageStatus::DecliningPermanently, 4),
     ] {
-        assert_eq!(rt; status.number(), number);
+        assert!(rt; status.number() == number);
     }
-    assert_eq!(rt; WorkFault::Memory.number(), None);
+    assert!(rt; WorkFault::Memory.number().is_none());
+}
+
+/// The row of these words.
+fn row_with(alloc: Global, words: &str) -> Result<Value, AllocError> {
+    row_of(alloc, values_of(alloc, words)?)
 }
 
 #[test]
 fn copies_are_equal(rt: HostRuntime) -> Result<(), Fail> {
-    let alloc = rt.alloc();
-    let value = row_of(alloc, values_of(alloc, "1 a")?)?;
-    let copy = value.copy(alloc)?;
+    let value = row_with(rt.alloc(), "1 a")?;
+    let copy = value.copy(rt.alloc())?;
     assert!(rt; copy == value);
-    assert!(rt; copy != row_of(alloc, values_of(alloc, "1 b")?)?);
-    assert!(rt; copy != row_of(alloc, values_of(alloc, "1")?)?);
-    let parcel = Parcel::new(alloc, value).map_err(|_| "out of memory")?;
-    assert!(rt; *parcel.value() == copy);
+    assert!(rt; copy != row_with(rt.alloc(), "1 b")?);
+    assert!(rt; copy != row_with(rt.alloc(), "1")?);
+    Ok(())
+}
+
+#[test]
+fn parcels_hold_their_value_twice(rt: HostRuntime) -> Result<(), Fail> {
+    let value = row_with(rt.alloc(), "1 a")?;
+    let same = row_with(rt.alloc(), "1 a")?;
+    let Ok(parcel) = Parcel::new(rt.alloc(), value) else {
+        panic!(&rt; "out of memory");
+    };
+    assert!(rt; *parcel.value() == same);
     let (value, spare) = parcel.into_parts();
-    assert!(rt; value == copy && spare == copy);
-    let steps = Steps::read(alloc, &["int", "add 1"])?;
-    let other = Steps::read(alloc, &["int", "add 2"])?;
-    assert!(rt; Work::copy(&steps, alloc)? == steps && other != steps);
-    assert_eq!(rt; steps.as_slice().len(), 2);
+    assert!(rt; value == same && spare == same);
+    Ok(())
+}
+
+#[test]
+fn functions_are_copied(rt: HostRuntime) -> Result<(), Fail> {
+    let steps = Steps::read(rt.alloc(), &["int", "add 1"])?;
+    let other = Steps::read(rt.alloc(), &["int", "add 2"])?;
+    assert!(rt; Work::copy(&steps, rt.alloc())? == steps && other != steps);
+    assert!(rt; steps.as_slice().len() == 2);
+    Ok(())
+}
+
+#[test]
+fn values_show_their_sort(rt: HostRuntime) -> Result<(), Fail> {
+    let value = row_with(rt.alloc(), "1 x")?;
+    assert!(rt; matches!(value.as_items(), Some([_, _])));
+    assert!(rt; value.as_int().is_none() && value.as_str().is_none());
     Ok(())
 }
 
 #[test]
 fn rows_give_their_items_back(rt: HostRuntime) -> Result<(), Fail> {
-    let alloc = rt.alloc();
-    let value = row_of(alloc, values_of(alloc, "1 x")?)?;
-    assert_eq!(rt; value.as_items().map(|items| items.len()), Some(2));
-    assert!(rt; value.as_int().is_none() && value.as_str().is_none());
-    let row = Row::new(alloc, values_of(alloc, "1 x")?).map_err(|_| "out of memory")?;
+    let Ok(row) = Row::new(rt.alloc(), values_of(rt.alloc(), "1 x")?) else {
+        panic!(&rt; "out of memory");
+    };
     assert!(rt; row.len() == 2 && !row.is_empty() && row.items().len() == 2);
-    assert!(rt; row.copy(alloc)? == row);
+    assert!(rt; row.copy(rt.alloc())? == row);
     let items = row.into_items();
     assert!(rt; items.len() == 2);
     assert!(rt; items[0].as_int() == Some(1) && items[1].as_str() == Some("x"));
@@ -218,27 +212,46 @@ fn rows_give_their_items_back(rt: HostRuntime) -> Result<(), Fail> {
 /// Runs keep many values, so a row keeps its items behind one pointer.
 #[test]
 fn a_value_takes_sixteen_bytes(rt: HostRuntime) {
-    assert_eq!(rt; size_of::<Value>(), 16);
+    assert!(rt; size_of::<Value>() == 16);
+}
+
+#[test]
+fn texts_have_a_length(rt: HostRuntime) -> Result<(), Fail> {
+    let none = Text::from_str(rt.alloc(), "")?;
+    assert!(rt; none.is_empty() && none.len() == 0);
+    let accented = Text::from_str(rt.alloc(), "\u{e9}")?;
+    assert!(rt; accented.len() == 2 && accented != none);
+    Ok(())
+}
+
+/// Tests that a text has this content, and gives it.
+fn gives(rt: &impl Abort, alloc: Global, text: Text, content: &str) {
+    assert!(rt; text.as_str() == content && text.len() == content.len() && !text.is_empty());
+    match text.into_string(alloc) {
+        Ok(given) => assert!(rt; given.as_str() == content),
+        Err(_) => panic!(rt; "out of memory"),
+    }
+}
+
+/// A text and a copy of it, which share what they hold where it is long.
+fn shared(alloc: Global, content: &str) -> Result<(Text, Text), Fail> {
+    match Text::new(alloc, content.to_string(alloc)?) {
+        Ok(text) => {
+            let copy = text.copy(alloc)?;
+            Ok((text, copy))
+        }
+        Err(_) => Err(Fail::new("out of memory")),
+    }
 }
 
 #[test]
 fn a_shared_text_gives_its_string(rt: HostRuntime) -> Result<(), Fail> {
-    let alloc = rt.alloc();
-    let mut long = String::new(alloc);
-    for _ in 0..100u8 {
-        long.push_str("thirty-two bytes, and then more.")?;
-    }
-    let none = Text::from_str(alloc, "")?;
-    assert!(rt; none.is_empty() && none.len() == 0);
+    let long = ["thirty-two bytes, and then more."; 100].concat(rt.alloc())?;
     for content in ["\u{e9}", long.as_str()] {
-        let text = Text::new(alloc, content.to_string(alloc)?).map_err(|_| "out of memory")?;
-        let copy = text.copy(alloc)?;
-        assert!(rt; copy == text && text == Text::from_str(alloc, content)? && text != none);
-        assert!(rt; text.as_str() == content && copy.len() == content.len());
-        let given = text.into_string(alloc).map_err(|_| "out of memory")?;
-        assert!(rt; given.as_str() == content && copy.as_str() == content);
-        let given = copy.into_string(alloc).map_err(|_| "out of memory")?;
-        assert!(rt; given.as_str() == content);
+        let (text, copy) = shared(rt.alloc(), content)?;
+        assert!(rt; copy == text && text == Text::from_str(rt.alloc(), content)?);
+        gives(&rt, rt.alloc(), text, content);
+        gives(&rt, rt.alloc(), copy, content);
     }
     Ok(())
 }
