@@ -354,13 +354,15 @@ const SEEDS: u64 = 48;
 #[test]
 fn seeded_schedules_agree(rt: HostRuntime) -> Result<(), Fail> {
     for case in CASES {
+        let name = case.0;
         let mut ends = Vec::new(rt.alloc());
         for seed in 0..SEEDS {
-            ends.push(end_by_seed(&rt, rt.alloc(), case, seed)?)?;
+            let end = end_by_seed(&rt, rt.alloc(), case, seed)?;
+            assert!(rt; end.is_some(), "{name}, seed {seed}");
+            ends.push(end)?;
         }
-        check(&rt, case.0, !ends.contains(&None));
         for place in 0..case.4.len() {
-            check(&rt, case.0, ends.contains(&Some(place)));
+            check(&rt, name, ends.contains(&Some(place)));
         }
     }
     Ok(())
