@@ -20,6 +20,7 @@ pub mod PlansAreBuilt
 pub mod PlansAreWellFormed
 pub mod RoundsOfWalks
 pub mod SourceMoves
+pub mod StagesKept
 pub mod TargetMoves
 pub mod WordsDiffer
 pub mod WrongPartsRefused

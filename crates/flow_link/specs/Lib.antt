@@ -31,6 +31,7 @@ pub mod Refusal
 pub mod RefusedExamples
 pub mod Rounds
 pub mod Shape
+pub mod Stage
 pub mod Tests
 pub mod Told
 pub mod Trace

@@ -12,6 +12,7 @@ ghost use Rattle.flow_link.specs.PlanExamples.{FaultsOfDrafts};
 ghost use Rattle.flow_link.specs.Rebase.{Rebases};
 ghost use Rattle.flow_link.specs.RefusedExamples.{WrongRunsAreRefused};
 ghost use Rattle.flow_link.specs.Told.{LinksTell};
+ghost use Rattle.flow_link.specs.Stage.{StagesAreKept};
 ghost use Rattle.flow_link.specs.UnfinishedExamples.{UnfinishedRunsAreNotQuiet};
 ghost use Rattle.flow_link.specs.WrongParts.{WrongPartsAreRefused};
 
@@ -30,6 +31,11 @@ pub fn moves_keep_links_in_order()
 /// seen it.
 pub fn looks_keep_links_in_order()
     ensures { LooksKeep Value }
+{}
+
+/// The stages that a program keeps change by a look as those of the model do, whatever the target has in hand.
+pub fn stages_are_kept()
+    ensures { StagesAreKept }
 {}
 
 /// Of a link in order all that was given is taken or under way, what was accepted is not denied, and what a look tells
