@@ -1,3 +1,4 @@
+pub mod BlockCalls
 pub mod Built
 pub mod Composes
 pub mod Copies
@@ -31,7 +32,10 @@ pub mod Refusal
 pub mod RefusedExamples
 pub mod Rounds
 pub mod Shape
+pub mod SourceCalls
 pub mod Stage
+pub mod StagesMove
+pub mod TargetCalls
 pub mod Tests
 pub mod Told
 pub mod Trace

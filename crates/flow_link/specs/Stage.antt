@@ -1,5 +1,5 @@
--- The stages of a link's two ends, as the program keeps them and as the model names them. What the target has in hand stands
--- beside its stage, and the model joins them.
+-- The stages of a link's two ends, as the program keeps them and as the model names them. What the target has in hand
+-- stands beside its stage, and the model joins them.
 use Rattle.std.specs.Prelude.{◌≡◌, Bool, Option, None, pos, unwrap_or}
 use Rattle.flow_value.specs.declared.value.Value.{Value}
 use Rattle.flow_value.specs.declared.value.Value.TheVariants.{Int}

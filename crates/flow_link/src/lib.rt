@@ -20,6 +20,7 @@ mod phase;
 mod plan;
 mod stage;
 mod trace;
+mod traits;
 
 pub use check::{PlanRefusal, plan_check};
 pub use draft::{BlockDef, BlockKind, Draft, LinkDef};
@@ -29,6 +30,9 @@ pub use laws::{
     moves_keep_links_in_order, stages_are_kept, words_differ, wrong_runs_are_refused,
 };
 pub use phase::{LinkEnd, Move, Phase, phase_of, step_of, word_of};
-pub use plan::{Link, LinkSource, LinkTarget, Place, Plan, PlanFault};
+pub use plan::{Link, LinkId, LinkSource, LinkTarget, Place, Plan, PlanFault};
 pub use stage::{Refusal, SourceStage, TargetStage};
 pub use trace::{Ending, LinkState, Mark, Outcome};
+pub use traits::{
+    Completing, DataflowBlock, MakeFault, SourceBlock, TargetBlock, Wish, WishAnswer,
+};

@@ -13,6 +13,9 @@ use flow_value::When;
 use std::fmt;
 use thiserror::Error;
 
+/// Names a link of a plan: the plan's own links in their order, then one for each input, then one for each exit.
+pub type LinkId = usize;
+
 /// Where the messages of a link come from.
 #[derive(Clone, Copy, Debug, PartialEq, Eq)]
 pub enum LinkSource {
@@ -163,8 +166,8 @@ impl<W> Plan<W> {
         self.links.len()
     }
 
-    /// The link with this number.
-    pub fn link(&self, id: usize) -> Link
+    /// The link with this id.
+    pub fn link(&self, id: LinkId) -> Link
         requires { id < length (layout_of self.now).links }
         ensures its_number { HoldsAt (λ link. result ≡ link) (layout_of self.now).links id }
         ensures well_formed { IsWellFormed (layout_of self.now).blocks (layout_of self.now).links }

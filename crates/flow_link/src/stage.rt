@@ -117,7 +117,7 @@ impl SourceStage {
         }
     }
 
-    /// Whether a look that finds this phase tells the source that the target released the message that was kept for it.
+    /// Whether a look that finds this phase tells the source that the target released the message it kept.
     pub fn is_released_by(self, phase: Phase) -> bool
         ensures { result ≡ source_is_released self phase }
     {
@@ -157,8 +157,8 @@ impl TargetStage {
         }
     }
 
-    /// Whether a look that finds this phase tells the target that its wish stands no more: the source withdrew the offer
-    /// or denied the wish.
+    /// Whether a look that finds this phase tells the target that its wish stands no more: the source withdrew the
+    /// offer, or denied the wish.
     pub fn is_withdrawn_by(self, phase: Phase) -> bool
         ensures { result ≡ target_is_withdrawn self phase }
     {

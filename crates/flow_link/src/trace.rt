@@ -3,15 +3,16 @@ ghost use Rattle.std.specs.Prelude.{◌≡◌};
 ghost use Rattle.flow_link.specs.Phase.{message_id};
 
 use crate::phase::Phase;
+use crate::plan::LinkId;
 use flow_value::{MessageHeader, Parcel, Value};
 
 /// One thing that happened to a block; its journal has them in order.
 #[derive(Debug, Drop)]
 pub enum Mark {
     /// At this port it took this value, which came over this link.
-    Took(u32, usize, Value),
+    Took(u32, LinkId, Value),
     /// Over this link it gave this value.
-    Gave(usize, Value),
+    Gave(LinkId, Value),
     /// This port takes nothing any more.
     Complete(u32),
     /// The block ended by a fault with this number.
