@@ -1,5 +1,5 @@
 -- What a network keeps makes the run so far keep the link law.
-use Rattle.std.proofs.Common.{◌≡◌, ℕ, zero, suc, ◌+◌, ◌<◌, leb, Bool, true, false, cond, List, [], ◌∷◌, ◌++◌, length, get_or, take, map, is_some, count_by, Option, Some, None, Result, refl, ap, sym, subst, ◌∙◌, arith, ⊎_elim, le-leb, length-append}
+use Rattle.std.proofs.Common.{◌≡◌, ℕ, zero, suc, ◌+◌, ◌<◌, Bool, true, false, cond, List, [], ◌∷◌, length, get_or, take, map, is_some, count_by, Option, Some, None, Result, refl, ap, sym, subst, ◌∙◌, arith, le-leb}
 use Rattle.std.proofs.lemmas.List.Sums.{sum_by-cons}
 use Rattle.flow_value.specs.When.{admits}
 use Rattle.flow_value.specs.declared.value.Value.{Value}
@@ -17,7 +17,7 @@ use Rattle.flow_link.specs.Lists.{every, is_front}
 use Rattle.flow_link.specs.Plan.{link_in}
 use Rattle.flow_link.specs.Told.{IsTakenOrUnderWay}
 use Rattle.flow_link.specs.Trace.{InputTrace, Run, nothing_left, nothing_posted, gave_over, took_over, marks_of, given_by, given_over, taken_by, taken_over, input_of}
-use Rattle.flow_link.proofs.ListTests.{and_true, every_below, front_append, front_refl, front_of_front, same_value_refl}
+use Rattle.flow_link.proofs.ListTests.{and_true, every_below, same_value_refl}
 use Rattle.flow_link.proofs.LinksByParts.{all_or_all_but_one, taken_is_front, within_test}
 use Rattle.flow_link.proofs.LinksTell.{links_tell}
 use Rattle.flow_net.specs.Keeps.{Keeps, facts_in}

@@ -6,7 +6,7 @@ use Rattle.std.proofs.lemmas.List.{map-append, take_more, length-map, length-rep
 use Rattle.std.proofs.lemmas.List.Sums.{passes_at_first, fails_before_first, sum_by-drop_more}
 use Rattle.flow_link.specs.declared.draft.BlockDef.{BlockDef}
 use Rattle.flow_link.specs.Layout.{Layout}
-use Rattle.flow_link.specs.Lists.{numbers_from, below}
+use Rattle.flow_link.specs.Lists.{below}
 use Rattle.flow_link.specs.Trace.{InputTrace}
 use Rattle.flow_link.proofs.ListTests.{below_more, length_numbers}
 use Rattle.flow_net.specs.Fresh.{IsFresh}

@@ -6,6 +6,7 @@ ghost use Rattle.flow_link.specs.Composes.{is_coming};
 ghost use Rattle.flow_link.specs.declared.phase.Move.TheVariants.{Offer};
 ghost use Rattle.flow_link.specs.Lists.{is_empty};
 ghost use Rattle.flow_link.specs.Planned.{layout_of};
+ghost use Rattle.flow_link.specs.Stage.{refusal_of};
 ghost use Rattle.flow_net.specs.Events.{end_as, move_of_node, move_of_feed, is_hand, is_at_home, brings_completion};
 ghost use Rattle.flow_net.specs.Events.{fault_brought, head_of, offer_of, expects_at, move_of_source, refusal_at};
 ghost use Rattle.flow_net.specs.Events.{move_at, next_move, stage_into, stage_out, may_make, may_complete, next_fault};
@@ -13,14 +14,16 @@ ghost use Rattle.flow_net.specs.Events.{may_finish, event_at_link, value_at, has
 ghost use Rattle.flow_net.specs.declared.fault.NetFault.TheVariants.{Ids};
 ghost use Rattle.flow_net.specs.Parts.{node_at, feed_at, line_at, fresh_node, fresh_line};
 ghost use Rattle.flow_net.specs.There.{MayHappen, NeedsId};
-ghost use Rattle.flow_net.specs.Stage.{refusal_of, source_stage_of, target_stage_of};
+ghost use Rattle.flow_net.specs.Stage.{target_stage_of};
 
 use crate::event::Event;
 use crate::fault::NetFault;
 use crate::parts::{Feed, Line, Node, Parts};
 use crate::posted::State;
-use crate::stage::{Refusal, SourceStage, TargetStage};
-use flow_link::{Ending, Link, LinkEnd, LinkSource, LinkTarget, Move, Phase, Plan};
+use crate::stage::TargetStage;
+use flow_link::{
+    Ending, Link, LinkEnd, LinkSource, LinkTarget, Move, Phase, Plan, Refusal, SourceStage,
+};
 use flow_value::{MAX_ID, MessageHeader, Value};
 
 /// How a link ends that ends so where it passes its source's end on.
@@ -30,13 +33,13 @@ fn end_as(passes: bool, how: LinkEnd) -> LinkEnd
     if passes { how } else { LinkEnd::Plain }
 }
 
-impl SourceStage {
+impl Line {
     /// Whether no message of the source is under way.
-    fn is_at_home(self) -> bool
-        ensures { result ≡ is_at_home (source_stage_of self) }
+    fn is_at_home(&self) -> bool
+        ensures { result ≡ is_at_home self.now.source }
     {
         matches!(
-            self,
+            self.source,
             SourceStage::Free | SourceStage::Refused | SourceStage::Ended(_)
         )
     }
@@ -347,7 +350,7 @@ impl Parts {
         ensures { result ≡ is_at_home (stage_out self.now node.now) }
     {
         match node.out.and_then(|id| self.line(id)) {
-            Some(line) => line.source.is_at_home(),
+            Some(line) => line.is_at_home(),
             None => true,
         }
     }

@@ -10,15 +10,14 @@ ghost use Rattle.flow_net.specs.Seen.{result_by_number};
 ghost use Rattle.flow_net.specs.Events.{first_of, refusal_by, offers, gives, expecting, takes, sets_out, hands_on};
 ghost use Rattle.flow_net.specs.Events.{works, yields, transforms, applies, completes, faults, finishes, sends};
 ghost use Rattle.flow_net.specs.Events.{is_open, has_stopped, is_completing};
-ghost use Rattle.flow_net.specs.Stage.{refusal_of};
+ghost use Rattle.flow_link.specs.Stage.{refusal_of};
 ghost use Rattle.flow_net.specs.States.{state_by};
 ghost use Rattle.flow_net.specs.declared.fault.NetFault.TheVariants.{Memory};
 
 use crate::fault::NetFault;
 use crate::parts::{Feed, Node};
 use crate::posted::State;
-use crate::stage::Refusal;
-use flow_link::Mark;
+use flow_link::{Mark, Refusal};
 use flow_value::{Parcel, Value, Work};
 use std::alloc::Global;
 use std::collections::VecDeque;

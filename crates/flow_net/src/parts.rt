@@ -1,7 +1,7 @@
 //! The state of a network: what each block, input and link has come to.
 use crate::posted::State;
-use crate::stage::{SourceStage, TargetStage};
-use flow_link::{Ending, LinkState, Mark};
+use crate::stage::TargetStage;
+use flow_link::{Ending, LinkState, Mark, SourceStage};
 use flow_value::{MessageHeader, Parcel, Value};
 use std::collections::VecDeque;
 use std::marker::Model;
@@ -101,7 +101,8 @@ impl Model for Line {
     ghost use Rattle.flow_link.specs.contracts.trace.Mark as mark;
     ghost use Rattle.std.specs.Prelude.{unwrap_or};
     ghost use Rattle.flow_net.specs.Parts.{LineState};
-    ghost use Rattle.flow_net.specs.Stage.{source_stage_of, target_stage_of};
+    ghost use Rattle.flow_link.specs.Stage.{source_stage_of};
+    ghost use Rattle.flow_net.specs.Stage.{target_stage_of};
 
     ghost Value = { LineState };
 

@@ -1,38 +1,12 @@
-//! Where each end of a link stands: what it last found or wrote there. The other end may have moved since, until this
-//! end looks.
+//! Where the target's end of a link stands: what it last found or wrote there. The source may have moved since, until
+//! the target looks.
 ghost use Rattle.std.specs.Prelude.{◌≡◌, true};
-ghost use Rattle.flow_link.specs.Looks.{source_finds, target_finds};
+ghost use Rattle.flow_link.specs.Looks.{target_finds};
 ghost use Rattle.flow_net.specs.Keeps.{is_in_use};
-ghost use Rattle.flow_net.specs.Stage.{source_stage_of, target_stage_of};
+ghost use Rattle.flow_net.specs.Stage.{target_stage_of};
 
-use flow_link::{LinkEnd, Phase};
+use flow_link::{LinkEnd, Phase, Refusal};
 use flow_value::{MessageHeader, Parcel};
-
-/// Where the source's end stands.
-#[derive(Clone, Copy)]
-pub(crate) enum SourceStage {
-    /// Nothing is under way.
-    Free,
-    /// It offered a message, and has seen no answer.
-    Out(MessageHeader),
-    /// It has seen that its offer is wanted.
-    Accepted(MessageHeader),
-    /// It gave the message, and has not seen the target close.
-    Crossing,
-    /// It has seen that the target takes no message any more.
-    Refused,
-    /// It ended the link.
-    Ended(LinkEnd),
-}
-
-/// Why a target takes no message any more.
-#[derive(Clone, Copy)]
-pub(crate) enum Refusal {
-    /// The port has ended.
-    PortEnded,
-    /// The block's own fault stands.
-    OwnFault,
-}
 
 /// Where the target's end stands.
 #[derive(Drop)]
@@ -51,27 +25,6 @@ pub(crate) enum TargetStage {
     Refused(Refusal),
     /// It has seen that the source ended the link.
     Ended(LinkEnd),
-}
-
-impl SourceStage {
-    /// Where the source stands after a look that finds this phase.
-    pub(crate) fn look(self, phase: Phase) -> SourceStage
-        requires { is_in_use phase ≡ true }
-        ensures { source_stage_of result ≡ source_finds (source_stage_of self) phase }
-    {
-        match self {
-            SourceStage::Out(header) => match phase {
-                Phase::Wanted(_) => SourceStage::Accepted(header),
-                Phase::Refused => SourceStage::Refused,
-                _ => SourceStage::Out(header),
-            },
-            SourceStage::Crossing => match phase {
-                Phase::Idle => SourceStage::Free,
-                _ => SourceStage::Crossing,
-            },
-            stage => stage,
-        }
-    }
 }
 
 impl TargetStage {

@@ -1,7 +1,9 @@
 //! Does one event: the end that moves makes its move, and the other end looks. Memory is taken first, so that an event
 //! that is refused has changed nothing.
 ghost use Rattle.std.specs.Prelude.{◌≡◌, ◌<◌, length, true, is_some, OnOk, OnErr, IfErr};
+ghost use Rattle.flow_link.specs.Looks.{source_finds};
 ghost use Rattle.flow_link.specs.Planned.{layout_of};
+ghost use Rattle.flow_link.specs.Stage.{refusal_of};
 ghost use Rattle.flow_net.specs.Events.{offered, wanted, refused, given, taken_out, closed, ended, head_of, offer_of};
 ghost use Rattle.flow_net.specs.Events.{expects_at, with_offer, with_wish, after_offer, after_want, after_refusal};
 ghost use Rattle.flow_net.specs.Events.{after_give, after_opening, after_closing, after_move, refusal_at};
@@ -9,20 +11,36 @@ ghost use Rattle.flow_net.specs.Events.{takes_in_hand, closed_by, with_node, mad
 ghost use Rattle.flow_link.specs.declared.phase.Move.TheVariants.{Give, Close};
 ghost use Rattle.flow_net.specs.Seen.{works_of};
 ghost use Rattle.flow_net.specs.Parts.{line_at};
-ghost use Rattle.flow_net.specs.Stage.{refusal_of};
 ghost use Rattle.flow_net.specs.There.{SourceIsThere, TargetIsThere, MayHappen, Fits};
 ghost use Rattle.flow_net.specs.declared.fault.NetFault.TheVariants.{Memory};
 
 use crate::event::Event;
 use crate::fault::NetFault;
 use crate::parts::{Line, Node, Parts};
-use crate::stage::{Refusal, SourceStage, TargetStage};
-use flow_link::{BlockKind, Link, LinkEnd, LinkSource, LinkTarget, Move, Phase, Plan};
+use crate::stage::TargetStage;
+use flow_link::{
+    BlockKind, Link, LinkEnd, LinkSource, LinkTarget, Move, Phase, Plan, Refusal, SourceStage,
+};
 use flow_value::{MessageHeader, Parcel, Work};
 use std::alloc::Global;
 use std::mem;
 
 impl Line {
+    /// How far the message over the link has come.
+    fn phase(&self) -> Phase
+        ensures { result ≡ self.now.phase }
+    {
+        self.state.phase
+    }
+
+    /// The source looks, and finds the phase.
+    #[tactic(auto, using(flow_link::proofs::StagesKept::source_looks_kept))]
+    fn source_looks(&mut self)
+        ensures { self.new ≡ record self.old { source = source_finds self.old.source self.old.phase } }
+    {
+        self.source = self.source.look(self.state.phase);
+    }
+
     /// The source offers a message.
     fn offer(&mut self, header: MessageHeader)
         ensures { self.new ≡ offered header self.old }
@@ -38,7 +56,7 @@ impl Line {
     {
         self.target = TargetStage::Accepted(header);
         self.state.phase = Phase::Wanted(header);
-        self.source = self.source.look(Phase::Wanted(header));
+        self.source_looks();
     }
 
     /// The target takes no message any more.
@@ -47,7 +65,7 @@ impl Line {
     {
         self.target = TargetStage::Refused(why);
         self.state.phase = Phase::Refused;
-        self.source = self.source.look(Phase::Refused);
+        self.source_looks();
     }
 
     /// The source lays the message into the slot.
@@ -68,7 +86,7 @@ impl Line {
         if let Some(parcel) = self.state.slot.take() {
             self.target = TargetStage::Hand(header, parcel);
             self.state.phase = Phase::Opened(header);
-            self.source = self.source.look(Phase::Opened(header));
+            self.source_looks();
         }
     }
 
@@ -93,7 +111,7 @@ impl Node {
             TargetStage::Hand(_, parcel) => {
                 self.take(port, link, parcel);
                 line.state.phase = Phase::Idle;
-                line.source = line.source.look(Phase::Idle);
+                line.source_looks();
             }
             other => line.target = other,
         }
@@ -157,7 +175,7 @@ impl Parts {
         ensures kept { OnErr result (self.new ≡ self.old) }
         ensures memory { IfErr result (λ fault. fault ≡ Memory) }
     {
-        let phase = self.lines[id].state.phase;
+        let phase = self.lines[id].phase();
         if let Phase::Offered(header) = phase {
             self.prepare_answer(target)?;
             self.lines[id].want(header);
@@ -184,7 +202,7 @@ impl Parts {
         ensures { self.new ≡ after_give self.old id source (line_at self.old id).phase (head_of self.old source)
             (offer_of self.old source) }
     {
-        let phase = self.lines[id].state.phase;
+        let phase = self.lines[id].phase();
         if let Phase::Wanted(header) = phase {
             let parcel = match source {
                 LinkSource::Block(number) => self.nodes[number].give(id),
@@ -204,7 +222,7 @@ impl Parts {
         requires { id < length self.old.lines }
         ensures { self.new ≡ after_opening self.old id (line_at self.old id).phase (line_at self.old id).slot }
     {
-        let phase = self.lines[id].state.phase;
+        let phase = self.lines[id].phase();
         if let Phase::Given(header) = phase {
             self.lines[id].open(header);
         }
