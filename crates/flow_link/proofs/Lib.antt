@@ -10,6 +10,7 @@ pub mod JournalsGrow
 pub mod KeptInMidMove
 pub mod LawfulByParts
 pub mod LawfulByTests
+pub mod LinksAtRest
 pub mod LinksByParts
 pub mod LinksLaidOut
 pub mod LinksTell
@@ -18,6 +19,7 @@ pub mod LongWalks
 pub mod LooksKeepOrder
 pub mod PlansAreBuilt
 pub mod PlansAreWellFormed
+pub mod QuietByParts
 pub mod RoundsOfWalks
 pub mod SourceMoves
 pub mod StagesKept

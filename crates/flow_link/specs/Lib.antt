@@ -30,6 +30,7 @@ pub mod Quiet
 pub mod Rebase
 pub mod Refusal
 pub mod RefusedExamples
+pub mod RestsByParts
 pub mod Rounds
 pub mod Shape
 pub mod SourceCalls

@@ -11,6 +11,7 @@ ghost use Rattle.flow_link.specs.Phase.{WordsTell};
 ghost use Rattle.flow_link.specs.PlanExamples.{FaultsOfDrafts};
 ghost use Rattle.flow_link.specs.Rebase.{Rebases};
 ghost use Rattle.flow_link.specs.RefusedExamples.{WrongRunsAreRefused};
+ghost use Rattle.flow_link.specs.RestsByParts.{LinksRest, RestsCompose};
 ghost use Rattle.flow_link.specs.Told.{LinksTell};
 ghost use Rattle.flow_link.specs.Stage.{StagesAreKept};
 ghost use Rattle.flow_link.specs.UnfinishedExamples.{UnfinishedRunsAreNotQuiet};
@@ -70,6 +71,13 @@ pub fn faults_come_in_order()
 /// A network whose links are in order, and whose blocks, inputs and exits each keep their own laws, is lawful.
 pub fn lawful_by_parts<W>()
     ensures { Composes W }
+{}
+
+/// Where no end of a link has a move, each link rests. A network whose parts keep their own laws is quiet when each
+/// link rests, both its ends have seen it, and no block and no input has anything left to do.
+pub fn quiet_by_parts<W>()
+    ensures links_rest { LinksRest W }
+    ensures quiet { RestsCompose W }
 {}
 
 /// There are networks whose parts keep their own laws, also while a message is under way.
