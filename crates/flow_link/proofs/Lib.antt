@@ -7,6 +7,7 @@ pub mod FaultsComeInOrder
 pub mod FirstInOrder
 pub mod FirstOfEachFault
 pub mod JournalsGrow
+pub mod KeptAtRest
 pub mod KeptInMidMove
 pub mod LawfulByParts
 pub mod LawfulByTests

@@ -42,5 +42,6 @@ pub mod Told
 pub mod Trace
 pub mod UnfinishedExamples
 pub mod Views
+pub mod WaitsAtRest
 pub mod WellFormed
 pub mod WrongParts

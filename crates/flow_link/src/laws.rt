@@ -15,6 +15,7 @@ ghost use Rattle.flow_link.specs.RestsByParts.{LinksRest, RestsCompose};
 ghost use Rattle.flow_link.specs.Told.{LinksTell};
 ghost use Rattle.flow_link.specs.Stage.{StagesAreKept};
 ghost use Rattle.flow_link.specs.UnfinishedExamples.{UnfinishedRunsAreNotQuiet};
+ghost use Rattle.flow_link.specs.WaitsAtRest.{TwoWaitAtRest};
 ghost use Rattle.flow_link.specs.WrongParts.{WrongPartsAreRefused};
 
 /// The words of two different phases differ.
@@ -83,6 +84,12 @@ pub fn quiet_by_parts<W>()
 /// There are networks whose parts keep their own laws, also while a message is under way.
 pub fn laws_hold_in_mid_move()
     ensures { KeptInMidMove }
+{}
+
+/// There are networks whose parts keep their own laws and have nothing left to do, also while messages wait for room or
+/// for a partner.
+pub fn parts_rest_while_messages_wait()
+    ensures { TwoWaitAtRest }
 {}
 
 /// One more mark adds its value to what was taken or given, and changes nothing else of it.
