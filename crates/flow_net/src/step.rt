@@ -33,12 +33,13 @@ impl Line {
         self.state.phase
     }
 
-    /// The source looks, and finds the phase.
+    /// The source looks, and finds this phase.
+    #[inline(always)]
     #[tactic(auto, using(flow_link::proofs::StagesKept::source_looks_kept))]
-    fn source_looks(&mut self)
-        ensures { self.new ≡ record self.old { source = source_finds self.old.source self.old.phase } }
+    fn source_looks(&mut self, phase: Phase)
+        ensures { self.new ≡ record self.old { source = source_finds self.old.source phase } }
     {
-        self.source = self.source.look(self.state.phase);
+        self.source = self.source.look(phase);
     }
 
     /// The source offers a message.
@@ -56,7 +57,7 @@ impl Line {
     {
         self.target = TargetStage::Accepted(header);
         self.state.phase = Phase::Wanted(header);
-        self.source_looks();
+        self.source_looks(Phase::Wanted(header));
     }
 
     /// The target takes no message any more.
@@ -65,7 +66,7 @@ impl Line {
     {
         self.target = TargetStage::Refused(why);
         self.state.phase = Phase::Refused;
-        self.source_looks();
+        self.source_looks(Phase::Refused);
     }
 
     /// The source lays the message into the slot.
@@ -86,7 +87,7 @@ impl Line {
         if let Some(parcel) = self.state.slot.take() {
             self.target = TargetStage::Hand(header, parcel);
             self.state.phase = Phase::Opened(header);
-            self.source_looks();
+            self.source_looks(Phase::Opened(header));
         }
     }
 
@@ -111,7 +112,7 @@ impl Node {
             TargetStage::Hand(_, parcel) => {
                 self.take(port, link, parcel);
                 line.state.phase = Phase::Idle;
-                line.source_looks();
+                line.source_looks(Phase::Idle);
             }
             other => line.target = other,
         }
