@@ -20,7 +20,7 @@ use std::alloc::{AllocError, Global};
 use thiserror::Error;
 
 /// Why a block made nothing.
-#[derive(Clone, Copy, Debug, PartialEq, Eq, Hash, Error)]
+#[derive(Clone, Copy, Debug, PartialEq, Eq, Error)]
 pub enum MakeFault {
     /// Its messages have no more ids.
     #[error("out of ids")]
@@ -53,7 +53,7 @@ impl From<AllocError> for MakeFault {
 }
 
 /// What a target would do next about the messages that it put off, by link.
-#[derive(Clone, Copy, Debug, PartialEq, Eq, Hash)]
+#[derive(Clone, Copy, Debug, PartialEq, Eq)]
 pub enum Wish {
     /// It consumes the message that it postponed.
     Consume(LinkId),
@@ -68,7 +68,7 @@ pub enum Wish {
 }
 
 /// What comes of a wish.
-#[derive(Clone, Copy, Debug, PartialEq, Eq, Hash)]
+#[derive(Clone, Copy, Debug, PartialEq, Eq)]
 pub enum WishAnswer {
     /// The message will be handed over.
     Coming,
