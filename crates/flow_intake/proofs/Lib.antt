@@ -1,0 +1,3 @@
+pub mod AnswersTell
+pub mod CountsOfEnds
+pub mod EntriesStand

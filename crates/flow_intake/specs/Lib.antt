@@ -1,0 +1,4 @@
+pub mod ByLink
+pub mod Calls
+pub mod Port
+pub mod Queue

@@ -1,0 +1,119 @@
+//! The port's end of one link.
+ghost use Rattle.std.specs.Prelude.{◌≡◌, Some, None, false, Option, IfSome, is_some, true, option_map};
+ghost use Rattle.flow_intake.specs.Port.{fresh_end, is_hand, is_coming as coming_at, is_queued as queued_at, is_owed as owed_at};
+ghost use Rattle.flow_link.specs.declared.stage.TargetStage.TheVariants.{Free, Hand};
+
+use flow_link::TargetStage;
+use flow_value::{MessageHeader, Parcel, Value};
+use std::marker::Model;
+
+/// The port's end of a link. Contracts see the link, the stage, and the message in hand.
+#[derive(Drop)]
+pub(crate) struct InEnd {
+    link: usize,
+    stage: TargetStage,
+    /// What it has in hand.
+    parcel: Option<Parcel>,
+}
+
+impl Model for InEnd {
+    ghost use Rattle.std.specs.Coded.{codes};
+    ghost use Rattle.std.specs.Prelude.{◌≡◌, is_some};
+    ghost use Rattle.flow_value.specs.contracts.value.Value as content;
+    ghost use Rattle.flow_intake.specs.Port.{EndState, is_hand};
+
+    ghost Value = { EndState };
+
+    ghost coded = { Prim.hlevel (codes, content.the_row.coded) };
+
+    ghost view = { λ e. record { link = e.link; stage = e.stage; hand = e.parcel } };
+
+    ghost invariant = { λ e. is_some e.parcel ≡ is_hand e.stage };
+}
+
+/// Whether the message comes: it is wanted, and not taken yet.
+pub(crate) fn is_coming(stage: &TargetStage) -> bool
+    ensures { result ≡ coming_at stage.now }
+{
+    matches!(
+        stage,
+        TargetStage::Accepted(_)
+            | TargetStage::Consuming(_)
+            | TargetStage::Claiming(_)
+            | TargetStage::Arrived(_)
+            | TargetStage::Hand(_)
+    )
+}
+
+/// Whether the offer waits at the target, which may come back for it.
+pub(crate) fn is_queued(stage: &TargetStage) -> bool
+    ensures { result ≡ queued_at stage.now }
+{
+    matches!(
+        stage,
+        TargetStage::Postponed(_) | TargetStage::Asking(_) | TargetStage::Holding(_)
+    )
+}
+
+/// Whether memory is set aside for the message.
+pub(crate) fn is_owed(stage: &TargetStage) -> bool
+    ensures { result ≡ owed_at stage.now }
+{
+    is_queued(stage) || is_coming(stage)
+}
+
+impl InEnd {
+    /// The end of a link over which nothing is under way.
+    pub(crate) fn new(link: usize) -> InEnd
+        ensures { result ≡ fresh_end link }
+    {
+        InEnd {
+            link,
+            stage: TargetStage::Free,
+            parcel: None,
+        }
+    }
+
+    /// The link.
+    pub(crate) fn link(&self) -> usize
+        ensures { result ≡ self.now.link }
+    {
+        self.link
+    }
+
+    /// Where it stands.
+    pub(crate) fn stage(&self) -> TargetStage
+        ensures { result ≡ self.now.stage }
+    {
+        self.stage
+    }
+
+    /// It stands elsewhere from now on, with what it has in hand, if it has.
+    pub(crate) fn go_to(&mut self, stage: TargetStage)
+        requires { is_hand stage ≡ is_hand self.old.stage }
+        ensures { self.new ≡ record self.old { stage = stage } }
+    {
+        self.stage = stage;
+    }
+
+    /// It has this message in hand.
+    pub(crate) fn open(&mut self, header: MessageHeader, parcel: Parcel)
+        ensures { self.new ≡ record self.old { stage = Hand header; hand = Some parcel } }
+    {
+        self.stage = TargetStage::Hand(header);
+        self.parcel = Some(parcel);
+    }
+
+    /// It gives what it has in hand, and is free.
+    pub(crate) fn close(&mut self) -> Parcel
+        requires { is_hand self.old.stage ≡ true }
+        ensures parcel { self.old.hand ≡ Some result }
+        ensures closed { self.new ≡ record self.old { stage = Free; hand = None } }
+    {
+        self.stage = TargetStage::Free;
+        match self.parcel.take() {
+            Some(parcel) => parcel,
+            None => unreachable!(),
+        }
+    }
+}

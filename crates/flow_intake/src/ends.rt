@@ -1,0 +1,162 @@
+//! The port's ends of all links that lead into it, by their places, with counts of them.
+ghost use Rattle.std.specs.Prelude.{◌≡◌, ◌<◌, ◌≤◌, ◌+◌, ◌^◌, [], ◌∷◌, ◌++◌, Some, None, true, false, length};
+ghost use Rattle.std.specs.Prelude.{◌==◌, cond, OnOk, OnErr, IfSome};
+ghost use Rattle.flow_intake.specs.Port.{fresh_end, stage_in, link_in, hand_in, is_hand, is_coming, is_owed, count_at};
+ghost use Rattle.flow_intake.specs.ByLink.{place_of};
+ghost use Rattle.flow_intake.specs.Calls.{put_stage, put_hand};
+ghost use Rattle.flow_link.specs.declared.stage.TargetStage.TheVariants.{Free, Hand};
+
+use crate::end::{InEnd, is_coming, is_owed};
+use flow_link::TargetStage;
+use flow_value::{MessageHeader, Parcel};
+use std::alloc::{AllocError, Global};
+use std::marker::Model;
+
+/// Ends of links. Contracts see the list of them.
+#[derive(Drop)]
+pub(crate) struct Ends {
+    ends: Vec<InEnd>,
+    /// How many messages come.
+    coming: usize,
+    /// For how many messages memory is set aside.
+    owed: usize,
+}
+
+impl Model for Ends {
+    ghost use Rattle.std.specs.Coded.{codes};
+    ghost use Rattle.std.specs.Prelude.{List, ◌≡◌};
+    ghost use Rattle.flow_value.specs.contracts.value.Value as content;
+    ghost use Rattle.flow_intake.specs.Port.{EndState, count_at, is_coming, is_owed};
+
+    ghost Value = { List EndState };
+
+    ghost coded = { Prim.hlevel (codes, content.the_row.coded) };
+
+    ghost view = { λ e. e.ends.items };
+
+    ghost invariant = { λ e. (e.coming ≡ count_at is_coming e.ends.items) ×
+        (e.owed ≡ count_at is_owed e.ends.items) };
+}
+
+impl Ends {
+    /// No ends.
+    pub(crate) fn new(alloc: Global) -> Ends
+        ensures { result ≡ [] }
+    {
+        Ends {
+            ends: Vec::new(alloc),
+            coming: 0,
+            owed: 0,
+        }
+    }
+
+    /// How many messages come.
+    pub(crate) fn coming(&self) -> usize
+        ensures count { result ≡ count_at is_coming self.now }
+    {
+        self.coming
+    }
+
+    /// For how many messages memory is set aside.
+    pub(crate) fn owed(&self) -> usize
+        ensures count { result ≡ count_at is_owed self.now }
+    {
+        self.owed
+    }
+
+    /// How many ends there are.
+    pub(crate) fn len(&self) -> usize
+        ensures { result ≡ length self.now }
+    {
+        self.ends.len()
+    }
+
+    /// Where the end at this place stands.
+    pub(crate) fn stage(&self, place: usize) -> TargetStage
+        requires { place < length self.now }
+        ensures { result ≡ stage_in place self.now }
+    {
+        self.ends[place].stage()
+    }
+
+    /// The link of the end at this place.
+    pub(crate) fn link(&self, place: usize) -> usize
+        requires { place < length self.now }
+        ensures { result ≡ link_in place self.now }
+    {
+        self.ends[place].link()
+    }
+
+    /// The end at this place stands elsewhere from now on, with what it has in hand, if it has.
+    pub(crate) fn go_to(&mut self, place: usize, stage: TargetStage)
+        requires place { place < length self.old }
+        requires hand { is_hand stage ≡ is_hand (stage_in place self.old) }
+        ensures moved { self.new ≡ put_stage place stage self.old }
+        ensures coming { count_at is_coming self.new + cond (is_coming (stage_in place self.old)) 1 0 ≡
+            count_at is_coming self.old + cond (is_coming stage) 1 0 }
+        ensures owed { count_at is_owed self.new + cond (is_owed (stage_in place self.old)) 1 0 ≡
+            count_at is_owed self.old + cond (is_owed stage) 1 0 }
+        ensures len { length self.new ≡ length self.old }
+    {
+        let before = self.stage(place);
+        self.ends[place].go_to(stage);
+        self.coming = recounted(self.coming, is_coming(&before), is_coming(&stage));
+        self.owed = recounted(self.owed, is_owed(&before), is_owed(&stage));
+    }
+
+    /// The end at this place, where the message lies in the slot, has it in hand.
+    pub(crate) fn open(&mut self, place: usize, header: MessageHeader, parcel: Parcel)
+        requires place { place < length self.old }
+        requires before { is_coming (stage_in place self.old) ≡ true }
+        ensures moved { self.new ≡ put_hand place (Hand header) (Some parcel) self.old }
+        ensures coming { count_at is_coming self.new ≡ count_at is_coming self.old }
+        ensures owed { count_at is_owed self.new ≡ count_at is_owed self.old }
+        ensures len { length self.new ≡ length self.old }
+    {
+        self.ends[place].open(header, parcel);
+    }
+
+    /// The end at this place gives what it has in hand, and is free.
+    pub(crate) fn close(&mut self, place: usize) -> Parcel
+        requires place { place < length self.old }
+        requires before { is_hand (stage_in place self.old) ≡ true }
+        ensures parcel { hand_in place self.old ≡ Some result }
+        ensures moved { self.new ≡ put_hand place Free None self.old }
+        ensures coming { count_at is_coming self.new + 1 ≡ count_at is_coming self.old }
+        ensures owed { count_at is_owed self.new + 1 ≡ count_at is_owed self.old }
+        ensures len { length self.new ≡ length self.old }
+    {
+        self.coming -= 1;
+        self.owed -= 1;
+        self.ends[place].close()
+    }
+
+    /// One more end, of a link over which nothing is under way.
+    pub(crate) fn add(&mut self, link: usize) -> Result<(), AllocError>
+        ensures added { OnOk result (self.new ≡ self.old ++ fresh_end link ∷ []) }
+        ensures coming { OnOk result (count_at is_coming self.new ≡ count_at is_coming self.old) }
+        ensures owed { OnOk result (count_at is_owed self.new ≡ count_at is_owed self.old) }
+        ensures len { OnOk result (length self.new ≡ length self.old + 1) }
+        ensures kept { OnErr result (self.new ≡ self.old) }
+    {
+        self.ends.push(InEnd::new(link))?;
+        Ok(())
+    }
+
+    /// The place of this link's end.
+    pub(crate) fn find(&self, link: usize) -> Option<usize>
+        ensures place { result ≡ place_of link self.now }
+        ensures there { IfSome result (λ place. place < length self.now) }
+    {
+        self.ends.iter().position(|end| end.link() == link)
+    }
+}
+
+/// The count when one of those counted may have gone and one may have come.
+fn recounted(count: usize, before: bool, after: bool) -> usize
+    requires there { cond before 1 0 ≤ count }
+    requires small { count < 2 ^ 63 }
+    ensures { result + cond before 1 0 ≡ count + cond after 1 0 }
+{
+    count - usize::from(before) + usize::from(after)
+}

@@ -1,0 +1,465 @@
+//! One port, and its side of each move.
+//!
+//! A move that takes memory has two calls. `prepare_answer` takes it, and may be refused; what follows takes none and
+//! does not fail, from the answer until the message is taken.
+ghost use Rattle.std.specs.Prelude.{◌≡◌, ◌<◌, ◌≤◌, ◌+◌, true, false, ◌++◌, ◌∷◌, [], ◌^◌, length, OnOk, OnErr, IfOk};
+ghost use Rattle.std.specs.Prelude.{Some, is_some, cond};
+ghost use Rattle.flow_intake.specs.Port.{PortState, fresh_end, fresh_port, link_in, stage_at, hand_in, is_offer};
+ghost use Rattle.flow_intake.specs.Port.{is_owed, is_hand, is_wanted, coming, has_room, count_at, is_coming};
+ghost use Rattle.flow_intake.specs.Calls.{first_of, answer_to, next_place, in_move, is_offered, is_posted};
+ghost use Rattle.flow_intake.specs.Calls.{is_postponed, is_arrived, may_be_refused, may_be_dropped, prepared};
+ghost use Rattle.flow_intake.specs.Calls.{accepts, puts_off, leaves_for, wants, turns_down, postpones, refuses};
+ghost use Rattle.flow_intake.specs.Calls.{consumes, opens, closes, looks, takes_next, gives_room, port_closes};
+ghost use Rattle.flow_intake.specs.Calls.{one_more, move_of as moves_of};
+ghost use Rattle.flow_intake.specs.ByLink.{place_of, with_link, place_in, stands_at, is_free_over, answered, arrives};
+ghost use Rattle.flow_intake.specs.ByLink.{drops, next_wish, consumes_next, closes_link};
+
+use crate::end::is_queued;
+use crate::ends::Ends;
+use crate::queue::Queue;
+use flow_link::{Move, Phase, Refusal, TargetStage};
+use flow_value::{MessageHeader, MessageStatus, Parcel, Value};
+use std::alloc::{AllocError, Global};
+use std::collections::VecDeque;
+use std::marker::Model;
+
+/// One port of a block, with its ends of the links that lead into it.
+#[derive(Drop)]
+pub struct Intake {
+    // Set when the port is made.
+    capacity: Option<u32>,
+    reserves: bool,
+    // What changes.
+    ends: Ends,
+    queue: Queue,
+    waiting: VecDeque<Value>,
+    /// How many messages it took whose room has not come back, where there is a capacity.
+    load: usize,
+    refusing: Option<Refusal>,
+    /// Memory is set aside for one more message.
+    ready: bool,
+}
+
+impl Model for Intake {
+    ghost use Rattle.std.specs.Coded.{codes};
+    ghost use Rattle.std.specs.Prelude.{◌≡◌, ◌≤◌, ◌+◌, true, not, ◌||◌, cond, length, is_some, unwrap_or};
+    ghost use Rattle.std.specs.VecDeque.{deque_len, deque_capacity};
+    ghost use Rattle.flow_value.specs.contracts.value.Value as content;
+    ghost use Rattle.flow_intake.specs.Port.{PortState, count_at, is_coming, is_owed};
+
+    ghost Value = { PortState };
+
+    ghost coded = { Prim.hlevel (codes, content.the_row.coded) };
+
+    ghost view = { λ p. record {
+      ends = p.ends;
+      queue = p.queue.places;
+      waiting = p.waiting.items;
+      capacity = p.capacity;
+      reserves = p.reserves;
+      load = p.load;
+      refusing = p.refusing;
+      ready = p.ready;
+    } };
+
+    ghost invariant = { λ p. (deque_len p.waiting + count_at is_owed p.ends + cond p.ready 1 0 ≤
+        deque_capacity p.waiting) ×
+        (cond (is_some p.capacity) (p.load + count_at is_coming p.ends) p.load ≤ unwrap_or p.capacity 0) ×
+        (length p.ends ≤ p.queue.count) ×
+        (not p.ready || p.queue.has_room ≡ true) };
+}
+
+impl Intake {
+    /// A port with room for so many messages, or for any number; no link leads into it yet.
+    pub fn new(alloc: Global, capacity: Option<u32>) -> Intake
+        ensures { result ≡ fresh_port capacity }
+    {
+        Intake {
+            capacity,
+            reserves: false,
+            ends: Ends::new(alloc),
+            queue: Queue::new(alloc),
+            waiting: VecDeque::new(alloc),
+            load: 0,
+            refusing: None,
+            ready: false,
+        }
+    }
+
+    /// One more link leads into the port: its end has the place that comes next.
+    pub fn add_link(&mut self, link: usize) -> Result<(), AllocError>
+        ensures added { OnOk result (self.new ≡ record self.old { ends = self.old.ends ++ fresh_end link ∷ [] }) }
+        ensures kept { OnErr result (self.new ≡ self.old) }
+    {
+        self.queue.know(self.ends.len())?;
+        self.ends.add(link)
+    }
+
+    /// How many messages come: they are wanted, and not taken yet.
+    pub fn coming(&self) -> usize
+        ensures { result ≡ coming self.now }
+    {
+        self.ends.coming()
+    }
+
+    /// Whether there is room for one more message.
+    pub fn has_room(&self) -> bool
+        ensures { result ≡ has_room self.now }
+    {
+        match self.capacity {
+            Some(capacity) => self.load + self.ends.coming() < capacity as usize,
+            None => true,
+        }
+    }
+
+    /// What it took and nobody has taken on, oldest first.
+    pub fn waiting(&self) -> &VecDeque<Value>
+        ensures { result.now.items ≡ self.now.waiting }
+    {
+        &self.waiting
+    }
+
+    /// The answer to an offer.
+    fn answer_to(&self, may_postpone: bool) -> MessageStatus
+        ensures { result ≡ answer_to may_postpone self.now }
+    {
+        let put_off = if may_postpone {
+            MessageStatus::Postponed
+        } else {
+            MessageStatus::Declined
+        };
+        if self.refusing.is_some() {
+            MessageStatus::DecliningPermanently
+        } else if !self.reserves && self.queue.is_empty() && self.has_room() {
+            MessageStatus::Accepted
+        } else {
+            put_off
+        }
+    }
+
+    /// The place of the end that consumes next.
+    fn next_place(&self) -> Option<usize>
+        ensures { result ≡ next_place self.now }
+    {
+        if self.refusing.is_none() && !self.reserves && self.has_room() {
+            self.queue.first()
+        } else {
+            None
+        }
+    }
+
+    /// What the end at this place would do next, if it would do anything.
+    pub fn in_move(&self, place: usize) -> Option<Move>
+        requires { place < length self.now.ends }
+        ensures { result ≡ in_move place self.now }
+    {
+        match self.ends.stage(place) {
+            TargetStage::Offered(_) => move_of(self.answer_to(true)),
+            TargetStage::Posted(_) => move_of(self.answer_to(false)),
+            TargetStage::Postponed(_) => {
+                if self.refusing.is_some() {
+                    Some(Move::Refuse)
+                } else if self.next_place() == Some(place) {
+                    Some(Move::Consume)
+                } else {
+                    None
+                }
+            }
+            TargetStage::Arrived(_) => Some(Move::Open),
+            TargetStage::Hand(_) => Some(Move::Close),
+            _ => None,
+        }
+    }
+
+    /// Sets memory aside for one more message, from the answer to its offer until it is taken.
+    pub fn prepare_answer(&mut self) -> Result<(), AllocError>
+        ensures done { OnOk result (self.new ≡ prepared self.old) }
+        ensures kept { OnErr result (self.new ≡ self.old) }
+    {
+        self.waiting.reserve(self.ends.owed() + 1)?;
+        self.queue.prepare()?;
+        self.ready = true;
+        Ok(())
+    }
+
+    /// Accepts this message over the link at this place.
+    fn accept(&mut self, place: usize, header: MessageHeader)
+        requires place { place < length self.old.ends }
+        requires before { is_owed (stage_at place self.old) ≡ false }
+        requires ready { self.old.ready ≡ true }
+        requires room { has_room self.old ≡ true }
+        ensures { self.new ≡ accepts place header self.old }
+    {
+        self.ends.go_to(place, TargetStage::Accepted(header));
+        self.ready = false;
+    }
+
+    /// Postpones this message over the link at this place.
+    fn put_off(&mut self, place: usize, header: MessageHeader)
+        requires place { place < length self.old.ends }
+        requires before { is_owed (stage_at place self.old) ≡ false }
+        requires ready { self.old.ready ≡ true }
+        ensures { self.new ≡ puts_off place header self.old }
+    {
+        self.ends.go_to(place, TargetStage::Postponed(header));
+        self.queue.join(place);
+        self.ready = false;
+    }
+
+    /// Accepts the offer over the link at this place.
+    pub fn want(&mut self, place: usize)
+        requires place { place < length self.old.ends }
+        requires offer { is_offer (stage_at place self.old) ≡ true }
+        requires ready { self.old.ready ≡ true }
+        requires room { has_room self.old ≡ true }
+        ensures { self.new ≡ wants place self.old }
+    {
+        if let TargetStage::Offered(header) | TargetStage::Posted(header) = self.ends.stage(place) {
+            self.accept(place, header);
+        }
+    }
+
+    /// Does not take the message that was posted over the link at this place.
+    pub fn turn_down(&mut self, place: usize)
+        requires place { place < length self.old.ends }
+        requires posted { is_posted (stage_at place self.old) ≡ true }
+        ensures { self.new ≡ turns_down place self.old }
+    {
+        self.ends.go_to(place, TargetStage::Free);
+    }
+
+    /// Postpones the offer over the link at this place.
+    pub fn postpone(&mut self, place: usize)
+        requires place { place < length self.old.ends }
+        requires offered { is_offered (stage_at place self.old) ≡ true }
+        requires ready { self.old.ready ≡ true }
+        ensures { self.new ≡ postpones place self.old }
+    {
+        if let TargetStage::Offered(header) = self.ends.stage(place) {
+            self.put_off(place, header);
+        }
+    }
+
+    /// Refuses the offer over the link at this place for good, which it may have postponed before.
+    pub fn refuse(&mut self, place: usize)
+        requires place { place < length self.old.ends }
+        requires refusing { is_some self.old.refusing ≡ true }
+        requires offer { may_be_refused (stage_at place self.old) ≡ true }
+        ensures { self.new ≡ refuses place self.old }
+    {
+        if let Some(why) = self.refusing {
+            self.ends.go_to(place, TargetStage::Refused(why));
+            self.queue.leave(place);
+        }
+    }
+
+    /// Consumes the offer over the link at this place, which it postponed.
+    pub fn consume(&mut self, place: usize)
+        requires place { place < length self.old.ends }
+        requires postponed { is_postponed (stage_at place self.old) ≡ true }
+        requires room { has_room self.old ≡ true }
+        ensures { self.new ≡ consumes place self.old }
+    {
+        if let TargetStage::Postponed(header) = self.ends.stage(place) {
+            self.ends.go_to(place, TargetStage::Consuming(header));
+            self.queue.leave(place);
+        }
+    }
+
+    /// Takes the message out of the slot of the link at this place: this is its parcel.
+    pub fn open(&mut self, place: usize, parcel: Parcel)
+        requires place { place < length self.old.ends }
+        requires arrived { is_arrived (stage_at place self.old) ≡ true }
+        ensures { self.new ≡ opens place parcel self.old }
+    {
+        if let TargetStage::Arrived(header) = self.ends.stage(place) {
+            self.ends.open(place, header, parcel);
+        }
+    }
+
+    /// Makes the message its own that it has in hand from the link at this place, and gives a copy of it, for a journal.
+    pub fn close(&mut self, place: usize) -> Value
+        requires place { place < length self.old.ends }
+        requires hand { is_hand (stage_at place self.old) ≡ true }
+        ensures value { hand_in place self.old.ends ≡ Some result }
+        ensures closed { self.new ≡ closes place result self.old }
+    {
+        let (value, copy) = self.ends.close(place).into_parts();
+        self.waiting.push_back_reserved(value);
+        self.load = with_one_more(self.capacity, self.load);
+        copy
+    }
+
+    /// Looks at the phase of the link at this place.
+    pub fn look_in(&mut self, place: usize, phase: Phase)
+        requires { place < length self.old.ends }
+        ensures { self.new ≡ looks place phase self.old }
+    {
+        let stage = self.ends.stage(place).look(phase);
+        self.ends.go_to(place, stage);
+        if !is_queued(&stage) {
+            self.queue.leave(place);
+        }
+    }
+
+    /// Takes the message on that waits longest.
+    pub fn take_next(&mut self) -> Option<Value>
+        ensures first { result ≡ first_of self.old.waiting }
+        ensures taken { self.new ≡ takes_next self.old }
+    {
+        self.waiting.pop_front()
+    }
+
+    /// The room of so many messages comes back, which were taken on.
+    pub fn give_room(&mut self, count: usize)
+        requires { cond (is_some self.old.capacity) (count + length self.old.waiting) 0 ≤ self.old.load }
+        ensures { self.new ≡ gives_room count self.old }
+    {
+        if self.capacity.is_some() {
+            self.load -= count;
+        }
+    }
+
+    /// The port takes no message any more.
+    ///
+    /// Microsoft: `IDataflowBlock.Complete`.
+    pub fn close_port(&mut self)
+        ensures { self.new ≡ port_closes self.old }
+    {
+        self.refusing = Some(Refusal::PortEnded);
+    }
+}
+
+// Calls that name a link: the caller plays the far end. They look for the link's end; who knows its place need not.
+impl Intake {
+    /// Answers an offer over this link, which may be a new one. What it accepts is still to [arrive](Intake::arrive).
+    ///
+    /// Microsoft: `ITargetBlock<TInput>.OfferMessage`.
+    pub fn answer(
+        &mut self,
+        link: usize,
+        header: MessageHeader,
+        may_postpone: bool,
+    ) -> Result<MessageStatus, AllocError>
+        requires { is_free_over link self.old ≡ true }
+        ensures status { IfOk result (λ status. status ≡ answer_to may_postpone self.old) }
+        ensures answered { IfOk result (λ status. self.new ≡ answered link header status self.old) }
+        ensures kept { OnErr result (self.new ≡ self.old) }
+    {
+        let status = self.answer_to(may_postpone);
+        match status {
+            MessageStatus::Accepted => {
+                let place = self.prepare_link(link)?;
+                self.accept(place, header);
+            }
+            MessageStatus::Postponed => {
+                let place = self.prepare_link(link)?;
+                self.put_off(place, header);
+            }
+            MessageStatus::DecliningPermanently => self.close_link(link),
+            MessageStatus::Declined | MessageStatus::NotAvailable => {}
+        }
+        Ok(status)
+    }
+
+    /// Sets memory aside for one more message over this link, and answers the place of its end, which may be a new one.
+    fn prepare_link(&mut self, link: usize) -> Result<usize, AllocError>
+        ensures place { IfOk result (λ place. place ≡ place_in link self.old) }
+        ensures there { IfOk result (λ place. place < length self.new.ends) }
+        ensures done { OnOk result (self.new ≡ prepared (with_link link self.old)) }
+        ensures kept { OnErr result (self.new ≡ self.old) }
+    {
+        let was_ready = self.ready;
+        self.prepare_answer()?;
+        if let Some(place) = self.ends.find(link) {
+            return Ok(place);
+        }
+        let place = self.ends.len();
+        match self.add_link(link) {
+            Ok(()) => Ok(place),
+            Err(refused) => {
+                self.ready = was_ready;
+                Err(refused)
+            }
+        }
+    }
+
+    /// The link's end refuses its message for good, if there is one.
+    fn close_link(&mut self, link: usize)
+        requires free { is_free_over link self.old ≡ true }
+        requires refusing { is_some self.old.refusing ≡ true }
+        ensures { self.new ≡ closes_link (place_of link self.old.ends) self.old }
+    {
+        if let Some(why) = self.refusing
+            && let Some(place) = self.ends.find(link)
+        {
+            self.ends.go_to(place, TargetStage::Refused(why));
+        }
+    }
+
+    /// The message that was wanted arrives over this link.
+    pub fn arrive(&mut self, link: usize, parcel: Parcel)
+        requires { stands_at is_wanted link self.old ≡ true }
+        ensures { self.new ≡ arrives link parcel self.old }
+    {
+        if let Some(place) = self.ends.find(link) {
+            self.ends.go_to(place, TargetStage::Free);
+            let (value, _copy) = parcel.into_parts();
+            self.waiting.push_back_reserved(value);
+            self.load = with_one_more(self.capacity, self.load);
+        }
+    }
+
+    /// The offer over this link that waits longest, which it consumes now: there is room for it, and it is set aside.
+    ///
+    /// Microsoft: `ISourceBlock<TOutput>.ConsumeMessage`, which the caller is to call.
+    pub fn next_postponed(&mut self) -> Option<(usize, MessageHeader)>
+        ensures offer { result ≡ next_wish self.old }
+        ensures consumed { self.new ≡ consumes_next self.old }
+    {
+        let place = self.next_place()?;
+        if place >= self.ends.len() {
+            return None;
+        }
+        let TargetStage::Postponed(header) = self.ends.stage(place) else {
+            return None;
+        };
+        self.consume(place);
+        Some((self.ends.link(place), header))
+    }
+
+    /// Forgets the offer over this link, which was withdrawn or has gone elsewhere: its room is free again.
+    pub fn drop_postponed(&mut self, link: usize)
+        requires { stands_at may_be_dropped link self.old ≡ true }
+        ensures { self.new ≡ drops link self.old }
+    {
+        if let Some(place) = self.ends.find(link) {
+            self.ends.go_to(place, TargetStage::Free);
+            self.queue.leave(place);
+        }
+    }
+}
+
+/// The move that an answer is.
+fn move_of(status: MessageStatus) -> Option<Move>
+    ensures { result ≡ moves_of status }
+{
+    match status {
+        MessageStatus::Accepted => Some(Move::Want),
+        MessageStatus::Declined => Some(Move::TurnDown),
+        MessageStatus::Postponed => Some(Move::Postpone),
+        MessageStatus::NotAvailable => None,
+        MessageStatus::DecliningPermanently => Some(Move::Refuse),
+    }
+}
+
+/// The load when one more message was taken: it counts only where there is a capacity.
+fn with_one_more(capacity: Option<u32>, load: usize) -> usize
+    requires { cond (is_some capacity) load 0 < 2 ^ 63 }
+    ensures { result ≡ one_more capacity load }
+{
+    match capacity {
+        Some(_) => load + 1,
+        None => load,
+    }
+}

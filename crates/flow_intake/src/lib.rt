@@ -1,0 +1,19 @@
+//! The target's side of links: one port of a block, with its ends of the links that lead into it.
+//!
+//! state of the port       what it answers to an offer, in this order
+//! it takes no more        for good that it declines
+//! it reserves             that it may come back, or that it declines a message that it may not come back for
+//! room, nobody waits      that it accepts
+//! else                    that it may come back, or that it declines
+//!
+//! Contracts see a port as plain data (`specs/Port.antt`), and each call as a function on them (`specs/Calls.antt`). A
+//! driver that knows the places of its links uses the calls by place: it looks, asks what its end would do, and does it.
+//! Whoever plays the far ends itself uses the calls by link.
+#![tactic(auto)]
+
+mod end;
+mod ends;
+mod intake;
+mod queue;
+
+pub use intake::Intake;
