@@ -1,8 +1,8 @@
 -- Which entries of a queue stand when a place leaves, joins or is added.
-use Rattle.std.proofs.Common.{◌≡◌, ◌≢◌, ℕ, ◌+◌, ◌<◌, ◌≤◌, zero, suc, ◌==◌, Bool, true, false, cond, List, [], ◌∷◌, ◌++◌, length, get_or, set, drop, refl, ap, sym, subst, ◌∙◌, arith, eq-eqb, ne_eqb, eqb-true}
+use Rattle.std.proofs.Common.{filter, ◌≡◌, ◌≢◌, ℕ, ◌+◌, ◌<◌, ◌≤◌, zero, suc, ◌==◌, Bool, true, false, cond, List, [], ◌∷◌, ◌++◌, length, get_or, set, drop, refl, ap, sym, subst, ◌∙◌, arith, eq-eqb, ne_eqb, eqb-true}
 use Rattle.std.proofs.lemmas.List.{get_or-set_same, get_or-set_other}
 use Rattle.flow_intake.specs.declared.queue.Entry.{Entry}
-use Rattle.flow_intake.specs.Queue.{without, standing, ArePlaced, AreNumbered, FirstStands}
+use Rattle.flow_intake.specs.Queue.{stands, without, standing, ArePlaced, AreNumbered, FirstStands}
 
 apart : (m n : ℕ) → m == n ≡ false → m ≢ n
 apart m n differ same = let equal : m == n ≡ true = eq-eqb m n same in cc
@@ -113,3 +113,39 @@ numbered-popped last (x ∷ entries) numbered = numbered.1
 pub first-stands : (turns : List ℕ) (entry : Entry) (entries : List Entry) → entry ≡ get_or entries 0 entry → get_or turns entry.place 0 ≡ entry.number → FirstStands turns entries
 first-stands turns entry [] first stands = tt
 first-stands turns entry (x ∷ entries) first stands = subst (λ (e : Entry). get_or turns e.place 0 ≡ e.number) first stands
+
+-- all that do not stand are dropped
+standing_one : (turns : List ℕ) (entry : Entry) (kept entries : List Entry) (now : Bool) → stands turns entry ≡ now
+    → standing turns kept ≡ standing turns entries → standing turns (cond now (entry ∷ kept) kept) ≡ standing turns (entry ∷ entries)
+standing_one turns entry kept entries true is same = rw same refl
+standing_one turns entry kept entries false is same = rw is same
+
+pub standing-kept : (turns : List ℕ) (entries : List Entry) → standing turns (filter (λ entry. stands turns entry) entries) ≡ standing turns entries
+standing-kept turns [] = refl
+standing-kept turns (entry ∷ entries) = standing_one turns entry _ entries (stands turns entry) refl (standing-kept turns entries)
+
+placed_one : (count : ℕ) (entry : Entry) (kept : List Entry) (now : Bool) → entry.place < count → ArePlaced count kept → ArePlaced count (cond now (entry ∷ kept) kept)
+placed_one count entry kept true one placed = (one, placed)
+placed_one count entry kept false one placed = placed
+
+pub placed-kept : (turns : List ℕ) (count : ℕ) (entries : List Entry) → ArePlaced count entries → ArePlaced count (filter (λ entry. stands turns entry) entries)
+placed-kept turns count [] placed = tt
+placed-kept turns count (entry ∷ entries) placed = placed_one count entry _ (stands turns entry) placed.0 (placed-kept turns count entries placed.1)
+
+numbered_one : (last : ℕ) (entry : Entry) (kept : List Entry) (now : Bool) → (1 ≤ entry.number) × (entry.number ≤ last) → AreNumbered last kept
+    → AreNumbered last (cond now (entry ∷ kept) kept)
+numbered_one last entry kept true one numbered = (one, numbered)
+numbered_one last entry kept false one numbered = numbered
+
+pub numbered-kept : (turns : List ℕ) (last : ℕ) (entries : List Entry) → AreNumbered last entries → AreNumbered last (filter (λ entry. stands turns entry) entries)
+numbered-kept turns last [] numbered = tt
+numbered-kept turns last (entry ∷ entries) numbered = numbered_one last entry _ (stands turns entry) numbered.0 (numbered-kept turns last entries numbered.1)
+
+first_one : (turns : List ℕ) (entry : Entry) (kept : List Entry) (now : Bool) → stands turns entry ≡ now → FirstStands turns kept
+    → FirstStands turns (cond now (entry ∷ kept) kept)
+first_one turns entry kept true is first = eqb-true (get_or turns entry.place 0) entry.number is
+first_one turns entry kept false is first = first
+
+pub first-kept : (turns : List ℕ) (entries : List Entry) → FirstStands turns (filter (λ entry. stands turns entry) entries)
+first-kept turns [] = tt
+first-kept turns (entry ∷ entries) = first_one turns entry _ (stands turns entry) refl (first-kept turns entries)

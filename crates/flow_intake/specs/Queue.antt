@@ -15,11 +15,15 @@ pub record PlaceQueue : Type 0 where
 abbrev pub without : ℕ → List ℕ → List ℕ
 without place queue = filter (λ other. not (other == place)) queue
 
+-- the entry stands: its place has this turn
+abbrev pub stands : List ℕ → Entry → Bool
+stands turns entry = get_or turns entry.place 0 == entry.number
+
 -- the places of the entries that stand
 abbrev pub standing : List ℕ → List Entry → List ℕ
 standing turns [] = []
 standing turns (entry ∷ entries) =
-    cond (get_or turns entry.place 0 == entry.number) (entry.place ∷ standing turns entries) (standing turns entries)
+    cond (stands turns entry) (entry.place ∷ standing turns entries) (standing turns entries)
 
 -- each entry is of a place below this number
 abbrev pub ArePlaced : ℕ → List Entry → Type 0

@@ -1,6 +1,7 @@
 //! The port's end of one link.
-ghost use Rattle.std.specs.Prelude.{◌≡◌, Some, None, false, Option, IfSome, is_some, true, option_map};
-ghost use Rattle.flow_intake.specs.Port.{fresh_end, is_hand, is_coming as coming_at, is_queued as queued_at, is_owed as owed_at};
+ghost use Rattle.std.specs.Prelude.{◌≡◌, Some, None, true};
+ghost use Rattle.flow_intake.specs.Port.{fresh_end, is_hand, is_coming as coming_at, is_queued as queued_at};
+ghost use Rattle.flow_intake.specs.Port.{is_owed as owed_at};
 ghost use Rattle.flow_link.specs.declared.stage.TargetStage.TheVariants.{Free, Hand};
 
 use flow_link::TargetStage;

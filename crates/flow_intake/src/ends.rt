@@ -1,5 +1,5 @@
 //! The port's ends of all links that lead into it, by their places, with counts of them.
-ghost use Rattle.std.specs.Prelude.{◌≡◌, ◌<◌, ◌≤◌, ◌+◌, ◌^◌, [], ◌∷◌, ◌++◌, Some, None, true, false, length};
+ghost use Rattle.std.specs.Prelude.{◌≡◌, ◌<◌, ◌≤◌, ◌+◌, ◌^◌, [], ◌∷◌, ◌++◌, Some, None, true, length};
 ghost use Rattle.std.specs.Prelude.{◌==◌, cond, OnOk, OnErr, IfSome};
 ghost use Rattle.flow_intake.specs.Port.{fresh_end, stage_in, link_in, hand_in, is_hand, is_coming, is_owed, count_at};
 ghost use Rattle.flow_intake.specs.ByLink.{place_of};

@@ -4,11 +4,11 @@
 //! does not fail, from the answer until the message is taken.
 ghost use Rattle.std.specs.Prelude.{◌≡◌, ◌<◌, ◌≤◌, ◌+◌, true, false, ◌++◌, ◌∷◌, [], ◌^◌, length, OnOk, OnErr, IfOk};
 ghost use Rattle.std.specs.Prelude.{Some, is_some, cond};
-ghost use Rattle.flow_intake.specs.Port.{PortState, fresh_end, fresh_port, link_in, stage_at, hand_in, is_offer};
+ghost use Rattle.flow_intake.specs.Port.{PortState, fresh_end, fresh_port, stage_at, hand_in, is_offer};
 ghost use Rattle.flow_intake.specs.Port.{is_owed, is_hand, is_wanted, coming, has_room, count_at, is_coming};
 ghost use Rattle.flow_intake.specs.Calls.{first_of, answer_to, next_place, in_move, is_offered, is_posted};
 ghost use Rattle.flow_intake.specs.Calls.{is_postponed, is_arrived, may_be_refused, may_be_dropped, prepared};
-ghost use Rattle.flow_intake.specs.Calls.{accepts, puts_off, leaves_for, wants, turns_down, postpones, refuses};
+ghost use Rattle.flow_intake.specs.Calls.{accepts, puts_off, wants, turns_down, postpones, refuses};
 ghost use Rattle.flow_intake.specs.Calls.{consumes, opens, closes, looks, takes_next, gives_room, port_closes};
 ghost use Rattle.flow_intake.specs.Calls.{one_more, move_of as moves_of};
 ghost use Rattle.flow_intake.specs.ByLink.{place_of, with_link, place_in, stands_at, is_free_over, answered, arrives};
@@ -277,7 +277,7 @@ impl Intake {
         }
     }
 
-    /// Makes the message its own that it has in hand from the link at this place, and gives a copy of it, for a journal.
+    /// Makes the message its own that it has in hand from the link at this place, and gives a copy of it for a journal.
     pub fn close(&mut self, place: usize) -> Value
         requires place { place < length self.old.ends }
         requires hand { is_hand (stage_at place self.old) ≡ true }

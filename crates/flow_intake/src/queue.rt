@@ -3,7 +3,8 @@ ghost use Rattle.std.specs.Prelude.{◌≡◌, ℕ, ◌<◌, ◌≤◌, ◌+◌,
 ghost use Rattle.std.specs.VecDeque.{deque_len, deque_capacity};
 ghost use Rattle.flow_intake.specs.Calls.{first_of};
 ghost use Rattle.flow_link.specs.Lists.{is_empty};
-ghost use Rattle.flow_intake.specs.Queue.{PlaceQueue, without, standing, ArePlaced, AreNumbered, FirstStands};
+ghost use Rattle.flow_intake.specs.Queue.{PlaceQueue, without, stands as stands_now, standing};
+ghost use Rattle.flow_intake.specs.Queue.{ArePlaced, AreNumbered, FirstStands};
 
 use std::alloc::{AllocError, Global};
 use std::collections::VecDeque;
@@ -91,6 +92,7 @@ impl Queue {
         if self.last == u64::MAX {
             return Err(AllocError);
         }
+        drop_stale(&mut self.entries, &self.turns);
         self.entries.reserve(1)?;
         self.ready = true;
         Ok(())
@@ -100,7 +102,10 @@ impl Queue {
     pub(crate) fn join(&mut self, place: usize)
         requires known { place < self.old.count }
         requires room { self.old.has_room ≡ true }
-        ensures { self.new ≡ record self.old { places = without place self.old.places ++ place ∷ []; has_room = false } }
+        ensures { self.new ≡ record self.old {
+          places = without place self.old.places ++ place ∷ [];
+          has_room = false;
+        } }
     {
         self.last += 1;
         self.ready = false;
@@ -129,6 +134,29 @@ impl Queue {
             Some(entry) => Some(entry.place),
             None => None,
         }
+    }
+}
+
+/// Whether the entry stands.
+fn stands(turns: &[u64], entry: &Entry) -> bool
+    ensures { result ≡ stands_now turns.now entry.now }
+{
+    turns.get(entry.place).copied().unwrap_or(0) == entry.number
+}
+
+/// Drops all entries that do not stand, where they are more than the places: so each of them pays for it once.
+fn drop_stale(entries: &mut VecDeque<Entry>, turns: &[u64])
+    requires placed { ArePlaced (length turns.now) entries.old.items }
+    requires front { FirstStands turns.now entries.old.items }
+    ensures same { standing turns.now entries.new.items ≡ standing turns.now entries.old.items }
+    ensures front { FirstStands turns.now entries.new.items }
+    ensures placed { ArePlaced (length turns.now) entries.new.items }
+    ensures numbered { (last : ℕ) → AreNumbered last entries.old.items → AreNumbered last entries.new.items }
+    ensures fewer { deque_len entries.new ≤ deque_len entries.old }
+    ensures capacity { deque_capacity entries.new ≡ deque_capacity entries.old }
+{
+    if entries.len() / 2 > turns.len() {
+        entries.retain(|entry| stands(turns, entry));
     }
 }
 
