@@ -1,0 +1,2 @@
+pub mod CursorMoves
+pub mod OutletFits

@@ -1,0 +1,176 @@
+-- What the outlet keeps ready stays right when one end changes.
+use Rattle.std.proofs.Common.{◌≡◌, ℕ, ◌+◌, ◌-◌, ◌<◌, ◌≤◌, ◌^◌, ◌==◌, ◌||◌, ◌&&◌, not, ltb, cond, Bool, true, false, List, [], ◌∷◌, ◌++◌, length, set, get_or, drop, map, Option, Some, None, refl, sym, arith}
+use Rattle.std.specs.Option.{ForSome}
+use Rattle.std.proofs.lemmas.List.{length-set, length-append, length-map, get_or_read}
+use Rattle.std.proofs.lemmas.Bool.Decides.{nat_tests}
+use Rattle.flow_value.specs.declared.value.Value.{Value}
+use Rattle.flow_link.specs.declared.stage.SourceStage.{SourceStage}
+use Rattle.flow_link.specs.declared.stage.SourceStage.TheVariants.{Free, Waiting}
+use Rattle.flow_outlet.specs.declared.ends.LinkRule.{LinkRule}
+use Rattle.flow_outlet.specs.declared.ends.OutEnd.{OutEnd}
+use Rattle.flow_outlet.specs.declared.group.Group.{Group}
+use Rattle.flow_outlet.specs.End.{end_in, no_end, fresh_end, is_away, is_waiting, cursor_after, place_in, count_at}
+use Rattle.flow_outlet.specs.ByLink.{forgotten, forgotten_stage}
+use Rattle.flow_outlet.specs.Fits.{Fits, weight_of}
+use Rattle.flow_outlet.specs.Outlet.{first_of, is_empty, recounted, given_end, groups_after, weight_at, groups_with, room_with}
+use Rattle.flow_outlet.proofs.CursorMoves.{cursor_is, count_is, count_some, count_below}
+
+ends_or_not : (ends : Bool) (group : Group) (groups : List Group)
+    → cond ends group.weight 0 + weight_of (cond ends groups (group ∷ groups)) ≡ weight_of (group ∷ groups)
+ends_or_not true group groups = refl
+ends_or_not false group groups = omega arith
+
+-- the weight of the group that ends is that of one group less
+pub weight_stays : (next : ℕ) (groups : List Group) → weight_at next groups + weight_of (groups_after next groups) ≡ weight_of groups
+weight_stays next [] = refl
+weight_stays next (group ∷ groups) = ends_or_not (group.until == next) group groups
+
+weight_push : (groups : List Group) (group : Group) → weight_of (groups ++ group ∷ []) ≡ weight_of groups + group.weight
+weight_push [] group = omega arith
+weight_push (g ∷ groups) group = omega (arith, weight_push groups group)
+
+module _ {ends : List OutEnd} {left : List Value} {next : ℕ} {parcel : Option Value} {groups : List Group} {room cursor away waiting : ℕ} (fits : Fits ends left next parcel groups room cursor away waiting) (k : ℕ) (l : k < length ends) (before : OutEnd) (is : before ≡ get_or ends k before) where
+  was : before ≡ end_in ends k
+  was = get_or_read ends k before l is no_end
+
+  pub away_counted : is_away before.stage ≡ true → 0 < away
+  away_counted e = rw (fits.away_is) (count_some is_away ends k l (rw was at e))
+
+  pub waiting_counted : is_waiting before.stage ≡ true → 0 < waiting
+  waiting_counted e = rw (fits.waiting_is) (count_some is_waiting ends k l (rw was at e))
+
+  pub away_below : away < 2 ^ 63
+  away_below = omega (arith, fits.few, fits.away_is, count_below is_away ends)
+
+  pub waiting_below : waiting < 2 ^ 63
+  waiting_below = omega (arith, fits.few, fits.waiting_is, count_below is_waiting ends)
+
+  pub fits_changed : (end : OutEnd) → Fits (set ends k end) left next parcel groups room
+      (cursor_after k cursor next (first_of left) (set ends k end))
+      (recounted away (is_away before.stage) (is_away end.stage))
+      (recounted waiting (is_waiting before.stage) (is_waiting end.stage))
+  fits_changed end = record {
+    few = omega (arith, fits.few, length-set ends k end);
+    cursor_is = rw (fits.cursor_is) (cursor_is next (first_of left) ends k end l);
+    away_is = rw (fits.away_is, was) (count_is is_away ends k end l);
+    waiting_is = rw (fits.waiting_is, was) (count_is is_waiting ends k end l);
+    ids_begin = fits.ids_begin;
+    ids_fit = fits.ids_fit;
+    room_fits = fits.room_fits;
+    parcel_is = fits.parcel_is;
+  }
+
+  -- the head is given
+  pub fits_given : (value : Value) (rest : List Value) → left ≡ value ∷ rest
+      → Fits (set ends k (given_end next before)) rest (next + 1) None (groups_after next groups) (room + weight_at next groups)
+      (0 + place_in (next + 1) (first_of rest) (drop 0 (set ends k (given_end next before))))
+      (recounted away (is_away before.stage) true) (recounted waiting (is_waiting before.stage) false)
+  fits_given value rest e = record {
+    few = omega (arith, fits.few, length-set ends k (given_end next before));
+    cursor_is = omega arith;
+    away_is = rw (fits.away_is, was) (count_is is_away ends k (given_end next (end_in ends k)) l);
+    waiting_is = rw (fits.waiting_is, was) (count_is is_waiting ends k (given_end next (end_in ends k)) l);
+    ids_begin = omega (arith, fits.ids_begin);
+    ids_fit = let all : next + length (value ∷ rest) ≤ 2 ^ 59 = rw e at fits.ids_fit in omega arith;
+    room_fits = omega (arith, fits.room_fits, weight_stays next groups);
+    parcel_is = λ _ none. cc;
+  }
+
+kept_or_back : (none light : Bool) (groups : List Group) (group : Group) (room weight : ℕ) → group.weight ≡ weight
+    → room + cond none weight 0 + weight_of (cond (none || light) groups (groups ++ group ∷ [])) ≤ room + weight_of groups + weight
+kept_or_back true light groups group room weight e = omega arith
+kept_or_back false true groups group room weight e = omega arith
+kept_or_back false false groups group room weight e = omega (arith, weight_push groups group)
+
+-- the room that comes back at once, and the weights that are kept, are no more than what was put
+room_put : (start count weight room : ℕ) (groups : List Group)
+    → room_with count weight room + weight_of (groups_with start count weight groups) ≤ room + weight_of groups + weight
+room_put start count weight room groups =
+    kept_or_back (count == 0) (weight == 0) groups (record { until = start + (count - 1); weight = weight }) room weight refl
+
+fits_parcel : (left values : List Value) (parcel : Option Value) → ForSome parcel (λ value. first_of left ≡ Some value)
+    → ForSome parcel (λ value. first_of (left ++ values) ≡ Some value)
+fits_parcel [] values parcel h = λ value e. let none = h value e in cc
+fits_parcel (v ∷ left) values parcel h = h
+
+same_first : (left values : List Value) (next cursor : ℕ) (ends : List OutEnd) → cursor ≡ place_in next (first_of left) ends
+    → cond (is_empty left) (0 + place_in next (first_of (left ++ values)) (drop 0 ends)) cursor ≡ place_in next (first_of (left ++ values)) ends
+same_first [] values next cursor ends e = omega arith
+same_first (v ∷ left) values next cursor ends e = e
+
+-- more values are put
+pub fits_put : {ends : List OutEnd} {left : List Value} {next : ℕ} {parcel : Option Value} {groups : List Group} {room cursor away waiting : ℕ} →
+    Fits ends left next parcel groups room cursor away waiting → (values : List Value) (weight : ℕ) →
+    next + length left + length values ≤ 2 ^ 59 → room + weight_of groups + weight < 2 ^ 32
+    → Fits ends (left ++ values) next parcel (groups_with (next + length left) (length values) weight groups)
+    (room_with (length values) weight room)
+    (cond (is_empty left) (0 + place_in next (first_of (left ++ values)) (drop 0 ends)) cursor) away waiting
+fits_put {ends} {left} {next} {parcel} {groups} {room} {cursor} fits values weight ids small = record {
+  few = fits.few;
+  cursor_is = same_first left values next cursor ends fits.cursor_is;
+  away_is = fits.away_is;
+  waiting_is = fits.waiting_is;
+  ids_begin = fits.ids_begin;
+  ids_fit = omega (arith, ids, length-append left values);
+  room_fits = omega (arith, small, room_put (next + length left) (length values) weight room groups);
+  parcel_is = fits_parcel left values parcel fits.parcel_is;
+}
+
+no_count : (test : SourceStage → Bool) (rules : List LinkRule) → test Free ≡ false → count_at test (map fresh_end rules) ≡ 0
+no_count test [] e = refl
+no_count test (rule ∷ rules) e = rw (e, no_count test rules e) refl
+
+pub fits_fresh : (rules : List LinkRule) (first : ℕ) → length rules < 2 ^ 63 → 1 ≤ first → first < 2 ^ 59
+    → Fits (map fresh_end rules) [] first None [] 0 (0 + place_in first None (drop 0 (map fresh_end rules))) 0 0
+fits_fresh rules first few low high = record {
+  few = omega (arith, few, length-map rules fresh_end);
+  cursor_is = omega arith;
+  away_is = sym (no_count is_away rules refl);
+  waiting_is = sym (no_count is_waiting rules refl);
+  ids_begin = low;
+  ids_fit = omega (arith, high);
+  room_fits = omega arith;
+  parcel_is = λ _ none. cc;
+}
+
+-- where ids are not lacking, there are enough
+pub ids_there : (values left : List Value) (next : ℕ) → next + length left ≤ 2 ^ 59
+    → (not (is_empty values) && ltb (2 ^ 59) (next + length left + length values)) ≡ false
+    → next + length left + length values ≤ 2 ^ 59
+ids_there [] left next fit e = omega arith
+ids_there (value ∷ values) left next fit e = grind (arith, nat_tests)
+
+one_less : (stage : SourceStage)
+    → cond (is_away (forgotten_stage stage)) 1 0 + cond (is_waiting stage) 1 0 ≡ cond (is_away stage) 1 0
+one_less (Waiting _) = refl
+one_less _ = refl
+
+none_waits : (stage : SourceStage) → is_waiting (forgotten_stage stage) ≡ false
+none_waits (Waiting _) = refl
+none_waits _ = refl
+
+-- what only waited is away no more, where that is forgotten
+pub away_less : (ends : List OutEnd) → count_at is_away (map forgotten ends) + count_at is_waiting ends ≡ count_at is_away ends
+away_less [] = omega arith
+away_less (end ∷ ends) = omega (arith, away_less ends, one_less end.stage)
+
+no_waiting : (ends : List OutEnd) → count_at is_waiting (map forgotten ends) ≡ 0
+no_waiting [] = refl
+no_waiting (end ∷ ends) = rw (none_waits end.stage, no_waiting ends) refl
+
+module _ {ends : List OutEnd} {left : List Value} {next : ℕ} {parcel : Option Value} {groups : List Group} {room cursor away waiting : ℕ} (fits : Fits ends left next parcel groups room cursor away waiting) where
+  pub waiting_less : waiting ≤ away
+  waiting_less = omega (arith, fits.away_is, fits.waiting_is, away_less ends)
+
+  pub fits_forgotten : Fits (map forgotten ends) left next parcel groups room
+      (0 + place_in next (first_of left) (drop 0 (map forgotten ends))) (away - waiting) 0
+  fits_forgotten = record {
+    few = omega (arith, fits.few, length-map ends forgotten);
+    cursor_is = omega arith;
+    away_is = omega (arith, fits.away_is, fits.waiting_is, away_less ends);
+    waiting_is = sym (no_waiting ends);
+    ids_begin = fits.ids_begin;
+    ids_fit = fits.ids_fit;
+    room_fits = fits.room_fits;
+    parcel_is = fits.parcel_is;
+  }

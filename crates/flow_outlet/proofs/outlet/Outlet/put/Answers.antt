@@ -1,0 +1,27 @@
+use Rattle.std.proofs.Common.{◌≡◌, ◌<◌, ◌+◌, ◌^◌, false, subst, sym}
+use Rattle.flow_outlet.specs.Fits.{weight_of}
+use Rattle.flow_outlet.specs.Outlet.{OutletState, lacks_ids}
+use Rattle.flow_outlet.proofs.OutletFits.{fits_put, ids_there}
+use Rattle.flow_outlet.proofs.outlet.Outlet.put.Goals as goal
+
+pub invariant_of-self-2 : goal.invariant_of-self-2
+invariant_of-self-2 c =
+    let small = subst (λ (o : OutletState). o.room + weight_of o.groups + c.args.weight < 2 ^ 32) (sym c.self.view_is) c.requires in
+    let enough = subst (λ (o : OutletState). lacks_ids c.args.values.items o ≡ false) (sym c.self.view_is)
+    (rw c.lacks_ids.ensures at c.if-lacks_ids.false) in
+    let ids = ids_there c.args.values.items c.self.inside.left.items c.self.inside.next c.self.invariant.ids_fit enough in
+    rw (
+      c.cursor_with-self-inside.ensures,
+      c.front-head.ensures,
+      c.deref-2.ensures.value,
+      c.append.ensures,
+      c.is_empty-was_empty.ensures,
+      c.add_group.ensures,
+      c.weight_at_once.ensures,
+      c.left_count.ensures,
+      c.count-count.ensures.count,
+      c.deref.ensures.value,
+      c.reserve.ensures.items,
+      c.reserve-else-is_err.ensures.items,
+    )
+    (fits_put c.self.invariant c.args.values.items c.args.weight ids small)

@@ -1,0 +1,104 @@
+-- The calls that name a link, with the caller in the place of the target: what they answer, and what they leave.
+use Rattle.std.specs.Prelude.{◌≡◌, ℕ, ◌<◌, ◌==◌, cond, Bool, true, false, not, ◌&&◌, List, length, map, position, Option, Some, None, is_some, unwrap_or}
+use Rattle.std.specs.Bool.{OnTrue}
+use Rattle.flow_value.specs.declared.value.Value.{Value}
+use Rattle.flow_value.specs.declared.message.MessageStatus.{MessageStatus}
+use Rattle.flow_value.specs.declared.message.MessageStatus.TheVariants as status
+use Rattle.flow_link.specs.declared.phase.Phase.TheVariants.{Idle, Wanted}
+use Rattle.flow_link.specs.declared.stage.SourceStage.{SourceStage}
+use Rattle.flow_link.specs.declared.stage.SourceStage.TheVariants.{Free, Out, Waiting, Accepted, Wished, Refused}
+use Rattle.flow_link.specs.LinkOk.{HasRoom}
+use Rattle.flow_outlet.specs.Outlet.{OutletState, end_at, stage_at, head_of, is_empty, may_offer, prepares, offers, changes, looks, gives}
+use Rattle.flow_outlet.specs.declared.ends.OutEnd.{OutEnd}
+
+-- the place of a link's end; where there is none, behind the last
+abbrev pub place_of : ℕ → List OutEnd → ℕ
+place_of link ends = unwrap_or (position (λ (end : OutEnd). end.rule.id == link) ends) (length ends)
+
+abbrev pub place_in_outlet : ℕ → OutletState → ℕ
+place_in_outlet link o = place_of link o.ends
+
+-- the next offer: its link, and the header of the head
+abbrev pub named_at : OutletState → Option ℕ → Option (ℕ × ℕ)
+named_at o None = None
+named_at o (Some k) = Some ((end_at o k).rule.id, o.next)
+
+abbrev pub offer_named : OutletState → Option (ℕ × ℕ)
+offer_named o = named_at o (may_offer o)
+
+abbrev pub offers_at : OutletState → Option ℕ → OutletState
+offers_at o None = o
+offers_at o (Some k) = offers k (prepares o)
+
+abbrev pub offers_next : OutletState → OutletState
+offers_next o = offers_at o (may_offer o)
+
+-- the link's offer of this message is out, and not answered
+pub record IsAsked (link header : ℕ) (o : OutletState) : Type 0 where
+  pub known : place_of link o.ends < length o.ends
+  pub unanswered : stage_at o (place_of link o.ends) ≡ Out header
+  pub out : o.offer ≡ Some (place_of link o.ends)
+
+abbrev pub answer_stage : MessageStatus → ℕ → SourceStage
+answer_stage status.Accepted header = Accepted header
+answer_stage status.Declined header = Free
+answer_stage status.Postponed header = Waiting header
+answer_stage status.NotAvailable header = Free
+answer_stage status.DecliningPermanently header = Refused
+
+-- a message that was declined is not offered there again
+abbrev pub answer_declined : MessageStatus → ℕ → ℕ → ℕ
+answer_declined status.Declined header declined = header
+answer_declined status.NotAvailable header declined = header
+answer_declined _ header declined = declined
+
+-- an offer that is accepted is out until the message is given
+abbrev pub answer_offer : MessageStatus → Option ℕ → Option ℕ
+answer_offer status.Accepted offer = offer
+answer_offer _ offer = None
+
+abbrev pub answered : MessageStatus → ℕ → ℕ → OutletState → OutletState
+answered status header k o =
+    record (changes k (answer_stage status header) (answer_declined status header (end_at o k).declined) o) { offer = answer_offer status o.offer }
+
+-- the message is the head: it was not given
+abbrev pub is_head : ℕ → OutletState → Bool
+is_head header o = header == o.next && not (is_empty o.left)
+
+-- the target accepted the message; or it postponed it, and no offer is out
+abbrev pub is_taken : ℕ → Bool → SourceStage → Bool
+is_taken next out (Accepted i) = i == next
+is_taken next out (Waiting i) = i == next && not out
+is_taken next out (Wished i) = i == next && not out
+is_taken next out _ = false
+
+pub record MayTake (k : ℕ) (o : OutletState) : Type 0 where
+  pub taken : is_taken o.next (is_some o.offer) (stage_at o k) ≡ true
+  pub ready : is_some o.parcel ≡ true
+  pub room : HasRoom (end_at o k).rule.max (end_at o k).given
+
+-- where the message is still there, the target may take it
+pub record MayConsume (link header : ℕ) (o : OutletState) : Type 0 where
+  pub known : place_of link o.ends < length o.ends
+  pub there : OnTrue (is_head header o) (MayTake (place_of link o.ends) o)
+
+abbrev pub consumed : ℕ → OutletState → Option Value
+consumed header o = cond (is_head header o) (head_of o) None
+
+-- that an offer was postponed is forgotten
+abbrev pub forgotten_stage : SourceStage → SourceStage
+forgotten_stage (Waiting _) = Free
+forgotten_stage stage = stage
+
+abbrev pub forgotten : OutEnd → OutEnd
+forgotten end = record end { stage = forgotten_stage end.stage }
+
+abbrev pub forgets : OutletState → OutletState
+forgets o = record o { ends = map forgotten o.ends }
+
+-- the source finds the message wanted, gives it, and finds it home; then it forgets all answers for it
+abbrev pub gives_home : ℕ → ℕ → OutletState → OutletState
+gives_home k header o = forgets (looks k Idle (gives k (looks k (Wanted header) o)))
+
+abbrev pub consumes : ℕ → ℕ → OutletState → OutletState
+consumes link header o = cond (is_head header o) (gives_home (place_of link o.ends) header o) o

@@ -1,0 +1,4 @@
+pub mod End
+pub mod Outlet
+pub mod Fits
+pub mod ByLink

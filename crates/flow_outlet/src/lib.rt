@@ -1,0 +1,12 @@
+//! The source's side of links: what a block has to give, and over which link it goes.
+#![tactic(auto)]
+
+mod ends;
+mod fault;
+mod group;
+mod outlet;
+
+pub use ends::{LinkRule, OutEnd};
+pub use fault::OutletFault;
+pub use group::Group;
+pub use outlet::Outlet;

@@ -1,0 +1,554 @@
+//! What a block has to give, and its ends of the links that lead out of it.
+ghost use Rattle.std.specs.Prelude.{◌≡◌, ◌<◌, ◌≤◌, ◌+◌, ◌-◌, ◌^◌, ◌++◌, ◌∷◌, ◌↔◌, length, true, is_some, Some, IfErr, IfOk};
+ghost use Rattle.std.specs.Prelude.{◌==◌, None, cond, drop, map, OnOk, OnErr, Err, MatchResult};
+ghost use Rattle.std.specs.Option.{option_copied};
+ghost use Rattle.std.specs.VecDeque.{deque_len, deque_capacity};
+ghost use Rattle.flow_link.specs.LinkOk.{HasRoom};
+ghost use Rattle.flow_outlet.specs.End.{is_waiting, is_free, is_cut, place_in, fresh_end};
+ghost use Rattle.flow_outlet.specs.Fits.{weight_of};
+ghost use Rattle.flow_outlet.specs.Outlet.{changes, recounted, first_of, is_empty, fresh_outlet, lacks_ids, puts, groups_with};
+ghost use Rattle.flow_outlet.specs.Outlet.{may_offer, prepares, offers, looks, groups_after, weight_at, gives, may_give, is_wish};
+ghost use Rattle.flow_outlet.specs.Outlet.{denies, withdraws, ends_link, out_move, free_move, answers_wish, end_at, stage_at, is_at_rest, only_waits};
+ghost use Rattle.flow_outlet.specs.ByLink.{offer_named, offers_next, IsAsked, answered, MayConsume, consumed, consumes, place_of, forgets};
+ghost use Rattle.flow_outlet.specs.declared.fault.OutletFault.TheVariants.{Ids, Memory};
+
+use crate::ends::{LinkRule, OutEnd, cursor_after, first_from, forget_waiting, place_of};
+use crate::fault::OutletFault;
+use crate::group::Group;
+use flow_link::{LinkEnd, Move, Outcome, Phase, SourceStage};
+use flow_value::{MAX_ID, MessageHeader, MessageStatus, Parcel, Value};
+use std::alloc::{AllocError, Global};
+use std::collections::VecDeque;
+use std::marker::Model;
+
+/// The messages that a block has to give, and its ends of the links over which they go. It gives each message once.
+///
+/// Contracts see an `OutletState`.
+#[derive(Debug, Drop)]
+pub struct Outlet {
+    ends: Vec<OutEnd>,
+    left: VecDeque<Value>,
+    next: u64,
+    offer: Option<usize>,
+    parcel: Option<Parcel>,
+    groups: VecDeque<Group>,
+    room: u32,
+    // the first place that the head does not go past
+    cursor: usize,
+    // how many ends are under way, and how many of them only wait
+    away: usize,
+    waiting: usize,
+}
+
+impl Model for Outlet {
+    ghost use Rattle.std.specs.Coded.{codes};
+    ghost use Rattle.flow_value.specs.contracts.value.Value as content;
+    ghost use Rattle.flow_outlet.specs.Outlet.{OutletState};
+    ghost use Rattle.flow_outlet.specs.Fits.{Fits};
+
+    ghost Value = { OutletState };
+
+    ghost coded = { Prim.hlevel (codes, content.the_row.coded) };
+
+    ghost view = { λ o. record {
+      ends = o.ends.items;
+      left = o.left.items;
+      next = o.next;
+      offer = o.offer;
+      parcel = o.parcel;
+      groups = o.groups.items;
+      room = o.room;
+    } };
+
+    ghost invariant = { λ o. Fits o.ends.items o.left.items o.next o.parcel o.groups.items o.room o.cursor o.away o.waiting };
+}
+
+impl Outlet {
+    /// An outlet with these links, which counts its messages from this id on; where there is no memory for it, the rules
+    /// come back.
+    pub fn new(
+        alloc: Global,
+        rules: Vec<LinkRule>,
+        first: MessageHeader,
+    ) -> Result<Outlet, Vec<LinkRule>>
+        ensures { MatchResult result (λ outlet. outlet ≡ fresh_outlet rules.items first) (λ back. back ≡ rules) }
+    {
+        let Ok(ends) = fresh_ends(alloc, &rules) else {
+            return Err(rules);
+        };
+        let cursor = first_from(&ends, 0, first.id(), None);
+        Ok(Outlet {
+            ends,
+            left: VecDeque::new(alloc),
+            next: first.id(),
+            offer: None,
+            parcel: None,
+            groups: VecDeque::new(alloc),
+            room: 0,
+            cursor,
+            away: 0,
+            waiting: 0,
+        })
+    }
+
+    /// The ends of its links, in the order of the links.
+    pub fn ends(&self) -> &[OutEnd]
+        ensures { result.now ≡ self.now.ends }
+    {
+        self.ends.as_slice()
+    }
+
+    /// What was put and is not given, oldest first.
+    pub fn left(&self) -> &VecDeque<Value>
+        ensures { result.now.items ≡ self.now.left }
+    {
+        &self.left
+    }
+
+    /// The id of the message that is given next.
+    pub fn next(&self) -> u64
+        ensures value { result ≡ self.now.next }
+        ensures begins { 1 ≤ self.now.next }
+        ensures fits { self.now.next + length self.now.left ≤ 2 ^ 59 }
+    {
+        self.next
+    }
+
+    /// Whether nothing is under way over a link, or waits there.
+    pub fn is_at_rest(&self) -> bool
+        ensures { result ≡ is_at_rest self.now }
+    {
+        self.away == 0
+    }
+
+    /// Whether all that is under way over a link waits there to be wished for.
+    pub fn only_waits(&self) -> bool
+        ensures { result ≡ only_waits self.now }
+    {
+        self.away == self.waiting
+    }
+
+    /// Takes the values of one result, to give them in order; its weight comes back as room when they are all given.
+    pub fn put(&mut self, values: Vec<Value>, weight: u32) -> Result<(), (Vec<Value>, OutletFault)>
+        requires { self.old.room + weight_of self.old.groups + weight < 2 ^ 32 }
+        ensures done { OnOk result (self.new ≡ puts values.items weight self.old) }
+        ensures kept { OnErr result (self.new ≡ self.old) }
+        ensures back { IfErr result (λ refused. refused.0 ≡ values) }
+        ensures ids { (result ≡ Err (values, Ids)) ↔ (lacks_ids values.items self.old ≡ true) }
+    {
+        if self.lacks_ids(&values) {
+            return Err((values, OutletFault::Ids));
+        }
+        if self.left.reserve(values.len()).is_err() || self.groups.reserve(1).is_err() {
+            return Err((values, OutletFault::Memory));
+        }
+        let count = count(&values);
+        let start = self.next + left_count(&self.left);
+        add_group(&mut self.groups, start, count, weight);
+        self.room += weight_at_once(count, weight);
+        let was_empty = is_empty(&self.left);
+        append(&mut self.left, values);
+        let head = front(&self.left);
+        self.cursor = cursor_with(was_empty, self.cursor, &self.ends, self.next, head);
+        Ok(())
+    }
+
+    fn lacks_ids(&self, values: &Vec<Value>) -> bool
+        ensures { result ≡ lacks_ids values.now.items self.now }
+    {
+        let free = MAX_ID + 1 - self.next - self.left.len() as u64;
+        !values.is_empty() && values.len() as u64 > free
+    }
+
+    /// The place of the end over which the head is offered next, if it may be offered now.
+    pub fn may_offer(&self) -> Option<usize>
+        ensures { result ≡ may_offer self.now }
+    {
+        if self.left.is_empty() || self.offer.is_some() {
+            return None;
+        }
+        match self.ends.get(self.cursor) {
+            Some(end) if end.is_free() => Some(self.cursor),
+            _ => None,
+        }
+    }
+
+    /// What the end at a place does next by itself, if anything: whether its block has stopped, and whether it could stop
+    /// or begin anew but for what waits over its links, the block tells.
+    pub fn out_move(&self, place: usize, stopped: Option<Outcome>, held_up: bool) -> Option<Move>
+        requires { place < length self.now.ends }
+        ensures { result ≡ out_move place stopped held_up self.now }
+    {
+        let end = &self.ends[place];
+        match end.stage {
+            SourceStage::Free => match end.ending(stopped) {
+                Some(how) => Some(Move::End(how)),
+                None => self.next_move(place),
+            },
+            SourceStage::Accepted(_) | SourceStage::Claimed(_) => Some(Move::Give),
+            SourceStage::Wished(header) => self.answer_to(header),
+            SourceStage::AskedBy(header) => {
+                if self.offer.is_some() || header.id() == self.next {
+                    None
+                } else {
+                    Some(Move::Deny)
+                }
+            }
+            SourceStage::Waiting(header) => {
+                if held_up || header.id() != self.next {
+                    Some(Move::Withdraw)
+                } else {
+                    None
+                }
+            }
+            SourceStage::Posted(_)
+            | SourceStage::Out(_)
+            | SourceStage::Reserved(_)
+            | SourceStage::Crossing
+            | SourceStage::Refused
+            | SourceStage::Ended(_) => None,
+        }
+    }
+
+    // offers the head, where it may be offered over the link at a place
+    fn next_move(&self, place: usize) -> Option<Move>
+        ensures { result ≡ free_move self.now place None }
+    {
+        if self.may_offer() == Some(place) {
+            MessageHeader::new(self.next).map(Move::Offer)
+        } else {
+            None
+        }
+    }
+
+    // a wish is answered only while no offer is out
+    fn answer_to(&self, header: MessageHeader) -> Option<Move>
+        ensures { result ≡ answers_wish self.now.next header (is_some self.now.offer) }
+    {
+        if self.offer.is_some() {
+            None
+        } else if header.id() == self.next {
+            Some(Move::Give)
+        } else {
+            Some(Move::Deny)
+        }
+    }
+
+    /// Makes the parcel of the head, unless it is made.
+    pub fn prepare_offer(&mut self, alloc: Global) -> Result<(), AllocError>
+        ensures done { OnOk result (self.new ≡ prepares self.old) }
+        ensures kept { OnErr result (self.new ≡ self.old) }
+    {
+        if self.parcel.is_some() {
+            return Ok(());
+        }
+        if let Some(value) = front(&self.left) {
+            self.parcel = Some(parcel_of(alloc, value)?);
+        }
+        Ok(())
+    }
+
+    /// Offers the head over the link at the place where it may be offered, and tells its header.
+    pub fn offer(&mut self, place: usize) -> MessageHeader
+        requires may { may_offer self.old ≡ Some place }
+        requires ready { is_some self.old.parcel ≡ true }
+        ensures header { result ≡ self.old.next }
+        ensures out { self.new ≡ offers place self.old }
+    {
+        let Some(header) = MessageHeader::new(self.next) else {
+            unreachable!()
+        };
+        self.restage(place, SourceStage::Out(header));
+        self.offer = Some(place);
+        header
+    }
+
+    /// Looks at the phase of the link at a place.
+    pub fn look_out(&mut self, place: usize, phase: Phase)
+        requires { place < length self.old.ends }
+        ensures { self.new ≡ looks place phase self.old }
+    {
+        let stage = self.ends[place].stage.look(phase);
+        self.restage(place, stage);
+        if self.offer == Some(place) && !self.ends[place].is_out() {
+            self.offer = None;
+        }
+    }
+
+    /// Gives the head over the link at a place, where it is wanted: the message for the block's own account, and its
+    /// parcel.
+    pub fn give(&mut self, place: usize) -> (Value, Parcel)
+        requires there { place < length self.old.ends }
+        requires wanted { may_give place self.old ≡ true }
+        requires ready { is_some self.old.parcel ≡ true }
+        requires room { HasRoom (end_at self.old place).rule.max (end_at self.old place).given }
+        ensures oldest { self.old.left ≡ result.0 ∷ self.new.left }
+        ensures same { result.1 ≡ result.0 }
+        ensures given { self.new ≡ gives place self.old }
+    {
+        let (Some(value), Some(parcel)) = (self.left.pop_front(), self.parcel.take()) else {
+            unreachable!()
+        };
+        let before = self.ends[place];
+        self.ends[place] = before.gave(self.next);
+        self.away = recounted(self.away, before.is_away(), true);
+        self.waiting = recounted(self.waiting, before.is_waiting(), false);
+        self.room += end_group(&mut self.groups, self.next);
+        self.next += 1;
+        self.offer = None;
+        self.cursor = first_from(&self.ends, 0, self.next, front(&self.left));
+        (value, parcel)
+    }
+
+    /// Denies the wish for a message over the link at a place.
+    pub fn deny(&mut self, place: usize)
+        requires there { place < length self.old.ends }
+        requires wish { is_wish (stage_at self.old place) ≡ true }
+        ensures { self.new ≡ denies place self.old }
+    {
+        self.restage(place, SourceStage::Free);
+    }
+
+    /// Withdraws the offer that was postponed over the link at a place. That message is not offered there again.
+    pub fn withdraw(&mut self, place: usize)
+        requires there { place < length self.old.ends }
+        requires waits { is_waiting (stage_at self.old place) ≡ true }
+        ensures { self.new ≡ withdraws place self.old }
+    {
+        let declined = match self.ends[place].id() {
+            Some(header) => header.id(),
+            None => 0,
+        };
+        self.change(place, SourceStage::Free, declined);
+    }
+
+    /// Ends the link at a place.
+    pub fn end(&mut self, place: usize, how: LinkEnd)
+        requires there { place < length self.old.ends }
+        requires free { is_free (stage_at self.old place) ≡ true }
+        ensures { self.new ≡ ends_link place how self.old }
+    {
+        self.restage(place, SourceStage::Ended(how));
+    }
+
+    /// The link over which the head is offered next, and its header: its offer is then out.
+    pub fn next_offer(
+        &mut self,
+        alloc: Global,
+    ) -> Result<Option<(usize, MessageHeader)>, AllocError>
+        ensures named { IfOk result (λ named. named ≡ offer_named self.old) }
+        ensures out { OnOk result (self.new ≡ offers_next self.old) }
+        ensures kept { OnErr result (self.new ≡ self.old) }
+    {
+        let Some(place) = self.may_offer() else {
+            return Ok(None);
+        };
+        self.prepare_offer(alloc)?;
+        let header = self.offer(place);
+        Ok(Some((self.ends[place].rule.id, header)))
+    }
+
+    /// Notes what the target answered to the offer that is out.
+    pub fn note_answer(&mut self, link: usize, header: MessageHeader, status: MessageStatus)
+        requires { IsAsked link header self.old }
+        ensures { self.new ≡ answered status header (place_of link self.old.ends) self.old }
+    {
+        let place = place_of(&self.ends, link);
+        let (stage, declined) = self.ends[place].answered(header, status);
+        self.change(place, stage, declined);
+        if status != MessageStatus::Accepted {
+            self.offer = None;
+        }
+    }
+
+    /// Gives the message to the target that accepted it, or that it postponed; none, where it has gone elsewhere. All
+    /// answers for it are forgotten.
+    pub fn consume_message(&mut self, link: usize, header: MessageHeader) -> Option<Parcel>
+        requires { MayConsume link header self.old }
+        ensures consumed { result ≡ consumed header self.old }
+        ensures left { self.new ≡ consumes link header self.old }
+    {
+        if header.id() != self.next || self.left.is_empty() {
+            return None;
+        }
+        let place = place_of(&self.ends, link);
+        self.look_out(place, Phase::Wanted(header));
+        let (_value, parcel) = self.give(place);
+        self.look_out(place, Phase::Idle);
+        self.forget();
+        Some(parcel)
+    }
+
+    /// Whether the link has carried as many messages as it may. It then ends, and passes nothing on.
+    pub fn cut(&self, link: usize) -> bool
+        requires { place_of link self.now.ends < length self.now.ends }
+        ensures { result ≡ is_cut (end_at self.now (place_of link self.now.ends)) }
+    {
+        self.ends[place_of(&self.ends, link)].is_cut()
+    }
+
+    // what was postponed may be offered anew
+    fn forget(&mut self)
+        ensures { self.new ≡ forgets self.old }
+    {
+        forget_waiting(&mut self.ends);
+        self.away -= self.waiting;
+        self.waiting = 0;
+        self.cursor = first_from(&self.ends, 0, self.next, front(&self.left));
+    }
+
+    /// How much room came back with the results that were wholly given since this was asked last.
+    pub fn room_back(&mut self) -> u32
+        ensures room { result ≡ self.old.room }
+        ensures told { self.new ≡ record self.old { room = 0 } }
+    {
+        let room = self.room;
+        self.room = 0;
+        room
+    }
+
+    // puts the end at a place to a stage
+    fn restage(&mut self, place: usize, stage: SourceStage)
+        requires { place < length self.old.ends }
+        ensures { self.new ≡ changes place stage (end_at self.old place).declined self.old }
+    {
+        let declined = self.ends[place].declined;
+        self.change(place, stage, declined);
+    }
+
+    // puts the end at a place to a stage
+    fn change(&mut self, place: usize, stage: SourceStage, declined: u64)
+        requires { place < length self.old.ends }
+        ensures { self.new ≡ changes place stage declined self.old }
+    {
+        let before = self.ends[place];
+        let after = OutEnd {
+            declined,
+            stage,
+            ..before
+        };
+        self.ends[place] = after;
+        self.away = recounted(self.away, before.is_away(), after.is_away());
+        self.waiting = recounted(self.waiting, before.is_waiting(), after.is_waiting());
+        let head = front(&self.left);
+        self.cursor = cursor_after(&self.ends, place, self.cursor, self.next, head);
+    }
+}
+
+fn front(left: &VecDeque<Value>) -> Option<&Value>
+    ensures { option_copied result ≡ first_of left.now.items }
+{
+    left.front()
+}
+
+// a count, where one end counted before and counts now
+fn recounted(count: usize, before: bool, now: bool) -> usize
+    requires counted { before ≡ true → 0 < count }
+    requires fits { count < 2 ^ 63 }
+    ensures { result ≡ recounted count before now }
+{
+    if before == now {
+        count
+    } else if now {
+        count + 1
+    } else {
+        count - 1
+    }
+}
+
+fn fresh_ends(alloc: Global, rules: &[LinkRule]) -> Result<Vec<OutEnd>, AllocError>
+    ensures { IfOk result (λ ends. ends.items ≡ map fresh_end rules.now) }
+{
+    rules.iter().map(|rule| OutEnd::new(*rule)).collect(alloc)
+}
+
+fn count(values: &[Value]) -> usize
+    ensures count { result ≡ length values.now }
+    ensures small { result < 2 ^ 63 }
+{
+    values.len()
+}
+
+fn left_count(left: &VecDeque<Value>) -> u64
+    ensures { result ≡ length left.now.items }
+{
+    left.len() as u64
+}
+
+fn is_empty(left: &VecDeque<Value>) -> bool
+    ensures { result ≡ is_empty left.now.items }
+{
+    left.is_empty()
+}
+
+fn append(left: &mut VecDeque<Value>, values: Vec<Value>)
+    requires { deque_len left.old + length values.items ≤ deque_capacity left.old }
+    ensures { left.new.items ≡ left.old.items ++ values.items }
+{
+    let mut values = VecDeque::from_vec(values);
+    let Ok(()) = left.append(&mut values) else {
+        unreachable!()
+    };
+}
+
+// the weight of a result that has no message comes back at once
+fn weight_at_once(count: usize, weight: u32) -> u32
+    ensures { result ≡ cond (count == 0) weight 0 }
+{
+    if count == 0 { weight } else { 0 }
+}
+
+// the first place that the head does not go past: where nothing was left, there is a new head
+fn cursor_with(
+    was_empty: bool,
+    cursor: usize,
+    ends: &[OutEnd],
+    next: u64,
+    head: Option<&Value>,
+) -> usize
+    ensures { result ≡ cond was_empty (0 + place_in next (option_copied head.entry) (drop 0 ends.now)) cursor }
+{
+    if was_empty {
+        first_from(ends, 0, next, head)
+    } else {
+        cursor
+    }
+}
+
+// keeps the weight of a result that has so many messages, from this id on
+fn add_group(groups: &mut VecDeque<Group>, start: u64, count: usize, weight: u32)
+    requires room { deque_len groups.old < deque_capacity groups.old }
+    requires fits { start + count < 2 ^ 64 }
+    ensures { groups.new.items ≡ groups_with start count weight groups.old.items }
+{
+    if count != 0 && weight != 0 {
+        let until = start + (count as u64 - 1);
+        groups.push_back_reserved(Group { until, weight });
+    }
+}
+
+// drops the group that the message ends, and tells its weight
+fn end_group(groups: &mut VecDeque<Group>, id: u64) -> u32
+    ensures rest { groups.new.items ≡ groups_after id groups.old.items }
+    ensures weight { result ≡ weight_at id groups.old.items }
+{
+    match groups.front() {
+        Some(group) if group.until == id => {
+            let weight = group.weight;
+            groups.pop_front();
+            weight
+        }
+        _ => 0,
+    }
+}
+
+/// A parcel with a copy of this value.
+fn parcel_of(alloc: Global, value: &Value) -> Result<Parcel, AllocError>
+    ensures { IfOk result (λ parcel. parcel ≡ value.now) }
+{
+    let copy = value.copy(alloc)?;
+    match Parcel::new(alloc, copy) {
+        Ok(parcel) => Ok(parcel),
+        Err(_) => Err(AllocError),
+    }
+}
