@@ -1,4 +1,7 @@
-pub mod End
-pub mod Outlet
-pub mod Fits
 pub mod ByLink
+pub mod End
+pub mod Fits
+pub mod Keeps
+pub mod Law
+pub mod Order
+pub mod Outlet

@@ -4,9 +4,11 @@
 mod ends;
 mod fault;
 mod group;
+mod laws;
 mod outlet;
 
 pub use ends::{LinkRule, OutEnd};
 pub use fault::OutletFault;
 pub use group::Group;
+pub use laws::{calls_keep_the_law, offers_go_in_order};
 pub use outlet::Outlet;

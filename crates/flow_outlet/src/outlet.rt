@@ -1,15 +1,17 @@
 //! What a block has to give, and its ends of the links that lead out of it.
-ghost use Rattle.std.specs.Prelude.{◌≡◌, ◌<◌, ◌≤◌, ◌+◌, ◌-◌, ◌^◌, ◌++◌, ◌∷◌, ◌↔◌, length, true, is_some, Some, IfErr, IfOk};
-ghost use Rattle.std.specs.Prelude.{◌==◌, None, cond, drop, map, OnOk, OnErr, Err, MatchResult};
+ghost use Rattle.std.specs.Prelude.{◌≡◌, ◌<◌, ◌≤◌, ◌+◌, ◌-◌, ◌^◌, ◌++◌, ◌∷◌, ◌==◌, ◌↔◌, length, true, is_some};
+ghost use Rattle.std.specs.Prelude.{Some, None, Err, IfOk, IfErr, OnOk, OnErr, MatchResult, cond, drop, map};
 ghost use Rattle.std.specs.Option.{option_copied};
 ghost use Rattle.std.specs.VecDeque.{deque_len, deque_capacity};
 ghost use Rattle.flow_link.specs.LinkOk.{HasRoom};
+ghost use Rattle.flow_outlet.specs.ByLink.{offer_named, offers_next, IsAsked, answered, MayConsume, consumed};
+ghost use Rattle.flow_outlet.specs.ByLink.{consumes, place_of, forgets};
 ghost use Rattle.flow_outlet.specs.End.{is_waiting, is_free, is_cut, place_in, fresh_end};
 ghost use Rattle.flow_outlet.specs.Fits.{weight_of};
-ghost use Rattle.flow_outlet.specs.Outlet.{changes, recounted, first_of, is_empty, fresh_outlet, lacks_ids, puts, groups_with};
-ghost use Rattle.flow_outlet.specs.Outlet.{may_offer, prepares, offers, looks, groups_after, weight_at, gives, may_give, is_wish};
-ghost use Rattle.flow_outlet.specs.Outlet.{denies, withdraws, ends_link, out_move, free_move, answers_wish, end_at, stage_at, is_at_rest, only_waits};
-ghost use Rattle.flow_outlet.specs.ByLink.{offer_named, offers_next, IsAsked, answered, MayConsume, consumed, consumes, place_of, forgets};
+ghost use Rattle.flow_outlet.specs.Outlet.{changes, recounted, first_of, is_empty, fresh_outlet, lacks_ids, puts};
+ghost use Rattle.flow_outlet.specs.Outlet.{groups_with, groups_after, weight_at, may_offer, prepares, offers, looks};
+ghost use Rattle.flow_outlet.specs.Outlet.{gives, may_give, is_wish, denies, withdraws, ends_link, out_move, free_move};
+ghost use Rattle.flow_outlet.specs.Outlet.{answers_wish, end_at, stage_at, is_at_rest, only_waits};
 ghost use Rattle.flow_outlet.specs.declared.fault.OutletFault.TheVariants.{Ids, Memory};
 
 use crate::ends::{LinkRule, OutEnd, cursor_after, first_from, forget_waiting, place_of};
@@ -185,7 +187,8 @@ impl Outlet {
                 Some(how) => Some(Move::End(how)),
                 None => self.next_move(place),
             },
-            SourceStage::Accepted(_) | SourceStage::Claimed(_) => Some(Move::Give),
+            SourceStage::Accepted(_) => Some(Move::Give),
+            SourceStage::Claimed(_) if self.offer.is_none() => Some(Move::Give),
             SourceStage::Wished(header) => self.answer_to(header),
             SourceStage::AskedBy(header) => {
                 if self.offer.is_some() || header.id() == self.next {
@@ -204,6 +207,7 @@ impl Outlet {
             SourceStage::Posted(_)
             | SourceStage::Out(_)
             | SourceStage::Reserved(_)
+            | SourceStage::Claimed(_)
             | SourceStage::Crossing
             | SourceStage::Refused
             | SourceStage::Ended(_) => None,

@@ -1,0 +1,487 @@
+-- Each call of an outlet keeps its law.
+use Rattle.std.proofs.Common.{◌≡◌, ◌≢◌, ℕ, ◌+◌, ◌^◌, ◌<◌, ◌≤◌, ◌==◌, ◌&&◌, not, zero, suc, Bool, true, false, cond, List, [], ◌∷◌, ◌++◌, length, set, map, Option, Some, None, is_some, unwrap_or, refl, sym, ◌∙◌, ap, subst, inl, inr, arith}
+use Rattle.std.specs.Bool.{OnTrue}
+use Rattle.std.specs.Option.{ForSome}
+use Rattle.std.proofs.lemmas.Bool.{cases_eq, OnTrue_at, OnTrue_from}
+use Rattle.std.proofs.lemmas.Bool.Decides.{nat_tests}
+use Rattle.std.proofs.lemmas.List.{length-append, get_or-set_same, get_or-set_other}
+use Rattle.flow_value.specs.When.{admits}
+use Rattle.flow_value.specs.declared.value.Value.{Value}
+use Rattle.flow_value.specs.declared.when.When.{When}
+use Rattle.flow_link.specs.declared.phase.LinkEnd.{LinkEnd}
+use Rattle.flow_link.specs.declared.phase.LinkEnd.TheVariants.{Plain}
+use Rattle.flow_link.specs.declared.phase.Phase.{Phase}
+use Rattle.flow_link.specs.declared.stage.SourceStage.{SourceStage}
+use Rattle.flow_link.specs.declared.stage.SourceStage.TheVariants.{Free, Posted, Out, Waiting, Accepted, Wished, AskedBy, Reserved, Claimed, Crossing, Refused, Ended}
+use Rattle.flow_link.specs.declared.trace.Outcome.{Outcome}
+use Rattle.flow_link.specs.LinkOk.{IsWithin, HasRoom}
+use Rattle.flow_link.specs.Stage.{source_looks}
+use Rattle.flow_outlet.specs.declared.ends.LinkRule.{LinkRule}
+use Rattle.flow_outlet.specs.declared.ends.OutEnd.{OutEnd}
+use Rattle.flow_outlet.specs.End.{id_of, speaks_of, is_out, is_over, is_free, is_waiting, is_cut, is_limit, rejects, end_in, no_end, fresh_end, counted}
+use Rattle.flow_outlet.specs.Outlet.{OutletState, head_of, first_of, rest_of, is_empty, end_at, stage_at, end_of, may_offer, offers, looks, offer_kept, may_give, is_wanted, gives, given_end, is_wish, denies, withdraws, ends_link, changes, puts, lacks_ids, prepares, fresh_outlet}
+use Rattle.flow_outlet.specs.Law.{EndLaw, OutletLaw, is_put_off, is_posted, is_refused, admits_head, may_go_past}
+use Rattle.flow_outlet.proofs.LookTells.{look_tells}
+use Rattle.flow_outlet.proofs.OutletFits.{ids_there}
+use Rattle.flow_outlet.proofs.OffersInOrder.{offers_in_order}
+use Rattle.flow_outlet.proofs.OneEndChanges.{each_set, one_changes}
+use Rattle.flow_outlet.proofs.StagesTell.{free_is, goes_past_well, id_speaks, kept_mine, kept_other, kept_out, never_both, none_true, number_below, number_same, out_speaks, past_stays, speaks_id, waits_for, was_offer, wish_home}
+
+-- Each call keeps the law
+
+below_limit : (max : Option ℕ) (given : ℕ) → IsWithin max given → is_limit max given ≡ false → HasRoom max given
+below_limit None given within e = tt
+below_limit (Some max) given within e = grind (arith, nat_tests)
+
+admits_then : (b : Bool) → not b ≡ false → b ≡ true
+admits_then true e = refl
+admits_then false e = cc
+
+head_admits : (when : When) (left : List Value) → is_empty left ≡ false → rejects when (first_of left) ≡ false
+    → admits_head when (first_of left) ≡ true
+head_admits when [] e r = cc
+head_admits when (value ∷ left) e r = admits_then (admits when value) r
+
+module _ {pending : Bool} {stopped : Option Outcome} (o : OutletState) (law : OutletLaw pending stopped o) (k : ℕ) (here : k < length o.ends) where
+  -- an end that goes to a stage that speaks of nothing new, and makes no offer
+  pub settles_keep : (stage : SourceStage) (declined : ℕ)
+      → id_of stage ≡ None → is_out stage ≡ false → is_posted stage ≡ false → is_put_off stage ≡ false
+      → (is_out (stage_at o k) ≡ false)
+      → ((how : LinkEnd) → stage ≡ Ended how → end_of (end_at o k) stopped ≡ Some how)
+      → (is_refused (stage_at o k) ≡ true → is_refused stage ≡ true)
+      → declined ≤ o.next
+      → ((declined == o.next) ≡ true → (pending ≡ true) × ((end_at o k).rule.steady ≡ false))
+      → OutletLaw pending stopped (changes k stage declined o)
+  settles_keep stage declined no_id not_out not_posted not_off was_home ended refused low up =
+      let old = law.each k here in
+      let end = end_at o k in
+      let silent : speaks_of o.next stage ≡ true → ⊥ = λ e. let none : None ≡ Some o.next = sym no_id ∙ speaks_id o.next stage e in let never : ⊥ = cc in never in
+      one_changes o law k here (record end { declined = declined; stage = stage }) o.offer
+      (record {
+        risen = old.risen;
+        none_later = λ i e. let none : None ≡ Some i = sym no_id ∙ e in cc;
+        declined_before = low;
+        out = OnTrue_from (is_out stage) _ (λ e. never_both (is_out stage) e not_out);
+        out_head = OnTrue_from (is_out stage) _ (λ e. never_both (is_out stage) e not_out);
+        offers = not_posted;
+        admitted = OnTrue_from (speaks_of o.next stage) _ (λ e. absurd (silent e));
+        put_off = OnTrue_from (is_put_off stage) _ (λ e. never_both (is_put_off stage) e not_off);
+        within = old.within;
+        room = λ i e. let none : None ≡ Some i = sym no_id ∙ e in absurd (let never : ⊥ = cc in never);
+        ended = ended;
+        given_up = OnTrue_from (declined == o.next) _ (λ e. (up e).0);
+        given_up_late = OnTrue_from (declined == o.next) _ (λ e. (up e).1);
+      })
+      (λ j l other out. OnTrue_at out (law.each j l).out)
+      law.offer_there
+      (λ j e. elim (cases_eq j k) [
+        | inl same ↦ never_both (is_out (stage_at o k)) (let there : is_out (stage_at o k) ≡ true = rw same at (law.offer_out j e) in there) was_home
+        | inr other ↦ rw (get_or-set_other o.ends k j (record end { declined = declined; stage = stage }) no_end other) (law.offer_out j e)
+      ])
+      (λ e. absurd (silent e))
+      (λ j l e. absurd (silent e))
+      (past_stays (rejects end.rule.when (head_of o)) end.rule.steady (is_cut end) (is_refused (stage_at o k)) (is_refused stage) refused)
+
+  pub looks_keep : (phase : Phase) → OnTrue (is_put_off (source_looks (stage_at o k) phase)) ((end_at o k).rule.steady ≡ false)
+      → OutletLaw pending stopped (looks k phase o)
+  looks_keep phase off =
+      let old = law.each k here in
+      let end = end_at o k in
+      let stage = source_looks (stage_at o k) phase in
+      let tells = look_tells (stage_at o k) phase in
+      let offer = offer_kept k stage o.offer in
+      let spoke : speaks_of o.next stage ≡ true → speaks_of o.next (stage_at o k) ≡ true =
+      λ e. id_speaks o.next (stage_at o k) (tells.same_id o.next (speaks_id o.next stage e)) in
+      one_changes o law k here (record end { stage = stage }) offer
+      (record {
+        risen = old.risen;
+        none_later = λ i e. old.none_later i (tells.same_id i e);
+        declined_before = old.declined_before;
+        out = OnTrue_from (is_out stage) _ (λ e. kept_mine k stage o.offer e (OnTrue_at (tells.was_out old.offers e) old.out));
+        out_head = OnTrue_from (is_out stage) _ (λ e. out_speaks stage o.next e
+            (λ i is. let was : id_of (stage_at o k) ≡ Some i = tells.same_id i is in
+            let spoken : speaks_of o.next (stage_at o k) ≡ true = OnTrue_at (tells.was_out old.offers e) old.out_head in
+            let id : id_of (stage_at o k) ≡ Some o.next = speaks_id o.next (stage_at o k) spoken in cc));
+        offers = tells.not_posted old.offers;
+        admitted = OnTrue_from (speaks_of o.next stage) _ (λ e. OnTrue_at (spoke e) old.admitted);
+        put_off = off;
+        within = old.within;
+        room = λ i e. old.room i (tells.same_id i e);
+        ended = λ how e. old.ended how (tells.ended how e);
+        given_up = old.given_up;
+        given_up_late = old.given_up_late;
+      })
+      (λ j l other out. kept_other k j stage o.offer other (OnTrue_at out (law.each j l).out))
+      (λ j e. law.offer_there j (was_offer k stage o.offer j e))
+      (λ j e. elim (cases_eq j k) [
+        | inl same ↦ rw (same, get_or-set_same o.ends k (record end { stage = stage }) no_end here) (kept_out k stage o.offer (rw same at e))
+        | inr other ↦ rw (get_or-set_other o.ends k j (record end { stage = stage }) no_end other) (law.offer_out j (was_offer k stage o.offer j e))
+      ])
+      (λ e. law.ready k here (spoke e))
+      (λ j l e. law.in_order j k l here (spoke e))
+      (past_stays (rejects end.rule.when (head_of o)) end.rule.steady (is_cut end) (is_refused (stage_at o k)) (is_refused stage) tells.refused)
+
+pub offers_keep : (pending : Bool) (o : OutletState) → OutletLaw pending None o → (k : ℕ) → may_offer o ≡ Some k
+    → o.parcel ≡ head_of o → OutletLaw pending None (offers k o)
+offers_keep pending o law k may ready =
+    let next = (offers_in_order.named o k).0 may in
+    let old = law.each k next.there in
+    let end = end_at o k in
+    let stage = Out o.next in
+    let free : stage_at o k ≡ Free = free_is (stage_at o k) next.free in
+    let none = none_true (is_over end.stage) (is_cut end) (speaks_of o.next end.stage) (end.declined == o.next) (rejects end.rule.when (head_of o)) next.stops in
+    one_changes o law k next.there (record end { stage = stage }) (Some k)
+    (record {
+      risen = old.risen;
+      none_later = λ i e. let same : o.next ≡ i = cc in omega arith;
+      declined_before = old.declined_before;
+      out = refl;
+      out_head = number_same o.next;
+      offers = refl;
+      admitted = OnTrue_from (o.next == o.next) _ (λ _. head_admits end.rule.when o.left next.some_left none.rejected);
+      put_off = tt;
+      within = old.within;
+      room = λ _ _. below_limit end.rule.max end.given old.within none.cut;
+      ended = λ how e. cc;
+      given_up = old.given_up;
+      given_up_late = old.given_up_late;
+    })
+    (λ j l other out. let mine : o.offer ≡ Some j = OnTrue_at out (law.each j l).out in let none : None ≡ Some j = sym next.none_out ∙ mine in cc)
+    (λ j e. let same : k ≡ j = cc in subst (λ (n : ℕ). n < length o.ends) same next.there)
+    (λ j e. let same : j ≡ k = cc in rw (same, get_or-set_same o.ends k (record end { stage = stage }) no_end next.there) refl)
+    (λ _. ready)
+    (λ j l _. goes_past_well (end_at o j)
+    (subst (λ (offer : Option ℕ). EndLaw o.next (head_of o) offer pending None j (end_at o j)) next.none_out
+    (law.each j (let near : j < length o.ends = omega (arith, l, next.there) in near))) (next.earlier j l))
+    (past_stays (rejects end.rule.when (head_of o)) end.rule.steady (is_cut end) (is_refused (stage_at o k)) false
+    (λ e. let no : is_refused Free ≡ true = rw free at e in cc))
+
+-- What is put
+
+put_each : (left values : List Value) (next k : ℕ) (end : OutEnd) (offer : Option ℕ) (pending : Bool) (stopped : Option Outcome)
+    → EndLaw next (first_of left) offer pending stopped k end → EndLaw next (first_of (left ++ values)) offer pending stopped k end
+put_each (value ∷ left) values next k end offer pending stopped law = law
+put_each [] values next k end offer pending stopped law = record {
+  risen = law.risen;
+  none_later = law.none_later;
+  declined_before = law.declined_before;
+  out = law.out;
+  out_head = law.out_head;
+  offers = law.offers;
+  admitted = OnTrue_from (speaks_of next end.stage) _ (λ e. let no : false ≡ true = OnTrue_at e law.admitted in cc);
+  put_off = law.put_off;
+  within = law.within;
+  room = law.room;
+  ended = law.ended;
+  given_up = law.given_up;
+  given_up_late = law.given_up_late;
+}
+
+head_stays : (left values : List Value) (when : When) → admits_head when (first_of left) ≡ true
+    → first_of (left ++ values) ≡ first_of left
+head_stays [] values when e = cc
+head_stays (value ∷ left) values when e = refl
+
+pub puts_keep : (pending : Bool) (stopped : Option Outcome) (o : OutletState) → OutletLaw pending stopped o
+    → (values : List Value) (weight : ℕ) → lacks_ids values o ≡ false → OutletLaw pending stopped (puts values weight o)
+puts_keep pending stopped o law values weight enough =
+    let stays = λ (k : ℕ) (l : k < length o.ends) (e : speaks_of o.next (stage_at o k) ≡ true).
+    head_stays o.left values (end_at o k).rule.when (OnTrue_at e (law.each k l).admitted) in
+    record {
+      begins = law.begins;
+      ids = omega (arith, ids_there values o.left o.next law.ids enough, length-append o.left values);
+      each = λ k l. put_each o.left values o.next k (end_at o k) o.offer pending stopped (law.each k l);
+      offer_there = law.offer_there;
+      offer_out = law.offer_out;
+      ready = λ k l e. law.ready k l e ∙ sym (stays k l e);
+      in_order = λ j k before l e. rw (stays k l e) (law.in_order j k before l e);
+    }
+
+pub prepares_keep : (pending : Bool) (stopped : Option Outcome) (o : OutletState) → OutletLaw pending stopped o
+    → OutletLaw pending stopped (prepares o)
+prepares_keep pending stopped o law = record {
+  begins = law.begins;
+  ids = law.ids;
+  each = law.each;
+  offer_there = law.offer_there;
+  offer_out = law.offer_out;
+  ready = λ k l e. refl;
+  in_order = law.in_order;
+}
+
+pub room_keeps : (pending : Bool) (stopped : Option Outcome) (o : OutletState) → OutletLaw pending stopped o
+    → OutletLaw pending stopped (record o { room = 0 })
+room_keeps pending stopped o law = record {
+  begins = law.begins;
+  ids = law.ids;
+  each = law.each;
+  offer_there = law.offer_there;
+  offer_out = law.offer_out;
+  ready = law.ready;
+  in_order = law.in_order;
+}
+
+-- What is given
+
+both : (a b : Bool) → (a && b) ≡ true → (a ≡ true) × (b ≡ true)
+both true true e = (refl, refl)
+both true false e = cc
+both false b e = cc
+
+not_some : (offer : Option ℕ) → not (is_some offer) ≡ true → offer ≡ None
+not_some None e = refl
+not_some (Some k) e = cc
+
+-- what is wanted is the head, and no other offer is out
+record Wanted (next k : ℕ) (offer : Option ℕ) (stage : SourceStage) : Type 0 where
+  speaks : speaks_of next stage ≡ true
+  alone : (j : ℕ) → j ≢ k → offer ≡ Some j → ⊥
+
+wanted_alone : (next k : ℕ) (offer : Option ℕ) (stage : SourceStage) → is_wanted next (is_some offer) stage ≡ true
+    → (is_out stage ≡ true → offer ≡ Some k) → Wanted next k offer stage
+wanted_alone next k offer (Accepted i) e mine = record {
+  speaks = e;
+  alone = λ j other is. other (let same : Some j ≡ Some k = sym is ∙ mine refl in cc);
+}
+wanted_alone next k offer (Wished i) e mine =
+    let all = both (i == next) (not (is_some offer)) e in
+    record { speaks = all.0; alone = λ j other is. let none : None ≡ Some j = sym (not_some offer all.1) ∙ is in cc }
+wanted_alone next k offer (Claimed i) e mine =
+    let all = both (i == next) (not (is_some offer)) e in
+    record { speaks = all.0; alone = λ j other is. let none : None ≡ Some j = sym (not_some offer all.1) ∙ is in cc }
+wanted_alone next k offer Free e mine = cc
+wanted_alone next k offer (Posted _) e mine = cc
+wanted_alone next k offer (Out _) e mine = cc
+wanted_alone next k offer (Waiting _) e mine = cc
+wanted_alone next k offer (AskedBy _) e mine = cc
+wanted_alone next k offer (Reserved _) e mine = cc
+wanted_alone next k offer Crossing e mine = cc
+wanted_alone next k offer Refused e mine = cc
+wanted_alone next k offer (Ended _) e mine = cc
+
+one_more : (max : Option ℕ) (given : ℕ) → HasRoom max given → IsWithin max (counted max given)
+one_more None given room = tt
+one_more (Some max) given room = omega (arith, room)
+
+rest_fits : (left : List Value) (next : ℕ) (when : When) → admits_head when (first_of left) ≡ true
+    → next + length left ≤ 2 ^ 59 → next + 1 + length (rest_of left) ≤ 2 ^ 59
+rest_fits [] next when e fit = cc
+rest_fits (value ∷ left) next when e fit = omega (arith, fit)
+
+-- nobody speaks of a later message yet
+later_silent : (next : ℕ) (stage : SourceStage) → ForSome (id_of stage) (λ i. i ≤ next) → speaks_of (next + 1) stage ≡ true → ⊥
+later_silent next stage low e = let bad : next + 1 ≤ next = low (next + 1) (speaks_id (next + 1) stage e) in omega arith
+
+module _ {pending : Bool} {stopped : Option Outcome} (o : OutletState) (law : OutletLaw pending stopped o) (k : ℕ) (here : k < length o.ends) (may : may_give k o ≡ true) where
+  is_wanted_here : Wanted o.next k o.offer (stage_at o k)
+  is_wanted_here = wanted_alone o.next k o.offer (stage_at o k) may (λ out. OnTrue_at out (law.each k here).out)
+
+  pub given_admitted : admits_head (end_at o k).rule.when (head_of o) ≡ true
+  given_admitted = OnTrue_at is_wanted_here.speaks (law.each k here).admitted
+
+  pub given_in_order : (j : ℕ) → j < k → may_go_past (head_of o) (end_at o j) ≡ true
+  given_in_order j l = law.in_order j k l here is_wanted_here.speaks
+
+  -- the other ends wait for the next message
+  given_elsewhere : (j : ℕ) (end : OutEnd) → j ≢ k → EndLaw o.next (head_of o) o.offer pending stopped j end
+      → EndLaw (o.next + 1) (first_of (rest_of o.left)) None pending stopped j end
+  given_elsewhere j end other old = record {
+    risen = omega (arith, old.risen);
+    none_later = λ i e. let low : i ≤ o.next = old.none_later i e in omega arith;
+    declined_before = omega (arith, old.declined_before);
+    out = OnTrue_from (is_out end.stage) _ (λ e. absurd (is_wanted_here.alone j other (OnTrue_at e old.out)));
+    out_head = OnTrue_from (is_out end.stage) _ (λ e. absurd (is_wanted_here.alone j other (OnTrue_at e old.out)));
+    offers = old.offers;
+    admitted = OnTrue_from (speaks_of (o.next + 1) end.stage) _ (λ e. absurd (later_silent o.next end.stage old.none_later e));
+    put_off = old.put_off;
+    within = old.within;
+    room = old.room;
+    ended = old.ended;
+    given_up = OnTrue_from (end.declined == o.next + 1) _ (λ e. never_both (end.declined == o.next + 1) e (number_below end.declined (o.next + 1) (let low : end.declined < o.next + 1 = omega (arith, old.declined_before) in low)));
+    given_up_late = OnTrue_from (end.declined == o.next + 1) _ (λ e. never_both (end.declined == o.next + 1) e (number_below end.declined (o.next + 1) (let low : end.declined < o.next + 1 = omega (arith, old.declined_before) in low)));
+  }
+
+  given_here : HasRoom (end_at o k).rule.max (end_at o k).given
+      → EndLaw (o.next + 1) (first_of (rest_of o.left)) None pending stopped k (given_end o.next (end_at o k))
+  given_here room =
+      let old = law.each k here in
+      let end = end_at o k in
+      record {
+        risen = omega arith;
+        none_later = λ i e. cc;
+        declined_before = omega (arith, old.declined_before);
+        out = tt;
+        out_head = tt;
+        offers = refl;
+        admitted = tt;
+        put_off = tt;
+        within = one_more end.rule.max end.given room;
+        room = λ i e. absurd (let never : ⊥ = cc in never);
+        ended = λ how e. cc;
+        given_up = OnTrue_from (end.declined == o.next + 1) _ (λ e. never_both (end.declined == o.next + 1) e (number_below end.declined (o.next + 1) (let low : end.declined < o.next + 1 = omega (arith, old.declined_before) in low)));
+        given_up_late = OnTrue_from (end.declined == o.next + 1) _ (λ e. never_both (end.declined == o.next + 1) e (number_below end.declined (o.next + 1) (let low : end.declined < o.next + 1 = omega (arith, old.declined_before) in low)));
+      }
+
+  later_none : (j : ℕ) → j < length (set o.ends k (given_end o.next (end_at o k)))
+      → speaks_of (o.next + 1) (end_in (set o.ends k (given_end o.next (end_at o k))) j).stage ≡ true → ⊥
+  later_none = each_set (λ j e. speaks_of (o.next + 1) e.stage ≡ true → ⊥) o.ends k (given_end o.next (end_at o k)) here
+      (λ e. let never : ⊥ = cc in never) (λ j l other e. later_silent o.next (stage_at o j) (law.each j l).none_later e)
+
+  pub gives_keep : HasRoom (end_at o k).rule.max (end_at o k).given → OutletLaw pending stopped (gives k o)
+  gives_keep room = record {
+    begins = omega (arith, law.begins);
+    ids = rest_fits o.left o.next (end_at o k).rule.when given_admitted law.ids;
+    each = each_set (λ j e. EndLaw (o.next + 1) (first_of (rest_of o.left)) None pending stopped j e) o.ends k
+        (given_end o.next (end_at o k)) here (given_here room) (λ j l other. given_elsewhere j (end_at o j) other (law.each j l));
+    offer_there = λ j e. cc;
+    offer_out = λ j e. cc;
+    ready = λ j l e. absurd (later_none j l e);
+    in_order = λ j i before l e. absurd (later_none i l e);
+  }
+
+-- What is taken back, and what ends
+
+module _ {pending : Bool} {stopped : Option Outcome} (o : OutletState) (law : OutletLaw pending stopped o) (k : ℕ) (here : k < length o.ends) where
+  pub denies_keep : is_wish (stage_at o k) ≡ true → OutletLaw pending stopped (denies k o)
+  denies_keep wish =
+      let old = law.each k here in
+      let home = wish_home (stage_at o k) wish in
+      settles_keep o law k here Free (end_at o k).declined refl refl refl refl home.0 (λ how e. cc)
+      (λ e. never_both (is_refused (stage_at o k)) e home.1) old.declined_before
+      (λ e. (OnTrue_at e old.given_up, OnTrue_at e old.given_up_late))
+
+  pub withdraws_keep : is_waiting (stage_at o k) ≡ true → (speaks_of o.next (stage_at o k) ≡ true → pending ≡ true)
+      → OutletLaw pending stopped (withdraws k o)
+  withdraws_keep wait up =
+      let old = law.each k here in
+      let waits = waits_for (stage_at o k) wait in
+      let low : waits.id ≤ o.next = old.none_later waits.id (ap id_of waits.is) in
+      let steady : (end_at o k).rule.steady ≡ false = OnTrue_at (ap is_put_off waits.is) old.put_off in
+      let same : unwrap_or (id_of (stage_at o k)) 0 ≡ waits.id = ap (λ (stage : SourceStage). unwrap_or (id_of stage) 0) waits.is in
+      rw same (settles_keep o law k here Free waits.id refl refl refl refl (ap is_out waits.is) (λ how e. cc)
+      (λ e. let no : is_refused (Waiting waits.id) ≡ true = sym (ap is_refused waits.is) ∙ e in cc) low
+      (λ e. (up (ap (speaks_of o.next) waits.is ∙ e), steady)))
+
+  pub ends_keep : (how : LinkEnd) → is_free (stage_at o k) ≡ true → end_of (end_at o k) stopped ≡ Some how
+      → OutletLaw pending stopped (ends_link k how o)
+  ends_keep how free e =
+      let old = law.each k here in
+      let is : stage_at o k ≡ Free = free_is (stage_at o k) free in
+      settles_keep o law k here (Ended how) (end_at o k).declined refl refl refl refl (ap is_out is)
+      (λ other same. let equal : how ≡ other = cc in e ∙ ap Some equal)
+      (λ r. let no : is_refused Free ≡ true = sym (ap is_refused is) ∙ r in cc) old.declined_before
+      (λ up. (OnTrue_at up old.given_up, OnTrue_at up old.given_up_late))
+
+-- The block comes to fault, and stops
+
+fault_each : {next : ℕ} {head : Option Value} {offer : Option ℕ} {stopped : Option Outcome} {k : ℕ} {end : OutEnd}
+    → EndLaw next head offer false stopped k end → EndLaw next head offer true stopped k end
+fault_each {next} {end = end} law = record {
+  risen = law.risen;
+  none_later = law.none_later;
+  declined_before = law.declined_before;
+  out = law.out;
+  out_head = law.out_head;
+  offers = law.offers;
+  admitted = law.admitted;
+  put_off = law.put_off;
+  within = law.within;
+  room = law.room;
+  ended = law.ended;
+  given_up = OnTrue_from (end.declined == next) _ (λ _. refl);
+  given_up_late = law.given_up_late;
+}
+
+stopped_as : (cut : Bool) (by : Option LinkEnd) (how : LinkEnd) → cond cut (Some Plain) None ≡ Some how
+    → cond cut (Some Plain) by ≡ Some how
+stopped_as true by how e = e
+stopped_as false by how e = cc
+
+stop_each : {next : ℕ} {head : Option Value} {offer : Option ℕ} {pending : Bool} {k : ℕ} {end : OutEnd} (outcome : Outcome)
+    → EndLaw next head offer pending None k end → EndLaw next head offer pending (Some outcome) k end
+stop_each {end = end} outcome law = record {
+  risen = law.risen;
+  none_later = law.none_later;
+  declined_before = law.declined_before;
+  out = law.out;
+  out_head = law.out_head;
+  offers = law.offers;
+  admitted = law.admitted;
+  put_off = law.put_off;
+  within = law.within;
+  room = law.room;
+  ended = λ how e. stopped_as (is_cut end) _ how (law.ended how e);
+  given_up = law.given_up;
+  given_up_late = law.given_up_late;
+}
+
+pub fault_keeps : (stopped : Option Outcome) (o : OutletState) → OutletLaw false stopped o → OutletLaw true stopped o
+fault_keeps stopped o law = record {
+  begins = law.begins;
+  ids = law.ids;
+  each = λ k l. fault_each (law.each k l);
+  offer_there = law.offer_there;
+  offer_out = law.offer_out;
+  ready = law.ready;
+  in_order = law.in_order;
+}
+
+pub stop_keeps : (pending : Bool) (outcome : Outcome) (o : OutletState) → OutletLaw pending None o
+    → OutletLaw pending (Some outcome) o
+stop_keeps pending outcome o law = record {
+  begins = law.begins;
+  ids = law.ids;
+  each = λ k l. stop_each outcome (law.each k l);
+  offer_there = law.offer_there;
+  offer_out = law.offer_out;
+  ready = law.ready;
+  in_order = law.in_order;
+}
+
+-- A new outlet
+
+within_none : (max : Option ℕ) → IsWithin max 0
+within_none None = tt
+within_none (Some max) = omega arith
+
+fresh_each : (rule : LinkRule) (first k : ℕ) (pending : Bool) (stopped : Option Outcome) → 1 ≤ first
+    → EndLaw first None None pending stopped k (fresh_end rule)
+fresh_each rule first k pending stopped low = record {
+  risen = omega arith;
+  none_later = λ i e. cc;
+  declined_before = omega arith;
+  out = tt;
+  out_head = tt;
+  offers = refl;
+  admitted = tt;
+  put_off = tt;
+  within = within_none rule.max;
+  room = λ i e. absurd (let never : ⊥ = cc in never);
+  ended = λ how e. cc;
+  given_up = OnTrue_from (0 == first) _ (λ e. never_both (0 == first) e (number_below 0 first low));
+  given_up_late = OnTrue_from (0 == first) _ (λ e. never_both (0 == first) e (number_below 0 first low));
+}
+
+each_fresh : (rules : List LinkRule) (P : OutEnd → Type 0) → ((rule : LinkRule) → P (fresh_end rule))
+    → (k : ℕ) → k < length (map fresh_end rules) → P (end_in (map fresh_end rules) k)
+each_fresh [] P f k l = absurd (omega arith)
+each_fresh (rule ∷ rules) P f zero l = f rule
+each_fresh (rule ∷ rules) P f (suc k) l = each_fresh rules P f k (omega arith)
+
+fresh_silent : (rules : List LinkRule) (first k : ℕ) → k < length (map fresh_end rules)
+    → speaks_of first (end_in (map fresh_end rules) k).stage ≡ true → ⊥
+fresh_silent rules first k l e =
+    each_fresh rules (λ (end : OutEnd). speaks_of first end.stage ≡ true → ⊥) (λ rule no. let never : ⊥ = cc in never) k l e
+
+pub fresh_keeps : (pending : Bool) (stopped : Option Outcome) (rules : List LinkRule) (first : ℕ) → 1 ≤ first → first ≤ 2 ^ 59
+    → OutletLaw pending stopped (fresh_outlet rules first)
+fresh_keeps pending stopped rules first low high = record {
+  begins = low;
+  ids = omega arith;
+  each = λ k l. each_fresh rules (λ (end : OutEnd). EndLaw first None None pending stopped k end)
+      (λ rule. fresh_each rule first k pending stopped low) k l;
+  offer_there = λ k e. cc;
+  offer_out = λ k e. cc;
+  ready = λ k l e. absurd (fresh_silent rules first k l e);
+  in_order = λ j k before l e. absurd (fresh_silent rules first k l e);
+}

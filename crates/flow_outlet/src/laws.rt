@@ -1,0 +1,18 @@
+//! Laws about outlets. Each stands on a function that does nothing: whoever calls it has the whole law.
+ghost use Rattle.flow_outlet.specs.Keeps.{CallsKeepLaw, GivesInOrder};
+ghost use Rattle.flow_outlet.specs.Order.{OffersInOrder};
+
+/// The head is offered next over the first link, in order, that it does not go past, and nowhere only where none is
+/// left or something is still under way there.
+#[tactic(auto, using(crate::proofs::OffersInOrder::offers_in_order))]
+pub fn offers_go_in_order()
+    ensures { OffersInOrder }
+{}
+
+/// Each call keeps the outlet's law, and by that law a message never goes over a later link while an earlier one that
+/// admits it takes each offer at once.
+#[tactic(auto, using(crate::proofs::LawKept::calls_keep_law, crate::proofs::LawKept::gives_in_order))]
+pub fn calls_keep_the_law()
+    ensures keeps { CallsKeepLaw }
+    ensures in_order { GivesInOrder }
+{}
