@@ -6,3 +6,5 @@ pub mod OffersInOrder
 pub mod OneEndChanges
 pub mod OutletFits
 pub mod StagesTell
+pub mod TestsTell
+pub mod NothingLost

@@ -76,17 +76,20 @@ module _ {ends : List OutEnd} {left : List Value} {next : ℕ} {parcel : Option 
     parcel_is = λ _ none. cc;
   }
 
-kept_or_back : (none light : Bool) (groups : List Group) (group : Group) (room weight : ℕ) → group.weight ≡ weight
-    → room + cond none weight 0 + weight_of (cond (none || light) groups (groups ++ group ∷ [])) ≤ room + weight_of groups + weight
-kept_or_back true light groups group room weight e = omega arith
-kept_or_back false true groups group room weight e = omega arith
-kept_or_back false false groups group room weight e = omega (arith, weight_push groups group)
+kept_or_back : (none light : Bool) (groups : List Group) (group : Group) (room weight : ℕ) → group.weight ≡ weight → (light ≡ true → weight ≡ 0)
+    → room + cond none weight 0 + weight_of (cond (none || light) groups (groups ++ group ∷ [])) ≡ room + weight_of groups + weight
+kept_or_back true light groups group room weight e zero = omega arith
+kept_or_back false true groups group room weight e zero = let nothing : weight ≡ 0 = zero refl in omega arith
+kept_or_back false false groups group room weight e zero = omega (arith, weight_push groups group)
 
--- the room that comes back at once, and the weights that are kept, are no more than what was put
-room_put : (start count weight room : ℕ) (groups : List Group)
-    → room_with count weight room + weight_of (groups_with start count weight groups) ≤ room + weight_of groups + weight
+is_zero : (weight : ℕ) → (weight == 0) ≡ true → weight ≡ 0
+is_zero weight e = grind (arith, nat_tests)
+
+-- the room that comes back at once, and the weights that are kept, are what was put
+pub room_put : (start count weight room : ℕ) (groups : List Group)
+    → room_with count weight room + weight_of (groups_with start count weight groups) ≡ room + weight_of groups + weight
 room_put start count weight room groups =
-    kept_or_back (count == 0) (weight == 0) groups (record { until = start + (count - 1); weight = weight }) room weight refl
+    kept_or_back (count == 0) (weight == 0) groups (record { until = start + (count - 1); weight = weight }) room weight refl (is_zero weight)
 
 fits_parcel : (left values : List Value) (parcel : Option Value) → ForSome parcel (λ value. first_of left ≡ Some value)
     → ForSome parcel (λ value. first_of (left ++ values) ≡ Some value)

@@ -1,5 +1,5 @@
 -- The calls that name a link, with the caller in the place of the target: what they answer, and what they leave.
-use Rattle.std.specs.Prelude.{◌≡◌, ℕ, ◌<◌, ◌==◌, cond, Bool, true, false, not, ◌&&◌, List, length, map, position, Option, Some, None, is_some, unwrap_or}
+use Rattle.std.specs.Prelude.{◌≡◌, ℕ, ◌<◌, ◌==◌, ltb, cond, Bool, true, false, not, ◌&&◌, ◌||◌, List, length, map, position, Option, Some, None, is_some, unwrap_or}
 use Rattle.std.specs.Bool.{OnTrue}
 use Rattle.flow_value.specs.declared.value.Value.{Value}
 use Rattle.flow_value.specs.declared.message.MessageStatus.{MessageStatus}
@@ -8,7 +8,7 @@ use Rattle.flow_link.specs.declared.phase.Phase.TheVariants.{Idle, Wanted}
 use Rattle.flow_link.specs.declared.stage.SourceStage.{SourceStage}
 use Rattle.flow_link.specs.declared.stage.SourceStage.TheVariants.{Free, Out, Waiting, Accepted, Wished, Refused}
 use Rattle.flow_link.specs.LinkOk.{HasRoom}
-use Rattle.flow_outlet.specs.Outlet.{OutletState, end_at, stage_at, head_of, is_empty, may_offer, prepares, offers, changes, looks, gives}
+use Rattle.flow_outlet.specs.Outlet.{OutletState, end_at, stage_at, head_of, is_empty, is_at, may_offer, prepares, offers, changes, looks, gives}
 use Rattle.flow_outlet.specs.declared.ends.OutEnd.{OutEnd}
 
 -- the place of a link's end; where there is none, behind the last
@@ -102,3 +102,23 @@ gives_home k header o = forgets (looks k Idle (gives k (looks k (Wanted header) 
 
 abbrev pub consumes : ℕ → ℕ → OutletState → OutletState
 consumes link header o = cond (is_head header o) (gives_home (place_of link o.ends) header o) o
+
+-- Tests of what these calls require
+
+abbrev pub is_offered : ℕ → SourceStage → Bool
+is_offered header (Out i) = i == header
+is_offered header _ = false
+
+abbrev pub has_room : Option ℕ → ℕ → Bool
+has_room None given = true
+has_room (Some max) given = ltb given max
+
+abbrev pub tests_asked : ℕ → ℕ → OutletState → Bool
+tests_asked k header o = ltb k (length o.ends) && is_offered header (stage_at o k) && is_at o.offer k
+
+abbrev pub tests_take : ℕ → OutletState → Bool
+tests_take k o =
+    is_taken o.next (is_some o.offer) (stage_at o k) && is_some o.parcel && has_room (end_at o k).rule.max (end_at o k).given
+
+abbrev pub tests_consume : ℕ → ℕ → OutletState → Bool
+tests_consume k header o = ltb k (length o.ends) && (not (is_head header o) || tests_take k o)

@@ -2,9 +2,11 @@
 ghost use Rattle.std.specs.Prelude.{◌≡◌, ◌+◌, ◌≤◌, ◌<◌, ◌==◌, length, drop, map, position};
 ghost use Rattle.flow_outlet.specs.declared.ends.OutEnd.{OutEnd};
 ghost use Rattle.std.specs.Option.{option_copied};
-ghost use Rattle.flow_outlet.specs.End.{is_cut, is_passed, id_of, speaks_of, is_free, is_over, is_away, is_waiting, is_out};
+ghost use Rattle.flow_outlet.specs.End.{is_cut, is_passed, id_of, speaks_of, is_free, is_over};
+ghost use Rattle.flow_outlet.specs.End.{is_away, is_waiting, is_out};
 ghost use Rattle.flow_link.specs.LinkOk.{HasRoom};
 ghost use Rattle.flow_outlet.specs.ByLink.{answer_stage, answer_declined, place_of, forgotten};
+ghost use Rattle.flow_outlet.specs.ByLink.{is_offered, is_taken, has_room};
 ghost use Rattle.flow_outlet.specs.Outlet.{given_end, end_of};
 ghost use Rattle.flow_outlet.specs.End.{fresh_end, place_in, cursor_after};
 
@@ -148,6 +150,39 @@ impl OutEnd {
             self.stage,
             SourceStage::Free | SourceStage::Refused | SourceStage::Ended(_)
         )
+    }
+
+    /// Whether an offer of this message is out over it, and not answered.
+    pub fn is_offered(&self, header: MessageHeader) -> bool
+        ensures { result ≡ is_offered header self.now.stage }
+    {
+        match self.stage {
+            SourceStage::Out(offered) => offered.id() == header.id(),
+            _ => false,
+        }
+    }
+
+    /// Whether its target may take the message with this id, while another offer is out or none: it accepted it, or it
+    /// postponed it or wishes for it and none is out.
+    pub fn is_taken(&self, id: u64, is_out: bool) -> bool
+        ensures { result ≡ is_taken id is_out self.now.stage }
+    {
+        match self.stage {
+            SourceStage::Accepted(header) => header.id() == id,
+            SourceStage::Waiting(header) | SourceStage::Wished(header) => header.id() == id
+                && !is_out,
+            _ => false,
+        }
+    }
+
+    /// Whether one more message may cross.
+    pub fn has_room(&self) -> bool
+        ensures { result ≡ has_room self.now.rule.max self.now.given }
+    {
+        match self.rule.max {
+            Some(max) => self.given < max,
+            None => true,
+        }
     }
 
     /// The end after it gave the message with this id.

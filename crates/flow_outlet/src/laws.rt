@@ -1,4 +1,5 @@
 //! Laws about outlets. Each stands on a function that does nothing: whoever calls it has the whole law.
+ghost use Rattle.flow_outlet.specs.History.{NothingIsLost};
 ghost use Rattle.flow_outlet.specs.Keeps.{CallsKeepLaw, GivesInOrder};
 ghost use Rattle.flow_outlet.specs.Order.{OffersInOrder};
 
@@ -15,4 +16,10 @@ pub fn offers_go_in_order()
 pub fn calls_keep_the_law()
     ensures keeps { CallsKeepLaw }
     ensures in_order { GivesInOrder }
+{}
+
+/// Over any calls, what was put is what was given, in order, followed by what is left; and each weight comes back once.
+#[tactic(auto, using(crate::proofs::NothingLost::nothing_is_lost))]
+pub fn nothing_is_lost()
+    ensures { NothingIsLost }
 {}

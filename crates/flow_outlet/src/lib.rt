@@ -10,5 +10,5 @@ mod outlet;
 pub use ends::{LinkRule, OutEnd};
 pub use fault::OutletFault;
 pub use group::Group;
-pub use laws::{calls_keep_the_law, offers_go_in_order};
+pub use laws::{calls_keep_the_law, nothing_is_lost, offers_go_in_order};
 pub use outlet::Outlet;

@@ -5,7 +5,7 @@ ghost use Rattle.std.specs.Option.{option_copied};
 ghost use Rattle.std.specs.VecDeque.{deque_len, deque_capacity};
 ghost use Rattle.flow_link.specs.LinkOk.{HasRoom};
 ghost use Rattle.flow_outlet.specs.ByLink.{offer_named, offers_next, IsAsked, answered, MayConsume, consumed};
-ghost use Rattle.flow_outlet.specs.ByLink.{consumes, place_of, forgets};
+ghost use Rattle.flow_outlet.specs.ByLink.{consumes, place_of, forgets, tests_asked, tests_consume};
 ghost use Rattle.flow_outlet.specs.End.{is_waiting, is_free, is_cut, place_in, fresh_end};
 ghost use Rattle.flow_outlet.specs.Fits.{weight_of};
 ghost use Rattle.flow_outlet.specs.Outlet.{changes, recounted, first_of, is_empty, fresh_outlet, lacks_ids, puts};
@@ -73,7 +73,8 @@ impl Outlet {
         rules: Vec<LinkRule>,
         first: MessageHeader,
     ) -> Result<Outlet, Vec<LinkRule>>
-        ensures { MatchResult result (λ outlet. outlet ≡ fresh_outlet rules.items first) (λ back. back ≡ rules) }
+        ensures { MatchResult result (λ outlet. outlet ≡ fresh_outlet rules.items first)
+            (λ back. back ≡ rules) }
     {
         let Ok(ends) = fresh_ends(alloc, &rules) else {
             return Err(rules);
@@ -128,6 +129,13 @@ impl Outlet {
         ensures { result ≡ only_waits self.now }
     {
         self.away == self.waiting
+    }
+
+    /// The weights of what was put and is not told by [`Outlet::room_back`].
+    pub fn weight(&self) -> u32
+        ensures { result ≡ self.now.room + weight_of self.now.groups }
+    {
+        self.room + weight_in(&self.groups)
     }
 
     /// Takes the values of one result, to give them in order; its weight comes back as room when they are all given.
@@ -352,6 +360,43 @@ impl Outlet {
         Ok(Some((self.ends[place].rule.id, header)))
     }
 
+    /// Whether the link's offer of this message is out, and not answered.
+    pub fn is_asked(&self, link: usize, header: MessageHeader) -> bool
+        ensures { (result ≡ true) ↔ IsAsked link header self.now }
+    {
+        self.tests_asked(place_of(&self.ends, link), header)
+    }
+
+    fn tests_asked(&self, place: usize, header: MessageHeader) -> bool
+        ensures { result ≡ tests_asked place header self.now }
+    {
+        match self.ends.get(place) {
+            Some(end) => end.is_offered(header) && self.offer == Some(place),
+            None => false,
+        }
+    }
+
+    /// Whether the link may be told of this message, that it comes or that it has gone elsewhere: where it is the head,
+    /// the link's target accepted it, or it postponed it and no offer is out.
+    pub fn may_consume(&self, link: usize, header: MessageHeader) -> bool
+        ensures { (result ≡ true) ↔ MayConsume link header self.now }
+    {
+        self.tests_consume(place_of(&self.ends, link), header)
+    }
+
+    fn tests_consume(&self, place: usize, header: MessageHeader) -> bool
+        ensures { result ≡ tests_consume place header self.now }
+    {
+        let is_head = header.id() == self.next && !is_empty(&self.left);
+        match self.ends.get(place) {
+            Some(end) => {
+                let is_taken = end.is_taken(self.next, self.offer.is_some());
+                !is_head || is_taken && self.parcel.is_some() && end.has_room()
+            }
+            None => false,
+        }
+    }
+
     /// Notes what the target answered to the offer that is out.
     pub fn note_answer(&mut self, link: usize, header: MessageHeader, status: MessageStatus)
         requires { IsAsked link header self.old }
@@ -493,6 +538,17 @@ fn append(left: &mut VecDeque<Value>, values: Vec<Value>)
     let Ok(()) = left.append(&mut values) else {
         unreachable!()
     };
+}
+
+fn weight_in(groups: &VecDeque<Group>) -> u32
+    requires { weight_of groups.now.items < 2 ^ 32 }
+    ensures { result ≡ weight_of groups.now.items }
+{
+    let mut total = 0;
+    for place in 0..groups.len() {
+        total += groups[place].weight;
+    }
+    total
 }
 
 // the weight of a result that has no message comes back at once
