@@ -13,6 +13,8 @@ mod functions;
 #[cfg(test)]
 mod links;
 #[cfg(test)]
+mod outlet;
+#[cfg(test)]
 mod refused;
 #[cfg(test)]
 mod texts;

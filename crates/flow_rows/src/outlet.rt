@@ -1,0 +1,154 @@
+//! An outlet by itself, with the test in the place of its targets.
+use flow_outlet::{LinkRule, Outlet, OutletFault};
+use flow_value::{MAX_ID, MessageHeader, MessageStatus, Value, When};
+use std::alloc::{AllocError, Global};
+use std::test::Fail;
+
+/// What is done with the outlet.
+#[derive(Debug)]
+enum Step {
+    /// These numbers are put, with this weight.
+    Put(&'static [i64], u32),
+    /// It is asked for its next offer.
+    Next,
+    /// The offer that is out over the link is answered so.
+    Answer(usize, MessageStatus),
+    /// The link's target takes the message that was offered to it last.
+    Consume(usize),
+    /// It is asked which room came back.
+    Room,
+}
+
+/// What comes of it.
+#[derive(Debug, Drop, PartialEq)]
+enum Done {
+    Taken,
+    NoIds,
+    Offered(usize, u64),
+    NoOffer,
+    Noted,
+    Gave(i64),
+    Gone,
+    Room(u32),
+}
+
+/// The steps with two links, where the first id is the last but one.
+const STEPS: &[(Step, Done)] = &[
+    (Step::Put(&[5, 6], 2), Done::Taken),
+    (Step::Put(&[7], 1), Done::NoIds),
+    (Step::Next, Done::Offered(0, MAX_ID - 1)),
+    (Step::Answer(0, MessageStatus::Postponed), Done::Noted),
+    (Step::Next, Done::Offered(1, MAX_ID - 1)),
+    (Step::Answer(1, MessageStatus::Postponed), Done::Noted),
+    (Step::Next, Done::NoOffer),
+    (Step::Consume(1), Done::Gave(5)),
+    (Step::Consume(0), Done::Gone),
+    (Step::Room, Done::Room(0)),
+    (Step::Next, Done::Offered(0, MAX_ID)),
+    (Step::Answer(0, MessageStatus::Accepted), Done::Noted),
+    (Step::Consume(0), Done::Gave(6)),
+    (Step::Room, Done::Room(2)),
+    (Step::Put(&[7], 1), Done::NoIds),
+];
+
+/// A link that carries every message, to a target that may put it off.
+fn link(id: usize) -> LinkRule {
+    LinkRule {
+        id,
+        when: When::Any,
+        max: None,
+        passes: true,
+        steady: false,
+        sole: false,
+    }
+}
+
+fn values_of(alloc: Global, numbers: &[i64]) -> Result<Vec<Value>, AllocError> {
+    let mut values = Vec::new(alloc);
+    for number in numbers {
+        values.push(Value::Int(*number))?;
+    }
+    Ok(values)
+}
+
+/// An outlet and the message that was offered last over each of its links.
+#[derive(Drop)]
+struct Case {
+    outlet: Outlet,
+    offered: [MessageHeader; 2],
+}
+
+impl Case {
+    fn new(alloc: Global) -> Result<Case, Fail> {
+        let first = MessageHeader::new(MAX_ID - 1).ok_or("no header")?;
+        let mut rules = Vec::new(alloc);
+        rules.push(link(0))?;
+        rules.push(link(1))?;
+        let outlet = Outlet::new(alloc, rules, first).map_err(|_| "out of memory")?;
+        Ok(Case {
+            outlet,
+            offered: [first; 2],
+        })
+    }
+
+    fn act(&mut self, alloc: Global, step: &Step) -> Result<Done, Fail> {
+        match step {
+            Step::Put(numbers, weight) => self.put(alloc, numbers, *weight),
+            Step::Next => self.next(alloc),
+            Step::Answer(link, status) => self.answer(*link, *status),
+            Step::Consume(link) => self.consume(*link),
+            Step::Room => Ok(Done::Room(self.outlet.room_back())),
+        }
+    }
+
+    fn put(&mut self, alloc: Global, numbers: &[i64], weight: u32) -> Result<Done, Fail> {
+        let values = values_of(alloc, numbers)?;
+        if weight > u32::MAX - self.outlet.weight() {
+            return Err(Fail::from("too much weight"));
+        }
+        match self.outlet.put(values, weight) {
+            Ok(()) => Ok(Done::Taken),
+            Err((back, OutletFault::Ids)) if back == values_of(alloc, numbers)? => Ok(Done::NoIds),
+            Err(_) => Err(Fail::from("refused otherwise")),
+        }
+    }
+
+    fn next(&mut self, alloc: Global) -> Result<Done, Fail> {
+        let Some((link, header)) = self.outlet.next_offer(alloc)? else {
+            return Ok(Done::NoOffer);
+        };
+        *self.offered.get_mut(link).ok_or("no such link")? = header;
+        Ok(Done::Offered(link, header.id()))
+    }
+
+    fn answer(&mut self, link: usize, status: MessageStatus) -> Result<Done, Fail> {
+        let header = *self.offered.get(link).ok_or("no such link")?;
+        if !self.outlet.is_asked(link, header) {
+            return Err(Fail::from("not asked"));
+        }
+        self.outlet.note_answer(link, header, status);
+        Ok(Done::Noted)
+    }
+
+    fn consume(&mut self, link: usize) -> Result<Done, Fail> {
+        let header = *self.offered.get(link).ok_or("no such link")?;
+        if !self.outlet.may_consume(link, header) {
+            return Err(Fail::from("not to be consumed"));
+        }
+        match self.outlet.consume_message(link, header) {
+            Some(parcel) => Ok(Done::Gave(parcel.value().as_int().ok_or("no number")?)),
+            None => Ok(Done::Gone),
+        }
+    }
+}
+
+#[test]
+fn outlet_ids_run_out(rt: HostRuntime) -> Result<(), Fail> {
+    let mut case = Case::new(rt.alloc())?;
+    for (step, due) in STEPS {
+        let done = case.act(rt.alloc(), step)?;
+        assert!(rt; done == *due, "{step:?} came to {done:?}");
+    }
+    assert!(rt; case.outlet.left().is_empty());
+    Ok(())
+}
