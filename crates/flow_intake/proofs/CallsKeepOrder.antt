@@ -300,9 +300,10 @@ add_link_keeps facts taken port link law = record {
   took = law.took;
 }
 
-give_room_waits : (capacity : Option ℕ) (load count waiting : ℕ) → cond (is_some capacity) (count + waiting) 0 ≤ load → is_some capacity ≡ true → waiting ≤ load - count
-give_room_waits None load count waiting fits there = absurd (cc)
-give_room_waits (Some c) load count waiting fits there = omega arith
+give_room_waits : (capacity : Option ℕ) (load count waiting : ℕ) → cond (is_some capacity) count 0 ≤ load - waiting
+    → (is_some capacity ≡ true → waiting ≤ load) → is_some capacity ≡ true → waiting ≤ load - count
+give_room_waits None load count waiting fits waits there = absurd (cc)
+give_room_waits (Some c) load count waiting fits waits there = let less = waits there in omega arith
 
 pub moves_keep : MovesKeep
 moves_keep = record {
@@ -355,7 +356,7 @@ moves_keep = record {
     distinct = law.distinct;
     known = law.known;
     room = within_less port.capacity (port.load + coming port) (port.load - count + coming port) law.room (omega arith);
-    waits = give_room_waits port.capacity port.load count (length port.waiting) fits;
+    waits = give_room_waits port.capacity port.load count (length port.waiting) fits law.waits;
     took = let less = law.took in omega arith;
   };
   close_port = λ facts taken port law none. close_port_keeps facts taken port law none;

@@ -1,5 +1,5 @@
 -- Each call of a port keeps it in order.
-use Rattle.std.specs.Prelude.{◌≡◌, ℕ, ◌+◌, ◌<◌, ◌≤◌, true, false, ◌∷◌, [], ◌++◌, length, Option, is_some, cond}
+use Rattle.std.specs.Prelude.{◌≡◌, ℕ, ◌+◌, ◌-◌, ◌<◌, ◌≤◌, true, false, ◌∷◌, [], ◌++◌, length, Option, is_some, cond}
 use Rattle.flow_value.specs.declared.value.Value.{Value}
 use Rattle.flow_value.specs.declared.message.MessageStatus.TheVariants.{Postponed}
 use Rattle.flow_link.specs.declared.phase.Phase.{Phase}
@@ -36,7 +36,7 @@ pub record MovesKeep : Type 0 where
       → PortLaw facts (taken + 1) (closes place value port)
   pub look : InOrderHas λ facts taken port. (place : ℕ) (phase : Phase) → place < length port.ends → PortLaw facts taken (looks place phase port)
   pub take_next : InOrderHas λ facts taken port. PortLaw facts taken (takes_next port)
-  pub give_room : InOrderHas λ facts taken port. (count : ℕ) → cond (is_some port.capacity) (count + length port.waiting) 0 ≤ port.load
+  pub give_room : InOrderHas λ facts taken port. (count : ℕ) → cond (is_some port.capacity) count 0 ≤ port.load - length port.waiting
       → PortLaw facts taken (gives_room count port)
   -- nothing comes any more
   pub close_port : InOrderHas λ facts taken port. coming port ≡ 0 → PortLaw facts taken (port_closes port)

@@ -2,7 +2,7 @@
 //!
 //! A move that takes memory has two calls. `prepare_answer` takes it, and may be refused; what follows takes none and
 //! does not fail, from the answer until the message is taken.
-ghost use Rattle.std.specs.Prelude.{◌≡◌, ◌<◌, ◌≤◌, ◌+◌, true, false, ◌++◌, ◌∷◌, [], ◌^◌, length, OnOk, OnErr, IfOk};
+ghost use Rattle.std.specs.Prelude.{◌≡◌, ◌<◌, ◌≤◌, ◌+◌, ◌-◌, true, false, ◌++◌, ◌∷◌, [], ◌^◌, length, OnOk, OnErr, IfOk};
 ghost use Rattle.std.specs.Prelude.{Some, is_some, cond};
 ghost use Rattle.flow_intake.specs.Port.{PortState, fresh_end, fresh_port, stage_at, hand_in, is_offer};
 ghost use Rattle.flow_intake.specs.Port.{is_owed, is_hand, is_wanted, coming, has_room, count_at, is_coming};
@@ -310,9 +310,16 @@ impl Intake {
         self.waiting.pop_front()
     }
 
+    /// How many messages were taken on whose room may come back; where there is no capacity, none is counted.
+    pub fn room_out(&self) -> usize
+        ensures { result ≡ self.now.load - length self.now.waiting }
+    {
+        self.load.saturating_sub(self.waiting.len())
+    }
+
     /// The room of so many messages comes back, which were taken on.
     pub fn give_room(&mut self, count: usize)
-        requires { cond (is_some self.old.capacity) (count + length self.old.waiting) 0 ≤ self.old.load }
+        requires { cond (is_some self.old.capacity) count 0 ≤ self.old.load - length self.old.waiting }
         ensures { self.new ≡ gives_room count self.old }
     {
         if self.capacity.is_some() {
@@ -332,6 +339,42 @@ impl Intake {
 
 // Calls that name a link: the caller plays the far end. They look for the link's end; who knows its place need not.
 impl Intake {
+    /// Whether nothing is under way over this link: it may bring an offer.
+    pub fn is_free_over(&self, link: usize) -> bool
+        ensures { result ≡ is_free_over link self.now }
+    {
+        match self.ends.find(link) {
+            Some(place) => matches!(self.ends.stage(place), TargetStage::Free),
+            None => true,
+        }
+    }
+
+    /// Whether it waits for a message over this link, which it accepted or consumes.
+    pub fn is_wanted_over(&self, link: usize) -> bool
+        ensures { result ≡ stands_at is_wanted link self.now }
+    {
+        match self.ends.find(link) {
+            Some(place) => matches!(
+                self.ends.stage(place),
+                TargetStage::Accepted(_) | TargetStage::Consuming(_) | TargetStage::Claiming(_)
+            ),
+            None => false,
+        }
+    }
+
+    /// Whether an offer over this link may be dropped: it is postponed, or wished for.
+    pub fn may_drop(&self, link: usize) -> bool
+        ensures { result ≡ stands_at may_be_dropped link self.now }
+    {
+        match self.ends.find(link) {
+            Some(place) => matches!(
+                self.ends.stage(place),
+                TargetStage::Postponed(_) | TargetStage::Consuming(_) | TargetStage::Asking(_)
+            ),
+            None => false,
+        }
+    }
+
     /// Answers an offer over this link, which may be a new one. What it accepts is still to [arrive](Intake::arrive).
     ///
     /// Microsoft: `ITargetBlock<TInput>.OfferMessage`.
