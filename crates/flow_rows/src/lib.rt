@@ -11,6 +11,8 @@ mod events;
 #[cfg(test)]
 mod functions;
 #[cfg(test)]
+mod intake;
+#[cfg(test)]
 mod links;
 #[cfg(test)]
 mod outlet;
