@@ -14,7 +14,7 @@ use flow_link::{LinkEnd, Outcome, SourceStage};
 use flow_value::{MessageHeader, MessageStatus, Value, When};
 
 /// What the plan says of a link that leads out of a block.
-#[derive(Clone, Copy, Debug, PartialEq, Eq, Hash)]
+#[derive(Clone, Copy, Debug, PartialEq, Eq)]
 pub struct LinkRule {
     /// The link.
     pub id: usize,
