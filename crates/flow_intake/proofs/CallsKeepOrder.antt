@@ -10,7 +10,7 @@ use Rattle.flow_link.specs.LinkOk.{IsWithin, MayPutOff}
 use Rattle.flow_link.specs.Stage.{target_looks}
 use Rattle.flow_link.specs.Views.{LinkFacts}
 use Rattle.flow_intake.specs.Port.{EndState, PortState, fresh_end, end_in, link_in, stage_in, stage_at, coming, has_room, is_coming, is_hand, is_offer, is_queued, count_at}
-use Rattle.flow_intake.specs.Calls.{one_more, message_of, is_offered, is_posted, is_postponed, is_arrived, may_be_refused, may_be_dropped, refused_by, queue_after, accepts, puts_off as postpones_so, leaves_for, takes, consumes, opens, looks, port_closes}
+use Rattle.flow_intake.specs.Calls.{one_more, message_of, is_offered, is_posted, is_postponed, is_arrived, may_be_refused, may_be_dropped, refused_by, queue_after, accepts, puts_off as postpones_so, leaves_for, takes, consumes, opens, looks, port_closes, failing_from, port_fails}
 use Rattle.flow_intake.specs.ByLink.{is_free}
 use Rattle.flow_intake.specs.Queue.{without}
 use Rattle.flow_intake.specs.PortLaw.{is_in, IsDistinct, AreBelow, has_ended, is_refused, puts_off, InLaw, EachIn, PortLaw}
@@ -251,6 +251,30 @@ close_port_keeps facts taken port law none = record {
   took = law.took;
 }
 
+failing_refuses : (refusing : Option Refusal) → is_some (failing_from refusing) ≡ true
+failing_refuses None = refl
+failing_refuses (Some _) = refl
+
+failing_goes_on : (refusing : Option Refusal) → has_ended refusing ≡ false → has_ended (failing_from refusing) ≡ false
+failing_goes_on None going = refl
+failing_goes_on (Some _) going = going
+
+fail_port_keeps : (facts : ℕ → LinkFacts) (taken : ℕ) (port : PortState) → PortLaw facts taken port → PortLaw facts taken (port_fails port)
+fail_port_keeps facts taken port law = record {
+  each = λ place below. let old = law.each place below in record {
+    queued = old.queued;
+    hand = old.hand;
+    refused = λ e. failing_refuses port.refusing;
+    coming = λ e. failing_goes_on port.refusing (old.coming e);
+    put_off = old.put_off;
+  };
+  distinct = law.distinct;
+  known = law.known;
+  room = law.room;
+  waits = law.waits;
+  took = law.took;
+}
+
 -- one more link
 apart : (m n : ℕ) → m == n ≡ false → m ≢ n
 apart m n differ same = let equal : m == n ≡ true = eq-eqb m n same in cc
@@ -315,6 +339,14 @@ moves_keep = record {
     waits = λ there. omega arith;
     took = omega arith;
   };
+  reserving = λ facts capacity. record {
+    each = λ place below. absurd (omega arith);
+    distinct = tt;
+    known = tt;
+    room = fits_nothing capacity;
+    waits = λ there. omega arith;
+    took = omega arith;
+  };
   add_link = λ facts taken port law link. add_link_keeps facts taken port link law;
   prepare = λ facts taken port law. record {
     each = law.each;
@@ -360,6 +392,7 @@ moves_keep = record {
     took = let less = law.took in omega arith;
   };
   close_port = λ facts taken port law none. close_port_keeps facts taken port law none;
+  fail_port = λ facts taken port law. fail_port_keeps facts taken port law;
 }
   where
     fits_nothing : (capacity : Option ℕ) → IsWithin capacity 0

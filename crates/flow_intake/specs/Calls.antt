@@ -7,7 +7,7 @@ use Rattle.flow_link.specs.declared.phase.Phase.{Phase}
 use Rattle.flow_link.specs.declared.phase.Move.{Move}
 use Rattle.flow_link.specs.declared.phase.Move.TheVariants as move
 use Rattle.flow_link.specs.declared.stage.Refusal.{Refusal}
-use Rattle.flow_link.specs.declared.stage.Refusal.TheVariants.{PortEnded}
+use Rattle.flow_link.specs.declared.stage.Refusal.TheVariants.{PortEnded, OwnFault}
 use Rattle.flow_link.specs.declared.stage.TargetStage.{TargetStage}
 use Rattle.flow_link.specs.declared.stage.TargetStage.TheVariants.{Free, Offered, Posted, Postponed, Accepted, Consuming, Asking, Arrived, Hand, Refused}
 use Rattle.flow_link.specs.Lists.{is_empty}
@@ -186,3 +186,11 @@ gives_room count port = record port { load = port.load - count }
 
 abbrev pub port_closes : PortState → PortState
 port_closes port = record port { refusing = Some PortEnded }
+
+-- a port that has ended does not fail
+abbrev pub failing_from : Option Refusal → Option Refusal
+failing_from (Some why) = Some why
+failing_from None = Some OwnFault
+
+abbrev pub port_fails : PortState → PortState
+port_fails port = record port { refusing = failing_from port.refusing }

@@ -6,7 +6,7 @@ use Rattle.flow_link.specs.declared.phase.Phase.{Phase}
 use Rattle.flow_link.specs.LinkOk.{MayPutOff}
 use Rattle.flow_link.specs.Views.{LinkFacts}
 use Rattle.flow_intake.specs.Port.{PortState, fresh_end, fresh_port, link_in, stage_at, coming, has_room, is_hand, is_offer, is_wanted}
-use Rattle.flow_intake.specs.Calls.{answer_to, is_offered, is_posted, is_postponed, is_arrived, may_be_refused, may_be_dropped, prepared, wants, turns_down, postpones, refuses, consumes, opens, closes, looks, takes_next, gives_room, port_closes}
+use Rattle.flow_intake.specs.Calls.{answer_to, is_offered, is_posted, is_postponed, is_arrived, may_be_refused, may_be_dropped, prepared, wants, turns_down, postpones, refuses, consumes, opens, closes, looks, takes_next, gives_room, port_closes, port_fails}
 use Rattle.flow_intake.specs.ByLink.{is_free_over, stands_at, answered, arrives, drops, consumes_next}
 use Rattle.flow_intake.specs.PortLaw.{PortLaw, has_ended}
 
@@ -17,6 +17,7 @@ InOrderHas P = (facts : ℕ → LinkFacts) (taken : ℕ) (port : PortState) → 
 -- the calls that name a place
 pub record MovesKeep : Type 0 where
   pub fresh : (facts : ℕ → LinkFacts) (capacity : Option ℕ) → PortLaw facts 0 (fresh_port capacity)
+  pub reserving : (facts : ℕ → LinkFacts) (capacity : Option ℕ) → PortLaw facts 0 (record (fresh_port capacity) { reserves = true })
   pub add_link : InOrderHas λ facts taken port. (link : ℕ) → PortLaw facts taken (record port { ends = port.ends ++ fresh_end link ∷ [] })
   pub prepare : InOrderHas λ facts taken port. PortLaw facts taken (prepared port)
   pub want : InOrderHas λ facts taken port. (place : ℕ) → place < length port.ends → is_offer (stage_at place port) ≡ true
@@ -40,6 +41,7 @@ pub record MovesKeep : Type 0 where
       → PortLaw facts taken (gives_room count port)
   -- nothing comes any more
   pub close_port : InOrderHas λ facts taken port. coming port ≡ 0 → PortLaw facts taken (port_closes port)
+  pub fail_port : InOrderHas λ facts taken port. PortLaw facts taken (port_fails port)
 
 -- the calls that name a link
 pub record CallsByLinkKeep : Type 0 where

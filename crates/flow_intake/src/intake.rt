@@ -10,6 +10,7 @@ ghost use Rattle.flow_intake.specs.Calls.{first_of, answer_to, next_place, in_mo
 ghost use Rattle.flow_intake.specs.Calls.{is_postponed, is_arrived, may_be_refused, may_be_dropped, prepared};
 ghost use Rattle.flow_intake.specs.Calls.{accepts, puts_off, wants, turns_down, postpones, refuses};
 ghost use Rattle.flow_intake.specs.Calls.{consumes, opens, closes, looks, takes_next, gives_room, port_closes};
+ghost use Rattle.flow_intake.specs.Calls.{port_fails};
 ghost use Rattle.flow_intake.specs.Calls.{one_more, move_of as moves_of};
 ghost use Rattle.flow_intake.specs.ByLink.{place_of, with_link, place_in, stands_at, is_free_over, answered, arrives};
 ghost use Rattle.flow_intake.specs.ByLink.{drops, next_wish, consumes_next, closes_link};
@@ -84,6 +85,15 @@ impl Intake {
             refusing: None,
             ready: false,
         }
+    }
+
+    /// A port of a block that reserves messages before it claims them: it postpones each offer, and consumes none.
+    pub fn reserving(alloc: Global, capacity: Option<u32>) -> Intake
+        ensures { result ≡ record (fresh_port capacity) { reserves = true } }
+    {
+        let mut port = Intake::new(alloc, capacity);
+        port.reserves = true;
+        port
     }
 
     /// One more link leads into the port: its end has the place that comes next.
@@ -334,6 +344,15 @@ impl Intake {
         ensures { self.new ≡ port_closes self.old }
     {
         self.refusing = Some(Refusal::PortEnded);
+    }
+
+    /// The port takes no message any more, since its block's own fault stands. Where the port has ended, it is so still.
+    pub fn fail_port(&mut self)
+        ensures { self.new ≡ port_fails self.old }
+    {
+        if self.refusing.is_none() {
+            self.refusing = Some(Refusal::OwnFault);
+        }
     }
 }
 
