@@ -2,9 +2,10 @@ pub mod CursorMoves
 pub mod EndsKeepLaw
 pub mod LawKept
 pub mod LookTells
+pub mod MovesAllowed
+pub mod NothingLost
 pub mod OffersInOrder
 pub mod OneEndChanges
 pub mod OutletFits
 pub mod StagesTell
 pub mod TestsTell
-pub mod NothingLost

@@ -1,5 +1,5 @@
 -- Nothing that is put is lost: values are given in order or left, and weights come back or are kept.
-use Rattle.std.proofs.Common.{◌≡◌, ℕ, ◌+◌, List, [], ◌∷◌, ◌++◌, length, refl, sym, ◌∙◌, ap, arith, append_assoc}
+use Rattle.std.proofs.Common.{◌≡◌, ◌+◌, List, [], ◌∷◌, ◌++◌, length, refl, sym, ◌∙◌, ap, arith, append_assoc}
 use Rattle.std.proofs.lemmas.List.{append-nil}
 use Rattle.flow_value.specs.declared.value.Value.{Value}
 use Rattle.flow_outlet.specs.Fits.{weight_of}

@@ -1,6 +1,5 @@
 -- The tests of what the calls by link require tell exactly that.
-use Rattle.std.proofs.Common.{◌≡◌, ℕ, ◌<◌, ◌==◌, ◌↔◌, ◌&&◌, ◌||◌, not, ltb, Bool, true, false, List, length, Option, Some, None, is_some, refl, arith}
-use Rattle.std.specs.Bool.{OnTrue}
+use Rattle.std.proofs.Common.{◌≡◌, ℕ, ◌<◌, ◌↔◌, ◌&&◌, ◌||◌, not, ltb, Bool, true, false, length, Option, Some, None, is_some, refl, arith}
 use Rattle.std.proofs.lemmas.Bool.{OnTrue_at, OnTrue_from}
 use Rattle.std.proofs.lemmas.Bool.Decides.{nat_tests}
 use Rattle.flow_link.specs.declared.stage.SourceStage.{SourceStage}
@@ -8,7 +7,7 @@ use Rattle.flow_link.specs.declared.stage.SourceStage.TheVariants.{Free, Posted,
 use Rattle.flow_link.specs.LinkOk.{HasRoom}
 use Rattle.flow_outlet.specs.Outlet.{OutletState, end_at, stage_at, is_at}
 use Rattle.flow_outlet.specs.ByLink.{IsAsked, MayConsume, MayTake, place_of, is_head, is_taken, is_offered, has_room, tests_asked, tests_take, tests_consume}
-use Rattle.flow_outlet.proofs.StagesTell.{same_number, number_same, never_both}
+use Rattle.flow_outlet.proofs.StagesTell.{same_number, number_same}
 
 pub record All (a b c : Bool) : Type 0 where
   pub first : a ≡ true
@@ -47,7 +46,7 @@ offered_is header Crossing e = cc
 offered_is header Refused e = cc
 offered_is header (Ended _) e = cc
 
-at_is : (offer : Option ℕ) (k : ℕ) → is_at offer k ≡ true → offer ≡ Some k
+pub at_is : (offer : Option ℕ) (k : ℕ) → is_at offer k ≡ true → offer ≡ Some k
 at_is None k e = cc
 at_is (Some j) k e = let same : j ≡ k = same_number j k e in cc
 

@@ -4,5 +4,6 @@ pub mod Fits
 pub mod History
 pub mod Keeps
 pub mod Law
+pub mod Moves
 pub mod Order
 pub mod Outlet

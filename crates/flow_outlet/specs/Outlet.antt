@@ -195,7 +195,7 @@ free_move o k None = cond (is_at (may_offer o) k) (Some (Offer o.next)) None
 abbrev pub move_at : OutletState → ℕ → Option Outcome → Bool → SourceStage → Option Move
 move_at o k stopped held_up Free = free_move o k (end_of (end_at o k) stopped)
 move_at o k stopped held_up (Accepted _) = Some Give
-move_at o k stopped held_up (Claimed _) = cond (is_some o.offer) None (Some Give)
+move_at o k stopped held_up (Claimed i) = cond (is_some o.offer || not (i == o.next)) None (Some Give)
 move_at o k stopped held_up (Wished i) = answers_wish o.next i (is_some o.offer)
 -- nothing is kept for a target yet: what it may have is not answered, and what is gone is denied
 move_at o k stopped held_up (AskedBy i) = cond (is_some o.offer || i == o.next) None (Some Deny)

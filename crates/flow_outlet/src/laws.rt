@@ -1,6 +1,7 @@
 //! Laws about outlets. Each stands on a function that does nothing: whoever calls it has the whole law.
 ghost use Rattle.flow_outlet.specs.History.{NothingIsLost};
 ghost use Rattle.flow_outlet.specs.Keeps.{CallsKeepLaw, GivesInOrder};
+ghost use Rattle.flow_outlet.specs.Moves.{MovesAreAllowed};
 ghost use Rattle.flow_outlet.specs.Order.{OffersInOrder};
 
 /// The head is offered next over the first link, in order, that it does not go past, and nowhere only where none is
@@ -16,6 +17,12 @@ pub fn offers_go_in_order()
 pub fn calls_keep_the_law()
     ensures keeps { CallsKeepLaw }
     ensures in_order { GivesInOrder }
+{}
+
+/// What an end does next by itself, by the outlet's law, is what the call of that move requires.
+#[tactic(auto, using(crate::proofs::MovesAllowed::moves_are_allowed))]
+pub fn next_moves_are_allowed()
+    ensures { MovesAreAllowed }
 {}
 
 /// Over any calls, what was put is what was given, in order, followed by what is left; and each weight comes back once.

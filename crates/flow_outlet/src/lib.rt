@@ -1,4 +1,17 @@
 //! The source's side of links: what a block has to give, and over which link it goes.
+//!
+//! An [`Outlet`] offers the oldest of its messages, the head, over one link after another in their order, and gives it
+//! once. It has two kinds of call. A driver, which has the other ends too, names the place of an end: it asks what the
+//! end does next, prepares an offer, makes the move, and looks at the phase of the link. A caller in the place of the
+//! targets names a link, and tells what its target answered or takes.
+//!
+//! stage of an end     its next move
+//! free                it offers the head in its turn, or ends
+//! offered, crossing   none: it waits for its target
+//! postponed           it withdraws what is not the head any more, or all where the block could stop but for it
+//! accepted            it gives
+//! wished for          it gives the head, or denies what is gone, while no offer is out
+//! refused, ended      none for good
 #![tactic(auto)]
 
 mod ends;
@@ -10,5 +23,5 @@ mod outlet;
 pub use ends::{LinkRule, OutEnd};
 pub use fault::OutletFault;
 pub use group::Group;
-pub use laws::{calls_keep_the_law, nothing_is_lost, offers_go_in_order};
+pub use laws::{calls_keep_the_law, next_moves_are_allowed, nothing_is_lost, offers_go_in_order};
 pub use outlet::Outlet;

@@ -62,12 +62,13 @@ impl Model for Outlet {
       room = o.room;
     } };
 
-    ghost invariant = { λ o. Fits o.ends.items o.left.items o.next o.parcel o.groups.items o.room o.cursor o.away o.waiting };
+    ghost invariant = { λ o. Fits o.ends.items o.left.items o.next o.parcel o.groups.items o.room o.cursor o.away
+        o.waiting };
 }
 
 impl Outlet {
-    /// An outlet with these links, which counts its messages from this id on; where there is no memory for it, the rules
-    /// come back.
+    /// An outlet with these links, which counts its messages from this id on. Where there is no memory for it, the
+    /// rules come back.
     pub fn new(
         alloc: Global,
         rules: Vec<LinkRule>,
@@ -183,8 +184,8 @@ impl Outlet {
         }
     }
 
-    /// What the end at a place does next by itself, if anything: whether its block has stopped, and whether it could stop
-    /// or begin anew but for what waits over its links, the block tells.
+    /// What the end at a place does next by itself, if anything. The block tells whether it has stopped, and whether it
+    /// could stop or begin anew but for what waits over its links.
     pub fn out_move(&self, place: usize, stopped: Option<Outcome>, held_up: bool) -> Option<Move>
         requires { place < length self.now.ends }
         ensures { result ≡ out_move place stopped held_up self.now }
@@ -196,24 +197,20 @@ impl Outlet {
                 None => self.next_move(place),
             },
             SourceStage::Accepted(_) => Some(Move::Give),
-            SourceStage::Claimed(_) if self.offer.is_none() => Some(Move::Give),
             SourceStage::Wished(header) => self.answer_to(header),
-            SourceStage::AskedBy(header) => {
-                if self.offer.is_some() || header.id() == self.next {
-                    None
-                } else {
-                    Some(Move::Deny)
-                }
+            SourceStage::Claimed(header) if self.offer.is_none() && header.id() == self.next => {
+                Some(Move::Give)
             }
-            SourceStage::Waiting(header) => {
-                if held_up || header.id() != self.next {
-                    Some(Move::Withdraw)
-                } else {
-                    None
-                }
+            SourceStage::AskedBy(header) if self.offer.is_none() && header.id() != self.next => {
+                Some(Move::Deny)
+            }
+            SourceStage::Waiting(header) if held_up || header.id() != self.next => {
+                Some(Move::Withdraw)
             }
             SourceStage::Posted(_)
             | SourceStage::Out(_)
+            | SourceStage::Waiting(_)
+            | SourceStage::AskedBy(_)
             | SourceStage::Reserved(_)
             | SourceStage::Claimed(_)
             | SourceStage::Crossing
