@@ -9,3 +9,4 @@ pub mod OneEndChanges
 pub mod OutletFits
 pub mod StagesTell
 pub mod TestsTell
+pub mod WeightsInTime

@@ -1,6 +1,7 @@
 pub mod ByLink
 pub mod End
 pub mod Fits
+pub mod Groups
 pub mod History
 pub mod Keeps
 pub mod Law

@@ -1,4 +1,5 @@
 //! Laws about outlets. Each stands on a function that does nothing: whoever calls it has the whole law.
+ghost use Rattle.flow_outlet.specs.Groups.{WeightsComeInTime};
 ghost use Rattle.flow_outlet.specs.History.{NothingIsLost};
 ghost use Rattle.flow_outlet.specs.Keeps.{CallsKeepLaw, GivesInOrder};
 ghost use Rattle.flow_outlet.specs.Moves.{MovesAreAllowed};
@@ -29,4 +30,10 @@ pub fn next_moves_are_allowed()
 #[tactic(auto, using(crate::proofs::NothingLost::nothing_is_lost))]
 pub fn nothing_is_lost()
     ensures { NothingIsLost }
+{}
+
+/// The weight of a result comes back when the last of its messages is given, and not before.
+#[tactic(auto, using(crate::proofs::WeightsInTime::weights_come_in_time))]
+pub fn weights_come_in_time()
+    ensures { WeightsComeInTime }
 {}
