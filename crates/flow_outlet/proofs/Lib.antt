@@ -10,3 +10,4 @@ pub mod OutletFits
 pub mod StagesTell
 pub mod TestsTell
 pub mod WeightsInTime
+pub mod LinkCallsKeep

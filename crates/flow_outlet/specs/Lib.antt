@@ -4,6 +4,7 @@ pub mod Fits
 pub mod Groups
 pub mod History
 pub mod Keeps
+pub mod KeepsByLink
 pub mod Law
 pub mod Moves
 pub mod Order

@@ -2,6 +2,7 @@
 ghost use Rattle.flow_outlet.specs.Groups.{WeightsComeInTime};
 ghost use Rattle.flow_outlet.specs.History.{NothingIsLost};
 ghost use Rattle.flow_outlet.specs.Keeps.{CallsKeepLaw, GivesInOrder};
+ghost use Rattle.flow_outlet.specs.KeepsByLink.{LinkCallsKeepLaw};
 ghost use Rattle.flow_outlet.specs.Moves.{MovesAreAllowed};
 ghost use Rattle.flow_outlet.specs.Order.{OffersInOrder};
 
@@ -36,4 +37,10 @@ pub fn nothing_is_lost()
 #[tactic(auto, using(crate::proofs::WeightsInTime::weights_come_in_time))]
 pub fn weights_come_in_time()
     ensures { WeightsComeInTime }
+{}
+
+/// An answer that is noted by its link, and that answers are forgotten, keep the law, too.
+#[tactic(auto, using(crate::proofs::LinkCallsKeep::link_calls_keep))]
+pub fn calls_by_link_keep_the_law()
+    ensures { LinkCallsKeepLaw }
 {}

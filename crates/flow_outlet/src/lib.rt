@@ -24,7 +24,7 @@ pub use ends::{LinkRule, OutEnd};
 pub use fault::OutletFault;
 pub use group::Group;
 pub use laws::{
-    calls_keep_the_law, next_moves_are_allowed, nothing_is_lost, offers_go_in_order,
-    weights_come_in_time,
+    calls_by_link_keep_the_law, calls_keep_the_law, next_moves_are_allowed, nothing_is_lost,
+    offers_go_in_order, weights_come_in_time,
 };
 pub use outlet::Outlet;
