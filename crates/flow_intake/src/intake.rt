@@ -2,8 +2,8 @@
 //!
 //! A move that takes memory has two calls. `prepare_answer` takes it, and may be refused; what follows takes none and
 //! does not fail, from the answer until the message is taken.
-ghost use Rattle.std.specs.Prelude.{◌≡◌, ◌<◌, ◌≤◌, ◌+◌, ◌-◌, true, false, ◌++◌, ◌∷◌, [], ◌^◌, length, OnOk, OnErr, IfOk};
-ghost use Rattle.std.specs.Prelude.{Some, is_some, cond};
+ghost use Rattle.std.specs.Prelude.{◌≡◌, ◌<◌, ◌≤◌, ◌+◌, ◌-◌, true, false, ◌++◌, ◌∷◌, [], ◌^◌, length, OnOk, OnErr};
+ghost use Rattle.std.specs.Prelude.{IfOk, Some, is_some, cond};
 ghost use Rattle.flow_intake.specs.Port.{PortState, fresh_end, fresh_port, stage_at, hand_in, is_offer};
 ghost use Rattle.flow_intake.specs.Port.{is_owed, is_hand, is_wanted, coming, has_room, count_at, is_coming};
 ghost use Rattle.flow_intake.specs.Calls.{first_of, answer_to, next_place, in_move, is_offered, is_posted};
@@ -346,7 +346,7 @@ impl Intake {
         self.refusing = Some(Refusal::PortEnded);
     }
 
-    /// The port takes no message any more, since its block's own fault stands. Where the port has ended, it is so still.
+    /// The port takes no message any more, since its block's own fault stands. A port that has ended stays so.
     pub fn fail_port(&mut self)
         ensures { self.new ≡ port_fails self.old }
     {

@@ -8,8 +8,8 @@
 //!
 //! Contracts see a port as plain data (`specs/Port.antt`), and each call as a function on them (`specs/Calls.antt`).
 //! A driver that knows the places of its links uses the calls by place: it looks, asks what its end would do, and does
-//! it. Whoever plays the far ends itself uses the calls by link (`specs/ByLink.antt`). When a port is in order, and that
-//! each call keeps it so, is in `specs/PortLaw.antt` and `specs/PortKeeps.antt`.
+//! it. Whoever plays the far ends itself uses the calls by link (`specs/ByLink.antt`). When a port is in order, and
+//! that each call keeps it so, is in `specs/PortLaw.antt` and `specs/PortKeeps.antt`.
 #![tactic(auto)]
 
 mod end;
