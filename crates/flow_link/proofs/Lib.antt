@@ -14,10 +14,13 @@ pub mod LawfulByTests
 pub mod LinksAtRest
 pub mod LinksByParts
 pub mod LinksLaidOut
+pub mod LinksLead
 pub mod LinksTell
 pub mod ListTests
 pub mod LongWalks
 pub mod LooksKeepOrder
+pub mod OneMoreMark
+pub mod OneMoreWorked
 pub mod PlansAreBuilt
 pub mod PlansAreWellFormed
 pub mod QuietByParts

@@ -5,12 +5,14 @@ pub mod Copies
 pub mod Drafts
 pub mod Endings
 pub mod Examples
+pub mod Facts
 pub mod Fault
 pub mod JournalGrows
 pub mod Law
 pub mod Lawful
 pub mod LawfulExamples
 pub mod Layout
+pub mod LeadsWell
 pub mod LinkOk
 pub mod LinkProof
 pub mod Lists
@@ -44,4 +46,5 @@ pub mod UnfinishedExamples
 pub mod Views
 pub mod WaitsAtRest
 pub mod WellFormed
+pub mod Worked
 pub mod WrongParts

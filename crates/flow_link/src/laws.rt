@@ -4,6 +4,7 @@ ghost use Rattle.flow_value.specs.declared.value.Value.{Value};
 ghost use Rattle.flow_link.specs.Composes.{Composes};
 ghost use Rattle.flow_link.specs.JournalGrows.{JournalsGrow};
 ghost use Rattle.flow_link.specs.LawfulExamples.{GoodRunsAreLawful};
+ghost use Rattle.flow_link.specs.LeadsWell.{LinksLead};
 ghost use Rattle.flow_link.specs.LooksKeep.{LooksKeep};
 ghost use Rattle.flow_link.specs.MidMove.{KeptInMidMove};
 ghost use Rattle.flow_link.specs.MovesKeep.{SourceMovesKeep, TargetMovesKeep};
@@ -44,6 +45,12 @@ pub fn stages_are_kept()
 /// is so.
 pub fn links_in_order_tell()
     ensures { LinksTell Value }
+{}
+
+/// The links of a plan lead from blocks and inputs that are there to blocks that are there. No two lead from one input,
+/// and those of inputs pass their ends on and have no limit.
+pub fn links_lead_well<W>()
+    ensures { LinksLead W }
 {}
 
 /// A link stays in order when both its ends begin to count later.

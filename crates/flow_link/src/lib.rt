@@ -26,9 +26,9 @@ pub use check::{PlanRefusal, plan_check};
 pub use draft::{BlockDef, BlockKind, Draft, LinkDef};
 pub use laws::{
     counts_begin_anywhere, faults_come_in_order, good_runs_are_lawful, journals_grow,
-    lawful_by_parts, laws_hold_in_mid_move, links_in_order_tell, looks_keep_links_in_order,
-    moves_keep_links_in_order, parts_rest_while_messages_wait, quiet_by_parts, stages_are_kept,
-    words_differ, wrong_runs_are_refused,
+    lawful_by_parts, laws_hold_in_mid_move, links_in_order_tell, links_lead_well,
+    looks_keep_links_in_order, moves_keep_links_in_order, parts_rest_while_messages_wait,
+    quiet_by_parts, stages_are_kept, words_differ, wrong_runs_are_refused,
 };
 pub use phase::{LinkEnd, Move, Phase, phase_of, step_of, word_of};
 pub use plan::{Link, LinkId, LinkSource, LinkTarget, Place, Plan, PlanFault};

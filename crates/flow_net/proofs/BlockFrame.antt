@@ -6,11 +6,12 @@ use Rattle.flow_link.specs.declared.phase.LinkEnd.TheVariants.{Complete as end_c
 use Rattle.flow_link.specs.declared.plan.LinkSource.TheVariants.{Input}
 use Rattle.flow_link.specs.declared.trace.Ending.TheVariants.{Complete as ending_complete, Fault as ending_fault}
 use Rattle.flow_link.specs.Layout.{Layout}
+use Rattle.flow_link.specs.LeadsWell.{LeadsWell}
 use Rattle.flow_link.specs.Plan.{link_in}
 use Rattle.flow_link.specs.Views.{SourceStage, TargetStage}
 use Rattle.flow_net.specs.BlockKeeps.{block_makes, KnowsLinks, BlockKeeps, FeedKeeps, AllKeep}
 use Rattle.flow_net.specs.Events.{kind_in, stage_into, stage_out, with_node, with_feed, with_line}
-use Rattle.flow_net.specs.Keeps.{Keeps, LeadsWell}
+use Rattle.flow_net.specs.Keeps.{Keeps}
 use Rattle.flow_net.specs.Parts.{NodeState, FeedState, LineState, PartsState, fresh_node, fresh_line, node_at, feed_at, line_at}
 use Rattle.flow_net.proofs.BlockParts.{OwnKeeps, IntoKeeps, OutKeeps, EndsAsBefore, as_before, into_as_before, out_as_before, is_end}
 

@@ -16,7 +16,9 @@ use Rattle.flow_link.specs.declared.trace.Ending.{Ending}
 use Rattle.flow_link.specs.declared.trace.Ending.TheVariants.{Open as ending_open, Complete as ending_complete, Fault as ending_fault}
 use Rattle.flow_link.specs.Built.{IsBuilt, is_first_port}
 use Rattle.flow_link.specs.Composes.{is_coming}
+use Rattle.flow_link.specs.Facts.{facts_in}
 use Rattle.flow_link.specs.Layout.{Layout}
+use Rattle.flow_link.specs.LeadsWell.{LeadsWell}
 use Rattle.flow_link.specs.Lists.{is_empty}
 use Rattle.flow_link.specs.Looks.{source_finds, target_finds}
 use Rattle.flow_link.specs.LooksKeep.{SeenAt, HasSeenWanted, Wants}
@@ -26,7 +28,7 @@ use Rattle.flow_link.specs.Views.{SourceStage, TargetStage, Refusal}
 use Rattle.flow_link.proofs.LooksKeepOrder.{looks_keep}
 use Rattle.flow_net.specs.BlockKeeps.{block_makes, AllKeep, Refuses}
 use Rattle.flow_net.specs.Events.{is_open, has_stopped, refusal_by, end_as, move_of_node, end_of_feed, move_of_feed, move_of_source, answer_by, is_hand, is_at_home, brings_completion, fault_brought, offered, wanted, refused, given, opened, closed, closed_by, ended, expecting, takes, offers, gives, sets_out, sends, kind_in, with_line, with_offer, with_wish, with_source, with_target, head_of, offer_of, expects_at, refusal_at, move_at, after_want, after_refusal, after_give, after_opening, after_move, after}
-use Rattle.flow_net.specs.Keeps.{Keeps, LeadsWell, facts_in}
+use Rattle.flow_net.specs.Keeps.{Keeps}
 use Rattle.flow_net.specs.Parts.{FeedState, LineState, PartsState, node_at, feed_at, line_at}
 use Rattle.flow_net.specs.Seen.{source_view, target_view}
 use Rattle.flow_net.specs.There.{MayHappen}

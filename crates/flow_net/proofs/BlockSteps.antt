@@ -9,15 +9,18 @@ use Rattle.flow_link.specs.Built.{IsBuilt}
 use Rattle.flow_link.specs.Composes.{is_coming}
 use Rattle.flow_link.specs.JournalGrows.{taken_by_mark, given_by_mark}
 use Rattle.flow_link.specs.Layout.{Layout}
-use Rattle.flow_link.specs.Lists.{concat, is_empty}
-use Rattle.flow_link.specs.Making.{with_result, results_of}
+use Rattle.flow_link.specs.LeadsWell.{LeadsWell}
+use Rattle.flow_link.specs.Lists.{is_empty}
 use Rattle.flow_link.specs.Plan.{has_work}
 use Rattle.flow_link.specs.Trace.{took, gave, is_done_mark, is_fault_mark, is_complete_mark, has_complete}
 use Rattle.flow_link.specs.Views.{SourceStage, TargetStage, Refusal}
+use Rattle.flow_link.specs.Worked.{WorkedInto}
 use Rattle.flow_link.proofs.ListTests.{both_of}
-use Rattle.flow_net.specs.BlockKeeps.{AllKeep, HasFaulted, MakesAs, Refuses, WorkedInto, block_makes, is_own, is_first_port}
+use Rattle.flow_link.proofs.OneMoreMark.{every_more, some_before, some_of_more, took_no_more, gave_no_more}
+use Rattle.flow_link.proofs.OneMoreWorked.{worked_more}
+use Rattle.flow_net.specs.BlockKeeps.{AllKeep, HasFaulted, MakesAs, Refuses, block_makes, is_own, is_first_port}
 use Rattle.flow_net.specs.Events.{first_of, rest_of, is_open, has_stopped, is_completing, is_at_home, stage_into, stage_out, brings_completion, fault_brought, works, yields, hands_on, makes_as, made_by, completes, faults, finishes, kind_in, may_make, may_complete, is_still, fault_cause, next_fault, may_finish, after, after_fault}
-use Rattle.flow_net.specs.Keeps.{Keeps, LeadsWell}
+use Rattle.flow_net.specs.Keeps.{Keeps}
 use Rattle.flow_net.specs.Parts.{NodeState, PartsState, node_at}
 use Rattle.flow_net.specs.States.{state_by}
 use Rattle.flow_net.specs.There.{MayHappen}
@@ -27,43 +30,7 @@ use Rattle.flow_net.specs.declared.posted.State.{State}
 use Rattle.flow_net.specs.declared.posted.State.TheVariants as state
 use Rattle.flow_net.proofs.NodeWell.{IsWell, well_of, one_changes}
 use Rattle.flow_net.proofs.StateLemmas.{state_completed, state_faulted, state_finished}
-use Rattle.flow_net.proofs.StepMarks.{GoesWith, every_more, some_before, some_of_more, took_no_more, gave_no_more, stops_more, once_more, first_port_goes, not_ended, open_tells, completing_tells}
-
--- results of one more message
-one_result : (result : Value → Result (List Value) ℕ) (value : Value) (made : List Value) → result value ≡ Ok made → results_of result (value ∷ []) ≡ Some (made ∷ [])
-one_result result value made e = ap (λ (r : Result (List Value) ℕ). with_result r (Some [])) e
-
-with_more : (r : Result (List Value) ℕ) (before : Option (List (List Value))) (all : List (List Value)) (more : List (List Value)) (after : Option (List (List Value)))
-    → with_result r before ≡ Some all → ((firsts : List (List Value)) → before ≡ Some firsts → after ≡ Some (firsts ++ more)) → with_result r after ≡ Some (all ++ more)
-with_more (Ok values) (Some firsts) all more after e rest =
-    let same : values ∷ firsts ≡ all = cc in
-    ap (with_result (Ok values)) (rest firsts refl) ∙ ap (λ (a : List (List Value)). Some (a ++ more)) same
-with_more (Ok values) None all more after e rest = absurd (cc)
-with_more (Err n) before all more after e rest = absurd (cc)
-
-results_more : (result : Value → Result (List Value) ℕ) (done : List Value) (results : List (List Value)) (value : Value) (made : List Value)
-    → results_of result done ≡ Some results → result value ≡ Ok made → results_of result (done ++ value ∷ []) ≡ Some (results ++ made ∷ [])
-results_more result [] results value made e is =
-    let none : [] ≡ results = cc in
-    one_result result value made is ∙ ap (λ (rs : List (List Value)). Some (rs ++ made ∷ [])) none
-results_more result (first ∷ done) results value made e is =
-    with_more (result first) (results_of result done) results (made ∷ []) (results_of result (done ++ value ∷ [])) e
-    (λ firsts so. results_more result done firsts value made so is)
-
-concat_more : (results : List (List Value)) (made : List Value) → concat (results ++ made ∷ []) ≡ concat results ++ made
-concat_more [] made = append-nil made
-concat_more (first ∷ results) made = ap (λ (vs : List Value). first ++ vs) (concat_more results made) ∙ sym (append_assoc first (concat results) made)
-
--- one more message is worked on
-worked_more : (result : Value → Result (List Value) ℕ) (taken : List Value) (value : Value) (rest before made : List Value)
-    → result value ≡ Ok made → WorkedInto result taken (value ∷ rest) before → WorkedInto result taken rest (before ++ made)
-worked_more result taken value rest before made is so_far = record {
-  done = so_far.done ++ value ∷ [];
-  results = so_far.results ++ made ∷ [];
-  taken_is = so_far.taken_is ∙ sym (append_assoc so_far.done (value ∷ []) rest);
-  worked = results_more result so_far.done so_far.results value made so_far.worked is;
-  all = ap (λ (vs : List Value). vs ++ made) so_far.all ∙ sym (concat_more so_far.results made);
-}
+use Rattle.flow_net.proofs.StepMarks.{GoesWith, stops_more, once_more, first_port_goes, not_ended, open_tells, completing_tells}
 
 -- the end that the link brought is seen when nothing is on its way
 completed_brings_none : (stage : TargetStage Value) → brings_completion stage ≡ true → is_coming stage ≡ false

@@ -19,15 +19,16 @@ use Rattle.flow_link.specs.declared.plan.LinkTarget.TheVariants.{Port, Exit}
 use Rattle.flow_link.specs.declared.trace.Ending.{Ending}
 use Rattle.flow_link.specs.declared.trace.Ending.TheVariants.{Open as ending_open, Complete as ending_complete, Fault as ending_fault}
 use Rattle.flow_link.specs.Built.{IsBuilt}
+use Rattle.flow_link.specs.Facts.{reserves_in, facts_in}
 use Rattle.flow_link.specs.LinkOk.{HasRoom, MayEnd}
 use Rattle.flow_link.specs.Layout.{Layout}
+use Rattle.flow_link.specs.LeadsWell.{LeadsWell}
 use Rattle.flow_link.specs.Lists.{every, is_empty}
 use Rattle.flow_link.specs.NotBuilt.{is_built_kind, is_built_block}
 use Rattle.flow_link.specs.Plan.{link_in, block_in, reserves_by_kind, is_reserving}
 use Rattle.flow_link.specs.Views.{LinkFacts}
 use Rattle.flow_link.proofs.ListTests.{both_of}
 use Rattle.flow_net.specs.Events.{first_of, value_at, head_of, end_as, move_of_node, move_of_feed, end_of_feed, move_of_source}
-use Rattle.flow_net.specs.Keeps.{LeadsWell, reserves_in, facts_in}
 use Rattle.flow_net.specs.Parts.{NodeState, FeedState, PartsState, node_at, feed_at}
 use Rattle.flow_net.specs.declared.posted.State.{State}
 use Rattle.flow_net.specs.declared.posted.State.TheVariants as state

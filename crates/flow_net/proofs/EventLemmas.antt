@@ -15,14 +15,16 @@ use Rattle.flow_link.specs.declared.plan.LinkTarget.TheVariants.{Port, Exit}
 use Rattle.flow_link.specs.declared.trace.Mark.TheVariants.{Complete as mark_complete, Fault as mark_fault, Done as mark_done}
 use Rattle.flow_link.specs.Built.{IsBuilt, is_first_port}
 use Rattle.flow_link.specs.Composes.{is_coming}
+use Rattle.flow_link.specs.Facts.{facts_in}
 use Rattle.flow_link.specs.Layout.{Layout}
+use Rattle.flow_link.specs.LeadsWell.{LeadsWell}
 use Rattle.flow_link.specs.Looks.{target_finds}
 use Rattle.flow_link.specs.Making.{result_of}
 use Rattle.flow_link.specs.Plan.{link_in}
 use Rattle.flow_link.specs.Trace.{gave_over, took_over}
 use Rattle.flow_link.specs.Views.{TargetStage, Refusal}
 use Rattle.flow_net.specs.Events.{offered, wanted, refused, given, opened, closed, ended, with_node, with_line, with_offer, with_wish, with_source, first_of, rest_of, works, yields, makes_as, kind_in, completes, faults, finishes, answer_by, is_hand, end_as, head_of, offer_of, expects_at, refusal_at, move_at, after_want, after_refusal, after_give, after_opening, after_closing, after_move, after_fault, made_by, after, next_move, next_fault}
-use Rattle.flow_net.specs.Keeps.{Keeps, LeadsWell, facts_in, awaits_head}
+use Rattle.flow_net.specs.Keeps.{Keeps, awaits_head}
 use Rattle.flow_net.specs.Parts.{NodeState, LineState, PartsState, node_at, line_at}
 use Rattle.flow_net.specs.Seen.{given_from, taken_into}
 use Rattle.flow_net.specs.Statements.{EventsKeep}

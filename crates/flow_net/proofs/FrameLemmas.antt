@@ -9,6 +9,7 @@ use Rattle.flow_link.specs.declared.plan.LinkTarget.TheVariants.{Port, Exit}
 use Rattle.flow_link.specs.declared.trace.Mark.{Mark}
 use Rattle.flow_link.specs.declared.trace.Mark.TheVariants.{Took, Gave}
 use Rattle.flow_link.specs.Composes.{is_coming}
+use Rattle.flow_link.specs.Facts.{facts_in}
 use Rattle.flow_link.specs.JournalGrows.{taken_by_mark, given_by_mark}
 use Rattle.flow_link.specs.Layout.{Layout}
 use Rattle.flow_link.specs.Lists.{every}
@@ -16,7 +17,7 @@ use Rattle.flow_link.specs.Plan.{link_in}
 use Rattle.flow_link.specs.Trace.{gave_over, took_over}
 use Rattle.flow_link.proofs.JournalsGrow.{gave_more, took_more}
 use Rattle.flow_net.specs.Events.{value_at, first_of, head_of, offer_of, expects_at}
-use Rattle.flow_net.specs.Keeps.{Keeps, LineKeeps, GivesAdmitted, facts_in, awaits_head}
+use Rattle.flow_net.specs.Keeps.{Keeps, LineKeeps, GivesAdmitted, awaits_head}
 use Rattle.flow_net.specs.Parts.{NodeState, FeedState, LineState, PartsState, node_at, feed_at, line_at}
 use Rattle.flow_net.specs.Seen.{given_from, taken_into, sent_by}
 use Rattle.flow_net.proofs.LineMoves.{IsKept}

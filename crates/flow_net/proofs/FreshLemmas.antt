@@ -13,14 +13,16 @@ use Rattle.flow_link.specs.declared.plan.LinkTarget.TheVariants.{Port, Exit}
 use Rattle.flow_link.specs.declared.trace.Mark.{Mark}
 use Rattle.flow_link.specs.Built.{IsBuilt}
 use Rattle.flow_link.specs.Composes.{is_coming}
+use Rattle.flow_link.specs.Facts.{facts_in}
 use Rattle.flow_link.specs.Layout.{Layout}
+use Rattle.flow_link.specs.LeadsWell.{LeadsWell}
 use Rattle.flow_link.specs.Lists.{every, numbers_from, below}
 use Rattle.flow_link.specs.Plan.{begins_at, ends_at, no_link, link_in}
 use Rattle.flow_link.specs.Trace.{gave_over, took_over}
 use Rattle.flow_link.specs.Views.{LinkFacts}
 use Rattle.flow_link.proofs.LooksKeepOrder.{looks_keep}
 use Rattle.flow_net.specs.Fresh.{IsFresh}
-use Rattle.flow_net.specs.Keeps.{Keeps, LineKeeps, LeadsWell, facts_in, awaits_head}
+use Rattle.flow_net.specs.Keeps.{Keeps, LineKeeps, awaits_head}
 use Rattle.flow_net.specs.Made.{node_in}
 use Rattle.flow_net.specs.Parts.{NodeState, FeedState, LineState, PartsState, fresh_node, fresh_line, node_at, feed_at, line_at}
 use Rattle.flow_net.specs.Seen.{given_from, taken_into, sent_by}

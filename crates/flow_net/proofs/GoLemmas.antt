@@ -12,10 +12,11 @@ use Rattle.flow_link.specs.declared.plan.LinkTarget.{LinkTarget}
 use Rattle.flow_link.specs.declared.plan.LinkTarget.TheVariants.{Port, Exit}
 use Rattle.flow_link.specs.Built.{IsBuilt}
 use Rattle.flow_link.specs.Layout.{Layout}
+use Rattle.flow_link.specs.LeadsWell.{LeadsWell}
 use Rattle.flow_link.specs.Plan.{link_in}
 use Rattle.flow_link.specs.Views.{TargetStage, Refusal}
 use Rattle.flow_net.specs.Events.{with_node, with_feed, with_line, with_offer, with_wish, with_source, with_target, closed_by, offers, expecting, gives, sets_out, sends, takes_in_hand, offered, wanted, refused, taken_out, ended, completes, faults, finishes, made_by, given, head_of, offer_of, refusal_at, after_want, after_refusal, after_give, after_opening, after_move, after_fault, next_fault, after}
-use Rattle.flow_net.specs.Keeps.{Keeps, LeadsWell}
+use Rattle.flow_net.specs.Keeps.{Keeps}
 use Rattle.flow_net.specs.Parts.{NodeState, FeedState, LineState, PartsState, node_at, line_at}
 use Rattle.flow_net.specs.Steps.{Happened}
 use Rattle.flow_net.specs.There.{Fits, MayHappen}

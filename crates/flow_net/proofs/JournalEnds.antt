@@ -1,41 +1,20 @@
--- What one more Took or Gave mark leaves of a journal as it was, and what the state of a block says of its journal.
+-- What the state of a block says of its journal; and after a Took or Gave mark a port has still completed once at most.
 use Rattle.std.proofs.Common.{◌≡◌, ℕ, ◌==◌, ◌&&◌, ◌||◌, not, Bool, true, false, List, [], ◌∷◌, ◌++◌, Option, Some, None, refl, ap, sym, ◌∙◌, append-nil}
 use Rattle.flow_value.specs.declared.value.Value.{Value}
 use Rattle.flow_link.specs.declared.trace.Mark.{Mark}
 use Rattle.flow_link.specs.declared.trace.Mark.TheVariants.{Took, Gave, Complete, Fault, Done}
 use Rattle.flow_link.specs.Endings.{completes_once}
-use Rattle.flow_link.specs.Lists.{every, some, is_empty}
-use Rattle.flow_link.specs.Trace.{took, gave, took_at, has_complete, has_fault, is_done, is_complete_mark}
-use Rattle.flow_link.proofs.JournalsGrow.{gave_more, took_more}
+use Rattle.flow_link.specs.Lists.{every, is_empty}
+use Rattle.flow_link.specs.Trace.{took_at, has_complete, has_fault, is_done, is_complete_mark}
+use Rattle.flow_link.proofs.JournalsGrow.{took_more}
 use Rattle.flow_link.proofs.ListTests.{both_of}
+use Rattle.flow_link.proofs.OneMoreMark.{some_no_more}
 use Rattle.flow_net.specs.BlockKeeps.{is_own}
 use Rattle.flow_net.specs.Events.{is_open, has_stopped}
 use Rattle.flow_net.specs.States.{fault_in, state_from, state_by}
 use Rattle.flow_net.specs.declared.posted.State.{State}
 use Rattle.flow_net.specs.declared.posted.State.TheVariants as state
 use Rattle.flow_net.proofs.MarksTell.{fault_there, fault_of_state}
-
--- a mark that does not pass a test
-none_or : (b : Bool) → b ≡ false → b || false ≡ false
-none_or true e = e
-none_or false e = refl
-
-pub some_no_more : (test : Mark → Bool) (marks : List Mark) (mark : Mark) → test mark ≡ false → some test (marks ++ mark ∷ []) ≡ some test marks
-some_no_more test [] mark none = none_or (test mark) none
-some_no_more test (first ∷ marks) mark none = ap (λ (b : Bool). test first || b) (some_no_more test marks mark none)
-
--- what was taken and given
-pub took_by_took : (marks : List Mark) (p l : ℕ) (v : Value) → took (marks ++ Took p l v ∷ []) ≡ took marks ++ v ∷ []
-took_by_took marks p l v = took_more (λ port link. true) marks (Took p l v)
-
-pub gave_by_took : (marks : List Mark) (p l : ℕ) (v : Value) → gave (marks ++ Took p l v ∷ []) ≡ gave marks
-gave_by_took marks p l v = gave_more (λ link. true) marks (Took p l v) ∙ append-nil (gave marks)
-
-pub took_by_gave : (marks : List Mark) (l : ℕ) (v : Value) → took (marks ++ Gave l v ∷ []) ≡ took marks
-took_by_gave marks l v = took_more (λ port link. true) marks (Gave l v) ∙ append-nil (took marks)
-
-pub gave_by_gave : (marks : List Mark) (l : ℕ) (v : Value) → gave (marks ++ Gave l v ∷ []) ≡ gave marks ++ v ∷ []
-gave_by_gave marks l v = gave_more (λ link. true) marks (Gave l v)
 
 -- what the state of a block says of its journal
 pub open_is_going : (st : State) → is_open st ≡ true → has_stopped st ≡ false

@@ -7,13 +7,15 @@ use Rattle.flow_value.specs.declared.value.Value.{Value}
 use Rattle.flow_value.specs.declared.work.WorkFault.{WorkFault}
 use Rattle.flow_link.specs.Layout.{Layout}
 use Rattle.flow_link.specs.Lawful.{Lawful}
+use Rattle.flow_link.specs.LeadsWell.{LeadsWell}
 use Rattle.flow_link.specs.Planned.{layout_of}
 use Rattle.flow_link.specs.Quiet.{Quiet}
 use Rattle.flow_link.specs.Trace.{Run}
 use Rattle.flow_link.specs.declared.plan.Plan.{Plan}
+use Rattle.flow_link.proofs.LinksLead.{links_lead}
 use Rattle.flow_net.specs.AtRest.{AtRest}
 use Rattle.flow_net.specs.BlockKeeps.{AllKeep}
-use Rattle.flow_net.specs.Keeps.{Keeps, LeadsWell}
+use Rattle.flow_net.specs.Keeps.{Keeps}
 use Rattle.flow_net.specs.Parts.{PartsState}
 use Rattle.flow_net.specs.Seen.{run_with, works_of}
 use Rattle.flow_net.specs.Settles.{Settles}
@@ -22,12 +24,11 @@ use Rattle.flow_net.specs.declared.fault.NetFault.{NetFault}
 use Rattle.flow_net.specs.declared.posted.Settled.{Settled}
 use Rattle.flow_net.specs.declared.posted.Settled.TheVariants as settled_as
 use Rattle.flow_net.proofs.GoLemmas.{keeps_on}
-use Rattle.flow_net.proofs.LeadLemmas.{plans_lead_well}
 use Rattle.flow_net.proofs.RestLemmas.{quiet_at_rest}
 use Rattle.flow_net.proofs.WholeLemmas.{IsKept, whole_on, kept_is_lawful, kept_is_quiet}
 
 pub plan_leads : {W : Type 0} (plan : Plan W) → LeadsWell (layout_of plan)
-plan_leads plan = plans_lead_well _ (layout_of plan) plan.laid_out
+plan_leads plan = links_lead _ (layout_of plan) plan.laid_out
 
 pub kept_on : {W : Type 0} (old new : Plan W) (meaning : ℕ → Value → Result (List Value) ℕ) (count : ℕ) (before now : PartsState)
     → new ≡ old → Happened (layout_of old) meaning count before now → ∥ Keeps (layout_of old) before ∥₁ → ∥ Keeps (layout_of new) now ∥₁

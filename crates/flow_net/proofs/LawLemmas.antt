@@ -10,6 +10,7 @@ use Rattle.flow_link.specs.declared.plan.LinkSource.TheVariants.{Block, Input}
 use Rattle.flow_link.specs.declared.plan.LinkTarget.{LinkTarget}
 use Rattle.flow_link.specs.declared.plan.LinkTarget.TheVariants.{Port, Exit}
 use Rattle.flow_link.specs.declared.trace.Mark.{Mark}
+use Rattle.flow_link.specs.Facts.{facts_in}
 use Rattle.flow_link.specs.Law.{LinkLaw, is_all_or_all_but_one, is_within, crosses, crosses_between, gives_admitted, gives_within, posted_before, takes_posted}
 use Rattle.flow_link.specs.Layout.{Layout}
 use Rattle.flow_link.specs.LinkOk.{IsWithin}
@@ -20,7 +21,7 @@ use Rattle.flow_link.specs.Trace.{InputTrace, Run, nothing_left, nothing_posted,
 use Rattle.flow_link.proofs.ListTests.{and_true, every_below, same_value_refl}
 use Rattle.flow_link.proofs.LinksByParts.{all_or_all_but_one, taken_is_front, within_test}
 use Rattle.flow_link.proofs.LinksTell.{links_tell}
-use Rattle.flow_net.specs.Keeps.{Keeps, facts_in}
+use Rattle.flow_net.specs.Keeps.{Keeps}
 use Rattle.flow_net.specs.Parts.{NodeState, FeedState, PartsState, fresh_node, node_at, feed_at, line_at}
 use Rattle.flow_net.specs.Seen.{block_trace, input_trace, input_traces, run_with, sent_by, given_from, taken_into, source_view, target_view}
 use Rattle.flow_net.specs.Statements.{KeptIsLawful}

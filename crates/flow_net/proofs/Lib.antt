@@ -13,7 +13,6 @@ pub mod InputLemmas
 pub mod JournalEnds
 pub mod KeptLemmas
 pub mod LawLemmas
-pub mod LeadLemmas
 pub mod LineMoves
 pub mod MakeLemmas
 pub mod MarksTell

@@ -1,33 +1,21 @@
 -- What a journal tells of its block: how the block has ended, which links its marks are of, and that they have their causes.
-use Rattle.std.proofs.Common.{◌≡◌, ℕ, ◌==◌, Bool, true, false, not, ◌||◌, is_some, List, [], ◌∷◌, Option, Some, None, refl, ap, sym, ◌∙◌, eq-eqb, eqb-true}
+use Rattle.std.proofs.Common.{◌≡◌, ℕ, ◌==◌, Bool, true, false, ◌||◌, is_some, List, [], ◌∷◌, Option, Some, None, refl, ap, sym, ◌∙◌, eq-eqb, eqb-true}
 use Rattle.flow_value.specs.declared.value.Value.{Value}
 use Rattle.flow_link.specs.declared.trace.Mark.{Mark}
 use Rattle.flow_link.specs.declared.trace.Mark.TheVariants.{Took, Gave, Complete, Fault, Done}
 use Rattle.flow_link.specs.Endings.{stops}
 use Rattle.flow_link.specs.Lists.{every, is_empty}
 use Rattle.flow_link.specs.Trace.{has_complete, has_fault, is_faulted, is_done, has_ended}
-use Rattle.flow_link.proofs.ListTests.{and_true, both_of}
+use Rattle.flow_link.proofs.ListTests.{and_true, both_of, or_first, or_second}
 use Rattle.flow_net.specs.BlockKeeps.{is_link, is_own}
 use Rattle.flow_net.specs.Events.{is_open, has_stopped, is_completing}
 use Rattle.flow_net.specs.States.{fault_in, state_from, state_by}
 use Rattle.flow_net.specs.declared.posted.State.TheVariants as state
 
 -- tests
-pub or_first : (a b : Bool) → a ≡ true → a || b ≡ true
-or_first true b e = refl
-or_first false b e = absurd (cc)
-
-pub or_second : (a b : Bool) → b ≡ true → a || b ≡ true
-or_second true b e = refl
-or_second false b e = e
-
 pub or_either : (a b c : Bool) → b || c ≡ true → a || b || c ≡ true
 or_either true b c e = refl
 or_either false b c e = e
-
-pub or_not : (a b : Bool) → (a ≡ true → b ≡ true) → (not a || b) ≡ true
-or_not true b h = h refl
-or_not false b h = refl
 
 pub false_where : (b : Bool) → (b ≡ true → ⊥) → b ≡ false
 false_where true h = absurd (h refl)

@@ -12,12 +12,14 @@ use Rattle.flow_link.specs.declared.plan.LinkTarget.TheVariants.{Port}
 use Rattle.flow_link.specs.declared.trace.Mark.TheVariants.{Took, Gave}
 use Rattle.flow_link.specs.Built.{IsBuilt}
 use Rattle.flow_link.specs.Composes.{is_coming}
+use Rattle.flow_link.specs.Facts.{facts_in}
 use Rattle.flow_link.specs.Layout.{Layout}
+use Rattle.flow_link.specs.LeadsWell.{LeadsWell}
 use Rattle.flow_link.specs.Lists.{every}
 use Rattle.flow_link.specs.Plan.{link_in, ends_at}
 use Rattle.flow_link.specs.Trace.{gave_over, took_over}
 use Rattle.flow_net.specs.Events.{offers, expecting, gives, takes, sets_out, sends, with_node, with_feed, with_line, value_at, head_of, expects_at}
-use Rattle.flow_net.specs.Keeps.{Keeps, LeadsWell, facts_in, awaits_head}
+use Rattle.flow_net.specs.Keeps.{Keeps, awaits_head}
 use Rattle.flow_net.specs.Parts.{NodeState, FeedState, LineState, PartsState, fresh_node, fresh_line, node_at, feed_at, line_at}
 use Rattle.flow_net.specs.Seen.{given_from, taken_into, sent_by}
 use Rattle.flow_net.proofs.FrameLemmas.{value_within, field_set, element_set, gave_nothing, took_nothing, gave_one, gave_other, took_one, took_other, take_one_more, NodeIsPrepared, FeedIsPrepared, SourceIsPrepared, IsLeftAlone, IsWell, IsShapedAs, as_kept, as_prepared, from_kept, keeps_on, given_where, taken_where, prepared_where, room_where}

@@ -6,15 +6,16 @@ use Rattle.flow_link.specs.declared.draft.BlockKind.{BlockKind}
 use Rattle.flow_link.specs.declared.draft.BlockKind.TheVariants.{Buffer, Action, Transform}
 use Rattle.flow_link.specs.declared.trace.Mark.TheVariants.{Took, Gave}
 use Rattle.flow_link.specs.Trace.{took, gave, is_complete_mark, is_fault_mark, is_done_mark}
+use Rattle.flow_link.proofs.OneMoreMark.{some_no_more, took_by_took, gave_by_took, took_by_gave, gave_by_gave, every_more}
 use Rattle.flow_net.specs.BlockKeeps.{is_link, is_own, is_first_port, MakesAs, HasFaulted}
 use Rattle.flow_net.specs.Events.{first_of, rest_of, is_open, has_stopped, expecting, takes, offers, gives}
 use Rattle.flow_net.specs.Parts.{NodeState}
 use Rattle.flow_net.specs.declared.posted.State.{State}
 use Rattle.flow_net.specs.declared.posted.State.TheVariants as state
 use Rattle.flow_net.proofs.BlockParts.{OwnKeeps, EndsAsBefore}
-use Rattle.flow_net.proofs.JournalEnds.{some_no_more, took_by_took, gave_by_took, took_by_gave, gave_by_gave, open_is_going, once_gave, once_took}
+use Rattle.flow_net.proofs.JournalEnds.{open_is_going, once_gave, once_took}
 use Rattle.flow_net.proofs.StateLemmas.{state_took, state_gave}
-use Rattle.flow_net.proofs.StepMarks.{every_more, stops_more, not_ended, open_tells}
+use Rattle.flow_net.proofs.StepMarks.{stops_more, not_ended, open_tells}
 
 -- a list is its first value and the rest
 first_and_rest : (values : List Value) (value : Value) → first_of values ≡ Some value → values ≡ value ∷ rest_of values

@@ -26,7 +26,9 @@ use Rattle.flow_link.specs.declared.trace.Mark.TheVariants.{Took, Gave, Complete
 use Rattle.flow_link.specs.declared.trace.Mark.TheVariants.{Done as mark_done}
 use Rattle.flow_link.specs.Built.{IsBuilt}
 use Rattle.flow_link.specs.Endings.{is_fault_ending}
+use Rattle.flow_link.specs.Facts.{facts_in}
 use Rattle.flow_link.specs.Layout.{Layout}
+use Rattle.flow_link.specs.LeadsWell.{LeadsWell}
 use Rattle.flow_link.specs.Lists.{every, below}
 use Rattle.flow_link.specs.Making.{result_of}
 use Rattle.flow_link.specs.Plan.{link_in}
@@ -34,6 +36,7 @@ use Rattle.flow_link.specs.Trace.{nothing_left, is_fault_mark, has_fault}
 use Rattle.flow_link.specs.Views.{SourceStage, TargetStage, Refusal}
 use Rattle.flow_link.proofs.ListTests.{both_of}
 use Rattle.flow_link.proofs.LinksTell.{links_tell}
+use Rattle.flow_link.proofs.OneMoreMark.{some_no_more}
 use Rattle.flow_net.specs.Events.{first_of, has_stopped, fault_brought, expecting, offers, gives, takes_in_hand, works}
 use Rattle.flow_net.specs.Events.{yields, makes_as, made_by, completes, faults, finishes, kind_in, offered, wanted}
 use Rattle.flow_net.specs.Events.{given, closed_by, with_node, with_line, with_offer, with_wish, with_source}
@@ -41,7 +44,6 @@ use Rattle.flow_net.specs.Events.{with_target, head_of, offer_of, refusal_at, st
 use Rattle.flow_net.specs.Events.{next_fault, after_want, after_refusal, after_give, after_opening, after_move}
 use Rattle.flow_net.specs.Events.{after_fault, after}
 use Rattle.flow_net.specs.Fresh.{IsFresh}
-use Rattle.flow_net.specs.Keeps.{LeadsWell, facts_in}
 use Rattle.flow_net.specs.Made.{node_in}
 use Rattle.flow_net.specs.Numbers.{ends_by_number, WorksFaultByNumber, BlocksFaultByNumber}
 use Rattle.flow_net.specs.Parts.{NodeState, FeedState, PartsState, fresh_node, node_at, line_at}
@@ -52,7 +54,6 @@ use Rattle.flow_net.specs.There.{MayHappen}
 use Rattle.flow_net.specs.declared.event.Event.{Event}
 use Rattle.flow_net.specs.declared.event.Event.TheVariants.{Link as at_link, Make, Complete, Fault, Done, Job}
 use Rattle.flow_net.proofs.BlockSteps.{IsBrought, caused, cond_some}
-use Rattle.flow_net.proofs.JournalEnds.{some_no_more}
 use Rattle.flow_net.proofs.PartsLemmas.{fault_over, feed_there, out_stage}
 use Rattle.flow_net.proofs.ScheduleLemmas.{answer_on, answer_stays}
 use Rattle.flow_net.proofs.WholeLemmas.{IsKept, kept_at_start}

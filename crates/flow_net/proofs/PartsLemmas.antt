@@ -23,8 +23,10 @@ use Rattle.flow_link.specs.Built.{IsBuilt, is_first_port}
 use Rattle.flow_link.specs.Composes.{Ends, SourceKeeps, TargetKeeps, InputKeeps, ExitKeeps, WorksInto, NodeMakes, NodeKeeps, RefusesFor, PartsKeep, as_seen, facts_of, reserves_at, has_seen_completion, has_seen_fault, has_seen_cause, has_room_at, coming}
 use Rattle.flow_link.specs.Copies.{copies_as}
 use Rattle.flow_link.specs.Endings.{first_fault, fault_by_kind, fault_of, own_fault, is_number, is_complete, is_complete_as, has_nothing, stops, completes_once}
+use Rattle.flow_link.specs.Facts.{facts_in, reserves_in}
 use Rattle.flow_link.specs.Law.{is_own_mark, has_own_marks, has_room_for, takes_level, is_passed, gives_in_order, keeps_link_order}
 use Rattle.flow_link.specs.Layout.{Layout}
+use Rattle.flow_link.specs.LeadsWell.{LeadsWell}
 use Rattle.flow_link.specs.LinkOk.{LinkOk, StandAt, MayEnd, EndsWell}
 use Rattle.flow_link.specs.Lists.{every, some, numbers_from, below, is_empty, is_front}
 use Rattle.flow_link.specs.Making.{outputs, load}
@@ -33,18 +35,19 @@ use Rattle.flow_link.specs.Plan.{block_in, link_in, begins_at, ends_at, ends_at_
 use Rattle.flow_link.specs.Shape.{Shape, tells_each_port}
 use Rattle.flow_link.specs.Trace.{BlockTrace, InputTrace, Run, nothing_left, took, gave, gave_over, took_over, has_complete, has_fault, has_ended, is_done, is_faulted, is_cut, link_numbers, trace_of, marks_of, held_at, left_at, ports_of, input_of}
 use Rattle.flow_link.specs.Views.{SourceStage, TargetStage, LinkFacts, Refusal}
-use Rattle.flow_link.proofs.ListTests.{and_true, both_of, every_below}
+use Rattle.flow_link.specs.Worked.{WorkedInto}
+use Rattle.flow_link.proofs.ListTests.{and_true, both_of, every_below, or_first, or_second, or_not}
 use Rattle.flow_link.proofs.LawfulByParts.{composes}
-use Rattle.flow_net.specs.BlockKeeps.{is_link, is_own, is_first_port as is_first, WorkedInto, MakesAs, Refuses, BlockKeeps, AllKeep, block_makes}
+use Rattle.flow_net.specs.BlockKeeps.{is_link, is_own, is_first_port as is_first, MakesAs, Refuses, BlockKeeps, AllKeep, block_makes}
 use Rattle.flow_net.specs.Events.{is_open, has_stopped, stage_into, stage_out, brings_completion, fault_brought}
-use Rattle.flow_net.specs.Keeps.{Keeps, LeadsWell, facts_in, reserves_in}
+use Rattle.flow_net.specs.Keeps.{Keeps}
 use Rattle.flow_net.specs.Parts.{NodeState, FeedState, PartsState, fresh_node, node_at, feed_at, line_at}
 use Rattle.flow_net.specs.Seen.{block_trace, input_trace, input_traces, run_with, works_of, sent_by, given_from, taken_into, source_view, target_view}
 use Rattle.flow_net.specs.Statements.{AllKeptIsLawful}
 use Rattle.flow_net.specs.declared.posted.State.TheVariants as state
 use Rattle.flow_net.proofs.LawLemmas.{input_found}
 use Rattle.flow_net.proofs.LawLemmas.{front_taken}
-use Rattle.flow_net.proofs.MarksTell.{or_first, or_second, or_either, or_not, false_where, every_all, every_by_two, link_is, ended_where, stopped_tells, done_where, port_is, every_mark}
+use Rattle.flow_net.proofs.MarksTell.{or_either, false_where, every_all, every_by_two, link_is, ended_where, stopped_tells, done_where, port_is, every_mark}
 
 -- what holds of each kind that is built
 pub by_kind : (P : BlockKind → Type 0) → P Buffer → P Action → P Transform → (kind : BlockKind) → is_built_kind kind ≡ true → P kind

@@ -14,7 +14,9 @@ use Rattle.flow_link.specs.declared.plan.LinkTarget.TheVariants.{Port, Exit}
 use Rattle.flow_link.specs.declared.trace.Mark.{Mark}
 use Rattle.flow_link.specs.Built.{IsBuilt, is_first_port}
 use Rattle.flow_link.specs.Endings.{own_fault, is_complete, has_nothing, passes_on}
+use Rattle.flow_link.specs.Facts.{facts_in}
 use Rattle.flow_link.specs.Layout.{Layout}
+use Rattle.flow_link.specs.LeadsWell.{LeadsWell}
 use Rattle.flow_link.specs.LinkOk.{EndsWell}
 use Rattle.flow_link.specs.Lists.{every, is_empty}
 use Rattle.flow_link.specs.LooksKeep.{SeenAt}
@@ -23,19 +25,19 @@ use Rattle.flow_link.specs.Plan.{block_in, link_in, is_broadcast}
 use Rattle.flow_link.specs.Quiet.{Quiet, is_open as is_ending_open, first_of, is_home, is_home_between, has_this_fault, holds_nothing, rests, rests_as, is_done_if_can, end_comes_from, end_reaches, hands_its_end_on, head_as, head_from, admits_head, has_not_ended, could_cross, carries_no_more, holds_back, has_served_all}
 use Rattle.flow_link.specs.Trace.{InputTrace, Run, gave_over, took_over, has_complete, has_fault, has_ended, is_faulted, is_done, marks_of, held_at, left_at, ports_of, given_by, given_over, taken_by, taken_over, input_of, waits_over, is_cut, is_refused}
 use Rattle.flow_link.specs.Views.{TargetStage, Refusal, crossed}
-use Rattle.flow_link.proofs.ListTests.{and_true, both_of, every_below, same_values_where, drop_all}
+use Rattle.flow_link.proofs.ListTests.{and_true, both_of, every_below, same_values_where, drop_all, or_first, or_second, or_not}
 use Rattle.flow_link.proofs.LooksKeepOrder.{looks_keep}
 use Rattle.flow_net.specs.AtRest.{AtRest, is_rest, is_going}
 use Rattle.flow_net.specs.BlockKeeps.{BlockKeeps, AllKeep, Refuses}
 use Rattle.flow_net.specs.Events.{is_open, has_stopped, is_completing, stage_into, brings_completion, fault_brought, is_still}
-use Rattle.flow_net.specs.Keeps.{Keeps, LeadsWell, facts_in}
+use Rattle.flow_net.specs.Keeps.{Keeps}
 use Rattle.flow_net.specs.Parts.{NodeState, PartsState, node_at, line_at}
 use Rattle.flow_net.specs.Seen.{run_with, works_of, given_from, taken_into, source_view, target_view}
 use Rattle.flow_net.specs.Statements.{RestIsQuiet}
 use Rattle.flow_net.specs.Steps.{IsQuiet}
 use Rattle.flow_net.specs.declared.posted.State.{State}
 use Rattle.flow_net.specs.declared.posted.State.TheVariants as state
-use Rattle.flow_net.proofs.MarksTell.{or_first, or_second, or_not, fault_there, fault_of_state, is_faulted_where, stopped_where, completing_where}
+use Rattle.flow_net.proofs.MarksTell.{fault_there, fault_of_state, is_faulted_where, stopped_where, completing_where}
 use Rattle.flow_net.proofs.PartsLemmas.{IsPlain, by_kind, plain_block, every_port, first_port_is, feed_there, input_is, into_stage, out_stage, marks_are, held_is, left_is, ports_are, complete_is, own_fault_is, port_ended}
 use Rattle.flow_net.proofs.RestLemmas.{quiet_at_rest}
 

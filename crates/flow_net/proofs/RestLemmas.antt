@@ -11,6 +11,7 @@ use Rattle.flow_link.specs.declared.plan.LinkSource.TheVariants.{Block, Input}
 use Rattle.flow_link.specs.declared.trace.Ending.{Ending}
 use Rattle.flow_link.specs.declared.trace.Ending.TheVariants.{Open as ending_open, Complete as ending_complete, Fault as ending_fault}
 use Rattle.flow_link.specs.Composes.{is_coming}
+use Rattle.flow_link.specs.Facts.{facts_in}
 use Rattle.flow_link.specs.Layout.{Layout}
 use Rattle.flow_link.specs.LinkOk.{LinkOk, IsInSlot}
 use Rattle.flow_link.specs.Lists.{every, numbers_from, below, is_empty}
@@ -20,7 +21,7 @@ use Rattle.flow_link.specs.Views.{SourceStage, TargetStage}
 use Rattle.flow_link.proofs.ListTests.{both_of, and_true}
 use Rattle.flow_net.specs.AtRest.{is_rest, is_going, LinkRests, BlockHasGivenAll, InputHasGivenAll, AtRest}
 use Rattle.flow_net.specs.Events.{has_stopped, is_at_home, is_hand, is_still, stage_into, stage_out, fault_cause, next_fault, may_make, may_complete, may_finish, move_of_node, move_of_feed, move_of_source, end_of_feed, head_of, offer_of, expects_at, move_at, next_move, event_at_link, event_at_block}
-use Rattle.flow_net.specs.Keeps.{Keeps, facts_in, is_in_use, awaits_head}
+use Rattle.flow_net.specs.Keeps.{Keeps, is_in_use, awaits_head}
 use Rattle.flow_net.specs.Parts.{NodeState, FeedState, PartsState, node_at, feed_at, line_at}
 use Rattle.flow_net.specs.Seen.{given_from, taken_into, sent_by}
 use Rattle.flow_net.specs.Statements.{QuietAtRest}

@@ -3,8 +3,8 @@ use Rattle.std.proofs.Common.{◌≡◌, ℕ, List, [], ◌∷◌, Result, sym, 
 use Rattle.flow_value.specs.declared.value.Value.{Value}
 use Rattle.flow_link.specs.Built.{IsBuilt}
 use Rattle.flow_link.specs.Layout.{Layout}
+use Rattle.flow_link.specs.LeadsWell.{LeadsWell}
 use Rattle.flow_link.specs.Trace.{InputTrace}
-use Rattle.flow_net.specs.Keeps.{LeadsWell}
 use Rattle.flow_net.specs.Parts.{PartsState}
 use Rattle.flow_net.specs.Schedules.{Happens, IsPassedOver, Answers, Goes}
 use Rattle.flow_net.specs.Seen.{input_traces, works_of}

@@ -1,58 +1,17 @@
 -- What a mark of a block's own step changes of what its journal says.
-use Rattle.std.proofs.Common.{◌≡◌, ℕ, ◌==◌, Bool, true, false, not, ◌&&◌, ◌||◌, List, [], ◌∷◌, ◌++◌, ◌⊎◌, Option, Some, None, refl, ap, sym, subst, ◌∙◌, inl, inr, ⊎_elim, append-nil, eq-eqb, eqb-true}
+use Rattle.std.proofs.Common.{◌≡◌, ℕ, ◌==◌, Bool, true, false, not, ◌&&◌, ◌||◌, List, [], ◌∷◌, ◌++◌, Option, Some, None, refl, ap, sym, subst, ◌∙◌, ⊎_elim, append-nil, eq-eqb, eqb-true}
 use Rattle.flow_value.specs.declared.value.Value.{Value}
 use Rattle.flow_link.specs.declared.trace.Mark.{Mark}
 use Rattle.flow_link.specs.declared.trace.Mark.TheVariants.{Took, Gave, Complete, Fault, Done}
 use Rattle.flow_link.specs.Endings.{stops, completes_once}
-use Rattle.flow_link.specs.JournalGrows.{taken_by_mark, given_by_mark}
-use Rattle.flow_link.specs.Lists.{every, some, is_empty}
-use Rattle.flow_link.specs.Trace.{took, took_at, gave, has_complete, is_done, is_complete_mark}
-use Rattle.flow_link.proofs.JournalsGrow.{took_more, gave_more}
-use Rattle.flow_link.proofs.ListTests.{and_true, both_of}
+use Rattle.flow_link.specs.JournalGrows.{taken_by_mark}
+use Rattle.flow_link.specs.Lists.{is_empty}
+use Rattle.flow_link.specs.Trace.{took_at, has_complete, is_done, is_complete_mark}
+use Rattle.flow_link.proofs.JournalsGrow.{took_more}
+use Rattle.flow_link.proofs.ListTests.{and_true, both_of, or_second}
+use Rattle.flow_link.proofs.OneMoreMark.{some_of_more}
 use Rattle.flow_net.specs.Events.{is_open, has_stopped, is_completing}
 use Rattle.flow_net.specs.States.{fault_in, state_from, state_by}
-
--- a test of one more element
-pub every_more : {A : Type 0} (test : A → Bool) (xs : List A) (x : A) → every test xs ≡ true → test x ≡ true → every test (xs ++ x ∷ []) ≡ true
-every_more test [] x all last = and_true (test x) true last refl
-every_more test (y ∷ ys) x all last =
-    let both = both_of (test y) (every test ys) all in
-    and_true (test y) (every test (ys ++ x ∷ [])) both.0 (every_more test ys x both.1 last)
-
-or_first : (b c : Bool) → b ≡ true → b || c ≡ true
-or_first b c e = ap (λ (x : Bool). x || c) e
-
-or_second : (b c : Bool) → c ≡ true → b || c ≡ true
-or_second true c e = refl
-or_second false c e = e
-
-one_of : (b c : Bool) → b || c ≡ true → (b ≡ true) ⊎ (c ≡ true)
-one_of true c e = inl refl
-one_of false c e = inr e
-
--- a mark that passes among those before, or as the last
-pub some_before : {A : Type 0} (test : A → Bool) (xs : List A) (x : A) → some test xs ≡ true → some test (xs ++ x ∷ []) ≡ true
-some_before test [] x e = absurd (cc)
-some_before test (y ∷ ys) x e =
-    let rest = some test (ys ++ x ∷ []) in
-    ⊎_elim (λ here. or_first (test y) rest here) (λ later. or_second (test y) rest (some_before test ys x later)) (one_of (test y) (some test ys) e)
-
-pub some_of_more : {A : Type 0} (test : A → Bool) (xs : List A) (x : A) → some test (xs ++ x ∷ []) ≡ true → (some test xs ≡ true) ⊎ (test x ≡ true)
-some_of_more test [] x e = ⊎_elim (λ here. inr here) (λ none. absurd (cc)) (one_of (test x) false e)
-some_of_more test (y ∷ ys) x e =
-    ⊎_elim
-    (λ here. inl (or_first (test y) (some test ys) here))
-    (λ later. ⊎_elim (λ is. inl (or_second (test y) (some test ys) is)) (λ is. inr is) (some_of_more test ys x later))
-    (one_of (test y) (some test (ys ++ x ∷ [])) e)
-
--- a mark that takes or gives nothing
-pub took_no_more : (marks : List Mark) (mark : Mark) → taken_by_mark (λ port link. true) mark ≡ [] → took (marks ++ mark ∷ []) ≡ took marks
-took_no_more marks mark none =
-    took_more (λ port link. true) marks mark ∙ ap (λ (vs : List Value). took marks ++ vs) none ∙ append-nil (took marks)
-
-pub gave_no_more : (marks : List Mark) (mark : Mark) → given_by_mark (λ link. true) mark ≡ [] → gave (marks ++ mark ∷ []) ≡ gave marks
-gave_no_more marks mark none =
-    gave_more (λ link. true) marks mark ∙ ap (λ (vs : List Value). gave marks ++ vs) none ∙ append-nil (gave marks)
 
 -- nothing was the last
 pub stops_more : (marks : List Mark) (mark : Mark) → fault_in marks ≡ None → is_done marks ≡ false → stops (marks ++ mark ∷ []) ≡ true

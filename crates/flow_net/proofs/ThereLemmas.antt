@@ -13,6 +13,7 @@ use Rattle.flow_link.specs.declared.phase.Phase.TheVariants.{Idle, Offered, Want
 use Rattle.flow_link.specs.declared.trace.Ending.{Ending}
 use Rattle.flow_link.specs.declared.trace.Ending.TheVariants.{Open as ending_open, Complete as ending_complete, Fault as ending_fault}
 use Rattle.flow_link.specs.Layout.{Layout}
+use Rattle.flow_link.specs.LeadsWell.{LeadsWell}
 use Rattle.flow_link.specs.Lists.{is_empty}
 use Rattle.flow_link.specs.Views.{Refusal}
 use Rattle.flow_link.proofs.ListTests.{both_of}
@@ -20,7 +21,6 @@ use Rattle.flow_net.specs.Events.{answer_by, end_as, end_of_feed, expects_at, he
 use Rattle.flow_net.specs.declared.posted.State.{State}
 use Rattle.flow_net.specs.declared.posted.State.TheVariants as state
 use Rattle.flow_link.specs.Plan.{link_in}
-use Rattle.flow_net.specs.Keeps.{LeadsWell}
 use Rattle.flow_net.specs.Parts.{FeedState, LineState, PartsState, node_at, feed_at, line_at}
 use Rattle.flow_net.specs.There.{SourceIsThere, TargetIsThere, Fits}
 

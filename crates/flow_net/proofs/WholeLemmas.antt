@@ -6,11 +6,12 @@ use Rattle.flow_value.specs.declared.work.WorkFault.{WorkFault}
 use Rattle.flow_link.specs.Built.{IsBuilt}
 use Rattle.flow_link.specs.Layout.{Layout}
 use Rattle.flow_link.specs.Lawful.{Lawful}
+use Rattle.flow_link.specs.LeadsWell.{LeadsWell}
 use Rattle.flow_link.specs.Quiet.{Quiet}
 use Rattle.flow_net.specs.BlockKeeps.{AllKeep}
 use Rattle.flow_net.specs.Events.{after}
 use Rattle.flow_net.specs.Fresh.{IsFresh}
-use Rattle.flow_net.specs.Keeps.{Keeps, LeadsWell}
+use Rattle.flow_net.specs.Keeps.{Keeps}
 use Rattle.flow_net.specs.Parts.{PartsState}
 use Rattle.flow_net.specs.Seen.{run_with, works_of}
 use Rattle.flow_net.specs.Steps.{Happened, IsQuiet}

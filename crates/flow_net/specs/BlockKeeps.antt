@@ -13,11 +13,12 @@ use Rattle.flow_link.specs.declared.trace.Mark.TheVariants.{Took, Gave, Complete
 use Rattle.flow_link.specs.Composes.{is_coming}
 use Rattle.flow_link.specs.Endings.{stops, completes_once}
 use Rattle.flow_link.specs.Layout.{Layout}
-use Rattle.flow_link.specs.Lists.{every, concat}
-use Rattle.flow_link.specs.Making.{result_of, results_of}
+use Rattle.flow_link.specs.Lists.{every}
+use Rattle.flow_link.specs.Making.{result_of}
 use Rattle.flow_link.specs.Plan.{link_in, begins_at, ends_at, has_work}
 use Rattle.flow_link.specs.Trace.{took, gave, has_complete, has_fault, is_done}
 use Rattle.flow_link.specs.Views.{SourceStage, TargetStage, Refusal}
+use Rattle.flow_link.specs.Worked.{WorkedInto}
 use Rattle.flow_net.specs.Events.{kind_in, is_open, has_stopped, is_at_home, stage_into, stage_out, brings_completion, fault_brought}
 use Rattle.flow_net.specs.Parts.{NodeState, FeedState, PartsState, node_at, feed_at, line_at}
 use Rattle.flow_net.specs.States.{state_by}
@@ -38,14 +39,6 @@ is_own into out _ = true
 abbrev pub is_first_port : Mark → Bool
 is_first_port (Took port link value) = port == 0
 is_first_port _ = true
-
--- what was taken is worked on, or held; what was made are the results of the worked, in order
-pub record WorkedInto (result : Value → Result (List Value) ℕ) (taken held made : List Value) : Type 0 where
-  pub done : List Value
-  pub results : List (List Value)
-  pub taken_is : taken ≡ done ++ held
-  pub worked : results_of result done ≡ Some results
-  pub all : made ≡ concat results
 
 abbrev pub MakesAs : (Value → Result (List Value) ℕ) → NodeState → BlockKind → Type 0
 MakesAs result node Buffer = took node.journal ≡ (gave node.journal ++ node.left) ++ node.held

@@ -4,16 +4,15 @@ use Rattle.std.specs.Prelude.{◌≡◌, ℕ, ◌<◌, ◌≤◌, Bool, true, fa
 use Rattle.flow_value.specs.When.{admits}
 use Rattle.flow_link.specs.declared.phase.Phase.{Phase}
 use Rattle.flow_link.specs.declared.phase.Phase.TheVariants.{Idle, Offered, Wanted, Given, Opened, Refused, Ended}
-use Rattle.flow_link.specs.declared.plan.LinkSource.TheVariants.{Block, Input}
-use Rattle.flow_link.specs.declared.plan.LinkTarget.{LinkTarget}
-use Rattle.flow_link.specs.declared.plan.LinkTarget.TheVariants.{Port, Exit}
+use Rattle.flow_link.specs.declared.plan.LinkSource.TheVariants.{Block}
+use Rattle.flow_link.specs.declared.plan.LinkTarget.TheVariants.{Port}
 use Rattle.flow_link.specs.Composes.{is_coming}
+use Rattle.flow_link.specs.Facts.{facts_in}
 use Rattle.flow_link.specs.Layout.{Layout}
 use Rattle.flow_link.specs.LinkOk.{LinkOk}
 use Rattle.flow_link.specs.Lists.{every}
 use Rattle.flow_link.specs.Looks.{Seen}
-use Rattle.flow_link.specs.Plan.{block_in, link_in, is_steady, is_sole, is_reserving}
-use Rattle.flow_link.specs.Views.{LinkFacts}
+use Rattle.flow_link.specs.Plan.{link_in}
 use Rattle.flow_net.specs.Events.{head_of, offer_of, expects_at}
 use Rattle.flow_net.specs.Parts.{FeedState, PartsState, node_at, feed_at, line_at}
 use Rattle.flow_net.specs.Seen.{given_from, source_view, target_view}
@@ -35,61 +34,34 @@ awaits_head (Offered _) = true
 awaits_head (Wanted _) = true
 awaits_head _ = false
 
-module _ {W : Type 0} (layout : Layout W) where
-  abbrev pub reserves_in : LinkTarget → Bool
-  reserves_in (Port t p) = is_reserving (block_in layout.blocks t)
-  reserves_in Exit = false
+module _ {W : Type 0} (layout : Layout W) (parts : PartsState) where
+  -- the source has a message next, and has made it ready
+  pub record IsReady (l : ℕ) : Type 0 where
+    pub there : is_some (head_of parts (link_in layout.links l).source) ≡ true
+    pub ready : offer_of parts (link_in layout.links l).source ≡ head_of parts (link_in layout.links l).source
 
-  -- what the plan says of a link
-  abbrev pub facts_in : ℕ → LinkFacts
-  facts_in l = record {
-    steady = is_steady layout.blocks (link_in layout.links l).target;
-    sole = is_sole layout.blocks layout.links (link_in layout.links l).target;
-    reserving = reserves_in (link_in layout.links l).target;
-    max = (link_in layout.links l).max;
-    propagates = (link_in layout.links l).propagate;
-  }
+  pub record LineKeeps (l : ℕ) : Type 0 where
+    pub in_order : LinkOk (facts_in layout l) (line_at parts l).phase (line_at parts l).slot (source_view layout parts l) (target_view layout parts l)
+    pub seen : Seen (line_at parts l).phase (source_view layout parts l) (target_view layout parts l)
+    pub in_use : is_in_use (line_at parts l).phase ≡ true
+    -- the source has the message that it offered, and the target room for the one that it wants
+    pub head : awaits_head (line_at parts l).phase ≡ true → IsReady l
+    pub room : is_coming (line_at parts l).target ≡ true → expects_at parts (link_in layout.links l).target ≡ true
 
-  module _ (parts : PartsState) where
-    -- the source has a message next, and has made it ready
-    pub record IsReady (l : ℕ) : Type 0 where
-      pub there : is_some (head_of parts (link_in layout.links l).source) ≡ true
-      pub ready : offer_of parts (link_in layout.links l).source ≡ head_of parts (link_in layout.links l).source
+  -- what a block gave over a link meets the link's predicate
+  pub record GivesAdmitted (l s : ℕ) : Type 0 where
+    pub admitted : every (admits (link_in layout.links l).when) (given_from layout parts l (Block s)) ≡ true
 
-    pub record LineKeeps (l : ℕ) : Type 0 where
-      pub in_order : LinkOk (facts_in l) (line_at parts l).phase (line_at parts l).slot (source_view layout parts l) (target_view layout parts l)
-      pub seen : Seen (line_at parts l).phase (source_view layout parts l) (target_view layout parts l)
-      pub in_use : is_in_use (line_at parts l).phase ≡ true
-      -- the source has the message that it offered, and the target room for the one that it wants
-      pub head : awaits_head (line_at parts l).phase ≡ true → IsReady l
-      pub room : is_coming (line_at parts l).target ≡ true → expects_at parts (link_in layout.links l).target ≡ true
-
-    -- what a block gave over a link meets the link's predicate
-    pub record GivesAdmitted (l s : ℕ) : Type 0 where
-      pub admitted : every (admits (link_in layout.links l).when) (given_from layout parts l (Block s)) ≡ true
-
-    pub record Keeps : Type 0 where
-      pub node_count : length parts.nodes ≡ length layout.blocks
-      -- those blocks have posted values that are inputs
-      pub feed_places : map is_some parts.feeds ≡ map (λ block. block.input) layout.blocks
-      pub sent_within : (b : ℕ) (feed : FeedState) → feed_at parts b ≡ Some feed → feed.sent ≤ length feed.posted
-      pub line_count : length parts.lines ≡ length layout.links
-      pub lines : (l : ℕ) → l < length layout.links → LineKeeps l
-      pub admits_all : (l s : ℕ) → l < length layout.links → (link_in layout.links l).source ≡ Block s → GivesAdmitted l s
-      -- each block knows the link that leads out of it and the one that leads into it, and these are links of the plan
-      pub out_is : (l s : ℕ) → l < length layout.links → (link_in layout.links l).source ≡ Block s → (node_at parts s).out ≡ Some l
-      pub into_is : (l t p : ℕ) → l < length layout.links → (link_in layout.links l).target ≡ Port t p → (node_at parts t).into ≡ Some l
-      pub into_there : (b l : ℕ) → (node_at parts b).into ≡ Some l → l < length layout.links
-      pub out_there : (b l : ℕ) → (node_at parts b).out ≡ Some l → l < length layout.links
-
-  -- a link leads from a block or input that is there to a block that is there
-  pub record LeadsWell : Type 0 where
-    pub from_block : (l s : ℕ) → l < length layout.links → (link_in layout.links l).source ≡ Block s → s < length layout.blocks
-    pub from_input : (l b : ℕ) → l < length layout.links → (link_in layout.links l).source ≡ Input b → b < length layout.blocks
-    -- an input's link begins at a block that is one, and passes its end on
-    pub from_inputs : (l b : ℕ) → l < length layout.links → (link_in layout.links l).source ≡ Input b → (block_in layout.blocks b).input ≡ true
-    pub inputs_pass : (l b : ℕ) → l < length layout.links → (link_in layout.links l).source ≡ Input b → (link_in layout.links l).propagate ≡ true
-    pub to_block : (l t p : ℕ) → l < length layout.links → (link_in layout.links l).target ≡ Port t p → t < length layout.blocks
-    -- no two links lead from one input
-    pub one_input_link : (k l b : ℕ) → k < length layout.links → l < length layout.links
-        → (link_in layout.links k).source ≡ Input b → (link_in layout.links l).source ≡ Input b → k ≡ l
+  pub record Keeps : Type 0 where
+    pub node_count : length parts.nodes ≡ length layout.blocks
+    -- those blocks have posted values that are inputs
+    pub feed_places : map is_some parts.feeds ≡ map (λ block. block.input) layout.blocks
+    pub sent_within : (b : ℕ) (feed : FeedState) → feed_at parts b ≡ Some feed → feed.sent ≤ length feed.posted
+    pub line_count : length parts.lines ≡ length layout.links
+    pub lines : (l : ℕ) → l < length layout.links → LineKeeps l
+    pub admits_all : (l s : ℕ) → l < length layout.links → (link_in layout.links l).source ≡ Block s → GivesAdmitted l s
+    -- each block knows the link that leads out of it and the one that leads into it, and these are links of the plan
+    pub out_is : (l s : ℕ) → l < length layout.links → (link_in layout.links l).source ≡ Block s → (node_at parts s).out ≡ Some l
+    pub into_is : (l t p : ℕ) → l < length layout.links → (link_in layout.links l).target ≡ Port t p → (node_at parts t).into ≡ Some l
+    pub into_there : (b l : ℕ) → (node_at parts b).into ≡ Some l → l < length layout.links
+    pub out_there : (b l : ℕ) → (node_at parts b).out ≡ Some l → l < length layout.links

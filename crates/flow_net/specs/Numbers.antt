@@ -5,10 +5,10 @@ use Rattle.flow_value.specs.declared.work.WorkFault.{WorkFault}
 use Rattle.flow_link.specs.Built.{IsBuilt}
 use Rattle.flow_link.specs.Endings.{is_fault_ending}
 use Rattle.flow_link.specs.Layout.{Layout}
+use Rattle.flow_link.specs.LeadsWell.{LeadsWell}
 use Rattle.flow_link.specs.Lists.{every}
 use Rattle.flow_link.specs.Trace.{InputTrace, has_fault, marks_of}
 use Rattle.flow_net.specs.Fresh.{IsFresh}
-use Rattle.flow_net.specs.Keeps.{LeadsWell}
 use Rattle.flow_net.specs.Parts.{PartsState}
 use Rattle.flow_net.specs.Schedules.{Goes}
 use Rattle.flow_net.specs.Seen.{run_with, works_of}

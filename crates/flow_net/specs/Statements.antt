@@ -3,15 +3,16 @@ use Rattle.std.specs.Prelude.{ℕ, List, Result}
 use Rattle.flow_value.specs.declared.value.Value.{Value}
 use Rattle.flow_value.specs.declared.work.WorkFault.{WorkFault}
 use Rattle.flow_link.specs.Built.{IsBuilt}
-use Rattle.flow_link.specs.Layout.{Layout, IsLaidOut}
+use Rattle.flow_link.specs.Layout.{Layout}
 use Rattle.flow_link.specs.Law.{LinkLaw}
 use Rattle.flow_link.specs.Lawful.{Lawful}
+use Rattle.flow_link.specs.LeadsWell.{LeadsWell}
 use Rattle.flow_link.specs.Quiet.{Quiet}
 use Rattle.flow_net.specs.AtRest.{AtRest}
 use Rattle.flow_net.specs.BlockKeeps.{AllKeep}
 use Rattle.flow_net.specs.Events.{after}
 use Rattle.flow_net.specs.Fresh.{IsFresh}
-use Rattle.flow_net.specs.Keeps.{Keeps, LeadsWell}
+use Rattle.flow_net.specs.Keeps.{Keeps}
 use Rattle.flow_net.specs.Parts.{PartsState}
 use Rattle.flow_net.specs.Schedules.{Goes, GoesWell}
 use Rattle.flow_net.specs.Seen.{run_with, works_of}
@@ -20,10 +21,6 @@ use Rattle.flow_net.specs.There.{MayHappen}
 use Rattle.flow_net.specs.declared.event.Event.{Event}
 
 module _ (W : Type 0) where
-  -- the links of a plan lead well
-  abbrev pub PlansLeadWell : Type 0
-  PlansLeadWell = (layout : Layout W) → IsLaidOut layout.blocks layout.links → LeadsWell layout
-
   -- each event keeps what a network keeps
   abbrev pub EventsKeep : Type 0
   EventsKeep =

@@ -1,14 +1,9 @@
 //! Laws about the states of a network. Each stands on a function that does nothing: whoever calls it has the whole law.
 ghost use Rattle.flow_net.specs.Numbers.{BlocksFaultByNumber, WorksFaultByNumber};
 ghost use Rattle.flow_net.specs.Statements.{AllKeptIsLawful, EventsKeep, EventsKeepAll, FreshKeeps, FreshKeepsAll};
-ghost use Rattle.flow_net.specs.Statements.{KeptIsLawful, PlansLeadWell, QuietAtRest, RestIsQuiet, SchedulesGoWell};
+ghost use Rattle.flow_net.specs.Statements.{KeptIsLawful, QuietAtRest, RestIsQuiet, SchedulesGoWell};
 
 use flow_value::Work;
-
-/// The links of a plan lead from blocks and inputs that are there to blocks that are there.
-pub fn plans_lead_well<W>()
-    ensures { PlansLeadWell W }
-{}
 
 /// Each event that may happen keeps what a network keeps: its links in order, and both ends of each link aware of it.
 pub fn events_keep_links_in_order<W>()

@@ -22,7 +22,7 @@ pub use laws::{
     blocks_fault_by_number, events_keep_blocks_in_order, events_keep_links_in_order,
     every_schedule_is_lawful, fresh_blocks_are_in_order, fresh_networks_are_in_order,
     kept_networks_are_lawful, kept_networks_obey_the_link_law, networks_at_rest_are_quiet,
-    plans_lead_well, quiet_networks_are_at_rest, works_fault_by_number,
+    quiet_networks_are_at_rest, works_fault_by_number,
 };
 pub use net::Net;
 pub use posted::{Posted, Settled, State};

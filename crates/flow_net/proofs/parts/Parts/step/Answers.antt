@@ -4,18 +4,18 @@ use Rattle.flow_link.specs.declared.phase.Move.{Move}
 use Rattle.flow_link.specs.declared.phase.Move.TheVariants.{Give, Close}
 use Rattle.flow_link.specs.Plan.{no_link}
 use Rattle.flow_link.specs.Planned.{layout_of}
+use Rattle.flow_link.proofs.LinksLead.{links_lead}
 use Rattle.flow_link.proofs.ListTests.{both_of}
 use Rattle.flow_net.specs.Events.{Enabled, head_of, offer_of}
 use Rattle.flow_net.specs.declared.event.Event.{Event}
-use Rattle.flow_net.proofs.LeadLemmas.{plans_lead_well}
 use Rattle.flow_net.proofs.ThereLemmas.{source_there, target_there, is_supplied, next_is_supplied}
 use Rattle.flow_net.proofs.parts.Parts.step.Goals as goal
 
 pub make_move-requires-clause-from : goal.make_move-requires-clause-from
-make_move-requires-clause-from g c = source_there (layout_of c.args.plan.now) c.args.self.now c.requires.fits (plans_lead_well _ (layout_of c.args.plan.now) c.args.plan.now.laid_out) c.in-Link.id c.link.result.source (search rules) (ap (λ (x : Link). x.source) (sym (c.link.ensures.its_number no_link)))
+make_move-requires-clause-from g c = source_there (layout_of c.args.plan.now) c.args.self.now c.requires.fits (links_lead _ (layout_of c.args.plan.now) c.args.plan.now.laid_out) c.in-Link.id c.link.result.source (search rules) (ap (λ (x : Link). x.source) (sym (c.link.ensures.its_number no_link)))
 
 pub make_move-requires-clause-to : goal.make_move-requires-clause-to
-make_move-requires-clause-to g c = target_there (layout_of c.args.plan.now) c.args.self.now c.requires.fits (plans_lead_well _ (layout_of c.args.plan.now) c.args.plan.now.laid_out) c.in-Link.id c.link.result.target (search rules) (ap (λ (x : Link). x.target) (sym (c.link.ensures.its_number no_link)))
+make_move-requires-clause-to g c = target_there (layout_of c.args.plan.now) c.args.self.now c.requires.fits (links_lead _ (layout_of c.args.plan.now) c.args.plan.now.laid_out) c.in-Link.id c.link.result.target (search rules) (ap (λ (x : Link). x.target) (sym (c.link.ensures.its_number no_link)))
 
 pub make_move-requires-clause-head : goal.make_move-requires-clause-head
 make_move-requires-clause-head g c is_give =
