@@ -27,7 +27,8 @@ pub fn status_of_conclusion(conclusion: &Conclusion) -> u8
 
 /// Writes the line that standard error gets: none where there is a report.
 pub fn write_conclusion<W: Write>(conclusion: &Conclusion, writer: &mut W) -> Result<(), TextFault>
-    ensures written { OnOk result (Appends (W.contents writer.old) (W.contents writer.new) (conclusion_line conclusion.now)) }
+    ensures written { OnOk result (Appends (W.contents writer.old) (W.contents writer.new)
+        (conclusion_line conclusion.now)) }
     ensures failed { IfErr result (λ fault. fault ≡ TextFault.Write) }
 {
     match conclusion {
@@ -38,7 +39,8 @@ pub fn write_conclusion<W: Write>(conclusion: &Conclusion, writer: &mut W) -> Re
 }
 
 fn write_usage<W: Write>(writer: &mut W) -> Result<(), TextFault>
-    ensures written { OnOk result (Appends (W.contents writer.old) (W.contents writer.new) (conclusion_line Conclusion.Usage)) }
+    ensures written { OnOk result (Appends (W.contents writer.old) (W.contents writer.new)
+        (conclusion_line Conclusion.Usage)) }
     ensures failed { IfErr result (λ fault. fault ≡ TextFault.Write) }
 {
     match writeln!(writer, "usage: flow_run [NET WORKERS [LIMIT]]") {

@@ -3,6 +3,7 @@ use Rattle.std.proofs.Common.{◌≡◌, ℕ, zero, suc, ◌+◌, ◌<◌, ◌�
 use Rattle.flow_value.specs.declared.message.MessageStatus.TheVariants.{Accepted, Declined, Postponed, DecliningPermanently}
 use Rattle.flow_link.specs.declared.stage.Refusal.{Refusal}
 use Rattle.flow_link.specs.Lists.{is_empty}
+use Rattle.flow_link.proofs.ListTests.{both_of}
 use Rattle.flow_intake.specs.Port.{PortState, coming, has_room, is_below, end_in, link_in}
 use Rattle.flow_intake.specs.Calls.{answer_where, answer_to, next_where, first_of}
 use Rattle.flow_intake.specs.PortLaw.{InLaw}
@@ -23,10 +24,6 @@ taken_where None true free false is = absurd (cc)
 taken_where None false true may_postpone is = record { goes_on = refl; freely = refl; is_free = refl }
 taken_where None false false true is = absurd (cc)
 taken_where None false false false is = absurd (cc)
-
-both_of : (a b : Bool) → a && b ≡ true → (a ≡ true) × (b ≡ true)
-both_of true b both = (refl, both)
-both_of false b both = absurd (cc)
 
 nobody_in : (queue : List ℕ) → is_empty queue ≡ true → queue ≡ []
 nobody_in [] is = refl

@@ -4,14 +4,14 @@ ghost use Rattle.flow_intake.specs.Port.{fresh_end, is_hand, is_coming as coming
 ghost use Rattle.flow_intake.specs.Port.{is_owed as owed_at};
 ghost use Rattle.flow_link.specs.declared.stage.TargetStage.TheVariants.{Free, Hand};
 
-use flow_link::TargetStage;
+use flow_link::{LinkId, TargetStage};
 use flow_value::{MessageHeader, Parcel, Value};
 use std::marker::Model;
 
 /// The port's end of a link. Contracts see the link, the stage, and the message in hand.
 #[derive(Drop)]
 pub(crate) struct InEnd {
-    link: usize,
+    link: LinkId,
     stage: TargetStage,
     /// What it has in hand.
     parcel: Option<Parcel>,
@@ -65,7 +65,7 @@ pub(crate) fn is_owed(stage: &TargetStage) -> bool
 
 impl InEnd {
     /// The end of a link over which nothing is under way.
-    pub(crate) fn new(link: usize) -> InEnd
+    pub(crate) fn new(link: LinkId) -> InEnd
         ensures { result ≡ fresh_end link }
     {
         InEnd {
@@ -76,7 +76,7 @@ impl InEnd {
     }
 
     /// The link.
-    pub(crate) fn link(&self) -> usize
+    pub(crate) fn link(&self) -> LinkId
         ensures { result ≡ self.now.link }
     {
         self.link

@@ -7,7 +7,7 @@ ghost use Rattle.flow_intake.specs.Calls.{put_stage, put_hand};
 ghost use Rattle.flow_link.specs.declared.stage.TargetStage.TheVariants.{Free, Hand};
 
 use crate::end::{InEnd, is_coming, is_owed};
-use flow_link::TargetStage;
+use flow_link::{LinkId, TargetStage};
 use flow_value::{MessageHeader, Parcel};
 use std::alloc::{AllocError, Global};
 use std::marker::Model;
@@ -80,7 +80,7 @@ impl Ends {
     }
 
     /// The link of the end at this place.
-    pub(crate) fn link(&self, place: usize) -> usize
+    pub(crate) fn link(&self, place: usize) -> LinkId
         requires { place < length self.now }
         ensures { result ≡ link_in place self.now }
     {
@@ -132,7 +132,7 @@ impl Ends {
     }
 
     /// One more end, of a link over which nothing is under way.
-    pub(crate) fn add(&mut self, link: usize) -> Result<(), AllocError>
+    pub(crate) fn add(&mut self, link: LinkId) -> Result<(), AllocError>
         ensures added { OnOk result (self.new ≡ self.old ++ fresh_end link ∷ []) }
         ensures coming { OnOk result (count_at is_coming self.new ≡ count_at is_coming self.old) }
         ensures owed { OnOk result (count_at is_owed self.new ≡ count_at is_owed self.old) }
@@ -144,7 +144,7 @@ impl Ends {
     }
 
     /// The place of this link's end.
-    pub(crate) fn find(&self, link: usize) -> Option<usize>
+    pub(crate) fn find(&self, link: LinkId) -> Option<usize>
         ensures place { result ≡ place_of link self.now }
         ensures there { IfSome result (λ place. place < length self.now) }
     {

@@ -18,7 +18,7 @@ ghost use Rattle.flow_intake.specs.ByLink.{drops, next_wish, consumes_next, clos
 use crate::end::is_queued;
 use crate::ends::Ends;
 use crate::queue::Queue;
-use flow_link::{Move, Phase, Refusal, TargetStage};
+use flow_link::{LinkId, Move, Phase, Refusal, TargetStage};
 use flow_value::{MessageHeader, MessageStatus, Parcel, Value};
 use std::alloc::{AllocError, Global};
 use std::collections::VecDeque;
@@ -97,7 +97,7 @@ impl Intake {
     }
 
     /// One more link leads into the port: its end has the place that comes next.
-    pub fn add_link(&mut self, link: usize) -> Result<(), AllocError>
+    pub fn add_link(&mut self, link: LinkId) -> Result<(), AllocError>
         ensures added { OnOk result (self.new ≡ record self.old { ends = self.old.ends ++ fresh_end link ∷ [] }) }
         ensures kept { OnErr result (self.new ≡ self.old) }
     {
@@ -359,7 +359,7 @@ impl Intake {
 // Calls that name a link: the caller plays the far end. They look for the link's end; who knows its place need not.
 impl Intake {
     /// Whether nothing is under way over this link: it may bring an offer.
-    pub fn is_free_over(&self, link: usize) -> bool
+    pub fn is_free_over(&self, link: LinkId) -> bool
         ensures { result ≡ is_free_over link self.now }
     {
         match self.ends.find(link) {
@@ -369,7 +369,7 @@ impl Intake {
     }
 
     /// Whether it waits for a message over this link, which it accepted or consumes.
-    pub fn is_wanted_over(&self, link: usize) -> bool
+    pub fn is_wanted_over(&self, link: LinkId) -> bool
         ensures { result ≡ stands_at is_wanted link self.now }
     {
         match self.ends.find(link) {
@@ -382,7 +382,7 @@ impl Intake {
     }
 
     /// Whether an offer over this link may be dropped: it is postponed, or wished for.
-    pub fn may_drop(&self, link: usize) -> bool
+    pub fn may_drop(&self, link: LinkId) -> bool
         ensures { result ≡ stands_at may_be_dropped link self.now }
     {
         match self.ends.find(link) {
@@ -399,7 +399,7 @@ impl Intake {
     /// Microsoft: `ITargetBlock<TInput>.OfferMessage`.
     pub fn answer(
         &mut self,
-        link: usize,
+        link: LinkId,
         header: MessageHeader,
         may_postpone: bool,
     ) -> Result<MessageStatus, AllocError>
@@ -425,7 +425,7 @@ impl Intake {
     }
 
     /// Sets memory aside for one more message over this link, and answers the place of its end, which may be a new one.
-    fn prepare_link(&mut self, link: usize) -> Result<usize, AllocError>
+    fn prepare_link(&mut self, link: LinkId) -> Result<usize, AllocError>
         ensures place { IfOk result (λ place. place ≡ place_in link self.old) }
         ensures there { IfOk result (λ place. place < length self.new.ends) }
         ensures done { OnOk result (self.new ≡ prepared (with_link link self.old)) }
@@ -447,7 +447,7 @@ impl Intake {
     }
 
     /// The link's end refuses its message for good, if there is one.
-    fn close_link(&mut self, link: usize)
+    fn close_link(&mut self, link: LinkId)
         requires free { is_free_over link self.old ≡ true }
         requires refusing { is_some self.old.refusing ≡ true }
         ensures { self.new ≡ closes_link (place_of link self.old.ends) self.old }
@@ -460,7 +460,7 @@ impl Intake {
     }
 
     /// The message that was wanted arrives over this link.
-    pub fn arrive(&mut self, link: usize, parcel: Parcel)
+    pub fn arrive(&mut self, link: LinkId, parcel: Parcel)
         requires { stands_at is_wanted link self.old ≡ true }
         ensures { self.new ≡ arrives link parcel self.old }
     {
@@ -475,7 +475,7 @@ impl Intake {
     /// The offer over this link that waits longest, which it consumes now: there is room for it, and it is set aside.
     ///
     /// Microsoft: `ISourceBlock<TOutput>.ConsumeMessage`, which the caller is to call.
-    pub fn next_postponed(&mut self) -> Option<(usize, MessageHeader)>
+    pub fn next_postponed(&mut self) -> Option<(LinkId, MessageHeader)>
         ensures offer { result ≡ next_wish self.old }
         ensures consumed { self.new ≡ consumes_next self.old }
     {
@@ -491,7 +491,7 @@ impl Intake {
     }
 
     /// Forgets the offer over this link, which was withdrawn or has gone elsewhere: its room is free again.
-    pub fn drop_postponed(&mut self, link: usize)
+    pub fn drop_postponed(&mut self, link: LinkId)
         requires { stands_at may_be_dropped link self.old ≡ true }
         ensures { self.new ≡ drops link self.old }
     {

@@ -3,6 +3,7 @@ use Rattle.std.proofs.Common.{◌≡◌, ◌≢◌, ℕ, ◌<◌, ◌==◌, ◌|
 use Rattle.std.proofs.lemmas.Bool.{OnTrue_at}
 use Rattle.std.proofs.lemmas.Bool.Decides.{nat_tests}
 use Rattle.flow_value.specs.declared.value.Value.{Value}
+use Rattle.flow_value.proofs.DigitsParsed.{not_true}
 use Rattle.flow_link.specs.declared.phase.LinkEnd.{LinkEnd}
 use Rattle.flow_link.specs.declared.phase.LinkEnd.TheVariants.{Plain}
 use Rattle.flow_link.specs.declared.stage.SourceStage.{SourceStage}
@@ -63,10 +64,6 @@ out_or_off Free i p e n = cc
 out_or_off Crossing i p e n = cc
 out_or_off Refused i p e n = cc
 out_or_off (Ended _) i p e n = cc
-
-pub not_true : (b : Bool) → (b ≡ true → ⊥) → b ≡ false
-not_true true n = absurd (n refl)
-not_true false n = refl
 
 pub any_true : {Q : Type 0} (a b c d e : Bool) → (a ≡ true → Q) → (b ≡ true → Q) → (c ≡ true → Q) → (d ≡ true → Q) → (e ≡ true → Q)
     → (a || b || c || d || e) ≡ true → Q

@@ -10,14 +10,14 @@ ghost use Rattle.flow_outlet.specs.ByLink.{is_offered, is_taken, has_room};
 ghost use Rattle.flow_outlet.specs.Outlet.{given_end, end_of};
 ghost use Rattle.flow_outlet.specs.End.{fresh_end, place_in, cursor_after};
 
-use flow_link::{LinkEnd, Outcome, SourceStage};
+use flow_link::{LinkEnd, LinkId, Outcome, SourceStage};
 use flow_value::{MessageHeader, MessageStatus, Value, When};
 
 /// What the plan says of a link that leads out of a block.
 #[derive(Clone, Copy, Debug, PartialEq, Eq)]
 pub struct LinkRule {
     /// The link.
-    pub id: usize,
+    pub id: LinkId,
     /// Which messages it carries.
     pub when: When,
     /// How many messages it carries at most.
@@ -290,13 +290,13 @@ pub(crate) fn cursor_after(
 }
 
 /// The place of the end of a link; where there is none, behind the last.
-pub(crate) fn place_of(ends: &[OutEnd], link: usize) -> usize
+pub(crate) fn place_of(ends: &[OutEnd], link: LinkId) -> usize
     ensures { result ≡ place_of link ends.now }
 {
     found(ends, link).unwrap_or(ends.len())
 }
 
-fn found(ends: &[OutEnd], link: usize) -> Option<usize>
+fn found(ends: &[OutEnd], link: LinkId) -> Option<usize>
     ensures { result ≡ position (λ (end : OutEnd). end.rule.id == link) ends.now }
 {
     ends.iter().position(|end| end.rule.id == link)

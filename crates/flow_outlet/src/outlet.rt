@@ -17,7 +17,7 @@ ghost use Rattle.flow_outlet.specs.declared.fault.OutletFault.TheVariants.{Ids, 
 use crate::ends::{LinkRule, OutEnd, cursor_after, first_from, forget_waiting, place_of};
 use crate::fault::OutletFault;
 use crate::group::Group;
-use flow_link::{LinkEnd, Move, Outcome, Phase, SourceStage};
+use flow_link::{LinkEnd, LinkId, Move, Outcome, Phase, SourceStage};
 use flow_value::{MAX_ID, MessageHeader, MessageStatus, Parcel, Value};
 use std::alloc::{AllocError, Global};
 use std::collections::VecDeque;
@@ -344,7 +344,7 @@ impl Outlet {
     pub fn next_offer(
         &mut self,
         alloc: Global,
-    ) -> Result<Option<(usize, MessageHeader)>, AllocError>
+    ) -> Result<Option<(LinkId, MessageHeader)>, AllocError>
         ensures named { IfOk result (λ named. named ≡ offer_named self.old) }
         ensures out { OnOk result (self.new ≡ offers_next self.old) }
         ensures kept { OnErr result (self.new ≡ self.old) }
@@ -358,7 +358,7 @@ impl Outlet {
     }
 
     /// Whether the link's offer of this message is out, and not answered.
-    pub fn is_asked(&self, link: usize, header: MessageHeader) -> bool
+    pub fn is_asked(&self, link: LinkId, header: MessageHeader) -> bool
         ensures { (result ≡ true) ↔ IsAsked link header self.now }
     {
         self.tests_asked(place_of(&self.ends, link), header)
@@ -375,7 +375,7 @@ impl Outlet {
 
     /// Whether the link may be told of this message, that it comes or that it has gone elsewhere: where it is the head,
     /// the link's target accepted it, or it postponed it and no offer is out.
-    pub fn may_consume(&self, link: usize, header: MessageHeader) -> bool
+    pub fn may_consume(&self, link: LinkId, header: MessageHeader) -> bool
         ensures { (result ≡ true) ↔ MayConsume link header self.now }
     {
         self.tests_consume(place_of(&self.ends, link), header)
@@ -395,7 +395,7 @@ impl Outlet {
     }
 
     /// Notes what the target answered to the offer that is out.
-    pub fn note_answer(&mut self, link: usize, header: MessageHeader, status: MessageStatus)
+    pub fn note_answer(&mut self, link: LinkId, header: MessageHeader, status: MessageStatus)
         requires { IsAsked link header self.old }
         ensures { self.new ≡ answered status header (place_of link self.old.ends) self.old }
     {
@@ -409,7 +409,7 @@ impl Outlet {
 
     /// Gives the message to the target that accepted it, or that it postponed; none, where it has gone elsewhere. All
     /// answers for it are forgotten.
-    pub fn consume_message(&mut self, link: usize, header: MessageHeader) -> Option<Parcel>
+    pub fn consume_message(&mut self, link: LinkId, header: MessageHeader) -> Option<Parcel>
         requires { MayConsume link header self.old }
         ensures consumed { result ≡ consumed header self.old }
         ensures left { self.new ≡ consumes link header self.old }
@@ -426,7 +426,7 @@ impl Outlet {
     }
 
     /// Whether the link has carried as many messages as it may. It then ends, and passes nothing on.
-    pub fn cut(&self, link: usize) -> bool
+    pub fn cut(&self, link: LinkId) -> bool
         requires { place_of link self.now.ends < length self.now.ends }
         ensures { result ≡ is_cut (end_at self.now (place_of link self.now.ends)) }
     {

@@ -6,7 +6,7 @@ use std::test::Fail;
 
 /// What is done with the outlet.
 #[derive(Debug)]
-enum Step {
+enum Call {
     /// These numbers are put, with this weight.
     Put(&'static [i64], u32),
     /// It is asked for its next offer.
@@ -32,23 +32,23 @@ enum Done {
     Room(u32),
 }
 
-/// The steps with two links, where the first id is the last but one.
-const STEPS: &[(Step, Done)] = &[
-    (Step::Put(&[5, 6], 2), Done::Taken),
-    (Step::Put(&[7], 1), Done::NoIds),
-    (Step::Next, Done::Offered(0, MAX_ID - 1)),
-    (Step::Answer(0, MessageStatus::Postponed), Done::Noted),
-    (Step::Next, Done::Offered(1, MAX_ID - 1)),
-    (Step::Answer(1, MessageStatus::Postponed), Done::Noted),
-    (Step::Next, Done::NoOffer),
-    (Step::Consume(1), Done::Gave(5)),
-    (Step::Consume(0), Done::Gone),
-    (Step::Room, Done::Room(0)),
-    (Step::Next, Done::Offered(0, MAX_ID)),
-    (Step::Answer(0, MessageStatus::Accepted), Done::Noted),
-    (Step::Consume(0), Done::Gave(6)),
-    (Step::Room, Done::Room(2)),
-    (Step::Put(&[7], 1), Done::NoIds),
+/// The calls with two links, where the first id is the last but one.
+const CALLS: &[(Call, Done)] = &[
+    (Call::Put(&[5, 6], 2), Done::Taken),
+    (Call::Put(&[7], 1), Done::NoIds),
+    (Call::Next, Done::Offered(0, MAX_ID - 1)),
+    (Call::Answer(0, MessageStatus::Postponed), Done::Noted),
+    (Call::Next, Done::Offered(1, MAX_ID - 1)),
+    (Call::Answer(1, MessageStatus::Postponed), Done::Noted),
+    (Call::Next, Done::NoOffer),
+    (Call::Consume(1), Done::Gave(5)),
+    (Call::Consume(0), Done::Gone),
+    (Call::Room, Done::Room(0)),
+    (Call::Next, Done::Offered(0, MAX_ID)),
+    (Call::Answer(0, MessageStatus::Accepted), Done::Noted),
+    (Call::Consume(0), Done::Gave(6)),
+    (Call::Room, Done::Room(2)),
+    (Call::Put(&[7], 1), Done::NoIds),
 ];
 
 /// A link that carries every message, to a target that may put it off.
@@ -91,13 +91,13 @@ impl Case {
         })
     }
 
-    fn act(&mut self, alloc: Global, step: &Step) -> Result<Done, Fail> {
-        match step {
-            Step::Put(numbers, weight) => self.put(alloc, numbers, *weight),
-            Step::Next => self.next(alloc),
-            Step::Answer(link, status) => self.answer(*link, *status),
-            Step::Consume(link) => self.consume(*link),
-            Step::Room => Ok(Done::Room(self.outlet.room_back())),
+    fn act(&mut self, alloc: Global, call: &Call) -> Result<Done, Fail> {
+        match call {
+            Call::Put(numbers, weight) => self.put(alloc, numbers, *weight),
+            Call::Next => self.next(alloc),
+            Call::Answer(link, status) => self.answer(*link, *status),
+            Call::Consume(link) => self.consume(*link),
+            Call::Room => Ok(Done::Room(self.outlet.room_back())),
         }
     }
 
@@ -145,9 +145,9 @@ impl Case {
 #[test]
 fn outlet_ids_run_out(rt: HostRuntime) -> Result<(), Fail> {
     let mut case = Case::new(rt.alloc())?;
-    for (step, due) in STEPS {
-        let done = case.act(rt.alloc(), step)?;
-        assert!(rt; done == *due, "{step:?} came to {done:?}");
+    for (call, due) in CALLS {
+        let done = case.act(rt.alloc(), call)?;
+        assert!(rt; done == *due, "{call:?} came to {done:?}");
     }
     assert!(rt; case.outlet.left().is_empty());
     Ok(())

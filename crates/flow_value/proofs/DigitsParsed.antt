@@ -4,7 +4,7 @@ use Rattle.std.specs.Char.{is_ascii_digit}
 use Rattle.std.specs.List.{list_all}
 use Rattle.std.specs.Prelude.{FitsSigned}
 use Rattle.std.specs.Str.Parse.{IsNumeral, without_leading_sign, digits_value, signed_digits_value}
-use Rattle.std.proofs.lemmas.Bool.{eqb-true, false≢true}
+use Rattle.std.proofs.lemmas.Bool.{eqb-true, false≢true, and_parts}
 use Rattle.std.proofs.lemmas.Bool.Decides.{Decides-ltb}
 use Rattle.std.proofs.lemmas.Str.Parse.{IsNumeralModel, numerals_by_value}
 use Rattle.flow_value.specs.Number.{without_minus, is_digits, is_i64, int_of}
@@ -18,11 +18,6 @@ chosen b x y e = ap (λ v. cond v x y) e
 
 pub left_over : {A : Type 0} (b : Bool) (x y : A) → b ≡ false → cond b x y ≡ y
 left_over b x y e = ap (λ v. cond v x y) e
-
-pub both_true : (a b : Bool) → (a && b) ≡ true → (a ≡ true) × (b ≡ true)
-both_true true true e = (refl, refl)
-both_true true false e = cc
-both_true false b e = cc
 
 pub not_true : (b : Bool) → (b ≡ true → ⊥) → b ≡ false
 not_true true h = absurd (h refl)
@@ -49,14 +44,14 @@ sign_is_minus (c ∷ cs) e = behind (eqb c 45) (eqb c 43) refl refl e
     behind true plus m p digits = refl
     behind false false m p digits = refl
     behind false true m p digits =
-        let all : list_all is_ascii_digit (c ∷ cs) ≡ true = (both_true _ _ digits).1 in
-        let first : is_ascii_digit c ≡ true = (both_true _ _ all).0 in
+        let all : list_all is_ascii_digit (c ∷ cs) ≡ true = (and_parts _ _ digits).1 in
+        let first : is_ascii_digit c ≡ true = (and_parts _ _ all).0 in
         let plus : is_ascii_digit 43 ≡ true = subst (λ d. is_ascii_digit d ≡ true) (eqb-true c 43 p) first in
         absurd (false≢true plus)
 
 pub numeral_behind_sign : (bs : List ℕ) → is_digits (without_minus bs) ≡ true → IsNumeral 10 (without_leading_sign bs)
 numeral_behind_sign bs e =
-    let both = both_true _ _ e in
+    let both = and_parts _ _ e in
     let same = sign_is_minus bs e in
     rw same ((Decides-ltb 0 (length (without_minus bs))).0 both.0, numerals.to (without_minus bs) both.1)
 

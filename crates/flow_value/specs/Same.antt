@@ -4,6 +4,7 @@ use Rattle.std.specs.Bool.{Decides}
 use Rattle.std.specs.Ordering.{int_eq}
 use Rattle.std.specs.Str.{bytes_eq}
 use Rattle.std.proofs.Common.{ap}
+use Rattle.std.proofs.lemmas.Bool.{and_parts}
 use Rattle.std.proofs.lemmas.Bool.Decides.{Decides-int_eq}
 use Rattle.std.proofs.lemmas.Slice.Eq.{bytes_eq-Decides}
 use Rattle.flow_value.specs.Items.{Items, done, int_then, text_then, row_then}
@@ -23,15 +24,10 @@ same_value (Text s) (Text t) = bytes_eq s t
 same_value (Row r) (Row s) = same_items r s
 same_value _ _ = false
 
-both_true : (a b : Bool) → (a && b) ≡ true → (a ≡ true) × (b ≡ true)
-both_true true true e = (refl, refl)
-both_true true false e = cc
-both_true false b e = cc
-
 pub same_items-Decides : (us vs : Items) → Decides (same_items us vs) (us ≡ vs)
 same_items-Decides done done = (λ e. refl, λ e. refl)
 same_items-Decides (int_then m us) (int_then n vs) = (
-  λ e. let both = both_true (int_eq m n) (same_items us vs) e in
+  λ e. let both = and_parts (int_eq m n) (same_items us vs) e in
       let first = (Decides-int_eq m n).0 both.0 in
       let others = (same_items-Decides us vs).0 both.1 in
       cc,
@@ -40,7 +36,7 @@ same_items-Decides (int_then m us) (int_then n vs) = (
       rw ((Decides-int_eq m n).1 first) ((same_items-Decides us vs).1 others),
 )
 same_items-Decides (text_then s us) (text_then t vs) = (
-  λ e. let both = both_true (bytes_eq s t) (same_items us vs) e in
+  λ e. let both = and_parts (bytes_eq s t) (same_items us vs) e in
       let first = (bytes_eq-Decides s t).0 both.0 in
       let others = (same_items-Decides us vs).0 both.1 in
       cc,
@@ -49,7 +45,7 @@ same_items-Decides (text_then s us) (text_then t vs) = (
       rw ((bytes_eq-Decides s t).1 first) ((same_items-Decides us vs).1 others),
 )
 same_items-Decides (row_then r us) (row_then s vs) = (
-  λ e. let both = both_true (same_items r s) (same_items us vs) e in
+  λ e. let both = and_parts (same_items r s) (same_items us vs) e in
       let first = (same_items-Decides r s).0 both.0 in
       let others = (same_items-Decides us vs).0 both.1 in
       cc,
