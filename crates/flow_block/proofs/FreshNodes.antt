@@ -1,0 +1,173 @@
+-- A node in which nothing has happened is in order.
+use Rattle.std.proofs.Common.{◌≡◌, ℕ, zero, suc, ◌+◌, ◌<◌, true, false, List, [], ◌∷◌, length, map, Option, Some, None, is_some, Result, refl, ap, sym, ◌∙◌, subst, arith}
+use Rattle.std.proofs.lemmas.List.{length-map}
+use Rattle.flow_value.specs.declared.value.Value.{Value}
+use Rattle.flow_link.specs.declared.draft.BlockKind.{BlockKind}
+use Rattle.flow_link.specs.declared.draft.BlockKind.TheVariants.{Buffer, Action, Transform}
+use Rattle.flow_link.specs.declared.stage.Refusal.TheVariants.{OwnFault}
+use Rattle.flow_link.specs.declared.stage.TargetStage.TheVariants.{Refused}
+use Rattle.flow_link.specs.Facts.{facts_in}
+use Rattle.flow_link.specs.Layout.{Layout}
+use Rattle.flow_link.specs.LinkOk.{IsWithin}
+use Rattle.flow_link.specs.Lists.{numbers_from, below}
+use Rattle.flow_link.specs.Plan.{block_in, port_count}
+use Rattle.flow_link.specs.Trace.{has_ended}
+use Rattle.flow_link.proofs.ListTests.{length_numbers}
+use Rattle.flow_intake.specs.Port.{EndState, PortState, fresh_end, end_in, stage_at as port_stage, is_coming, count_at}
+use Rattle.flow_intake.specs.PortLaw.{InLaw, PortLaw, has_ended as has_port_ended}
+use Rattle.flow_outlet.specs.declared.ends.LinkRule.{LinkRule}
+use Rattle.flow_outlet.specs.declared.ends.OutEnd.{OutEnd}
+use Rattle.flow_outlet.specs.End.{fresh_end as fresh_out, end_in as out_in}
+use Rattle.flow_outlet.proofs.LawKept.{calls_keep_law}
+use Rattle.flow_block.specs.Block.{port_in}
+use Rattle.flow_block.specs.Fresh.{FreshInOrder}
+use Rattle.flow_block.specs.NodeLaw.{is_kept, MakesAs, PortAsPlanned, GaveOver, weighed}
+use Rattle.flow_block.specs.Peeks.{is_pending}
+use Rattle.flow_block.specs.Planned.{block_makes, links_to, links_from, rule_of, port_of_plan, fresh_node}
+
+-- each end is a fresh one
+in_ends_fresh : (links : List ℕ) (P : EndState → Type 0) → ((l : ℕ) → P (fresh_end l)) → (k : ℕ)
+    → P (end_in k (map fresh_end links))
+in_ends_fresh [] P each k = each 0
+in_ends_fresh (l ∷ links) P each zero = each l
+in_ends_fresh (l ∷ links) P each (suc k) = in_ends_fresh links P each k
+
+out_ends_fresh : (rules : List LinkRule) (P : OutEnd → Type 0) → ((rule : LinkRule) → P (fresh_out rule))
+    → (k : ℕ) → k < length (map fresh_out rules) → P (out_in (map fresh_out rules) k)
+out_ends_fresh [] P each k there = absurd (omega arith)
+out_ends_fresh (rule ∷ rules) P each zero there = each rule
+out_ends_fresh (rule ∷ rules) P each (suc k) there = out_ends_fresh rules P each k (omega arith)
+
+-- they have the links and the rules that they were made with
+links_kept : (links : List ℕ) → map (λ (end : EndState). end.link) (map fresh_end links) ≡ links
+links_kept [] = refl
+links_kept (l ∷ links) = ap (λ (ls : List ℕ). l ∷ ls) (links_kept links)
+
+rules_kept : (rules : List LinkRule) → map (λ (end : OutEnd). end.rule) (map fresh_out rules) ≡ rules
+rules_kept [] = refl
+rules_kept (rule ∷ rules) = ap (λ (rs : List LinkRule). rule ∷ rs) (rules_kept rules)
+
+none_coming : (links : List ℕ) → count_at is_coming (map fresh_end links) ≡ 0
+none_coming [] = refl
+none_coming (l ∷ links) = let rest = none_coming links in omega arith
+
+within_none : (capacity : Option ℕ) → IsWithin capacity 0
+within_none None = tt
+within_none (Some c) = omega arith
+
+nothing_weighed : (capacity : Option ℕ) (next : ℕ) → [] ≡ weighed capacity next []
+nothing_weighed None next = refl
+nothing_weighed (Some c) next = refl
+
+nothing_made : (result : Value → Result (List Value) ℕ) (kind : BlockKind) → MakesAs result kind [] [] [] [] []
+nothing_made result Buffer = refl
+nothing_made result Action = (record { done = []; results = []; taken_is = refl; worked = refl; all = refl }, refl)
+nothing_made result Transform = record { done = []; results = []; taken_is = refl; worked = refl; all = refl }
+nothing_made result _ = tt
+
+module _ {W : Type 0} (layout : Layout W) (b : ℕ) where
+  -- each port is a fresh one of the plan
+  abbrev ports : List PortState
+  ports = map (port_of_plan layout b) (below (port_count (block_in layout.blocks b)))
+
+  port_from : (first count p : ℕ) → p < count
+      → port_in (map (port_of_plan layout b) (numbers_from first count)) p ≡ port_of_plan layout b (first + p)
+  port_from first zero p small = absurd (omega arith)
+  port_from first (suc count) zero small = ap (port_of_plan layout b) (omega arith)
+  port_from first (suc count) (suc p) small =
+      let next : suc first + p ≡ first + suc p = omega arith in
+      port_from (suc first) count p (omega arith) ∙ ap (port_of_plan layout b) next
+
+  count_is : length ports ≡ port_count (block_in layout.blocks b)
+  count_is =
+      length-map (below (port_count (block_in layout.blocks b))) (port_of_plan layout b)
+      ∙ length_numbers 0 (port_count (block_in layout.blocks b))
+
+  port_is : (p : ℕ) → p < length ports → port_in ports p ≡ port_of_plan layout b p
+  port_is p small =
+      let there : p < port_count (block_in layout.blocks b) = omega (arith, small, count_is) in
+      let same : 0 + p ≡ p = omega arith in
+      port_from 0 (port_count (block_in layout.blocks b)) p there ∙ ap (port_of_plan layout b) same
+
+  -- what holds of each fresh port
+  each_port : (P : ℕ → PortState → Type 0) → ((p : ℕ) → P p (port_of_plan layout b p)) → (p : ℕ) → p < length ports
+      → P p (port_in ports p)
+  each_port P each p small = subst (P p) (sym (port_is p small)) (each p)
+
+  nothing_held : (ps : List ℕ) → (port_in (map (port_of_plan layout b) ps) 0).waiting ≡ []
+  nothing_held [] = refl
+  nothing_held (p ∷ ps) = refl
+
+  port_in_order : (p : ℕ) → PortLaw (facts_in layout) 0 (port_of_plan layout b p)
+  port_in_order p = record {
+    each = λ k there. in_ends_fresh (links_to layout b p)
+        (λ (end : EndState). InLaw (facts_in layout end.link) 0 None [] k end)
+        (λ l. record {
+          queued = refl;
+          hand = refl;
+          refused = λ e. absurd (cc);
+          coming = λ e. absurd (cc);
+          put_off = λ e. absurd (cc);
+        }) k;
+    distinct = tt;
+    known = tt;
+    room = rw (none_coming (links_to layout b p)) (within_none (block_in layout.blocks b).capacity);
+    waits = λ some. omega arith;
+    took = omega arith;
+  }
+
+pub fresh_in_order : (W : Type 0) → FreshInOrder W
+fresh_in_order W layout meaning b built =
+    let node = fresh_node layout b in
+    let rules = map (rule_of layout) (links_from layout b) in
+    let block = block_in layout.blocks b in
+    record {
+      shape = record {
+        built = built;
+        kind_is = refl;
+        port_count_is = count_is layout b;
+        ports = each_port layout b (PortAsPlanned layout meaning b)
+            (λ p. record { links = links_kept (links_to layout b p); capacity = refl; never_reserves = refl });
+        rules = rules_kept rules;
+      };
+      ports = each_port layout b (λ p port. PortLaw (facts_in layout) 0 port) (port_in_order layout b);
+      exits = record {
+        law = calls_keep_law.fresh (is_pending node.block) None rules 1 (omega arith) (omega arith);
+        none_kept = out_ends_fresh rules (λ (end : OutEnd). is_kept end.stage ≡ false) (λ rule. refl);
+      };
+      gave = record {
+        each = out_ends_fresh rules (GaveOver layout meaning b [])
+            (λ rule. record { admitted = refl; counted = λ some. refl });
+        next_is = refl;
+        in_order = refl;
+      };
+      makes = record {
+        makes = subst (λ (held : List Value). MakesAs (block_makes layout meaning b) block.kind [] held [] [] [])
+            (sym (nothing_held layout b (below (port_count block))))
+            (nothing_made (block_makes layout meaning b) block.kind);
+        fault_is = λ number e. absurd (cc);
+      };
+      load = record {
+        groups = nothing_weighed block.capacity 1;
+        no_room = refl;
+        load = each_port layout b (λ p port. is_some block.capacity ≡ true → port.load ≡ length port.waiting + 0)
+            (λ p some. refl);
+      };
+      marks = record { own = refl; last = refl; once = refl };
+      ends = record {
+        stopped_is = refl;
+        ended_is = each_port layout b (λ p port. has_port_ended port.refusing ≡ has_ended p []) (λ p. refl);
+        failed = λ e p small. absurd (cc);
+        own_fault = each_port layout b (λ p port. port.refusing ≡ Some OwnFault → is_some node.block.fault ≡ true)
+            (λ p e. absurd (cc));
+        refused = λ p k small there why e. absurd (each_port layout b (λ p port. port_stage k port ≡ Refused why → ⊥)
+            (λ q. in_ends_fresh (links_to layout b q) (λ (end : EndState). end.stage ≡ Refused why → ⊥) (λ l f. cc) k)
+            p small e);
+        at_rest = λ e. absurd (cc);
+        done_empty = λ e. absurd (cc);
+        done_complete = λ e. absurd (cc);
+        complete_cause = λ p small e. absurd (cc);
+        fault_cause = λ number e. absurd (cc);
+        faulted_by = λ number e. absurd (cc);
+      };
+    }

@@ -1,0 +1,153 @@
+-- What tells that a block has not stopped: a port that has not ended, or a link with something under way.
+use Rattle.std.proofs.Common.{◌≡◌, ℕ, zero, suc, ◌+◌, ◌<◌, ◌==◌, cond, Bool, true, false, not, ◌&&◌, List, [], ◌∷◌}
+use Rattle.std.proofs.Common.{length, set, Option, Some, None, is_none, is_some, Result, refl, sym, ◌∙◌, arith, eq-eqb}
+use Rattle.std.proofs.Common.{eqb-true}
+use Rattle.flow_value.specs.declared.value.Value.{Value}
+use Rattle.flow_link.specs.declared.stage.SourceStage.{SourceStage}
+use Rattle.flow_link.specs.declared.stage.SourceStage.TheVariants.{Accepted, Claimed, Wished, AskedBy, Waiting}
+use Rattle.flow_link.specs.declared.trace.Mark.{Mark}
+use Rattle.flow_link.specs.declared.trace.Outcome.{Outcome}
+use Rattle.flow_link.specs.Layout.{Layout}
+use Rattle.flow_link.specs.Trace.{has_complete}
+use Rattle.flow_link.proofs.ListTests.{both_of}
+use Rattle.flow_intake.specs.Port.{coming}
+use Rattle.flow_intake.specs.PortLaw.{has_ended}
+use Rattle.flow_outlet.specs.declared.ends.OutEnd.{OutEnd}
+use Rattle.flow_outlet.specs.End.{is_away, is_waiting, count_at, end_in}
+use Rattle.flow_outlet.specs.Outlet.{is_empty, is_wanted, is_wish, is_at_rest, stage_at}
+use Rattle.flow_block.specs.Block.{BlockState, port_at, held_by}
+use Rattle.flow_block.specs.Peeks.{could_stop, may_make, may_complete, next_fault, may_finish, fault_cause}
+use Rattle.flow_block.specs.Peeks.{has_seen_completion, nothing_comes, all_ended, holds_nothing}
+use Rattle.flow_block.specs.NodeLaw.{EndsLaw, outcome_in}
+use Rattle.flow_block.proofs.JournalStops.{not_false, open_tells}
+
+-- what counts nothing, and its elements
+none_counted : (b : Bool) (n : ℕ) → (cond b 1 0 + n == 0) ≡ true → (b ≡ false) × ((n == 0) ≡ true)
+none_counted true n e = let wrong = eqb-true (1 + n) 0 e in absurd (omega arith)
+none_counted false n e = let none = eqb-true (0 + n) 0 e in (refl, eq-eqb n 0 (omega arith))
+
+counts_none : (b : Bool) (n : ℕ) → b ≡ false → (n == 0) ≡ true → (cond b 1 0 + n == 0) ≡ true
+counts_none true n e none = absurd (cc)
+counts_none false n e none = let is = eqb-true n 0 none in eq-eqb (0 + n) 0 (omega arith)
+
+nothing_away : (ends : List OutEnd) (k : ℕ) → (count_at is_away ends == 0) ≡ true
+    → is_away (end_in ends k).stage ≡ false
+nothing_away [] k rest = refl
+nothing_away (end ∷ ends) zero rest = (none_counted (is_away end.stage) (count_at is_away ends) rest).0
+nothing_away (end ∷ ends) (suc k) rest =
+    nothing_away ends k (none_counted (is_away end.stage) (count_at is_away ends) rest).1
+
+-- an end that changes, and has nothing under way where it had nothing
+pub rest_stays : (ends : List OutEnd) (k : ℕ) (end : OutEnd)
+    → (is_away (end_in ends k).stage ≡ false → is_away end.stage ≡ false)
+    → (count_at is_away ends == 0) ≡ true → (count_at is_away (set ends k end) == 0) ≡ true
+rest_stays [] k end home rest = rest
+rest_stays (first ∷ ends) zero end home rest =
+    let none = none_counted (is_away first.stage) (count_at is_away ends) rest in
+    counts_none (is_away end.stage) (count_at is_away ends) (home none.0) none.1
+rest_stays (first ∷ ends) (suc k) end home rest =
+    let none = none_counted (is_away first.stage) (count_at is_away ends) rest in
+    counts_none (is_away first.stage) (count_at is_away (set ends k end)) none.0 (rest_stays ends k end home none.1)
+
+pub wanted_away : (next : ℕ) (out : Bool) (stage : SourceStage) → is_wanted next out stage ≡ true → is_away stage ≡ true
+wanted_away next out (Accepted i) e = refl
+wanted_away next out (Claimed i) e = refl
+wanted_away next out (Wished i) e = refl
+wanted_away next out stage e = absurd (cc)
+
+pub wish_away : (stage : SourceStage) → is_wish stage ≡ true → is_away stage ≡ true
+wish_away (Wished i) e = refl
+wish_away (AskedBy i) e = refl
+wish_away stage e = absurd (cc)
+
+pub waiting_away : (stage : SourceStage) → is_waiting stage ≡ true → is_away stage ≡ true
+waiting_away (Waiting i) e = refl
+waiting_away stage e = absurd (cc)
+
+-- What the tests of what it does by itself tell
+
+none_is : (stopped : Option Outcome) → is_none stopped ≡ true → stopped ≡ None
+none_is None e = refl
+none_is (Some how) e = absurd (cc)
+
+could_where : (block : BlockState) → could_stop block ≡ true → block.stopped ≡ None
+could_where block e = none_is block.stopped (both_of (is_none block.stopped) (nothing_comes block.ports) e).0
+
+pub open_where : (p : ℕ) (block : BlockState) → may_complete p block ≡ true
+    → has_ended (port_at p block).refusing ≡ false
+open_where p block e =
+    let open_port = not (has_ended (port_at p block).refusing) in
+    let empty = coming (port_at p block) == 0 in
+    let outer = both_of (open_port && empty) (has_seen_completion (port_at p block).ends) e in
+    not_false (has_ended (port_at p block).refusing) (both_of open_port empty outer.0).0
+
+pub completion_where : (p : ℕ) (block : BlockState) → may_complete p block ≡ true
+    → has_seen_completion (port_at p block).ends ≡ true
+completion_where p block e =
+    (both_of (not (has_ended (port_at p block).refusing) && coming (port_at p block) == 0)
+    (has_seen_completion (port_at p block).ends) e).1
+
+pub making : (block : BlockState) → may_make block ≡ true → block.stopped ≡ None
+making block e =
+    let outer = both_of (is_none block.stopped && is_none block.fault) (not (is_empty (held_by block))) e in
+    none_is block.stopped (both_of (is_none block.stopped) (is_none block.fault) outer.0).0
+
+pub fault_may : (may : Bool) (cause : Option ℕ) (number : ℕ) → cond may cause None ≡ Some number
+    → (may ≡ true) × (cause ≡ Some number)
+fault_may true cause number e = (refl, e)
+fault_may false cause number e = absurd (cc)
+
+pub faulting : (block : BlockState) (number : ℕ) → next_fault block ≡ Some number → block.stopped ≡ None
+faulting block number e =
+    let may = fault_may (could_stop block && is_at_rest block.exits) (fault_cause block) number e in
+    could_where block (both_of (could_stop block) (is_at_rest block.exits) may.0).0
+
+pub record MayFinish (block : BlockState) : Type 0 where
+  pub could : could_stop block ≡ true
+  pub ended : all_ended block.ports ≡ true
+  pub empty : holds_nothing block.ports ≡ true
+  pub none_left : is_empty block.exits.left ≡ true
+  pub rest : is_at_rest block.exits ≡ true
+
+five : (a b c d e : Bool) → (a && b && c && d && e) ≡ true
+    → (a ≡ true) × (b ≡ true) × (c ≡ true) × (d ≡ true) × (e ≡ true)
+five true true true true true all = (refl, refl, refl, refl, refl)
+five false b c d e all = absurd (cc)
+five true false c d e all = absurd (cc)
+five true true false d e all = absurd (cc)
+five true true true false e all = absurd (cc)
+five true true true true false all = absurd (cc)
+
+pub may_finish_tells : (block : BlockState) → may_finish block ≡ true → MayFinish block
+may_finish_tells block e =
+    let all =
+        five (could_stop block) (all_ended block.ports) (holds_nothing block.ports) (is_empty block.exits.left)
+        (is_at_rest block.exits) e in
+    record { could = all.0; ended = all.1; empty = all.2; none_left = all.3; rest = all.4 }
+
+pub finishing : (block : BlockState) → may_finish block ≡ true → block.stopped ≡ None
+finishing block e = could_where block (may_finish_tells block e).could
+
+-- What the law tells
+
+going_where : (stopped : Option Outcome) (rest : Bool) → (is_some stopped ≡ true → rest ≡ true) → rest ≡ false
+    → stopped ≡ None
+going_where None rest h e = refl
+going_where (Some how) rest h e = let clash : true ≡ false = sym (h refl) ∙ e in absurd (cc)
+
+false_where : (a b : Bool) → (b ≡ true → a ≡ false) → a ≡ true → b ≡ false
+false_where a true h e = let clash : true ≡ false = sym e ∙ h refl in absurd (cc)
+false_where a false h e = refl
+
+module _ {W : Type 0} (layout : Layout W) (meaning : ℕ → Value → Result (List Value) ℕ) (b : ℕ) (block : BlockState)
+    (journal : List Mark) (law : EndsLaw layout meaning b block journal) where
+  -- a port that has not ended
+  pub open_goes_on : (p : ℕ) → p < length block.ports → has_ended (port_at p block).refusing ≡ false
+      → (outcome_in journal ≡ None) × (has_complete p journal ≡ false)
+  open_goes_on p below open_port = open_tells p journal (sym (law.ended_is p below) ∙ open_port)
+
+  -- a link with something under way
+  pub away_goes_on : (k : ℕ) → is_away (stage_at block.exits k) ≡ true → block.stopped ≡ None
+  away_goes_on k away =
+      going_where block.stopped (is_at_rest block.exits) law.at_rest
+      (false_where (is_away (stage_at block.exits k)) (is_at_rest block.exits) (nothing_away block.exits.ends k) away)

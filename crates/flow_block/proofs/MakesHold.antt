@@ -1,0 +1,327 @@
+-- Each call keeps what a block makes of what it took.
+use Rattle.std.proofs.Common.{◌≡◌, ℕ, ◌<◌, true, not, ◌&&◌, List, [], ◌∷◌, ◌++◌, length, drop, Option, Some, None}
+use Rattle.std.proofs.Common.{is_none, Result, Ok, Err, refl, ap, sym, ◌∙◌, subst, append-nil, append_assoc, arith}
+use Rattle.std.proofs.lemmas.List.{get_or-set_same}
+use Rattle.flow_value.specs.declared.value.Value.{Value}
+use Rattle.flow_link.specs.declared.draft.BlockKind.{BlockKind}
+use Rattle.flow_link.specs.declared.draft.BlockKind.TheVariants.{Buffer, Action, Transform}
+use Rattle.flow_link.specs.declared.trace.Mark.{Mark}
+use Rattle.flow_link.specs.declared.trace.Mark.TheVariants.{Complete, Fault, Done}
+use Rattle.flow_link.specs.declared.trace.Outcome.{Outcome}
+use Rattle.flow_link.specs.declared.trace.Outcome.TheVariants as outcome
+use Rattle.flow_link.specs.JournalGrows.{taken_by_mark, given_by_mark}
+use Rattle.flow_link.specs.Layout.{Layout}
+use Rattle.flow_link.specs.Plan.{block_in, ports_by_kind, has_work}
+use Rattle.flow_link.specs.Trace.{took, gave}
+use Rattle.flow_link.specs.Worked.{WorkedInto}
+use Rattle.flow_link.proofs.ListTests.{both_of}
+use Rattle.flow_link.proofs.OneMoreMark.{took_no_more, gave_no_more, took_by_took, gave_by_took, took_by_gave}
+use Rattle.flow_link.proofs.OneMoreMark.{gave_by_gave}
+use Rattle.flow_link.proofs.OneMoreWorked.{worked_more}
+use Rattle.flow_intake.specs.Port.{PortState, fresh_port, hand_in}
+use Rattle.flow_intake.specs.Calls.{first_of, wants, turns_down, postpones, refuses, consumes, opens, closes}
+use Rattle.flow_intake.specs.Calls.{looks as port_looks, takes_next, gives_room, port_closes, port_fails}
+use Rattle.flow_outlet.specs.Outlet.{OutletState, is_empty, first_of as first_left, rest_of, head_of, gives, prepares}
+use Rattle.flow_outlet.specs.Outlet.{offers, denies, withdraws, ends_link, looks as exit_looks}
+use Rattle.flow_block.specs.Block.{BlockState, port_at, with_port, held_by, made_of, put_by_kind, yields}
+use Rattle.flow_block.specs.Block.{keeps_results, makes_of, stops_by}
+use Rattle.flow_block.specs.Node.{NodeState, NodeCall, takes_in, gives_from, in_link_at, out_link_at}
+use Rattle.flow_block.specs.NodeKeeps.{MakesKept, MayCall, after_call}
+use Rattle.flow_block.specs.NodeLaw.{NodeLaw, MakesLaw, MakesAs, FaultsOn, ShapeLaw}
+use Rattle.flow_block.specs.Planned.{is_built, block_makes}
+use Rattle.flow_block.proofs.PortsTold.{kept_at_one, kept_at_all}
+
+-- What is taken, given and made
+
+worked_held : (result : Value → Result (List Value) ℕ) (taken held made : List Value) (value : Value)
+    → WorkedInto result taken held made → WorkedInto result (taken ++ value ∷ []) (held ++ value ∷ []) made
+worked_held result taken held made value so_far = record {
+  done = so_far.done;
+  results = so_far.results;
+  taken_is = ap (λ (vs : List Value). vs ++ value ∷ []) so_far.taken_is ∙ append_assoc so_far.done held (value ∷ []);
+  worked = so_far.worked;
+  all = so_far.all;
+}
+
+takes_as : (result : Value → Result (List Value) ℕ) (kind : BlockKind) (taken held given left recorded : List Value)
+    (value : Value)
+    → MakesAs result kind taken held given left recorded
+    → MakesAs result kind (taken ++ value ∷ []) (held ++ value ∷ []) given left recorded
+takes_as result Buffer taken held given left recorded value is =
+    ap (λ (vs : List Value). vs ++ value ∷ []) is ∙ append_assoc (given ++ left) held (value ∷ [])
+takes_as result Action taken held given left recorded value is =
+    (worked_held result taken held recorded value is.0, is.1)
+takes_as result Transform taken held given left recorded value is =
+    worked_held result taken held (given ++ left) value is
+takes_as result kind taken held given left recorded value is = tt
+
+gives_as : (result : Value → Result (List Value) ℕ) (kind : BlockKind) (taken held given left recorded : List Value)
+    (value : Value)
+    → first_left left ≡ Some value → MakesAs result kind taken held given left recorded
+    → MakesAs result kind taken held (given ++ value ∷ []) (rest_of left) recorded
+gives_as result kind taken held given [] recorded value first is = absurd (cc)
+gives_as result Buffer taken held given (head ∷ rest) recorded value first is =
+    let same : head ≡ value = cc in
+    is ∙ ap (λ (v : Value). (given ++ v ∷ rest) ++ held) same
+    ∙ ap (λ (vs : List Value). vs ++ held) (sym (append_assoc given (value ∷ []) rest))
+gives_as result Action taken held given (head ∷ rest) recorded value first is = let none = is.1 in absurd (cc)
+gives_as result Transform taken held given (head ∷ rest) recorded value first is =
+    let same : head ≡ value = cc in
+    subst (λ (vs : List Value). WorkedInto result taken held vs)
+    (ap (λ (v : Value). given ++ v ∷ rest) same ∙ sym (append_assoc given (value ∷ []) rest)) is
+gives_as result kind taken held given (head ∷ rest) recorded value first is = tt
+
+abbrev recorded_by_kind : BlockKind → List Value → List Value
+recorded_by_kind Action values = values
+recorded_by_kind _ values = []
+
+makes_as : (result : Value → Result (List Value) ℕ) (kind : BlockKind)
+    (taken rest given left recorded values : List Value) (value : Value)
+    → made_of kind result value ≡ Ok values → MakesAs result kind taken (value ∷ rest) given left recorded
+    → MakesAs result kind taken rest given (left ++ put_by_kind kind values) (recorded ++ recorded_by_kind kind values)
+makes_as result Buffer taken rest given left recorded values value made is =
+    let same : values ≡ value ∷ [] = cc in
+    is ∙ sym (append_assoc (given ++ left) (value ∷ []) rest)
+    ∙ ap (λ (vs : List Value). vs ++ rest) (append_assoc given left (value ∷ []))
+    ∙ ap (λ (vs : List Value). (given ++ (left ++ vs)) ++ rest) (sym same)
+makes_as result Action taken rest given left recorded values value made is =
+    (worked_more result taken value rest recorded values made is.0, append-nil left ∙ is.1)
+makes_as result Transform taken rest given left recorded values value made is =
+    subst (λ (vs : List Value). WorkedInto result taken rest vs) (append_assoc given left values)
+    (worked_more result taken value rest (given ++ left) values made is)
+makes_as result kind taken rest given left recorded values value made is = tt
+
+-- The fault of its own function
+
+fault_when_taken : (result : Value → Result (List Value) ℕ) (kind : BlockKind) (held : List Value) (value : Value)
+    (number : ℕ)
+    → FaultsOn result kind held number → FaultsOn result kind (held ++ value ∷ []) number
+fault_when_taken result kind held value number faults = record {
+  works = faults.works;
+  message = faults.message;
+  rest = faults.rest ++ value ∷ [];
+  held_is = ap (λ (vs : List Value). vs ++ value ∷ []) faults.held_is;
+  fails = faults.fails;
+}
+
+-- only a function faults
+record Fails (result : Value → Result (List Value) ℕ) (kind : BlockKind) (value : Value) (number : ℕ) : Type 0 where
+  works : has_work kind ≡ true
+  fails : result value ≡ Err number
+
+fails_so : (result : Value → Result (List Value) ℕ) (kind : BlockKind) (value : Value) (number : ℕ)
+    → is_built kind ≡ true → made_of kind result value ≡ Err number → Fails result kind value number
+fails_so result Buffer value number built made = absurd (cc)
+fails_so result Action value number built made = record { works = refl; fails = made }
+fails_so result Transform value number built made = record { works = refl; fails = made }
+fails_so result kind value number built made = absurd (cc)
+
+-- The kinds that are built have one port
+
+one_port : (kind : BlockKind) (ports : Option ℕ) → is_built kind ≡ true → ports_by_kind kind ports ≡ 1
+one_port Buffer ports built = refl
+one_port Action ports built = refl
+one_port Transform ports built = refl
+one_port kind ports built = absurd (cc)
+
+no_fault : (fault : Option ℕ) → is_none fault ≡ true → fault ≡ None
+no_fault None e = refl
+no_fault (Some number) e = absurd (cc)
+
+module _ {W : Type 0} (layout : Layout W) (meaning : ℕ → Value → Result (List Value) ℕ) (b : ℕ) where
+  has_one_port : (block : BlockState) → ShapeLaw layout meaning b block → length block.ports ≡ 1
+  has_one_port block shape =
+      shape.port_count_is
+      ∙ one_port (block_in layout.blocks b).kind (block_in layout.blocks b).ports
+      (ap is_built (sym shape.kind_is) ∙ shape.built)
+
+  -- what the law reads is as it was
+  stays : (block after : BlockState) (journal later : List Mark) → MakesLaw layout meaning b block journal
+      → after.kind ≡ block.kind → held_by after ≡ held_by block → after.exits.left ≡ block.exits.left
+      → after.recorded ≡ block.recorded → after.fault ≡ block.fault
+      → took later ≡ took journal → gave later ≡ gave journal
+      → MakesLaw layout meaning b after later
+  stays block after journal later law kind held left recorded fault taken given = record {
+    makes = rw (kind, held, left, recorded, taken, given) law.makes;
+    fault_is = λ number is. rw (kind, held) (law.fault_is number (sym fault ∙ is));
+  }
+
+  -- one port changes, and keeps what it holds
+  port_stays : (node : NodeState) → MakesLaw layout meaning b node.block node.journal
+      → (p : ℕ) (change : PortState → PortState)
+      → (change (port_at p node.block)).waiting ≡ (port_at p node.block).waiting
+      → MakesLaw layout meaning b (with_port p change node.block) node.journal
+  port_stays node law p change same =
+      stays node.block (with_port p change node.block) node.journal node.journal law refl
+      (kept_at_one (λ port. port.waiting) node.block.ports p 0 (change (port_at p node.block)) same)
+      refl refl refl refl refl
+
+  taken_in : (node : NodeState) → NodeLaw layout meaning b node → (p k : ℕ) (value : Option Value)
+      → p < length node.block.ports
+      → MakesLaw layout meaning b (takes_in p k value node).block (takes_in p k value node).journal
+  taken_in node law p k None below = law.makes
+  taken_in node law p k (Some value) below =
+      let one = has_one_port node.block law.shape in
+      let first : p ≡ 0 = omega arith in
+      let change = closes k value in
+      let held : held_by (with_port p change node.block) ≡ held_by node.block ++ value ∷ [] =
+          rw first (ap (λ (port : PortState). port.waiting)
+          (get_or-set_same node.block.ports 0 (change (port_at 0 node.block)) (fresh_port None) (omega arith))) in
+      let taken = took_by_took node.journal p (in_link_at p k node) value in
+      let given = gave_by_took node.journal p (in_link_at p k node) value in
+      record {
+        makes = rw (held, taken, given)
+            (takes_as (block_makes layout meaning b) node.block.kind (took node.journal) (held_by node.block)
+            (gave node.journal) node.block.exits.left node.block.recorded value law.makes.makes);
+        fault_is = λ number is. rw held
+            (fault_when_taken (block_makes layout meaning b) node.block.kind (held_by node.block) value number
+            (law.makes.fault_is number is));
+      }
+
+  given_out : (node : NodeState) → MakesLaw layout meaning b node.block node.journal → (k : ℕ) (value : Option Value)
+      → head_of node.block.exits ≡ value
+      → MakesLaw layout meaning b (gives_from k value node).block (gives_from k value node).journal
+  given_out node law k None first = law
+  given_out node law k (Some value) first =
+      let held =
+          kept_at_all (λ port. port.waiting) (gives_room (gives k node.block.exits).room) node.block.ports 0
+          (λ port. refl) in
+      let taken = took_by_gave node.journal (out_link_at k node) value in
+      let given = gave_by_gave node.journal (out_link_at k node) value in
+      record {
+        makes = rw (held, taken, given)
+            (gives_as (block_makes layout meaning b) node.block.kind (took node.journal) (held_by node.block)
+            (gave node.journal) node.block.exits.left node.block.recorded value first law.makes);
+        fault_is = λ number is. rw held (law.fault_is number is);
+      }
+
+  -- its exits change, and have the same left to give
+  exits_stay : (node : NodeState) → MakesLaw layout meaning b node.block node.journal → (exits : OutletState)
+      → exits.left ≡ node.block.exits.left
+      → MakesLaw layout meaning b (record node.block { exits = exits }) node.journal
+  exits_stay node law exits same =
+      stays node.block (record node.block { exits = exits }) node.journal node.journal law
+      refl refl same refl refl refl refl
+
+  -- all its ports close
+  stops_so : (node : NodeState) → MakesLaw layout meaning b node.block node.journal → (how : Outcome) (mark : Mark)
+      → taken_by_mark (λ port link. true) mark ≡ [] → given_by_mark (λ link. true) mark ≡ []
+      → MakesLaw layout meaning b (stops_by how node.block) (node.journal ++ mark ∷ [])
+  stops_so node law how mark takes gives =
+      stays node.block (stops_by how node.block) node.journal (node.journal ++ mark ∷ []) law refl
+      (kept_at_all (λ port. port.waiting) port_closes node.block.ports 0 (λ port. refl)) refl refl refl
+      (took_no_more node.journal mark takes) (gave_no_more node.journal mark gives)
+
+  -- it works on the message that it holds first
+  held_next : (block : BlockState) (change : PortState → PortState) (value : Value) (rest : List Value)
+      → length block.ports ≡ 1
+      → held_by block ≡ value ∷ rest → ((port : PortState) → (change port).waiting ≡ drop 1 port.waiting)
+      → held_by (with_port 0 change block) ≡ rest
+  held_next block change value rest one first changes =
+      ap (λ (port : PortState). port.waiting)
+          (get_or-set_same block.ports 0 (change (port_at 0 block)) (fresh_port None) (omega arith))
+      ∙ changes (port_at 0 block) ∙ ap (λ (vs : List Value). drop 1 vs) first
+
+  made_more : (kind : BlockKind) (block : BlockState) (journal : List Mark) (value : Value) (rest values : List Value)
+      → block.kind ≡ kind
+      → held_by block ≡ value ∷ rest → made_of kind (block_makes layout meaning b) value ≡ Ok values
+      → MakesLaw layout meaning b block journal
+      → MakesAs (block_makes layout meaning b) kind (took journal) rest (gave journal)
+        (block.exits.left ++ put_by_kind kind values) (block.recorded ++ recorded_by_kind kind values)
+  made_more kind block journal value rest values same first made law =
+      let left = block.exits.left in
+      let result = block_makes layout meaning b in
+      makes_as result kind (took journal) rest (gave journal) left block.recorded values value made
+      (subst (λ (k : BlockKind). MakesAs result k (took journal) (value ∷ rest) (gave journal) left block.recorded) same
+      (subst (λ (held : List Value). MakesAs result block.kind (took journal) held (gave journal) left block.recorded)
+      first law.makes))
+
+  kept_as : (kind : BlockKind) (block : BlockState) (journal : List Mark) (value : Value) (rest values : List Value)
+      → block.kind ≡ kind
+      → is_built kind ≡ true → length block.ports ≡ 1 → block.fault ≡ None → held_by block ≡ value ∷ rest
+      → made_of kind (block_makes layout meaning b) value ≡ Ok values → MakesLaw layout meaning b block journal
+      → MakesLaw layout meaning b (keeps_results kind values block) journal
+  kept_as Action block journal value rest values same built one none first made law =
+      let held = held_next block (λ port. gives_room 1 (takes_next port)) value rest one first (λ port. refl) in
+      let made_so = made_more Action block journal value rest values same first made law in
+      record {
+        makes = rw (same, held) (made_so.0, sym (append-nil block.exits.left) ∙ made_so.1);
+        fault_is = λ number is. absurd (let never : None ≡ Some number = sym none ∙ is in cc);
+      }
+  kept_as Buffer block journal value rest values same built one none first made law = record {
+    makes = rw (same, held_next block takes_next value rest one first (λ port. refl))
+        (made_more Buffer block journal value rest values same first made law);
+    fault_is = λ number is. absurd (let never : None ≡ Some number = sym none ∙ is in cc);
+  }
+  kept_as Transform block journal value rest values same built one none first made law = record {
+    makes = rw (same, held_next block takes_next value rest one first (λ port. refl))
+        (made_more Transform block journal value rest values same first made law);
+    fault_is = λ number is. absurd (let never : None ≡ Some number = sym none ∙ is in cc);
+  }
+  kept_as kind block journal value rest values same built one none first made law = absurd (cc)
+
+  yielded : (block : BlockState) (journal : List Mark) (value : Value) (rest : List Value)
+      (made : Result (List Value) ℕ)
+      → length block.ports ≡ 1 → block.fault ≡ None → held_by block ≡ value ∷ rest
+      → is_built block.kind ≡ true
+      → made_of block.kind (block_makes layout meaning b) value ≡ made → MakesLaw layout meaning b block journal
+      → MakesLaw layout meaning b (yields made block) journal
+  yielded block journal value rest (Ok values) one none first built is law =
+      kept_as block.kind block journal value rest values refl built one none first is law
+  yielded block journal value rest (Err number) one none first built is law =
+      let held = kept_at_all (λ port. port.waiting) port_fails block.ports 0 (λ port. refl) in
+      let faults = fails_so (block_makes layout meaning b) block.kind value number built is in
+      record {
+        makes = rw held law.makes;
+        fault_is = λ other same. record {
+          works = faults.works;
+          message = value;
+          rest = rest;
+          held_is = held ∙ first;
+          fails = faults.fails ∙ ap Err (let numbers : number ≡ other = cc in numbers);
+        };
+      }
+
+  made_next : (block : BlockState) (journal : List Mark) (held : List Value) → held_by block ≡ held
+      → length block.ports ≡ 1 → block.fault ≡ None → is_built block.kind ≡ true
+      → MakesLaw layout meaning b block journal
+      → MakesLaw layout meaning b (makes_of (block_makes layout meaning b) (first_of held) block) journal
+  made_next block journal [] is one none built law = law
+  made_next block journal (value ∷ rest) is one none built law =
+      let made = made_of block.kind (block_makes layout meaning b) value in
+      yielded block journal value rest made one none is built refl law
+
+  after_each : (node : NodeState) (call : NodeCall) → NodeLaw layout meaning b node → MayCall layout meaning b call node
+      → MakesLaw layout meaning b (after_call layout meaning b call node).block
+      (after_call layout meaning b call node).journal
+  after_each node (NodeCall.want p k) law may = port_stays node law.makes p (wants k) refl
+  after_each node (NodeCall.turn_down p k) law may = port_stays node law.makes p (turns_down k) refl
+  after_each node (NodeCall.postpone p k) law may = port_stays node law.makes p (postpones k) refl
+  after_each node (NodeCall.refuse p k) law may = port_stays node law.makes p (refuses k) refl
+  after_each node (NodeCall.consume p k) law may = port_stays node law.makes p (consumes k) refl
+  after_each node (NodeCall.open_with p k value) law may = port_stays node law.makes p (opens k value) refl
+  after_each node (NodeCall.close p k) law may = taken_in node law p k (hand_in k (port_at p node.block).ends) may.port
+  after_each node (NodeCall.give k) law may = given_out node law.makes k (head_of node.block.exits) refl
+  after_each node (NodeCall.look_in p k phase) law may = port_stays node law.makes p (port_looks k phase) refl
+  after_each node NodeCall.make law may =
+      let block = node.block in
+      let tests = both_of (is_none block.stopped && is_none block.fault) (not (is_empty (held_by block))) may.waits in
+      let none = no_fault block.fault (both_of (is_none block.stopped) (is_none block.fault) tests.0).1 in
+      made_next block node.journal (held_by block) refl (has_one_port block law.shape) none law.shape.built law.makes
+  after_each node (NodeCall.complete p) law may =
+      stays node.block (with_port p port_closes node.block) node.journal (node.journal ++ Complete p ∷ []) law.makes
+      refl (kept_at_one (λ port. port.waiting) node.block.ports p 0 (port_closes (port_at p node.block)) refl)
+      refl refl refl
+      (took_no_more node.journal (Complete p) refl) (gave_no_more node.journal (Complete p) refl)
+  after_each node (NodeCall.fault number) law may =
+      stops_so node law.makes (outcome.Faulted number) (Fault number) refl refl
+  after_each node NodeCall.finish law may = stops_so node law.makes outcome.Done Done refl refl
+  after_each node (NodeCall.offer k) law may = exits_stay node law.makes (offers k (prepares node.block.exits)) refl
+  after_each node (NodeCall.deny k) law may = exits_stay node law.makes (denies k node.block.exits) refl
+  after_each node (NodeCall.withdraw k) law may = exits_stay node law.makes (withdraws k node.block.exits) refl
+  after_each node (NodeCall.end_link k how) law may = exits_stay node law.makes (ends_link k how node.block.exits) refl
+  after_each node (NodeCall.look_out k phase) law may =
+      exits_stay node law.makes (exit_looks k phase node.block.exits) refl
+
+pub makes_kept : (W : Type 0) → MakesKept W
+makes_kept W layout meaning b node call law may = after_each layout meaning b node call law may

@@ -1,0 +1,459 @@
+-- A node in order keeps what each block of a lawful run keeps.
+use Rattle.std.proofs.Common.{◌≡◌, ℕ, ◌+◌, ◌==◌, ◌<◌, ltb, Bool, true, false, not, ◌&&◌, ◌||◌, is_some, List, [], ◌∷◌, ◌++◌, length, get_or, Option, Some, None, refl, ap, sym, subst, ◌∙◌, arith, ⊎_elim, eq-eqb, eqb-true, ltb-true, le-leb}
+use Rattle.std.proofs.lemmas.Bool.{OnTrue_at}
+use Rattle.std.proofs.Math.ListN.{get_or-map}
+use Rattle.flow_value.specs.When.{admits}
+use Rattle.flow_value.specs.declared.value.Value.{Value}
+use Rattle.flow_link.specs.declared.draft.BlockKind.{BlockKind}
+use Rattle.flow_link.specs.declared.draft.BlockKind.TheVariants.{Buffer, Action, Transform}
+use Rattle.flow_link.specs.declared.phase.LinkEnd.{LinkEnd}
+use Rattle.flow_link.specs.declared.phase.LinkEnd.TheVariants as link_end
+use Rattle.flow_link.specs.declared.plan.LinkSource.TheVariants.{Block}
+use Rattle.flow_link.specs.declared.plan.LinkTarget.TheVariants.{Port}
+use Rattle.flow_link.specs.declared.stage.Refusal.{Refusal}
+use Rattle.flow_link.specs.declared.stage.Refusal.TheVariants as refusal
+use Rattle.flow_link.specs.declared.trace.Mark.{Mark}
+use Rattle.flow_link.specs.declared.trace.Mark.TheVariants.{Took, Gave, Complete, Fault, Done}
+use Rattle.flow_link.specs.Composes.{Ends, SourceKeeps, TargetKeeps, SpeaksForOne, WorksInto, NodeMakes, NodeKeeps, RefusesFor, as_seen, is_refused_stage, is_coming, is_spoken_for, has_seen_completion, has_seen_fault, has_seen_cause, has_room_at, coming}
+use Rattle.flow_link.specs.Copies.{copies_as}
+use Rattle.flow_link.specs.Endings.{first_fault, fault_by_kind, fault_of, own_fault, is_number, is_complete, is_complete_as, has_nothing, stops, completes_once}
+use Rattle.flow_link.specs.Law.{is_own_mark, has_own_marks, has_room_for, takes_level, is_passed, gives_in_order, keeps_link_order}
+use Rattle.flow_link.specs.LinkOk.{IsWithin}
+use Rattle.flow_link.specs.Lists.{every, some, below, is_empty}
+use Rattle.flow_link.specs.Making.{outputs, load, load_as}
+use Rattle.flow_link.specs.Plan.{has_work, begins_at, ends_at, ends_at_port, is_one_taker, is_reserving, reserves_by_kind, is_steady, port_count}
+use Rattle.flow_link.specs.Stage.{source_stage_of, target_stage_of, refusal_of}
+use Rattle.flow_link.specs.Trace.{BlockTrace, Run, took, gave, gave_over, took_over, has_complete, has_fault, has_ended, is_done, is_faulted, is_used_up, is_cut, block_of, link_of, link_numbers, trace_of, marks_of, held_at, left_at, ports_of, given_by}
+use Rattle.flow_link.specs.Views as views
+use Rattle.flow_link.specs.Worked.{WorkedInto}
+use Rattle.flow_link.proofs.ListTests.{and_true, both_of, or_first, or_second, or_not, every_below, every_weaker_below, length_numbers}
+use Rattle.flow_intake.specs.Port.{EndState, PortState, end_in, fresh_end, fresh_port, coming as coming_at, is_coming as is_coming_at}
+use Rattle.flow_intake.specs.PortLaw.{has_ended as has_port_ended}
+use Rattle.flow_outlet.specs.declared.ends.LinkRule.{LinkRule}
+use Rattle.flow_outlet.specs.declared.ends.OutEnd.{OutEnd}
+use Rattle.flow_outlet.specs.End.{no_end, is_cut as is_end_cut}
+use Rattle.flow_outlet.specs.Law.{is_refused}
+use Rattle.flow_outlet.specs.Outlet.{end_at, end_of, is_empty as has_none}
+use Rattle.flow_block.specs.Block.{port_at, held_by}
+use Rattle.flow_block.specs.Node.{NodeState, in_view}
+use Rattle.flow_block.specs.NodeLaw.{NodeLaw, MakesAs, RefusesFor as RefusesBy, refuses_over, run_seen_by, is_fault_seen}
+use Rattle.flow_block.specs.NodeSeen.{IsNodeOf, NodesAreLawful}
+use Rattle.flow_block.specs.Peeks.{is_completion, holds_nothing}
+use Rattle.flow_block.specs.Planned.{is_built, out_place, in_place, block_makes}
+use Rattle.flow_block.proofs.EndingsTell.{every_mark, complete_own, done_outcome, outcome_done, outcome_fault, outcome_told, ended_complete, ended_fault, ended_plain, cut_told, ended_stage, refused_told, spoken_is_out, refusal_told, coming_told, completion_told, fault_told}
+use Rattle.flow_block.proofs.LinksOfNode.{IsEndIn, HasEndOut, end_in_is, end_in_of, end_out_is, end_out_of, count_of_links, there_at_port, there_at_block, source_there}
+use Rattle.flow_block.proofs.PlacesOfNumbers.{some_below, some_at, every_at}
+
+-- what holds of each kind that is built
+by_kind : (P : BlockKind → Type 0) → P Buffer → P Action → P Transform → (kind : BlockKind) → is_built kind ≡ true
+    → P kind
+by_kind P buffer action transform Buffer e = buffer
+by_kind P buffer action transform Action e = action
+by_kind P buffer action transform Transform e = transform
+by_kind P buffer action transform _ e = absurd (cc)
+
+-- one of three
+or_one : (a b c : Bool) → a ≡ true → a || b || c ≡ true
+or_one true b c e = refl
+or_one false b c e = absurd (cc)
+
+or_others : (a b c : Bool) → b || c ≡ true → a || b || c ≡ true
+or_others true b c e = refl
+or_others false b c e = e
+
+-- what counts only where there is a capacity fits
+fits : {W : Type 0} (run : Run W) (capacity : Option ℕ) (count kept : ℕ) → (is_some capacity ≡ true → kept ≡ count)
+    → IsWithin capacity kept → has_room_for run capacity count ≡ true
+fits run None count kept same within = refl
+fits run (Some capacity) count kept same within = le-leb count capacity (omega (arith, same refl, within))
+
+empty_where : (values : List Value) → has_none values ≡ true → is_empty values ≡ true
+empty_where [] e = refl
+empty_where (value ∷ values) e = absurd (cc)
+
+-- an earlier link that was passed over, where its refusal is seen
+passed_by : (begins rejects late used told seen : Bool) → (begins ≡ true → told ≡ true → seen ≡ true)
+    → (not begins || rejects || late || used || told) ≡ true → (not begins || rejects || late || used || seen) ≡ true
+passed_by false rejects late used told seen h e = refl
+passed_by true true late used told seen h e = refl
+passed_by true false true used told seen h e = refl
+passed_by true false false true told seen h e = refl
+passed_by true false false false told seen h e = h refl e
+
+module _ {W : Type 0} (run : Run W) (ends : ℕ → Ends) (b : ℕ) (node : NodeState)
+    (law : NodeLaw run.layout run.meaning b node) (is : IsNodeOf run ends b node)
+    (known : (l p : ℕ) → l < length run.layout.links → (link_of run l).target ≡ Port b p
+    → p < length node.block.ports) where
+  abbrev ends_of : ℕ → List EndState
+  ends_of p = (port_at p node.block).ends
+
+  abbrev end_into : ℕ → ℕ → EndState
+  end_into p k = end_in k (ends_of p)
+
+  abbrev place_of : ℕ → ℕ
+  place_of l = out_place run.layout b l
+
+  abbrev end_from : ℕ → OutEnd
+  end_from l = end_at node.block.exits (place_of l)
+
+  -- the links over which completion, or a fault, is seen to come
+  abbrev completes_over : ℕ → ℕ → Bool
+  completes_over p l = ends_at_port b p (link_of run l).target && has_seen_completion (ends l).target.stage
+
+  abbrev faults_over : ℕ → ℕ → Bool
+  faults_over number l = ends_at b (link_of run l).target && has_seen_fault number (ends l).target.stage
+
+  -- the run as the node's own ends know it
+  abbrev own_run : Run W
+  own_run = run_seen_by run.layout run.meaning b node.block.exits.ends
+
+  abbrev MakesAsKind : BlockKind → Type 0
+  MakesAsKind kind =
+      MakesAs (block_makes run.layout run.meaning b) kind (took node.journal) (held_by node.block) (gave node.journal)
+      node.block.exits.left node.block.recorded
+
+  -- the links and their ends stand where the plan has them
+  into_is : (p k : ℕ) → p < length node.block.ports → k < length (ends_of p)
+      → IsEndIn run.layout run.meaning b node.block law.shape p k (end_into p k).link
+  into_is p k there small = end_in_is run.layout run.meaning b node.block law.shape p k there small
+
+  from_has : (l : ℕ) → l < length run.layout.links → (link_of run l).source ≡ Block b
+      → HasEndOut run.layout run.meaning b node.block law.shape l
+  from_has l small begins = end_out_of run.layout run.meaning b node.block law.shape l small begins
+
+  plain : is_built (block_of run b).kind ≡ true
+  plain = ap is_built (sym law.shape.kind_is) ∙ law.shape.built
+
+  marks_are : marks_of run b ≡ node.journal
+  marks_are = ap (λ (t : BlockTrace). t.journal) is.trace
+
+  left_is : left_at run b ≡ node.block.exits.left
+  left_is = ap (λ (t : BlockTrace). t.left) is.trace
+
+  held_is : (p : ℕ) → held_at run b p ≡ (port_at p node.block).waiting
+  held_is p =
+      ap (λ (t : BlockTrace). get_or t.held p []) is.trace
+      ∙ get_or-map (λ (port : PortState). port.waiting) node.block.ports p (fresh_port None)
+
+  -- what is shown of the journal holds of the marks
+  of_marks : (P : List Mark → Type 0) → P node.journal → P (marks_of run b)
+  of_marks P h = subst P (sym marks_are) h
+
+  port_there : (p : ℕ) → p < port_count (block_of run b) → p < length node.block.ports
+  port_there p small = omega (arith, law.shape.port_count_is)
+
+  own_marks_so : has_own_marks run b ≡ true
+  own_marks_so = of_marks (λ marks. every (is_own_mark run b) marks ≡ true) law.marks.own
+
+  -- what it makes
+  works_so : (made of_trace : List Value) → made ≡ of_trace
+      → WorkedInto (block_makes run.layout run.meaning b) (took node.journal) (held_by node.block) made
+      → WorksInto run ends b of_trace
+  works_so made of_trace same into = record {
+    done = into.done;
+    results = into.results;
+    taken = ap took marks_are ∙ into.taken_is ∙ ap (λ (held : List Value). into.done ++ held) (sym (held_is 0));
+    worked = into.worked;
+    all = sym same ∙ into.all;
+  }
+
+  outputs_are : gave node.journal ++ node.block.exits.left ≡ outputs run b
+  outputs_are = sym (ap (λ (t : BlockTrace). gave t.journal ++ t.left) is.trace)
+
+  makes_by : (kind : BlockKind) → is_built kind ≡ true → MakesAsKind kind → NodeMakes run ends b kind
+  makes_by Buffer built makes =
+      ap took marks_are ∙ makes ∙ ap (λ (made : List Value). made ++ held_by node.block) outputs_are
+      ∙ ap (λ (held : List Value). outputs run b ++ held) (sym (held_is 0))
+  makes_by Action built makes = record {
+    works = works_so node.block.recorded (trace_of run b).recorded
+        (sym (ap (λ (t : BlockTrace). t.recorded) is.trace)) makes.0;
+    none_left = left_is ∙ makes.1;
+  }
+  makes_by Transform built makes =
+      works_so (gave node.journal ++ node.block.exits.left) (outputs run b) outputs_are makes
+  makes_by _ built makes = absurd (cc)
+
+  makes_so : NodeMakes run ends b (block_of run b).kind
+  makes_so =
+      makes_by (block_of run b).kind plain (subst MakesAsKind law.shape.kind_is law.makes.makes)
+
+  -- what its ends of the links into it know
+  seen_stage : (p k : ℕ) → p < length node.block.ports → k < length (ends_of p)
+      → (ends (end_into p k).link).target.stage ≡ target_stage_of (end_into p k).stage (end_into p k).hand
+  seen_stage p k there small =
+      let link = into_is p k there small in
+      ap (λ (view : views.TargetView Value). view.stage)
+      (is.targets (end_into p k).link p link.there link.leads ∙ ap (λ (j : ℕ). in_view p j node) link.place)
+
+  -- room
+  coming_is : (p : ℕ) → p < length node.block.ports → coming run ends b p ≡ coming_at (port_at p node.block)
+  coming_is p there =
+      count_of_links run.layout run.meaning b node.block law.shape p is_coming_at
+      (λ l. is_coming (ends l).target.stage) there
+      (λ k small. ap is_coming (seen_stage p k there small) ∙ coming_told (end_into p k).stage (end_into p k).hand)
+
+  load_is : (p : ℕ) → load run b p ≡ length (held_at run b p) + length (left_at run b)
+  load_is p =
+      by_kind (λ kind. load_as run b kind p ≡ length (held_at run b p) + length (left_at run b)) refl refl refl
+      (block_of run b).kind plain
+
+  place_taken : (p : ℕ) → p < length node.block.ports → is_some (block_of run b).capacity ≡ true
+      → (port_at p node.block).load + coming_at (port_at p node.block) ≡ load run b p + coming run ends b p
+  place_taken p there bounded =
+      omega (arith, law.load.load p there bounded, load_is p, ap length (held_is p), ap length left_is,
+      coming_is p there)
+
+  room_so : every (has_room_at run ends b) (ports_of run b) ≡ true
+  room_so =
+      every_below (has_room_at run ends b) (port_count (block_of run b))
+      (λ p small. let there = port_there p small in
+      let kept = (port_at p node.block).load + coming_at (port_at p node.block) in
+      fits run (block_of run b).capacity (load run b p + coming run ends b p) kept
+      (place_taken p there)
+      (subst (λ (capacity : Option ℕ). IsWithin capacity kept) (law.shape.ports p there).capacity
+      (law.ports p there).room))
+
+  level_so : takes_level run b ≡ true
+  level_so =
+      or_first (not (is_reserving (block_of run b))) _
+      (by_kind (λ kind. not (reserves_by_kind kind (block_of run b).greedy) ≡ true) refl refl refl
+      (block_of run b).kind plain)
+
+  copies_so : copies_as (as_seen run ends) b (block_of run b).kind ≡ true
+  copies_so = by_kind (λ kind. copies_as (as_seen run ends) b kind ≡ true) refl refl refl (block_of run b).kind plain
+
+  -- how it ends
+  complete_is : is_complete run b ≡ every (λ p. has_complete p (marks_of run b)) (ports_of run b)
+  complete_is =
+      by_kind (λ kind. is_complete_as run kind b ≡ every (λ p. has_complete p (marks_of run b)) (ports_of run b))
+      refl refl refl (block_of run b).kind plain
+
+  none_held : holds_nothing node.block.ports ≡ true → every (λ p. is_empty (held_at run b p)) (ports_of run b) ≡ true
+  none_held e =
+      every_below (λ p. is_empty (held_at run b p)) (port_count (block_of run b))
+      (λ p small. ap is_empty (held_is p) ∙ empty_where (port_at p node.block).waiting
+      (every_at (λ (port : PortState). has_none port.waiting) node.block.ports (fresh_port None) p e
+      (port_there p small)))
+
+  done_so : is_done (marks_of run b) ≡ true → (is_complete run b && has_nothing run b) ≡ true
+  done_so e =
+      let ended : is_done node.journal ≡ true = ap is_done (sym marks_are) ∙ e in
+      let nothing = law.ends.done_empty (law.ends.stopped_is ∙ done_outcome node.journal law.marks.last ended) in
+      and_true (is_complete run b) (has_nothing run b)
+      (complete_is
+      ∙ of_marks (λ marks. every (λ p. has_complete p marks) (ports_of run b) ≡ true)
+      (subst (λ (n : ℕ). every (λ p. has_complete p node.journal) (below n) ≡ true) law.shape.port_count_is
+      (law.ends.done_complete ended)))
+      (and_true (every (λ p. is_empty (held_at run b p)) (ports_of run b)) (is_empty (left_at run b))
+      (none_held nothing.0) (ap is_empty (left_is ∙ nothing.1)))
+
+  own_fault_is : (number : ℕ) → node.block.fault ≡ Some number → own_fault run b ≡ Some number
+  own_fault_is number e =
+      let has = law.makes.fault_is number e in
+      ap (fault_by_kind run b) (ap has_work (sym law.shape.kind_is) ∙ has.works)
+      ∙ ap (first_fault run b) (held_is 0 ∙ has.held_is) ∙ ap fault_of has.fails
+
+  completion_seen : (p : ℕ) → has_complete p node.journal ≡ true → has_seen_cause run ends b (Complete p) ≡ true
+  completion_seen p e =
+      let own = ltb-true p (length (ports_of run b)) (complete_own run b p node.journal law.marks.own e) in
+      let there = port_there p (omega (arith, own, length_numbers 0 (port_count (block_of run b)))) in
+      let at = some_at (λ (end : EndState). is_completion end.stage) (ends_of p) (fresh_end 0)
+      (law.ends.complete_cause p there e) in
+      let end = end_into p at.place in
+      let link = into_is p at.place there at.there in
+      or_first (some (completes_over p) (link_numbers run)) _
+      (some_below (completes_over p) (length run.layout.links) end.link link.there
+      (and_true (ends_at_port b p (link_of run end.link).target) (has_seen_completion (ends end.link).target.stage)
+      (there_at_port b p (link_of run end.link).target link.leads)
+      (ap has_seen_completion (seen_stage p at.place there at.there) ∙ completion_told end.stage end.hand at.passes)))
+
+  fault_came : (number : ℕ)
+      → some (λ (port : PortState). some (λ (end : EndState). is_fault_seen number end) port.ends) node.block.ports
+      ≡ true
+      → some (faults_over number) (link_numbers run) ≡ true
+  fault_came number e =
+      let seen : EndState → Bool = λ end. is_fault_seen number end in
+      let port = some_at (λ (port : PortState). some seen port.ends) node.block.ports (fresh_port None) e in
+      let p = port.place in
+      let at = some_at seen (ends_of p) (fresh_end 0) port.passes in
+      let end = end_into p at.place in
+      let link = into_is p at.place port.there at.there in
+      some_below (faults_over number) (length run.layout.links) end.link link.there
+      (and_true (ends_at b (link_of run end.link).target) (has_seen_fault number (ends end.link).target.stage)
+      (there_at_block b p (link_of run end.link).target link.leads)
+      (ap (has_seen_fault number) (seen_stage p at.place port.there at.there)
+      ∙ fault_told number end.stage end.hand at.passes))
+
+  fault_so : (number : ℕ) → has_fault number node.journal ≡ true → has_seen_cause run ends b (Fault number) ≡ true
+  fault_so number e =
+      let over = some (faults_over number) (link_numbers run) in
+      ⊎_elim
+      (λ own. or_first (is_number number (own_fault run b)) over
+      (ap (is_number number) (own_fault_is number own) ∙ eq-eqb number number refl))
+      (λ came. or_second (is_number number (own_fault run b)) over (fault_came number came))
+      (law.ends.fault_cause number e)
+
+  causes_so : every (has_seen_cause run ends b) (marks_of run b) ≡ true
+  causes_so =
+      of_marks (λ marks. every (has_seen_cause run ends b) marks ≡ true)
+      (every_mark (has_seen_cause run ends b) node.journal (λ p l v. refl) (λ l v. refl) refl completion_seen fault_so)
+
+  -- its ends of the links out of it
+  seen_out : (l : ℕ) → l < length run.layout.links → (link_of run l).source ≡ Block b
+      → (ends l).source.stage ≡ source_stage_of (end_from l).stage
+  seen_out l small begins = ap (λ (view : views.SourceView Value). view.stage) (is.sources l small begins)
+
+  refused_seen : (l : ℕ) → l < length run.layout.links → (link_of run l).source ≡ Block b
+      → refuses_over node.block.exits.ends l ≡ true → is_refused_stage (ends l).source.stage ≡ true
+  refused_seen l small begins e =
+      let at = some_at (λ (end : OutEnd). end.rule.id == l && is_refused end.stage) node.block.exits.ends no_end e in
+      let end = end_at node.block.exits at.place in
+      let both = both_of (end.rule.id == l) (is_refused end.stage) at.passes in
+      let stands = end_out_is run.layout run.meaning b node.block law.shape at.place at.there in
+      let place : place_of l ≡ at.place = ap place_of (sym (eqb-true end.rule.id l both.0)) ∙ stands.place in
+      ap is_refused_stage
+      (seen_out l small begins ∙ ap (λ (k : ℕ). source_stage_of (end_at node.block.exits k).stage) place)
+      ∙ refused_told end.stage both.1
+
+  passed_so : (before : List Mark) (value : Value) (l : ℕ) → l < length run.layout.links
+      → is_passed own_run b before value l ≡ true → is_passed (as_seen run ends) b before value l ≡ true
+  passed_so before value l small e =
+      passed_by (begins_at b (link_of run l).source) (not (admits (link_of run l).when value))
+      (not (is_steady run.layout.blocks (link_of run l).target)) (is_used_up (link_of run l).max (gave_over l before))
+      (refuses_over node.block.exits.ends l) (is_refused_stage (ends l).source.stage)
+      (λ begins. refused_seen l small (source_there b (link_of run l).source begins)) e
+
+  order_so : (before marks : List Mark) → every (is_own_mark run b) marks ≡ true
+      → gives_in_order own_run b before marks ≡ true → gives_in_order (as_seen run ends) b before marks ≡ true
+  order_so before [] own e = refl
+  order_so before (Gave link value ∷ marks) own e =
+      let mine = both_of (is_own_mark run b (Gave link value)) (every (is_own_mark run b) marks) own in
+      let there = ltb-true link (length run.layout.links)
+      (both_of (ltb link (length run.layout.links)) (begins_at b (link_of run link).source) mine.0).0 in
+      let both = both_of (every (is_passed own_run b before value) (below link))
+      (gives_in_order own_run b (before ++ Gave link value ∷ []) marks) e in
+      and_true (every (is_passed (as_seen run ends) b before value) (below link))
+      (gives_in_order (as_seen run ends) b (before ++ Gave link value ∷ []) marks)
+      (every_weaker_below (is_passed own_run b before value) (is_passed (as_seen run ends) b before value) link
+      (λ l less. passed_so before value l (omega (arith, there))) both.0)
+      (order_so (before ++ Gave link value ∷ []) marks mine.1 both.1)
+  order_so before (Took p l v ∷ marks) own e =
+      order_so before marks (both_of (is_own_mark run b (Took p l v)) (every (is_own_mark run b) marks) own).1 e
+  order_so before (Complete p ∷ marks) own e =
+      order_so before marks (both_of (is_own_mark run b (Complete p)) (every (is_own_mark run b) marks) own).1 e
+  order_so before (Fault n ∷ marks) own e = order_so before marks own e
+  order_so before (Done ∷ marks) own e = order_so before marks own e
+
+  order_seen_so : keeps_link_order (as_seen run ends) b ≡ true
+  order_seen_so =
+      or_second (not (is_one_taker (block_of run b).kind)) (gives_in_order (as_seen run ends) b [] (marks_of run b))
+      (of_marks (λ marks. gives_in_order (as_seen run ends) b [] marks ≡ true)
+      (order_so [] node.journal law.marks.own law.gave.in_order))
+
+  -- the end that speaks for the head is that of the offer
+  is_offered : (l : ℕ) → l < length run.layout.links → (link_of run l).source ≡ Block b
+      → is_spoken_for (ends l).source.stage ≡ true → node.block.exits.offer ≡ Some (place_of l)
+  is_offered l small begins spoken =
+      let has = from_has l small begins in
+      let mine = law.exits.law.each (place_of l) has.there in
+      OnTrue_at
+      (spoken_is_out (end_from l).stage mine.offers (law.exits.none_kept (place_of l) has.there)
+      (ap is_spoken_for (sym (seen_out l small begins)) ∙ spoken))
+      mine.out
+
+  one_so : SpeaksForOne run ends b
+  one_so k l small smaller first second spoken heard =
+      let one = is_offered k small first spoken in
+      let other = is_offered l smaller second heard in
+      let same : place_of k ≡ place_of l = cc in
+      sym (ap (λ (rule : LinkRule). rule.id) (from_has k small first).rule_is)
+      ∙ ap (λ (j : ℕ). (end_at node.block.exits j).rule.id) same
+      ∙ ap (λ (rule : LinkRule). rule.id) (from_has l smaller second).rule_is
+
+  source_keeps : (l : ℕ) → l < length run.layout.links → (link_of run l).source ≡ Block b → SourceKeeps run ends l b
+  source_keeps l small begins =
+      let view = is.sources l small begins in
+      let has = from_has l small begins in
+      let end = end_from l in
+      let mine = law.gave.each (place_of l) has.there in
+      let stopped : (how : LinkEnd) → (ends l).source.stage ≡ views.SourceStage.ended how
+      → end_of end node.block.stopped ≡ Some how =
+      λ how e. (law.exits.law.each (place_of l) has.there).ended how
+      (ended_stage end.stage how (sym (seen_out l small begins) ∙ e)) in
+      let told = sym law.ends.stopped_is in
+      record {
+        from_start = ap (λ (v : views.SourceView Value). v.before) view;
+        given = ap (λ (v : views.SourceView Value). v.given) view
+            ∙ ap (λ (rule : LinkRule). gave_over rule.id node.journal) has.rule_is ∙ sym (ap (gave_over l) marks_are);
+        admitted = of_marks (λ marks. every (admits (link_of run l).when) (gave_over l marks) ≡ true)
+            (subst (λ (rule : LinkRule). every (admits rule.when) (gave_over rule.id node.journal) ≡ true) has.rule_is
+            mine.admitted);
+        after_done = λ e. of_marks (λ marks. is_done marks ≡ true)
+            (outcome_done node.journal
+            (told ∙ ended_complete (is_end_cut end) end.rule.passes node.block.stopped (stopped link_end.Complete e)));
+        after_fault = λ number e. of_marks (λ marks. has_fault number marks ≡ true)
+            (outcome_fault node.journal number
+            (told ∙ ended_fault (is_end_cut end) end.rule.passes node.block.stopped number
+            (stopped (link_end.Fault number) e)));
+        after_plain = λ e. ⊎_elim
+            (λ cut. or_one (is_cut run l) (is_done (marks_of run b)) (is_faulted (marks_of run b))
+            (ap (λ (values : List Value). is_used_up (link_of run l).max values) (ap (given_by run l) begins)
+            ∙ of_marks (λ marks. is_used_up (link_of run l).max (gave_over l marks) ≡ true)
+            (subst (λ (rule : LinkRule). is_used_up rule.max (gave_over rule.id node.journal) ≡ true) has.rule_is
+            (cut_told end.rule.max end.given (gave_over end.rule.id node.journal) mine.counted cut))))
+            (λ ended. or_others (is_cut run l) (is_done (marks_of run b)) (is_faulted (marks_of run b))
+            (of_marks (λ marks. is_done marks || is_faulted marks ≡ true)
+            (outcome_told node.journal (ap is_some told ∙ ended))))
+            (ended_plain (is_end_cut end) end.rule.passes node.block.stopped (stopped link_end.Plain e));
+      }
+
+  -- its ends of the links into it
+  has_own_fault : (fault : Option ℕ) → node.block.fault ≡ fault → is_some fault ≡ true
+      → is_some (own_fault run b) ≡ true
+  has_own_fault None same e = absurd (cc)
+  has_own_fault (Some number) same e = ap is_some (own_fault_is number same)
+
+  refuses_so : (p : ℕ) → p < length node.block.ports → (why : Refusal)
+      → RefusesBy (port_at p node.block).refusing node.block.fault why → RefusesFor run ends b p (refusal_of why)
+  refuses_so p there refusal.PortEnded refused =
+      of_marks (λ marks. has_ended p marks ≡ true) (sym (law.ends.ended_is p there) ∙ ap has_port_ended refused)
+  refuses_so p there refusal.OwnFault refused = has_own_fault node.block.fault refl refused
+
+  target_keeps : (l p : ℕ) → l < length run.layout.links → (link_of run l).target ≡ Port b p
+      → TargetKeeps run ends l b p
+  target_keeps l p small leads =
+      let view = is.targets l p small leads in
+      let there = known l p small leads in
+      let has = end_in_of run.layout run.meaning b node.block law.shape p l there small leads in
+      let place = in_place run.layout b p l in
+      let end = end_in place (ends_of p) in
+      record {
+        from_start = ap (λ (v : views.TargetView Value). v.before) view;
+        taken = ap (λ (v : views.TargetView Value). v.taken) view
+            ∙ ap (λ (n : ℕ). took_over n node.journal) has.link_is ∙ sym (ap (took_over l) marks_are);
+        refuses = λ why e.
+            let told = refusal_told end.stage end.hand why
+            (sym (ap (λ (v : views.TargetView Value). v.stage) view) ∙ e) in
+            subst (RefusesFor run ends b p) told.same
+            (refuses_so p there told.reason (law.ends.refused p place there has.there told.reason told.stage_is));
+      }
+
+  pub node_keeps : NodeKeeps run ends b
+  node_keeps = record {
+    own_marks = own_marks_so;
+    makes = makes_so;
+    room = room_so;
+    level = level_so;
+    copies_seen = copies_so;
+    last = of_marks (λ marks. stops marks ≡ true) law.marks.last;
+    once = of_marks (λ marks. completes_once marks ≡ true) law.marks.once;
+    done = or_not (is_done (marks_of run b)) (is_complete run b && has_nothing run b) done_so;
+    causes = causes_so;
+    order_seen = order_seen_so;
+    one_at_a_time = λ kind. one_so;
+    sources = source_keeps;
+    targets = target_keeps;
+  }
+
+pub nodes_are_lawful : (W : Type 0) → NodesAreLawful W
+nodes_are_lawful W run ends b node there law is known = node_keeps run ends b node law is known

@@ -1,0 +1,271 @@
+-- Each call keeps a block's ports in order.
+use Rattle.std.proofs.Common.{◌≡◌, ◌≢◌, ℕ, ◌+◌, ◌-◌, ◌<◌, ◌≤◌, ◌==◌, ◌&&◌, cond, not, Bool, true, false, List, [], ◌∷◌, ◌++◌, length, map, set, drop, Option, Some, None, is_some, is_none, Result, Ok, Err, refl, ap, sym, ◌∙◌, subst, arith, ne_eqb, eq-eqb, eqb-true, length-append, append-nil, zero, suc}
+use Rattle.flow_value.specs.declared.value.Value.{Value}
+use Rattle.flow_link.specs.declared.draft.BlockKind.{BlockKind}
+use Rattle.flow_link.specs.declared.draft.BlockKind.TheVariants.{Action}
+use Rattle.flow_link.specs.declared.trace.Mark.{Mark}
+use Rattle.flow_link.specs.declared.trace.Mark.TheVariants.{Took, Gave, Complete, Fault, Done}
+use Rattle.flow_link.specs.Facts.{facts_in}
+use Rattle.flow_link.specs.JournalGrows.{taken_by_mark}
+use Rattle.flow_link.specs.Layout.{Layout}
+use Rattle.flow_link.specs.Lists.{every}
+use Rattle.flow_link.specs.Plan.{block_in}
+use Rattle.flow_link.specs.Trace.{took_at}
+use Rattle.flow_link.specs.Views.{LinkFacts}
+use Rattle.flow_link.proofs.JournalsGrow.{took_more}
+use Rattle.flow_link.proofs.ListTests.{both_of}
+use Rattle.flow_intake.specs.Port.{PortState, coming, is_hand}
+use Rattle.flow_intake.specs.PortLaw.{PortLaw, has_ended}
+use Rattle.flow_intake.specs.Calls.{first_of, wants, turns_down, postpones, refuses, consumes, opens, closes, looks, takes_next, gives_room, port_closes, port_fails}
+use Rattle.flow_intake.proofs.CallsKeepOrder.{moves_keep}
+use Rattle.flow_outlet.specs.Outlet.{first_of as first_left, is_empty, head_of, weight_at, gives, is_at_rest}
+use Rattle.flow_block.specs.Block.{BlockState, port_in, held_by, unit_weight, made_of, yields, keeps_results, makes_of}
+use Rattle.flow_block.specs.Node.{NodeState, NodeCall, hand_at, in_link_at, out_link_at, takes_in, gives_from}
+use Rattle.flow_block.specs.NodeLaw.{NodeLaw, ShapeLaw, PortsLaw, LoadLaw, weighed}
+use Rattle.flow_block.specs.NodeKeeps.{InAt, MayCall, after_call, PortsKept}
+use Rattle.flow_block.specs.Peeks.{has_seen_completion, holds_nothing, nothing_comes, all_ended, fault_cause, could_stop}
+use Rattle.flow_block.specs.Planned.{block_makes}
+use Rattle.flow_block.proofs.ShapeHolds.{one_changed, each_changed}
+
+-- how many messages a port took, when the journal has one more mark
+took_as_many : (q : ℕ) (journal : List Mark) (mark : Mark) → taken_by_mark (λ port link. port == q) mark ≡ []
+    → length (took_at q (journal ++ mark ∷ [])) ≡ length (took_at q journal)
+took_as_many q journal mark none =
+    ap length (took_more (λ port link. port == q) journal mark
+    ∙ ap (λ (vs : List Value). took_at q journal ++ vs) none
+    ∙ append-nil (took_at q journal))
+
+took_elsewhere : (p l : ℕ) (value : Value) (q : ℕ) (journal : List Mark) → q ≢ p
+    → length (took_at q (journal ++ Took p l value ∷ [])) ≡ length (took_at q journal)
+took_elsewhere p l value q journal other =
+    took_as_many q journal (Took p l value)
+    (ap (λ (b : Bool). cond b (value ∷ []) []) (ne_eqb p q (λ e. other (sym e))))
+
+took_one_more : (p l : ℕ) (value : Value) (journal : List Mark)
+    → length (took_at p (journal ++ Took p l value ∷ [])) ≡ length (took_at p journal) + 1
+took_one_more p l value journal =
+    ap length (took_more (λ port link. port == p) journal (Took p l value)
+    ∙ ap (λ (b : Bool). took_at p journal ++ cond b (value ∷ []) []) (eq-eqb p p refl))
+    ∙ length-append (took_at p journal) (value ∷ [])
+
+-- what the tests tell
+pub port_passes : (test : PortState → Bool) (ports : List PortState) → every test ports ≡ true
+    → (p : ℕ) → p < length ports → test (port_in ports p) ≡ true
+port_passes test [] all p below = absurd (omega arith)
+port_passes test (port ∷ ports) all zero below = (both_of (test port) (every test ports) all).0
+port_passes test (port ∷ ports) all (suc p) below =
+    port_passes test ports (both_of (test port) (every test ports) all).1 p (omega arith)
+
+first_of_five : (a b c d e : Bool) → (a && b && c && d && e) ≡ true → a ≡ true
+first_of_five true b c d e all = refl
+first_of_five false b c d e all = cc
+
+second_of_three : (a b c : Bool) → (a && b && c) ≡ true → b ≡ true
+second_of_three true true c e = refl
+second_of_three true false c e = cc
+second_of_three false b c e = cc
+
+cause_there : (b : Bool) (cause : Option ℕ) (number : ℕ) → cond b cause None ≡ Some number → b ≡ true
+cause_there true cause number e = refl
+cause_there false cause number e = cc
+
+-- what is wholly given has its message's weight
+pub weight_of_head : (capacity : Option ℕ) (next : ℕ) (left : List Value) (value : Value) → first_left left ≡ Some value
+    → weight_at next (weighed capacity next left) ≡ unit_weight capacity
+weight_of_head None next left value head = refl
+weight_of_head (Some c) next [] value head = cc
+weight_of_head (Some c) next (first ∷ left) value head = ap (λ (b : Bool). cond b 1 0) (eq-eqb next next refl)
+
+one_left : (left : List Value) (value : Value) → first_left left ≡ Some value → 1 ≤ length left
+one_left [] value head = absurd (cc)
+one_left (first ∷ left) value head = omega arith
+
+-- the room that comes back was counted
+given_fits : (capacity : Option ℕ) (count load waiting left : ℕ) → count ≡ unit_weight capacity
+    → (is_some capacity ≡ true → load ≡ waiting + left) → 1 ≤ left → cond (is_some capacity) count 0 ≤ load - waiting
+given_fits None count load waiting left weight counts some = omega arith
+given_fits (Some c) count load waiting left weight counts some = let all = counts refl in omega arith
+
+made_fits : (capacity : Option ℕ) (load : ℕ) (waiting : List Value) (value : Value) → first_of waiting ≡ Some value
+    → (is_some capacity ≡ true → length waiting ≤ load) → cond (is_some capacity) 1 0 ≤ load - length (drop 1 waiting)
+made_fits None load waiting value first counts = omega arith
+made_fits (Some c) load [] value first counts = absurd (cc)
+made_fits (Some c) load (message ∷ waiting) value first counts = let fits = counts refl in omega arith
+
+module _ {W : Type 0} (layout : Layout W) (meaning : ℕ → Value → Result (List Value) ℕ) (b : ℕ) where
+  abbrev facts : ℕ → LinkFacts
+  facts = facts_in layout
+
+  abbrev taken : List Mark → ℕ → ℕ
+  taken journal q = length (took_at q journal)
+
+  abbrev AreInOrder : List Mark → List PortState → Type 0
+  AreInOrder journal ports = (q : ℕ) → q < length ports → PortLaw facts (taken journal q) (port_in ports q)
+
+  -- one port changes, with one more mark
+  one_marked : (ports : List PortState) (journal marked : List Mark) (p : ℕ) (port : PortState)
+      → AreInOrder journal ports → ((q : ℕ) → q ≢ p → taken marked q ≡ taken journal q)
+      → (PortLaw facts (taken journal p) (port_in ports p) → PortLaw facts (taken marked p) port)
+      → AreInOrder marked (set ports p port)
+  one_marked ports journal marked p port law others one =
+      one_changed (λ q x. PortLaw facts (taken journal q) x) (λ q x. PortLaw facts (taken marked q) x) ports p port law
+      (λ q there other old. subst (λ (n : ℕ). PortLaw facts n (port_in ports q)) (sym (others q other)) old)
+      (λ below. one)
+
+  one_port : (ports : List PortState) (journal : List Mark) (p : ℕ) (port : PortState) → AreInOrder journal ports
+      → (PortLaw facts (taken journal p) (port_in ports p) → PortLaw facts (taken journal p) port)
+      → AreInOrder journal (set ports p port)
+  one_port ports journal p port law one = one_marked ports journal journal p port law (λ q other. refl) one
+
+  -- each port changes, with a mark of no message
+  each_port : (ports : List PortState) (journal marked : List Mark) (change : PortState → PortState)
+      → AreInOrder journal ports → ((q : ℕ) → taken marked q ≡ taken journal q)
+      → ((q : ℕ) → q < length ports → PortLaw facts (taken journal q) (port_in ports q)
+      → PortLaw facts (taken journal q) (change (port_in ports q)))
+      → AreInOrder marked (map change ports)
+  each_port ports journal marked change law same each =
+      each_changed (λ q x. PortLaw facts (taken journal q) x) (λ q x. PortLaw facts (taken marked q) x) ports change law
+      (λ q below old.
+      subst (λ (n : ℕ). PortLaw facts n (change (port_in ports q))) (sym (same q)) (each q below old))
+
+  -- what it makes of a message
+  results_kept : (kind : BlockKind) (values : List Value) (value : Value) (block : BlockState) (journal : List Mark)
+      → first_of (held_by block) ≡ Some value → PortsLaw layout meaning b block journal
+      → PortsLaw layout meaning b (keeps_results kind values block) journal
+  results_kept Action values value block journal first law =
+      one_port block.ports journal 0 (gives_room 1 (takes_next (port_in block.ports 0))) law
+      (λ old.
+      let port = port_in block.ports 0 in
+      moves_keep.give_room facts (taken journal 0) (takes_next port)
+      (moves_keep.take_next facts (taken journal 0) port old) 1
+      (made_fits port.capacity port.load port.waiting value first old.waits))
+  results_kept kind values value block journal first law =
+      one_port block.ports journal 0 (takes_next (port_in block.ports 0)) law
+      (λ old. moves_keep.take_next facts (taken journal 0) (port_in block.ports 0) old)
+
+  yield_keeps : (result : Result (List Value) ℕ) (value : Value) (block : BlockState) (journal : List Mark)
+      → first_of (held_by block) ≡ Some value → PortsLaw layout meaning b block journal
+      → PortsLaw layout meaning b (yields result block) journal
+  yield_keeps (Ok values) value block journal first law = results_kept block.kind values value block journal first law
+  yield_keeps (Err number) value block journal first law =
+      each_port block.ports journal journal port_fails law (λ q. refl)
+      (λ q below old. moves_keep.fail_port facts (taken journal q) (port_in block.ports q) old)
+
+  make_keeps : (held : Option Value) (block : BlockState) (journal : List Mark) → first_of (held_by block) ≡ held
+      → PortsLaw layout meaning b block journal
+      → PortsLaw layout meaning b (makes_of (block_makes layout meaning b) held block) journal
+  make_keeps None block journal first law = law
+  make_keeps (Some value) block journal first law =
+      yield_keeps (made_of block.kind (block_makes layout meaning b) value) value block journal first law
+
+  take_keeps : (p k : ℕ) (hand : Option Value) (node : NodeState) → InAt is_hand p k node
+      → PortsLaw layout meaning b node.block node.journal
+      → PortsLaw layout meaning b (takes_in p k hand node).block (takes_in p k hand node).journal
+  take_keeps p k None node at law = law
+  take_keeps p k (Some value) node at law =
+      let port = port_in node.block.ports p in
+      let link = in_link_at p k node in
+      one_marked node.block.ports node.journal (node.journal ++ Took p link value ∷ []) p (closes k value port) law
+      (λ q other. took_elsewhere p link value q node.journal other)
+      (λ old. subst (λ (n : ℕ). PortLaw facts n (closes k value port)) (sym (took_one_more p link value node.journal))
+      (moves_keep.closed facts (taken node.journal p) port old k value at.place at.stands))
+
+  give_keeps : (k : ℕ) (head : Option Value) (node : NodeState) → head_of node.block.exits ≡ head
+      → NodeLaw layout meaning b node
+      → PortsLaw layout meaning b (gives_from k head node).block (gives_from k head node).journal
+  give_keeps k None node head law = law.ports
+  give_keeps k (Some value) node head law =
+      let exits = node.block.exits in
+      let load : LoadLaw layout meaning b node.block = law.load in
+      let shape : ShapeLaw layout meaning b node.block = law.shape in
+      let capacity = (block_in layout.blocks b).capacity in
+      let count : exits.room + weight_at exits.next exits.groups ≡ unit_weight capacity =
+      rw (load.no_room, load.groups) (omega (arith, weight_of_head capacity exits.next exits.left value head)) in
+      let mark = Gave (out_link_at k node) value in
+      each_port node.block.ports node.journal (node.journal ++ mark ∷ []) (gives_room (gives k exits).room) law.ports
+      (λ q. took_as_many q node.journal mark refl)
+      (λ q below old.
+      let port = port_in node.block.ports q in
+      moves_keep.give_room facts (taken node.journal q) port old (gives k exits).room
+      (rw (shape.ports q below).capacity
+      (given_fits capacity (gives k exits).room port.load (length port.waiting) (length exits.left) count
+      (load.load q below) (one_left exits.left value head))))
+
+  -- it stops
+  stop_keeps : (ports : List PortState) (journal : List Mark) (mark : Mark)
+      → ((q : ℕ) → taken_by_mark (λ port link. port == q) mark ≡ []) → nothing_comes ports ≡ true
+      → AreInOrder journal ports → AreInOrder (journal ++ mark ∷ []) (map port_closes ports)
+  stop_keeps ports journal mark none comes law =
+      each_port ports journal (journal ++ mark ∷ []) port_closes law (λ q. took_as_many q journal mark (none q))
+      (λ q below old. moves_keep.close_port facts (taken journal q) (port_in ports q) old
+      (eqb-true (coming (port_in ports q)) 0
+      (port_passes (λ (port : PortState). coming port == 0) ports comes q below)))
+
+  call_keeps : (node : NodeState) (call : NodeCall) → NodeLaw layout meaning b node → MayCall layout meaning b call node
+      → AreInOrder (after_call layout meaning b call node).journal (after_call layout meaning b call node).block.ports
+  call_keeps node (NodeCall.want p k) law may =
+      let port = port_in node.block.ports p in
+      one_port node.block.ports node.journal p (wants k port) law.ports
+      (λ old. moves_keep.want facts (taken node.journal p) port old k may.0.place may.0.stands
+      may.1.room may.1.open_port)
+  call_keeps node (NodeCall.turn_down p k) law may =
+      let port = port_in node.block.ports p in
+      one_port node.block.ports node.journal p (turns_down k port) law.ports
+      (λ old. moves_keep.turn_down facts (taken node.journal p) port old k may.place may.stands)
+  call_keeps node (NodeCall.postpone p k) law may =
+      let port = port_in node.block.ports p in
+      one_port node.block.ports node.journal p (postpones k port) law.ports
+      (λ old. moves_keep.postpone facts (taken node.journal p) port old k may.offered.place may.offered.stands may.may)
+  call_keeps node (NodeCall.refuse p k) law may =
+      let port = port_in node.block.ports p in
+      one_port node.block.ports node.journal p (refuses k port) law.ports
+      (λ old. moves_keep.refuse facts (taken node.journal p) port old k may.0.place may.0.stands may.1)
+  call_keeps node (NodeCall.consume p k) law may =
+      let port = port_in node.block.ports p in
+      one_port node.block.ports node.journal p (consumes k port) law.ports
+      (λ old. moves_keep.consume facts (taken node.journal p) port old k may.0.place may.0.stands
+      may.1.room may.1.open_port)
+  call_keeps node (NodeCall.open_with p k value) law may =
+      let port = port_in node.block.ports p in
+      one_port node.block.ports node.journal p (opens k value port) law.ports
+      (λ old. moves_keep.opened facts (taken node.journal p) port old k value may.place may.stands)
+  call_keeps node (NodeCall.close p k) law may = take_keeps p k (hand_at p k node) node may law.ports
+  call_keeps node (NodeCall.offer k) law may = law.ports
+  call_keeps node (NodeCall.give k) law may = give_keeps k (head_of node.block.exits) node refl law
+  call_keeps node (NodeCall.deny k) law may = law.ports
+  call_keeps node (NodeCall.withdraw k) law may = law.ports
+  call_keeps node (NodeCall.end_link k how) law may = law.ports
+  call_keeps node (NodeCall.look_in p k phase) law may =
+      let port = port_in node.block.ports p in
+      one_port node.block.ports node.journal p (looks k phase port) law.ports
+      (λ old. moves_keep.look facts (taken node.journal p) port old k phase may.place)
+  call_keeps node (NodeCall.look_out k phase) law may = law.ports
+  call_keeps node NodeCall.make law may =
+      make_keeps (first_of (held_by node.block)) node.block node.journal refl law.ports
+  call_keeps node (NodeCall.complete p) law may =
+      let port = port_in node.block.ports p in
+      let none : coming port ≡ 0 = eqb-true (coming port) 0
+      (second_of_three (not (has_ended port.refusing)) (coming port == 0) (has_seen_completion port.ends)
+      may.completes) in
+      one_marked node.block.ports node.journal (node.journal ++ Complete p ∷ []) p (port_closes port) law.ports
+      (λ q other. took_as_many q node.journal (Complete p) refl)
+      (λ old. subst (λ (n : ℕ). PortLaw facts n (port_closes port))
+      (sym (took_as_many p node.journal (Complete p) refl))
+      (moves_keep.close_port facts (taken node.journal p) port old none))
+  call_keeps node (NodeCall.fault number) law may =
+      let block = node.block in
+      let could : could_stop block && is_at_rest block.exits ≡ true =
+      cause_there (could_stop block && is_at_rest block.exits) (fault_cause block) number may in
+      let stops = (both_of (could_stop block) (is_at_rest block.exits) could).0 in
+      let none = (both_of (is_none block.stopped) (nothing_comes block.ports) stops).1 in
+      stop_keeps block.ports node.journal (Fault number) (λ q. refl) none law.ports
+  call_keeps node NodeCall.finish law may =
+      let block = node.block in
+      let could : could_stop block ≡ true =
+      first_of_five (could_stop block) (all_ended block.ports) (holds_nothing block.ports)
+      (is_empty block.exits.left) (is_at_rest block.exits) may in
+      let none = (both_of (is_none block.stopped) (nothing_comes block.ports) could).1 in
+      stop_keeps block.ports node.journal Done (λ q. refl) none law.ports
+
+pub ports_kept : (W : Type 0) → PortsKept W
+ports_kept W layout meaning b node call law may = call_keeps layout meaning b node call law may

@@ -1,0 +1,227 @@
+-- Each call keeps a block's kind, the links and capacities of its ports, and the rules of its exits.
+use Rattle.std.proofs.Common.{◌≡◌, ◌≢◌, ℕ, ◌<◌, List, length, map, set, Option, Some, None, Result, Ok, Err, refl, sym, ◌∙◌, subst, inl, inr}
+use Rattle.std.proofs.Math.Seq.{map-set_same}
+use Rattle.std.proofs.lemmas.Bool.{cases_eq}
+use Rattle.std.proofs.lemmas.List.{length-set, length-map, get_or-set_same, get_or-set_other, get_or-map}
+use Rattle.flow_value.specs.declared.value.Value.{Value}
+use Rattle.flow_link.specs.declared.draft.BlockKind.{BlockKind}
+use Rattle.flow_link.specs.declared.draft.BlockKind.TheVariants.{Action}
+use Rattle.flow_link.specs.declared.phase.Phase.{Phase}
+use Rattle.flow_link.specs.declared.stage.TargetStage.{TargetStage}
+use Rattle.flow_link.specs.Layout.{Layout}
+use Rattle.flow_intake.specs.Port.{EndState, PortState, fresh_end, fresh_port}
+use Rattle.flow_intake.specs.Calls.{first_of, put_hand, wants, turns_down, postpones, refuses, consumes, opens, closes, looks, takes_next, gives_room, port_closes, port_fails}
+use Rattle.flow_outlet.specs.declared.ends.OutEnd.{OutEnd}
+use Rattle.flow_outlet.specs.End.{end_in, no_end}
+use Rattle.flow_outlet.specs.Outlet.{head_of, gives}
+use Rattle.flow_block.specs.Block.{BlockState, port_in, held_by, made_of, yields, keeps_results, makes_of}
+use Rattle.flow_block.specs.Node.{NodeState, NodeCall, hand_at, takes_in, gives_from}
+use Rattle.flow_block.specs.NodeLaw.{ShapeLaw, PortAsPlanned}
+use Rattle.flow_block.specs.NodeKeeps.{after_call, ShapeKept}
+use Rattle.flow_block.specs.Planned.{block_makes}
+
+-- what holds of each port, when one port has changed
+pub one_changed : (P Q : ℕ → PortState → Type 0) (ports : List PortState) (p : ℕ) (port : PortState)
+    → ((q : ℕ) → q < length ports → P q (port_in ports q))
+    → ((q : ℕ) → q < length ports → q ≢ p → P q (port_in ports q) → Q q (port_in ports q))
+    → (p < length ports → P p (port_in ports p) → Q p port)
+    → (q : ℕ) → q < length (set ports p port) → Q q (port_in (set ports p port) q)
+one_changed P Q ports p port each others one q below =
+    let there : q < length ports = subst (λ (n : ℕ). q < n) (length-set ports p port) below in
+    elim (cases_eq q p) [
+      | inl same ↦
+          let here : p < length ports = subst (λ (n : ℕ). n < length ports) same there in
+          rw (same, get_or-set_same ports p port (fresh_port None) here) (one here (each p here))
+      | inr other ↦ rw (get_or-set_other ports p q port (fresh_port None) other) (others q there other (each q there))
+    ]
+
+-- and when each port has
+pub each_changed : (P Q : ℕ → PortState → Type 0) (ports : List PortState) (change : PortState → PortState)
+    → ((q : ℕ) → q < length ports → P q (port_in ports q))
+    → ((q : ℕ) → q < length ports → P q (port_in ports q) → Q q (change (port_in ports q)))
+    → (q : ℕ) → q < length (map change ports) → Q q (port_in (map change ports) q)
+each_changed P Q ports change each changes q below =
+    let there : q < length ports = subst (λ (n : ℕ). q < n) (length-map ports change) below in
+    subst (Q q) (sym (get_or-map change ports q (fresh_port None) (fresh_port None) there))
+    (changes q there (each q there))
+
+-- what the plan says of a port stays
+record SamePort (before after : PortState) : Type 0 where
+  links : map (λ (end : EndState). end.link) after.ends ≡ map (λ (end : EndState). end.link) before.ends
+  capacity : after.capacity ≡ before.capacity
+  reserves : after.reserves ≡ before.reserves
+
+-- the links stay where an end moves
+links_stay : (k : ℕ) (stage : TargetStage) (hand : Option Value) (ends : List EndState)
+    → map (λ (end : EndState). end.link) (put_hand k stage hand ends) ≡ map (λ (end : EndState). end.link) ends
+links_stay k stage hand ends = map-set_same (λ (end : EndState). end.link) ends k _ (fresh_end 0) refl
+
+wants_same : (k : ℕ) (port : PortState) → SamePort port (wants k port)
+wants_same k port = record { links = links_stay k _ _ port.ends; capacity = refl; reserves = refl }
+
+turns_down_same : (k : ℕ) (port : PortState) → SamePort port (turns_down k port)
+turns_down_same k port = record { links = links_stay k _ _ port.ends; capacity = refl; reserves = refl }
+
+postpones_same : (k : ℕ) (port : PortState) → SamePort port (postpones k port)
+postpones_same k port = record { links = links_stay k _ _ port.ends; capacity = refl; reserves = refl }
+
+refuses_same : (k : ℕ) (port : PortState) → SamePort port (refuses k port)
+refuses_same k port = record { links = links_stay k _ _ port.ends; capacity = refl; reserves = refl }
+
+consumes_same : (k : ℕ) (port : PortState) → SamePort port (consumes k port)
+consumes_same k port = record { links = links_stay k _ _ port.ends; capacity = refl; reserves = refl }
+
+opens_same : (k : ℕ) (value : Value) (port : PortState) → SamePort port (opens k value port)
+opens_same k value port = record { links = links_stay k _ _ port.ends; capacity = refl; reserves = refl }
+
+closes_same : (k : ℕ) (value : Value) (port : PortState) → SamePort port (closes k value port)
+closes_same k value port = record { links = links_stay k _ _ port.ends; capacity = refl; reserves = refl }
+
+looks_same : (k : ℕ) (phase : Phase) (port : PortState) → SamePort port (looks k phase port)
+looks_same k phase port = record { links = links_stay k _ _ port.ends; capacity = refl; reserves = refl }
+
+takes_next_same : (port : PortState) → SamePort port (takes_next port)
+takes_next_same port = record { links = refl; capacity = refl; reserves = refl }
+
+gives_room_same : (count : ℕ) (port : PortState) → SamePort port (gives_room count port)
+gives_room_same count port = record { links = refl; capacity = refl; reserves = refl }
+
+done_same : (port : PortState) → SamePort port (gives_room 1 (takes_next port))
+done_same port = record { links = refl; capacity = refl; reserves = refl }
+
+port_closes_same : (port : PortState) → SamePort port (port_closes port)
+port_closes_same port = record { links = refl; capacity = refl; reserves = refl }
+
+port_fails_same : (port : PortState) → SamePort port (port_fails port)
+port_fails_same port = record { links = refl; capacity = refl; reserves = refl }
+
+-- the rules stay where an end of a link out changes
+rules_stay : (ends : List OutEnd) (k : ℕ) (end : OutEnd) → end.rule ≡ (end_in ends k).rule
+    → map (λ (end : OutEnd). end.rule) (set ends k end) ≡ map (λ (end : OutEnd). end.rule) ends
+rules_stay ends k end same = map-set_same (λ (end : OutEnd). end.rule) ends k end no_end same
+
+module _ {W : Type 0} (layout : Layout W) (meaning : ℕ → Value → Result (List Value) ℕ) (b : ℕ) where
+  abbrev IsPlanned : ℕ → PortState → Type 0
+  IsPlanned p port = PortAsPlanned layout meaning b p port
+
+  port_stays : (p : ℕ) (before after : PortState) → SamePort before after → IsPlanned p before → IsPlanned p after
+  port_stays p before after same planned = record {
+    links = same.links ∙ planned.links;
+    capacity = same.capacity ∙ planned.capacity;
+    never_reserves = same.reserves ∙ planned.never_reserves;
+  }
+
+  -- a block that differs in one port, in each port, or in its exits' ends, or in what no plan speaks of
+  one_port : (before after : BlockState) (p : ℕ) (change : PortState → PortState)
+      → ((port : PortState) → SamePort port (change port))
+      → after.kind ≡ before.kind → after.ports ≡ set before.ports p (change (port_in before.ports p))
+      → after.exits.ends ≡ before.exits.ends
+      → ShapeLaw layout meaning b before → ShapeLaw layout meaning b after
+  one_port before after p change same kind ports ends law = record {
+    built = rw kind law.built;
+    kind_is = kind ∙ law.kind_is;
+    port_count_is = rw (ports, length-set before.ports p (change (port_in before.ports p))) law.port_count_is;
+    ports =
+        let port = port_in before.ports p in
+        rw ports (one_changed IsPlanned IsPlanned before.ports p (change port) law.ports
+        (λ q there other planned. planned)
+        (λ below planned. port_stays p port (change port) (same port) planned));
+    rules = rw ends law.rules;
+  }
+
+  each_port : (before after : BlockState) (change : PortState → PortState)
+      → ((port : PortState) → SamePort port (change port))
+      → after.kind ≡ before.kind → after.ports ≡ map change before.ports
+      → map (λ (end : OutEnd). end.rule) after.exits.ends ≡ map (λ (end : OutEnd). end.rule) before.exits.ends
+      → ShapeLaw layout meaning b before → ShapeLaw layout meaning b after
+  each_port before after change same kind ports rules law = record {
+    built = rw kind law.built;
+    kind_is = kind ∙ law.kind_is;
+    port_count_is = rw (ports, length-map before.ports change) law.port_count_is;
+    ports =
+        rw ports (each_changed IsPlanned IsPlanned before.ports change law.ports
+        (λ q below planned.
+        let port = port_in before.ports q in
+        port_stays q port (change port) (same port) planned));
+    rules = rules ∙ law.rules;
+  }
+
+  exits_move : (before after : BlockState) → after.kind ≡ before.kind → after.ports ≡ before.ports
+      → map (λ (end : OutEnd). end.rule) after.exits.ends ≡ map (λ (end : OutEnd). end.rule) before.exits.ends
+      → ShapeLaw layout meaning b before → ShapeLaw layout meaning b after
+  exits_move before after kind ports rules law = record {
+    built = rw kind law.built;
+    kind_is = kind ∙ law.kind_is;
+    port_count_is = rw ports law.port_count_is;
+    ports = rw ports law.ports;
+    rules = rules ∙ law.rules;
+  }
+
+  -- what it makes of a message
+  results_kept : (kind : BlockKind) (values : List Value) (block : BlockState) → ShapeLaw layout meaning b block
+      → ShapeLaw layout meaning b (keeps_results kind values block)
+  results_kept Action values block law =
+      one_port block _ 0 (λ port. gives_room 1 (takes_next port)) done_same refl refl refl law
+  results_kept kind values block law =
+      one_port block _ 0 takes_next takes_next_same refl refl refl law
+
+  yield_keeps : (result : Result (List Value) ℕ) (block : BlockState) → ShapeLaw layout meaning b block
+      → ShapeLaw layout meaning b (yields result block)
+  yield_keeps (Ok values) block law = results_kept block.kind values block law
+  yield_keeps (Err number) block law =
+      each_port block _ port_fails port_fails_same refl refl refl law
+
+  make_keeps : (held : Option Value) (block : BlockState) → ShapeLaw layout meaning b block
+      → ShapeLaw layout meaning b (makes_of (block_makes layout meaning b) held block)
+  make_keeps None block law = law
+  make_keeps (Some value) block law = yield_keeps (made_of block.kind (block_makes layout meaning b) value) block law
+
+  take_keeps : (p k : ℕ) (hand : Option Value) (node : NodeState) → ShapeLaw layout meaning b node.block
+      → ShapeLaw layout meaning b (takes_in p k hand node).block
+  take_keeps p k None node law = law
+  take_keeps p k (Some value) node law =
+      one_port node.block _ p (closes k value) (closes_same k value) refl refl refl law
+
+  give_keeps : (k : ℕ) (head : Option Value) (node : NodeState) → ShapeLaw layout meaning b node.block
+      → ShapeLaw layout meaning b (gives_from k head node).block
+  give_keeps k None node law = law
+  give_keeps k (Some value) node law =
+      each_port node.block _ (gives_room (gives k node.block.exits).room)
+      (gives_room_same (gives k node.block.exits).room) refl refl
+      (rules_stay node.block.exits.ends k _ refl) law
+
+  call_keeps : (node : NodeState) (call : NodeCall) → ShapeLaw layout meaning b node.block
+      → ShapeLaw layout meaning b (after_call layout meaning b call node).block
+  call_keeps node (NodeCall.want p k) law = one_port node.block _ p (wants k) (wants_same k) refl refl refl law
+  call_keeps node (NodeCall.turn_down p k) law =
+      one_port node.block _ p (turns_down k) (turns_down_same k) refl refl refl law
+  call_keeps node (NodeCall.postpone p k) law =
+      one_port node.block _ p (postpones k) (postpones_same k) refl refl refl law
+  call_keeps node (NodeCall.refuse p k) law = one_port node.block _ p (refuses k) (refuses_same k) refl refl refl law
+  call_keeps node (NodeCall.consume p k) law = one_port node.block _ p (consumes k) (consumes_same k) refl refl refl law
+  call_keeps node (NodeCall.open_with p k value) law =
+      one_port node.block _ p (opens k value) (opens_same k value) refl refl refl law
+  call_keeps node (NodeCall.close p k) law = take_keeps p k (hand_at p k node) node law
+  call_keeps node (NodeCall.offer k) law =
+      exits_move node.block _ refl refl (rules_stay node.block.exits.ends k _ refl) law
+  call_keeps node (NodeCall.give k) law = give_keeps k (head_of node.block.exits) node law
+  call_keeps node (NodeCall.deny k) law =
+      exits_move node.block _ refl refl (rules_stay node.block.exits.ends k _ refl) law
+  call_keeps node (NodeCall.withdraw k) law =
+      exits_move node.block _ refl refl (rules_stay node.block.exits.ends k _ refl) law
+  call_keeps node (NodeCall.end_link k how) law =
+      exits_move node.block _ refl refl (rules_stay node.block.exits.ends k _ refl) law
+  call_keeps node (NodeCall.look_in p k phase) law =
+      one_port node.block _ p (looks k phase) (looks_same k phase) refl refl refl law
+  call_keeps node (NodeCall.look_out k phase) law =
+      exits_move node.block _ refl refl (rules_stay node.block.exits.ends k _ refl) law
+  call_keeps node NodeCall.make law = make_keeps (first_of (held_by node.block)) node.block law
+  call_keeps node (NodeCall.complete p) law =
+      one_port node.block _ p port_closes port_closes_same refl refl refl law
+  call_keeps node (NodeCall.fault number) law =
+      each_port node.block _ port_closes port_closes_same refl refl refl law
+  call_keeps node NodeCall.finish law =
+      each_port node.block _ port_closes port_closes_same refl refl refl law
+
+pub shape_kept : (W : Type 0) → ShapeKept W
+shape_kept W layout meaning b node call law may = call_keeps layout meaning b node call law.shape

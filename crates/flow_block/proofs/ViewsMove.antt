@@ -1,0 +1,447 @@
+-- Each call moves the view of its own end as the laws of one link have it, and no other end's.
+use Rattle.std.proofs.Common.{unwrap_or, ◌≡◌, ◌≢◌, ℕ, ◌<◌, ◌==◌, ◌||◌, not, ltb, cond, Bool, true, false, List, [], ◌∷◌, ◌++◌, length, set, Option, Some, None, is_some, Result, Ok, Err, refl, ap, sym, ◌∙◌, subst, arith, eq-eqb, append-nil}
+use Rattle.std.proofs.lemmas.Bool.{ltb-true}
+use Rattle.std.proofs.lemmas.List.{get_or-set_same, get_or-set_other}
+use Rattle.flow_value.specs.declared.value.Value.{Value}
+use Rattle.flow_value.specs.declared.when.When.{When}
+use Rattle.flow_link.specs.declared.draft.BlockKind.{BlockKind}
+use Rattle.flow_link.specs.declared.draft.BlockKind.TheVariants.{Action}
+use Rattle.flow_link.specs.declared.stage.Refusal.{Refusal}
+use Rattle.flow_link.specs.declared.stage.SourceStage.TheVariants as source
+use Rattle.flow_link.specs.declared.stage.TargetStage.TheVariants as target
+use Rattle.flow_link.specs.declared.trace.Mark.{Mark}
+use Rattle.flow_link.specs.declared.trace.Mark.TheVariants.{Took, Gave, Complete, Fault, Done}
+use Rattle.flow_link.specs.declared.trace.Outcome.{Outcome}
+use Rattle.flow_link.specs.declared.trace.Outcome.TheVariants as outcome
+use Rattle.flow_link.specs.JournalGrows.{taken_by_mark, given_by_mark}
+use Rattle.flow_link.specs.Layout.{Layout}
+use Rattle.flow_link.specs.Moves.{source_at, target_at}
+use Rattle.flow_link.specs.Stage.{source_stage_of, target_stage_of, source_looks, target_looks}
+use Rattle.flow_link.specs.Trace.{gave_over, took_over}
+use Rattle.flow_link.specs.Views.{SourceStage, TargetStage, SourceView, TargetView}
+use Rattle.flow_link.proofs.JournalsGrow.{took_more, gave_more}
+use Rattle.flow_link.proofs.StagesKept.{source_looks_kept, target_looks_kept}
+use Rattle.flow_intake.specs.Port.{EndState, PortState, end_in}
+use Rattle.flow_intake.specs.Calls.{first_of, refused_by, takes_next, gives_room, port_closes, port_fails, wants, turns_down, postpones, refuses, consumes, opens, closes, looks as port_looks}
+use Rattle.flow_outlet.specs.declared.ends.OutEnd.{OutEnd}
+use Rattle.flow_outlet.specs.End.{end_in as end_out_in, no_end, id_of, is_free, place_in}
+use Rattle.flow_outlet.specs.Law.{admits_head}
+use Rattle.flow_outlet.specs.Outlet.{OutletState, head_of, end_at, stage_at, gives, given_end, is_empty, offer_at, offers, prepares, denies, withdraws, ends_link, looks as exit_looks}
+use Rattle.flow_outlet.proofs.LawKept.{gives_in_order}
+use Rattle.flow_block.specs.Block.{BlockState, port_at, with_port, made_of, keeps_results, yields, makes_of, held_by, stops_by}
+use Rattle.flow_block.specs.Node.{NodeState, NodeCall, with_block, with_exits, marks, hand_at, in_link_at, out_link_at, takes_in, gives_from, view_of_in, view_of_out, in_view, out_view}
+use Rattle.flow_block.specs.NodeKeeps.{after_call}
+use Rattle.flow_block.specs.NodeLaw.{NodeLaw}
+use Rattle.flow_block.specs.Peeks.{is_pending}
+use Rattle.flow_block.specs.Planned.{links_to, block_makes}
+use Rattle.flow_block.specs.ViewsMove.{message_at, OthersStay, ViewsMove, CallsMoveViews}
+use Rattle.flow_block.proofs.EndsAtPlaces.{port_of_map, end_there, end_elsewhere, ends_kept_at}
+use Rattle.flow_block.proofs.LinksAtPlaces.{links_in_differ, links_out_differ, link_of_end, links_counted}
+
+-- one end of a link into a node stands at a place, and all others as they did
+record OneInMoves (node new : NodeState) (p k : ℕ) (end : EndState) : Type 0 where
+  here : end_in k (port_at p new.block).ends ≡ end
+  others : (q j : ℕ) → ¬ ((q ≡ p) × (j ≡ k))
+      → end_in j (port_at q new.block).ends ≡ end_in j (port_at q node.block).ends
+
+one_in : (node : NodeState) (p k : ℕ) (port : PortState) (end : EndState)
+    → p < length node.block.ports → k < length (port_at p node.block).ends
+    → port.ends ≡ set (port_at p node.block).ends k end
+    → OneInMoves node (with_block (record node.block { ports = set node.block.ports p port }) node) p k end
+one_in node p k port end below there moved = record {
+  here = end_there node.block.ports p k port end below moved there;
+  others = λ q j apart. end_elsewhere node.block.ports p k port end below moved q j apart;
+}
+
+-- one end of a link out of a node stands at a place, and all others as they did
+record OneOutMoves (node new : NodeState) (k : ℕ) (end : OutEnd) : Type 0 where
+  here : end_at new.block.exits k ≡ end
+  others : (j : ℕ) → j ≢ k → end_at new.block.exits j ≡ end_at node.block.exits j
+
+one_out : (node : NodeState) (k : ℕ) (exits : OutletState) (end : OutEnd)
+    → k < length node.block.exits.ends → exits.ends ≡ set node.block.exits.ends k end
+    → OneOutMoves node (with_exits exits node) k end
+one_out node k exits end there moved = record {
+  here = ap (λ (ends : List OutEnd). end_out_in ends k) moved
+      ∙ get_or-set_same node.block.exits.ends k end no_end there;
+  others = λ j other. ap (λ (ends : List OutEnd). end_out_in ends j) moved
+      ∙ get_or-set_other node.block.exits.ends k j end no_end other;
+}
+
+-- no end of a node moves, and nothing is taken or given
+record NoneMoves (node new : NodeState) : Type 0 where
+  ins : (p : ℕ) → p < length node.block.ports → (port_at p new.block).ends ≡ (port_at p node.block).ends
+  outs : new.block.exits.ends ≡ node.block.exits.ends
+  taken : (l : ℕ) → took_over l new.journal ≡ took_over l node.journal
+  given : (l : ℕ) → gave_over l new.journal ≡ gave_over l node.journal
+
+-- what an end knows, by what its node's journal says of its link
+abbrev knows_in : EndState → List Value → TargetView Value
+knows_in end taken = record { before = 0; taken = taken; stage = target_stage_of end.stage end.hand }
+
+abbrev knows_out : OutEnd → List Value → SourceView Value
+knows_out end given = record { before = 0; given = given; last = end.last; stage = source_stage_of end.stage }
+
+view_in_stays : (node new : NodeState) → NoneMoves node new → (p k : ℕ) → p < length node.block.ports
+    → in_view p k new ≡ in_view p k node
+view_in_stays node new none p k below =
+    ap (λ (ends : List EndState). view_of_in new.journal (end_in k ends)) (none.ins p below)
+    ∙ ap (knows_in (end_in k (port_at p node.block).ends)) (none.taken (in_link_at p k node))
+
+view_out_stays : (node new : NodeState) → NoneMoves node new → (k : ℕ) → out_view k new ≡ out_view k node
+view_out_stays node new none k =
+    ap (λ (ends : List OutEnd). view_of_out new.journal (end_out_in ends k)) none.outs
+    ∙ ap (knows_out (end_at node.block.exits k)) (none.given (out_link_at k node))
+
+others_stay : (call : NodeCall) (node new : NodeState) → NoneMoves node new → OthersStay call node new
+others_stay call node new none = record {
+  ins = λ p k below there apart. view_in_stays node new none p k below;
+  outs = λ k there apart. view_out_stays node new none k;
+}
+
+-- what one more mark says of a link that it does not name
+took_same : (l : ℕ) (journal : List Mark) (mark : Mark) → taken_by_mark (λ port link. link == l) mark ≡ []
+    → took_over l (journal ++ mark ∷ []) ≡ took_over l journal
+took_same l journal mark none =
+    took_more (λ port link. link == l) journal mark ∙ ap (λ (vs : List Value). took_over l journal ++ vs) none
+    ∙ append-nil (took_over l journal)
+
+gave_same : (l : ℕ) (journal : List Mark) (mark : Mark) → given_by_mark (λ link. link == l) mark ≡ []
+    → gave_over l (journal ++ mark ∷ []) ≡ gave_over l journal
+gave_same l journal mark none =
+    gave_more (λ link. link == l) journal mark ∙ ap (λ (vs : List Value). gave_over l journal ++ vs) none
+    ∙ append-nil (gave_over l journal)
+
+-- and of the link that it names
+took_here : (p l : ℕ) (value : Value) (journal : List Mark)
+    → took_over l (journal ++ Took p l value ∷ []) ≡ took_over l journal ++ value ∷ []
+took_here p l value journal =
+    took_more (λ port link. link == l) journal (Took p l value)
+    ∙ ap (λ (b : Bool). took_over l journal ++ cond b (value ∷ []) []) (eq-eqb l l refl)
+
+gave_here : (l : ℕ) (value : Value) (journal : List Mark)
+    → gave_over l (journal ++ Gave l value ∷ []) ≡ gave_over l journal ++ value ∷ []
+gave_here l value journal =
+    gave_more (λ link. link == l) journal (Gave l value)
+    ∙ ap (λ (b : Bool). gave_over l journal ++ cond b (value ∷ []) []) (eq-eqb l l refl)
+
+is_there : {A : Type 0} (o : Option A) → is_some o ≡ true → (x : A) × (o ≡ Some x)
+is_there None e = absurd (cc)
+is_there (Some x) e = (x, refl)
+
+module _ {W : Type 0} (layout : Layout W) (meaning : ℕ → Value → Result (List Value) ℕ) (b : ℕ) (node : NodeState)
+    (law : NodeLaw layout meaning b node) where
+  -- a message is taken: the mark names the link of the end that had it in hand
+  closed : (p k : ℕ) (value : Value) → p < length node.block.ports → k < length (port_at p node.block).ends
+      → hand_at p k node ≡ Some value
+      → ViewsMove (NodeCall.close p k) node (takes_in p k (Some value) node)
+  closed p k value below there in_hand =
+      let l = in_link_at p k node in
+      let mark = Took p l value in
+      let end : EndState = record (end_in k (port_at p node.block).ends) { stage = target.Free; hand = None } in
+      let one = one_in node p k (closes k value (port_at p node.block)) end below there refl in
+      let links = λ (q : ℕ) (small : q < length node.block.ports). (law.shape.ports q small).links in
+      record {
+        moved = record {
+          value = value;
+          in_hand = in_hand;
+          view = ap (view_of_in (node.journal ++ mark ∷ [])) one.here
+              ∙ ap (knows_in end) (took_here p l value node.journal);
+        };
+        others = record {
+          ins = λ q j small near apart.
+              let other = (end_in j (port_at q node.block).ends).link in
+              let at : l ≡ _ = link_of_end layout b (port_at p node.block).ends p k (links p below) in
+              let at_other : other ≡ _ = link_of_end layout b (port_at q node.block).ends q j (links q small) in
+              let near_link : j < length (links_to layout b q) =
+              omega (arith, near, links_counted layout b (port_at q node.block).ends q (links q small)) in
+              let there_link : k < length (links_to layout b p) =
+              omega (arith, there, links_counted layout b (port_at p node.block).ends p (links p below)) in
+              let differ = links_in_differ layout b p q k j there_link near_link apart in
+              let differs : l == other ≡ false = rw (at, at_other) differ in
+              ap (view_of_in (node.journal ++ mark ∷ [])) (one.others q j apart)
+              ∙ ap (knows_in (end_in j (port_at q node.block).ends))
+              (took_same other node.journal mark (ap (λ (same : Bool). cond same (value ∷ []) []) differs));
+          outs = λ j near other. ap (knows_out (end_at node.block.exits j))
+              (gave_same (out_link_at j node) node.journal mark refl);
+        };
+      }
+
+  -- the head is given: the mark names the link that it goes over
+  given : (k : ℕ) (value : Value) → k < length node.block.exits.ends → head_of node.block.exits ≡ Some value
+      → ViewsMove (NodeCall.give k) node (gives_from k (Some value) node)
+  given k value there head =
+      let l = out_link_at k node in
+      let mark = Gave l value in
+      let end = given_end node.block.exits.next (end_at node.block.exits k) in
+      let one = one_out node k (gives k node.block.exits) end there refl in
+      let room = (gives k node.block.exits).room in
+      record {
+        moved = record {
+          value = value;
+          head = head;
+          view = ap (view_of_out (node.journal ++ mark ∷ [])) one.here
+              ∙ ap (knows_out end) (gave_here l value node.journal);
+        };
+        others = record {
+          ins = λ q j small near apart.
+              ap (λ (port : PortState). view_of_in (node.journal ++ mark ∷ []) (end_in j port.ends))
+              (port_of_map (gives_room room) node.block.ports q small)
+              ∙ ap (knows_in (end_in j (port_at q node.block).ends))
+              (took_same (in_link_at q j node) node.journal mark refl);
+          outs = λ j near other.
+              let differs = links_out_differ layout b node.block.exits.ends j k law.shape.rules near there other in
+              ap (view_of_out (node.journal ++ mark ∷ [])) (one.others j other)
+              ∙ ap (knows_out (end_at node.block.exits j))
+              (gave_same (out_link_at j node) node.journal mark
+              (ap (λ (same : Bool). cond same (value ∷ []) []) differs));
+        };
+      }
+
+-- what a block makes, and how its ports fail or close, moves no end
+record EndsStay (block new : BlockState) : Type 0 where
+  ins : (p : ℕ) → p < length block.ports → (port_at p new).ends ≡ (port_at p block).ends
+  outs : new.exits.ends ≡ block.exits.ends
+
+none_moves : (node : NodeState) (block : BlockState) → EndsStay node.block block
+    → NoneMoves node (with_block block node)
+none_moves node block stay = record { ins = stay.ins; outs = stay.outs; taken = λ l. refl; given = λ l. refl }
+
+none_moves_by : (node : NodeState) (block : BlockState) (mark : Mark) → EndsStay node.block block
+    → ((test : ℕ → ℕ → Bool) → taken_by_mark test mark ≡ []) → ((test : ℕ → Bool) → given_by_mark test mark ≡ [])
+    → NoneMoves node (marks mark (with_block block node))
+none_moves_by node block mark stay none_taken none_given = record {
+  ins = stay.ins;
+  outs = stay.outs;
+  taken = λ l. took_same l node.journal mark (none_taken (λ port link. link == l));
+  given = λ l. gave_same l node.journal mark (none_given (λ link. link == l));
+}
+
+keeping_stays : (kind : BlockKind) (values : List Value) (block : BlockState)
+    → EndsStay block (keeps_results kind values block)
+keeping_stays Action values block =
+    record {
+      ins = λ p below. ends_kept_at block.ports 0 p (gives_room 1 (takes_next (port_at 0 block))) below refl;
+      outs = refl;
+    }
+keeping_stays _ values block = record {
+  ins = λ p below. ends_kept_at block.ports 0 p (takes_next (port_at 0 block)) below refl;
+  outs = refl;
+}
+
+yielding_stays : (result : Result (List Value) ℕ) (block : BlockState) → EndsStay block (yields result block)
+yielding_stays (Ok values) block = keeping_stays block.kind values block
+yielding_stays (Err number) block =
+    record {
+      ins = λ p below. ap (λ (port : PortState). port.ends) (port_of_map port_fails block.ports p below);
+      outs = refl;
+    }
+
+making_stays : (result : Value → Result (List Value) ℕ) (message : Option Value) (block : BlockState)
+    → EndsStay block (makes_of result message block)
+making_stays result None block = record { ins = λ p below. refl; outs = refl }
+making_stays result (Some value) block = yielding_stays (made_of block.kind result value) block
+
+closing_stays : (block : BlockState) (p : ℕ) → EndsStay block (with_port p port_closes block)
+closing_stays block p = record {
+  ins = λ q below. ends_kept_at block.ports p q (port_closes (port_at p block)) below refl;
+  outs = refl;
+}
+
+stopping_stays : (block : BlockState) (how : Outcome) → EndsStay block (stops_by how block)
+stopping_stays block how =
+    record {
+      ins = λ p below. ap (λ (port : PortState). port.ends) (port_of_map port_closes block.ports p below);
+      outs = refl;
+    }
+
+-- the place at which the head may be offered
+place_there : (a b c d : Bool) (i k : ℕ) → cond (a || b || not c || d) None (Some i) ≡ Some k → (c ≡ true) × (i ≡ k)
+place_there false false true false i k e = (refl, cc)
+place_there true b c d i k e = absurd (cc)
+place_there false true c d i k e = absurd (cc)
+place_there false false false d i k e = absurd (cc)
+place_there false false true true i k e = absurd (cc)
+
+offered_at : (o : OutletState) (i k : ℕ) → offer_at i o ≡ Some k → k < length o.ends
+offered_at o i k may =
+    let place = place_there (is_empty o.left) (is_some o.offer) (ltb i (length o.ends))
+    (not (is_free (stage_at o i))) i k may in
+    subst (λ (n : ℕ). n < length o.ends) place.1 (ltb-true i (length o.ends) place.0)
+
+head_there : (when : When) (head : Option Value) → admits_head when head ≡ true → is_some head ≡ true
+head_there when None e = absurd (cc)
+head_there when (Some value) e = refl
+
+pub calls_move_views : (W : Type 0) → CallsMoveViews W
+calls_move_views W layout meaning b node (NodeCall.want p k) law may =
+    let i = message_at p k node in
+    let end : EndState = record (end_in k (port_at p node.block).ends) { stage = target.Accepted i } in
+    let one = one_in node p k (wants k (port_at p node.block)) end may.0.port may.0.place refl in
+    record {
+      moved = ap (view_of_in node.journal) one.here;
+      others = record {
+        ins = λ q j below there apart. ap (view_of_in node.journal) (one.others q j apart);
+        outs = λ j there apart. refl;
+      };
+    }
+calls_move_views W layout meaning b node (NodeCall.turn_down p k) law may =
+    let end : EndState = record (end_in k (port_at p node.block).ends) { stage = target.Free } in
+    let one = one_in node p k (turns_down k (port_at p node.block)) end may.port may.place refl in
+    record {
+      moved = ap (view_of_in node.journal) one.here;
+      others = record {
+        ins = λ q j below there apart. ap (view_of_in node.journal) (one.others q j apart);
+        outs = λ j there apart. refl;
+      };
+    }
+calls_move_views W layout meaning b node (NodeCall.postpone p k) law may =
+    let i = message_at p k node in
+    let end : EndState = record (end_in k (port_at p node.block).ends) { stage = target.Postponed i } in
+    let one = one_in node p k (postpones k (port_at p node.block)) end may.offered.port may.offered.place refl in
+    record {
+      moved = ap (view_of_in node.journal) one.here;
+      others = record {
+        ins = λ q j below there apart. ap (view_of_in node.journal) (one.others q j apart);
+        outs = λ j there apart. refl;
+      };
+    }
+calls_move_views W layout meaning b node (NodeCall.refuse p k) law may =
+    let port = port_at p node.block in
+    let old = end_in k port.ends in
+    let end : EndState = record old { stage = refused_by port.refusing } in
+    let one = one_in node p k (refuses k port) end may.0.port may.0.place refl in
+    let reason = is_there port.refusing may.1 in
+    record {
+      moved = record {
+        why = reason.0;
+        is_why = reason.1;
+        view = ap (view_of_in node.journal) one.here
+            ∙ ap (λ (o : Option Refusal). view_of_in node.journal (record old { stage = refused_by o })) reason.1;
+      };
+      others = record {
+        ins = λ q j below there apart. ap (view_of_in node.journal) (one.others q j apart);
+        outs = λ j there apart. refl;
+      };
+    }
+calls_move_views W layout meaning b node (NodeCall.consume p k) law may =
+    let i = message_at p k node in
+    let end : EndState = record (end_in k (port_at p node.block).ends) { stage = target.Consuming i } in
+    let one = one_in node p k (consumes k (port_at p node.block)) end may.0.port may.0.place refl in
+    record {
+      moved = ap (view_of_in node.journal) one.here;
+      others = record {
+        ins = λ q j below there apart. ap (view_of_in node.journal) (one.others q j apart);
+        outs = λ j there apart. refl;
+      };
+    }
+calls_move_views W layout meaning b node (NodeCall.open_with p k value) law may =
+    let i = message_at p k node in
+    let end : EndState = record (end_in k (port_at p node.block).ends) { stage = target.Hand i; hand = Some value } in
+    let one = one_in node p k (opens k value (port_at p node.block)) end may.port may.place refl in
+    record {
+      moved = ap (view_of_in node.journal) one.here;
+      others = record {
+        ins = λ q j below there apart. ap (view_of_in node.journal) (one.others q j apart);
+        outs = λ j there apart. refl;
+      };
+    }
+calls_move_views W layout meaning b node (NodeCall.close p k) law may =
+    let in_hand = is_there (hand_at p k node) (((law.ports p may.port).each k may.place).hand ∙ may.stands) in
+    subst (λ (hand : Option Value). ViewsMove (NodeCall.close p k) node (takes_in p k hand node)) (sym in_hand.1)
+    (closed layout meaning b node law p k in_hand.0 may.port may.place in_hand.1)
+calls_move_views W layout meaning b node (NodeCall.offer k) law may =
+    let o = node.block.exits in
+    let there = offered_at o (place_in o.next (head_of o) o.ends) k may.next in
+    let end : OutEnd = record (end_at o k) { stage = source.Out o.next } in
+    let one = one_out node k (offers k (prepares o)) end there refl in
+    record {
+      moved = ap (view_of_out node.journal) one.here;
+      others = record {
+        ins = λ q j below near apart. refl;
+        outs = λ j near apart. ap (view_of_out node.journal) (one.others j apart);
+      };
+    }
+calls_move_views W layout meaning b node (NodeCall.give k) law may =
+    let o = node.block.exits in
+    let exits = law.exits.law in
+    let admitted = gives_in_order.admitted (is_pending node.block) node.block.stopped o exits k may.place may.wanted in
+    let head = is_there (head_of o) (head_there (end_at o k).rule.when (head_of o) admitted) in
+    subst (λ (first : Option Value). ViewsMove (NodeCall.give k) node (gives_from k first node)) (sym head.1)
+    (given layout meaning b node law k head.0 may.place head.1)
+calls_move_views W layout meaning b node (NodeCall.deny k) law may =
+    let end : OutEnd = record (end_at node.block.exits k) { stage = source.Free } in
+    let one = one_out node k (denies k node.block.exits) end may.place refl in
+    record {
+      moved = ap (view_of_out node.journal) one.here;
+      others = record {
+        ins = λ q j below near apart. refl;
+        outs = λ j near apart. ap (view_of_out node.journal) (one.others j apart);
+      };
+    }
+calls_move_views W layout meaning b node (NodeCall.withdraw k) law may =
+    let o = node.block.exits in
+    let end : OutEnd = record (end_at o k) { declined = unwrap_or (id_of (stage_at o k)) 0; stage = source.Free } in
+    let one = one_out node k (withdraws k o) end may.waits.place refl in
+    record {
+      moved = ap (view_of_out node.journal) one.here;
+      others = record {
+        ins = λ q j below near apart. refl;
+        outs = λ j near apart. ap (view_of_out node.journal) (one.others j apart);
+      };
+    }
+calls_move_views W layout meaning b node (NodeCall.end_link k how) law may =
+    let end : OutEnd = record (end_at node.block.exits k) { stage = source.Ended how } in
+    let one = one_out node k (ends_link k how node.block.exits) end may.is_at_home.place refl in
+    record {
+      moved = ap (view_of_out node.journal) one.here;
+      others = record {
+        ins = λ q j below near apart. refl;
+        outs = λ j near apart. ap (view_of_out node.journal) (one.others j apart);
+      };
+    }
+calls_move_views W layout meaning b node (NodeCall.look_in p k phase) law may =
+    let old = end_in k (port_at p node.block).ends in
+    let end : EndState = record old { stage = target_looks old.stage phase } in
+    let one = one_in node p k (port_looks k phase (port_at p node.block)) end may.port may.place refl in
+    record {
+      moved = ap (view_of_in node.journal) one.here
+          ∙ ap (λ (stage : TargetStage Value). target_at stage (view_of_in node.journal old))
+          (target_looks_kept old.stage old.hand phase);
+      others = record {
+        ins = λ q j below there apart. ap (view_of_in node.journal) (one.others q j apart);
+        outs = λ j there apart. refl;
+      };
+    }
+calls_move_views W layout meaning b node (NodeCall.look_out k phase) law may =
+    let old = end_at node.block.exits k in
+    let end : OutEnd = record old { stage = source_looks old.stage phase } in
+    let one = one_out node k (exit_looks k phase node.block.exits) end may.place refl in
+    record {
+      moved = ap (view_of_out node.journal) one.here
+          ∙ ap (λ (stage : SourceStage). source_at stage (view_of_out node.journal old))
+          (source_looks_kept old.stage phase);
+      others = record {
+        ins = λ q j below near apart. refl;
+        outs = λ j near apart. ap (view_of_out node.journal) (one.others j apart);
+      };
+    }
+calls_move_views W layout meaning b node NodeCall.make law may =
+    let new = after_call layout meaning b NodeCall.make node in
+    let stay = making_stays (block_makes layout meaning b) (first_of (held_by node.block)) node.block in
+    let none = none_moves node new.block stay in
+    record { moved = tt; others = others_stay NodeCall.make node new none }
+calls_move_views W layout meaning b node (NodeCall.complete p) law may =
+    let new = after_call layout meaning b (NodeCall.complete p) node in
+    let none = none_moves_by node new.block (Complete p) (closing_stays node.block p) (λ test. refl) (λ test. refl) in
+    record { moved = tt; others = others_stay (NodeCall.complete p) node new none }
+calls_move_views W layout meaning b node (NodeCall.fault number) law may =
+    let new = after_call layout meaning b (NodeCall.fault number) node in
+    let stay = stopping_stays node.block (outcome.Faulted number) in
+    let none = none_moves_by node new.block (Fault number) stay (λ test. refl) (λ test. refl) in
+    record { moved = tt; others = others_stay (NodeCall.fault number) node new none }
+calls_move_views W layout meaning b node NodeCall.finish law may =
+    let new = after_call layout meaning b NodeCall.finish node in
+    let stay = stopping_stays node.block outcome.Done in
+    let none = none_moves_by node new.block Done stay (λ test. refl) (λ test. refl) in
+    record { moved = tt; others = others_stay NodeCall.finish node new none }

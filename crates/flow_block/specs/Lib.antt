@@ -1,0 +1,13 @@
+pub mod Block
+pub mod Fresh
+pub mod Input
+pub mod InputKeeps
+pub mod NextMoves
+pub mod Node
+pub mod NodeKeeps
+pub mod NodeLaw
+pub mod NodeRests
+pub mod NodeSeen
+pub mod Peeks
+pub mod Planned
+pub mod ViewsMove

@@ -1,0 +1,121 @@
+-- A node of a network: a block with its journal. Its calls are its side of each move of a link, its looks, and what it does by
+-- itself.
+use Rattle.std.specs.Prelude.{ℕ, List, [], ◌∷◌, ◌++◌, map, Option, Some, None, Result}
+use Rattle.flow_value.specs.declared.value.Value.{Value}
+use Rattle.flow_link.specs.declared.phase.LinkEnd.{LinkEnd}
+use Rattle.flow_link.specs.declared.phase.Phase.{Phase}
+use Rattle.flow_link.specs.declared.stage.SourceStage.{SourceStage}
+use Rattle.flow_link.specs.declared.trace.Mark.{Mark}
+use Rattle.flow_link.specs.declared.trace.Mark.TheVariants.{Took, Gave, Complete, Fault, Done}
+use Rattle.flow_link.specs.declared.trace.Outcome.TheVariants as outcome
+use Rattle.flow_link.specs.Stage.{source_stage_of, target_stage_of}
+use Rattle.flow_link.specs.Trace.{BlockTrace, gave_over, took_over}
+use Rattle.flow_link.specs.Views.{SourceView, TargetView}
+use Rattle.flow_intake.specs.Port.{EndState, PortState, end_in, link_in, hand_in}
+use Rattle.flow_intake.specs.Calls.{wants, turns_down, postpones, refuses, consumes, opens, closes, looks as port_looks, port_closes}
+use Rattle.flow_outlet.specs.Outlet.{OutletState, head_of, end_at, prepares, offers, denies, withdraws, ends_link, looks as exit_looks}
+use Rattle.flow_outlet.specs.declared.ends.OutEnd.{OutEnd}
+use Rattle.flow_block.specs.Block.{BlockState, port_at, with_port, makes, gives_out, stops_by}
+
+pub record NodeState : Type 0 where
+  pub block : BlockState
+  pub journal : List Mark
+
+-- a call of a node. The ends of its links are told by their places: those of the links into it by a port and a place there
+pub data NodeCall : Type 0 where
+  -- the target's side of each move
+  want : ℕ → ℕ → NodeCall
+  turn_down : ℕ → ℕ → NodeCall
+  postpone : ℕ → ℕ → NodeCall
+  refuse : ℕ → ℕ → NodeCall
+  consume : ℕ → ℕ → NodeCall
+  open_with : ℕ → ℕ → Value → NodeCall
+  close : ℕ → ℕ → NodeCall
+  -- the source's side; an offer's parcel is made ready with it
+  offer : ℕ → NodeCall
+  give : ℕ → NodeCall
+  deny : ℕ → NodeCall
+  withdraw : ℕ → NodeCall
+  end_link : ℕ → LinkEnd → NodeCall
+  -- the looks
+  look_in : ℕ → ℕ → Phase → NodeCall
+  look_out : ℕ → Phase → NodeCall
+  -- what it does by itself
+  make : NodeCall
+  complete : ℕ → NodeCall
+  fault : ℕ → NodeCall
+  finish : NodeCall
+
+abbrev pub with_block : BlockState → NodeState → NodeState
+with_block block node = record node { block = block }
+
+abbrev pub with_exits : OutletState → NodeState → NodeState
+with_exits exits node = record node { block = record node.block { exits = exits } }
+
+abbrev pub marks : Mark → NodeState → NodeState
+marks mark node = record node { journal = node.journal ++ mark ∷ [] }
+
+-- what the end at a place has in hand, and its link
+abbrev pub hand_at : ℕ → ℕ → NodeState → Option Value
+hand_at p k node = hand_in k (port_at p node.block).ends
+
+abbrev pub in_link_at : ℕ → ℕ → NodeState → ℕ
+in_link_at p k node = link_in k (port_at p node.block).ends
+
+abbrev pub out_link_at : ℕ → NodeState → ℕ
+out_link_at k node = (end_at node.block.exits k).rule.id
+
+-- the message in hand becomes the block's
+abbrev pub takes_in : ℕ → ℕ → Option Value → NodeState → NodeState
+takes_in p k None node = node
+takes_in p k (Some value) node = marks (Took p (in_link_at p k node) value) (with_block (with_port p (closes k value) node.block) node)
+
+-- the head goes over the link
+abbrev pub gives_from : ℕ → Option Value → NodeState → NodeState
+gives_from k None node = node
+gives_from k (Some value) node = marks (Gave (out_link_at k node) value) (with_block (gives_out k node.block) node)
+
+-- what a node makes of a message by its function
+module _ (result : Value → Result (List Value) ℕ) where
+  abbrev pub after : NodeCall → NodeState → NodeState
+  after (NodeCall.want p k) node = with_block (with_port p (wants k) node.block) node
+  after (NodeCall.turn_down p k) node = with_block (with_port p (turns_down k) node.block) node
+  after (NodeCall.postpone p k) node = with_block (with_port p (postpones k) node.block) node
+  after (NodeCall.refuse p k) node = with_block (with_port p (refuses k) node.block) node
+  after (NodeCall.consume p k) node = with_block (with_port p (consumes k) node.block) node
+  after (NodeCall.open_with p k value) node = with_block (with_port p (opens k value) node.block) node
+  after (NodeCall.close p k) node = takes_in p k (hand_at p k node) node
+  after (NodeCall.offer k) node = with_exits (offers k (prepares node.block.exits)) node
+  after (NodeCall.give k) node = gives_from k (head_of node.block.exits) node
+  after (NodeCall.deny k) node = with_exits (denies k node.block.exits) node
+  after (NodeCall.withdraw k) node = with_exits (withdraws k node.block.exits) node
+  after (NodeCall.end_link k how) node = with_exits (ends_link k how node.block.exits) node
+  after (NodeCall.look_in p k phase) node = with_block (with_port p (port_looks k phase) node.block) node
+  after (NodeCall.look_out k phase) node = with_exits (exit_looks k phase node.block.exits) node
+  after NodeCall.make node = with_block (makes result node.block) node
+  after (NodeCall.complete p) node = marks (Complete p) (with_block (with_port p port_closes node.block) node)
+  after (NodeCall.fault number) node = marks (Fault number) (with_block (stops_by (outcome.Faulted number) node.block) node)
+  after NodeCall.finish node = marks Done (with_block (stops_by outcome.Done node.block) node)
+
+-- what an end of a link knows, as its node's stages and marks tell
+abbrev pub view_of_in : List Mark → EndState → TargetView Value
+view_of_in journal end = record { before = 0; taken = took_over end.link journal; stage = target_stage_of end.stage end.hand }
+
+abbrev pub view_of_out : List Mark → OutEnd → SourceView Value
+view_of_out journal end =
+    record { before = 0; given = gave_over end.rule.id journal; last = end.last; stage = source_stage_of end.stage }
+
+abbrev pub in_view : ℕ → ℕ → NodeState → TargetView Value
+in_view p k node = view_of_in node.journal (end_in k (port_at p node.block).ends)
+
+abbrev pub out_view : ℕ → NodeState → SourceView Value
+out_view k node = view_of_out node.journal (end_at node.block.exits k)
+
+-- what the block leaves of a run
+abbrev pub node_trace : NodeState → BlockTrace
+node_trace node = record {
+  journal = node.journal;
+  held = map (λ (port : PortState). port.waiting) node.block.ports;
+  left = node.block.exits.left;
+  recorded = node.block.recorded;
+}

@@ -1,0 +1,179 @@
+-- When a node is in order: its own data say so, whatever the other ends of its links do.
+use Rattle.std.specs.Prelude.{◌≡◌, ℕ, ◌+◌, ◌==◌, ◌<◌, ◌⊎◌, Bool, true, false, ◌&&◌, List, [], ◌∷◌, ◌++◌, length, map, Option, Some, None, is_some, Result, Err}
+use Rattle.flow_value.specs.When.{admits}
+use Rattle.flow_value.specs.declared.value.Value.{Value}
+use Rattle.flow_link.specs.declared.draft.BlockKind.{BlockKind}
+use Rattle.flow_link.specs.declared.draft.BlockKind.TheVariants.{Buffer, Action, Transform}
+use Rattle.flow_link.specs.declared.stage.Refusal.{Refusal}
+use Rattle.flow_link.specs.declared.stage.Refusal.TheVariants.{PortEnded, OwnFault}
+use Rattle.flow_link.specs.declared.stage.SourceStage.{SourceStage}
+use Rattle.flow_link.specs.declared.stage.SourceStage.TheVariants.{Reserved, Claimed}
+use Rattle.flow_link.specs.declared.stage.TargetStage.TheVariants.{Refused}
+use Rattle.flow_link.specs.declared.trace.Mark.{Mark}
+use Rattle.flow_link.specs.declared.trace.Mark.TheVariants as mark
+use Rattle.flow_link.specs.declared.trace.Outcome.{Outcome}
+use Rattle.flow_link.specs.declared.trace.Outcome.TheVariants.{Done, Faulted}
+use Rattle.flow_link.specs.Endings.{stops, completes_once, is_number}
+use Rattle.flow_link.specs.Facts.{facts_in}
+use Rattle.flow_link.specs.Law.{is_own_mark, gives_in_order}
+use Rattle.flow_link.specs.Layout.{Layout}
+use Rattle.flow_link.specs.Lists.{every, some, below}
+use Rattle.flow_link.specs.Plan.{block_in, port_count, has_work}
+use Rattle.flow_link.specs.Trace.{Run, took, took_at, gave, gave_over, has_complete, has_fault, has_ended, is_done}
+use Rattle.flow_link.specs.Worked.{WorkedInto}
+use Rattle.flow_intake.specs.Port.{EndState, PortState, stage_at as port_stage}
+use Rattle.flow_intake.specs.PortLaw.{PortLaw, has_ended as has_port_ended}
+use Rattle.flow_outlet.specs.Law.{OutletLaw, is_refused}
+use Rattle.flow_outlet.specs.Outlet.{OutletState, end_at, stage_at, is_at_rest}
+use Rattle.flow_outlet.specs.declared.ends.OutEnd.{OutEnd}
+use Rattle.flow_outlet.specs.declared.group.Group.{Group}
+use Rattle.flow_block.specs.Block.{BlockState, port_at, held_by}
+use Rattle.flow_block.specs.Node.{NodeState}
+use Rattle.flow_block.specs.Peeks.{is_pending, has_seen_completion, fault_seen, holds_nothing}
+use Rattle.flow_block.specs.Planned.{is_built, links_to, links_from, rule_of, block_makes}
+
+-- the source knows that this link is refused
+abbrev pub refuses_over : List OutEnd → ℕ → Bool
+refuses_over ends l = some (λ (end : OutEnd). end.rule.id == l && is_refused end.stage) ends
+
+-- the message is kept for a target; no kind that is built keeps one
+abbrev pub is_kept : SourceStage → Bool
+is_kept (Reserved _) = true
+is_kept (Claimed _) = true
+is_kept _ = false
+
+-- how a journal says that its block stopped
+abbrev pub stops_at : Mark → Option Outcome
+stops_at (mark.Fault number) = Some (Faulted number)
+stops_at mark.Done = Some Done
+stops_at _ = None
+
+abbrev pub first_stop : Option Outcome → Option Outcome → Option Outcome
+first_stop (Some how) later = Some how
+first_stop None later = later
+
+abbrev pub outcome_in : List Mark → Option Outcome
+outcome_in [] = None
+outcome_in (first ∷ marks) = first_stop (stops_at first) (outcome_in marks)
+
+-- each message that is left has its weight, by its id
+abbrev pub weighed : Option ℕ → ℕ → List Value → List Group
+weighed None next left = []
+weighed (Some capacity) next [] = []
+weighed (Some capacity) next (_ ∷ left) = record { until = next; weight = 1 } ∷ weighed (Some capacity) (next + 1) left
+
+-- a message that is held first and on which the block's own function faults so
+pub record FaultsOn (result : Value → Result (List Value) ℕ) (kind : BlockKind) (held : List Value) (number : ℕ) : Type 0 where
+  pub works : has_work kind ≡ true
+  pub message : Value
+  pub rest : List Value
+  pub held_is : held ≡ message ∷ rest
+  pub fails : result message ≡ Err number
+
+-- what a block of this kind makes of what it took
+abbrev pub MakesAs : (Value → Result (List Value) ℕ) → BlockKind → (taken held given left recorded : List Value) → Type 0
+MakesAs result Buffer taken held given left recorded = taken ≡ (given ++ left) ++ held
+MakesAs result Action taken held given left recorded = WorkedInto result taken held recorded × (left ≡ [])
+MakesAs result Transform taken held given left recorded = WorkedInto result taken held (given ++ left)
+MakesAs result kind taken held given left recorded = Unit {0}
+
+-- the end has seen this fault
+abbrev pub is_fault_seen : ℕ → EndState → Bool
+is_fault_seen number end = is_number number (fault_seen end.stage)
+
+-- a port refused for this, and still would
+abbrev pub RefusesFor : Option Refusal → Option ℕ → Refusal → Type 0
+RefusesFor refusing fault PortEnded = refusing ≡ Some PortEnded
+RefusesFor refusing fault OwnFault = is_some fault ≡ true
+
+module _ {W : Type 0} (layout : Layout W) (meaning : ℕ → Value → Result (List Value) ℕ) (b : ℕ) where
+  -- a run of this layout in which only what this block has seen of refusals is told
+  abbrev pub run_seen_by : List OutEnd → Run W
+  run_seen_by ends =
+      record { layout = layout; meaning = meaning; trace = record { blocks = []; inputs = []; refused = refuses_over ends } }
+
+  -- a port as the plan has it
+  pub record PortAsPlanned (p : ℕ) (port : PortState) : Type 0 where
+    pub links : map (λ (end : EndState). end.link) port.ends ≡ links_to layout b p
+    pub capacity : port.capacity ≡ (block_in layout.blocks b).capacity
+    pub never_reserves : port.reserves ≡ false
+
+  -- the block is of a kind that is built, and has the ports and links that the plan gives it
+  pub record ShapeLaw (block : BlockState) : Type 0 where
+    pub built : is_built block.kind ≡ true
+    pub kind_is : block.kind ≡ (block_in layout.blocks b).kind
+    pub port_count_is : length block.ports ≡ port_count (block_in layout.blocks b)
+    pub ports : (p : ℕ) → p < length block.ports → PortAsPlanned p (port_at p block)
+    pub rules : map (λ (end : OutEnd). end.rule) block.exits.ends ≡ map (rule_of layout) (links_from layout b)
+
+  -- each port is in order
+  abbrev pub PortsLaw : BlockState → List Mark → Type 0
+  PortsLaw block journal =
+      (p : ℕ) → p < length block.ports → PortLaw (facts_in layout) (length (took_at p journal)) (port_at p block)
+
+  -- the exits are in order, and keep no message for a target
+  pub record ExitsLaw (block : BlockState) : Type 0 where
+    pub law : OutletLaw (is_pending block) block.stopped block.exits
+    pub none_kept : (k : ℕ) → k < length block.exits.ends → is_kept (stage_at block.exits k) ≡ false
+
+  -- what an end gave, as the marks tell it
+  pub record GaveOver (journal : List Mark) (end : OutEnd) : Type 0 where
+    pub admitted : every (admits end.rule.when) (gave_over end.rule.id journal) ≡ true
+    pub counted : is_some end.rule.max ≡ true → end.given ≡ length (gave_over end.rule.id journal)
+
+  pub record GaveLaw (exits : OutletState) (journal : List Mark) : Type 0 where
+    pub each : (k : ℕ) → k < length exits.ends → GaveOver journal (end_at exits k)
+    -- messages are counted from 1 on
+    pub next_is : exits.next ≡ 1 + length (gave journal)
+    -- each message went over the first link that took it
+    pub in_order : gives_in_order (run_seen_by exits.ends) b [] journal ≡ true
+
+  -- what it took, it holds or has made something of; its fault is that of its function on the message that it holds first
+  pub record MakesLaw (block : BlockState) (journal : List Mark) : Type 0 where
+    pub makes : MakesAs (block_makes layout meaning b) block.kind (took journal) (held_by block) (gave journal) block.exits.left block.recorded
+    pub fault_is : (number : ℕ) → block.fault ≡ Some number → FaultsOn (block_makes layout meaning b) block.kind (held_by block) number
+
+  -- a place is taken by each message that it holds or has left
+  pub record LoadLaw (block : BlockState) : Type 0 where
+    pub groups : block.exits.groups ≡ weighed (block_in layout.blocks b).capacity block.exits.next block.exits.left
+    pub no_room : block.exits.room ≡ 0
+    pub load : (p : ℕ) → p < length block.ports → is_some (block_in layout.blocks b).capacity ≡ true
+        → (port_at p block).load ≡ length (port_at p block).waiting + length block.exits.left
+
+  -- its marks are of its own links and ports, and nothing follows an end
+  pub record MarksLaw (journal : List Mark) : Type 0 where
+    pub own : every (is_own_mark (run_seen_by []) b) journal ≡ true
+    pub last : stops journal ≡ true
+    pub once : completes_once journal ≡ true
+
+  -- how it has ended, and why
+  pub record EndsLaw (block : BlockState) (journal : List Mark) : Type 0 where
+    pub stopped_is : block.stopped ≡ outcome_in journal
+    pub ended_is : (p : ℕ) → p < length block.ports → has_port_ended (port_at p block).refusing ≡ has_ended p journal
+    -- a block whose function faulted takes no more
+    pub failed : is_some block.fault ≡ true → (p : ℕ) → p < length block.ports → is_some (port_at p block).refusing ≡ true
+    pub own_fault : (p : ℕ) → p < length block.ports → (port_at p block).refusing ≡ Some OwnFault → is_some block.fault ≡ true
+    pub refused : (p k : ℕ) → p < length block.ports → k < length (port_at p block).ends → (why : Refusal)
+        → port_stage k (port_at p block) ≡ Refused why → RefusesFor (port_at p block).refusing block.fault why
+    -- a block that has stopped has nothing under way
+    pub at_rest : is_some block.stopped ≡ true → is_at_rest block.exits ≡ true
+    -- one that is done holds nothing, has nothing left, and all its ports are complete
+    pub done_empty : block.stopped ≡ Some Done → (holds_nothing block.ports ≡ true) × (block.exits.left ≡ [])
+    pub done_complete : is_done journal ≡ true → every (λ p. has_complete p journal) (below (length block.ports)) ≡ true
+    -- each end has a cause that it has seen
+    pub complete_cause : (p : ℕ) → p < length block.ports → has_complete p journal ≡ true → has_seen_completion (port_at p block).ends ≡ true
+    pub fault_cause : (number : ℕ) → has_fault number journal ≡ true
+        → (block.fault ≡ Some number) ⊎ (some (λ (port : PortState). some (λ (end : EndState). is_fault_seen number end) port.ends) block.ports ≡ true)
+    -- a fault that came over a link stops it only when it holds nothing
+    pub faulted_by : (number : ℕ) → block.stopped ≡ Some (Faulted number)
+        → (block.fault ≡ Some number) ⊎ ((block.fault ≡ None) × (holds_nothing block.ports ≡ true))
+
+  pub record NodeLaw (node : NodeState) : Type 0 where
+    pub shape : ShapeLaw node.block
+    pub ports : PortsLaw node.block node.journal
+    pub exits : ExitsLaw node.block
+    pub gave : GaveLaw node.block.exits node.journal
+    pub makes : MakesLaw node.block node.journal
+    pub load : LoadLaw node.block
+    pub marks : MarksLaw node.journal
+    pub ends : EndsLaw node.block node.journal

@@ -1,0 +1,76 @@
+-- What a layout says of one of its blocks: its ports, and its ends of the links that lead into it and out of it.
+use Rattle.std.specs.Prelude.{ℕ, Bool, true, false, List, [], map, filter, length, None, Result}
+use Rattle.flow_value.specs.declared.value.Value.{Value}
+use Rattle.flow_link.specs.declared.draft.BlockKind.{BlockKind}
+use Rattle.flow_link.specs.declared.draft.BlockKind.TheVariants.{Buffer, Action, Transform}
+use Rattle.flow_link.specs.declared.plan.Link.{Link}
+use Rattle.flow_link.specs.Layout.{Layout}
+use Rattle.flow_link.specs.Lists.{below}
+use Rattle.flow_link.specs.Making.{result_of}
+use Rattle.flow_link.specs.Plan.{block_in, link_in, begins_at, ends_at_port, port_count, is_steady, is_sole}
+use Rattle.flow_intake.specs.Port.{PortState, fresh_port, fresh_end}
+use Rattle.flow_outlet.specs.declared.ends.LinkRule.{LinkRule}
+use Rattle.flow_outlet.specs.Outlet.{fresh_outlet}
+use Rattle.flow_block.specs.Node.{NodeState}
+
+-- the kinds that are built
+abbrev pub is_built : BlockKind → Bool
+is_built Buffer = true
+is_built Action = true
+is_built Transform = true
+is_built _ = false
+
+module _ {W : Type 0} (layout : Layout W) where
+  abbrev pub is_out_of : ℕ → ℕ → Bool
+  is_out_of b l = begins_at b (link_in layout.links l).source
+
+  abbrev pub is_into : ℕ → ℕ → ℕ → Bool
+  is_into b p l = ends_at_port b p (link_in layout.links l).target
+
+  -- the links that leave a block, and those that enter one of its ports, in the order of the links
+  abbrev pub links_from : ℕ → List ℕ
+  links_from b = filter (is_out_of b) (below (length layout.links))
+
+  abbrev pub links_to : ℕ → ℕ → List ℕ
+  links_to b p = filter (is_into b p) (below (length layout.links))
+
+  abbrev pub rule_by : ℕ → Link → LinkRule
+  rule_by l link = record {
+    id = l;
+    when = link.when;
+    max = link.max;
+    passes = link.propagate;
+    steady = is_steady layout.blocks link.target;
+    sole = is_sole layout.blocks layout.links link.target;
+  }
+
+  abbrev pub rule_of : ℕ → LinkRule
+  rule_of l = rule_by l (link_in layout.links l)
+
+  -- the place of a link among those that leave its source, and among those that enter its target's port
+  abbrev pub out_place : ℕ → ℕ → ℕ
+  out_place b l = length (filter (is_out_of b) (below l))
+
+  abbrev pub in_place : ℕ → ℕ → ℕ → ℕ
+  in_place b p l = length (filter (is_into b p) (below l))
+
+  -- a port and a node in which nothing has happened; messages are counted from 1 on
+  abbrev pub port_of_plan : ℕ → ℕ → PortState
+  port_of_plan b p = record (fresh_port (block_in layout.blocks b).capacity) { ends = map fresh_end (links_to b p) }
+
+  abbrev pub fresh_node : ℕ → NodeState
+  fresh_node b = record {
+    block = record {
+      kind = (block_in layout.blocks b).kind;
+      ports = map (port_of_plan b) (below (port_count (block_in layout.blocks b)));
+      exits = fresh_outlet (map rule_of (links_from b)) 1;
+      recorded = [];
+      fault = None;
+      stopped = None;
+    };
+    journal = [];
+  }
+
+  -- what a block makes of one message
+  abbrev pub block_makes : (ℕ → Value → Result (List Value) ℕ) → ℕ → Value → Result (List Value) ℕ
+  block_makes meaning b value = result_of (block_in layout.blocks b).kind (meaning b value)

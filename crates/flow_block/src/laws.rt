@@ -1,0 +1,50 @@
+//! Laws about blocks and inputs. Each stands on a function that does nothing: whoever calls it has the whole law.
+ghost use Rattle.flow_block.specs.Fresh.{FreshInOrder};
+ghost use Rattle.flow_block.specs.InputKeeps.{InputsKeep, InputsAreParts};
+ghost use Rattle.flow_block.specs.NextMoves.{NextMovesMay};
+ghost use Rattle.flow_block.specs.NodeKeeps.{NodesKept};
+ghost use Rattle.flow_block.specs.NodeRests.{NodesAreStill, NodesRest};
+ghost use Rattle.flow_block.specs.NodeSeen.{NodesAreLawful};
+ghost use Rattle.flow_block.specs.ViewsMove.{CallsMoveViews};
+
+/// A block in which nothing has happened is in order.
+pub fn fresh_blocks_are_in_order<W>()
+    ensures { FreshInOrder W }
+{}
+
+/// Each call that may be made keeps a block in order: buffers, actions and transforms, with any links, predicates, limits
+/// and capacities.
+pub fn calls_keep_blocks_in_order<W>()
+    ensures { NodesKept W }
+{}
+
+/// What a block would do next at an end of a link is a call that it may make.
+pub fn next_moves_may_be_made<W>()
+    ensures { NextMovesMay W }
+{}
+
+/// A call changes what its own end of a link knows as the laws of one link have it, and what no other end knows.
+pub fn calls_move_views<W>()
+    ensures { CallsMoveViews W }
+{}
+
+/// A block in order keeps what each block of a lawful run keeps.
+pub fn blocks_in_order_are_lawful<W>()
+    ensures { NodesAreLawful W }
+{}
+
+/// A block in order that has nothing to do is still, and it rests where its links do.
+pub fn blocks_with_nothing_to_do_rest<W>()
+    ensures still { NodesAreStill W }
+    ensures rest { NodesRest W }
+{}
+
+/// Each call keeps an input in order, and changes what its end of the link knows as the laws of one link have it.
+pub fn calls_keep_inputs_in_order()
+    ensures { InputsKeep }
+{}
+
+/// An input in order keeps what each input of a lawful run keeps, and rests where its link does.
+pub fn inputs_are_parts<W>()
+    ensures { InputsAreParts W }
+{}
