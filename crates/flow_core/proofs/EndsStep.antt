@@ -1,0 +1,183 @@
+-- A call of one end of a link keeps the parts of a network in order, and no other end of a link learns anything by it.
+use Rattle.std.proofs.Common.{◌≡◌, ℕ, ◌<◌, List, length, Option, Some, None, Result, refl, ap, sym, ◌∙◌}
+use Rattle.flow_value.specs.declared.value.Value.{Value}
+use Rattle.flow_link.specs.declared.phase.Move.{Move}
+use Rattle.flow_link.specs.declared.phase.Move.TheVariants as move
+use Rattle.flow_link.specs.declared.plan.LinkSource.TheVariants.{Block, Input}
+use Rattle.flow_link.specs.declared.plan.LinkTarget.TheVariants.{Port}
+use Rattle.flow_link.specs.Layout.{Layout}
+use Rattle.flow_link.specs.Plan.{link_in}
+use Rattle.flow_link.specs.Views.{SourceView, TargetView}
+use Rattle.flow_block.specs.Input.{InputState, InputCall, input_view}
+use Rattle.flow_block.specs.InputKeeps.{InputLaw, InputsKeep, MayMoveInput}
+use Rattle.flow_block.specs.NextMoves.{MayMoveIn, MayMoveOut}
+use Rattle.flow_block.specs.Node.{NodeState, NodeCall, in_view, out_view}
+use Rattle.flow_block.specs.NodeKeeps.{NodesKept, MayCall, after_call}
+use Rattle.flow_block.specs.NodeLaw.{NodeLaw}
+use Rattle.flow_block.specs.Planned.{is_out_of, is_into, in_place, out_place}
+use Rattle.flow_block.specs.ViewsMove.{CallsMoveViews, IsAboutIn, IsAboutOut}
+use Rattle.flow_core.specs.Events.{node_after, out_call, in_call, input_call, input_after, with_node, with_input}
+use Rattle.flow_core.specs.Keeps.{IsRun}
+use Rattle.flow_core.specs.State.{NetState, node_at, input_at}
+use Rattle.flow_core.proofs.PartsChange.{PartsKeep, NodeSteps, given_at, taken_at, given_as, taken_as, begins_here}
+use Rattle.flow_core.proofs.PartsChange.{ends_here, node_changes, given_stays, taken_stays, node_is, input_changes}
+use Rattle.flow_core.proofs.PartsChange.{given_by_others, input_is, taken_as_before}
+use Rattle.flow_core.proofs.PlacesTell.{places_differ}
+
+module _ {W : Type 0} (layout : Layout W) (meaning : ℕ → Value → Result (List Value) ℕ) where
+  -- a node of which one end out of it learns something, or one end into it, or none
+  abbrev pub OutSteps : ℕ → ℕ → NodeState → NodeState → Type 0
+  OutSteps b k node new = NodeSteps layout meaning b (λ q j. ⊥) (λ j. j ≡ k) node new
+
+  abbrev pub InSteps : ℕ → ℕ → ℕ → NodeState → NodeState → Type 0
+  InSteps b p k node new = NodeSteps layout meaning b (λ q j. (q ≡ p) × (j ≡ k)) (λ j. ⊥) node new
+
+  abbrev pub AloneSteps : ℕ → NodeState → NodeState → Type 0
+  AloneSteps b node new = NodeSteps layout meaning b (λ q j. ⊥) (λ j. ⊥) node new
+
+  module _ (kept : NodesKept W) (views : CallsMoveViews W)
+      (b : ℕ) (node : NodeState) (law : NodeLaw layout meaning b node) where
+    call_steps : (AboutIn : ℕ → ℕ → Type 0) (AboutOut : ℕ → Type 0) (call : NodeCall)
+        → MayCall layout meaning b call node
+        → ((p k : ℕ) → IsAboutIn p k call → AboutIn p k) → ((k : ℕ) → IsAboutOut k call → AboutOut k)
+        → NodeSteps layout meaning b AboutIn AboutOut node (after_call layout meaning b call node)
+    call_steps AboutIn AboutOut call may about_in about_out =
+        let others = (views layout meaning b node call law may).others in
+        record {
+          law = kept layout meaning b node call law may;
+          ins = λ p k port place apart. others.ins p k port place (λ about. apart (about_in p k about));
+          outs = λ k place apart. others.outs k place (λ about. apart (about_out k about));
+        }
+
+    pub alone_steps : (call : NodeCall) → MayCall layout meaning b call node
+        → ((q j : ℕ) → IsAboutIn q j call → ⊥) → ((j : ℕ) → IsAboutOut j call → ⊥)
+        → AloneSteps b node (after_call layout meaning b call node)
+    alone_steps call may about_in about_out = call_steps (λ q j. ⊥) (λ j. ⊥) call may about_in about_out
+
+    pub out_call_steps : (k : ℕ) (call : NodeCall) → MayCall layout meaning b call node
+        → ((q j : ℕ) → IsAboutIn q j call → ⊥) → ((j : ℕ) → IsAboutOut j call → j ≡ k)
+        → OutSteps b k node (after_call layout meaning b call node)
+    out_call_steps k call may about_in about_out = call_steps (λ q j. ⊥) (λ j. j ≡ k) call may about_in about_out
+
+    pub in_call_steps : (p k : ℕ) (call : NodeCall) → MayCall layout meaning b call node
+        → ((q j : ℕ) → IsAboutIn q j call → (q ≡ p) × (j ≡ k)) → ((j : ℕ) → IsAboutOut j call → ⊥)
+        → InSteps b p k node (after_call layout meaning b call node)
+    in_call_steps p k call may about_in about_out =
+        call_steps (λ q j. (q ≡ p) × (j ≡ k)) (λ j. ⊥) call may about_in about_out
+
+    -- the move of an end, by the call that it is
+    pub out_steps : (k : ℕ) (next : Move) → MayMoveOut layout meaning b node k next
+        → OutSteps b k node (node_after layout meaning b (out_call k next) node)
+    out_steps k (move.Offer id) may = out_call_steps k (NodeCall.offer k) may.1 (λ q j about. about) (λ j about. about)
+    out_steps k move.Give may = out_call_steps k (NodeCall.give k) may (λ q j about. about) (λ j about. about)
+    out_steps k move.Deny may = out_call_steps k (NodeCall.deny k) may (λ q j about. about) (λ j about. about)
+    out_steps k move.Withdraw may = out_call_steps k (NodeCall.withdraw k) may (λ q j about. about) (λ j about. about)
+    out_steps k (move.End how) may =
+        out_call_steps k (NodeCall.end_link k how) may (λ q j about. about) (λ j about. about)
+    out_steps k _ may = absurd may
+
+    -- where nothing lies in the slot, nothing is opened
+    pub in_steps : (p k : ℕ) (slot : Option Value) (next : Move) → MayMoveIn layout meaning b node p k next
+        → InSteps b p k node (node_after layout meaning b (in_call p k slot next) node)
+    in_steps p k slot move.Want may =
+        in_call_steps p k (NodeCall.want p k) may (λ q j about. about) (λ j about. about)
+    in_steps p k slot move.TurnDown may =
+        in_call_steps p k (NodeCall.turn_down p k) may (λ q j about. about) (λ j about. about)
+    in_steps p k slot move.Postpone may =
+        in_call_steps p k (NodeCall.postpone p k) may (λ q j about. about) (λ j about. about)
+    in_steps p k slot move.Refuse may =
+        in_call_steps p k (NodeCall.refuse p k) may (λ q j about. about) (λ j about. about)
+    in_steps p k slot move.Consume may =
+        in_call_steps p k (NodeCall.consume p k) may (λ q j about. about) (λ j about. about)
+    in_steps p k (Some value) move.Open may =
+        in_call_steps p k (NodeCall.open_with p k value) (may value) (λ q j about. about) (λ j about. about)
+    in_steps p k None move.Open may =
+        record { law = law; ins = λ q j port place apart. refl; outs = λ j place apart. refl }
+    in_steps p k slot move.Close may =
+        in_call_steps p k (NodeCall.close p k) may (λ q j about. about) (λ j about. about)
+    in_steps p k slot _ may = absurd may
+
+-- the move of an input keeps it in order
+pub input_steps : InputsKeep → (input : InputState) → InputLaw input → (next : Move) → MayMoveInput input next
+    → InputLaw (input_after (input_call next) input)
+input_steps keep input law (move.Offer id) may = keep.calls input InputCall.offer law may.1
+input_steps keep input law move.Give may = keep.calls input InputCall.give law may
+input_steps keep input law (move.End how) may = keep.calls input (InputCall.end_link how) law may
+input_steps keep input law _ may = absurd may
+
+module _ {W : Type 0} (layout : Layout W) (meaning : ℕ → Value → Result (List Value) ℕ) (l : ℕ) where
+  -- the source of a link came to know this, and its target that
+  pub record SourceSteps (old new : NetState) (view : SourceView Value) : Type 0 where
+    pub parts : PartsKeep layout meaning new
+    pub lines : new.lines ≡ old.lines
+    pub given : given_at layout new l ≡ view
+    pub others : (k : ℕ) → k < length layout.links → (k ≡ l → ⊥) → given_at layout new k ≡ given_at layout old k
+    pub targets : (k : ℕ) → k < length layout.links → taken_at layout new k ≡ taken_at layout old k
+
+  pub record TargetSteps (old new : NetState) (view : TargetView Value) : Type 0 where
+    pub parts : PartsKeep layout meaning new
+    pub lines : new.lines ≡ old.lines
+    pub taken : taken_at layout new l ≡ view
+    pub others : (k : ℕ) → k < length layout.links → (k ≡ l → ⊥) → taken_at layout new k ≡ taken_at layout old k
+    pub sources : (k : ℕ) → k < length layout.links → given_at layout new k ≡ given_at layout old k
+
+  module _ (run : IsRun layout) (there : l < length layout.links)
+      (net : NetState) (parts : PartsKeep layout meaning net) where
+    pub block_gives : (s : ℕ) (change : NodeState → NodeState) → (link_in layout.links l).source ≡ Block s
+        → OutSteps layout meaning s (out_place layout s l) (node_at net s) (change (node_at net s))
+        → SourceSteps net (with_node s change net) (out_view (out_place layout s l) (change (node_at net s)))
+    block_gives s change from steps =
+        let low = run.leads.from_block l s there from in
+        let Out : ℕ → Type 0 = λ j. j ≡ out_place layout s l in
+        let is = node_is layout meaning run net parts s low (λ q j. ⊥) Out change steps in
+        let mine = begins_here layout s l from in
+        record {
+          parts = node_changes layout meaning run net parts s low (λ q j. ⊥) Out change steps;
+          lines = refl;
+          given = given_as layout (with_node s change net) l (Block s) from ∙ ap (out_view (out_place layout s l)) is;
+          others = λ k small apart.
+              given_stays layout meaning run net parts s low (λ q j. ⊥) Out change steps k small
+              (λ leads same. apart (places_differ (is_out_of layout s) k l (begins_here layout s k leads) mine same));
+          targets = λ k small.
+              taken_stays layout meaning run net parts s low (λ q j. ⊥) Out change steps k small
+              (λ p leads about. about);
+        }
+
+    pub block_takes : (t p : ℕ) (change : NodeState → NodeState) → (link_in layout.links l).target ≡ Port t p
+        → InSteps layout meaning t p (in_place layout t p l) (node_at net t) (change (node_at net t))
+        → TargetSteps net (with_node t change net) (in_view p (in_place layout t p l) (change (node_at net t)))
+    block_takes t p change to steps =
+        let low = run.leads.to_block l t p there to in
+        let In : ℕ → ℕ → Type 0 = λ q j. (q ≡ p) × (j ≡ in_place layout t p l) in
+        let is = node_is layout meaning run net parts t low In (λ j. ⊥) change steps in
+        record {
+          parts = node_changes layout meaning run net parts t low In (λ j. ⊥) change steps;
+          lines = refl;
+          taken = taken_as layout (with_node t change net) l (Port t p) to ∙ ap (in_view p (in_place layout t p l)) is;
+          others = λ k small apart.
+              taken_stays layout meaning run net parts t low In (λ j. ⊥) change steps k small
+              (λ q leads about. apart (one_entry k q leads about));
+          sources = λ k small.
+              given_stays layout meaning run net parts t low In (λ j. ⊥) change steps k small (λ leads about. about);
+        }
+      where
+        one_entry : (k q : ℕ) → (link_in layout.links k).target ≡ Port t q
+            → (q ≡ p) × (in_place layout t q k ≡ in_place layout t p l) → k ≡ l
+        one_entry k q leads about =
+            places_differ (is_into layout t p) k l
+            (ends_here layout t p k (leads ∙ ap (λ (i : ℕ). Port t i) about.0)) (ends_here layout t p l to)
+            (ap (λ (i : ℕ). in_place layout t i k) (sym about.0) ∙ about.1)
+
+    pub input_gives : (b : ℕ) (change : InputState → InputState) → (link_in layout.links l).source ≡ Input b
+        → InputLaw (change (input_at layout net b))
+        → SourceSteps net (with_input layout b change net) (input_view (change (input_at layout net b)))
+    input_gives b change from law =
+        let is = input_is layout meaning run net parts b change law l there from in
+        record {
+          parts = input_changes layout meaning run net parts b change law;
+          lines = refl;
+          given = given_as layout (with_input layout b change net) l (Input b) from ∙ ap input_view is;
+          others = λ k small apart.
+              given_by_others layout meaning run net parts b change law l there from k small apart;
+          targets = λ k small. taken_as_before layout meaning run net parts b change law k;
+        }

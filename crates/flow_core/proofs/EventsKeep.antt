@@ -1,0 +1,238 @@
+-- Each event that may happen keeps a network in order.
+use Rattle.std.proofs.Common.{◌≡◌, ℕ, ◌<◌, Bool, true, false, List, length, set, Option, Some, None, is_some}
+use Rattle.std.proofs.Common.{option_map, Result, refl, ap, sym, ◌∙◌, subst}
+use Rattle.flow_value.specs.declared.value.Value.{Value}
+use Rattle.flow_link.specs.declared.phase.Move.{Move}
+use Rattle.flow_link.specs.declared.phase.Phase.{Phase}
+use Rattle.flow_link.specs.declared.plan.LinkSource.{LinkSource}
+use Rattle.flow_link.specs.declared.plan.LinkSource.TheVariants.{Block, Input}
+use Rattle.flow_link.specs.declared.plan.LinkTarget.{LinkTarget}
+use Rattle.flow_link.specs.declared.plan.LinkTarget.TheVariants.{Port, Exit}
+use Rattle.flow_link.specs.Facts.{facts_in}
+use Rattle.flow_link.specs.Layout.{Layout}
+use Rattle.flow_link.specs.LinkOk.{LinkOk}
+use Rattle.flow_link.specs.Looks.{looking_in, looking_out}
+use Rattle.flow_link.specs.Phase.{phase_after}
+use Rattle.flow_link.specs.Plan.{link_in}
+use Rattle.flow_link.specs.Views.{SourceView, TargetView}
+use Rattle.flow_link.proofs.LooksKeepOrder.{looks_keep}
+use Rattle.flow_block.specs.Input.{input_view}
+use Rattle.flow_block.specs.InputKeeps.{InputsKeep}
+use Rattle.flow_block.specs.NextMoves.{NextMovesMay}
+use Rattle.flow_block.specs.Node.{NodeCall, in_view, out_view}
+use Rattle.flow_block.specs.NodeKeeps.{NodesKept, MayCall}
+use Rattle.flow_block.specs.Peeks.{next_fault}
+use Rattle.flow_block.specs.Planned.{in_place, out_place}
+use Rattle.flow_block.specs.ViewsMove.{CallsMoveViews, IsAboutIn, IsAboutOut}
+use Rattle.flow_core.specs.Events.{NetEvent, MayHappen, LinkMay, is_of_source, node_after, out_call, in_call}
+use Rattle.flow_core.specs.Events.{input_call, input_after, with_node, with_line, source_peek, target_peek, peek_by}
+use Rattle.flow_core.specs.Events.{value_from, slot_after, source_moves, target_moves, source_sees, target_sees}
+use Rattle.flow_core.specs.Events.{line_after, moved_by, after_move, after}
+use Rattle.flow_core.specs.Keeps.{IsRun, NetKeeps}
+use Rattle.flow_core.specs.OneMove.{SourceMoved, TargetMoved, BlocksMoveWell, InputsMoveWell, TargetsMoveWell}
+use Rattle.flow_core.specs.State.{NetState, LineState, node_at, line_at, input_at}
+use Rattle.flow_core.specs.Statements.{EventsKeep}
+use Rattle.flow_core.proofs.PartsChange.{PartsKeep, given_at, taken_at, given_as, taken_as, parts_keep, exit_there}
+use Rattle.flow_core.proofs.PartsChange.{port_there, entry_there, node_changes, given_stays, taken_stays, line_changes}
+use Rattle.flow_core.proofs.EndsStep.{SourceSteps, TargetSteps, out_steps, in_steps, alone_steps, input_steps}
+use Rattle.flow_core.proofs.EndsStep.{block_gives, block_takes, input_gives}
+use Rattle.flow_core.proofs.LinesKeep.{net_keeps, keeps_with, line_stays}
+use Rattle.flow_core.proofs.EndsLook.{target_looks, source_looks_out}
+
+module _ {W : Type 0} (kept : NodesKept W) (views : CallsMoveViews W) (next_may : NextMovesMay W) (inputs : InputsKeep)
+    (blocks_move : BlocksMoveWell W) (inputs_move : InputsMoveWell W) (targets_move : TargetsMoveWell W)
+    (layout : Layout W) (meaning : ℕ → Value → Result (List Value) ℕ) (run : IsRun layout)
+    (net : NetState) (keeps : NetKeeps layout meaning net) where
+  parts : PartsKeep layout meaning net
+  parts = parts_keep layout meaning net keeps
+
+  -- A move of a link
+  module _ (l : ℕ) (there : l < length layout.links) (next : Move) (phase : Phase)
+      (allowed : phase_after (line_at net l).phase next ≡ Some phase) where
+    abbrev Stands : SourceView Value → TargetView Value → Type 0
+    Stands source target = LinkOk (facts_in layout l) (line_at net l).phase (line_at net l).slot source target
+
+    abbrev slot_then : LinkSource → Option Value
+    slot_then source = slot_after next (value_from layout net source) (line_at net l).slot
+
+    in_order : Stands (given_at layout net l) (taken_at layout net l)
+    in_order = (keeps.lines l there).in_order
+
+    -- the source has moved, or the target, and the link is in order
+    record SourceGoes (source : LinkSource) (new : NetState) : Type 0 where
+      pub view : SourceView Value
+      pub steps : SourceSteps layout meaning l net new view
+      pub well : SourceMoved (facts_in layout l) phase (slot_then source) view (taken_at layout net l)
+
+    record TargetGoes (source : LinkSource) (new : NetState) : Type 0 where
+      pub view : TargetView Value
+      pub steps : TargetSteps layout meaning l net new view
+      pub well : TargetMoved (facts_in layout l) phase (slot_then source) (given_at layout net l) view
+
+    source_goes : (source : LinkSource) → (link_in layout.links l).source ≡ source
+        → source_peek layout net l source ≡ Some next
+        → SourceGoes source (source_moves layout meaning l next source net)
+    source_goes (Block s) from peek =
+        let k = out_place layout s l in
+        let node = node_at net s in
+        let low = run.leads.from_block l s there from in
+        let law = parts.nodes s low in
+        let place = exit_there layout meaning s node law l there from in
+        let may = (next_may layout meaning s node run.well_formed low law).1 k next place peek in
+        let change = node_after layout meaning s (out_call k next) in
+        let known = given_as layout net l (Block s) from in
+        let stands = subst (λ (view : SourceView Value). Stands view (taken_at layout net l)) known in_order in
+        record {
+          view = out_view k (change node);
+          steps = block_gives layout meaning l run there net parts s change from
+              (out_steps layout meaning kept views s node law k next may);
+          well = blocks_move layout meaning run l s there from node law (line_at net l).phase phase (line_at net l).slot
+              (taken_at layout net l) next stands peek allowed;
+        }
+    source_goes (Input b) from peek =
+        let input = input_at layout net b in
+        let law = parts.inputs b (run.leads.from_input l b there from) (run.leads.from_inputs l b there from) in
+        let change = input_after (input_call next) in
+        let known = given_as layout net l (Input b) from in
+        let stands = subst (λ (view : SourceView Value). Stands view (taken_at layout net l)) known in_order in
+        record {
+          view = input_view (change input);
+          steps = input_gives layout meaning l run there net parts b change from
+              (input_steps inputs input law next (inputs.next input next law peek));
+          well = inputs_move layout run l b there from input law (line_at net l).phase phase (line_at net l).slot
+              (taken_at layout net l) next stands peek allowed;
+        }
+
+    target_goes : (target : LinkTarget) → (link_in layout.links l).target ≡ target
+        → target_peek layout net l target ≡ Some next
+        → TargetGoes (link_in layout.links l).source (target_moves layout meaning l next target net)
+    target_goes (Port t p) to peek =
+        let k = in_place layout t p l in
+        let node = node_at net t in
+        let slot = (line_at net l).slot in
+        let low = run.leads.to_block l t p there to in
+        let law = parts.nodes t low in
+        let port = port_there layout meaning t node law run p l there to in
+        let place = entry_there layout meaning t node law run p l there to in
+        let may = (next_may layout meaning t node run.well_formed low law).0 p k next port place peek in
+        let change = node_after layout meaning t (in_call p k slot next) in
+        let known = taken_as layout net l (Port t p) to in
+        let stands = subst (λ (view : TargetView Value). Stands (given_at layout net l) view) known in_order in
+        record {
+          view = in_view p k (change node);
+          steps = block_takes layout meaning l run there net parts t p change to
+              (in_steps layout meaning kept views t node law p k slot next may);
+          well = targets_move layout meaning run l t p there to node law (line_at net l).phase phase slot
+              (value_from layout net (link_in layout.links l).source) (given_at layout net l) next stands peek allowed;
+        }
+    target_goes Exit to peek = absurd (run.inside l there to)
+
+    -- then the other end looks
+    source_keeps : (source : LinkSource) (target : LinkTarget) → (link_in layout.links l).source ≡ source
+        → (link_in layout.links l).target ≡ target → source_peek layout net l source ≡ Some next
+        → NetKeeps layout meaning (target_sees layout meaning l phase target
+        (with_line l (line_after layout meaning l next phase source net)
+        (source_moves layout meaning l next source net)))
+    source_keeps source target from to peek =
+        let goes = source_goes source from peek in
+        let line = line_after layout meaning l next phase source net in
+        let mid = source_moves layout meaning l next source net in
+        let moved = with_line l line mid in
+        let parts_then = line_changes layout meaning mid goes.steps.parts l line in
+        let looks = target_looks kept views inputs layout meaning run l there phase moved parts_then target to in
+        let taken = taken_at layout net l in
+        let settled = (looks_keep Value).settle phase goes.view taken in
+        net_keeps layout meaning net keeps (target_sees layout meaning l phase target moved) looks.parts
+        l line goes.view (looking_in phase taken) there
+        (looks.lines ∙ ap (λ (all : List LineState). set all l line) goes.steps.lines)
+        (looks.sources l there ∙ goes.steps.given)
+        (looks.taken ∙ ap (looking_in phase) (goes.steps.targets l there)) (
+          (looks_keep Value).in_keeps (facts_in layout l) phase line.slot goes.view taken goes.well.in_order,
+          record { by_source = goes.well.seen; by_target = settled.by_target },
+        )
+        (λ k low apart. looks.sources k low ∙ goes.steps.others k low apart)
+        (λ k low apart. looks.others k low apart ∙ goes.steps.targets k low)
+
+    target_keeps : (source : LinkSource) (target : LinkTarget) → (link_in layout.links l).source ≡ source
+        → (link_in layout.links l).target ≡ target → target_peek layout net l target ≡ Some next
+        → NetKeeps layout meaning (source_sees layout meaning l phase source
+        (with_line l (line_after layout meaning l next phase (link_in layout.links l).source net)
+        (target_moves layout meaning l next target net)))
+    target_keeps source target from to peek =
+        let goes = target_goes target to peek in
+        let line = line_after layout meaning l next phase (link_in layout.links l).source net in
+        let mid = target_moves layout meaning l next target net in
+        let moved = with_line l line mid in
+        let parts_then = line_changes layout meaning mid goes.steps.parts l line in
+        let given = given_at layout net l in
+        let stands : LinkOk (facts_in layout l) phase line.slot (given_at layout moved l) goes.view =
+        subst (λ (view : SourceView Value). LinkOk (facts_in layout l) phase line.slot view goes.view)
+        (sym (goes.steps.sources l there)) goes.well.in_order in
+        let looks =
+        source_looks_out kept views inputs layout meaning run l there phase moved parts_then
+        line.slot goes.view stands source from in
+        let settled = (looks_keep Value).settle phase given goes.view in
+        net_keeps layout meaning net keeps (source_sees layout meaning l phase source moved) looks.parts
+        l line (looking_out phase given) goes.view there
+        (looks.lines ∙ ap (λ (all : List LineState). set all l line) goes.steps.lines)
+        (looks.given ∙ ap (looking_out phase) (goes.steps.sources l there))
+        (looks.targets l there ∙ goes.steps.taken) (
+          (looks_keep Value).out_keeps (facts_in layout l) phase line.slot given goes.view goes.well.in_order,
+          record { by_source = settled.by_source; by_target = goes.well.seen },
+        )
+        (λ k low apart. looks.others k low apart ∙ goes.steps.sources k low)
+        (λ k low apart. looks.targets k low ∙ goes.steps.others k low apart)
+
+    mover_keeps : (by_source : Bool) → peek_by layout by_source net l (link_in layout.links l) ≡ Some next
+        → NetKeeps layout meaning (moved_by layout meaning by_source l next phase (link_in layout.links l) net)
+    mover_keeps true peek = source_keeps (link_in layout.links l).source (link_in layout.links l).target refl refl peek
+    mover_keeps false peek = target_keeps (link_in layout.links l).source (link_in layout.links l).target refl refl peek
+
+  move_keeps : (l : ℕ) (next : Move) → LinkMay layout net l next
+      → (found : Option Phase) → phase_after (line_at net l).phase next ≡ found
+      → NetKeeps layout meaning (after_move layout meaning l next found net)
+  move_keeps l next may None is = keeps
+  move_keeps l next may (Some phase) is = mover_keeps l may.there next phase is (is_of_source next) may.peek
+
+  -- What a block does by itself
+  module _ (b : ℕ) (low : b < length layout.blocks) where
+    call_keeps : (call : NodeCall) → MayCall layout meaning b call (node_at net b)
+        → ((q j : ℕ) → IsAboutIn q j call → ⊥) → ((j : ℕ) → IsAboutOut j call → ⊥)
+        → NetKeeps layout meaning (with_node b (node_after layout meaning b (Some call)) net)
+    call_keeps call may about_in about_out =
+        let change = node_after layout meaning b (Some call) in
+        let law = keeps.nodes b low in
+        let steps = alone_steps layout meaning kept views b (node_at net b) law call may about_in about_out in
+        let new = with_node b change net in
+        let parts_then = node_changes layout meaning run net parts b low (λ q j. ⊥) (λ j. ⊥) change steps in
+        keeps_with layout meaning net keeps new parts_then (λ k there.
+        line_stays layout meaning net keeps new parts_then k there refl
+        (given_stays layout meaning run net parts b low (λ q j. ⊥) (λ j. ⊥) change steps k there (λ leads about. about))
+        (taken_stays layout meaning run net parts b low (λ q j. ⊥) (λ j. ⊥) change steps k there
+        (λ p leads about. about)))
+
+    fault_keeps : (found : Option ℕ) → next_fault (node_at net b).block ≡ found → is_some found ≡ true
+        → NetKeeps layout meaning (with_node b (node_after layout meaning b (option_map NodeCall.fault found)) net)
+    fault_keeps None is would = absurd (cc)
+    fault_keeps (Some number) is would = call_keeps (NodeCall.fault number) is (λ q j about. about) (λ j about. about)
+
+  event_keeps : (event : NetEvent) → MayHappen layout meaning event net
+      → NetKeeps layout meaning (after layout meaning event net)
+  event_keeps (NetEvent.at_link l next) may =
+      move_keeps l next may.enabled (phase_after (line_at net l).phase next) refl
+  event_keeps (NetEvent.make b) may =
+      call_keeps b may.enabled.there NodeCall.make (record { waits = may.enabled.would; ids = may.ids })
+      (λ q j about. about) (λ j about. about)
+  event_keeps (NetEvent.complete b p) may =
+      call_keeps b may.enabled.there (NodeCall.complete p)
+      (record { port = may.enabled.port; completes = may.enabled.would })
+      (λ q j about. about) (λ j about. about)
+  event_keeps (NetEvent.fault b) may =
+      fault_keeps b may.enabled.there (next_fault (node_at net b).block) refl may.enabled.would
+  event_keeps (NetEvent.finish b) may =
+      call_keeps b may.enabled.there NodeCall.finish may.enabled.would (λ q j about. about) (λ j about. about)
+
+pub events_keep : {W : Type 0} → NodesKept W → CallsMoveViews W → NextMovesMay W → InputsKeep
+    → BlocksMoveWell W → InputsMoveWell W → TargetsMoveWell W → EventsKeep W
+events_keep kept views next_may inputs blocks_move inputs_move targets_move layout meaning run net event keeps may =
+    event_keeps kept views next_may inputs blocks_move inputs_move targets_move layout meaning run net keeps event may

@@ -1,0 +1,16 @@
+pub mod BlocksMove
+pub mod EndsLook
+pub mod EndsStep
+pub mod EventsKeep
+pub mod FreshNets
+pub mod InputsMove
+pub mod KeptIsLawful
+pub mod LinesKeep
+pub mod NetworksInOrder
+pub mod NextIsAllowed
+pub mod PartsChange
+pub mod PlacesOfLinks
+pub mod PlacesTell
+pub mod SchedulesGoWell
+pub mod StillIsQuiet
+pub mod TargetsMove

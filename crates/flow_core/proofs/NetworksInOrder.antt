@@ -1,0 +1,38 @@
+-- The laws of networks, from those of their blocks and inputs.
+use Rattle.flow_block.proofs.FreshNodes.{fresh_in_order}
+use Rattle.flow_block.proofs.InputsAreParts.{inputs_are_parts}
+use Rattle.flow_block.proofs.InputsInOrder.{inputs_keep}
+use Rattle.flow_block.proofs.NextMoves.{next_moves_may}
+use Rattle.flow_block.proofs.NodesAreLawful.{nodes_are_lawful}
+use Rattle.flow_block.proofs.NodesAreStill.{nodes_are_still}
+use Rattle.flow_block.proofs.NodesKept.{nodes_kept}
+use Rattle.flow_block.proofs.NodesRest.{nodes_rest}
+use Rattle.flow_block.proofs.ViewsMove.{calls_move_views}
+use Rattle.flow_core.specs.Statements.{EventsKeep, FreshKeeps, KeptIsLawful, StillIsQuiet, SchedulesGoWell}
+use Rattle.flow_core.proofs.BlocksMove.{blocks_move}
+use Rattle.flow_core.proofs.EventsKeep.{events_keep}
+use Rattle.flow_core.proofs.FreshNets.{fresh_keeps}
+use Rattle.flow_core.proofs.InputsMove.{inputs_move}
+use Rattle.flow_core.proofs.KeptIsLawful.{kept_is_lawful, parts_keep}
+use Rattle.flow_core.proofs.SchedulesGoWell.{schedules_go_well}
+use Rattle.flow_core.proofs.StillIsQuiet.{still_is_quiet}
+use Rattle.flow_core.proofs.TargetsMove.{targets_move}
+
+pub fresh_nets_keep : (W : Type 0) → FreshKeeps W
+fresh_nets_keep W = fresh_keeps (fresh_in_order W) inputs_keep
+
+pub all_events_keep : (W : Type 0) → EventsKeep W
+all_events_keep W =
+    events_keep (nodes_kept W) (calls_move_views W) next_moves_may inputs_keep
+    (blocks_move (calls_move_views W) next_moves_may) (inputs_move inputs_keep) (targets_move (calls_move_views W) next_moves_may)
+
+pub kept_nets_are_lawful : (W : Type 0) → KeptIsLawful W
+kept_nets_are_lawful W = kept_is_lawful (nodes_are_lawful W) (inputs_are_parts W)
+
+pub still_nets_are_quiet : (W : Type 0) → StillIsQuiet W
+still_nets_are_quiet W =
+    still_is_quiet (nodes_are_still W) (nodes_rest W) (inputs_are_parts W)
+    (λ layout meaning runs net keeps. parts_keep layout meaning runs net keeps (nodes_are_lawful W) (inputs_are_parts W))
+
+pub all_schedules_go_well : (W : Type 0) → SchedulesGoWell W
+all_schedules_go_well W = schedules_go_well (all_events_keep W) (fresh_nets_keep W) (kept_nets_are_lawful W) (still_nets_are_quiet W)

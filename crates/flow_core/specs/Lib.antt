@@ -1,0 +1,5 @@
+pub mod Events
+pub mod Keeps
+pub mod OneMove
+pub mod State
+pub mod Statements

@@ -1,0 +1,95 @@
+-- The state of a network as plain data: what each block, input and link has come to, and the run that it stands for.
+use Rattle.std.specs.Prelude.{ℕ, List, [], get_or, map, take, count_by, Option, None, Result}
+use Rattle.flow_value.specs.declared.value.Value.{Value}
+use Rattle.flow_link.specs.declared.draft.BlockKind.TheVariants.{Buffer}
+use Rattle.flow_link.specs.declared.phase.Phase.{Phase}
+use Rattle.flow_link.specs.declared.phase.Phase.TheVariants.{Idle}
+use Rattle.flow_link.specs.declared.plan.LinkSource.{LinkSource}
+use Rattle.flow_link.specs.declared.plan.LinkSource.TheVariants.{Block, Input}
+use Rattle.flow_link.specs.declared.plan.LinkTarget.{LinkTarget}
+use Rattle.flow_link.specs.declared.plan.LinkTarget.TheVariants.{Port, Exit}
+use Rattle.flow_link.specs.Composes.{Ends, is_refused_phase}
+use Rattle.flow_link.specs.Layout.{Layout}
+use Rattle.flow_link.specs.Plan.{link_in}
+use Rattle.flow_link.specs.Trace.{InputTrace, Trace, Run}
+use Rattle.flow_link.specs.Views.{SourceView, TargetView, TargetStage}
+use Rattle.flow_outlet.specs.Outlet.{fresh_outlet}
+use Rattle.flow_block.specs.Input.{InputState, fresh_input, no_input, input_view, input_trace}
+use Rattle.flow_block.specs.Node.{NodeState, in_view, out_view, node_trace}
+use Rattle.flow_block.specs.Planned.{in_place, out_place, fresh_node}
+use Rattle.flow_link.specs.Lists.{below}
+use Rattle.std.specs.Prelude.{length, replicate}
+
+-- a link: its phase, and what lies in its slot
+pub record LineState : Type 0 where
+  pub phase : Phase
+  pub slot : Option Value
+
+-- blocks and links by their numbers, and inputs in the order of their blocks
+pub record NetState : Type 0 where
+  pub nodes : List NodeState
+  pub inputs : List InputState
+  pub lines : List LineState
+
+abbrev pub fresh_line : LineState
+fresh_line = record { phase = Idle; slot = None }
+
+abbrev pub no_node : NodeState
+no_node = record {
+  block = record { kind = Buffer; ports = []; exits = fresh_outlet [] 1; recorded = []; fault = None; stopped = None };
+  journal = [];
+}
+
+abbrev pub node_at : NetState → ℕ → NodeState
+node_at net b = get_or net.nodes b no_node
+
+abbrev pub line_at : NetState → ℕ → LineState
+line_at net l = get_or net.lines l fresh_line
+
+-- an exit's end; nobody receives there yet
+abbrev pub idle_target : TargetView Value
+idle_target = record { before = 0; taken = []; stage = TargetStage.free }
+
+module _ {W : Type 0} (layout : Layout W) where
+  -- the place of a block's input among all inputs
+  abbrev pub input_place : ℕ → ℕ
+  input_place b = count_by (λ block. block.input) (take b layout.blocks)
+
+  abbrev pub input_at : NetState → ℕ → InputState
+  input_at net b = get_or net.inputs (input_place b) no_input
+
+  -- what the two ends of a link know
+  abbrev pub source_from : NetState → ℕ → LinkSource → SourceView Value
+  source_from net l (Block s) = out_view (out_place layout s l) (node_at net s)
+  source_from net l (Input b) = input_view (input_at net b)
+
+  abbrev pub target_from : NetState → ℕ → LinkTarget → TargetView Value
+  target_from net l (Port t p) = in_view p (in_place layout t p l) (node_at net t)
+  target_from net l Exit = idle_target
+
+  abbrev pub ends_of : NetState → ℕ → Ends
+  ends_of net l = record {
+    phase = (line_at net l).phase;
+    slot = (line_at net l).slot;
+    source = source_from net l (link_in layout.links l).source;
+    target = target_from net l (link_in layout.links l).target;
+  }
+
+  -- the trace so far, and the run
+  abbrev pub trace_of_net : NetState → Trace
+  trace_of_net net = record {
+    blocks = map node_trace net.nodes;
+    inputs = map input_trace net.inputs;
+    refused = λ l. is_refused_phase (line_at net l).phase;
+  }
+
+  abbrev pub run_of_net : (ℕ → Value → Result (List Value) ℕ) → NetState → Run W
+  run_of_net meaning net = record { layout = layout; meaning = meaning; trace = trace_of_net net }
+
+  -- a network in which nothing has happened, to which this is posted
+  abbrev pub fresh_net : List InputTrace → NetState
+  fresh_net posted = record {
+    nodes = map (fresh_node layout) (below (length layout.blocks));
+    inputs = map fresh_input posted;
+    lines = replicate (length layout.links) fresh_line;
+  }

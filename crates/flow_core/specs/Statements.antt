@@ -1,0 +1,86 @@
+-- What is proved of the states of a network.
+use Rattle.std.specs.Prelude.{◌≡◌, ℕ, ◌<◌, ◌⊎◌, List, [], ◌∷◌, length, count_by, Some, Result, is_some, true}
+use Rattle.flow_value.specs.declared.value.Value.{Value}
+use Rattle.flow_link.specs.declared.phase.Move.{Move}
+use Rattle.flow_link.specs.Layout.{Layout}
+use Rattle.flow_link.specs.Lawful.{Lawful}
+use Rattle.flow_link.specs.Phase.{phase_after}
+use Rattle.flow_link.specs.Plan.{link_in}
+use Rattle.flow_link.specs.Quiet.{Quiet}
+use Rattle.flow_link.specs.Trace.{InputTrace}
+use Rattle.flow_core.specs.Events.{NetEvent, Enabled, MayHappen, after, peek_by, is_of_source}
+use Rattle.flow_core.specs.Keeps.{IsRun, NetKeeps, LineKeeps}
+use Rattle.flow_core.specs.State.{NetState, line_at, run_of_net, fresh_net}
+
+module _ {W : Type 0} (layout : Layout W) (meaning : ℕ → Value → Result (List Value) ℕ) where
+  -- nothing may happen any more
+  abbrev pub IsStill : NetState → Type 0
+  IsStill net = (event : NetEvent) → Enabled layout net event → ⊥
+
+  -- the event that is asked for may happen, and has
+  pub record Happens (event : NetEvent) (old new : NetState) : Type 0 where
+    pub may : MayHappen layout meaning event old
+    pub new_is : new ≡ after layout meaning event old
+
+  -- it may not happen, and nothing has changed
+  pub record IsPassedOver (event : NetEvent) (old new : NetState) : Type 0 where
+    pub may_not : MayHappen layout meaning event old → ⊥
+    pub same : new ≡ old
+
+  abbrev pub Answers : NetEvent → NetState → NetState → Type 0
+  Answers event old new = Happens event old new ⊎ IsPassedOver event old new
+
+  -- the whole list leads from one state to another
+  abbrev pub Goes : List NetEvent → NetState → NetState → Type 0
+  Goes [] old new = new ≡ old
+  Goes (event ∷ events) old new = (mid : NetState) × (Answers event old mid × Goes events mid new)
+
+  -- what is known of a network that came from its start by such a list
+  pub record GoesWell (start now : NetState) : Type 0 where
+    pub lawful : Lawful (run_of_net layout meaning now)
+    -- each link is in order, and each end of it has seen its phase
+    pub links : (l : ℕ) → l < length layout.links → LineKeeps layout now l
+    pub same_inputs : (run_of_net layout meaning now).trace.inputs ≡ (run_of_net layout meaning start).trace.inputs
+    -- and it is quiet where nothing may happen any more
+    pub quiet : IsStill now → Quiet (run_of_net layout meaning now)
+
+module _ (W : Type 0) where
+  -- of each network that runs
+  abbrev pub OfEachNet : ((layout : Layout W) → (ℕ → Value → Result (List Value) ℕ) → Type 0) → Type 0
+  OfEachNet P = (layout : Layout W) (meaning : ℕ → Value → Result (List Value) ℕ) → IsRun layout → P layout meaning
+
+  -- a network in which nothing has happened is in order
+  abbrev pub FreshKeeps : Type 0
+  FreshKeeps = OfEachNet λ layout meaning.
+      (posted : List InputTrace) → length posted ≡ count_by (λ block. block.input) layout.blocks
+      → NetKeeps layout meaning (fresh_net layout posted)
+
+  -- each event that may happen keeps it so
+  abbrev pub EventsKeep : Type 0
+  EventsKeep = OfEachNet λ layout meaning.
+      (net : NetState) (event : NetEvent) → NetKeeps layout meaning net → MayHappen layout meaning event net
+      → NetKeeps layout meaning (after layout meaning event net)
+
+  -- and then the run so far is lawful
+  abbrev pub KeptIsLawful : Type 0
+  KeptIsLawful = OfEachNet λ layout meaning.
+      (net : NetState) → NetKeeps layout meaning net → Lawful (run_of_net layout meaning net)
+
+  -- what an end would do next is a move that its link's phase allows
+  abbrev pub NextIsAllowed : Type 0
+  NextIsAllowed = OfEachNet λ layout meaning.
+      (net : NetState) (l : ℕ) (next : Move) → NetKeeps layout meaning net → l < length layout.links
+      → peek_by layout (is_of_source next) net l (link_in layout.links l) ≡ Some next
+      → is_some (phase_after (line_at net l).phase next) ≡ true
+
+  -- where nothing may happen any more, the run is quiet
+  abbrev pub StillIsQuiet : Type 0
+  StillIsQuiet = OfEachNet λ layout meaning.
+      (net : NetState) → NetKeeps layout meaning net → IsStill layout meaning net → Quiet (run_of_net layout meaning net)
+
+  -- whatever events are asked for, in whatever order, the run so far is lawful
+  abbrev pub SchedulesGoWell : Type 0
+  SchedulesGoWell = OfEachNet λ layout meaning.
+      (posted : List InputTrace) (events : List NetEvent) (now : NetState) → length posted ≡ count_by (λ block. block.input) layout.blocks
+      → Goes layout meaning events (fresh_net layout posted) now
+      → GoesWell layout meaning (fresh_net layout posted) now

@@ -1,0 +1,34 @@
+//! Laws about the states of a network. Each stands on a function that does nothing: whoever calls it has the whole law.
+ghost use Rattle.flow_core.specs.Statements.{EventsKeep, FreshKeeps, KeptIsLawful, NextIsAllowed, SchedulesGoWell};
+ghost use Rattle.flow_core.specs.Statements.{StillIsQuiet};
+
+/// A network in which nothing has happened is in order.
+pub fn fresh_networks_are_in_order<W>()
+    ensures { FreshKeeps W }
+{}
+
+/// Each event that may happen keeps each block, input and link in order, and both ends of each link aware of it.
+pub fn events_keep_networks_in_order<W>()
+    ensures { EventsKeep W }
+{}
+
+/// The run of a network in order is lawful.
+pub fn networks_in_order_are_lawful<W>()
+    ensures { KeptIsLawful W }
+{}
+
+/// What an end of a link would do next, by its own data alone, is a move that the link's phase allows.
+pub fn next_moves_are_allowed<W>()
+    ensures { NextIsAllowed W }
+{}
+
+/// Where nothing may happen any more, nothing is left to do.
+pub fn quiet_networks_are_quiet<W>()
+    ensures { StillIsQuiet W }
+{}
+
+/// Whatever events are asked for, in whatever order: the run so far is lawful, and where nothing may happen any more it
+/// is quiet.
+pub fn every_schedule_goes_well<W>()
+    ensures { SchedulesGoWell W }
+{}
