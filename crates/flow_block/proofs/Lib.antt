@@ -1,3 +1,4 @@
+pub mod Causes
 pub mod EndingsTell
 pub mod EndsAtPlaces
 pub mod EndsAtRest

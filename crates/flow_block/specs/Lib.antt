@@ -1,4 +1,5 @@
 pub mod Block
+pub mod Causes
 pub mod Fresh
 pub mod Input
 pub mod InputKeeps

@@ -1,4 +1,5 @@
 //! Laws about blocks and inputs. Each stands on a function that does nothing: whoever calls it has the whole law.
+ghost use Rattle.flow_block.specs.Causes.{NextMovesHaveCauses};
 ghost use Rattle.flow_block.specs.Fresh.{FreshInOrder};
 ghost use Rattle.flow_block.specs.InputKeeps.{InputsKeep, InputsAreParts};
 ghost use Rattle.flow_block.specs.NextMoves.{NextMovesMay};
@@ -21,6 +22,13 @@ pub fn calls_keep_blocks_in_order<W>()
 /// What a block would do next at an end of a link is a call that it may make.
 pub fn next_moves_may_be_made<W>()
     ensures { NextMovesMay W }
+{}
+
+/// A block refuses only where its port has ended or its own function has faulted, puts off only what it could not take at
+/// once, takes only what fits beside what is on its way, faults only when nothing is under way and its own work is done,
+/// and does not stop offering while a link is free.
+pub fn next_moves_have_causes<W>()
+    ensures { NextMovesHaveCauses W }
 {}
 
 /// A call changes what its own end of a link knows as the laws of one link have it, and what no other end knows.
