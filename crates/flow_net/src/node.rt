@@ -92,7 +92,7 @@ impl Node {
     {
         self.journal.reserve(MARKS_OWED)?;
         self.offer = match self.left.front() {
-            Some(value) => Some(parcel_of(alloc, value)?),
+            Some(value) => Some(Parcel::of(alloc, value)?),
             None => None,
         };
         Ok(())
@@ -297,7 +297,7 @@ impl Feed {
         ensures memory { IfErr result (λ fault. fault ≡ Memory) }
     {
         self.offer = match self.values.get(self.sent) {
-            Some(value) => Some(parcel_of(alloc, value)?),
+            Some(value) => Some(Parcel::of(alloc, value)?),
             None => None,
         };
         Ok(())
@@ -311,17 +311,5 @@ impl Feed {
     {
         self.sent += 1;
         self.offer.take()
-    }
-}
-
-/// A parcel with a copy of this value.
-pub(crate) fn parcel_of(alloc: Global, value: &Value) -> Result<Parcel, NetFault>
-    ensures made { IfOk result (λ parcel. parcel ≡ value.now) }
-    ensures memory { IfErr result (λ fault. fault ≡ Memory) }
-{
-    let copy = value.copy(alloc)?;
-    match Parcel::new(alloc, copy) {
-        Ok(parcel) => Ok(parcel),
-        Err(_) => Err(NetFault::Memory),
     }
 }

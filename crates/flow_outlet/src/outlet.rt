@@ -252,7 +252,7 @@ impl Outlet {
             return Ok(());
         }
         if let Some(value) = front(&self.left) {
-            self.parcel = Some(parcel_of(alloc, value)?);
+            self.parcel = Some(Parcel::of(alloc, value)?);
         }
         Ok(())
     }
@@ -596,16 +596,5 @@ fn end_group(groups: &mut VecDeque<Group>, id: u64) -> u32
             weight
         }
         _ => 0,
-    }
-}
-
-/// A parcel with a copy of this value.
-fn parcel_of(alloc: Global, value: &Value) -> Result<Parcel, AllocError>
-    ensures { IfOk result (λ parcel. parcel ≡ value.now) }
-{
-    let copy = value.copy(alloc)?;
-    match Parcel::new(alloc, copy) {
-        Ok(parcel) => Ok(parcel),
-        Err(_) => Err(AllocError),
     }
 }

@@ -1,8 +1,8 @@
 //! A message on its way from a source to a target.
-ghost use Rattle.std.specs.Prelude.{◌≡◌, MatchResult};
+ghost use Rattle.std.specs.Prelude.{◌≡◌, IfOk, MatchResult};
 
 use crate::value::Value;
-use std::alloc::Global;
+use std::alloc::{AllocError, Global};
 use std::marker::Model;
 
 /// A value and an equal copy of it: one for the target's block, one for the target's journal.
@@ -38,6 +38,16 @@ impl Parcel {
             Ok(spare) => Ok(Parcel { value, spare }),
             Err(_) => Err(value),
         }
+    }
+
+    /// A parcel with a copy of this value.
+    pub fn of(alloc: Global, value: &Value) -> Result<Parcel, AllocError>
+        ensures { IfOk result (λ parcel. parcel ≡ value.now) }
+    {
+        Ok(Parcel {
+            value: value.copy(alloc)?,
+            spare: value.copy(alloc)?,
+        })
     }
 
     /// The value that is on its way.
