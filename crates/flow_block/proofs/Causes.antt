@@ -1,9 +1,8 @@
 -- What a node in order does next has its cause.
-use Rattle.std.proofs.Common.{◌≡◌, ◌≢◌, ℕ, ◌+◌, ◌<◌, ◌≤◌, ◌==◌, ◌&&◌, ◌||◌, ◌⊎◌, inl, inr, cond, Bool, true, false, List, ◌∷◌, length, Option, Some, None, is_some, is_none, Result, refl, ap, sym, subst, ◌∙◌, arith, eqb-true, eq-eqb}
+use Rattle.std.proofs.Common.{◌≡◌, ◌≢◌, ℕ, ◌<◌, ◌≤◌, ◌==◌, ◌&&◌, ◌||◌, ◌⊎◌, inl, inr, cond, Bool, true, false, List, length, Option, Some, None, is_some, is_none, Result, refl, ap, sym, ◌∙◌, arith, eqb-true, eq-eqb}
 use Rattle.flow_value.specs.declared.value.Value.{Value}
 use Rattle.flow_value.specs.declared.message.MessageStatus.{MessageStatus}
 use Rattle.flow_value.specs.declared.message.MessageStatus.TheVariants as status
-use Rattle.flow_link.specs.declared.phase.LinkEnd.{LinkEnd}
 use Rattle.flow_link.specs.declared.phase.Move.{Move}
 use Rattle.flow_link.specs.declared.phase.Move.TheVariants as move
 use Rattle.flow_link.specs.declared.stage.Refusal.{Refusal}
@@ -19,18 +18,18 @@ use Rattle.flow_intake.specs.Port.{PortState, stage_at as port_stage, has_room}
 use Rattle.flow_intake.specs.Calls.{answer_to, move_of, move_at, is_at, next_place}
 use Rattle.flow_intake.specs.PortLaw.{has_ended as has_port_ended}
 use Rattle.flow_intake.specs.Profile.{TakesAtOnce}
+use Rattle.flow_intake.specs.Ended.{first_some}
 use Rattle.flow_intake.proofs.ProfileHolds.{answers_tell, oldest_first, room_adds_up}
 use Rattle.flow_outlet.specs.End.{is_free, is_closed, is_over, is_cut, speaks_of, rejects}
 use Rattle.flow_outlet.specs.Outlet.{OutletState, head_of, end_at, stage_at, end_of, may_offer, free_move, is_at as is_place, move_at as out_move_at, is_empty, is_at_rest}
-use Rattle.flow_outlet.specs.Order.{StopsAt, IsHeldBack, IsNextOffer}
+use Rattle.flow_outlet.specs.Order.{StopsAt, IsNextOffer}
 use Rattle.flow_outlet.specs.declared.ends.OutEnd.{OutEnd}
 use Rattle.flow_outlet.proofs.OffersInOrder.{offers_in_order}
-use Rattle.flow_block.specs.Block.{BlockState, port_at, held_by}
-use Rattle.flow_block.specs.Causes.{MayRefuse, FaultsItself, FaultsInTime, OffersBefore, HasCauses, NextMovesHaveCauses}
-use Rattle.flow_block.specs.NextMoves.{next_in, next_out}
+use Rattle.flow_block.specs.Block.{port_at}
+use Rattle.flow_block.specs.Causes.{MayRefuse, FaultsItself, FaultsInTime, OffersBefore, NextMovesHaveCauses}
 use Rattle.flow_block.specs.Node.{NodeState}
 use Rattle.flow_block.specs.NodeLaw.{NodeLaw}
-use Rattle.flow_block.specs.Peeks.{could_stop, nothing_comes, holds_nothing, fault_at_ports, fault_cause, next_fault, first_some, is_held_up}
+use Rattle.flow_block.specs.Peeks.{could_stop, nothing_comes, holds_nothing, fault_at_ports, fault_cause, is_held_up}
 
 -- a move that an answer is
 answer_refuses : (answer : MessageStatus) → move_of answer ≡ Some move.Refuse → answer ≡ status.DecliningPermanently

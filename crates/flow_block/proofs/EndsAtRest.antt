@@ -1,9 +1,6 @@
 -- What ends at rest tell: what is away there only waits, and nothing comes.
-use Rattle.std.proofs.Common.{◌≡◌, ℕ, zero, suc, ◌+◌, ◌<◌, Bool, true, false, cond, not, ◌==◌, ◌||◌, List, [], ◌∷◌, length, get_or, is_some, Option, Some, None, inl, inr, ◌⊎◌, refl, ap, ap₂, sym, subst, ◌∙◌, arith, eq-eqb}
-use Rattle.std.proofs.lemmas.Bool.Decides.{nat_tests}
-use Rattle.flow_value.specs.declared.value.Value.{Value}
+use Rattle.std.proofs.Common.{◌≡◌, ℕ, suc, ◌+◌, ◌<◌, Bool, true, false, cond, not, ◌==◌, ◌||◌, List, [], ◌∷◌, length, Option, Some, None, refl, ap, ap₂, sym, subst, ◌∙◌, arith, eq-eqb}
 use Rattle.flow_link.specs.declared.phase.LinkEnd.{LinkEnd}
-use Rattle.flow_link.specs.declared.phase.LinkEnd.TheVariants.{Complete, Fault}
 use Rattle.flow_link.specs.declared.phase.Move.{Move}
 use Rattle.flow_link.specs.declared.phase.Move.TheVariants as move
 use Rattle.flow_link.specs.declared.stage.Refusal.{Refusal}
@@ -12,46 +9,19 @@ use Rattle.flow_link.specs.declared.stage.SourceStage.TheVariants as source
 use Rattle.flow_link.specs.declared.stage.TargetStage.{TargetStage}
 use Rattle.flow_link.specs.declared.stage.TargetStage.TheVariants as target
 use Rattle.flow_link.specs.declared.trace.Outcome.{Outcome}
-use Rattle.flow_link.specs.LinkOk.{HasRoom}
-use Rattle.flow_link.specs.Lists.{every, some}
-use Rattle.flow_link.specs.RestsByParts.{is_over as is_view_over, is_postponed as is_view_postponed, has_seen_end}
-use Rattle.flow_link.specs.Stage.{source_stage_of, target_stage_of}
-use Rattle.flow_link.specs.Trace.{is_used_up}
-use Rattle.flow_link.specs.Views.{SourceStage as SourceViewStage, LinkFacts}
+use Rattle.flow_link.specs.RestsByParts.{is_over as is_view_over}
+use Rattle.flow_link.specs.Stage.{source_stage_of}
+use Rattle.flow_link.specs.Views.{LinkFacts}
 use Rattle.flow_link.proofs.LinksAtRest.{never_both, false_where}
-use Rattle.flow_link.proofs.ListTests.{and_true, both_of, or_first, or_second}
+use Rattle.flow_link.proofs.ListTests.{or_first}
 use Rattle.flow_intake.specs.Calls.{is_postponed, in_move, next_place, is_at as is_place, move_at as move_in}
-use Rattle.flow_intake.specs.Port.{EndState, PortState, stage_in, stage_at as port_stage, is_coming, is_queued, has_room, count_at as count_in}
+use Rattle.flow_intake.specs.Port.{PortState, stage_at as port_stage, is_coming, is_queued, has_room}
 use Rattle.flow_intake.specs.PortLaw.{PortLaw, AreBelow, is_in}
 use Rattle.flow_intake.proofs.ProfileHolds.{oldest_first}
-use Rattle.flow_outlet.specs.End.{end_in, is_free, is_over, is_out, is_away, is_waiting, is_limit, is_cut, speaks_of, count_at}
+use Rattle.flow_outlet.specs.End.{end_in, is_free, is_over, is_out, is_away, is_waiting, is_cut, speaks_of, count_at}
 use Rattle.flow_outlet.specs.Outlet.{OutletState, may_offer, end_of, is_at, free_move, move_at}
 use Rattle.flow_outlet.specs.declared.ends.OutEnd.{OutEnd}
-use Rattle.flow_outlet.proofs.CursorMoves.{count_some}
-use Rattle.flow_block.specs.Block.{port_in}
 use Rattle.flow_block.specs.NodeRests.{rests_out, rests_in}
-use Rattle.flow_block.specs.Peeks.{is_completion, fault_seen, first_some, fault_at_ends, fault_at_ports}
-
--- Tests on lists, by their elements
-
-pub every_at : {A : Type 0} (test : A → Bool) (xs : List A) (d : A)
-    → ((k : ℕ) → k < length xs → test (get_or xs k d) ≡ true) → every test xs ≡ true
-every_at test [] d h = refl
-every_at test (x ∷ xs) d h =
-    and_true (test x) (every test xs) (h 0 (omega arith)) (every_at test xs d (λ k small. h (suc k) (omega arith)))
-
-pub every_gives : {A : Type 0} (test : A → Bool) (xs : List A) (d : A) (k : ℕ) → every test xs ≡ true → k < length xs
-    → test (get_or xs k d) ≡ true
-every_gives test [] d k e small = absurd (omega arith)
-every_gives test (x ∷ xs) d zero e small = (both_of (test x) (every test xs) e).0
-every_gives test (x ∷ xs) d (suc k) e small =
-    every_gives test xs d k (both_of (test x) (every test xs) e).1 (omega arith)
-
-pub some_at : {A : Type 0} (test : A → Bool) (xs : List A) (k : ℕ) (d : A) → k < length xs → test (get_or xs k d) ≡ true
-    → some test xs ≡ true
-some_at test [] k d small e = absurd (omega arith)
-some_at test (x ∷ xs) zero d small e = or_first (test x) (some test xs) e
-some_at test (x ∷ xs) (suc k) d small e = or_second (test x) (some test xs) (some_at test xs k d (omega arith) e)
 
 -- Ends out
 
@@ -66,10 +36,6 @@ pub not_out : (stage : SourceStage) → rests_out stage ≡ true → is_out stag
 not_out (source.Out i) e = absurd (cc)
 not_out (source.Accepted i) e = absurd (cc)
 not_out _ e = refl
-
-pub waiting_away : (stage : SourceStage) → is_waiting stage ≡ true → is_away stage ≡ true
-waiting_away (source.Waiting i) e = refl
-waiting_away _ e = absurd (cc)
 
 pub must_wait : (stage : SourceStage) → rests_out stage ≡ true → is_free stage ≡ false → is_over stage ≡ false
     → is_waiting stage ≡ true
@@ -88,10 +54,6 @@ over_unless source.Refused rest busy gone = refl
 over_unless (source.Ended how) rest busy gone = refl
 over_unless _ rest busy gone = absurd (cc)
 
-pub free_back : (stage : SourceStage) → source_stage_of stage ≡ SourceViewStage.free → stage ≡ source.Free
-free_back source.Free e = refl
-free_back _ e = absurd (cc)
-
 each_away : (ends : List OutEnd) → ((k : ℕ) → k < length ends → rests_out (end_in ends k).stage ≡ true)
     → count_at is_away ends ≡ count_at is_waiting ends
 each_away [] h = refl
@@ -103,23 +65,17 @@ pub away_waits : (ends : List OutEnd) → ((k : ℕ) → k < length ends → res
     → (count_at is_away ends == count_at is_waiting ends) ≡ true
 away_waits ends h = eq-eqb (count_at is_away ends) (count_at is_waiting ends) (each_away ends h)
 
-none_counted : (test : SourceStage → Bool) (ends : List OutEnd)
+count_none : (test : SourceStage → Bool) (ends : List OutEnd)
     → ((k : ℕ) → k < length ends → test (end_in ends k).stage ≡ false)
     → count_at test ends ≡ 0
-none_counted test [] h = refl
-none_counted test (end ∷ ends) h =
+count_none test [] h = refl
+count_none test (end ∷ ends) h =
     ap₂ (λ (b : Bool) (n : ℕ). cond b 1 0 + n) (h 0 (omega arith))
-    (none_counted test ends (λ k small. h (suc k) (omega arith)))
+    (count_none test ends (λ k small. h (suc k) (omega arith)))
 
 pub none_away : (ends : List OutEnd) → ((k : ℕ) → k < length ends → rests_out (end_in ends k).stage ≡ true)
     → ((k : ℕ) → k < length ends → is_waiting (end_in ends k).stage ≡ false) → (count_at is_away ends == 0) ≡ true
-none_away ends h none = eq-eqb (count_at is_away ends) 0 (each_away ends h ∙ none_counted is_waiting ends none)
-
-pub not_counted : (test : SourceStage → Bool) (ends : List OutEnd) (k : ℕ) → count_at test ends ≡ 0 → k < length ends
-    → test (end_in ends k).stage ≡ false
-not_counted test ends k none small =
-    false_where (test (end_in ends k).stage)
-    (λ e. let counted : 0 < count_at test ends = count_some test ends k small e in absurd (omega arith))
+none_away ends h none = eq-eqb (count_at is_away ends) 0 (each_away ends h ∙ count_none is_waiting ends none)
 
 -- An end out that has no move
 
@@ -135,19 +91,15 @@ pub waiting_stays : (o : OutletState) (k : ℕ) (stopped : Option Outcome) (held
 waiting_stays o k stopped held_up (source.Waiting i) e none = stays_put held_up (i == o.next) none
 waiting_stays o k stopped held_up _ e none = absurd (cc)
 
-not_next : (b : Bool) (step : Move) → cond b (Some step) None ≡ None → b ≡ false
-not_next true step e = absurd (cc)
-not_next false step e = refl
-
-pub free_stays : (o : OutletState) (k : ℕ) (how : Option LinkEnd) → free_move o k how ≡ None
-    → (how ≡ None) × (is_at (may_offer o) k ≡ false)
-free_stays o k (Some how) e = absurd (cc)
-free_stays o k None e = (refl, not_next (is_at (may_offer o) k) (move.Offer o.next) e)
-
 due_then : {A : Type 0} (cut : Bool) (last : A) (by : Option A) → cond cut (Some last) by ≡ None
     → (cut ≡ false) × (by ≡ None)
 due_then true last by e = absurd (cc)
 due_then false last by e = (refl, e)
+
+pub free_stays : (o : OutletState) (k : ℕ) (how : Option LinkEnd) → free_move o k how ≡ None
+    → (how ≡ None) × (is_at (may_offer o) k ≡ false)
+free_stays o k (Some how) e = absurd (cc)
+free_stays o k None e = (refl, (due_then (is_at (may_offer o) k) (move.Offer o.next) None e).0)
 
 pub not_cut : (end : OutEnd) (stopped : Option Outcome) → end_of end stopped ≡ None → is_cut end ≡ false
 not_cut end stopped e = (due_then (is_cut end) _ _ e).0
@@ -156,60 +108,14 @@ pub not_stopped : (end : OutEnd) (stopped : Option Outcome) → end_of end stopp
 not_stopped end None e = refl
 not_stopped end (Some how) e = let none = (due_then (is_cut end) _ _ e).1 in absurd (cc)
 
--- a link that carried all that it may has no room
-pub limit_is : (max : Option ℕ) (given : ℕ) (values : List Value) → (is_some max ≡ true → given ≡ length values)
-    → is_used_up max values ≡ true → is_limit max given ≡ true
-limit_is None given values counted used = absurd (cc)
-limit_is (Some max) given values counted used = ap (λ (n : ℕ). n == max) (counted refl) ∙ used
-
-pub no_room_left : (max : Option ℕ) (given : ℕ) → is_limit max given ≡ true → HasRoom max given → ⊥
-no_room_left None given limit room = cc
-no_room_left (Some max) given limit room = grind (arith, nat_tests)
-
 -- Ends in
 
-not_coming : (stage : TargetStage) → rests_in stage ≡ true → is_coming stage ≡ false
+pub not_coming : (stage : TargetStage) → rests_in stage ≡ true → is_coming stage ≡ false
 not_coming target.Free e = refl
 not_coming (target.Postponed i) e = refl
 not_coming (target.Refused why) e = refl
 not_coming (target.Ended how) e = refl
 not_coming _ e = absurd (cc)
-
-pub none_comes : (ends : List EndState) → ((k : ℕ) → k < length ends → rests_in (stage_in k ends) ≡ true)
-    → count_in is_coming ends ≡ 0
-none_comes [] h = refl
-none_comes (end ∷ ends) h =
-    ap₂ (λ (b : Bool) (n : ℕ). cond b 1 0 + n) (not_coming end.stage (h 0 (omega arith)))
-    (none_comes ends (λ k small. h (suc k) (omega arith)))
-
-pub postponed_back : (stage : TargetStage) (hand : Option Value) → is_view_postponed (target_stage_of stage hand) ≡ true
-    → is_postponed stage ≡ true
-postponed_back (target.Postponed i) hand e = refl
-postponed_back _ hand e = absurd (cc)
-
-pub end_back : (stage : TargetStage) (hand : Option Value) → has_seen_end (target_stage_of stage hand) ≡ true
-    → (is_completion stage ≡ true) ⊎ (is_some (fault_seen stage) ≡ true)
-end_back (target.Ended Complete) hand e = inl refl
-end_back (target.Ended (Fault n)) hand e = inr refl
-end_back _ hand e = absurd (cc)
-
-pub first_none : (own later : Option ℕ) → first_some own later ≡ None → (own ≡ None) × (later ≡ None)
-first_none None later e = (refl, e)
-first_none (Some n) later e = absurd (cc)
-
-pub not_seen_at_ends : (ends : List EndState) (k : ℕ) → fault_at_ends ends ≡ None → k < length ends
-    → fault_seen (stage_in k ends) ≡ None
-not_seen_at_ends [] k e small = absurd (omega arith)
-not_seen_at_ends (end ∷ ends) zero e small = (first_none (fault_seen end.stage) (fault_at_ends ends) e).0
-not_seen_at_ends (end ∷ ends) (suc k) e small =
-    not_seen_at_ends ends k (first_none (fault_seen end.stage) (fault_at_ends ends) e).1 (omega arith)
-
-pub not_seen_at_ports : (ports : List PortState) (p : ℕ) → fault_at_ports ports ≡ None → p < length ports
-    → fault_at_ends (port_in ports p).ends ≡ None
-not_seen_at_ports [] p e small = absurd (omega arith)
-not_seen_at_ports (port ∷ ports) zero e small = (first_none (fault_at_ends port.ends) (fault_at_ports ports) e).0
-not_seen_at_ports (port ∷ ports) (suc p) e small =
-    not_seen_at_ports ports p (first_none (fault_at_ends port.ends) (fault_at_ports ports) e).1 (omega arith)
 
 -- A port at which an offer waits
 
@@ -224,7 +130,7 @@ waiting_queue : (place : ℕ) (port : PortState) (stage : TargetStage) → is_po
     → (port.refusing ≡ None) × (is_place place (next_place port) ≡ false)
 waiting_queue place port (target.Postponed i) e none =
     let both = unrefused port.refusing (cond (is_place place (next_place port)) (Some move.Consume) None) none in
-    (both.0, not_next (is_place place (next_place port)) move.Consume both.1)
+    (both.0, (due_then (is_place place (next_place port)) move.Consume None both.1).0)
 waiting_queue place port _ e none = absurd (cc)
 
 queued_where : (stage : TargetStage) → is_postponed stage ≡ true → is_queued stage ≡ true

@@ -1,103 +1,41 @@
 -- Each call keeps what a node says of how it ends.
-use Rattle.std.proofs.Common.{◌≡◌, ℕ, zero, suc, ◌<◌, ◌==◌, ◌⊎◌, cond, Bool, true, false, ◌&&◌, ◌||◌, List, [], ◌∷◌}
-use Rattle.std.proofs.Common.{◌++◌, length, set, map, Option, Some, None, is_some, Result, Ok, Err, refl, ap, sym, ◌∙◌}
-use Rattle.std.proofs.Common.{inl, inr, ⊎_elim, arith, eq-eqb, eqb-true}
-use Rattle.std.proofs.lemmas.Bool.{cases_eq, ne_eqb}
-use Rattle.std.proofs.lemmas.List.{length-map, length-set, get_or-set_same, get_or-set_other}
+use Rattle.std.proofs.Common.{◌≡◌, ℕ, ◌<◌, ◌==◌, ◌⊎◌, true, false, List, [], ◌∷◌, ◌++◌, length, set, map, Option, Some, None, is_some, Result, Ok, Err, refl, ap, sym, ◌∙◌, inl, inr, ⊎_elim, arith, eq-eqb, eqb-true}
+use Rattle.std.proofs.lemmas.Bool.{ne_eqb}
+use Rattle.std.proofs.lemmas.List.{length-map, length-set}
 use Rattle.flow_value.specs.declared.value.Value.{Value}
 use Rattle.flow_link.specs.declared.draft.BlockKind.{BlockKind}
 use Rattle.flow_link.specs.declared.draft.BlockKind.TheVariants.{Action}
-use Rattle.flow_link.specs.declared.phase.Phase.{Phase}
-use Rattle.flow_link.specs.declared.phase.Phase.TheVariants.{Idle}
-use Rattle.flow_link.specs.declared.stage.Refusal.{Refusal}
-use Rattle.flow_link.specs.declared.stage.Refusal.TheVariants.{PortEnded, OwnFault}
-use Rattle.flow_link.specs.declared.stage.SourceStage.{SourceStage}
 use Rattle.flow_link.specs.declared.stage.SourceStage.TheVariants as source
-use Rattle.flow_link.specs.declared.stage.TargetStage.{TargetStage}
-use Rattle.flow_link.specs.declared.stage.TargetStage.TheVariants.{Free, Offered, Posted, Postponed, Accepted}
-use Rattle.flow_link.specs.declared.stage.TargetStage.TheVariants.{Consuming, Arrived, Hand, Refused, Ended}
+use Rattle.flow_link.specs.declared.stage.TargetStage.TheVariants.{Free, Postponed, Accepted, Consuming, Hand}
 use Rattle.flow_link.specs.declared.trace.Mark.{Mark}
 use Rattle.flow_link.specs.declared.trace.Mark.TheVariants.{Took, Gave, Complete, Fault, Done}
 use Rattle.flow_link.specs.declared.trace.Outcome.{Outcome}
 use Rattle.flow_link.specs.declared.trace.Outcome.TheVariants as outcome
-use Rattle.flow_link.specs.Endings.{is_number}
 use Rattle.flow_link.specs.Layout.{Layout}
 use Rattle.flow_link.specs.Lists.{every, some, below}
 use Rattle.flow_link.specs.Stage.{source_looks, target_looks}
-use Rattle.flow_link.specs.Trace.{has_complete, has_fault, has_ended, is_faulted, is_done, is_complete_mark}
-use Rattle.flow_link.specs.Trace.{is_fault_mark, is_any_fault_mark, is_done_mark}
-use Rattle.flow_link.proofs.ListTests.{both_of, every_below, or_first, or_second}
+use Rattle.flow_link.specs.Trace.{has_complete, has_fault, has_ended, is_done, is_complete_mark, is_fault_mark, is_any_fault_mark, is_done_mark}
+use Rattle.flow_link.proofs.ListTests.{every_below}
 use Rattle.flow_link.proofs.OneMoreMark.{some_of_more, some_no_more}
-use Rattle.flow_intake.specs.Port.{EndState, PortState, stage_at as port_stage, end_in, stage_in, fresh_end, fresh_port}
-use Rattle.flow_intake.specs.Port.{hand_in, is_offer, is_hand}
+use Rattle.flow_intake.specs.Port.{EndState, PortState, stage_at as port_stage, end_in, fresh_end, fresh_port, hand_in, is_offer, is_hand}
 use Rattle.flow_intake.specs.PortLaw.{has_ended as has_port_ended}
-use Rattle.flow_intake.specs.Calls.{message_of, is_offered, is_posted, is_postponed, is_arrived, may_be_refused}
-use Rattle.flow_intake.specs.Calls.{first_of, refused_by, failing_from, wants, turns_down, postpones, refuses, consumes}
-use Rattle.flow_intake.specs.Calls.{opens, closes, looks as port_looks, takes_next, gives_room, port_closes, port_fails}
+use Rattle.flow_intake.specs.Calls.{message_of, is_offered, is_posted, is_postponed, is_arrived, may_be_refused, first_of, refused_by, wants, turns_down, postpones, refuses, consumes, opens, closes, looks as port_looks, takes_next, gives_room, port_closes, port_fails}
 use Rattle.flow_intake.proofs.CountsOfEnds.{hand_comes}
-use Rattle.flow_outlet.specs.End.{is_away}
-use Rattle.flow_outlet.specs.Outlet.{OutletState, is_empty, head_of, gives, prepares, offers, denies, withdraws}
-use Rattle.flow_outlet.specs.Outlet.{ends_link, looks as exit_looks, is_at_rest, end_at, stage_at}
-use Rattle.flow_block.specs.Block.{BlockState, port_in, port_at, with_port, held_by, made_of, fails, puts_out, yields}
-use Rattle.flow_block.specs.Block.{keeps_results, makes_of, gives_out, stops_by}
+use Rattle.flow_outlet.specs.Outlet.{OutletState, is_empty, head_of, gives, prepares, offers, denies, withdraws, ends_link, looks as exit_looks, is_at_rest, end_at, stage_at}
+use Rattle.flow_block.specs.Block.{BlockState, port_in, port_at, with_port, held_by, made_of, fails, puts_out, yields, keeps_results, makes_of, gives_out, stops_by}
 use Rattle.flow_block.specs.Node.{NodeState, NodeCall, takes_in, gives_from, in_link_at, out_link_at}
 use Rattle.flow_block.specs.NodeKeeps.{EndsKept, MayCall, InAt, MayGive, MayCompletePort, after_call}
-use Rattle.flow_block.specs.NodeLaw.{NodeLaw, EndsLaw, RefusesFor, is_fault_seen, stops_at, outcome_in}
-use Rattle.flow_block.specs.Peeks.{is_completion, fault_seen, first_some, fault_at_ends, fault_at_ports, fault_cause}
-use Rattle.flow_block.specs.Peeks.{has_seen_completion, holds_nothing, could_stop, next_fault, may_finish}
+use Rattle.flow_block.specs.NodeLaw.{NodeLaw, EndsLaw, is_fault_seen, stops_at, outcome_in}
+use Rattle.flow_block.specs.Peeks.{fault_at_ports, holds_nothing, next_fault, may_finish}
 use Rattle.flow_block.specs.Planned.{block_makes}
-use Rattle.flow_block.proofs.GoingOn.{open_goes_on, away_goes_on, rest_stays, wanted_away, wish_away, waiting_away}
-use Rattle.flow_block.proofs.GoingOn.{open_where, completion_where, making, faulting, fault_may, finishing}
-use Rattle.flow_block.proofs.GoingOn.{may_finish_tells}
-use Rattle.flow_block.proofs.JournalStops.{outcome_more, ended_no_more, complete_where, not_faulted_so, not_done_yet}
-use Rattle.flow_block.proofs.PortsTold.{each_after_one, each_after_all, some_set, every_set, some_map, every_map}
-
--- One port
-
--- what it says of its end, where the block's own function faulted so, and the marks say so of the port's end
-record PortEnds (fault : Option ℕ) (ended complete : Bool) (refusing : Option Refusal)
-    (ends : List EndState) : Type 0 where
-  ended_is : has_port_ended refusing ≡ ended
-  failed : is_some fault ≡ true → is_some refusing ≡ true
-  own_fault : refusing ≡ Some OwnFault → is_some fault ≡ true
-  refused : (k : ℕ) → k < length ends → (why : Refusal) → stage_in k ends ≡ Refused why → RefusesFor refusing fault why
-  complete_cause : complete ≡ true → has_seen_completion ends ≡ true
-
--- what an end that moves keeps: what it saw of its link's end, and that it refuses rightly
-record StageGoes (fault : Option ℕ) (refusing : Option Refusal) (before after : TargetStage) : Type 0 where
-  completion : is_completion before ≡ true → is_completion after ≡ true
-  fault_kept : (number : ℕ) → is_number number (fault_seen before) ≡ true → is_number number (fault_seen after) ≡ true
-  refused : (why : Refusal) → after ≡ Refused why → RefusesFor refusing fault why
-
-end_moves : (fault : Option ℕ) (ended complete : Bool) (refusing : Option Refusal) (ends : List EndState) (k : ℕ)
-    (end : EndState)
-    → PortEnds fault ended complete refusing ends → StageGoes fault refusing (stage_in k ends) end.stage
-    → PortEnds fault ended complete refusing (set ends k end)
-end_moves fault ended complete refusing ends k end law goes = record {
-  ended_is = law.ended_is;
-  failed = law.failed;
-  own_fault = law.own_fault;
-  refused = λ j there why is.
-      let small : j < length ends = omega (arith, there, length-set ends k end) in
-      elim (cases_eq j k) [
-        | inl same ↦
-            let here : k < length ends = rw (sym same) small in
-            let read = ap (λ (e : EndState). e.stage) (get_or-set_same ends k end (fresh_end 0) here) in
-            goes.refused why (sym read ∙ ap (λ (i : ℕ). stage_in i (set ends k end)) (sym same) ∙ is)
-        | inr other ↦
-            let read = ap (λ (e : EndState). e.stage) (get_or-set_other ends k j end (fresh_end 0) other) in
-            law.refused j small why (sym read ∙ is)
-      ];
-  complete_cause = λ is.
-      some_set (λ (e : EndState). is_completion e.stage) ends k end (fresh_end 0) goes.completion
-      (law.complete_cause is);
-}
+use Rattle.flow_block.proofs.FaultsSeen.{sees_at, seen_at_ports, cause_tells}
+use Rattle.flow_block.proofs.GoingOn.{open_goes_on, away_goes_on, rest_stays, wanted_away, wish_away, waiting_away, look_stays_home, may_make_tells, may_complete_tells, may_fault_tells, may_finish_tells}
+use Rattle.flow_block.proofs.JournalTells.{goes_on, not_faulted_so, outcome_more, ended_no_more, complete_where, ended_by_complete, ended_by_fault, ended_by_done}
+use Rattle.flow_block.proofs.PortEnds.{PortEnds, StageGoes, end_moves, port_closed, port_failed, unseen_goes, refuses_so, look_goes}
+use Rattle.flow_block.proofs.PortsChange.{each_after_one, each_after_all}
+use Rattle.flow_block.proofs.TestsTell.{every_tells, some_last, some_set, every_set, some_map, every_map, none_left}
 
 -- The block
-
--- the port has seen this fault
-abbrev sees_at : ℕ → PortState → Bool
-sees_at number port = some (λ (end : EndState). is_fault_seen number end) port.ends
 
 record BlockEnds (ports : List PortState) (exits : OutletState) (fault : Option ℕ) (stopped : Option Outcome)
     (journal : List Mark) : Type 0 where
@@ -118,7 +56,7 @@ going_ends ports exits fault stopped journal none going = record {
   stopped_is = none ∙ sym going;
   at_rest = λ is. let never : false ≡ true = ap is_some (sym none) ∙ is in absurd (cc);
   done_empty = λ is. let never = sym none ∙ is in absurd (cc);
-  done_complete = λ is. let never = sym (not_done_yet journal going) ∙ is in absurd (cc);
+  done_complete = λ is. let never = sym (goes_on journal going).1 ∙ is in absurd (cc);
   fault_cause = λ number is. let never = sym (not_faulted_so number journal going) ∙ is in absurd (cc);
   faulted_by = λ number is. let never = sym none ∙ is in absurd (cc);
 }
@@ -146,7 +84,7 @@ port_moves : (ports : List PortState) (exits : OutletState) (fault : Option ℕ)
     → BlockEnds (set ports p port) exits fault stopped journal
 port_moves ports exits fault stopped journal p port law waiting seen =
     let holds =
-        every_set (λ (q : PortState). is_empty q.waiting) ports p port (fresh_port None) (ap is_empty waiting) in
+    every_set (λ (q : PortState). is_empty q.waiting) ports p port (fresh_port None) (ap is_empty waiting) in
     record {
       stopped_is = law.stopped_is;
       at_rest = law.at_rest;
@@ -160,208 +98,6 @@ port_moves ports exits fault stopped journal p port law waiting seen =
       faulted_by =
           λ number is. ⊎_elim (λ own. inl own) (λ none. inr (none.0, holds ∙ none.1)) (law.faulted_by number is);
     }
-
--- The port closes, or its block's function faults
-
-still_refuses : (refusing : Option Refusal) (fault : Option ℕ) (why : Refusal) → RefusesFor refusing fault why
-    → RefusesFor (Some PortEnded) fault why
-still_refuses refusing fault PortEnded is = refl
-still_refuses refusing fault OwnFault is = is
-
-port_closed : (fault : Option ℕ) (ended complete ended_now complete_now : Bool) (refusing : Option Refusal)
-    (ends : List EndState)
-    → PortEnds fault ended complete refusing ends → ended_now ≡ true
-    → (complete_now ≡ true → has_seen_completion ends ≡ true)
-    → PortEnds fault ended_now complete_now (Some PortEnded) ends
-port_closed fault ended complete ended_now complete_now refusing ends law now cause = record {
-  ended_is = sym now;
-  failed = λ is. refl;
-  own_fault = λ is. absurd (cc);
-  refused = λ k small why is. still_refuses refusing fault why (law.refused k small why is);
-  complete_cause = cause;
-}
-
-has_failed : (refusing : Option Refusal)
-    → (has_port_ended (failing_from refusing) ≡ has_port_ended refusing) × (is_some (failing_from refusing) ≡ true)
-has_failed None = (refl, refl)
-has_failed (Some why) = (refl, refl)
-
-refuses_failed : (refusing : Option Refusal) (fault : Option ℕ) (number : ℕ) (why : Refusal)
-    → RefusesFor refusing fault why
-    → RefusesFor (failing_from refusing) (Some number) why
-refuses_failed refusing fault number PortEnded is = ap failing_from is
-refuses_failed refusing fault number OwnFault is = refl
-
-port_failed : (fault : Option ℕ) (number : ℕ) (ended complete : Bool) (refusing : Option Refusal) (ends : List EndState)
-    → PortEnds fault ended complete refusing ends → PortEnds (Some number) ended complete (failing_from refusing) ends
-port_failed fault number ended complete refusing ends law = record {
-  ended_is = (has_failed refusing).0 ∙ law.ended_is;
-  failed = λ is. (has_failed refusing).1;
-  own_fault = λ is. refl;
-  refused = λ k small why is. refuses_failed refusing fault number why (law.refused k small why is);
-  complete_cause = law.complete_cause;
-}
-
--- What an end keeps where it moves
-
-record Unseen (stage : TargetStage) : Type 0 where
-  completion : is_completion stage ≡ false
-  fault : fault_seen stage ≡ None
-
-offer_unseen : (stage : TargetStage) → is_offer stage ≡ true → Unseen stage
-offer_unseen (Offered i) e = record { completion = refl; fault = refl }
-offer_unseen (Posted i) e = record { completion = refl; fault = refl }
-offer_unseen stage e = absurd (cc)
-
-offered_unseen : (stage : TargetStage) → is_offered stage ≡ true → Unseen stage
-offered_unseen (Offered i) e = record { completion = refl; fault = refl }
-offered_unseen stage e = absurd (cc)
-
-posted_unseen : (stage : TargetStage) → is_posted stage ≡ true → Unseen stage
-posted_unseen (Posted i) e = record { completion = refl; fault = refl }
-posted_unseen stage e = absurd (cc)
-
-postponed_unseen : (stage : TargetStage) → is_postponed stage ≡ true → Unseen stage
-postponed_unseen (Postponed i) e = record { completion = refl; fault = refl }
-postponed_unseen stage e = absurd (cc)
-
-arrived_unseen : (stage : TargetStage) → is_arrived stage ≡ true → Unseen stage
-arrived_unseen (Arrived i) e = record { completion = refl; fault = refl }
-arrived_unseen stage e = absurd (cc)
-
-hand_unseen : (stage : TargetStage) → is_hand stage ≡ true → Unseen stage
-hand_unseen (Hand i) e = record { completion = refl; fault = refl }
-hand_unseen stage e = absurd (cc)
-
-refusable_unseen : (stage : TargetStage) → may_be_refused stage ≡ true → Unseen stage
-refusable_unseen (Offered i) e = record { completion = refl; fault = refl }
-refusable_unseen (Posted i) e = record { completion = refl; fault = refl }
-refusable_unseen (Postponed i) e = record { completion = refl; fault = refl }
-refusable_unseen stage e = absurd (cc)
-
-unseen_goes : (fault : Option ℕ) (refusing : Option Refusal) (before after : TargetStage) → Unseen before
-    → ((why : Refusal) → after ≡ Refused why → RefusesFor refusing fault why) → StageGoes fault refusing before after
-unseen_goes fault refusing before after unseen refused = record {
-  completion = λ is. let never : false ≡ true = sym unseen.completion ∙ is in absurd (cc);
-  fault_kept = λ number is. let never : false ≡ true = ap (is_number number) (sym unseen.fault) ∙ is in absurd (cc);
-  refused = refused;
-}
-
--- an end refuses for what its port refuses for
-refuses_so : (fault : Option ℕ) (refusing : Option Refusal) (why : Refusal)
-    → (refusing ≡ Some OwnFault → is_some fault ≡ true)
-    → refused_by refusing ≡ Refused why → RefusesFor refusing fault why
-refuses_so fault None why own is = absurd (cc)
-refuses_so fault (Some PortEnded) PortEnded own is = refl
-refuses_so fault (Some PortEnded) OwnFault own is = absurd (cc)
-refuses_so fault (Some OwnFault) PortEnded own is = absurd (cc)
-refuses_so fault (Some OwnFault) OwnFault own is = own refl
-
-record LookGoes (before after : TargetStage) : Type 0 where
-  completion : is_completion before ≡ true → is_completion after ≡ true
-  fault_kept : (number : ℕ) → is_number number (fault_seen before) ≡ true → is_number number (fault_seen after) ≡ true
-  refused : (why : Refusal) → after ≡ Refused why → before ≡ Refused why
-
-still : (stage : TargetStage) → LookGoes stage stage
-still stage = record { completion = λ is. is; fault_kept = λ number is. is; refused = λ why is. is }
-
-look_goes : (stage : TargetStage) (phase : Phase) → LookGoes stage (target_looks stage phase)
-look_goes (Ended how) phase = still (Ended how)
-look_goes (Refused PortEnded) phase = still (Refused PortEnded)
-look_goes (Refused OwnFault) phase = still (Refused OwnFault)
-look_goes stage Idle = record {
-  completion = λ is. absurd (cc);
-  fault_kept = λ number is. absurd (cc);
-  refused = λ why is. absurd (cc);
-}
-look_goes stage phase = record {
-  completion = λ is. absurd (cc);
-  fault_kept = λ number is. absurd (cc);
-  refused = λ why is. absurd (cc);
-}
-
-look_stays_home : (stage : SourceStage) (phase : Phase) → is_away stage ≡ false
-    → is_away (source_looks stage phase) ≡ false
-look_stays_home source.Free phase e = refl
-look_stays_home source.Refused phase e = refl
-look_stays_home (source.Ended how) phase e = refl
-look_stays_home stage phase e = absurd (cc)
-
--- Why a block faults
-
-one_some : (first later : Option ℕ) (number : ℕ) → first_some first later ≡ Some number
-    → (first ≡ Some number) ⊎ (later ≡ Some number)
-one_some (Some n) later number is = inl is
-one_some None later number is = inr is
-
-fault_there : (number : ℕ) (seen : Option ℕ) → seen ≡ Some number → is_number number seen ≡ true
-fault_there number seen is = rw is (eq-eqb number number refl)
-
-seen_at_ends : (number : ℕ) (ends : List EndState) → fault_at_ends ends ≡ Some number
-    → some (λ (end : EndState). is_fault_seen number end) ends ≡ true
-seen_at_ends number [] is = absurd (cc)
-seen_at_ends number (end ∷ ends) is =
-    let rest = some (λ (e : EndState). is_fault_seen number e) ends in
-    ⊎_elim
-    (λ here. or_first (is_fault_seen number end) rest (fault_there number (fault_seen end.stage) here))
-    (λ later. or_second (is_fault_seen number end) rest (seen_at_ends number ends later))
-    (one_some (fault_seen end.stage) (fault_at_ends ends) number is)
-
-seen_at_ports : (number : ℕ) (ports : List PortState) → fault_at_ports ports ≡ Some number
-    → some (λ (port : PortState). sees_at number port) ports ≡ true
-seen_at_ports number [] is = absurd (cc)
-seen_at_ports number (port ∷ ports) is =
-    let rest = some (λ (q : PortState). sees_at number q) ports in
-    ⊎_elim
-    (λ here. or_first (sees_at number port) rest (seen_at_ends number port.ends here))
-    (λ later. or_second (sees_at number port) rest (seen_at_ports number ports later))
-    (one_some (fault_at_ends port.ends) (fault_at_ports ports) number is)
-
-record SeenCause (fault : Option ℕ) (nothing : Bool) (seen : Option ℕ) (number : ℕ) : Type 0 where
-  none : fault ≡ None
-  empty : nothing ≡ true
-  seen_is : seen ≡ Some number
-
-cause_tells : (fault : Option ℕ) (nothing : Bool) (seen : Option ℕ) (number : ℕ)
-    → first_some fault (cond nothing seen None) ≡ Some number
-    → (fault ≡ Some number) ⊎ SeenCause fault nothing seen number
-cause_tells (Some n) nothing seen number is = inl is
-cause_tells None true seen number is = inr (record { none = refl; empty = refl; seen_is = is })
-cause_tells None false seen number is = absurd (cc)
-
--- a mark that is the last
-some_last : {A : Type 0} (test : A → Bool) (xs : List A) (x : A) → test x ≡ true → some test (xs ++ x ∷ []) ≡ true
-some_last test [] x is = or_first (test x) false is
-some_last test (y ∷ ys) x is = or_second (test y) (some test (ys ++ x ∷ [])) (some_last test ys x is)
-
-ended_by_complete : (p : ℕ) (marks : List Mark) → has_complete p marks ≡ true → has_ended p marks ≡ true
-ended_by_complete p marks is = rw is refl
-
-ended_by_fault : (p : ℕ) (marks : List Mark) → is_faulted marks ≡ true → has_ended p marks ≡ true
-ended_by_fault p marks is = rw is (by_second (has_complete p marks) (is_done marks))
-  where
-    by_second : (a c : Bool) → (a || true || c) ≡ true
-    by_second true c = refl
-    by_second false c = refl
-
-ended_by_done : (p : ℕ) (marks : List Mark) → is_done marks ≡ true → has_ended p marks ≡ true
-ended_by_done p marks is = rw is (by_third (has_complete p marks) (is_faulted marks))
-  where
-    by_third : (a b : Bool) → (a || b || true) ≡ true
-    by_third true b = refl
-    by_third false true = refl
-    by_third false false = refl
-
-every_port : (test : PortState → Bool) (ports : List PortState) (p : ℕ) → p < length ports → every test ports ≡ true
-    → test (port_in ports p) ≡ true
-every_port test [] p small all = absurd (omega arith)
-every_port test (port ∷ ports) zero small all = (both_of (test port) (every test ports) all).0
-every_port test (port ∷ ports) (suc p) small all =
-    every_port test ports p (omega arith) (both_of (test port) (every test ports) all).1
-
-none_left : (left : List Value) → is_empty left ≡ true → left ≡ []
-none_left [] e = refl
-none_left (value ∷ left) e = absurd (cc)
 
 module _ {W : Type 0} (layout : Layout W) (meaning : ℕ → Value → Result (List Value) ℕ) (b : ℕ) where
   abbrev Ends : BlockState → List Mark → Type 0
@@ -455,8 +191,10 @@ module _ {W : Type 0} (layout : Layout W) (meaning : ℕ → Value → Result (L
   port_marked : (fault : Option ℕ) (journal : List Mark) (mark : Mark) → EndsNothing mark → (p : ℕ) (port : PortState)
       → PortEndsBy fault journal p port → PortEndsBy fault (journal ++ mark ∷ []) p port
   port_marked fault journal mark nothing p port law =
-      rw (ended_no_more p journal mark (nothing.complete p) nothing.fault nothing.done,
-      some_no_more (is_complete_mark p) journal mark (nothing.complete p)) law
+      rw (
+        ended_no_more p journal mark (nothing.complete p) nothing.fault nothing.done,
+        some_no_more (is_complete_mark p) journal mark (nothing.complete p),
+      ) law
 
   going_marked : (journal : List Mark) (mark : Mark) → EndsNothing mark → outcome_in journal ≡ None
       → outcome_in (journal ++ mark ∷ []) ≡ None
@@ -476,8 +214,8 @@ module _ {W : Type 0} (layout : Layout W) (meaning : ℕ → Value → Result (L
       let nothing : EndsNothing mark = record { complete = λ q. refl; fault = refl; done = refl; goes_on = refl } in
       let none = law.ends.stopped_is ∙ going in
       let goes =
-          unseen_goes block.fault old.refusing (port_stage k old) Free (hand_unseen (port_stage k old) at.stands)
-          (λ why is. absurd (cc)) in
+      unseen_goes block.fault old.refusing (port_stage k old) Free is_hand (λ how. refl) at.stands
+      (λ why is. absurd (cc)) in
       both (record block { ports = set block.ports p port }) (node.journal ++ mark ∷ [])
       (each_after_one (PortEndsBy block.fault (node.journal ++ mark ∷ [])) block.ports p port
       (λ there. port_marked block.fault node.journal mark nothing p port
@@ -526,7 +264,7 @@ module _ {W : Type 0} (layout : Layout W) (meaning : ℕ → Value → Result (L
       → Ends (keeps_results kind values block) journal
   kept_as Action values block journal law none =
       works_on block journal law (λ port. gives_room 1 (takes_next port)) block.exits
-          (block.recorded ++ values) refl refl none
+      (block.recorded ++ values) refl refl none
   kept_as kind values block journal law none =
       works_on block journal law takes_next (puts_out values block).exits block.recorded refl refl none
 
@@ -554,8 +292,9 @@ module _ {W : Type 0} (layout : Layout W) (meaning : ℕ → Value → Result (L
   completed node law p may =
       let block = node.block in
       let old = port_at p block in
+      let tells = may_complete_tells p block may.completes in
       let going =
-          (open_goes_on layout meaning b block node.journal law.ends p may.port (open_where p block may.completes)).0 in
+      (open_goes_on layout meaning b block node.journal law.ends p may.port tells.open_port).0 in
       let mark = Complete p in
       let later = node.journal ++ mark ∷ [] in
       let there : has_complete p later ≡ true = some_last (is_complete_mark p) node.journal mark (eq-eqb p p refl) in
@@ -564,7 +303,7 @@ module _ {W : Type 0} (layout : Layout W) (meaning : ℕ → Value → Result (L
       (λ small. port_closed block.fault (has_ended p node.journal) (has_complete p node.journal) (has_ended p later)
       (has_complete p later) old.refusing old.ends (each_port block node.journal law.ends p small)
       (ended_by_complete p later there)
-      (λ is. completion_where p block may.completes))
+      (λ is. tells.completion))
       (λ q small other. other_marked block.fault node.journal p q (port_in block.ports q)
       (ne_eqb p q (λ same. other (sym same)))
       (each_port block node.journal law.ends q small)))
@@ -575,8 +314,10 @@ module _ {W : Type 0} (layout : Layout W) (meaning : ℕ → Value → Result (L
       other_marked : (fault : Option ℕ) (journal : List Mark) (p q : ℕ) (port : PortState) → (p == q) ≡ false
           → PortEndsBy fault journal q port → PortEndsBy fault (journal ++ Complete p ∷ []) q port
       other_marked fault journal p q port other law =
-          rw (ended_no_more q journal (Complete p) other refl refl,
-          some_no_more (is_complete_mark q) journal (Complete p) other) law
+          rw (
+            ended_no_more q journal (Complete p) other refl refl,
+            some_no_more (is_complete_mark q) journal (Complete p) other,
+          ) law
 
   -- all its ports close
   ports_close : (block : BlockState) (journal later : List Mark) → Ends block journal
@@ -595,12 +336,12 @@ module _ {W : Type 0} (layout : Layout W) (meaning : ℕ → Value → Result (L
       → next_fault block ≡ Some number
       → Ends (stops_by (outcome.Faulted number) block) (journal ++ Fault number ∷ [])
   faulted block journal law number may =
-      let none = faulting block number may in
+      let tests = may_fault_tells block number may in
+      let none = tests.going in
       let going = sym law.stopped_is ∙ none in
       let mark = Fault number in
       let later = journal ++ mark ∷ [] in
-      let tests = fault_may (could_stop block && is_at_rest block.exits) (fault_cause block) number may in
-      let cause = cause_tells block.fault (holds_nothing block.ports) (fault_at_ports block.ports) number tests.1 in
+      let cause = cause_tells block.fault (holds_nothing block.ports) (fault_at_ports block.ports) number tests.cause in
       let closed = map port_closes block.ports in
       let holds = every_map (λ (q : PortState). is_empty q.waiting) port_closes block.ports (λ q. refl) in
       both (stops_by (outcome.Faulted number) block) later
@@ -609,11 +350,11 @@ module _ {W : Type 0} (layout : Layout W) (meaning : ℕ → Value → Result (L
       (λ q. some_no_more (is_complete_mark q) journal mark refl))
       (record {
         stopped_is = sym (outcome_more journal mark going);
-        at_rest = λ is. (both_of (could_stop block) (is_at_rest block.exits) tests.0).1;
+        at_rest = λ is. tests.rest;
         done_empty = λ is. absurd (cc);
         done_complete = λ is.
             let before = some_no_more is_done_mark journal mark refl in
-            let never = sym (not_done_yet journal going) ∙ sym before ∙ is in
+            let never = sym (goes_on journal going).1 ∙ sym before ∙ is in
             absurd (cc);
         fault_cause = λ other is.
             ⊎_elim
@@ -633,8 +374,8 @@ module _ {W : Type 0} (layout : Layout W) (meaning : ℕ → Value → Result (L
   finished : (block : BlockState) (journal : List Mark) → Ends block journal → may_finish block ≡ true
       → Ends (stops_by outcome.Done block) (journal ++ Done ∷ [])
   finished block journal law may =
-      let none = finishing block may in
       let tests = may_finish_tells block may in
+      let none = tests.going in
       let going = sym law.stopped_is ∙ none in
       let later = journal ++ Done ∷ [] in
       let closed = map port_closes block.ports in
@@ -652,7 +393,8 @@ module _ {W : Type 0} (layout : Layout W) (meaning : ℕ → Value → Result (L
             let small : p < length block.ports = omega (arith, there, length-map block.ports port_closes) in
             some_no_more (is_complete_mark p) journal Done refl
             ∙ complete_where p journal going (sym (law.ended_is p small)
-            ∙ every_port (λ (port : PortState). has_port_ended port.refusing) block.ports p small tests.ended));
+            ∙ every_tells (λ (port : PortState). has_port_ended port.refusing) block.ports (fresh_port None) p
+            tests.ended small));
         fault_cause = λ number is.
             let before = some_no_more (is_fault_mark number) journal Done refl in
             let never = sym (not_faulted_so number journal going) ∙ sym before ∙ is in
@@ -666,42 +408,43 @@ module _ {W : Type 0} (layout : Layout W) (meaning : ℕ → Value → Result (L
       let port = port_at p node.block in
       let stage = port_stage k port in
       moves_in node.block node.journal law.ends p k (wants k port)
-          (record (end_in k port.ends) { stage = Accepted (message_of stage) }) may.0.port refl refl refl
-      (unseen_goes node.block.fault port.refusing stage (Accepted (message_of stage)) (offer_unseen stage may.0.stands)
-      (λ why is. absurd (cc)))
+      (record (end_in k port.ends) { stage = Accepted (message_of stage) }) may.0.port refl refl refl
+      (unseen_goes node.block.fault port.refusing stage (Accepted (message_of stage)) is_offer (λ how. refl)
+      may.0.stands (λ why is. absurd (cc)))
   after_each node (NodeCall.turn_down p k) law may =
       let port = port_at p node.block in
       let stage = port_stage k port in
       moves_in node.block node.journal law.ends p k (turns_down k port)
-          (record (end_in k port.ends) { stage = Free }) may.port refl refl refl
-      (unseen_goes node.block.fault port.refusing stage Free (posted_unseen stage may.stands) (λ why is. absurd (cc)))
+      (record (end_in k port.ends) { stage = Free }) may.port refl refl refl
+      (unseen_goes node.block.fault port.refusing stage Free is_posted (λ how. refl) may.stands (λ why is. absurd (cc)))
   after_each node (NodeCall.postpone p k) law may =
       let port = port_at p node.block in
       let stage = port_stage k port in
       moves_in node.block node.journal law.ends p k (postpones k port)
-          (record (end_in k port.ends) { stage = Postponed (message_of stage) }) may.offered.port refl refl refl
+      (record (end_in k port.ends) { stage = Postponed (message_of stage) }) may.offered.port refl refl refl
       (unseen_goes node.block.fault port.refusing stage (Postponed (message_of stage))
-      (offered_unseen stage may.offered.stands) (λ why is. absurd (cc)))
+      is_offered (λ how. refl) may.offered.stands (λ why is. absurd (cc)))
   after_each node (NodeCall.refuse p k) law may =
       let port = port_at p node.block in
       let stage = port_stage k port in
       moves_in node.block node.journal law.ends p k (refuses k port)
-          (record (end_in k port.ends) { stage = refused_by port.refusing }) may.0.port refl refl refl
-      (unseen_goes node.block.fault port.refusing stage (refused_by port.refusing) (refusable_unseen stage may.0.stands)
+      (record (end_in k port.ends) { stage = refused_by port.refusing }) may.0.port refl refl refl
+      (unseen_goes node.block.fault port.refusing stage (refused_by port.refusing) may_be_refused (λ how. refl)
+      may.0.stands
       (λ why is. refuses_so node.block.fault port.refusing why (law.ends.own_fault p may.0.port) is))
   after_each node (NodeCall.consume p k) law may =
       let port = port_at p node.block in
       let stage = port_stage k port in
       moves_in node.block node.journal law.ends p k (consumes k port)
-          (record (end_in k port.ends) { stage = Consuming (message_of stage) }) may.0.port refl refl refl
+      (record (end_in k port.ends) { stage = Consuming (message_of stage) }) may.0.port refl refl refl
       (unseen_goes node.block.fault port.refusing stage (Consuming (message_of stage))
-      (postponed_unseen stage may.0.stands) (λ why is. absurd (cc)))
+      is_postponed (λ how. refl) may.0.stands (λ why is. absurd (cc)))
   after_each node (NodeCall.open_with p k value) law may =
       let port = port_at p node.block in
       let stage = port_stage k port in
       moves_in node.block node.journal law.ends p k (opens k value port)
-          (record (end_in k port.ends) { stage = Hand (message_of stage); hand = Some value }) may.port refl refl refl
-      (unseen_goes node.block.fault port.refusing stage (Hand (message_of stage)) (arrived_unseen stage may.stands)
+      (record (end_in k port.ends) { stage = Hand (message_of stage); hand = Some value }) may.port refl refl refl
+      (unseen_goes node.block.fault port.refusing stage (Hand (message_of stage)) is_arrived (λ how. refl) may.stands
       (λ why is. absurd (cc)))
   after_each node (NodeCall.close p k) law may = taken_in node law p k (hand_in k (port_at p node.block).ends) may
   after_each node (NodeCall.offer k) law may =
@@ -724,7 +467,7 @@ module _ {W : Type 0} (layout : Layout W) (meaning : ℕ → Value → Result (L
       let stage = port_stage k port in
       let goes = look_goes stage phase in
       moves_in node.block node.journal law.ends p k (port_looks k phase port)
-          (record (end_in k port.ends) { stage = target_looks stage phase })
+      (record (end_in k port.ends) { stage = target_looks stage phase })
       may.port refl refl refl
       (record {
         completion = goes.completion;
@@ -737,7 +480,8 @@ module _ {W : Type 0} (layout : Layout W) (meaning : ℕ → Value → Result (L
       (rest_stays node.block.exits.ends k (record end { stage = source_looks end.stage phase })
       (look_stays_home end.stage phase))
   after_each node NodeCall.make law may =
-      made_next (first_of (held_by node.block)) node.block node.journal law.ends (making node.block may.waits)
+      made_next (first_of (held_by node.block)) node.block node.journal law.ends
+      (may_make_tells node.block may.waits).going
   after_each node (NodeCall.complete p) law may = completed node law p may
   after_each node (NodeCall.fault number) law may = faulted node.block node.journal law.ends number may
   after_each node NodeCall.finish law may = finished node.block node.journal law.ends may

@@ -1,11 +1,9 @@
 -- Each call keeps a block's exits in order.
-use Rattle.std.proofs.Common.{◌≡◌, ℕ, zero, suc, ◌<◌, Bool, true, false, ◌&&◌, ◌||◌, cond, List, [], ◌∷◌, length, set, map, Option, Some, None, is_some, is_none, Result, Ok, Err, refl, ap, sym, ◌∙◌, subst}
+use Rattle.std.proofs.Common.{◌≡◌, ℕ, ◌<◌, Bool, true, false, ◌||◌, List, length, set, map, Option, Some, None, is_some, Result, Ok, Err, refl, ap, sym, ◌∙◌, subst}
 use Rattle.std.specs.Option.{ForSome}
 use Rattle.flow_value.specs.declared.value.Value.{Value}
 use Rattle.flow_link.specs.declared.draft.BlockKind.{BlockKind}
 use Rattle.flow_link.specs.declared.draft.BlockKind.TheVariants.{Action}
-use Rattle.flow_link.specs.declared.phase.Phase.{Phase}
-use Rattle.flow_link.specs.declared.phase.Phase.TheVariants as phase
 use Rattle.flow_link.specs.declared.phase.LinkEnd.{LinkEnd}
 use Rattle.flow_link.specs.declared.stage.SourceStage.{SourceStage}
 use Rattle.flow_link.specs.declared.stage.SourceStage.TheVariants as source
@@ -15,79 +13,26 @@ use Rattle.flow_link.specs.declared.trace.Outcome.{Outcome}
 use Rattle.flow_link.specs.declared.trace.Outcome.TheVariants as outcome
 use Rattle.flow_link.specs.Layout.{Layout}
 use Rattle.flow_link.specs.LinkOk.{HasRoom}
-use Rattle.flow_link.specs.Stage.{source_looks, target_looks}
 use Rattle.flow_link.proofs.ListTests.{or_weaker}
-use Rattle.flow_intake.specs.Port.{EndState, PortState, end_in as in_end, stage_at as port_stage, is_offer, is_hand}
+use Rattle.flow_intake.specs.Port.{EndState, PortState, stage_at as port_stage, is_offer, is_hand}
 use Rattle.flow_intake.specs.Calls.{first_of, is_offered, is_posted, is_postponed, is_arrived, may_be_refused, wants, turns_down, postpones, refuses, consumes, opens, closes, looks as port_looks, takes_next, gives_room, port_closes}
+use Rattle.flow_intake.specs.Ended.{fault_seen, fault_at_ends}
 use Rattle.flow_outlet.specs.declared.ends.OutEnd.{OutEnd}
 use Rattle.flow_outlet.specs.End.{id_of}
 use Rattle.flow_outlet.specs.Law.{OutletLaw}
-use Rattle.flow_outlet.specs.Outlet.{OutletState, head_of, end_at, stage_at, is_empty, is_at_rest, is_wanted, may_give, may_offer, prepares, offers, gives, lacks_ids, denies, withdraws, ends_link, looks}
+use Rattle.flow_outlet.specs.Outlet.{OutletState, head_of, end_at, stage_at, is_wanted, may_give, may_offer, prepares, offers, gives, lacks_ids, denies, withdraws, ends_link, looks}
 use Rattle.flow_outlet.proofs.LawKept.{calls_keep_law}
 use Rattle.flow_outlet.proofs.OffersInOrder.{offers_in_order}
 use Rattle.flow_outlet.proofs.OneEndChanges.{each_set}
-use Rattle.flow_outlet.proofs.StagesTell.{never_both}
-use Rattle.flow_block.specs.Block.{BlockState, port_in, port_at, unit_weight, made_of, keeps_results, yields, makes_of, put_by_kind, put_of, values_of_result, gives_out, stops_by, held_by}
+use Rattle.flow_block.specs.Block.{BlockState, port_at, unit_weight, made_of, keeps_results, yields, makes_of, put_by_kind, put_of, values_of_result, gives_out, stops_by, held_by}
 use Rattle.flow_block.specs.Node.{NodeState, NodeCall, hand_at, takes_in, gives_from}
 use Rattle.flow_block.specs.NodeLaw.{ExitsLaw, is_kept}
 use Rattle.flow_block.specs.NodeKeeps.{MayCall, after_call, ExitsKept}
-use Rattle.flow_block.specs.Peeks.{fault_seen, first_some, fault_at_ends, fault_at_ports, is_pending, nothing_comes, all_ended, holds_nothing, fault_cause}
+use Rattle.flow_block.specs.Peeks.{fault_at_ports, is_pending}
 use Rattle.flow_block.specs.Planned.{block_makes}
-
--- A fault that was seen stays seen
-
-abbrev StaysSeen : Option ℕ → Option ℕ → Type 0
-StaysSeen before after = is_some before ≡ true → is_some after ≡ true
-
-seen_first : (first later first' later' : Option ℕ) → StaysSeen first first' → StaysSeen later later'
-    → StaysSeen (first_some first later) (first_some first' later')
-seen_first (Some n) later (Some m) later' f g e = refl
-seen_first (Some n) later None later' f g e = let wrong : false ≡ true = f refl in cc
-seen_first None later (Some m) later' f g e = refl
-seen_first None later None later' f g e = g e
-
-seen_at_ends : (ends : List EndState) (place : ℕ) (end : EndState)
-    → StaysSeen (fault_seen (in_end place ends).stage) (fault_seen end.stage)
-    → StaysSeen (fault_at_ends ends) (fault_at_ends (set ends place end))
-seen_at_ends [] place end stays e = cc
-seen_at_ends (first ∷ ends) zero end stays e =
-    seen_first (fault_seen first.stage) (fault_at_ends ends) (fault_seen end.stage) (fault_at_ends ends)
-    stays (λ l. l) e
-seen_at_ends (first ∷ ends) (suc place) end stays e =
-    seen_first (fault_seen first.stage) (fault_at_ends ends) (fault_seen first.stage)
-    (fault_at_ends (set ends place end)) (λ l. l) (seen_at_ends ends place end stays) e
-
-seen_at_ports : (ports : List PortState) (p : ℕ) (port : PortState)
-    → StaysSeen (fault_at_ends (port_in ports p).ends) (fault_at_ends port.ends)
-    → StaysSeen (fault_at_ports ports) (fault_at_ports (set ports p port))
-seen_at_ports [] p port stays e = cc
-seen_at_ports (first ∷ ports) zero port stays e =
-    seen_first (fault_at_ends first.ends) (fault_at_ports ports) (fault_at_ends port.ends) (fault_at_ports ports)
-    stays (λ l. l) e
-seen_at_ports (first ∷ ports) (suc p) port stays e =
-    seen_first (fault_at_ends first.ends) (fault_at_ports ports) (fault_at_ends first.ends)
-    (fault_at_ports (set ports p port)) (λ l. l) (seen_at_ports ports p port stays) e
-
--- no end of a link changes
-seen_over_ports : (change : PortState → PortState) → ((port : PortState) → (change port).ends ≡ port.ends)
-    → (ports : List PortState)
-    → fault_at_ports (map change ports) ≡ fault_at_ports ports
-seen_over_ports change same [] = refl
-seen_over_ports change same (port ∷ ports) =
-    ap (λ (ends : List EndState). first_some (fault_at_ends ends) (fault_at_ports (map change ports))) (same port)
-    ∙ ap (λ (later : Option ℕ). first_some (fault_at_ends port.ends) later) (seen_over_ports change same ports)
-
--- an end where such a test passes has seen no fault
-none_seen : (test : TargetStage → Bool) → ((how : LinkEnd) → test (target.Ended how) ≡ false)
-    → (stage after : TargetStage)
-    → test stage ≡ true → StaysSeen (fault_seen stage) (fault_seen after)
-none_seen test ended_not (target.Ended how) after e seen = never_both (test (target.Ended how)) e (ended_not how)
-none_seen test ended_not _ after e seen = cc
-
-seen_by_looks : (stage : TargetStage) (phase : Phase)
-    → StaysSeen (fault_seen stage) (fault_seen (target_looks stage phase))
-seen_by_looks (target.Ended how) phase e = e
-seen_by_looks _ phase e = cc
+use Rattle.flow_block.proofs.EndsTell.{none_kept_by_looks}
+use Rattle.flow_block.proofs.FaultsSeen.{StaysSeen, stays_at_ends, stays_at_ports, seen_over_ports, seen_by_looks, unseen_where}
+use Rattle.flow_block.proofs.GoingOn.{may_fault_tells, may_finish_tells}
 
 -- The law of the exits
 
@@ -105,7 +50,7 @@ offer_keeps pending None o k going may law =
     calls_keep_law.offer pending (prepares o) (calls_keep_law.prepare pending None o law) k may refl
 offer_keeps pending (Some how) o k going may law = absurd (cc)
 
-stop_keeps : (pending : Bool) (stopped : Option Outcome) (how : Outcome) (o : OutletState) → is_none stopped ≡ true
+stop_keeps : (pending : Bool) (stopped : Option Outcome) (how : Outcome) (o : OutletState) → stopped ≡ None
     → OutletLaw pending stopped o → OutletLaw pending (Some how) o
 stop_keeps pending None how o going law = calls_keep_law.stop pending how o law
 stop_keeps pending (Some _) how o going law = absurd (cc)
@@ -118,32 +63,6 @@ wanted_room next out (source.Accepted i) max given wanted room = room i refl
 wanted_room next out (source.Wished i) max given wanted room = room i refl
 wanted_room next out (source.Claimed i) max given wanted room = room i refl
 wanted_room next out _ max given wanted room = absurd (cc)
-
-none_kept_by_looks : (stage : SourceStage) (phase : Phase) → is_kept stage ≡ false
-    → is_kept (source_looks stage phase) ≡ false
-none_kept_by_looks (source.Out i) (phase.Wanted _) e = refl
-none_kept_by_looks (source.Out i) (phase.Postponed _) e = refl
-none_kept_by_looks (source.Out i) (phase.Asked _) e = refl
-none_kept_by_looks (source.Out i) phase.Refused e = refl
-none_kept_by_looks (source.Posted i) (phase.Wanted _) e = refl
-none_kept_by_looks (source.Posted i) phase.Idle e = refl
-none_kept_by_looks (source.Posted i) phase.Refused e = refl
-none_kept_by_looks (source.Waiting i) (phase.Wanted _) e = refl
-none_kept_by_looks (source.Waiting i) (phase.Asked _) e = refl
-none_kept_by_looks (source.Waiting i) phase.Refused e = refl
-none_kept_by_looks source.Crossing phase.Idle e = refl
-none_kept_by_looks (source.Reserved i) _ e = cc
-none_kept_by_looks stage _ e = e
-
-may_stop : (stopped : Option Outcome) (comes rest : Bool) (cause : Option ℕ) (number : ℕ)
-    → cond ((is_none stopped && comes) && rest) cause None ≡ Some number → is_none stopped ≡ true
-may_stop None comes rest cause number e = refl
-may_stop (Some _) comes rest cause number e = cc
-
-may_end : (stopped : Option Outcome) (comes ended holds left rest : Bool)
-    → ((is_none stopped && comes) && ended && holds && left && rest) ≡ true → is_none stopped ≡ true
-may_end None comes ended holds left rest e = refl
-may_end (Some _) comes ended holds left rest e = cc
 
 module _ {W : Type 0} (layout : Layout W) (meaning : ℕ → Value → Result (List Value) ℕ) (b : ℕ) where
   module _ (block : BlockState) (law : ExitsLaw layout meaning b block) where
@@ -164,9 +83,9 @@ module _ {W : Type 0} (layout : Layout W) (meaning : ℕ → Value → Result (L
         → StaysSeen (fault_seen (port_stage k (port_at p block))) (fault_seen end.stage)
         → ExitsLaw layout meaning b (record block { ports = set block.ports p port })
     end_moves p k port end is stays =
-        ports_change (set block.ports p port) (seen_at_ports block.ports p port
+        ports_change (set block.ports p port) (stays_at_ports block.ports p port
         (λ seen. subst (λ (ends : List EndState). is_some (fault_at_ends ends) ≡ true) (sym is)
-        (seen_at_ends (port_at p block).ends k end stays seen)))
+        (stays_at_ends (port_at p block).ends k end stays seen)))
 
     -- where such a test passes
     end_offers : (p k : ℕ) (port : PortState) (end : EndState) → port.ends ≡ set (port_at p block).ends k end
@@ -174,12 +93,14 @@ module _ {W : Type 0} (layout : Layout W) (meaning : ℕ → Value → Result (L
         → test (port_stage k (port_at p block)) ≡ true
         → ExitsLaw layout meaning b (record block { ports = set block.ports p port })
     end_offers p k port end is test ended_not passes =
-        end_moves p k port end is (none_seen test ended_not (port_stage k (port_at p block)) end.stage passes)
+        let unseen = unseen_where test ended_not (port_stage k (port_at p block)) passes in
+        end_moves p k port end is
+        (λ seen. let never : false ≡ true = ap is_some (sym unseen.fault) ∙ seen in absurd (cc))
 
     port_stays : (p : ℕ) (port : PortState) → port.ends ≡ (port_at p block).ends
         → ExitsLaw layout meaning b (record block { ports = set block.ports p port })
     port_stays p port same =
-        ports_change (set block.ports p port) (seen_at_ports block.ports p port
+        ports_change (set block.ports p port) (stays_at_ports block.ports p port
         (λ seen. subst (λ (ends : List EndState). is_some (fault_at_ends ends) ≡ true) (sym same) seen))
 
     -- one end of a link out of it moves
@@ -240,7 +161,7 @@ module _ {W : Type 0} (layout : Layout W) (meaning : ℕ → Value → Result (L
           none_kept = each_set (λ j e. is_kept e.stage ≡ false) o.ends k _ here refl (λ j l other. law.none_kept j l);
         }
 
-    stops_keep : (how : Outcome) → is_none block.stopped ≡ true → ExitsLaw layout meaning b (stops_by how block)
+    stops_keep : (how : Outcome) → block.stopped ≡ None → ExitsLaw layout meaning b (stops_by how block)
     stops_keep how going =
         let same = seen_over_ports port_closes (λ port. refl) block.ports in
         let over = ports_change (map port_closes block.ports)
@@ -306,15 +227,9 @@ module _ {W : Type 0} (layout : Layout W) (meaning : ℕ → Value → Result (L
       make_keeps node.block law (block_makes layout meaning b) (first_of (held_by node.block)) may.ids
   exits_keep node (NodeCall.complete p) law may = port_stays node.block law p (port_closes (port_at p node.block)) refl
   exits_keep node (NodeCall.fault number) law may =
-      stops_keep node.block law (outcome.Faulted number)
-      (may_stop node.block.stopped (nothing_comes node.block.ports) (is_at_rest node.block.exits)
-      (fault_cause node.block) number may)
+      stops_keep node.block law (outcome.Faulted number) (may_fault_tells node.block number may).going
   exits_keep node NodeCall.finish law may =
-      let block = node.block in
-      stops_keep block law outcome.Done
-      (may_end block.stopped (nothing_comes block.ports) (all_ended block.ports) (holds_nothing block.ports)
-      (is_empty block.exits.left)
-      (is_at_rest block.exits) may)
+      stops_keep node.block law outcome.Done (may_finish_tells node.block may).going
 
 pub exits_kept : (W : Type 0) → ExitsKept W
 exits_kept W layout meaning b node call law may = exits_keep layout meaning b node call law.exits may

@@ -13,7 +13,7 @@ use Rattle.flow_link.specs.Lists.{numbers_from, below}
 use Rattle.flow_link.specs.Plan.{block_in, port_count}
 use Rattle.flow_link.specs.Trace.{has_ended}
 use Rattle.flow_link.proofs.ListTests.{length_numbers}
-use Rattle.flow_intake.specs.Port.{EndState, PortState, fresh_end, end_in, stage_at as port_stage, is_coming, count_at}
+use Rattle.flow_intake.specs.Port.{EndState, PortState, fresh_end, end_in, stage_at as port_stage, is_coming}
 use Rattle.flow_intake.specs.PortLaw.{InLaw, PortLaw, has_ended as has_port_ended}
 use Rattle.flow_outlet.specs.declared.ends.LinkRule.{LinkRule}
 use Rattle.flow_outlet.specs.declared.ends.OutEnd.{OutEnd}
@@ -24,6 +24,7 @@ use Rattle.flow_block.specs.Fresh.{FreshInOrder}
 use Rattle.flow_block.specs.NodeLaw.{is_kept, MakesAs, PortAsPlanned, GaveOver, weighed}
 use Rattle.flow_block.specs.Peeks.{is_pending}
 use Rattle.flow_block.specs.Planned.{block_makes, links_to, links_from, rule_of, port_of_plan, fresh_node}
+use Rattle.flow_block.proofs.EndsTell.{none_come}
 
 -- each end is a fresh one
 in_ends_fresh : (links : List ℕ) (P : EndState → Type 0) → ((l : ℕ) → P (fresh_end l)) → (k : ℕ)
@@ -46,10 +47,6 @@ links_kept (l ∷ links) = ap (λ (ls : List ℕ). l ∷ ls) (links_kept links)
 rules_kept : (rules : List LinkRule) → map (λ (end : OutEnd). end.rule) (map fresh_out rules) ≡ rules
 rules_kept [] = refl
 rules_kept (rule ∷ rules) = ap (λ (rs : List LinkRule). rule ∷ rs) (rules_kept rules)
-
-none_coming : (links : List ℕ) → count_at is_coming (map fresh_end links) ≡ 0
-none_coming [] = refl
-none_coming (l ∷ links) = let rest = none_coming links in omega arith
 
 within_none : (capacity : Option ℕ) → IsWithin capacity 0
 within_none None = tt
@@ -111,7 +108,12 @@ module _ {W : Type 0} (layout : Layout W) (b : ℕ) where
         }) k;
     distinct = tt;
     known = tt;
-    room = rw (none_coming (links_to layout b p)) (within_none (block_in layout.blocks b).capacity);
+    room =
+        let none =
+        none_come (map fresh_end (links_to layout b p))
+        (λ k small. in_ends_fresh (links_to layout b p) (λ (end : EndState). is_coming end.stage ≡ false)
+        (λ l. refl) k) in
+        rw none (within_none (block_in layout.blocks b).capacity);
     waits = λ some. omega arith;
     took = omega arith;
   }

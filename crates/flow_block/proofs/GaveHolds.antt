@@ -1,10 +1,7 @@
 -- Each call keeps in order what the marks tell of what was given.
-use Rattle.std.proofs.Common.{◌≡◌, ◌≢◌, ℕ, zero, suc, ◌+◌, ◌==◌, ◌<◌, ◌≤◌, Bool, true, false, not, ◌&&◌, ◌||◌, cond, List, [], ◌∷◌, ◌++◌, length, get_or, set, map, filter, Option, Some, None, is_some, Result, Ok, Err, refl, ap, sym, ◌∙◌, subst, inl, inr, arith, append-nil, append_assoc, length-append}
-use Rattle.std.specs.List.{AllPairs}
-use Rattle.std.proofs.lemmas.Bool.{cases_eq, cases_lt, cases_order}
-use Rattle.std.proofs.lemmas.Bool.Decides.{nat_tests}
-use Rattle.std.proofs.lemmas.List.{get_or-map, get_or_past, length-map}
-use Rattle.std.proofs.lemmas.List.Kept.{AllPairs-filter}
+use Rattle.std.proofs.Common.{◌≡◌, ℕ, ◌+◌, ◌==◌, ◌<◌, Bool, true, false, not, ◌&&◌, ◌||◌, cond, List, [], ◌∷◌, ◌++◌, length, set, Option, Some, None, is_some, Result, Ok, Err, refl, ap, sym, ◌∙◌, subst, inl, inr, arith, append-nil, append_assoc, length-append}
+use Rattle.std.proofs.lemmas.Bool.{cases_lt}
+use Rattle.std.proofs.lemmas.List.{get_or_past}
 use Rattle.flow_value.specs.When.{admits}
 use Rattle.flow_value.specs.declared.value.Value.{Value}
 use Rattle.flow_value.specs.declared.when.When.{When}
@@ -19,12 +16,13 @@ use Rattle.flow_link.specs.declared.trace.Outcome.{Outcome}
 use Rattle.flow_link.specs.JournalGrows.{given_by_mark}
 use Rattle.flow_link.specs.Law.{is_passed, gives_in_order}
 use Rattle.flow_link.specs.Layout.{Layout}
-use Rattle.flow_link.specs.Lists.{every, some, below, numbers_from}
+use Rattle.flow_link.specs.Lists.{every, below}
 use Rattle.flow_link.specs.Plan.{begins_at, link_in, no_link, is_steady}
-use Rattle.flow_link.specs.Trace.{Run, gave, gave_over, gave_where, is_used_up}
+use Rattle.flow_link.specs.Trace.{Run, gave, gave_over, is_used_up}
 use Rattle.flow_link.proofs.JournalsGrow.{gave_more}
-use Rattle.flow_link.proofs.ListTests.{and_true, both_of, every_below, every_weaker, length_numbers, and_weaker, or_second, or_first, or_weaker}
+use Rattle.flow_link.proofs.ListTests.{and_true, both_of, every_below, every_weaker, and_weaker, or_weaker}
 use Rattle.flow_link.proofs.OneMoreMark.{every_more, gave_by_gave}
+use Rattle.flow_intake.specs.Calls.{first_of}
 use Rattle.flow_outlet.specs.declared.ends.LinkRule.{LinkRule}
 use Rattle.flow_outlet.specs.declared.ends.OutEnd.{OutEnd}
 use Rattle.flow_outlet.specs.End.{no_end, counted, is_limit, is_waiting, is_free, rejects}
@@ -34,36 +32,16 @@ use Rattle.flow_outlet.proofs.LawKept.{gives_in_order as outlet_gives_in_order}
 use Rattle.flow_outlet.proofs.LookTells.{look_tells}
 use Rattle.flow_outlet.proofs.OffersInOrder.{offers_in_order}
 use Rattle.flow_outlet.proofs.OneEndChanges.{each_set}
-use Rattle.flow_outlet.proofs.StagesTell.{never_both, number_below, number_same}
-use Rattle.flow_intake.specs.Calls.{first_of}
+use Rattle.flow_outlet.proofs.StagesTell.{never_both, number_same}
 use Rattle.flow_block.specs.Block.{BlockState, made_of, keeps_results, yields, makes_of, held_by}
 use Rattle.flow_block.specs.Node.{NodeState, NodeCall, hand_at, takes_in, gives_from}
-use Rattle.flow_block.specs.NodeLaw.{NodeLaw, GaveLaw, GaveOver, refuses_over, run_seen_by}
+use Rattle.flow_block.specs.NodeLaw.{NodeLaw, ShapeLaw, GaveLaw, GaveOver, refuses_over, run_seen_by}
 use Rattle.flow_block.specs.NodeKeeps.{MayCall, after_call, GaveKept}
-use Rattle.flow_block.specs.Planned.{is_out_of, links_from, rule_of, block_makes}
-
--- Tests on lists
-
-some_at : {A : Type 0} (test : A → Bool) (xs : List A) (i : ℕ) (d : A) → i < length xs → test (get_or xs i d) ≡ true
-    → some test xs ≡ true
-some_at test [] i d here e = absurd (omega arith)
-some_at test (x ∷ xs) zero d here e = or_first (test x) (some test xs) e
-some_at test (x ∷ xs) (suc i) d here e = or_second (test x) (some test xs) (some_at test xs i d (omega arith) e)
-
-some_set : {A : Type 0} (test : A → Bool) (xs : List A) (i : ℕ) (d y : A)
-    → (test (get_or xs i d) ≡ true → test y ≡ true)
-    → some test xs ≡ true → some test (set xs i y) ≡ true
-some_set test [] i d y stays e = cc
-some_set test (x ∷ xs) zero d y stays e = or_weaker (test x) (some test xs) (test y) (some test xs) stays (λ l. l) e
-some_set test (x ∷ xs) (suc i) d y stays e =
-    or_weaker (test x) (some test xs) (test x) (some test (set xs i y)) (λ h. h) (some_set test xs i d y stays) e
-
-or_last : (a b c d e f : Bool) → (e ≡ true → f ≡ true) → (a || b || c || d || e) ≡ true → (a || b || c || d || f) ≡ true
-or_last true b c d e f stays is = refl
-or_last false true c d e f stays is = refl
-or_last false false true d e f stays is = refl
-or_last false false false true e f stays is = refl
-or_last false false false false e f stays is = stays is
+use Rattle.flow_block.specs.Planned.{is_out_of, rule_of, out_place, block_makes}
+use Rattle.flow_block.proofs.EndsTell.{used_up_told}
+use Rattle.flow_block.proofs.JournalTells.{gave_same, gave_here, passed_by}
+use Rattle.flow_block.proofs.PlacesOfLinks.{end_out_of, source_there, links_out_differ, earlier_out}
+use Rattle.flow_block.proofs.TestsTell.{some_where, some_set}
 
 -- What the marks tell of an order
 
@@ -80,10 +58,10 @@ module _ {W : Type 0} (layout : Layout W) (meaning : ℕ → Value → Result (L
       and_weaker (every (is_passed run b before value) (below link)) (gives_in_order run b l' marks)
       (every (is_passed seen b before value) (below link)) (gives_in_order seen b l' marks)
       (every_weaker (is_passed run b before value) (is_passed seen b before value) (below link) (λ l.
-      or_last (not (begins_at b (link_in layout.links l).source)) (not (admits (link_in layout.links l).when value))
+      passed_by (begins_at b (link_in layout.links l).source) (not (admits (link_in layout.links l).when value))
       (not (is_steady layout.blocks (link_in layout.links l).target))
       (is_used_up (link_in layout.links l).max (gave_over l before))
-      (refuses_over old l) (refuses_over new l) (grows l)))
+      (refuses_over old l) (refuses_over new l) (λ begins. grows l)))
       (order_still marks l') e
   order_still (Took _ _ _ ∷ marks) before e = order_still marks before e
   order_still (Complete _ ∷ marks) before e = order_still marks before e
@@ -116,55 +94,14 @@ module _ {W : Type 0} (run : Run W) (b : ℕ) (mark : Mark) where
   order_more (Fault _ ∷ marks) before e last = order_more marks before e last
   order_more (Done ∷ marks) before e last = order_more marks before e last
 
--- The links that leave a block, in order
+-- One end and its marks
 
-number_at : (first count k d : ℕ) → k < count → get_or (numbers_from first count) k d ≡ first + k
-number_at first zero k d low = absurd (omega arith)
-number_at first (suc count) zero d low = omega arith
-number_at first (suc count) (suc k) d low = number_at (suc first) count k d (omega arith) ∙ omega arith
-
-numbers_rise : (first count : ℕ) → AllPairs (λ x y. x < y) (numbers_from first count)
-numbers_rise first count i j d before here =
-    let low : j < count = omega (arith, here, length_numbers first count) in
-    rw (number_at first count i d (omega (arith, before, low)), number_at first count j d low) (omega (arith, before))
-
--- a number stands in a list
-record StandsIn (numbers : List ℕ) (n : ℕ) : Type 0 where
-  place : ℕ
-  here : place < length numbers
-  is : get_or numbers place 0 ≡ n
-
-stands_first : (keep : Bool) (n : ℕ) (rest : List ℕ) → keep ≡ true → StandsIn (cond keep (n ∷ rest) rest) n
-stands_first true n rest e = record { place = 0; here = omega arith; is = refl }
-stands_first false n rest e = absurd (cc)
-
-stands_later : (keep : Bool) (first n : ℕ) (rest : List ℕ) → StandsIn rest n
-    → StandsIn (cond keep (first ∷ rest) rest) n
-stands_later true first n rest there =
-    record { place = suc there.place; here = omega (arith, there.here); is = there.is }
-stands_later false first n rest there = there
-
-stands_from : (test : ℕ → Bool) (first count n : ℕ) → first ≤ n → n < first + count → test n ≡ true
-    → StandsIn (filter test (numbers_from first count)) n
-stands_from test first zero n low high e = absurd (omega arith)
-stands_from test first (suc count) n low high e = elim (cases_eq first n) [
-  | inl same ↦ rw (sym same) (stands_first (test first) first (filter test (numbers_from (suc first) count))
-      (rw same e))
-  | inr other ↦ stands_later (test first) first n (filter test (numbers_from (suc first) count))
-      (stands_from test (suc first) count n (omega arith) (omega arith) e)
-]
-
-number_above : (a b : ℕ) → b < a → (a == b) ≡ false
-number_above a b high = grind (arith, nat_tests)
-
-begins_nowhere : (links : List Link) (b l : ℕ) → begins_at b (link_in links l).source ≡ true → l < length links
-begins_nowhere links b l e = elim (cases_lt l (length links)) [
+begins_there : (links : List Link) (b l : ℕ) → begins_at b (link_in links l).source ≡ true → l < length links
+begins_there links b l e = elim (cases_lt l (length links)) [
   | inl low ↦ low
   | inr high ↦ let none : false ≡ true = sym (ap (λ (link : Link). begins_at b link.source)
       (get_or_past links l no_link high)) ∙ e in cc
 ]
-
--- One end and its marks
 
 -- an end where such a test passes is not refused
 none_refused : (test : SourceStage → Bool) → test source.Refused ≡ false → (stage : SourceStage) (after : Bool)
@@ -172,28 +109,11 @@ none_refused : (test : SourceStage → Bool) → test source.Refused ≡ false �
 none_refused test refused_not source.Refused after e refused = never_both (test source.Refused) e refused_not
 none_refused test refused_not _ after e refused = cc
 
-gave_own : (journal : List Mark) (l : ℕ) (value : Value)
-    → gave_over l (journal ++ Gave l value ∷ []) ≡ gave_over l journal ++ value ∷ []
-gave_own journal l value =
-    gave_more (λ n. n == l) journal (Gave l value)
-    ∙ ap (λ (is : Bool). gave_over l journal ++ cond is (value ∷ []) []) (number_same l)
-
-gave_other : (journal : List Mark) (l m : ℕ) (value : Value) → (m == l) ≡ false
-    → gave_over l (journal ++ Gave m value ∷ []) ≡ gave_over l journal
-gave_other journal l m value other =
-    gave_more (λ n. n == l) journal (Gave m value)
-    ∙ ap (λ (is : Bool). gave_over l journal ++ cond is (value ∷ []) []) other ∙ append-nil (gave_over l journal)
-
 count_more : (max : Option ℕ) (given : ℕ) (values : List Value) (value : Value)
     → (is_some max ≡ true → given ≡ length values) → is_some max ≡ true
     → counted max given ≡ length (values ++ value ∷ [])
 count_more None given values value is e = cc
 count_more (Some max) given values value is e = omega (arith, is refl, length-append values (value ∷ []))
-
-used_where : (max : Option ℕ) (given : ℕ) (values : List Value)
-    → (is_some max ≡ true → given ≡ length values) → is_limit max given ≡ true → is_used_up max values ≡ true
-used_where None given values is e = e
-used_where (Some max) given values is e = rw (sym (is refl)) e
 
 admits_where : (when : When) (head : Option Value) (value : Value) → head ≡ Some value → admits_head when head ≡ true
     → admits when value ≡ true
@@ -233,9 +153,7 @@ module _ {W : Type 0} (layout : Layout W) (meaning : ℕ → Value → Result (L
       → ((all : List Mark) → gives_in_order (run_seen_by layout meaning b o.ends) b all (mark ∷ []) ≡ true)
       → GaveLaw layout meaning b o journal → GaveLaw layout meaning b o (journal ++ mark ∷ [])
   quiet_mark o journal mark nothing quiet law =
-      let same = λ (test : ℕ → Bool).
-      gave_more test journal mark ∙ ap (λ (values : List Value). gave_where test journal ++ values) (nothing test)
-      ∙ append-nil (gave_where test journal) in
+      let same = λ (test : ℕ → Bool). gave_same test journal mark (nothing test) in
       record {
         each = λ k here. record {
           admitted = rw (same (λ l. l == (end_at o k).rule.id)) (law.each k here).admitted;
@@ -260,126 +178,88 @@ module _ {W : Type 0} (layout : Layout W) (meaning : ℕ → Value → Result (L
             (λ j there other. law.each j there);
         next_is = law.next_is;
         in_order = order_still layout meaning b o.ends (set o.ends k end)
-            (λ l. some_set (λ (e : OutEnd). e.rule.id == l && is_refused e.stage) o.ends k no_end end
+            (λ l. some_set (λ (e : OutEnd). e.rule.id == l && is_refused e.stage) o.ends k end no_end
             (and_weaker ((end_at o k).rule.id == l) (is_refused (stage_at o k)) ((end_at o k).rule.id == l)
             (is_refused stage) (λ same. same) refused))
             journal [] law.in_order;
       }
 
-  -- the ends are of the links that leave the block, in their order
-  module _ (o : OutletState)
-      (rules : map (λ (end : OutEnd). end.rule) o.ends ≡ map (rule_of layout) (links_from layout b)) where
-    link_count : length o.ends ≡ length (links_from layout b)
-    link_count =
-        sym (length-map o.ends (λ (end : OutEnd). end.rule)) ∙ ap (λ (all : List LinkRule). length all) rules
-        ∙ length-map (links_from layout b) (rule_of layout)
+  -- the head is given over the end at a place
+  module _ (block : BlockState) (shape : ShapeLaw layout meaning b block) (journal : List Mark)
+      (law : GaveLaw layout meaning b block.exits journal) {pending : Bool} {stopped : Option Outcome}
+      (outlet : OutletLaw pending stopped block.exits) (k : ℕ) (here : k < length block.exits.ends)
+      (may : may_give k block.exits ≡ true)
+      (value : Value) (head : head_of block.exits ≡ Some value) where
+    abbrev o : OutletState
+    o = block.exits
 
-    rule_at : (k : ℕ) → k < length o.ends → (end_at o k).rule ≡ rule_of layout (get_or (links_from layout b) k 0)
-    rule_at k here =
-        sym (get_or-map (λ (end : OutEnd). end.rule) o.ends k no_end no_end.rule here)
-        ∙ ap (λ (all : List LinkRule). get_or all k no_end.rule) rules
-        ∙ get_or-map (rule_of layout) (links_from layout b) k 0 no_end.rule (omega (arith, here, link_count))
+    -- each earlier link was rightly passed over
+    past_at : (l : ℕ) → l < (end_at o k).rule.id → is_out_of layout b l ≡ true
+        → goes_past o.ends journal value (rule_of layout l) ≡ true
+    past_at l low out =
+        let begins = source_there b (link_in layout.links l).source out in
+        let has = end_out_of layout meaning b block shape l (begins_there layout.links b l out) begins in
+        let j = out_place layout b l in
+        let end = end_at o j in
+        let id : end.rule.id ≡ l = ap (λ (rule : LinkRule). rule.id) has.rule_is in
+        let before = earlier_out layout meaning b block shape j k has.there here (omega (arith, id, low)) in
+        subst (λ (rule : LinkRule). goes_past o.ends journal value rule ≡ true) has.rule_is
+        (past_as_told end.rule end.given end.stage (head_of o) value
+        (is_used_up end.rule.max (gave_over end.rule.id journal)) (refuses_over o.ends end.rule.id)
+        head (used_up_told end.rule.max end.given (gave_over end.rule.id journal) (law.each j has.there).counted)
+        (λ refused. some_where (λ (e : OutEnd). e.rule.id == end.rule.id && is_refused e.stage) o.ends no_end j
+        has.there (and_true (end.rule.id == end.rule.id) (is_refused end.stage) (number_same end.rule.id) refused))
+        (outlet_gives_in_order.earlier pending stopped o outlet k here may j before))
 
-    id_at : (k : ℕ) → k < length o.ends → (end_at o k).rule.id ≡ get_or (links_from layout b) k 0
-    id_at k here = ap (λ (rule : LinkRule). rule.id) (rule_at k here)
+    past_all : (all : List Mark) → ((l : ℕ) → gave_over l all ≡ gave_over l journal) → (l : ℕ)
+        → l < (end_at o k).rule.id
+        → is_passed (run_seen_by layout meaning b o.ends) b all value l ≡ true
+    past_all all same l low =
+        passes_where (is_out_of layout b l) (admits (link_in layout.links l).when value)
+        (is_steady layout.blocks (link_in layout.links l).target)
+        (is_used_up (link_in layout.links l).max (gave_over l all)) (refuses_over o.ends l)
+        (λ out. rw (same l) (past_at l low out))
 
-    ids_rise : (j k : ℕ) → j < k → k < length o.ends → (end_at o j).rule.id < (end_at o k).rule.id
-    ids_rise j k before here =
-        let count = length layout.links in
-        let low : k < length (links_from layout b) = omega (arith, here, link_count) in
-        let rise = AllPairs-filter (λ x y. x < y) (is_out_of layout b) (below count) (numbers_rise 0 count)
-        j k 0 before low in
-        omega (arith, rise, id_at j (omega (arith, before, here)), id_at k here)
-
-    ids_differ : (j k : ℕ) → j ≢ k → j < length o.ends → k < length o.ends
-        → ((end_at o k).rule.id == (end_at o j).rule.id) ≡ false
-    ids_differ j k other there here = elim (cases_order j k) [
-      | inl same ↦ absurd (other same)
-      | inr (inl before) ↦ number_above (end_at o k).rule.id (end_at o j).rule.id (ids_rise j k before here)
-      | inr (inr after) ↦ number_below (end_at o k).rule.id (end_at o j).rule.id (ids_rise k j after there)
-    ]
-
-    -- an end of a link with a smaller number comes earlier
-    place_before : (j k : ℕ) → j < length o.ends → k < length o.ends
-        → (end_at o j).rule.id < (end_at o k).rule.id → j < k
-    place_before j k there here low = elim (cases_order j k) [
-      | inl same ↦ let wrong : (end_at o k).rule.id < (end_at o k).rule.id = rw same at low in absurd (omega arith)
-      | inr (inl before) ↦ before
-      | inr (inr after) ↦ let rise = ids_rise k j after there in absurd (omega (arith, rise, low))
-    ]
-
-    module _ (journal : List Mark) (law : GaveLaw layout meaning b o journal)
-        {pending : Bool} {stopped : Option Outcome}
-        (outlet : OutletLaw pending stopped o) (k : ℕ) (here : k < length o.ends) (may : may_give k o ≡ true)
-        (value : Value) (head : head_of o ≡ Some value) where
-      -- each earlier link was rightly passed over
-      past_at : (l : ℕ) → l < (end_at o k).rule.id → is_out_of layout b l ≡ true
-          → goes_past o.ends journal value (rule_of layout l) ≡ true
-      past_at l low out =
-          let stands = stands_from (is_out_of layout b) 0 (length layout.links) l (omega arith)
-          (omega (arith, begins_nowhere layout.links b l out)) out in
-          let j = stands.place in
-          let there : j < length o.ends = omega (arith, stands.here, link_count) in
-          let id : (end_at o j).rule.id ≡ l = id_at j there ∙ stands.is in
-          let end = end_at o j in
-          subst (λ (rule : LinkRule). goes_past o.ends journal value rule ≡ true)
-          (rule_at j there ∙ ap (rule_of layout) stands.is)
-          (past_as_told end.rule end.given end.stage (head_of o) value
-          (is_used_up end.rule.max (gave_over end.rule.id journal)) (refuses_over o.ends end.rule.id)
-          head (used_where end.rule.max end.given (gave_over end.rule.id journal) (law.each j there).counted)
-          (λ refused. some_at (λ (e : OutEnd). e.rule.id == end.rule.id && is_refused e.stage) o.ends j no_end there
-          (and_true (end.rule.id == end.rule.id) (is_refused end.stage) (number_same end.rule.id) refused))
-          (outlet_gives_in_order.earlier pending stopped o outlet k here may j
-          (place_before j k there here (omega (arith, id, low)))))
-
-      past_all : (all : List Mark) → ((l : ℕ) → gave_over l all ≡ gave_over l journal) → (l : ℕ)
-          → l < (end_at o k).rule.id
-          → is_passed (run_seen_by layout meaning b o.ends) b all value l ≡ true
-      past_all all same l low =
-          passes_where (is_out_of layout b l) (admits (link_in layout.links l).when value)
-          (is_steady layout.blocks (link_in layout.links l).target)
-          (is_used_up (link_in layout.links l).max (gave_over l all)) (refuses_over o.ends l)
-          (λ out. rw (same l) (past_at l low out))
-
-      gives_keep : GaveLaw layout meaning b (record (gives k o) { room = 0 })
-          (journal ++ Gave (end_at o k).rule.id value ∷ [])
-      gives_keep =
-          let end = end_at o k in
-          let link = end.rule.id in
-          let marks = journal ++ Gave link value ∷ [] in
-          let run = run_seen_by layout meaning b o.ends in
-          let given = given_end o.next end in
-          let one_more : length (gave marks) ≡ length (gave journal) + 1 =
-          ap (λ (values : List Value). length values) (gave_by_gave journal link value)
-          ∙ length-append (gave journal) (value ∷ []) in
-          let admitted = admits_where end.rule.when (head_of o) value head
-          (outlet_gives_in_order.admitted pending stopped o outlet k here may) in
-          record {
-            each = each_set (λ j e. GaveOver layout meaning b marks e) o.ends k given here
-                (record {
-                  admitted = rw (gave_own journal link value)
-                      (every_more (admits end.rule.when) (gave_over link journal) value
-                      (law.each k here).admitted admitted);
-                  counted = λ limited. rw (gave_own journal link value)
-                      (count_more end.rule.max end.given (gave_over link journal) value
-                      (law.each k here).counted limited);
-                })
-                (λ j there other. let same = gave_other journal (end_at o j).rule.id link value
-                (ids_differ j k other there here) in
-                record {
-                  admitted = rw same (law.each j there).admitted;
-                  counted = λ limited. rw same ((law.each j there).counted limited);
-                });
-            next_is = omega (arith, one_more, law.next_is);
-            in_order = order_still layout meaning b o.ends (set o.ends k given)
-                (λ l. some_set (λ (e : OutEnd). e.rule.id == l && is_refused e.stage) o.ends k no_end given
-                (and_weaker (link == l) (is_refused end.stage) (link == l) (is_refused given.stage) (λ same. same)
-                (none_refused (is_wanted o.next (is_some o.offer)) refl end.stage (is_refused given.stage) may)))
-                marks []
-                (order_more run b (Gave link value) journal [] law.in_order
-                (λ all is. and_true (every (is_passed run b all value) (below link)) true
-                (every_below (is_passed run b all value) link (λ l low. past_all all is l low)) refl));
-          }
+    gives_keep : GaveLaw layout meaning b (record (gives k o) { room = 0 })
+        (journal ++ Gave (end_at o k).rule.id value ∷ [])
+    gives_keep =
+        let end = end_at o k in
+        let link = end.rule.id in
+        let marks = journal ++ Gave link value ∷ [] in
+        let run = run_seen_by layout meaning b o.ends in
+        let given = given_end o.next end in
+        let one_more : length (gave marks) ≡ length (gave journal) + 1 =
+        ap (λ (values : List Value). length values) (gave_by_gave journal link value)
+        ∙ length-append (gave journal) (value ∷ []) in
+        let admitted = admits_where end.rule.when (head_of o) value head
+        (outlet_gives_in_order.admitted pending stopped o outlet k here may) in
+        record {
+          each = each_set (λ j e. GaveOver layout meaning b marks e) o.ends k given here
+              (record {
+                admitted = rw (gave_here (λ n. n == link) journal link value (number_same link))
+                    (every_more (admits end.rule.when) (gave_over link journal) value
+                    (law.each k here).admitted admitted);
+                counted = λ limited. rw (gave_here (λ n. n == link) journal link value (number_same link))
+                    (count_more end.rule.max end.given (gave_over link journal) value
+                    (law.each k here).counted limited);
+              })
+              (λ j there other. let differs = links_out_differ layout meaning b block shape j k there here other in
+              let same = gave_same (λ n. n == (end_at o j).rule.id) journal (Gave link value)
+              (ap (λ (is : Bool). cond is (value ∷ []) []) differs) in
+              record {
+                admitted = rw same (law.each j there).admitted;
+                counted = λ limited. rw same ((law.each j there).counted limited);
+              });
+          next_is = omega (arith, one_more, law.next_is);
+          in_order = order_still layout meaning b o.ends (set o.ends k given)
+              (λ l. some_set (λ (e : OutEnd). e.rule.id == l && is_refused e.stage) o.ends k given no_end
+              (and_weaker (link == l) (is_refused end.stage) (link == l) (is_refused given.stage) (λ same. same)
+              (none_refused (is_wanted o.next (is_some o.offer)) refl end.stage (is_refused given.stage) may)))
+              marks []
+              (order_more run b (Gave link value) journal [] law.in_order
+              (λ all is. and_true (every (is_passed run b all value) (below link)) true
+              (every_below (is_passed run b all value) link (λ l low. past_all all is l low)) refl));
+        }
 
   -- what it makes is given later
   results_keep : (block : BlockState) (journal : List Mark) (kind : BlockKind) (values : List Value)
@@ -414,7 +294,7 @@ module _ {W : Type 0} (layout : Layout W) (meaning : ℕ → Value → Result (L
       → GaveLaw layout meaning b (gives_from k head node).block.exits (gives_from k head node).journal
   gave_keeps node k None law here may head = law.gave
   gave_keeps node k (Some value) law here may head =
-      gives_keep node.block.exits law.shape.rules node.journal law.gave law.exits.law k here may value head
+      gives_keep node.block law.shape node.journal law.gave law.exits.law k here may value head
 
   gave_keep : (node : NodeState) (call : NodeCall) → NodeLaw layout meaning b node → MayCall layout meaning b call node
       → GaveLaw layout meaning b (after_call layout meaning b call node).block.exits

@@ -1,25 +1,27 @@
--- What tells that a block has not stopped: a port that has not ended, or a link with something under way.
-use Rattle.std.proofs.Common.{◌≡◌, ℕ, zero, suc, ◌+◌, ◌<◌, ◌==◌, cond, Bool, true, false, not, ◌&&◌, List, [], ◌∷◌}
-use Rattle.std.proofs.Common.{length, set, Option, Some, None, is_none, is_some, Result, refl, sym, ◌∙◌, arith, eq-eqb}
-use Rattle.std.proofs.Common.{eqb-true}
+-- What tells that a block goes on: what it may do by itself, an open port, or a link with something under way.
+use Rattle.std.proofs.Common.{◌≡◌, ℕ, zero, suc, ◌+◌, ◌<◌, ◌==◌, cond, Bool, true, false, not, ◌&&◌, List, [], ◌∷◌, length, set, Option, Some, None, is_none, is_some, Result, refl, sym, ◌∙◌, arith, eq-eqb, eqb-true}
+use Rattle.std.proofs.lemmas.Bool.{not-true}
 use Rattle.flow_value.specs.declared.value.Value.{Value}
 use Rattle.flow_link.specs.declared.stage.SourceStage.{SourceStage}
-use Rattle.flow_link.specs.declared.stage.SourceStage.TheVariants.{Accepted, Claimed, Wished, AskedBy, Waiting}
+use Rattle.flow_link.specs.declared.stage.SourceStage.TheVariants.{Free, Accepted, Claimed, Wished, AskedBy, Waiting, Refused, Ended}
 use Rattle.flow_link.specs.declared.trace.Mark.{Mark}
-use Rattle.flow_link.specs.declared.trace.Outcome.{Outcome}
+use Rattle.flow_link.specs.declared.phase.Phase.{Phase}
 use Rattle.flow_link.specs.Layout.{Layout}
+use Rattle.flow_link.specs.Stage.{source_looks}
 use Rattle.flow_link.specs.Trace.{has_complete}
+use Rattle.flow_link.proofs.LinksAtRest.{never_both, false_where}
 use Rattle.flow_link.proofs.ListTests.{both_of}
 use Rattle.flow_intake.specs.Port.{coming}
 use Rattle.flow_intake.specs.PortLaw.{has_ended}
+use Rattle.flow_intake.specs.Ended.{has_seen_completion}
 use Rattle.flow_outlet.specs.declared.ends.OutEnd.{OutEnd}
 use Rattle.flow_outlet.specs.End.{is_away, is_waiting, count_at, end_in}
 use Rattle.flow_outlet.specs.Outlet.{is_empty, is_wanted, is_wish, is_at_rest, stage_at}
 use Rattle.flow_block.specs.Block.{BlockState, port_at, held_by}
-use Rattle.flow_block.specs.Peeks.{could_stop, may_make, may_complete, next_fault, may_finish, fault_cause}
-use Rattle.flow_block.specs.Peeks.{has_seen_completion, nothing_comes, all_ended, holds_nothing}
+use Rattle.flow_block.specs.Peeks.{could_stop, may_make, may_complete, next_fault, may_finish, fault_cause, nothing_comes, all_ended, holds_nothing}
 use Rattle.flow_block.specs.NodeLaw.{EndsLaw, outcome_in}
-use Rattle.flow_block.proofs.JournalStops.{not_false, open_tells}
+use Rattle.flow_block.proofs.JournalTells.{open_tells}
+use Rattle.flow_block.proofs.TestsTell.{none_is, none_unless}
 
 -- what counts nothing, and its elements
 none_counted : (b : Bool) (n : ℕ) → (cond b 1 0 + n == 0) ≡ true → (b ≡ false) × ((n == 0) ≡ true)
@@ -64,46 +66,70 @@ pub waiting_away : (stage : SourceStage) → is_waiting stage ≡ true → is_aw
 waiting_away (Waiting i) e = refl
 waiting_away stage e = absurd (cc)
 
+-- a look finds nothing under way that was not
+pub look_stays_home : (stage : SourceStage) (phase : Phase) → is_away stage ≡ false
+    → is_away (source_looks stage phase) ≡ false
+look_stays_home Free phase e = refl
+look_stays_home Refused phase e = refl
+look_stays_home (Ended how) phase e = refl
+look_stays_home stage phase e = absurd (cc)
+
 -- What the tests of what it does by itself tell
 
-none_is : (stopped : Option Outcome) → is_none stopped ≡ true → stopped ≡ None
-none_is None e = refl
-none_is (Some how) e = absurd (cc)
+could_tells : (block : BlockState) → could_stop block ≡ true
+    → (block.stopped ≡ None) × (nothing_comes block.ports ≡ true)
+could_tells block e =
+    let both = both_of (is_none block.stopped) (nothing_comes block.ports) e in
+    (none_is block.stopped both.0, both.1)
 
-could_where : (block : BlockState) → could_stop block ≡ true → block.stopped ≡ None
-could_where block e = none_is block.stopped (both_of (is_none block.stopped) (nothing_comes block.ports) e).0
+pub record MayMake (block : BlockState) : Type 0 where
+  pub going : block.stopped ≡ None
+  pub no_fault : block.fault ≡ None
 
-pub open_where : (p : ℕ) (block : BlockState) → may_complete p block ≡ true
-    → has_ended (port_at p block).refusing ≡ false
-open_where p block e =
+pub may_make_tells : (block : BlockState) → may_make block ≡ true → MayMake block
+may_make_tells block e =
+    let outer = both_of (is_none block.stopped && is_none block.fault) (not (is_empty (held_by block))) e in
+    let inner = both_of (is_none block.stopped) (is_none block.fault) outer.0 in
+    record { going = none_is block.stopped inner.0; no_fault = none_is block.fault inner.1 }
+
+pub record MayComplete (p : ℕ) (block : BlockState) : Type 0 where
+  pub open_port : has_ended (port_at p block).refusing ≡ false
+  pub none_comes : coming (port_at p block) ≡ 0
+  pub completion : has_seen_completion (port_at p block).ends ≡ true
+
+pub may_complete_tells : (p : ℕ) (block : BlockState) → may_complete p block ≡ true → MayComplete p block
+may_complete_tells p block e =
     let open_port = not (has_ended (port_at p block).refusing) in
     let empty = coming (port_at p block) == 0 in
     let outer = both_of (open_port && empty) (has_seen_completion (port_at p block).ends) e in
-    not_false (has_ended (port_at p block).refusing) (both_of open_port empty outer.0).0
+    let inner = both_of open_port empty outer.0 in
+    record {
+      open_port = not-true (has_ended (port_at p block).refusing) inner.0;
+      none_comes = eqb-true (coming (port_at p block)) 0 inner.1;
+      completion = outer.1;
+    }
 
-pub completion_where : (p : ℕ) (block : BlockState) → may_complete p block ≡ true
-    → has_seen_completion (port_at p block).ends ≡ true
-completion_where p block e =
-    (both_of (not (has_ended (port_at p block).refusing) && coming (port_at p block) == 0)
-    (has_seen_completion (port_at p block).ends) e).1
+pub record MayFault (block : BlockState) (number : ℕ) : Type 0 where
+  pub going : block.stopped ≡ None
+  pub none_comes : nothing_comes block.ports ≡ true
+  pub rest : is_at_rest block.exits ≡ true
+  pub cause : fault_cause block ≡ Some number
 
-pub making : (block : BlockState) → may_make block ≡ true → block.stopped ≡ None
-making block e =
-    let outer = both_of (is_none block.stopped && is_none block.fault) (not (is_empty (held_by block))) e in
-    none_is block.stopped (both_of (is_none block.stopped) (is_none block.fault) outer.0).0
-
-pub fault_may : (may : Bool) (cause : Option ℕ) (number : ℕ) → cond may cause None ≡ Some number
+fault_may : (may : Bool) (cause : Option ℕ) (number : ℕ) → cond may cause None ≡ Some number
     → (may ≡ true) × (cause ≡ Some number)
 fault_may true cause number e = (refl, e)
 fault_may false cause number e = absurd (cc)
 
-pub faulting : (block : BlockState) (number : ℕ) → next_fault block ≡ Some number → block.stopped ≡ None
-faulting block number e =
+pub may_fault_tells : (block : BlockState) (number : ℕ) → next_fault block ≡ Some number → MayFault block number
+may_fault_tells block number e =
     let may = fault_may (could_stop block && is_at_rest block.exits) (fault_cause block) number e in
-    could_where block (both_of (could_stop block) (is_at_rest block.exits) may.0).0
+    let both = both_of (could_stop block) (is_at_rest block.exits) may.0 in
+    let could = could_tells block both.0 in
+    record { going = could.0; none_comes = could.1; rest = both.1; cause = may.1 }
 
 pub record MayFinish (block : BlockState) : Type 0 where
-  pub could : could_stop block ≡ true
+  pub going : block.stopped ≡ None
+  pub none_comes : nothing_comes block.ports ≡ true
   pub ended : all_ended block.ports ≡ true
   pub empty : holds_nothing block.ports ≡ true
   pub none_left : is_empty block.exits.left ≡ true
@@ -121,23 +147,12 @@ five true true true true false all = absurd (cc)
 pub may_finish_tells : (block : BlockState) → may_finish block ≡ true → MayFinish block
 may_finish_tells block e =
     let all =
-        five (could_stop block) (all_ended block.ports) (holds_nothing block.ports) (is_empty block.exits.left)
-        (is_at_rest block.exits) e in
-    record { could = all.0; ended = all.1; empty = all.2; none_left = all.3; rest = all.4 }
-
-pub finishing : (block : BlockState) → may_finish block ≡ true → block.stopped ≡ None
-finishing block e = could_where block (may_finish_tells block e).could
+    five (could_stop block) (all_ended block.ports) (holds_nothing block.ports) (is_empty block.exits.left)
+    (is_at_rest block.exits) e in
+    let could = could_tells block all.0 in
+    record { going = could.0; none_comes = could.1; ended = all.1; empty = all.2; none_left = all.3; rest = all.4 }
 
 -- What the law tells
-
-going_where : (stopped : Option Outcome) (rest : Bool) → (is_some stopped ≡ true → rest ≡ true) → rest ≡ false
-    → stopped ≡ None
-going_where None rest h e = refl
-going_where (Some how) rest h e = let clash : true ≡ false = sym (h refl) ∙ e in absurd (cc)
-
-false_where : (a b : Bool) → (b ≡ true → a ≡ false) → a ≡ true → b ≡ false
-false_where a true h e = let clash : true ≡ false = sym e ∙ h refl in absurd (cc)
-false_where a false h e = refl
 
 module _ {W : Type 0} (layout : Layout W) (meaning : ℕ → Value → Result (List Value) ℕ) (b : ℕ) (block : BlockState)
     (journal : List Mark) (law : EndsLaw layout meaning b block journal) where
@@ -149,5 +164,5 @@ module _ {W : Type 0} (layout : Layout W) (meaning : ℕ → Value → Result (L
   -- a link with something under way
   pub away_goes_on : (k : ℕ) → is_away (stage_at block.exits k) ≡ true → block.stopped ≡ None
   away_goes_on k away =
-      going_where block.stopped (is_at_rest block.exits) law.at_rest
-      (false_where (is_away (stage_at block.exits k)) (is_at_rest block.exits) (nothing_away block.exits.ends k) away)
+      none_unless block.stopped (false_where (is_some block.stopped) (λ stopped.
+      never_both (is_away (stage_at block.exits k)) away (nothing_away block.exits.ends k (law.at_rest stopped))))

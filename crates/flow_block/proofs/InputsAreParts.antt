@@ -22,6 +22,7 @@ use Rattle.flow_block.specs.Input.{InputState, has_next, end_by, end_move, move_
 use Rattle.flow_block.specs.InputKeeps.{InputLaw, IsInputOf, InputsAreParts}
 use Rattle.flow_block.specs.NodeLaw.{is_kept}
 use Rattle.flow_block.specs.NodeRests.{rests_out, is_asked}
+use Rattle.flow_block.proofs.EndsTell.{ended_stage, free_back}
 
 -- a first part of a list begins it
 front_taken : (values : List Value) (n : ℕ) → is_front (take n values) values ≡ true
@@ -40,16 +41,6 @@ some_left : (values : List Value) (n : ℕ) → n < length values → is_empty (
 some_left [] n small = absurd (omega arith)
 some_left (value ∷ values) zero small = refl
 some_left (value ∷ values) (suc n) small = some_left values n (omega arith)
-
--- the stages that the model names, as the program keeps them
-ended_by : (stage : SourceStage) (how : LinkEnd) → source_stage_of stage ≡ views.SourceStage.ended how
-    → stage ≡ source.Ended how
-ended_by (source.Ended other) how e = ap (λ (h : LinkEnd). source.Ended h) (cc)
-ended_by _ how e = absurd (cc)
-
-free_by : (stage : SourceStage) → source_stage_of stage ≡ views.SourceStage.free → stage ≡ source.Free
-free_by source.Free e = refl
-free_by _ e = absurd (cc)
 
 -- how an input is to end, where its link ends so
 completes : (how : Ending) → end_by how ≡ Some link_end.Complete → how ≡ ending.Complete
@@ -117,7 +108,7 @@ module _ {W : Type 0} (run : Run W) (ends : ℕ → Ends) (l b : ℕ) (input : I
 
   ended_where : (how : LinkEnd) → (ends l).source.stage ≡ views.SourceStage.ended how
       → (end_by input.ending ≡ Some how) × (input.sent ≡ length input.posted)
-  ended_where how e = law.ended how (ended_by input.stage how (sym stage_is ∙ e))
+  ended_where how e = law.ended how (ended_stage input.stage how (sym stage_is ∙ e))
 
   all_given : input.sent ≡ length input.posted → (ends l).source.given ≡ (input_of run b).posted
   all_given all =
@@ -156,7 +147,7 @@ module _ {W : Type 0} (run : Run W) (ends : ℕ → Ends) (l b : ℕ) (input : I
     ended = λ closed empty. ap is_over stage_is
         ∙ over_at input law input.stage refl rests none (ap is_open (sym ending_is) ∙ closed) (sym left_is ∙ empty);
     offered = λ e.
-        let free : input.stage ≡ source.Free = free_by input.stage (sym stage_is ∙ e) in
+        let free : input.stage ≡ source.Free = free_back input.stage (sym stage_is ∙ e) in
         let has = free_none input (has_next input) refl (ap (move_from input) (sym free) ∙ none) in
         left_is ∙ none_left input.posted input.sent (ltb-false input.sent (length input.posted) has.none);
   }

@@ -5,12 +5,10 @@ use Rattle.flow_value.specs.declared.value.Value.{Value}
 use Rattle.flow_link.specs.declared.phase.LinkEnd.{LinkEnd}
 use Rattle.flow_link.specs.declared.phase.Move.{Move}
 use Rattle.flow_link.specs.declared.phase.Move.TheVariants as move
-use Rattle.flow_link.specs.declared.phase.Phase.{Phase}
-use Rattle.flow_link.specs.declared.phase.Phase.TheVariants.{Idle}
 use Rattle.flow_link.specs.declared.stage.SourceStage.{SourceStage}
-use Rattle.flow_link.specs.declared.stage.SourceStage.TheVariants.{Free, Accepted, Wished, Reserved, Claimed, Crossing}
+use Rattle.flow_link.specs.declared.stage.SourceStage.TheVariants.{Free, Accepted, Wished, Crossing}
 use Rattle.flow_link.specs.Moves.{source_at}
-use Rattle.flow_link.specs.Stage.{source_stage_of, source_looks}
+use Rattle.flow_link.specs.Stage.{source_stage_of}
 use Rattle.flow_link.specs.Views as views
 use Rattle.flow_link.proofs.StagesKept.{source_looks_kept}
 use Rattle.flow_intake.specs.Calls.{first_of}
@@ -18,7 +16,7 @@ use Rattle.flow_outlet.specs.End.{id_of, is_free}
 use Rattle.flow_outlet.proofs.LookTells.{look_tells}
 use Rattle.flow_block.specs.Input.{InputState, InputCall, next_id, has_next, end_by, end_move, move_from, after_input, input_view, input_trace}
 use Rattle.flow_block.specs.InputKeeps.{InputLaw, MayCallInput, MovesInput, MayMoveInput, InputsKeep, is_wanted}
-use Rattle.flow_block.specs.NodeLaw.{is_kept}
+use Rattle.flow_block.proofs.EndsTell.{none_kept_by_looks}
 
 -- the value that comes next is there, and is the last of those that were given once it is
 pub record NextOf (values : List Value) (n : ℕ) : Type 0 where
@@ -43,13 +41,6 @@ wanted_id : (stage : SourceStage) → is_wanted stage ≡ true → (i : ℕ) × 
 wanted_id (Accepted i) wanted = (i, refl)
 wanted_id (Wished i) wanted = (i, refl)
 wanted_id _ wanted = absurd (cc)
-
--- a look finds no message kept that was not
-kept_after : (stage : SourceStage) (phase : Phase) → is_kept stage ≡ false → is_kept (source_looks stage phase) ≡ false
-kept_after (Reserved i) phase none = absurd (cc)
-kept_after (Claimed i) phase none = absurd (cc)
-kept_after _ Idle none = refl
-kept_after _ _ none = refl
 
 -- a value waits to be given where one is wanted
 wanted_next : (input : InputState) → InputLaw input → is_wanted input.stage ≡ true → input.sent < length input.posted
@@ -90,7 +81,7 @@ call_keeps input (InputCall.look phase) law may =
       within = law.within;
       speaks = λ i e. law.speaks i (tells.same_id i e);
       offers = tells.not_posted law.offers;
-      none_kept = kept_after input.stage phase law.none_kept;
+      none_kept = none_kept_by_looks input.stage phase law.none_kept;
       ended = λ how e. law.ended how (tells.ended how e);
     }
 

@@ -5,7 +5,7 @@ use Rattle.flow_link.specs.declared.draft.BlockKind.{BlockKind}
 use Rattle.flow_link.specs.declared.draft.BlockKind.TheVariants.{Buffer, Action, Transform}
 use Rattle.flow_link.specs.Layout.{Layout}
 use Rattle.flow_link.specs.Making.{result_of}
-use Rattle.flow_link.specs.Plan.{block_in, ports_by_kind}
+use Rattle.flow_link.specs.Plan.{block_in}
 use Rattle.flow_intake.specs.Port.{PortState}
 use Rattle.flow_intake.specs.Calls.{first_of, one_more, closes, takes_next, gives_room, port_closes, port_fails}
 use Rattle.flow_outlet.specs.declared.group.Group.{Group}
@@ -15,15 +15,8 @@ use Rattle.flow_block.specs.Node.{NodeState, NodeCall, hand_at, takes_in, gives_
 use Rattle.flow_block.specs.NodeLaw.{ShapeLaw, LoadLaw, weighed}
 use Rattle.flow_block.specs.NodeKeeps.{after_call, LoadKept}
 use Rattle.flow_block.specs.Planned.{is_built, block_makes}
-use Rattle.flow_block.proofs.PortsHold.{weight_of_head}
-use Rattle.flow_block.proofs.ShapeHolds.{one_changed, each_changed}
-
--- the kinds that are built have one port
-built_has_one_port : (kind : BlockKind) (ports : Option ℕ) → is_built kind ≡ true → ports_by_kind kind ports ≡ 1
-built_has_one_port Buffer ports built = refl
-built_has_one_port Action ports built = refl
-built_has_one_port Transform ports built = refl
-built_has_one_port kind ports built = absurd (cc)
+use Rattle.flow_block.proofs.KindsBuilt.{has_one_port}
+use Rattle.flow_block.proofs.PortsChange.{each_after_one, each_after_all}
 
 abbrev is_action : BlockKind → Bool
 is_action Action = true
@@ -97,16 +90,15 @@ one_as_before : (limited : Bool) (left : ℕ) (ports : List PortState) (p : ℕ)
     → port.load ≡ (port_in ports p).load → port.waiting ≡ (port_in ports p).waiting
     → EachCounts limited left ports → EachCounts limited left (set ports p port)
 one_as_before limited left ports p port load waiting counts =
-    one_changed (λ q x. Counts limited left x) (λ q x. Counts limited left x) ports p port counts
-    (λ q there other old. old)
-    (λ below old there. load ∙ old there ∙ ap (λ (vs : List Value). length vs + left) (sym waiting))
+    each_after_one (λ q x. Counts limited left x) ports p port
+    (λ below there. load ∙ counts p below there ∙ ap (λ (vs : List Value). length vs + left) (sym waiting))
+    (λ q there other. counts q there)
 
 each_as_before : (limited : Bool) (left : ℕ) (ports : List PortState) (change : PortState → PortState)
     → ((port : PortState) → Counts limited left port → Counts limited left (change port))
     → EachCounts limited left ports → EachCounts limited left (map change ports)
 each_as_before limited left ports change same counts =
-    each_changed (λ q x. Counts limited left x) (λ q x. Counts limited left x) ports change counts
-    (λ q below old. same (port_in ports q) old)
+    each_after_all (λ q x. Counts limited left x) change ports (λ q below. same (port_in ports q) (counts q below))
 
 -- a port takes a message
 one_taken : (capacity mine : Option ℕ) (load left : ℕ) (waiting : List Value) (value : Value)
@@ -123,9 +115,17 @@ one_goes : (waiting : List Value) (value : Value) → first_of waiting ≡ Some 
 one_goes [] value first = absurd (cc)
 one_goes (message ∷ waiting) value first = omega arith
 
-one_given : (left : List Value) (value : Value) → first_left left ≡ Some value → length left ≡ length (rest_of left) + 1
+pub one_given : (left : List Value) (value : Value) → first_left left ≡ Some value
+    → length left ≡ length (rest_of left) + 1
 one_given [] value head = absurd (cc)
 one_given (first ∷ left) value head = omega arith
+
+-- what is wholly given has its message's weight
+pub weight_of_head : (capacity : Option ℕ) (next : ℕ) (left : List Value) (value : Value) → first_left left ≡ Some value
+    → weight_at next (weighed capacity next left) ≡ unit_weight capacity
+weight_of_head None next left value head = refl
+weight_of_head (Some c) next [] value head = cc
+weight_of_head (Some c) next (first ∷ left) value head = ap (λ (b : Bool). cond b 1 0) (eq-eqb next next refl)
 
 weighs_one : (capacity : Option ℕ) → is_some capacity ≡ true → unit_weight capacity ≡ 1
 weighs_one None there = absurd (cc)
@@ -183,28 +183,26 @@ module _ {W : Type 0} (layout : Layout W) (meaning : ℕ → Value → Result (L
       let port = port_in block.ports 0 in
       let left = length block.exits.left in
       exits_stay block _ refl
-      (one_changed (Loads left) (Loads left) block.ports 0 (gives_room 1 (takes_next port)) law.load
-      (λ q there other old. old)
-      (λ below old there. let all = old there in let goes = one_goes port.waiting value first in omega arith))
+      (each_after_one (Loads left) block.ports 0 (gives_room 1 (takes_next port))
+      (λ below there. let all = law.load 0 below there in let goes = one_goes port.waiting value first in omega arith)
+      (λ q there other. law.load q there))
       law
   results_kept kind values value block first shape law single =
       let port = port_in block.ports 0 in
       let exits = block.exits in
       let one : length values ≡ 1 = single refl in
-      let planned = block_in layout.blocks b in
-      let built : is_built planned.kind ≡ true = ap is_built (sym shape.kind_is) ∙ shape.built in
-      let alone = shape.port_count_is ∙ built_has_one_port planned.kind planned.ports built in
+      let alone = has_one_port layout meaning b block shape in
       let below : 0 < length block.ports = omega arith in
       let capacity : port.capacity ≡ limit = (shape.ports 0 below).capacity in
       record {
         groups = rw (capacity, law.groups) (groups_put limit exits.next exits.left values one);
         no_room = room_put (length values) (unit_weight port.capacity) exits.room one law.no_room;
-        load = one_changed (Loads (length exits.left)) (Loads (length (exits.left ++ values)))
-            block.ports 0 (takes_next port) law.load (λ q there other old. absurd (other (omega arith)))
-            (λ below old there.
-            let all = old there in
+        load = each_after_one (Loads (length (exits.left ++ values))) block.ports 0 (takes_next port)
+            (λ below there.
+            let all = law.load 0 below there in
             let goes = one_goes port.waiting value first in
-            rw (length-append exits.left values) (omega arith));
+            rw (length-append exits.left values) (omega arith))
+            (λ q there other. absurd (other (omega arith)));
       }
 
   yield_keeps : (result : Result (List Value) ℕ) (value : Value) (block : BlockState)
@@ -236,10 +234,11 @@ module _ {W : Type 0} (layout : Layout W) (meaning : ℕ → Value → Result (L
       let port = port_in ports p in
       let left = length node.block.exits.left in
       exits_stay node.block _ refl
-      (one_changed (Loads left) (Loads left) ports p (closes k value port) law.load (λ q there other old. old)
-      (λ below old there.
+      (each_after_one (Loads left) ports p (closes k value port)
+      (λ below there.
       one_taken limit port.capacity port.load left port.waiting value (shape.ports p below).capacity there
-      (old there)))
+      (law.load p below there))
+      (λ q there other. law.load q there))
       law
 
   give_keeps : (k : ℕ) (head : Option Value) (node : NodeState) → head_of node.block.exits ≡ head
@@ -251,10 +250,9 @@ module _ {W : Type 0} (layout : Layout W) (meaning : ℕ → Value → Result (L
       record {
         groups = rw law.groups (groups_given limit exits.next exits.left);
         no_room = refl;
-        load = each_changed (Loads (length exits.left)) (Loads (length (rest_of exits.left)))
-            node.block.ports (gives_room (gives k exits).room) law.load
-            (λ q below old there.
-            let all = old there in
+        load = each_after_all (Loads (length (rest_of exits.left))) (gives_room (gives k exits).room) node.block.ports
+            (λ q below there.
+            let all = law.load q below there in
             let weight : weight_at exits.next exits.groups ≡ 1 =
             rw law.groups (weight_of_head limit exits.next exits.left value head ∙ weighs_one limit there) in
             let none = law.no_room in

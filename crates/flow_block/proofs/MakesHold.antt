@@ -1,6 +1,5 @@
 -- Each call keeps what a block makes of what it took.
-use Rattle.std.proofs.Common.{◌≡◌, ℕ, ◌<◌, true, not, ◌&&◌, List, [], ◌∷◌, ◌++◌, length, drop, Option, Some, None}
-use Rattle.std.proofs.Common.{is_none, Result, Ok, Err, refl, ap, sym, ◌∙◌, subst, append-nil, append_assoc, arith}
+use Rattle.std.proofs.Common.{◌≡◌, ℕ, ◌<◌, true, List, [], ◌∷◌, ◌++◌, length, drop, Option, Some, None, Result, Ok, Err, refl, ap, sym, ◌∙◌, subst, append-nil, append_assoc, arith}
 use Rattle.std.proofs.lemmas.List.{get_or-set_same}
 use Rattle.flow_value.specs.declared.value.Value.{Value}
 use Rattle.flow_link.specs.declared.draft.BlockKind.{BlockKind}
@@ -11,25 +10,22 @@ use Rattle.flow_link.specs.declared.trace.Outcome.{Outcome}
 use Rattle.flow_link.specs.declared.trace.Outcome.TheVariants as outcome
 use Rattle.flow_link.specs.JournalGrows.{taken_by_mark, given_by_mark}
 use Rattle.flow_link.specs.Layout.{Layout}
-use Rattle.flow_link.specs.Plan.{block_in, ports_by_kind, has_work}
+use Rattle.flow_link.specs.Plan.{has_work}
 use Rattle.flow_link.specs.Trace.{took, gave}
 use Rattle.flow_link.specs.Worked.{WorkedInto}
-use Rattle.flow_link.proofs.ListTests.{both_of}
-use Rattle.flow_link.proofs.OneMoreMark.{took_no_more, gave_no_more, took_by_took, gave_by_took, took_by_gave}
-use Rattle.flow_link.proofs.OneMoreMark.{gave_by_gave}
+use Rattle.flow_link.proofs.OneMoreMark.{took_no_more, gave_no_more, took_by_took, gave_by_took, took_by_gave, gave_by_gave}
 use Rattle.flow_link.proofs.OneMoreWorked.{worked_more}
 use Rattle.flow_intake.specs.Port.{PortState, fresh_port, hand_in}
-use Rattle.flow_intake.specs.Calls.{first_of, wants, turns_down, postpones, refuses, consumes, opens, closes}
-use Rattle.flow_intake.specs.Calls.{looks as port_looks, takes_next, gives_room, port_closes, port_fails}
-use Rattle.flow_outlet.specs.Outlet.{OutletState, is_empty, first_of as first_left, rest_of, head_of, gives, prepares}
-use Rattle.flow_outlet.specs.Outlet.{offers, denies, withdraws, ends_link, looks as exit_looks}
-use Rattle.flow_block.specs.Block.{BlockState, port_at, with_port, held_by, made_of, put_by_kind, yields}
-use Rattle.flow_block.specs.Block.{keeps_results, makes_of, stops_by}
+use Rattle.flow_intake.specs.Calls.{first_of, wants, turns_down, postpones, refuses, consumes, opens, closes, looks as port_looks, takes_next, gives_room, port_closes, port_fails}
+use Rattle.flow_outlet.specs.Outlet.{OutletState, first_of as first_left, rest_of, head_of, gives, prepares, offers, denies, withdraws, ends_link, looks as exit_looks}
+use Rattle.flow_block.specs.Block.{BlockState, port_at, with_port, held_by, made_of, put_by_kind, yields, keeps_results, makes_of, stops_by}
 use Rattle.flow_block.specs.Node.{NodeState, NodeCall, takes_in, gives_from, in_link_at, out_link_at}
 use Rattle.flow_block.specs.NodeKeeps.{MakesKept, MayCall, after_call}
-use Rattle.flow_block.specs.NodeLaw.{NodeLaw, MakesLaw, MakesAs, FaultsOn, ShapeLaw}
+use Rattle.flow_block.specs.NodeLaw.{NodeLaw, MakesLaw, MakesAs, FaultsOn}
 use Rattle.flow_block.specs.Planned.{is_built, block_makes}
-use Rattle.flow_block.proofs.PortsTold.{kept_at_one, kept_at_all}
+use Rattle.flow_block.proofs.GoingOn.{may_make_tells}
+use Rattle.flow_block.proofs.KindsBuilt.{has_one_port}
+use Rattle.flow_block.proofs.PortsChange.{kept_at_one, kept_at_all}
 
 -- What is taken, given and made
 
@@ -116,25 +112,7 @@ fails_so result Action value number built made = record { works = refl; fails = 
 fails_so result Transform value number built made = record { works = refl; fails = made }
 fails_so result kind value number built made = absurd (cc)
 
--- The kinds that are built have one port
-
-one_port : (kind : BlockKind) (ports : Option ℕ) → is_built kind ≡ true → ports_by_kind kind ports ≡ 1
-one_port Buffer ports built = refl
-one_port Action ports built = refl
-one_port Transform ports built = refl
-one_port kind ports built = absurd (cc)
-
-no_fault : (fault : Option ℕ) → is_none fault ≡ true → fault ≡ None
-no_fault None e = refl
-no_fault (Some number) e = absurd (cc)
-
 module _ {W : Type 0} (layout : Layout W) (meaning : ℕ → Value → Result (List Value) ℕ) (b : ℕ) where
-  has_one_port : (block : BlockState) → ShapeLaw layout meaning b block → length block.ports ≡ 1
-  has_one_port block shape =
-      shape.port_count_is
-      ∙ one_port (block_in layout.blocks b).kind (block_in layout.blocks b).ports
-      (ap is_built (sym shape.kind_is) ∙ shape.built)
-
   -- what the law reads is as it was
   stays : (block after : BlockState) (journal later : List Mark) → MakesLaw layout meaning b block journal
       → after.kind ≡ block.kind → held_by after ≡ held_by block → after.exits.left ≡ block.exits.left
@@ -161,12 +139,12 @@ module _ {W : Type 0} (layout : Layout W) (meaning : ℕ → Value → Result (L
       → MakesLaw layout meaning b (takes_in p k value node).block (takes_in p k value node).journal
   taken_in node law p k None below = law.makes
   taken_in node law p k (Some value) below =
-      let one = has_one_port node.block law.shape in
+      let one = has_one_port layout meaning b node.block law.shape in
       let first : p ≡ 0 = omega arith in
       let change = closes k value in
       let held : held_by (with_port p change node.block) ≡ held_by node.block ++ value ∷ [] =
-          rw first (ap (λ (port : PortState). port.waiting)
-          (get_or-set_same node.block.ports 0 (change (port_at 0 node.block)) (fresh_port None) (omega arith))) in
+      rw first (ap (λ (port : PortState). port.waiting)
+      (get_or-set_same node.block.ports 0 (change (port_at 0 node.block)) (fresh_port None) (omega arith))) in
       let taken = took_by_took node.journal p (in_link_at p k node) value in
       let given = gave_by_took node.journal p (in_link_at p k node) value in
       record {
@@ -184,8 +162,8 @@ module _ {W : Type 0} (layout : Layout W) (meaning : ℕ → Value → Result (L
   given_out node law k None first = law
   given_out node law k (Some value) first =
       let held =
-          kept_at_all (λ port. port.waiting) (gives_room (gives k node.block.exits).room) node.block.ports 0
-          (λ port. refl) in
+      kept_at_all (λ port. port.waiting) (gives_room (gives k node.block.exits).room) node.block.ports 0
+      (λ port. refl) in
       let taken = took_by_gave node.journal (out_link_at k node) value in
       let given = gave_by_gave node.journal (out_link_at k node) value in
       record {
@@ -219,7 +197,7 @@ module _ {W : Type 0} (layout : Layout W) (meaning : ℕ → Value → Result (L
       → held_by (with_port 0 change block) ≡ rest
   held_next block change value rest one first changes =
       ap (λ (port : PortState). port.waiting)
-          (get_or-set_same block.ports 0 (change (port_at 0 block)) (fresh_port None) (omega arith))
+      (get_or-set_same block.ports 0 (change (port_at 0 block)) (fresh_port None) (omega arith))
       ∙ changes (port_at 0 block) ∙ ap (λ (vs : List Value). drop 1 vs) first
 
   made_more : (kind : BlockKind) (block : BlockState) (journal : List Mark) (value : Value) (rest values : List Value)
@@ -227,7 +205,7 @@ module _ {W : Type 0} (layout : Layout W) (meaning : ℕ → Value → Result (L
       → held_by block ≡ value ∷ rest → made_of kind (block_makes layout meaning b) value ≡ Ok values
       → MakesLaw layout meaning b block journal
       → MakesAs (block_makes layout meaning b) kind (took journal) rest (gave journal)
-        (block.exits.left ++ put_by_kind kind values) (block.recorded ++ recorded_by_kind kind values)
+      (block.exits.left ++ put_by_kind kind values) (block.recorded ++ recorded_by_kind kind values)
   made_more kind block journal value rest values same first made law =
       let left = block.exits.left in
       let result = block_makes layout meaning b in
@@ -305,9 +283,9 @@ module _ {W : Type 0} (layout : Layout W) (meaning : ℕ → Value → Result (L
   after_each node (NodeCall.look_in p k phase) law may = port_stays node law.makes p (port_looks k phase) refl
   after_each node NodeCall.make law may =
       let block = node.block in
-      let tests = both_of (is_none block.stopped && is_none block.fault) (not (is_empty (held_by block))) may.waits in
-      let none = no_fault block.fault (both_of (is_none block.stopped) (is_none block.fault) tests.0).1 in
-      made_next block node.journal (held_by block) refl (has_one_port block law.shape) none law.shape.built law.makes
+      let none = (may_make_tells block may.waits).no_fault in
+      let one = has_one_port layout meaning b block law.shape in
+      made_next block node.journal (held_by block) refl one none law.shape.built law.makes
   after_each node (NodeCall.complete p) law may =
       stays node.block (with_port p port_closes node.block) node.journal (node.journal ++ Complete p ∷ []) law.makes
       refl (kept_at_one (λ port. port.waiting) node.block.ports p 0 (port_closes (port_at p node.block)) refl)

@@ -1,7 +1,7 @@
 -- A node in order keeps what each block of a lawful run keeps.
-use Rattle.std.proofs.Common.{◌≡◌, ℕ, ◌+◌, ◌==◌, ◌<◌, ltb, Bool, true, false, not, ◌&&◌, ◌||◌, is_some, List, [], ◌∷◌, ◌++◌, length, get_or, Option, Some, None, refl, ap, sym, subst, ◌∙◌, arith, ⊎_elim, eq-eqb, eqb-true, ltb-true, le-leb}
+use Rattle.std.proofs.Common.{◌≡◌, ℕ, ◌+◌, ◌==◌, ◌<◌, ltb, Bool, true, false, not, ◌&&◌, ◌||◌, is_some, List, [], ◌∷◌, ◌++◌, length, Option, Some, None, refl, ap, sym, subst, ◌∙◌, arith, ⊎_elim, eq-eqb, eqb-true, ltb-true, le-leb}
 use Rattle.std.proofs.lemmas.Bool.{OnTrue_at}
-use Rattle.std.proofs.Math.ListN.{get_or-map}
+use Rattle.std.proofs.Math.Bool.{or_comm}
 use Rattle.flow_value.specs.When.{admits}
 use Rattle.flow_value.specs.declared.value.Value.{Value}
 use Rattle.flow_link.specs.declared.draft.BlockKind.{BlockKind}
@@ -16,69 +16,48 @@ use Rattle.flow_link.specs.declared.trace.Mark.{Mark}
 use Rattle.flow_link.specs.declared.trace.Mark.TheVariants.{Took, Gave, Complete, Fault, Done}
 use Rattle.flow_link.specs.Composes.{Ends, SourceKeeps, TargetKeeps, SpeaksForOne, WorksInto, NodeMakes, NodeKeeps, RefusesFor, as_seen, is_refused_stage, is_coming, is_spoken_for, has_seen_completion, has_seen_fault, has_seen_cause, has_room_at, coming}
 use Rattle.flow_link.specs.Copies.{copies_as}
-use Rattle.flow_link.specs.Endings.{first_fault, fault_by_kind, fault_of, own_fault, is_number, is_complete, is_complete_as, has_nothing, stops, completes_once}
+use Rattle.flow_link.specs.Endings.{own_fault, is_number, is_complete, has_nothing, stops, completes_once}
 use Rattle.flow_link.specs.Law.{is_own_mark, has_own_marks, has_room_for, takes_level, is_passed, gives_in_order, keeps_link_order}
 use Rattle.flow_link.specs.LinkOk.{IsWithin}
 use Rattle.flow_link.specs.Lists.{every, some, below, is_empty}
-use Rattle.flow_link.specs.Making.{outputs, load, load_as}
-use Rattle.flow_link.specs.Plan.{has_work, begins_at, ends_at, ends_at_port, is_one_taker, is_reserving, reserves_by_kind, is_steady, port_count}
+use Rattle.flow_link.specs.Making.{outputs, load}
+use Rattle.flow_link.specs.Plan.{begins_at, ends_at, ends_at_port, is_one_taker, is_reserving, reserves_by_kind, is_steady, port_count}
 use Rattle.flow_link.specs.Stage.{source_stage_of, target_stage_of, refusal_of}
 use Rattle.flow_link.specs.Trace.{BlockTrace, Run, took, gave, gave_over, took_over, has_complete, has_fault, has_ended, is_done, is_faulted, is_used_up, is_cut, block_of, link_of, link_numbers, trace_of, marks_of, held_at, left_at, ports_of, given_by}
 use Rattle.flow_link.specs.Views as views
 use Rattle.flow_link.specs.Worked.{WorkedInto}
+use Rattle.flow_link.proofs.RoundsOfWalks.{some_here_below}
 use Rattle.flow_link.proofs.ListTests.{and_true, both_of, or_first, or_second, or_not, every_below, every_weaker_below, length_numbers}
 use Rattle.flow_intake.specs.Port.{EndState, PortState, end_in, fresh_end, fresh_port, coming as coming_at, is_coming as is_coming_at}
 use Rattle.flow_intake.specs.PortLaw.{has_ended as has_port_ended}
+use Rattle.flow_intake.specs.Ended.{is_completion}
 use Rattle.flow_outlet.specs.declared.ends.LinkRule.{LinkRule}
 use Rattle.flow_outlet.specs.declared.ends.OutEnd.{OutEnd}
 use Rattle.flow_outlet.specs.End.{no_end, is_cut as is_end_cut}
 use Rattle.flow_outlet.specs.Law.{is_refused}
-use Rattle.flow_outlet.specs.Outlet.{end_at, end_of, is_empty as has_none}
+use Rattle.flow_outlet.specs.Outlet.{end_at, end_of}
 use Rattle.flow_block.specs.Block.{port_at, held_by}
 use Rattle.flow_block.specs.Node.{NodeState, in_view}
 use Rattle.flow_block.specs.NodeLaw.{NodeLaw, MakesAs, RefusesFor as RefusesBy, refuses_over, run_seen_by, is_fault_seen}
 use Rattle.flow_block.specs.NodeSeen.{IsNodeOf, NodesAreLawful}
-use Rattle.flow_block.specs.Peeks.{is_completion, holds_nothing}
 use Rattle.flow_block.specs.Planned.{is_built, out_place, in_place, block_makes}
-use Rattle.flow_block.proofs.EndingsTell.{every_mark, complete_own, done_outcome, outcome_done, outcome_fault, outcome_told, ended_complete, ended_fault, ended_plain, cut_told, ended_stage, refused_told, spoken_is_out, refusal_told, coming_told, completion_told, fault_told}
-use Rattle.flow_block.proofs.LinksOfNode.{IsEndIn, HasEndOut, end_in_is, end_in_of, end_out_is, end_out_of, count_of_links, there_at_port, there_at_block, source_there}
-use Rattle.flow_block.proofs.PlacesOfNumbers.{some_below, some_at, every_at}
-
--- what holds of each kind that is built
-by_kind : (P : BlockKind → Type 0) → P Buffer → P Action → P Transform → (kind : BlockKind) → is_built kind ≡ true
-    → P kind
-by_kind P buffer action transform Buffer e = buffer
-by_kind P buffer action transform Action e = action
-by_kind P buffer action transform Transform e = transform
-by_kind P buffer action transform _ e = absurd (cc)
+use Rattle.flow_block.proofs.EndsTell.{ended_complete, ended_fault, ended_plain, used_up_told, ended_stage, refused_told, spoken_is_out, refusal_told, coming_told, completion_told, fault_told}
+use Rattle.flow_block.proofs.JournalTells.{stopped_tells, every_mark, complete_own, done_outcome, done_marked, fault_marked, passed_by}
+use Rattle.flow_block.proofs.KindsBuilt.{by_kind, planned_built}
+use Rattle.flow_block.proofs.NodesSeen.{held_is, none_held, own_fault_is, complete_is, load_is}
+use Rattle.flow_block.proofs.PlacesOfLinks.{IsEndIn, HasEndOut, end_in_is, end_in_of, end_out_is, end_out_of, count_of_links, there_at_port, there_at_block, source_there}
+use Rattle.flow_block.proofs.TestsTell.{some_tells, or_others}
 
 -- one of three
 or_one : (a b c : Bool) → a ≡ true → a || b || c ≡ true
 or_one true b c e = refl
 or_one false b c e = absurd (cc)
 
-or_others : (a b c : Bool) → b || c ≡ true → a || b || c ≡ true
-or_others true b c e = refl
-or_others false b c e = e
-
 -- what counts only where there is a capacity fits
 fits : {W : Type 0} (run : Run W) (capacity : Option ℕ) (count kept : ℕ) → (is_some capacity ≡ true → kept ≡ count)
     → IsWithin capacity kept → has_room_for run capacity count ≡ true
 fits run None count kept same within = refl
 fits run (Some capacity) count kept same within = le-leb count capacity (omega (arith, same refl, within))
-
-empty_where : (values : List Value) → has_none values ≡ true → is_empty values ≡ true
-empty_where [] e = refl
-empty_where (value ∷ values) e = absurd (cc)
-
--- an earlier link that was passed over, where its refusal is seen
-passed_by : (begins rejects late used told seen : Bool) → (begins ≡ true → told ≡ true → seen ≡ true)
-    → (not begins || rejects || late || used || told) ≡ true → (not begins || rejects || late || used || seen) ≡ true
-passed_by false rejects late used told seen h e = refl
-passed_by true true late used told seen h e = refl
-passed_by true false true used told seen h e = refl
-passed_by true false false true told seen h e = refl
-passed_by true false false false told seen h e = h refl e
 
 module _ {W : Type 0} (run : Run W) (ends : ℕ → Ends) (b : ℕ) (node : NodeState)
     (law : NodeLaw run.layout run.meaning b node) (is : IsNodeOf run ends b node)
@@ -122,18 +101,13 @@ module _ {W : Type 0} (run : Run W) (ends : ℕ → Ends) (b : ℕ) (node : Node
   from_has l small begins = end_out_of run.layout run.meaning b node.block law.shape l small begins
 
   plain : is_built (block_of run b).kind ≡ true
-  plain = ap is_built (sym law.shape.kind_is) ∙ law.shape.built
+  plain = planned_built run.layout run.meaning b node.block law.shape
 
   marks_are : marks_of run b ≡ node.journal
   marks_are = ap (λ (t : BlockTrace). t.journal) is.trace
 
   left_is : left_at run b ≡ node.block.exits.left
   left_is = ap (λ (t : BlockTrace). t.left) is.trace
-
-  held_is : (p : ℕ) → held_at run b p ≡ (port_at p node.block).waiting
-  held_is p =
-      ap (λ (t : BlockTrace). get_or t.held p []) is.trace
-      ∙ get_or-map (λ (port : PortState). port.waiting) node.block.ports p (fresh_port None)
 
   -- what is shown of the journal holds of the marks
   of_marks : (P : List Mark → Type 0) → P node.journal → P (marks_of run b)
@@ -152,7 +126,8 @@ module _ {W : Type 0} (run : Run W) (ends : ℕ → Ends) (b : ℕ) (node : Node
   works_so made of_trace same into = record {
     done = into.done;
     results = into.results;
-    taken = ap took marks_are ∙ into.taken_is ∙ ap (λ (held : List Value). into.done ++ held) (sym (held_is 0));
+    taken = ap took marks_are ∙ into.taken_is
+        ∙ ap (λ (held : List Value). into.done ++ held) (sym (held_is run ends b node law is 0));
     worked = into.worked;
     all = sym same ∙ into.all;
   }
@@ -163,7 +138,7 @@ module _ {W : Type 0} (run : Run W) (ends : ℕ → Ends) (b : ℕ) (node : Node
   makes_by : (kind : BlockKind) → is_built kind ≡ true → MakesAsKind kind → NodeMakes run ends b kind
   makes_by Buffer built makes =
       ap took marks_are ∙ makes ∙ ap (λ (made : List Value). made ++ held_by node.block) outputs_are
-      ∙ ap (λ (held : List Value). outputs run b ++ held) (sym (held_is 0))
+      ∙ ap (λ (held : List Value). outputs run b ++ held) (sym (held_is run ends b node law is 0))
   makes_by Action built makes = record {
     works = works_so node.block.recorded (trace_of run b).recorded
         (sym (ap (λ (t : BlockTrace). t.recorded) is.trace)) makes.0;
@@ -192,16 +167,15 @@ module _ {W : Type 0} (run : Run W) (ends : ℕ → Ends) (b : ℕ) (node : Node
       (λ l. is_coming (ends l).target.stage) there
       (λ k small. ap is_coming (seen_stage p k there small) ∙ coming_told (end_into p k).stage (end_into p k).hand)
 
-  load_is : (p : ℕ) → load run b p ≡ length (held_at run b p) + length (left_at run b)
-  load_is p =
-      by_kind (λ kind. load_as run b kind p ≡ length (held_at run b p) + length (left_at run b)) refl refl refl
-      (block_of run b).kind plain
-
   place_taken : (p : ℕ) → p < length node.block.ports → is_some (block_of run b).capacity ≡ true
       → (port_at p node.block).load + coming_at (port_at p node.block) ≡ load run b p + coming run ends b p
   place_taken p there bounded =
-      omega (arith, law.load.load p there bounded, load_is p, ap length (held_is p), ap length left_is,
-      coming_is p there)
+      omega (
+        arith,
+        law.load.load p there bounded,
+        load_is run ends b node law is p,
+        coming_is p there,
+      )
 
   room_so : every (has_room_at run ends b) (ports_of run b) ≡ true
   room_so =
@@ -223,46 +197,28 @@ module _ {W : Type 0} (run : Run W) (ends : ℕ → Ends) (b : ℕ) (node : Node
   copies_so = by_kind (λ kind. copies_as (as_seen run ends) b kind ≡ true) refl refl refl (block_of run b).kind plain
 
   -- how it ends
-  complete_is : is_complete run b ≡ every (λ p. has_complete p (marks_of run b)) (ports_of run b)
-  complete_is =
-      by_kind (λ kind. is_complete_as run kind b ≡ every (λ p. has_complete p (marks_of run b)) (ports_of run b))
-      refl refl refl (block_of run b).kind plain
-
-  none_held : holds_nothing node.block.ports ≡ true → every (λ p. is_empty (held_at run b p)) (ports_of run b) ≡ true
-  none_held e =
-      every_below (λ p. is_empty (held_at run b p)) (port_count (block_of run b))
-      (λ p small. ap is_empty (held_is p) ∙ empty_where (port_at p node.block).waiting
-      (every_at (λ (port : PortState). has_none port.waiting) node.block.ports (fresh_port None) p e
-      (port_there p small)))
-
   done_so : is_done (marks_of run b) ≡ true → (is_complete run b && has_nothing run b) ≡ true
   done_so e =
       let ended : is_done node.journal ≡ true = ap is_done (sym marks_are) ∙ e in
       let nothing = law.ends.done_empty (law.ends.stopped_is ∙ done_outcome node.journal law.marks.last ended) in
       and_true (is_complete run b) (has_nothing run b)
-      (complete_is
+      (complete_is run ends b node law is
       ∙ of_marks (λ marks. every (λ p. has_complete p marks) (ports_of run b) ≡ true)
       (subst (λ (n : ℕ). every (λ p. has_complete p node.journal) (below n) ≡ true) law.shape.port_count_is
       (law.ends.done_complete ended)))
       (and_true (every (λ p. is_empty (held_at run b p)) (ports_of run b)) (is_empty (left_at run b))
-      (none_held nothing.0) (ap is_empty (left_is ∙ nothing.1)))
-
-  own_fault_is : (number : ℕ) → node.block.fault ≡ Some number → own_fault run b ≡ Some number
-  own_fault_is number e =
-      let has = law.makes.fault_is number e in
-      ap (fault_by_kind run b) (ap has_work (sym law.shape.kind_is) ∙ has.works)
-      ∙ ap (first_fault run b) (held_is 0 ∙ has.held_is) ∙ ap fault_of has.fails
+      (none_held run ends b node law is nothing.0) (ap is_empty (left_is ∙ nothing.1)))
 
   completion_seen : (p : ℕ) → has_complete p node.journal ≡ true → has_seen_cause run ends b (Complete p) ≡ true
   completion_seen p e =
       let own = ltb-true p (length (ports_of run b)) (complete_own run b p node.journal law.marks.own e) in
       let there = port_there p (omega (arith, own, length_numbers 0 (port_count (block_of run b)))) in
-      let at = some_at (λ (end : EndState). is_completion end.stage) (ends_of p) (fresh_end 0)
+      let at = some_tells (λ (end : EndState). is_completion end.stage) (ends_of p) (fresh_end 0)
       (law.ends.complete_cause p there e) in
       let end = end_into p at.place in
       let link = into_is p at.place there at.there in
       or_first (some (completes_over p) (link_numbers run)) _
-      (some_below (completes_over p) (length run.layout.links) end.link link.there
+      (some_here_below (completes_over p) (length run.layout.links) end.link link.there
       (and_true (ends_at_port b p (link_of run end.link).target) (has_seen_completion (ends end.link).target.stage)
       (there_at_port b p (link_of run end.link).target link.leads)
       (ap has_seen_completion (seen_stage p at.place there at.there) ∙ completion_told end.stage end.hand at.passes)))
@@ -273,12 +229,12 @@ module _ {W : Type 0} (run : Run W) (ends : ℕ → Ends) (b : ℕ) (node : Node
       → some (faults_over number) (link_numbers run) ≡ true
   fault_came number e =
       let seen : EndState → Bool = λ end. is_fault_seen number end in
-      let port = some_at (λ (port : PortState). some seen port.ends) node.block.ports (fresh_port None) e in
+      let port = some_tells (λ (port : PortState). some seen port.ends) node.block.ports (fresh_port None) e in
       let p = port.place in
-      let at = some_at seen (ends_of p) (fresh_end 0) port.passes in
+      let at = some_tells seen (ends_of p) (fresh_end 0) port.passes in
       let end = end_into p at.place in
       let link = into_is p at.place port.there at.there in
-      some_below (faults_over number) (length run.layout.links) end.link link.there
+      some_here_below (faults_over number) (length run.layout.links) end.link link.there
       (and_true (ends_at b (link_of run end.link).target) (has_seen_fault number (ends end.link).target.stage)
       (there_at_block b p (link_of run end.link).target link.leads)
       (ap (has_seen_fault number) (seen_stage p at.place port.there at.there)
@@ -289,7 +245,7 @@ module _ {W : Type 0} (run : Run W) (ends : ℕ → Ends) (b : ℕ) (node : Node
       let over = some (faults_over number) (link_numbers run) in
       ⊎_elim
       (λ own. or_first (is_number number (own_fault run b)) over
-      (ap (is_number number) (own_fault_is number own) ∙ eq-eqb number number refl))
+      (ap (is_number number) (own_fault_is run ends b node law is number own) ∙ eq-eqb number number refl))
       (λ came. or_second (is_number number (own_fault run b)) over (fault_came number came))
       (law.ends.fault_cause number e)
 
@@ -306,7 +262,7 @@ module _ {W : Type 0} (run : Run W) (ends : ℕ → Ends) (b : ℕ) (node : Node
   refused_seen : (l : ℕ) → l < length run.layout.links → (link_of run l).source ≡ Block b
       → refuses_over node.block.exits.ends l ≡ true → is_refused_stage (ends l).source.stage ≡ true
   refused_seen l small begins e =
-      let at = some_at (λ (end : OutEnd). end.rule.id == l && is_refused end.stage) node.block.exits.ends no_end e in
+      let at = some_tells (λ (end : OutEnd). end.rule.id == l && is_refused end.stage) node.block.exits.ends no_end e in
       let end = end_at node.block.exits at.place in
       let both = both_of (end.rule.id == l) (is_refused end.stage) at.passes in
       let stands = end_out_is run.layout run.meaning b node.block law.shape at.place at.there in
@@ -389,10 +345,10 @@ module _ {W : Type 0} (run : Run W) (ends : ℕ → Ends) (b : ℕ) (node : Node
             (subst (λ (rule : LinkRule). every (admits rule.when) (gave_over rule.id node.journal) ≡ true) has.rule_is
             mine.admitted);
         after_done = λ e. of_marks (λ marks. is_done marks ≡ true)
-            (outcome_done node.journal
+            (done_marked node.journal
             (told ∙ ended_complete (is_end_cut end) end.rule.passes node.block.stopped (stopped link_end.Complete e)));
         after_fault = λ number e. of_marks (λ marks. has_fault number marks ≡ true)
-            (outcome_fault node.journal number
+            (fault_marked node.journal number
             (told ∙ ended_fault (is_end_cut end) end.rule.passes node.block.stopped number
             (stopped (link_end.Fault number) e)));
         after_plain = λ e. ⊎_elim
@@ -400,10 +356,11 @@ module _ {W : Type 0} (run : Run W) (ends : ℕ → Ends) (b : ℕ) (node : Node
             (ap (λ (values : List Value). is_used_up (link_of run l).max values) (ap (given_by run l) begins)
             ∙ of_marks (λ marks. is_used_up (link_of run l).max (gave_over l marks) ≡ true)
             (subst (λ (rule : LinkRule). is_used_up rule.max (gave_over rule.id node.journal) ≡ true) has.rule_is
-            (cut_told end.rule.max end.given (gave_over end.rule.id node.journal) mine.counted cut))))
+            (used_up_told end.rule.max end.given (gave_over end.rule.id node.journal) mine.counted cut))))
             (λ ended. or_others (is_cut run l) (is_done (marks_of run b)) (is_faulted (marks_of run b))
             (of_marks (λ marks. is_done marks || is_faulted marks ≡ true)
-            (outcome_told node.journal (ap is_some told ∙ ended))))
+            (or_comm (is_done node.journal) (is_faulted node.journal)
+            ∙ sym (stopped_tells node.journal) ∙ ap is_some told ∙ ended)))
             (ended_plain (is_end_cut end) end.rule.passes node.block.stopped (stopped link_end.Plain e));
       }
 
@@ -411,7 +368,7 @@ module _ {W : Type 0} (run : Run W) (ends : ℕ → Ends) (b : ℕ) (node : Node
   has_own_fault : (fault : Option ℕ) → node.block.fault ≡ fault → is_some fault ≡ true
       → is_some (own_fault run b) ≡ true
   has_own_fault None same e = absurd (cc)
-  has_own_fault (Some number) same e = ap is_some (own_fault_is number same)
+  has_own_fault (Some number) same e = ap is_some (own_fault_is run ends b node law is number same)
 
   refuses_so : (p : ℕ) → p < length node.block.ports → (why : Refusal)
       → RefusesBy (port_at p node.block).refusing node.block.fault why → RefusesFor run ends b p (refusal_of why)
@@ -438,7 +395,7 @@ module _ {W : Type 0} (run : Run W) (ends : ℕ → Ends) (b : ℕ) (node : Node
             (refuses_so p there told.reason (law.ends.refused p place there has.there told.reason told.stage_is));
       }
 
-  pub node_keeps : NodeKeeps run ends b
+  node_keeps : NodeKeeps run ends b
   node_keeps = record {
     own_marks = own_marks_so;
     makes = makes_so;

@@ -1,9 +1,8 @@
 -- A node that has nothing to do is still.
-use Rattle.std.proofs.Common.{◌≡◌, ℕ, ◌<◌, Bool, true, false, cond, ◌&&◌, length, get_or, is_some, Option, Some, None, refl, ap, sym, ◌∙◌}
+use Rattle.std.proofs.Common.{◌≡◌, ℕ, ◌<◌, Bool, true, false, cond, ◌&&◌, length, is_some, Option, Some, None, refl, ap, sym, ◌∙◌}
 use Rattle.flow_value.specs.declared.value.Value.{Value}
 use Rattle.flow_value.specs.declared.message.MessageStatus.TheVariants.{Postponed as put_off, Declined}
-use Rattle.flow_link.specs.declared.plan.LinkSource.{LinkSource}
-use Rattle.flow_link.specs.declared.plan.LinkSource.TheVariants.{Block, Input}
+use Rattle.flow_link.specs.declared.plan.LinkSource.TheVariants.{Block}
 use Rattle.flow_link.specs.declared.plan.LinkTarget.TheVariants.{Port}
 use Rattle.flow_link.specs.declared.stage.Refusal.{Refusal}
 use Rattle.flow_link.specs.declared.stage.SourceStage.{SourceStage}
@@ -19,19 +18,20 @@ use Rattle.flow_link.specs.Trace.{Run, link_of}
 use Rattle.flow_link.specs.Views.{SourceView, TargetView}
 use Rattle.flow_link.proofs.LinksAtRest.{never_both}
 use Rattle.flow_link.proofs.ListTests.{and_true}
+use Rattle.flow_link.proofs.RoundsOfWalks.{some_here_below}
 use Rattle.flow_intake.specs.Port.{PortState, hand_in, stage_at as port_stage}
 use Rattle.flow_intake.specs.Calls.{answer_where, move_of, move_at as move_in}
 use Rattle.flow_outlet.specs.End.{is_out as is_offer_out}
-use Rattle.flow_outlet.specs.Outlet.{OutletState, stage_at, move_at}
-use Rattle.flow_outlet.proofs.StagesTell.{same_number}
+use Rattle.flow_outlet.specs.Outlet.{OutletState, end_at, stage_at, move_at}
 use Rattle.flow_block.specs.Block.{port_at}
 use Rattle.flow_block.specs.Node.{NodeState}
 use Rattle.flow_block.specs.NodeLaw.{NodeLaw, is_kept}
 use Rattle.flow_block.specs.NodeRests.{HasNothingToDo, NoneReserve, NodesAreStill, is_asked, is_reserving}
 use Rattle.flow_block.specs.NodeSeen.{IsNodeOf}
 use Rattle.flow_block.specs.Peeks.{is_held_up}
-use Rattle.flow_block.specs.Planned.{links_from, out_place, in_place}
-use Rattle.flow_block.proofs.PlacesOfLinks.{out_there, out_link, in_there, some_below}
+use Rattle.flow_block.specs.Planned.{out_place, in_place}
+use Rattle.flow_block.proofs.PlacesOfLinks.{end_in_of, end_out_is, end_out_of, there_at_source}
+use Rattle.flow_block.proofs.TestsTell.{some_is}
 
 -- What an end that has no move tells
 
@@ -85,14 +85,6 @@ holds_nothing : (stage : TargetStage) (hand : Option Value) → is_reserving sta
 holds_nothing (target.Holding i) hand free = absurd (cc)
 holds_nothing _ hand free = refl
 
-some_at : (o : Option ℕ) → is_some o ≡ true → (j : ℕ) × (o ≡ Some j)
-some_at (Some j) e = (j, refl)
-some_at None e = absurd (cc)
-
-block_of_source : (b : ℕ) (source : LinkSource) → begins_at b source ≡ true → source ≡ Block b
-block_of_source b (Block n) e = ap Block (same_number n b e)
-block_of_source b (Input n) e = absurd (cc)
-
 module _ {W : Type 0} (run : Run W) (ends : ℕ → Ends) (b : ℕ) (node : NodeState)
     (law : NodeLaw run.layout run.meaning b node)
     (part : IsNodeOf run ends b node)
@@ -114,7 +106,7 @@ module _ {W : Type 0} (run : Run W) (ends : ℕ → Ends) (b : ℕ) (node : Node
   target_is l p small to = ap (λ (view : TargetView Value). view.stage) (part.targets l p small to)
 
   there : (l : ℕ) → l < length run.layout.links → (link_of run l).source ≡ Block b → place l < length exits.ends
-  there l small from = out_there run.layout run.meaning b node.block law.shape l small from
+  there l small from = (end_out_of run.layout run.meaning b node.block law.shape l small from).there
 
   gives : (l : ℕ) → l < length run.layout.links → (link_of run l).source ≡ Block b
       → is_to_hand_over (ends l).source.stage ≡ false
@@ -128,18 +120,18 @@ module _ {W : Type 0} (run : Run W) (ends : ℕ → Ends) (b : ℕ) (node : Node
   offer_out : (j : ℕ) → exits.offer ≡ Some j → has_offer_out run ends b ≡ true
   offer_out j e =
       let near = law.exits.law.offer_there j e in
-      let link = out_link run.layout run.meaning b node.block law.shape j near in
-      let l = get_or (links_from run.layout b) j 0 in
-      let from : (link_of run l).source ≡ Block b = block_of_source b (link_of run l).source link.passes in
+      let link = end_out_is run.layout run.meaning b node.block law.shape j near in
+      let l = (end_at exits j).rule.id in
       let out : is_out (source_stage_of (stage_at exits j)) ≡ true =
       out_is_seen exits j node.block.stopped (is_held_up node.block) (stage_at exits j) (law.exits.law.offer_out j e)
       (nothing.outs j near) in
       let seen : is_out (ends l).source.stage ≡ true =
-      ap is_out (source_is l link.small from) ∙ ap (λ (k : ℕ). is_out (source_stage_of (stage_at exits k))) link.place
-      ∙ out in
-      some_below (λ n. begins_at b (link_of run n).source && is_out (ends n).source.stage)
-      (length run.layout.links) l link.small
-      (and_true (begins_at b (link_of run l).source) (is_out (ends l).source.stage) link.passes seen)
+      ap is_out (source_is l link.there link.begins)
+      ∙ ap (λ (k : ℕ). is_out (source_stage_of (stage_at exits k))) link.place ∙ out in
+      some_here_below (λ n. begins_at b (link_of run n).source && is_out (ends n).source.stage)
+      (length run.layout.links) l link.there
+      (and_true (begins_at b (link_of run l).source) (is_out (ends l).source.stage)
+      (there_at_source b (link_of run l).source link.begins) seen)
 
   answers : (l : ℕ) → l < length run.layout.links → (link_of run l).source ≡ Block b
       → is_wished_for (ends l).source.stage ≡ true
@@ -147,7 +139,7 @@ module _ {W : Type 0} (run : Run W) (ends : ℕ → Ends) (b : ℕ) (node : Node
   answers l small from wished =
       let k = place l in
       let near = there l small from in
-      let offer = some_at exits.offer
+      let offer = some_is exits.offer
       (answers_late exits k node.block.stopped (is_held_up node.block) (stage_at exits k) (none.outs k near)
       (nothing.outs k near)
       (ap is_wished_for (sym (source_is l small from)) ∙ wished)) in
@@ -155,7 +147,8 @@ module _ {W : Type 0} (run : Run W) (ends : ℕ → Ends) (b : ℕ) (node : Node
 
   is_in_place : (l p : ℕ) → l < length run.layout.links → (link_of run l).target ≡ Port b p
       → in_place run.layout b p l < length (port_at p node.block).ends
-  is_in_place l p small to = in_there run.layout run.meaning b node.block law.shape l p small to (ports l p small to)
+  is_in_place l p small to =
+      (end_in_of run.layout run.meaning b node.block law.shape p l (ports l p small to) small to).there
 
   receives : (l p : ℕ) → l < length run.layout.links → (link_of run l).target ≡ Port b p
       → is_to_receive (ends l).target.stage ≡ false

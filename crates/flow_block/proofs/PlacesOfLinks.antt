@@ -1,189 +1,218 @@
--- Each link of a block has its place among the block's ends, and each end out of a block has its link.
-use Rattle.std.proofs.Common.{◌≡◌, ℕ, zero, suc, ◌+◌, ◌<◌, ◌≤◌, Bool, true, false, cond, List, [], ◌∷◌, ◌++◌, length, get_or, filter, map, Result, inl, inr, refl, ap, sym, subst, ◌∙◌, ⊎_elim, arith, append-nil, eq-eqb, ◌==◌}
-use Rattle.std.proofs.lemmas.Bool.{cases_eq, cases_lt}
-use Rattle.std.proofs.lemmas.List.{length-append, length-map, get_or_append_left, get_or_push, get_or-map, length_push}
-use Rattle.std.proofs.lemmas.List.Elements.{filter-append}
+-- Each link into a port or out of a block has its end at its place there, and each end has a link of its own.
+use Rattle.std.proofs.Common.{◌≡◌, ◌≢◌, ℕ, suc, ◌+◌, ◌<◌, ◌≤◌, ◌==◌, ◌&&◌, Bool, true, false, cond, List, [], ◌∷◌, length, get_or, map, filter, Result, refl, ap, sym, ◌∙◌, subst, arith, eq-eqb, eqb-true, ne_eqb}
+use Rattle.std.proofs.Math.ListN.{get_or-map}
+use Rattle.std.proofs.lemmas.List as lists
 use Rattle.flow_value.specs.declared.value.Value.{Value}
-use Rattle.flow_link.specs.declared.plan.LinkSource.TheVariants.{Block}
-use Rattle.flow_link.specs.declared.plan.LinkTarget.TheVariants.{Port}
+use Rattle.flow_link.specs.declared.plan.Link.{Link}
+use Rattle.flow_link.specs.declared.plan.LinkSource.{LinkSource}
+use Rattle.flow_link.specs.declared.plan.LinkSource.TheVariants.{Block, Input}
+use Rattle.flow_link.specs.declared.plan.LinkTarget.{LinkTarget}
+use Rattle.flow_link.specs.declared.plan.LinkTarget.TheVariants.{Port, Exit}
+use Rattle.flow_link.specs.declared.stage.TargetStage.{TargetStage}
 use Rattle.flow_link.specs.Layout.{Layout}
-use Rattle.flow_link.specs.Lists.{every, some, numbers_from, below}
-use Rattle.flow_link.specs.Plan.{link_in, begins_at, ends_at_port}
-use Rattle.flow_link.proofs.ListTests.{below_more, and_true, both_of, or_first, or_second}
-use Rattle.flow_intake.specs.Port.{EndState}
-use Rattle.flow_outlet.specs.Outlet.{end_at}
+use Rattle.flow_link.specs.Lists.{numbers_from, below}
+use Rattle.flow_link.specs.Plan.{link_in, begins_at, ends_at, ends_at_port, links_into}
+use Rattle.flow_link.proofs.ListTests.{and_true, both_of}
+use Rattle.flow_intake.specs.Port.{EndState, end_in, fresh_end, count_at}
+use Rattle.flow_outlet.specs.declared.ends.LinkRule.{LinkRule}
 use Rattle.flow_outlet.specs.declared.ends.OutEnd.{OutEnd}
+use Rattle.flow_outlet.specs.End.{no_end}
+use Rattle.flow_outlet.specs.Outlet.{end_at}
 use Rattle.flow_block.specs.Block.{BlockState, port_at}
 use Rattle.flow_block.specs.NodeLaw.{ShapeLaw}
 use Rattle.flow_block.specs.Planned.{is_out_of, is_into, links_from, links_to, rule_of, out_place, in_place}
+use Rattle.flow_block.proofs.PlacesOfNumbers.{stands_below, place_below, filter_two, length_cond, count_shift}
 
--- What stands at a place of a list
+-- where a link leads, and whence
+target_there : (b p : ℕ) (target : LinkTarget) → ends_at_port b p target ≡ true → target ≡ Port b p
+target_there b p (Port n q) e =
+    let both = both_of (n == b) (q == p) e in
+    ap (λ (t : ℕ). Port t q) (eqb-true n b both.0) ∙ ap (λ (k : ℕ). Port b k) (eqb-true q p both.1)
+target_there b p Exit e = absurd (cc)
 
-pub record StandsAt (xs : List ℕ) (k l : ℕ) : Type 0 where
-  pub there : k < length xs
-  pub number : get_or xs k 0 ≡ l
+pub there_at_port : (b p : ℕ) (target : LinkTarget) → target ≡ Port b p → ends_at_port b p target ≡ true
+there_at_port b p target e =
+    ap (ends_at_port b p) e ∙ and_true (b == b) (p == p) (eq-eqb b b refl) (eq-eqb p p refl)
 
-stands_before : (xs ys : List ℕ) (k l : ℕ) → StandsAt xs k l → StandsAt (xs ++ ys) k l
-stands_before xs ys k l stands = record {
-  there = omega (arith, length-append xs ys, stands.there);
-  number = get_or_append_left xs ys 0 k stands.there ∙ stands.number;
-}
+pub there_at_block : (b p : ℕ) (target : LinkTarget) → target ≡ Port b p → ends_at b target ≡ true
+there_at_block b p target e = ap (ends_at b) e ∙ eq-eqb b b refl
 
-stands_last : (xs : List ℕ) (l : ℕ) → StandsAt (xs ++ l ∷ []) (length xs) l
-stands_last xs l = record {
-  there = omega (arith, length_push xs l);
-  number = get_or_push xs l 0 (length xs) refl;
-}
+pub source_there : (b : ℕ) (source : LinkSource) → begins_at b source ≡ true → source ≡ Block b
+source_there b (Block n) e = ap Block (eqb-true n b e)
+source_there b (Input n) e = absurd (cc)
 
--- The numbers below a bound that pass a test
+pub there_at_source : (b : ℕ) (source : LinkSource) → source ≡ Block b → begins_at b source ≡ true
+there_at_source b source e = ap (begins_at b) e ∙ eq-eqb b b refl
 
-filter_more : (test : ℕ → Bool) (n : ℕ)
-    → filter test (below (suc n)) ≡ filter test (below n) ++ cond (test n) (n ∷ []) []
-filter_more test n =
-    let next : suc n ≡ n + 1 = omega arith in
-    ap (λ (k : ℕ). filter test (below k)) next ∙ ap (filter test) (below_more n) ∙ filter-append test (below n) (n ∷ [])
+-- no more links enter a port than the block
+port_is_part : (b p : ℕ) (target : LinkTarget) (m n : ℕ) → m ≤ n
+    → cond (ends_at_port b p target) 1 0 + m ≤ cond (ends_at b target) 1 0 + n
+port_is_part b p (Port c q) m n less = by_cases (c == b) (q == p)
+  where
+    by_cases : (same_block same_port : Bool) → cond (same_block && same_port) 1 0 + m ≤ cond same_block 1 0 + n
+    by_cases true true = omega (arith, less)
+    by_cases true false = omega (arith, less)
+    by_cases false same_port = omega (arith, less)
+port_is_part b p Exit m n less = omega (arith, less)
 
--- a number that passes stands at the place that those before it leave
-pub has_place : (test : ℕ → Bool) (n l : ℕ) → l < n → test l ≡ true
-    → StandsAt (filter test (below n)) (length (filter test (below l))) l
-has_place test zero l less e = absurd (omega arith)
-has_place test (suc n) l less e =
-    let more = filter_more test n in
-    let place = length (filter test (below l)) in
-    let at_last : StandsAt (filter test (below n) ++ n ∷ []) (length (filter test (below n))) n =
-    stands_last (filter test (below n)) n in
-    let at : List ℕ → Type 0 = λ xs. StandsAt xs place l in
-    ⊎_elim
-    (λ same.
-    let passes : test n ≡ true = ap test (sym same) ∙ e in
-    let there : at (filter test (below n) ++ n ∷ []) =
-    subst (λ (k : ℕ). StandsAt (filter test (below n) ++ n ∷ []) (length (filter test (below k))) k)
-    (sym same) at_last in
-    subst at (sym (more ∙ ap (λ (b : Bool). filter test (below n) ++ cond b (n ∷ []) []) passes)) there)
-    (λ apart.
-    subst at (sym more)
-    (stands_before (filter test (below n)) (cond (test n) (n ∷ []) []) place l
-    (has_place test n l (omega arith) e)))
-    (cases_eq l n)
+pub few_enter : (links : List Link) (b p : ℕ)
+    → length (filter (λ l. ends_at_port b p (link_in links l).target) (below (length links))) ≤ links_into b links
+few_enter [] b p = omega arith
+few_enter (link ∷ links) b p =
+    let into = λ (l : ℕ). ends_at_port b p (link_in (link ∷ links) l).target in
+    let later = filter into (numbers_from 1 (length links)) in
+    let first = length_cond (into 0) 0 later in
+    let shifted = count_shift into 0 (length links) in
+    let less = few_enter links b p in
+    let rest = port_is_part b p link.target (length later) (links_into b links) (omega (arith, shifted, less)) in
+    omega (arith, first, rest)
 
--- the number below a bound that stands at a place
-pub record IsNumbered (test : ℕ → Bool) (n k l : ℕ) : Type 0 where
-  pub small : l < n
-  pub passes : test l ≡ true
-  pub place : length (filter test (below l)) ≡ k
-
-numbered_more : (test : ℕ → Bool) (n k : ℕ) (b : Bool) → test n ≡ b
-    → (k < length (filter test (below n)) → IsNumbered test n k (get_or (filter test (below n)) k 0))
-    → k < length (filter test (below n) ++ cond b (n ∷ []) [])
-    → IsNumbered test (suc n) k (get_or (filter test (below n) ++ cond b (n ∷ []) []) k 0)
-numbered_more test n k true e before less =
-    elim (cases_lt k (length (filter test (below n)))) [
-      | inl near ↦
-          let found = before near in
-          subst (IsNumbered test (suc n) k) (sym (get_or_append_left (filter test (below n)) (n ∷ []) 0 k near))
-          (record { small = omega (arith, found.small); passes = found.passes; place = found.place })
-      | inr far ↦
-          let last : length (filter test (below n)) ≡ k = omega (arith, length_push (filter test (below n)) n) in
-          subst (IsNumbered test (suc n) k) (sym (get_or_push (filter test (below n)) n 0 k last))
-          (record { small = omega arith; passes = e; place = last })
-    ]
-numbered_more test n k false e before less =
-    let none = append-nil (filter test (below n)) in
-    let near : k < length (filter test (below n)) = subst (λ (xs : List ℕ). k < length xs) none less in
-    let found = before near in
-    subst (λ (xs : List ℕ). IsNumbered test (suc n) k (get_or xs k 0)) (sym none)
-    (record { small = omega (arith, found.small); passes = found.passes; place = found.place })
-
-pub number_there : (test : ℕ → Bool) (n k : ℕ) → k < length (filter test (below n))
-    → IsNumbered test n k (get_or (filter test (below n)) k 0)
-number_there test zero k less = absurd (omega arith)
-number_there test (suc n) k less =
-    let more = filter_more test n in
-    subst (λ (xs : List ℕ). IsNumbered test (suc n) k (get_or xs k 0)) (sym more)
-    (numbered_more test n k (test n) refl (number_there test n k) (subst (λ (xs : List ℕ). k < length xs) more less))
-
--- Lists that are read element by element alike
-
-pub same_length : {A B C : Type 0} (f : A → C) (g : B → C) (xs : List A) (ys : List B) → map f xs ≡ map g ys
-    → length xs ≡ length ys
-same_length f g xs ys same = sym (length-map xs f) ∙ ap length same ∙ length-map ys g
-
-pub same_element : {A B C : Type 0} (f : A → C) (g : B → C) (xs : List A) (ys : List B) (k : ℕ) (a : A) (b : B)
-    → map f xs ≡ map g ys
-    → k < length xs → f (get_or xs k a) ≡ g (get_or ys k b)
-same_element f g xs ys k a b same less =
-    let there : k < length ys = omega (arith, same_length f g xs ys same) in
-    sym (get_or-map f xs k a (f a) less) ∙ ap (λ (cs : List _). get_or cs k (f a)) same
-    ∙ get_or-map g ys k b (f a) there
-
--- some number below a bound passes a test where this one does
-some_from : (test : ℕ → Bool) (first count k : ℕ) → first ≤ k → k < first + count → test k ≡ true
-    → some test (numbers_from first count) ≡ true
-some_from test first zero k low high e = absurd (omega arith)
-some_from test first (suc count) k low high e =
-    ⊎_elim
-    (λ same. or_first (test first) (some test (numbers_from (suc first) count)) (ap test (sym same) ∙ e))
-    (λ apart.
-    or_second (test first) (some test (numbers_from (suc first) count))
-    (some_from test (suc first) count k (omega arith) (omega arith) e))
-    (cases_eq k first)
-
-pub some_below : (test : ℕ → Bool) (count k : ℕ) → k < count → test k ≡ true → some test (below count) ≡ true
-some_below test count k small e = some_from test 0 count k (omega arith) (omega arith) e
-
--- a test that passes for each number below a bound passes for this one
-passes_from : (test : ℕ → Bool) (first count k : ℕ) → every test (numbers_from first count) ≡ true → first ≤ k
-    → k < first + count
-    → test k ≡ true
-passes_from test first zero k e low high = absurd (omega arith)
-passes_from test first (suc count) k e low high =
-    let both = both_of (test first) (every test (numbers_from (suc first) count)) e in
-    ⊎_elim
-    (λ same. ap test same ∙ both.0)
-    (λ apart. passes_from test (suc first) count k both.1 (omega arith) (omega arith))
-    (cases_eq k first)
-
-pub passes_below : (test : ℕ → Bool) (count k : ℕ) → every test (below count) ≡ true → k < count → test k ≡ true
-passes_below test count k e small = passes_from test 0 count k e (omega arith) (omega arith)
-
--- The places of a block's links among its ends
+-- the ends of a port at which a message comes are as many as their links of which that holds
+count_by_link : (test : TargetStage → Bool) (holds : ℕ → Bool) (ends : List EndState)
+    → ((k : ℕ) → k < length ends → holds (end_in k ends).link ≡ test (end_in k ends).stage)
+    → length (filter holds (map (λ (end : EndState). end.link) ends)) ≡ count_at test ends
+count_by_link test holds [] same = refl
+count_by_link test holds (end ∷ ends) same =
+    let rest = filter holds (map (λ (end : EndState). end.link) ends) in
+    let later : length rest ≡ count_at test ends =
+    count_by_link test holds ends (λ k small. same (suc k) (omega arith)) in
+    length_cond (holds end.link) end.link rest
+    ∙ ap (λ (b : Bool). cond b 1 0 + length rest) (same 0 (omega arith))
+    ∙ ap (λ (n : ℕ). cond (test end.stage) 1 0 + n) later
 
 module _ {W : Type 0} (layout : Layout W) (meaning : ℕ → Value → Result (List Value) ℕ) (b : ℕ) (block : BlockState)
     (shape : ShapeLaw layout meaning b block) where
-  stands_out : (l : ℕ) → l < length layout.links → (link_in layout.links l).source ≡ Block b
-      → StandsAt (links_from layout b) (out_place layout b l) l
-  stands_out l small from =
-      has_place (is_out_of layout b) (length layout.links) l small (ap (begins_at b) from ∙ eq-eqb b b refl)
+  -- an end at a place of a port is that of a link that leads there, and this place is the link's
+  pub record IsEndIn (p k l : ℕ) : Type 0 where
+    pub there : l < length layout.links
+    pub leads : (link_in layout.links l).target ≡ Port b p
+    pub place : in_place layout b p l ≡ k
 
-  outs_are : length block.exits.ends ≡ length (links_from layout b)
-  outs_are =
-      same_length (λ (end : OutEnd). end.rule) (rule_of layout) block.exits.ends (links_from layout b) shape.rules
+  link_at : (p k : ℕ) → p < length block.ports
+      → (end_in k (port_at p block).ends).link ≡ get_or (links_to layout b p) k 0
+  link_at p k known =
+      sym (get_or-map (λ (end : EndState). end.link) (port_at p block).ends k (fresh_end 0))
+      ∙ ap (λ (ls : List ℕ). get_or ls k 0) (shape.ports p known).links
 
-  pub out_there : (l : ℕ) → l < length layout.links → (link_in layout.links l).source ≡ Block b
-      → out_place layout b l < length block.exits.ends
-  out_there l small from = let stands = stands_out l small from in omega (arith, outs_are, stands.there)
+  pub count_in : (p : ℕ) → p < length block.ports → length (port_at p block).ends ≡ length (links_to layout b p)
+  count_in p known =
+      sym (lists.length-map (port_at p block).ends (λ (end : EndState). end.link))
+      ∙ ap length (shape.ports p known).links
 
-  -- the end of a link out of the block goes by the link's rule
-  pub out_rule : (l : ℕ) → l < length layout.links → (link_in layout.links l).source ≡ Block b
-      → (end_at block.exits (out_place layout b l)).rule ≡ rule_of layout l
-  out_rule l small from =
-      let stands = stands_out l small from in
-      same_element (λ (end : OutEnd). end.rule) (rule_of layout) block.exits.ends (links_from layout b)
-      (out_place layout b l) _ 0 shape.rules (out_there l small from)
-      ∙ ap (rule_of layout) stands.number
+  pub end_in_is : (p k : ℕ) → p < length block.ports → k < length (port_at p block).ends
+      → IsEndIn p k (end_in k (port_at p block).ends).link
+  end_in_is p k known small =
+      let stands = stands_below (is_into layout b p) (length layout.links) k (omega (arith, count_in p known)) in
+      let is : IsEndIn p k (get_or (links_to layout b p) k 0) = record {
+        there = stands.there;
+        leads = target_there b p (link_in layout.links (get_or (links_to layout b p) k 0)).target stands.passes;
+        place = stands.before;
+      } in
+      subst (IsEndIn p k) (sym (link_at p k known)) is
 
-  -- the link of an end
-  pub out_link : (k : ℕ) → k < length block.exits.ends
-      → IsNumbered (is_out_of layout b) (length layout.links) k (get_or (links_from layout b) k 0)
-  out_link k small = number_there (is_out_of layout b) (length layout.links) k (omega (arith, outs_are))
+  -- and each link that leads there has its end at its place
+  pub record HasEndIn (p l : ℕ) : Type 0 where
+    pub there : in_place layout b p l < length (port_at p block).ends
+    pub link_is : (end_in (in_place layout b p l) (port_at p block).ends).link ≡ l
 
-  pub in_there : (l p : ℕ) → l < length layout.links → (link_in layout.links l).target ≡ Port b p
-      → p < length block.ports
-      → in_place layout b p l < length (port_at p block).ends
-  in_there l p small to port =
-      let here : is_into layout b p l ≡ true =
-      ap (ends_at_port b p) to ∙ and_true (b == b) (p == p) (eq-eqb b b refl) (eq-eqb p p refl) in
-      let stands = has_place (is_into layout b p) (length layout.links) l small here in
-      let links : length (port_at p block).ends ≡ length (links_to layout b p) =
-      sym (length-map (port_at p block).ends (λ (end : EndState). end.link)) ∙ ap length (shape.ports p port).links in
-      omega (arith, links, stands.there)
+  pub end_in_of : (p l : ℕ) → p < length block.ports → l < length layout.links
+      → (link_in layout.links l).target ≡ Port b p → HasEndIn p l
+  end_in_of p l known small leads =
+      let has = place_below (is_into layout b p) (length layout.links) l small
+      (there_at_port b p (link_in layout.links l).target leads) in
+      record {
+        there = omega (arith, count_in p known, has.there);
+        link_is = link_at p (in_place layout b p l) known ∙ has.is_there;
+      }
+
+  -- two ends of links into the block have two links
+  pub links_in_differ : (p q k j : ℕ) → p < length block.ports → q < length block.ports
+      → k < length (port_at p block).ends → j < length (port_at q block).ends → ¬ ((q ≡ p) × (j ≡ k))
+      → (end_in k (port_at p block).ends).link == (end_in j (port_at q block).ends).link ≡ false
+  links_in_differ p q k j here there near far apart =
+      let one = end_in_is p k here near in
+      let other = end_in_is q j there far in
+      let l = (end_in k (port_at p block).ends).link in
+      let m = (end_in j (port_at q block).ends).link in
+      ne_eqb l m (λ same.
+      let ports : Port b q ≡ Port b p =
+      sym other.leads ∙ ap (λ (n : ℕ). (link_in layout.links n).target) (sym same) ∙ one.leads in
+      let port : q ≡ p = cc in
+      apart (
+        port,
+        sym other.place ∙ ap (λ (r : ℕ). in_place layout b r m) port
+            ∙ ap (in_place layout b p) (sym same) ∙ one.place,
+      ))
+
+  -- the same of the ends of links out of the block
+  pub record IsEndOut (k l : ℕ) : Type 0 where
+    pub there : l < length layout.links
+    pub begins : (link_in layout.links l).source ≡ Block b
+    pub place : out_place layout b l ≡ k
+    pub rule_is : (end_at block.exits k).rule ≡ rule_of layout l
+
+  count_out : length block.exits.ends ≡ length (links_from layout b)
+  count_out =
+      sym (lists.length-map block.exits.ends (λ (end : OutEnd). end.rule)) ∙ ap length shape.rules
+      ∙ lists.length-map (links_from layout b) (rule_of layout)
+
+  rule_at : (k : ℕ) → k < length (links_from layout b)
+      → (end_at block.exits k).rule ≡ rule_of layout (get_or (links_from layout b) k 0)
+  rule_at k small =
+      sym (get_or-map (λ (end : OutEnd). end.rule) block.exits.ends k no_end)
+      ∙ ap (λ (rules : List LinkRule). get_or rules k no_end.rule) shape.rules
+      ∙ lists.get_or-map (rule_of layout) (links_from layout b) k 0 no_end.rule small
+
+  pub end_out_is : (k : ℕ) → k < length block.exits.ends → IsEndOut k (end_at block.exits k).rule.id
+  end_out_is k small =
+      let low : k < length (links_from layout b) = omega (arith, count_out) in
+      let stands = stands_below (is_out_of layout b) (length layout.links) k low in
+      let rule = rule_at k low in
+      let is : IsEndOut k (get_or (links_from layout b) k 0) = record {
+        there = stands.there;
+        begins = source_there b (link_in layout.links (get_or (links_from layout b) k 0)).source stands.passes;
+        place = stands.before;
+        rule_is = rule;
+      } in
+      subst (IsEndOut k) (sym (ap (λ (r : LinkRule). r.id) rule)) is
+
+  -- two ends of links out of the block have two links, and that of the smaller number comes first
+  pub links_out_differ : (j k : ℕ) → j < length block.exits.ends → k < length block.exits.ends → j ≢ k
+      → (end_at block.exits k).rule.id == (end_at block.exits j).rule.id ≡ false
+  links_out_differ j k here there apart =
+      ne_eqb (end_at block.exits k).rule.id (end_at block.exits j).rule.id (λ same.
+      apart (sym (end_out_is j here).place ∙ ap (out_place layout b) (sym same) ∙ (end_out_is k there).place))
+
+  pub earlier_out : (j k : ℕ) → j < length block.exits.ends → k < length block.exits.ends
+      → (end_at block.exits j).rule.id < (end_at block.exits k).rule.id → j < k
+  earlier_out j k here there less =
+      let one = end_out_is j here in
+      let other = end_out_is k there in
+      let l = (end_at block.exits j).rule.id in
+      let before = place_below (is_out_of layout b) (end_at block.exits k).rule.id l less
+      (there_at_source b (link_in layout.links l).source one.begins) in
+      omega (arith, before.there, one.place, other.place)
+
+  pub record HasEndOut (l : ℕ) : Type 0 where
+    pub there : out_place layout b l < length block.exits.ends
+    pub rule_is : (end_at block.exits (out_place layout b l)).rule ≡ rule_of layout l
+
+  pub end_out_of : (l : ℕ) → l < length layout.links → (link_in layout.links l).source ≡ Block b → HasEndOut l
+  end_out_of l small begins =
+      let has = place_below (is_out_of layout b) (length layout.links) l small
+      (there_at_source b (link_in layout.links l).source begins) in
+      record {
+        there = omega (arith, count_out, has.there);
+        rule_is = rule_at (out_place layout b l) has.there ∙ ap (rule_of layout) has.is_there;
+      }
+
+  -- as many ends of a port stand so as links lead there of which that holds
+  pub count_of_links : (p : ℕ) (test : TargetStage → Bool) (holds : ℕ → Bool) → p < length block.ports
+      → ((k : ℕ) → k < length (port_at p block).ends
+      → holds (end_in k (port_at p block).ends).link ≡ test (end_in k (port_at p block).ends).stage)
+      → length (filter (λ l. is_into layout b p l && holds l) (below (length layout.links)))
+      ≡ count_at test (port_at p block).ends
+  count_of_links p test holds known same =
+      ap length (filter_two (is_into layout b p) holds (below (length layout.links)))
+      ∙ ap (λ (ls : List ℕ). length (filter holds ls)) (sym (shape.ports p known).links)
+      ∙ count_by_link test holds (port_at p block).ends same

@@ -1,18 +1,17 @@
--- The places that the numbers below a bound have among those that pass a test, and what passes at a place of a list.
-use Rattle.std.proofs.Common.{filter, ◌≡◌, ℕ, zero, suc, ◌+◌, ◌-◌, ◌<◌, Bool, true, false, ◌&&◌, ◌||◌, cond, List, [], ◌∷◌, ◌++◌, length, get_or, refl, ap, sym, ◌∙◌, arith}
+-- The places that the numbers below a bound have among those that pass a test.
+use Rattle.std.proofs.Common.{filter, ◌≡◌, ℕ, zero, suc, ◌+◌, ◌-◌, ◌<◌, Bool, true, false, ◌&&◌, cond, List, [], ◌∷◌, ◌++◌, length, get_or, refl, ap, sym, ◌∙◌, arith}
 use Rattle.std.proofs.lemmas.List.{length-append}
 use Rattle.std.proofs.lemmas.List.Elements.{filter-append}
 use Rattle.std.proofs.Math.Seq.{get_or-append_seam}
-use Rattle.flow_link.specs.Lists.{every, some, numbers_from, below}
-use Rattle.flow_link.proofs.ListTests.{both_of, or_first, or_second}
+use Rattle.flow_link.specs.Lists.{numbers_from, below}
 
 -- a number that passes, with the count of those before it that pass
-pub record StandsFrom (test : ℕ → Bool) (first count place l : ℕ) : Type 0 where
-  pub offset : ℕ
-  pub number_is : l ≡ first + offset
-  pub within : offset < count
-  pub passes : test l ≡ true
-  pub before : length (filter test (numbers_from first offset)) ≡ place
+record StandsFrom (test : ℕ → Bool) (first count place l : ℕ) : Type 0 where
+  offset : ℕ
+  number_is : l ≡ first + offset
+  within : offset < count
+  passes : test l ≡ true
+  before : length (filter test (numbers_from first offset)) ≡ place
 
 -- a list with an element before it, where that passes
 abbrev with_first : Bool → ℕ → List ℕ → List ℕ
@@ -109,47 +108,6 @@ place_below test count l small passes =
           ∙ get_or-append_seam (filter test (below l)) l rest 0;
     }
 
--- a number below the bound that passes
-some_from : (test : ℕ → Bool) (first count offset : ℕ) → offset < count → test (first + offset) ≡ true
-    → some test (numbers_from first count) ≡ true
-some_from test first zero offset small e = absurd (omega arith)
-some_from test first (suc count) zero small e =
-    let same : first + 0 ≡ first = omega arith in
-    or_first (test first) (some test (numbers_from (suc first) count)) (ap test (sym same) ∙ e)
-some_from test first (suc count) (suc offset) small e =
-    let same : suc first + offset ≡ first + suc offset = omega arith in
-    or_second (test first) (some test (numbers_from (suc first) count))
-    (some_from test (suc first) count offset (omega arith) (ap test same ∙ e))
-
-pub some_below : (test : ℕ → Bool) (count l : ℕ) → l < count → test l ≡ true → some test (below count) ≡ true
-some_below test count l small e =
-    let same : 0 + l ≡ l = omega arith in
-    some_from test 0 count l small (ap test same ∙ e)
-
--- a place of a list at which a test passes
-pub record PassesAt {A : Type 0} (test : A → Bool) (xs : List A) (none : A) : Type 0 where
-  pub place : ℕ
-  pub there : place < length xs
-  pub passes : test (get_or xs place none) ≡ true
-
-passes_by : {A : Type 0} (test : A → Bool) (x : A) (xs : List A) (none : A) (b : Bool) → test x ≡ b
-    → (some test xs ≡ true → PassesAt test xs none) → b || some test xs ≡ true → PassesAt test (x ∷ xs) none
-passes_by test x xs none true is later e = record { place = 0; there = omega arith; passes = is }
-passes_by test x xs none false is later e =
-    let found = later e in
-    record { place = suc found.place; there = omega (arith, found.there); passes = found.passes }
-
-pub some_at : {A : Type 0} (test : A → Bool) (xs : List A) (none : A) → some test xs ≡ true → PassesAt test xs none
-some_at test [] none e = absurd (cc)
-some_at test (x ∷ xs) none e = passes_by test x xs none (test x) refl (some_at test xs none) e
-
-pub every_at : {A : Type 0} (test : A → Bool) (xs : List A) (none : A) (place : ℕ) → every test xs ≡ true
-    → place < length xs → test (get_or xs place none) ≡ true
-every_at test [] none place e small = absurd (omega arith)
-every_at test (x ∷ xs) none zero e small = (both_of (test x) (every test xs) e).0
-every_at test (x ∷ xs) none (suc place) e small =
-    every_at test xs none place (both_of (test x) (every test xs) e).1 (omega arith)
-
 -- what passes two tests passes the second among those that pass the first
 filter_by : (f g : ℕ → Bool) (x : ℕ) (xs : List ℕ) (a b : Bool) → g x ≡ b
     → filter (λ l. f l && g l) xs ≡ filter g (filter f xs)
@@ -167,3 +125,13 @@ filter_two f g (x ∷ xs) = filter_by f g x xs (f x) (g x) refl (filter_two f g 
 pub length_cond : {A : Type 0} (b : Bool) (x : A) (xs : List A) → length (cond b (x ∷ xs) xs) ≡ cond b 1 0 + length xs
 length_cond true x xs = omega arith
 length_cond false x xs = omega arith
+
+-- as many numbers pass as of those before each
+pub count_shift : (test : ℕ → Bool) (first count : ℕ)
+    → length (filter test (numbers_from (suc first) count))
+    ≡ length (filter (λ l. test (suc l)) (numbers_from first count))
+count_shift test first zero = refl
+count_shift test first (suc count) =
+    length_cond (test (suc first)) (suc first) (filter test (numbers_from (suc (suc first)) count))
+    ∙ ap (λ (n : ℕ). cond (test (suc first)) 1 0 + n) (count_shift test (suc first) count)
+    ∙ sym (length_cond (test (suc first)) first (filter (λ l. test (suc l)) (numbers_from (suc first) count)))

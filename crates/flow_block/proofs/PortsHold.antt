@@ -1,5 +1,5 @@
 -- Each call keeps a block's ports in order.
-use Rattle.std.proofs.Common.{◌≡◌, ◌≢◌, ℕ, ◌+◌, ◌-◌, ◌<◌, ◌≤◌, ◌==◌, ◌&&◌, cond, not, Bool, true, false, List, [], ◌∷◌, ◌++◌, length, map, set, drop, Option, Some, None, is_some, is_none, Result, Ok, Err, refl, ap, sym, ◌∙◌, subst, arith, ne_eqb, eq-eqb, eqb-true, length-append, append-nil, zero, suc}
+use Rattle.std.proofs.Common.{◌≡◌, ◌≢◌, ℕ, ◌+◌, ◌-◌, ◌<◌, ◌≤◌, ◌==◌, cond, Bool, true, List, [], ◌∷◌, ◌++◌, length, map, set, drop, Option, Some, None, is_some, Result, Ok, Err, refl, ap, sym, ◌∙◌, subst, arith, ne_eqb, eq-eqb, eqb-true, length-append}
 use Rattle.flow_value.specs.declared.value.Value.{Value}
 use Rattle.flow_link.specs.declared.draft.BlockKind.{BlockKind}
 use Rattle.flow_link.specs.declared.draft.BlockKind.TheVariants.{Action}
@@ -8,32 +8,31 @@ use Rattle.flow_link.specs.declared.trace.Mark.TheVariants.{Took, Gave, Complete
 use Rattle.flow_link.specs.Facts.{facts_in}
 use Rattle.flow_link.specs.JournalGrows.{taken_by_mark}
 use Rattle.flow_link.specs.Layout.{Layout}
-use Rattle.flow_link.specs.Lists.{every}
 use Rattle.flow_link.specs.Plan.{block_in}
 use Rattle.flow_link.specs.Trace.{took_at}
 use Rattle.flow_link.specs.Views.{LinkFacts}
-use Rattle.flow_link.proofs.JournalsGrow.{took_more}
-use Rattle.flow_link.proofs.ListTests.{both_of}
-use Rattle.flow_intake.specs.Port.{PortState, coming, is_hand}
-use Rattle.flow_intake.specs.PortLaw.{PortLaw, has_ended}
+use Rattle.flow_intake.specs.Port.{PortState, coming, is_hand, fresh_port}
+use Rattle.flow_intake.specs.PortLaw.{PortLaw}
 use Rattle.flow_intake.specs.Calls.{first_of, wants, turns_down, postpones, refuses, consumes, opens, closes, looks, takes_next, gives_room, port_closes, port_fails}
 use Rattle.flow_intake.proofs.CallsKeepOrder.{moves_keep}
-use Rattle.flow_outlet.specs.Outlet.{first_of as first_left, is_empty, head_of, weight_at, gives, is_at_rest}
+use Rattle.flow_outlet.specs.Outlet.{head_of, weight_at, gives}
 use Rattle.flow_block.specs.Block.{BlockState, port_in, held_by, unit_weight, made_of, yields, keeps_results, makes_of}
 use Rattle.flow_block.specs.Node.{NodeState, NodeCall, hand_at, in_link_at, out_link_at, takes_in, gives_from}
-use Rattle.flow_block.specs.NodeLaw.{NodeLaw, ShapeLaw, PortsLaw, LoadLaw, weighed}
+use Rattle.flow_block.specs.NodeLaw.{NodeLaw, ShapeLaw, PortsLaw, LoadLaw}
 use Rattle.flow_block.specs.NodeKeeps.{InAt, MayCall, after_call, PortsKept}
-use Rattle.flow_block.specs.Peeks.{has_seen_completion, holds_nothing, nothing_comes, all_ended, fault_cause, could_stop}
+use Rattle.flow_block.specs.Peeks.{nothing_comes}
 use Rattle.flow_block.specs.Planned.{block_makes}
-use Rattle.flow_block.proofs.ShapeHolds.{one_changed, each_changed}
+use Rattle.flow_block.proofs.GoingOn.{may_complete_tells, may_fault_tells, may_finish_tells}
+use Rattle.flow_block.proofs.JournalTells.{took_same, took_here}
+use Rattle.flow_block.proofs.LoadHolds.{weight_of_head, one_given}
+use Rattle.flow_block.proofs.PortsChange.{each_after_one, each_after_all}
+use Rattle.flow_block.proofs.TestsTell.{every_tells}
 
 -- how many messages a port took, when the journal has one more mark
 took_as_many : (q : ℕ) (journal : List Mark) (mark : Mark) → taken_by_mark (λ port link. port == q) mark ≡ []
     → length (took_at q (journal ++ mark ∷ [])) ≡ length (took_at q journal)
 took_as_many q journal mark none =
-    ap length (took_more (λ port link. port == q) journal mark
-    ∙ ap (λ (vs : List Value). took_at q journal ++ vs) none
-    ∙ append-nil (took_at q journal))
+    ap length (took_same (λ port link. port == q) journal mark none)
 
 took_elsewhere : (p l : ℕ) (value : Value) (q : ℕ) (journal : List Mark) → q ≢ p
     → length (took_at q (journal ++ Took p l value ∷ [])) ≡ length (took_at q journal)
@@ -44,41 +43,8 @@ took_elsewhere p l value q journal other =
 took_one_more : (p l : ℕ) (value : Value) (journal : List Mark)
     → length (took_at p (journal ++ Took p l value ∷ [])) ≡ length (took_at p journal) + 1
 took_one_more p l value journal =
-    ap length (took_more (λ port link. port == p) journal (Took p l value)
-    ∙ ap (λ (b : Bool). took_at p journal ++ cond b (value ∷ []) []) (eq-eqb p p refl))
+    ap length (took_here (λ port link. port == p) journal p l value (eq-eqb p p refl))
     ∙ length-append (took_at p journal) (value ∷ [])
-
--- what the tests tell
-pub port_passes : (test : PortState → Bool) (ports : List PortState) → every test ports ≡ true
-    → (p : ℕ) → p < length ports → test (port_in ports p) ≡ true
-port_passes test [] all p below = absurd (omega arith)
-port_passes test (port ∷ ports) all zero below = (both_of (test port) (every test ports) all).0
-port_passes test (port ∷ ports) all (suc p) below =
-    port_passes test ports (both_of (test port) (every test ports) all).1 p (omega arith)
-
-first_of_five : (a b c d e : Bool) → (a && b && c && d && e) ≡ true → a ≡ true
-first_of_five true b c d e all = refl
-first_of_five false b c d e all = cc
-
-second_of_three : (a b c : Bool) → (a && b && c) ≡ true → b ≡ true
-second_of_three true true c e = refl
-second_of_three true false c e = cc
-second_of_three false b c e = cc
-
-cause_there : (b : Bool) (cause : Option ℕ) (number : ℕ) → cond b cause None ≡ Some number → b ≡ true
-cause_there true cause number e = refl
-cause_there false cause number e = cc
-
--- what is wholly given has its message's weight
-pub weight_of_head : (capacity : Option ℕ) (next : ℕ) (left : List Value) (value : Value) → first_left left ≡ Some value
-    → weight_at next (weighed capacity next left) ≡ unit_weight capacity
-weight_of_head None next left value head = refl
-weight_of_head (Some c) next [] value head = cc
-weight_of_head (Some c) next (first ∷ left) value head = ap (λ (b : Bool). cond b 1 0) (eq-eqb next next refl)
-
-one_left : (left : List Value) (value : Value) → first_left left ≡ Some value → 1 ≤ length left
-one_left [] value head = absurd (cc)
-one_left (first ∷ left) value head = omega arith
 
 -- the room that comes back was counted
 given_fits : (capacity : Option ℕ) (count load waiting left : ℕ) → count ≡ unit_weight capacity
@@ -108,9 +74,8 @@ module _ {W : Type 0} (layout : Layout W) (meaning : ℕ → Value → Result (L
       → (PortLaw facts (taken journal p) (port_in ports p) → PortLaw facts (taken marked p) port)
       → AreInOrder marked (set ports p port)
   one_marked ports journal marked p port law others one =
-      one_changed (λ q x. PortLaw facts (taken journal q) x) (λ q x. PortLaw facts (taken marked q) x) ports p port law
-      (λ q there other old. subst (λ (n : ℕ). PortLaw facts n (port_in ports q)) (sym (others q other)) old)
-      (λ below. one)
+      each_after_one (λ q x. PortLaw facts (taken marked q) x) ports p port (λ below. one (law p below))
+      (λ q there other. subst (λ (n : ℕ). PortLaw facts n (port_in ports q)) (sym (others q other)) (law q there))
 
   one_port : (ports : List PortState) (journal : List Mark) (p : ℕ) (port : PortState) → AreInOrder journal ports
       → (PortLaw facts (taken journal p) (port_in ports p) → PortLaw facts (taken journal p) port)
@@ -124,9 +89,9 @@ module _ {W : Type 0} (layout : Layout W) (meaning : ℕ → Value → Result (L
       → PortLaw facts (taken journal q) (change (port_in ports q)))
       → AreInOrder marked (map change ports)
   each_port ports journal marked change law same each =
-      each_changed (λ q x. PortLaw facts (taken journal q) x) (λ q x. PortLaw facts (taken marked q) x) ports change law
-      (λ q below old.
-      subst (λ (n : ℕ). PortLaw facts n (change (port_in ports q))) (sym (same q)) (each q below old))
+      each_after_all (λ q x. PortLaw facts (taken marked q) x) change ports
+      (λ q below.
+      subst (λ (n : ℕ). PortLaw facts n (change (port_in ports q))) (sym (same q)) (each q below (law q below)))
 
   -- what it makes of a message
   results_kept : (kind : BlockKind) (values : List Value) (value : Value) (block : BlockState) (journal : List Mark)
@@ -189,7 +154,7 @@ module _ {W : Type 0} (layout : Layout W) (meaning : ℕ → Value → Result (L
       moves_keep.give_room facts (taken node.journal q) port old (gives k exits).room
       (rw (shape.ports q below).capacity
       (given_fits capacity (gives k exits).room port.load (length port.waiting) (length exits.left) count
-      (load.load q below) (one_left exits.left value head))))
+      (load.load q below) (let one = one_given exits.left value head in omega arith))))
 
   -- it stops
   stop_keeps : (ports : List PortState) (journal : List Mark) (mark : Mark)
@@ -199,7 +164,7 @@ module _ {W : Type 0} (layout : Layout W) (meaning : ℕ → Value → Result (L
       each_port ports journal (journal ++ mark ∷ []) port_closes law (λ q. took_as_many q journal mark (none q))
       (λ q below old. moves_keep.close_port facts (taken journal q) (port_in ports q) old
       (eqb-true (coming (port_in ports q)) 0
-      (port_passes (λ (port : PortState). coming port == 0) ports comes q below)))
+      (every_tells (λ (port : PortState). coming port == 0) ports (fresh_port None) q comes below)))
 
   call_keeps : (node : NodeState) (call : NodeCall) → NodeLaw layout meaning b node → MayCall layout meaning b call node
       → AreInOrder (after_call layout meaning b call node).journal (after_call layout meaning b call node).block.ports
@@ -244,28 +209,17 @@ module _ {W : Type 0} (layout : Layout W) (meaning : ℕ → Value → Result (L
       make_keeps (first_of (held_by node.block)) node.block node.journal refl law.ports
   call_keeps node (NodeCall.complete p) law may =
       let port = port_in node.block.ports p in
-      let none : coming port ≡ 0 = eqb-true (coming port) 0
-      (second_of_three (not (has_ended port.refusing)) (coming port == 0) (has_seen_completion port.ends)
-      may.completes) in
+      let none = (may_complete_tells p node.block may.completes).none_comes in
       one_marked node.block.ports node.journal (node.journal ++ Complete p ∷ []) p (port_closes port) law.ports
       (λ q other. took_as_many q node.journal (Complete p) refl)
       (λ old. subst (λ (n : ℕ). PortLaw facts n (port_closes port))
       (sym (took_as_many p node.journal (Complete p) refl))
       (moves_keep.close_port facts (taken node.journal p) port old none))
   call_keeps node (NodeCall.fault number) law may =
-      let block = node.block in
-      let could : could_stop block && is_at_rest block.exits ≡ true =
-      cause_there (could_stop block && is_at_rest block.exits) (fault_cause block) number may in
-      let stops = (both_of (could_stop block) (is_at_rest block.exits) could).0 in
-      let none = (both_of (is_none block.stopped) (nothing_comes block.ports) stops).1 in
-      stop_keeps block.ports node.journal (Fault number) (λ q. refl) none law.ports
+      let none = (may_fault_tells node.block number may).none_comes in
+      stop_keeps node.block.ports node.journal (Fault number) (λ q. refl) none law.ports
   call_keeps node NodeCall.finish law may =
-      let block = node.block in
-      let could : could_stop block ≡ true =
-      first_of_five (could_stop block) (all_ended block.ports) (holds_nothing block.ports)
-      (is_empty block.exits.left) (is_at_rest block.exits) may in
-      let none = (both_of (is_none block.stopped) (nothing_comes block.ports) could).1 in
-      stop_keeps block.ports node.journal Done (λ q. refl) none law.ports
+      stop_keeps node.block.ports node.journal Done (λ q. refl) (may_finish_tells node.block may).none_comes law.ports
 
 pub ports_kept : (W : Type 0) → PortsKept W
 ports_kept W layout meaning b node call law may = call_keeps layout meaning b node call law may

@@ -1,15 +1,14 @@
 -- Each call keeps a block's kind, the links and capacities of its ports, and the rules of its exits.
-use Rattle.std.proofs.Common.{◌≡◌, ◌≢◌, ℕ, ◌<◌, List, length, map, set, Option, Some, None, Result, Ok, Err, refl, sym, ◌∙◌, subst, inl, inr}
+use Rattle.std.proofs.Common.{◌≡◌, ℕ, List, map, set, Option, Some, None, Result, Ok, Err, refl, ◌∙◌}
 use Rattle.std.proofs.Math.Seq.{map-set_same}
-use Rattle.std.proofs.lemmas.Bool.{cases_eq}
-use Rattle.std.proofs.lemmas.List.{length-set, length-map, get_or-set_same, get_or-set_other, get_or-map}
+use Rattle.std.proofs.lemmas.List.{length-set, length-map}
 use Rattle.flow_value.specs.declared.value.Value.{Value}
 use Rattle.flow_link.specs.declared.draft.BlockKind.{BlockKind}
 use Rattle.flow_link.specs.declared.draft.BlockKind.TheVariants.{Action}
 use Rattle.flow_link.specs.declared.phase.Phase.{Phase}
 use Rattle.flow_link.specs.declared.stage.TargetStage.{TargetStage}
 use Rattle.flow_link.specs.Layout.{Layout}
-use Rattle.flow_intake.specs.Port.{EndState, PortState, fresh_end, fresh_port}
+use Rattle.flow_intake.specs.Port.{EndState, PortState, fresh_end}
 use Rattle.flow_intake.specs.Calls.{first_of, put_hand, wants, turns_down, postpones, refuses, consumes, opens, closes, looks, takes_next, gives_room, port_closes, port_fails}
 use Rattle.flow_outlet.specs.declared.ends.OutEnd.{OutEnd}
 use Rattle.flow_outlet.specs.End.{end_in, no_end}
@@ -19,31 +18,7 @@ use Rattle.flow_block.specs.Node.{NodeState, NodeCall, hand_at, takes_in, gives_
 use Rattle.flow_block.specs.NodeLaw.{ShapeLaw, PortAsPlanned}
 use Rattle.flow_block.specs.NodeKeeps.{after_call, ShapeKept}
 use Rattle.flow_block.specs.Planned.{block_makes}
-
--- what holds of each port, when one port has changed
-pub one_changed : (P Q : ℕ → PortState → Type 0) (ports : List PortState) (p : ℕ) (port : PortState)
-    → ((q : ℕ) → q < length ports → P q (port_in ports q))
-    → ((q : ℕ) → q < length ports → q ≢ p → P q (port_in ports q) → Q q (port_in ports q))
-    → (p < length ports → P p (port_in ports p) → Q p port)
-    → (q : ℕ) → q < length (set ports p port) → Q q (port_in (set ports p port) q)
-one_changed P Q ports p port each others one q below =
-    let there : q < length ports = subst (λ (n : ℕ). q < n) (length-set ports p port) below in
-    elim (cases_eq q p) [
-      | inl same ↦
-          let here : p < length ports = subst (λ (n : ℕ). n < length ports) same there in
-          rw (same, get_or-set_same ports p port (fresh_port None) here) (one here (each p here))
-      | inr other ↦ rw (get_or-set_other ports p q port (fresh_port None) other) (others q there other (each q there))
-    ]
-
--- and when each port has
-pub each_changed : (P Q : ℕ → PortState → Type 0) (ports : List PortState) (change : PortState → PortState)
-    → ((q : ℕ) → q < length ports → P q (port_in ports q))
-    → ((q : ℕ) → q < length ports → P q (port_in ports q) → Q q (change (port_in ports q)))
-    → (q : ℕ) → q < length (map change ports) → Q q (port_in (map change ports) q)
-each_changed P Q ports change each changes q below =
-    let there : q < length ports = subst (λ (n : ℕ). q < n) (length-map ports change) below in
-    subst (Q q) (sym (get_or-map change ports q (fresh_port None) (fresh_port None) there))
-    (changes q there (each q there))
+use Rattle.flow_block.proofs.PortsChange.{each_after_one, each_after_all}
 
 -- what the plan says of a port stays
 record SamePort (before after : PortState) : Type 0 where
@@ -123,9 +98,9 @@ module _ {W : Type 0} (layout : Layout W) (meaning : ℕ → Value → Result (L
     port_count_is = rw (ports, length-set before.ports p (change (port_in before.ports p))) law.port_count_is;
     ports =
         let port = port_in before.ports p in
-        rw ports (one_changed IsPlanned IsPlanned before.ports p (change port) law.ports
-        (λ q there other planned. planned)
-        (λ below planned. port_stays p port (change port) (same port) planned));
+        rw ports (each_after_one IsPlanned before.ports p (change port)
+        (λ below. port_stays p port (change port) (same port) (law.ports p below))
+        (λ q there other. law.ports q there));
     rules = rw ends law.rules;
   }
 
@@ -139,10 +114,10 @@ module _ {W : Type 0} (layout : Layout W) (meaning : ℕ → Value → Result (L
     kind_is = kind ∙ law.kind_is;
     port_count_is = rw (ports, length-map before.ports change) law.port_count_is;
     ports =
-        rw ports (each_changed IsPlanned IsPlanned before.ports change law.ports
-        (λ q below planned.
+        rw ports (each_after_all IsPlanned change before.ports
+        (λ q below.
         let port = port_in before.ports q in
-        port_stays q port (change port) (same port) planned));
+        port_stays q port (change port) (same port) (law.ports q below)));
     rules = rules ∙ law.rules;
   }
 

@@ -1,6 +1,5 @@
 -- Each call moves the view of its own end as the laws of one link have it, and no other end's.
-use Rattle.std.proofs.Common.{unwrap_or, ◌≡◌, ◌≢◌, ℕ, ◌<◌, ◌==◌, ◌||◌, not, ltb, cond, Bool, true, false, List, [], ◌∷◌, ◌++◌, length, set, Option, Some, None, is_some, Result, Ok, Err, refl, ap, sym, ◌∙◌, subst, arith, eq-eqb, append-nil}
-use Rattle.std.proofs.lemmas.Bool.{ltb-true}
+use Rattle.std.proofs.Common.{unwrap_or, ◌≡◌, ◌≢◌, ℕ, ◌<◌, ◌==◌, cond, Bool, true, List, [], ◌∷◌, ◌++◌, length, set, Option, Some, None, is_some, Result, Ok, Err, refl, ap, sym, ◌∙◌, subst, eq-eqb}
 use Rattle.std.proofs.lemmas.List.{get_or-set_same, get_or-set_other}
 use Rattle.flow_value.specs.declared.value.Value.{Value}
 use Rattle.flow_value.specs.declared.when.When.{When}
@@ -19,24 +18,26 @@ use Rattle.flow_link.specs.Moves.{source_at, target_at}
 use Rattle.flow_link.specs.Stage.{source_stage_of, target_stage_of, source_looks, target_looks}
 use Rattle.flow_link.specs.Trace.{gave_over, took_over}
 use Rattle.flow_link.specs.Views.{SourceStage, TargetStage, SourceView, TargetView}
-use Rattle.flow_link.proofs.JournalsGrow.{took_more, gave_more}
 use Rattle.flow_link.proofs.StagesKept.{source_looks_kept, target_looks_kept}
 use Rattle.flow_intake.specs.Port.{EndState, PortState, end_in}
 use Rattle.flow_intake.specs.Calls.{first_of, refused_by, takes_next, gives_room, port_closes, port_fails, wants, turns_down, postpones, refuses, consumes, opens, closes, looks as port_looks}
 use Rattle.flow_outlet.specs.declared.ends.OutEnd.{OutEnd}
-use Rattle.flow_outlet.specs.End.{end_in as end_out_in, no_end, id_of, is_free, place_in}
+use Rattle.flow_outlet.specs.End.{end_in as end_out_in, no_end, id_of}
 use Rattle.flow_outlet.specs.Law.{admits_head}
-use Rattle.flow_outlet.specs.Outlet.{OutletState, head_of, end_at, stage_at, gives, given_end, is_empty, offer_at, offers, prepares, denies, withdraws, ends_link, looks as exit_looks}
+use Rattle.flow_outlet.specs.Outlet.{OutletState, head_of, end_at, stage_at, gives, given_end, offers, prepares, denies, withdraws, ends_link, looks as exit_looks}
 use Rattle.flow_outlet.proofs.LawKept.{gives_in_order}
+use Rattle.flow_outlet.proofs.OffersInOrder.{offers_in_order}
 use Rattle.flow_block.specs.Block.{BlockState, port_at, with_port, made_of, keeps_results, yields, makes_of, held_by, stops_by}
 use Rattle.flow_block.specs.Node.{NodeState, NodeCall, with_block, with_exits, marks, hand_at, in_link_at, out_link_at, takes_in, gives_from, view_of_in, view_of_out, in_view, out_view}
 use Rattle.flow_block.specs.NodeKeeps.{after_call}
 use Rattle.flow_block.specs.NodeLaw.{NodeLaw}
 use Rattle.flow_block.specs.Peeks.{is_pending}
-use Rattle.flow_block.specs.Planned.{links_to, block_makes}
-use Rattle.flow_block.specs.ViewsMove.{message_at, OthersStay, ViewsMove, CallsMoveViews}
-use Rattle.flow_block.proofs.EndsAtPlaces.{port_of_map, end_there, end_elsewhere, ends_kept_at}
-use Rattle.flow_block.proofs.LinksAtPlaces.{links_in_differ, links_out_differ, link_of_end, links_counted}
+use Rattle.flow_block.specs.Planned.{block_makes}
+use Rattle.flow_block.specs.ViewsMove.{message_at, IsAboutIn, IsAboutOut, OthersStay, ViewsMove, CallsMoveViews}
+use Rattle.flow_block.proofs.JournalTells.{took_same, gave_same, took_here, gave_here}
+use Rattle.flow_block.proofs.PlacesOfLinks.{links_in_differ, links_out_differ}
+use Rattle.flow_block.proofs.PortsChange.{kept_at_one, port_of_map, end_there, end_elsewhere}
+use Rattle.flow_block.proofs.TestsTell.{some_is}
 
 -- one end of a link into a node stands at a place, and all others as they did
 record OneInMoves (node new : NodeState) (p k : ℕ) (end : EndState) : Type 0 where
@@ -53,6 +54,16 @@ one_in node p k port end below there moved = record {
   others = λ q j apart. end_elsewhere node.block.ports p k port end below moved q j apart;
 }
 
+-- and where no mark is made, the other ends know what they knew
+others_in : (call : NodeCall) (node : NodeState) (p k : ℕ) (ports : List PortState) (end : EndState)
+    → ((q j : ℕ) → ¬ IsAboutIn q j call → ¬ ((q ≡ p) × (j ≡ k)))
+    → OneInMoves node (with_block (record node.block { ports = ports }) node) p k end
+    → OthersStay call node (with_block (record node.block { ports = ports }) node)
+others_in call node p k ports end about one = record {
+  ins = λ q j below there apart. ap (view_of_in node.journal) (one.others q j (about q j apart));
+  outs = λ j there apart. refl;
+}
+
 -- one end of a link out of a node stands at a place, and all others as they did
 record OneOutMoves (node new : NodeState) (k : ℕ) (end : OutEnd) : Type 0 where
   here : end_at new.block.exits k ≡ end
@@ -66,6 +77,14 @@ one_out node k exits end there moved = record {
       ∙ get_or-set_same node.block.exits.ends k end no_end there;
   others = λ j other. ap (λ (ends : List OutEnd). end_out_in ends j) moved
       ∙ get_or-set_other node.block.exits.ends k j end no_end other;
+}
+
+others_out : (call : NodeCall) (node : NodeState) (k : ℕ) (exits : OutletState) (end : OutEnd)
+    → ((j : ℕ) → ¬ IsAboutOut j call → j ≢ k)
+    → OneOutMoves node (with_exits exits node) k end → OthersStay call node (with_exits exits node)
+others_out call node k exits end about one = record {
+  ins = λ p j below there apart. refl;
+  outs = λ j there apart. ap (view_of_out node.journal) (one.others j (about j apart));
 }
 
 -- no end of a node moves, and nothing is taken or given
@@ -99,36 +118,6 @@ others_stay call node new none = record {
   outs = λ k there apart. view_out_stays node new none k;
 }
 
--- what one more mark says of a link that it does not name
-took_same : (l : ℕ) (journal : List Mark) (mark : Mark) → taken_by_mark (λ port link. link == l) mark ≡ []
-    → took_over l (journal ++ mark ∷ []) ≡ took_over l journal
-took_same l journal mark none =
-    took_more (λ port link. link == l) journal mark ∙ ap (λ (vs : List Value). took_over l journal ++ vs) none
-    ∙ append-nil (took_over l journal)
-
-gave_same : (l : ℕ) (journal : List Mark) (mark : Mark) → given_by_mark (λ link. link == l) mark ≡ []
-    → gave_over l (journal ++ mark ∷ []) ≡ gave_over l journal
-gave_same l journal mark none =
-    gave_more (λ link. link == l) journal mark ∙ ap (λ (vs : List Value). gave_over l journal ++ vs) none
-    ∙ append-nil (gave_over l journal)
-
--- and of the link that it names
-took_here : (p l : ℕ) (value : Value) (journal : List Mark)
-    → took_over l (journal ++ Took p l value ∷ []) ≡ took_over l journal ++ value ∷ []
-took_here p l value journal =
-    took_more (λ port link. link == l) journal (Took p l value)
-    ∙ ap (λ (b : Bool). took_over l journal ++ cond b (value ∷ []) []) (eq-eqb l l refl)
-
-gave_here : (l : ℕ) (value : Value) (journal : List Mark)
-    → gave_over l (journal ++ Gave l value ∷ []) ≡ gave_over l journal ++ value ∷ []
-gave_here l value journal =
-    gave_more (λ link. link == l) journal (Gave l value)
-    ∙ ap (λ (b : Bool). gave_over l journal ++ cond b (value ∷ []) []) (eq-eqb l l refl)
-
-is_there : {A : Type 0} (o : Option A) → is_some o ≡ true → (x : A) × (o ≡ Some x)
-is_there None e = absurd (cc)
-is_there (Some x) e = (x, refl)
-
 module _ {W : Type 0} (layout : Layout W) (meaning : ℕ → Value → Result (List Value) ℕ) (b : ℕ) (node : NodeState)
     (law : NodeLaw layout meaning b node) where
   -- a message is taken: the mark names the link of the end that had it in hand
@@ -140,30 +129,24 @@ module _ {W : Type 0} (layout : Layout W) (meaning : ℕ → Value → Result (L
       let mark = Took p l value in
       let end : EndState = record (end_in k (port_at p node.block).ends) { stage = target.Free; hand = None } in
       let one = one_in node p k (closes k value (port_at p node.block)) end below there refl in
-      let links = λ (q : ℕ) (small : q < length node.block.ports). (law.shape.ports q small).links in
       record {
         moved = record {
           value = value;
           in_hand = in_hand;
           view = ap (view_of_in (node.journal ++ mark ∷ [])) one.here
-              ∙ ap (knows_in end) (took_here p l value node.journal);
+              ∙ ap (knows_in end) (took_here (λ port link. link == l) node.journal p l value (eq-eqb l l refl));
         };
         others = record {
           ins = λ q j small near apart.
               let other = (end_in j (port_at q node.block).ends).link in
-              let at : l ≡ _ = link_of_end layout b (port_at p node.block).ends p k (links p below) in
-              let at_other : other ≡ _ = link_of_end layout b (port_at q node.block).ends q j (links q small) in
-              let near_link : j < length (links_to layout b q) =
-              omega (arith, near, links_counted layout b (port_at q node.block).ends q (links q small)) in
-              let there_link : k < length (links_to layout b p) =
-              omega (arith, there, links_counted layout b (port_at p node.block).ends p (links p below)) in
-              let differ = links_in_differ layout b p q k j there_link near_link apart in
-              let differs : l == other ≡ false = rw (at, at_other) differ in
+              let differs =
+              links_in_differ layout meaning b node.block law.shape p q k j below small there near apart in
               ap (view_of_in (node.journal ++ mark ∷ [])) (one.others q j apart)
               ∙ ap (knows_in (end_in j (port_at q node.block).ends))
-              (took_same other node.journal mark (ap (λ (same : Bool). cond same (value ∷ []) []) differs));
+              (took_same (λ port link. link == other) node.journal mark
+              (ap (λ (same : Bool). cond same (value ∷ []) []) differs));
           outs = λ j near other. ap (knows_out (end_at node.block.exits j))
-              (gave_same (out_link_at j node) node.journal mark refl);
+              (gave_same (λ link. link == out_link_at j node) node.journal mark refl);
         };
       }
 
@@ -181,19 +164,19 @@ module _ {W : Type 0} (layout : Layout W) (meaning : ℕ → Value → Result (L
           value = value;
           head = head;
           view = ap (view_of_out (node.journal ++ mark ∷ [])) one.here
-              ∙ ap (knows_out end) (gave_here l value node.journal);
+              ∙ ap (knows_out end) (gave_here (λ link. link == l) node.journal l value (eq-eqb l l refl));
         };
         others = record {
           ins = λ q j small near apart.
               ap (λ (port : PortState). view_of_in (node.journal ++ mark ∷ []) (end_in j port.ends))
               (port_of_map (gives_room room) node.block.ports q small)
               ∙ ap (knows_in (end_in j (port_at q node.block).ends))
-              (took_same (in_link_at q j node) node.journal mark refl);
+              (took_same (λ port link. link == in_link_at q j node) node.journal mark refl);
           outs = λ j near other.
-              let differs = links_out_differ layout b node.block.exits.ends j k law.shape.rules near there other in
+              let differs = links_out_differ layout meaning b node.block law.shape j k near there other in
               ap (view_of_out (node.journal ++ mark ∷ [])) (one.others j other)
               ∙ ap (knows_out (end_at node.block.exits j))
-              (gave_same (out_link_at j node) node.journal mark
+              (gave_same (λ link. link == out_link_at j node) node.journal mark
               (ap (λ (same : Bool). cond same (value ∷ []) []) differs));
         };
       }
@@ -213,19 +196,21 @@ none_moves_by : (node : NodeState) (block : BlockState) (mark : Mark) → EndsSt
 none_moves_by node block mark stay none_taken none_given = record {
   ins = stay.ins;
   outs = stay.outs;
-  taken = λ l. took_same l node.journal mark (none_taken (λ port link. link == l));
-  given = λ l. gave_same l node.journal mark (none_given (λ link. link == l));
+  taken = λ l. took_same (λ port link. link == l) node.journal mark (none_taken (λ port link. link == l));
+  given = λ l. gave_same (λ link. link == l) node.journal mark (none_given (λ link. link == l));
 }
 
 keeping_stays : (kind : BlockKind) (values : List Value) (block : BlockState)
     → EndsStay block (keeps_results kind values block)
 keeping_stays Action values block =
     record {
-      ins = λ p below. ends_kept_at block.ports 0 p (gives_room 1 (takes_next (port_at 0 block))) below refl;
+      ins = λ p below.
+          kept_at_one (λ (port : PortState). port.ends) block.ports 0 p
+          (gives_room 1 (takes_next (port_at 0 block))) refl;
       outs = refl;
     }
 keeping_stays _ values block = record {
-  ins = λ p below. ends_kept_at block.ports 0 p (takes_next (port_at 0 block)) below refl;
+  ins = λ p below. kept_at_one (λ (port : PortState). port.ends) block.ports 0 p (takes_next (port_at 0 block)) refl;
   outs = refl;
 }
 
@@ -244,7 +229,7 @@ making_stays result (Some value) block = yielding_stays (made_of block.kind resu
 
 closing_stays : (block : BlockState) (p : ℕ) → EndsStay block (with_port p port_closes block)
 closing_stays block p = record {
-  ins = λ q below. ends_kept_at block.ports p q (port_closes (port_at p block)) below refl;
+  ins = λ q below. kept_at_one (λ (port : PortState). port.ends) block.ports p q (port_closes (port_at p block)) refl;
   outs = refl;
 }
 
@@ -254,20 +239,6 @@ stopping_stays block how =
       ins = λ p below. ap (λ (port : PortState). port.ends) (port_of_map port_closes block.ports p below);
       outs = refl;
     }
-
--- the place at which the head may be offered
-place_there : (a b c d : Bool) (i k : ℕ) → cond (a || b || not c || d) None (Some i) ≡ Some k → (c ≡ true) × (i ≡ k)
-place_there false false true false i k e = (refl, cc)
-place_there true b c d i k e = absurd (cc)
-place_there false true c d i k e = absurd (cc)
-place_there false false false d i k e = absurd (cc)
-place_there false false true true i k e = absurd (cc)
-
-offered_at : (o : OutletState) (i k : ℕ) → offer_at i o ≡ Some k → k < length o.ends
-offered_at o i k may =
-    let place = place_there (is_empty o.left) (is_some o.offer) (ltb i (length o.ends))
-    (not (is_free (stage_at o i))) i k may in
-    subst (λ (n : ℕ). n < length o.ends) place.1 (ltb-true i (length o.ends) place.0)
 
 head_there : (when : When) (head : Option Value) → admits_head when head ≡ true → is_some head ≡ true
 head_there when None e = absurd (cc)
@@ -280,20 +251,14 @@ calls_move_views W layout meaning b node (NodeCall.want p k) law may =
     let one = one_in node p k (wants k (port_at p node.block)) end may.0.port may.0.place refl in
     record {
       moved = ap (view_of_in node.journal) one.here;
-      others = record {
-        ins = λ q j below there apart. ap (view_of_in node.journal) (one.others q j apart);
-        outs = λ j there apart. refl;
-      };
+      others = others_in (NodeCall.want p k) node p k _ end (λ q j apart. apart) one;
     }
 calls_move_views W layout meaning b node (NodeCall.turn_down p k) law may =
     let end : EndState = record (end_in k (port_at p node.block).ends) { stage = target.Free } in
     let one = one_in node p k (turns_down k (port_at p node.block)) end may.port may.place refl in
     record {
       moved = ap (view_of_in node.journal) one.here;
-      others = record {
-        ins = λ q j below there apart. ap (view_of_in node.journal) (one.others q j apart);
-        outs = λ j there apart. refl;
-      };
+      others = others_in (NodeCall.turn_down p k) node p k _ end (λ q j apart. apart) one;
     }
 calls_move_views W layout meaning b node (NodeCall.postpone p k) law may =
     let i = message_at p k node in
@@ -301,17 +266,14 @@ calls_move_views W layout meaning b node (NodeCall.postpone p k) law may =
     let one = one_in node p k (postpones k (port_at p node.block)) end may.offered.port may.offered.place refl in
     record {
       moved = ap (view_of_in node.journal) one.here;
-      others = record {
-        ins = λ q j below there apart. ap (view_of_in node.journal) (one.others q j apart);
-        outs = λ j there apart. refl;
-      };
+      others = others_in (NodeCall.postpone p k) node p k _ end (λ q j apart. apart) one;
     }
 calls_move_views W layout meaning b node (NodeCall.refuse p k) law may =
     let port = port_at p node.block in
     let old = end_in k port.ends in
     let end : EndState = record old { stage = refused_by port.refusing } in
     let one = one_in node p k (refuses k port) end may.0.port may.0.place refl in
-    let reason = is_there port.refusing may.1 in
+    let reason = some_is port.refusing may.1 in
     record {
       moved = record {
         why = reason.0;
@@ -319,10 +281,7 @@ calls_move_views W layout meaning b node (NodeCall.refuse p k) law may =
         view = ap (view_of_in node.journal) one.here
             ∙ ap (λ (o : Option Refusal). view_of_in node.journal (record old { stage = refused_by o })) reason.1;
       };
-      others = record {
-        ins = λ q j below there apart. ap (view_of_in node.journal) (one.others q j apart);
-        outs = λ j there apart. refl;
-      };
+      others = others_in (NodeCall.refuse p k) node p k _ end (λ q j apart. apart) one;
     }
 calls_move_views W layout meaning b node (NodeCall.consume p k) law may =
     let i = message_at p k node in
@@ -330,10 +289,7 @@ calls_move_views W layout meaning b node (NodeCall.consume p k) law may =
     let one = one_in node p k (consumes k (port_at p node.block)) end may.0.port may.0.place refl in
     record {
       moved = ap (view_of_in node.journal) one.here;
-      others = record {
-        ins = λ q j below there apart. ap (view_of_in node.journal) (one.others q j apart);
-        outs = λ j there apart. refl;
-      };
+      others = others_in (NodeCall.consume p k) node p k _ end (λ q j apart. apart) one;
     }
 calls_move_views W layout meaning b node (NodeCall.open_with p k value) law may =
     let i = message_at p k node in
@@ -341,32 +297,26 @@ calls_move_views W layout meaning b node (NodeCall.open_with p k value) law may 
     let one = one_in node p k (opens k value (port_at p node.block)) end may.port may.place refl in
     record {
       moved = ap (view_of_in node.journal) one.here;
-      others = record {
-        ins = λ q j below there apart. ap (view_of_in node.journal) (one.others q j apart);
-        outs = λ j there apart. refl;
-      };
+      others = others_in (NodeCall.open_with p k value) node p k _ end (λ q j apart. apart) one;
     }
 calls_move_views W layout meaning b node (NodeCall.close p k) law may =
-    let in_hand = is_there (hand_at p k node) (((law.ports p may.port).each k may.place).hand ∙ may.stands) in
+    let in_hand = some_is (hand_at p k node) (((law.ports p may.port).each k may.place).hand ∙ may.stands) in
     subst (λ (hand : Option Value). ViewsMove (NodeCall.close p k) node (takes_in p k hand node)) (sym in_hand.1)
     (closed layout meaning b node law p k in_hand.0 may.port may.place in_hand.1)
 calls_move_views W layout meaning b node (NodeCall.offer k) law may =
     let o = node.block.exits in
-    let there = offered_at o (place_in o.next (head_of o) o.ends) k may.next in
+    let there = ((offers_in_order.named o k).0 may.next).there in
     let end : OutEnd = record (end_at o k) { stage = source.Out o.next } in
     let one = one_out node k (offers k (prepares o)) end there refl in
     record {
       moved = ap (view_of_out node.journal) one.here;
-      others = record {
-        ins = λ q j below near apart. refl;
-        outs = λ j near apart. ap (view_of_out node.journal) (one.others j apart);
-      };
+      others = others_out (NodeCall.offer k) node k _ end (λ j apart. apart) one;
     }
 calls_move_views W layout meaning b node (NodeCall.give k) law may =
     let o = node.block.exits in
     let exits = law.exits.law in
     let admitted = gives_in_order.admitted (is_pending node.block) node.block.stopped o exits k may.place may.wanted in
-    let head = is_there (head_of o) (head_there (end_at o k).rule.when (head_of o) admitted) in
+    let head = some_is (head_of o) (head_there (end_at o k).rule.when (head_of o) admitted) in
     subst (λ (first : Option Value). ViewsMove (NodeCall.give k) node (gives_from k first node)) (sym head.1)
     (given layout meaning b node law k head.0 may.place head.1)
 calls_move_views W layout meaning b node (NodeCall.deny k) law may =
@@ -374,10 +324,7 @@ calls_move_views W layout meaning b node (NodeCall.deny k) law may =
     let one = one_out node k (denies k node.block.exits) end may.place refl in
     record {
       moved = ap (view_of_out node.journal) one.here;
-      others = record {
-        ins = λ q j below near apart. refl;
-        outs = λ j near apart. ap (view_of_out node.journal) (one.others j apart);
-      };
+      others = others_out (NodeCall.deny k) node k _ end (λ j apart. apart) one;
     }
 calls_move_views W layout meaning b node (NodeCall.withdraw k) law may =
     let o = node.block.exits in
@@ -385,20 +332,14 @@ calls_move_views W layout meaning b node (NodeCall.withdraw k) law may =
     let one = one_out node k (withdraws k o) end may.waits.place refl in
     record {
       moved = ap (view_of_out node.journal) one.here;
-      others = record {
-        ins = λ q j below near apart. refl;
-        outs = λ j near apart. ap (view_of_out node.journal) (one.others j apart);
-      };
+      others = others_out (NodeCall.withdraw k) node k _ end (λ j apart. apart) one;
     }
 calls_move_views W layout meaning b node (NodeCall.end_link k how) law may =
     let end : OutEnd = record (end_at node.block.exits k) { stage = source.Ended how } in
     let one = one_out node k (ends_link k how node.block.exits) end may.is_at_home.place refl in
     record {
       moved = ap (view_of_out node.journal) one.here;
-      others = record {
-        ins = λ q j below near apart. refl;
-        outs = λ j near apart. ap (view_of_out node.journal) (one.others j apart);
-      };
+      others = others_out (NodeCall.end_link k how) node k _ end (λ j apart. apart) one;
     }
 calls_move_views W layout meaning b node (NodeCall.look_in p k phase) law may =
     let old = end_in k (port_at p node.block).ends in
@@ -408,10 +349,7 @@ calls_move_views W layout meaning b node (NodeCall.look_in p k phase) law may =
       moved = ap (view_of_in node.journal) one.here
           ∙ ap (λ (stage : TargetStage Value). target_at stage (view_of_in node.journal old))
           (target_looks_kept old.stage old.hand phase);
-      others = record {
-        ins = λ q j below there apart. ap (view_of_in node.journal) (one.others q j apart);
-        outs = λ j there apart. refl;
-      };
+      others = others_in (NodeCall.look_in p k phase) node p k _ end (λ q j apart. apart) one;
     }
 calls_move_views W layout meaning b node (NodeCall.look_out k phase) law may =
     let old = end_at node.block.exits k in
@@ -421,10 +359,7 @@ calls_move_views W layout meaning b node (NodeCall.look_out k phase) law may =
       moved = ap (view_of_out node.journal) one.here
           ∙ ap (λ (stage : SourceStage). source_at stage (view_of_out node.journal old))
           (source_looks_kept old.stage phase);
-      others = record {
-        ins = λ q j below near apart. refl;
-        outs = λ j near apart. ap (view_of_out node.journal) (one.others j apart);
-      };
+      others = others_out (NodeCall.look_out k phase) node k _ end (λ j apart. apart) one;
     }
 calls_move_views W layout meaning b node NodeCall.make law may =
     let new = after_call layout meaning b NodeCall.make node in

@@ -1,10 +1,10 @@
 -- What a node in order does next has its cause: it refuses, puts off, takes, faults and keeps back its head for no other.
-use Rattle.std.specs.Prelude.{◌≡◌, ℕ, ◌+◌, ◌<◌, ◌≤◌, ◌⊎◌, Bool, true, false, List, [], ◌∷◌, length, Option, Some, None, Result}
+use Rattle.std.specs.Prelude.{◌≡◌, ℕ, ◌+◌, ◌<◌, ◌≤◌, ◌⊎◌, true, false, List, ◌∷◌, length, Some, None, Result}
 use Rattle.flow_value.specs.declared.value.Value.{Value}
 use Rattle.flow_link.specs.declared.phase.Move.TheVariants as move
 use Rattle.flow_link.specs.Layout.{Layout}
 use Rattle.flow_link.specs.Trace.{has_ended}
-use Rattle.flow_intake.specs.Port.{PortState, coming}
+use Rattle.flow_intake.specs.Port.{coming}
 use Rattle.flow_intake.specs.Profile.{TakesAtOnce}
 use Rattle.flow_outlet.specs.End.{is_free}
 use Rattle.flow_outlet.specs.Order.{StopsAt}

@@ -1,8 +1,10 @@
 pub mod Block
+pub mod BlockFits
 pub mod Causes
 pub mod Fresh
 pub mod Input
 pub mod InputKeeps
+pub mod JournalFits
 pub mod NextMoves
 pub mod Node
 pub mod NodeKeeps
@@ -11,4 +13,5 @@ pub mod NodeRests
 pub mod NodeSeen
 pub mod Peeks
 pub mod Planned
+pub mod Routes
 pub mod ViewsMove

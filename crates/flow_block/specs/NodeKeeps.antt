@@ -1,24 +1,23 @@
 -- When each call of a node may be made, and that it keeps the node in order.
-use Rattle.std.specs.Prelude.{◌≡◌, ℕ, ◌<◌, Bool, true, false, List, length, Option, Some, None, is_some, Result}
+use Rattle.std.specs.Prelude.{◌≡◌, ℕ, ◌<◌, Bool, true, false, List, length, Some, None, is_some, Result}
 use Rattle.std.specs.Bool.{OnTrue}
 use Rattle.flow_value.specs.declared.value.Value.{Value}
 use Rattle.flow_link.specs.declared.phase.LinkEnd.{LinkEnd}
 use Rattle.flow_link.specs.declared.phase.Phase.{Phase}
 use Rattle.flow_link.specs.declared.stage.SourceStage.{SourceStage}
 use Rattle.flow_link.specs.declared.stage.TargetStage.{TargetStage}
-use Rattle.flow_link.specs.declared.trace.Mark.{Mark}
 use Rattle.flow_link.specs.Facts.{facts_in}
 use Rattle.flow_link.specs.Layout.{Layout}
 use Rattle.flow_link.specs.LinkOk.{MayPutOff}
 use Rattle.flow_link.specs.Stage.{source_looks}
 use Rattle.flow_link.specs.Trace.{took_at}
-use Rattle.flow_intake.specs.Port.{PortState, stage_at as port_stage, has_room, is_offer, is_hand}
+use Rattle.flow_intake.specs.Port.{stage_at as port_stage, has_room, is_offer, is_hand}
 use Rattle.flow_intake.specs.PortLaw.{has_ended}
 use Rattle.flow_intake.specs.Calls.{is_offered, is_posted, is_postponed, is_arrived, may_be_refused}
 use Rattle.flow_outlet.specs.End.{is_free, is_waiting, speaks_of}
 use Rattle.flow_outlet.specs.Law.{is_put_off}
-use Rattle.flow_outlet.specs.Outlet.{OutletState, end_at, stage_at, may_offer, may_give, is_wish, end_of, lacks_ids}
-use Rattle.flow_block.specs.Block.{BlockState, port_at, put_next}
+use Rattle.flow_outlet.specs.Outlet.{end_at, stage_at, may_offer, may_give, is_wish, end_of, lacks_ids}
+use Rattle.flow_block.specs.Block.{port_at, put_next}
 use Rattle.flow_block.specs.Node.{NodeState, NodeCall, in_link_at, after}
 use Rattle.flow_block.specs.NodeLaw.{NodeLaw, ShapeLaw, PortsLaw, ExitsLaw, GaveLaw, MakesLaw, LoadLaw, MarksLaw, EndsLaw}
 use Rattle.flow_block.specs.Peeks.{is_pending, may_make, may_complete, next_fault, may_finish}

@@ -23,13 +23,14 @@ use Rattle.flow_link.specs.Trace.{Run, took, took_at, gave, gave_over, has_compl
 use Rattle.flow_link.specs.Worked.{WorkedInto}
 use Rattle.flow_intake.specs.Port.{EndState, PortState, stage_at as port_stage}
 use Rattle.flow_intake.specs.PortLaw.{PortLaw, has_ended as has_port_ended}
+use Rattle.flow_intake.specs.Ended.{has_seen_completion, fault_seen}
 use Rattle.flow_outlet.specs.Law.{OutletLaw, is_refused}
 use Rattle.flow_outlet.specs.Outlet.{OutletState, end_at, stage_at, is_at_rest}
 use Rattle.flow_outlet.specs.declared.ends.OutEnd.{OutEnd}
 use Rattle.flow_outlet.specs.declared.group.Group.{Group}
 use Rattle.flow_block.specs.Block.{BlockState, port_at, held_by}
 use Rattle.flow_block.specs.Node.{NodeState}
-use Rattle.flow_block.specs.Peeks.{is_pending, has_seen_completion, fault_seen, holds_nothing}
+use Rattle.flow_block.specs.Peeks.{is_pending, holds_nothing}
 use Rattle.flow_block.specs.Planned.{is_built, links_to, links_from, rule_of, block_makes}
 
 -- the source knows that this link is refused

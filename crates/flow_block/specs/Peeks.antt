@@ -1,34 +1,11 @@
 -- What a block could do next by itself, told by its own data alone.
-use Rattle.std.specs.Prelude.{ℕ, ◌==◌, Bool, true, false, not, ◌&&◌, ◌||◌, cond, List, [], ◌∷◌, Option, Some, None, is_some, is_none}
-use Rattle.flow_link.specs.declared.phase.LinkEnd.TheVariants.{Complete, Fault}
-use Rattle.flow_link.specs.declared.stage.TargetStage.{TargetStage}
-use Rattle.flow_link.specs.declared.stage.TargetStage.TheVariants.{Ended}
-use Rattle.flow_link.specs.Lists.{every, some}
-use Rattle.flow_intake.specs.Port.{EndState, PortState, coming}
+use Rattle.std.specs.Prelude.{ℕ, ◌==◌, Bool, not, ◌&&◌, ◌||◌, cond, List, [], ◌∷◌, Option, None, is_some, is_none}
+use Rattle.flow_link.specs.Lists.{every}
+use Rattle.flow_intake.specs.Port.{PortState, coming}
+use Rattle.flow_intake.specs.Ended.{first_some, has_seen_completion, fault_at_ends}
 use Rattle.flow_intake.specs.PortLaw.{has_ended}
 use Rattle.flow_outlet.specs.Outlet.{is_empty, is_at_rest, only_waits}
 use Rattle.flow_block.specs.Block.{BlockState, port_at, held_by}
-
--- the end has seen that its link ended with completion, or with a fault
-abbrev pub is_completion : TargetStage → Bool
-is_completion (Ended Complete) = true
-is_completion _ = false
-
-abbrev pub fault_seen : TargetStage → Option ℕ
-fault_seen (Ended (Fault number)) = Some number
-fault_seen _ = None
-
-abbrev pub first_some : Option ℕ → Option ℕ → Option ℕ
-first_some (Some number) later = Some number
-first_some None later = later
-
-abbrev pub has_seen_completion : List EndState → Bool
-has_seen_completion ends = some (λ (end : EndState). is_completion end.stage) ends
-
--- the fault that is seen first, in the order of the links
-abbrev pub fault_at_ends : List EndState → Option ℕ
-fault_at_ends [] = None
-fault_at_ends (end ∷ ends) = first_some (fault_seen end.stage) (fault_at_ends ends)
 
 abbrev pub fault_at_ports : List PortState → Option ℕ
 fault_at_ports [] = None

@@ -1,9 +1,36 @@
 //! Blocks as plain values: what a block takes, makes and gives, with its own side of each link.
+//!
+//! A [`Block`] has ports, at which messages wait, and exits, over which it gives what it made. It works on the message
+//! that waits longest:
+//!
+//! call        kind of block    what becomes of the message
+//! `hand_on`   buffer           it is there to be given
+//! `put_out`   transform        its results are there to be given
+//! `record`    action           its results are kept
+//! `fail`      all with work    it stays, and the ports take no more
+//!
+//! Room at the ports comes back when what was made of a message is wholly given. A [`Node`] is a block with its
+//! journal, and an [`Input`] is the values that are posted to a block from outside.
+//!
+//! Contracts see plain data (`specs/Block.antt`, `specs/Node.antt`, `specs/Input.antt`), and each call as a function on
+//! them. A call that takes memory may be refused, and then nothing has changed; all other calls take none.
 #![tactic(auto)]
 
+mod block;
+mod input;
 mod laws;
+mod moves;
+mod node;
+mod own;
+mod planned;
+mod ports;
 
+pub use block::Block;
+pub use input::Input;
 pub use laws::{
-    blocks_in_order_are_lawful, blocks_with_nothing_to_do_rest, calls_keep_blocks_in_order, calls_keep_inputs_in_order,
-    calls_move_views, fresh_blocks_are_in_order, inputs_are_parts, next_moves_have_causes, next_moves_may_be_made,
+    blocks_in_order_are_lawful, blocks_with_nothing_to_do_rest, calls_keep_blocks_in_order,
+    calls_keep_inputs_in_order, calls_move_views, fresh_blocks_are_in_order, inputs_are_parts,
+    next_moves_have_causes, next_moves_may_be_made,
 };
+pub use node::Node;
+pub use planned::{Route, port_of, ports_of, routes_of, rules_from};

@@ -37,7 +37,7 @@ use Rattle.flow_block.specs.Planned.{out_place, rule_of}
 use Rattle.flow_block.specs.ViewsMove.{CallsMoveViews}
 use Rattle.flow_core.specs.Events.{node_after, out_call, slot_after}
 use Rattle.flow_core.specs.OneMove.{SourceMoved, BlocksMoveWell}
-use Rattle.flow_core.proofs.PlacesOfLinks.{end_out_of}
+use Rattle.flow_core.proofs.PlacesOfLinks.{exit_there, rule_there}
 
 keeps : SourceMovesKeep Value
 keeps = source_moves_keep Value
@@ -215,7 +215,7 @@ module _ {W : Type 0} (layout : Layout W) (meaning : ℕ → Value → Result (L
       moves (move.Offer i) may allowed =
           let next = (offers_in_order.named exits k).0 may.1.next in
           let cut = not_passed (is_over end.stage) (is_cut end) (speaks_of exits.next end.stage)
-              (end.declined == exits.next) (rejects end.rule.when (head_of exits)) next.stops in
+          (end.declined == exits.next) (rejects end.rule.when (head_of exits)) next.stops in
           let known = (views layout meaning s node (NodeCall.offer k) law may.1).moved in
           let rises = (law.exits.law.each k there).risen in
           let told = sym (ap (λ (id : ℕ). phase_after phase (move.Offer id)) may.0) ∙ allowed in
@@ -225,7 +225,7 @@ module _ {W : Type 0} (layout : Layout W) (meaning : ℕ → Value → Result (L
       moves move.Give may allowed =
           let known = (views layout meaning s node (NodeCall.give k) law may).moved in
           let crossing = gives_head facts phase new slot target view.given view.last exits.next (is_some exits.offer)
-              known.value end.stage may.wanted ok allowed in
+          known.value end.stage may.wanted ok allowed in
           subst (λ (laid : Option Value). Moved laid (view_after (Some (NodeCall.give k)))) (sym known.head)
           (subst (Moved (Some known.value)) (sym known.view) crossing)
       moves move.Deny may allowed =
@@ -240,7 +240,7 @@ module _ {W : Type 0} (layout : Layout W) (meaning : ℕ → Value → Result (L
           let known = (views layout meaning s node (NodeCall.end_link k how) law may).moved in
           let passes = sym (ap (λ (rule : LinkRule). rule.passes) rule_is) in
           let told = ends_as_told facts (crossed view) (is_cut end) end.rule.passes node.block.stopped how passes whole
-              room may.is_due in
+          room may.is_due in
           subst (Moved slot) (sym known)
           (ends_on facts phase new slot target how view ok (is_at_home end.stage may.is_at_home.stands) told allowed)
       moves _ may allowed = absurd may
@@ -248,7 +248,8 @@ module _ {W : Type 0} (layout : Layout W) (meaning : ℕ → Value → Result (L
 pub blocks_move : {W : Type 0} → CallsMoveViews W → NextMovesMay W → BlocksMoveWell W
 blocks_move views may layout meaning runs l s low begins node law phase new slot target next ok peek allowed =
     let k = out_place layout s l in
-    let end = end_out_of layout meaning s node.block law.shape l low begins in
+    let place = exit_there layout meaning s node law l low begins in
+    let rule_is = rule_there layout meaning s node law l low begins in
     let block = runs.leads.from_block l s low begins in
-    let own = (may layout meaning s node runs.well_formed block law).1 k next end.there peek in
-    moves layout meaning s l k node law views end.there end.rule_is phase new slot target ok next own allowed
+    let own = (may layout meaning s node runs.well_formed block law).1 k next place peek in
+    moves layout meaning s l k node law views place rule_is phase new slot target ok next own allowed

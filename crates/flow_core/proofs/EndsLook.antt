@@ -30,30 +30,20 @@ use Rattle.flow_block.specs.ViewsMove.{CallsMoveViews}
 use Rattle.flow_core.specs.Events.{node_after, input_after, source_sees, target_sees}
 use Rattle.flow_core.specs.Keeps.{IsRun}
 use Rattle.flow_core.specs.State.{NetState, node_at, input_at}
-use Rattle.flow_core.proofs.PartsChange.{PartsKeep, given_at, taken_at, given_as, taken_as, exit_there, rule_there}
-use Rattle.flow_core.proofs.PartsChange.{port_there, entry_there}
-use Rattle.flow_core.proofs.EndsStep.{SourceSteps, TargetSteps, in_call_steps, out_call_steps, block_gives, block_takes}
+use Rattle.flow_core.proofs.PartsChange.{PartsInOrder, given_at, taken_at, given_as, taken_as}
+use Rattle.flow_core.proofs.EndsStep.{SourceSteps, TargetSteps, call_steps, block_gives, block_takes}
 use Rattle.flow_core.proofs.EndsStep.{input_gives}
+use Rattle.flow_core.proofs.PlacesOfLinks.{entry_there, exit_there, port_there, rule_there}
 
 -- a source's stage tells alike, in the program and in the model, whether its message was put off
 put_off_alike : (stage : SourceStage) → source_put_off (source_stage_of stage) ≡ is_put_off stage
 put_off_alike source.Free = refl
-put_off_alike (source.Posted i) = refl
-put_off_alike (source.Out i) = refl
-put_off_alike (source.Waiting i) = refl
-put_off_alike (source.Accepted i) = refl
-put_off_alike (source.Wished i) = refl
-put_off_alike (source.AskedBy i) = refl
-put_off_alike (source.Reserved i) = refl
-put_off_alike (source.Claimed i) = refl
-put_off_alike source.Crossing = refl
-put_off_alike source.Refused = refl
-put_off_alike (source.Ended how) = refl
+put_off_alike _ = refl
 
 module _ {W : Type 0} (kept : NodesKept W) (views : CallsMoveViews W) (inputs : InputsKeep)
     (layout : Layout W) (meaning : ℕ → Value → Result (List Value) ℕ) (run : IsRun layout)
     (l : ℕ) (there : l < length layout.links) (phase : Phase)
-    (net : NetState) (parts : PartsKeep layout meaning net) where
+    (net : NetState) (parts : PartsInOrder layout meaning net) where
   pub target_looks : (target : LinkTarget) → (link_in layout.links l).target ≡ target
       → TargetSteps layout meaning l net (target_sees layout meaning l phase target net)
       (looking_in phase (taken_at layout net l))
@@ -72,7 +62,7 @@ module _ {W : Type 0} (kept : NodesKept W) (views : CallsMoveViews W) (inputs : 
       subst (λ (view : TargetView Value). TargetSteps layout meaning l net new view)
       ((views layout meaning t node call law may).moved ∙ ap (looking_in phase) (sym known))
       (block_takes layout meaning l run there net parts t p (node_after layout meaning t (Some call)) to
-      (in_call_steps layout meaning kept views t node law p k call may (λ q j about. about) (λ j about. about)))
+      (call_steps layout meaning kept views t node law call may))
   target_looks Exit to = absurd (run.inside l there to)
 
   module _ (slot : Option Value) (target : TargetView Value)
@@ -109,7 +99,7 @@ module _ {W : Type 0} (kept : NodesKept W) (views : CallsMoveViews W) (inputs : 
         subst (λ (view : SourceView Value). SourceSteps layout meaning l net new view)
         ((views layout meaning s node call law may).moved ∙ ap (looking_out phase) (sym known))
         (block_gives layout meaning l run there net parts s (node_after layout meaning s (Some call)) from
-        (out_call_steps layout meaning kept views s node law k call may (λ q j about. about) (λ j about. about)))
+        (call_steps layout meaning kept views s node law call may))
     source_looks_out (Input b) from =
         let input = input_at layout net b in
         let law = parts.inputs b (run.leads.from_input l b there from) (run.leads.from_inputs l b there from) in

@@ -19,82 +19,52 @@ use Rattle.flow_block.specs.ViewsMove.{CallsMoveViews, IsAboutIn, IsAboutOut}
 use Rattle.flow_core.specs.Events.{node_after, out_call, in_call, input_call, input_after, with_node, with_input}
 use Rattle.flow_core.specs.Keeps.{IsRun}
 use Rattle.flow_core.specs.State.{NetState, node_at, input_at}
-use Rattle.flow_core.proofs.PartsChange.{PartsKeep, NodeSteps, given_at, taken_at, given_as, taken_as, begins_here}
-use Rattle.flow_core.proofs.PartsChange.{ends_here, node_changes, given_stays, taken_stays, node_is, input_changes}
+use Rattle.flow_core.proofs.PartsChange.{PartsInOrder, NodeSteps, given_at, taken_at, given_as, taken_as}
+use Rattle.flow_core.proofs.PartsChange.{node_changes, given_stays, taken_stays, node_is, input_changes}
 use Rattle.flow_core.proofs.PartsChange.{given_by_others, input_is, taken_as_before}
 use Rattle.flow_core.proofs.PlacesTell.{places_differ}
+use Rattle.flow_core.proofs.PlacesOfLinks.{begins_here, ends_here}
 
 module _ {W : Type 0} (layout : Layout W) (meaning : ℕ → Value → Result (List Value) ℕ) where
-  -- a node of which one end out of it learns something, or one end into it, or none
+  -- a node of which one end out of it learns something, or one end into it
   abbrev pub OutSteps : ℕ → ℕ → NodeState → NodeState → Type 0
   OutSteps b k node new = NodeSteps layout meaning b (λ q j. ⊥) (λ j. j ≡ k) node new
 
   abbrev pub InSteps : ℕ → ℕ → ℕ → NodeState → NodeState → Type 0
   InSteps b p k node new = NodeSteps layout meaning b (λ q j. (q ≡ p) × (j ≡ k)) (λ j. ⊥) node new
 
-  abbrev pub AloneSteps : ℕ → NodeState → NodeState → Type 0
-  AloneSteps b node new = NodeSteps layout meaning b (λ q j. ⊥) (λ j. ⊥) node new
-
   module _ (kept : NodesKept W) (views : CallsMoveViews W)
       (b : ℕ) (node : NodeState) (law : NodeLaw layout meaning b node) where
-    call_steps : (AboutIn : ℕ → ℕ → Type 0) (AboutOut : ℕ → Type 0) (call : NodeCall)
-        → MayCall layout meaning b call node
-        → ((p k : ℕ) → IsAboutIn p k call → AboutIn p k) → ((k : ℕ) → IsAboutOut k call → AboutOut k)
-        → NodeSteps layout meaning b AboutIn AboutOut node (after_call layout meaning b call node)
-    call_steps AboutIn AboutOut call may about_in about_out =
+    -- by a call those ends learn something that it is about
+    pub call_steps : (call : NodeCall) → MayCall layout meaning b call node
+        → NodeSteps layout meaning b (λ p k. IsAboutIn p k call) (λ k. IsAboutOut k call) node
+        (after_call layout meaning b call node)
+    call_steps call may =
         let others = (views layout meaning b node call law may).others in
-        record {
-          law = kept layout meaning b node call law may;
-          ins = λ p k port place apart. others.ins p k port place (λ about. apart (about_in p k about));
-          outs = λ k place apart. others.outs k place (λ about. apart (about_out k about));
-        }
-
-    pub alone_steps : (call : NodeCall) → MayCall layout meaning b call node
-        → ((q j : ℕ) → IsAboutIn q j call → ⊥) → ((j : ℕ) → IsAboutOut j call → ⊥)
-        → AloneSteps b node (after_call layout meaning b call node)
-    alone_steps call may about_in about_out = call_steps (λ q j. ⊥) (λ j. ⊥) call may about_in about_out
-
-    pub out_call_steps : (k : ℕ) (call : NodeCall) → MayCall layout meaning b call node
-        → ((q j : ℕ) → IsAboutIn q j call → ⊥) → ((j : ℕ) → IsAboutOut j call → j ≡ k)
-        → OutSteps b k node (after_call layout meaning b call node)
-    out_call_steps k call may about_in about_out = call_steps (λ q j. ⊥) (λ j. j ≡ k) call may about_in about_out
-
-    pub in_call_steps : (p k : ℕ) (call : NodeCall) → MayCall layout meaning b call node
-        → ((q j : ℕ) → IsAboutIn q j call → (q ≡ p) × (j ≡ k)) → ((j : ℕ) → IsAboutOut j call → ⊥)
-        → InSteps b p k node (after_call layout meaning b call node)
-    in_call_steps p k call may about_in about_out =
-        call_steps (λ q j. (q ≡ p) × (j ≡ k)) (λ j. ⊥) call may about_in about_out
+        record { law = kept layout meaning b node call law may; ins = others.ins; outs = others.outs }
 
     -- the move of an end, by the call that it is
     pub out_steps : (k : ℕ) (next : Move) → MayMoveOut layout meaning b node k next
         → OutSteps b k node (node_after layout meaning b (out_call k next) node)
-    out_steps k (move.Offer id) may = out_call_steps k (NodeCall.offer k) may.1 (λ q j about. about) (λ j about. about)
-    out_steps k move.Give may = out_call_steps k (NodeCall.give k) may (λ q j about. about) (λ j about. about)
-    out_steps k move.Deny may = out_call_steps k (NodeCall.deny k) may (λ q j about. about) (λ j about. about)
-    out_steps k move.Withdraw may = out_call_steps k (NodeCall.withdraw k) may (λ q j about. about) (λ j about. about)
-    out_steps k (move.End how) may =
-        out_call_steps k (NodeCall.end_link k how) may (λ q j about. about) (λ j about. about)
+    out_steps k (move.Offer id) may = call_steps (NodeCall.offer k) may.1
+    out_steps k move.Give may = call_steps (NodeCall.give k) may
+    out_steps k move.Deny may = call_steps (NodeCall.deny k) may
+    out_steps k move.Withdraw may = call_steps (NodeCall.withdraw k) may
+    out_steps k (move.End how) may = call_steps (NodeCall.end_link k how) may
     out_steps k _ may = absurd may
 
     -- where nothing lies in the slot, nothing is opened
     pub in_steps : (p k : ℕ) (slot : Option Value) (next : Move) → MayMoveIn layout meaning b node p k next
         → InSteps b p k node (node_after layout meaning b (in_call p k slot next) node)
-    in_steps p k slot move.Want may =
-        in_call_steps p k (NodeCall.want p k) may (λ q j about. about) (λ j about. about)
-    in_steps p k slot move.TurnDown may =
-        in_call_steps p k (NodeCall.turn_down p k) may (λ q j about. about) (λ j about. about)
-    in_steps p k slot move.Postpone may =
-        in_call_steps p k (NodeCall.postpone p k) may (λ q j about. about) (λ j about. about)
-    in_steps p k slot move.Refuse may =
-        in_call_steps p k (NodeCall.refuse p k) may (λ q j about. about) (λ j about. about)
-    in_steps p k slot move.Consume may =
-        in_call_steps p k (NodeCall.consume p k) may (λ q j about. about) (λ j about. about)
-    in_steps p k (Some value) move.Open may =
-        in_call_steps p k (NodeCall.open_with p k value) (may value) (λ q j about. about) (λ j about. about)
+    in_steps p k slot move.Want may = call_steps (NodeCall.want p k) may
+    in_steps p k slot move.TurnDown may = call_steps (NodeCall.turn_down p k) may
+    in_steps p k slot move.Postpone may = call_steps (NodeCall.postpone p k) may
+    in_steps p k slot move.Refuse may = call_steps (NodeCall.refuse p k) may
+    in_steps p k slot move.Consume may = call_steps (NodeCall.consume p k) may
+    in_steps p k (Some value) move.Open may = call_steps (NodeCall.open_with p k value) (may value)
     in_steps p k None move.Open may =
         record { law = law; ins = λ q j port place apart. refl; outs = λ j place apart. refl }
-    in_steps p k slot move.Close may =
-        in_call_steps p k (NodeCall.close p k) may (λ q j about. about) (λ j about. about)
+    in_steps p k slot move.Close may = call_steps (NodeCall.close p k) may
     in_steps p k slot _ may = absurd may
 
 -- the move of an input keeps it in order
@@ -108,21 +78,21 @@ input_steps keep input law _ may = absurd may
 module _ {W : Type 0} (layout : Layout W) (meaning : ℕ → Value → Result (List Value) ℕ) (l : ℕ) where
   -- the source of a link came to know this, and its target that
   pub record SourceSteps (old new : NetState) (view : SourceView Value) : Type 0 where
-    pub parts : PartsKeep layout meaning new
+    pub parts : PartsInOrder layout meaning new
     pub lines : new.lines ≡ old.lines
     pub given : given_at layout new l ≡ view
     pub others : (k : ℕ) → k < length layout.links → (k ≡ l → ⊥) → given_at layout new k ≡ given_at layout old k
     pub targets : (k : ℕ) → k < length layout.links → taken_at layout new k ≡ taken_at layout old k
 
   pub record TargetSteps (old new : NetState) (view : TargetView Value) : Type 0 where
-    pub parts : PartsKeep layout meaning new
+    pub parts : PartsInOrder layout meaning new
     pub lines : new.lines ≡ old.lines
     pub taken : taken_at layout new l ≡ view
     pub others : (k : ℕ) → k < length layout.links → (k ≡ l → ⊥) → taken_at layout new k ≡ taken_at layout old k
     pub sources : (k : ℕ) → k < length layout.links → given_at layout new k ≡ given_at layout old k
 
   module _ (run : IsRun layout) (there : l < length layout.links)
-      (net : NetState) (parts : PartsKeep layout meaning net) where
+      (net : NetState) (parts : PartsInOrder layout meaning net) where
     pub block_gives : (s : ℕ) (change : NodeState → NodeState) → (link_in layout.links l).source ≡ Block s
         → OutSteps layout meaning s (out_place layout s l) (node_at net s) (change (node_at net s))
         → SourceSteps net (with_node s change net) (out_view (out_place layout s l) (change (node_at net s)))

@@ -32,19 +32,20 @@ use Rattle.flow_core.specs.Keeps.{IsRun, NetKeeps}
 use Rattle.flow_core.specs.OneMove.{SourceMoved, TargetMoved, BlocksMoveWell, InputsMoveWell, TargetsMoveWell}
 use Rattle.flow_core.specs.State.{NetState, LineState, node_at, line_at, input_at}
 use Rattle.flow_core.specs.Statements.{EventsKeep}
-use Rattle.flow_core.proofs.PartsChange.{PartsKeep, given_at, taken_at, given_as, taken_as, parts_keep, exit_there}
-use Rattle.flow_core.proofs.PartsChange.{port_there, entry_there, node_changes, given_stays, taken_stays, line_changes}
-use Rattle.flow_core.proofs.EndsStep.{SourceSteps, TargetSteps, out_steps, in_steps, alone_steps, input_steps}
+use Rattle.flow_core.proofs.PartsChange.{PartsInOrder, given_at, taken_at, given_as, taken_as, parts_in_order}
+use Rattle.flow_core.proofs.PartsChange.{node_changes, given_stays, taken_stays, line_changes}
+use Rattle.flow_core.proofs.EndsStep.{SourceSteps, TargetSteps, out_steps, in_steps, call_steps, input_steps}
 use Rattle.flow_core.proofs.EndsStep.{block_gives, block_takes, input_gives}
 use Rattle.flow_core.proofs.LinesKeep.{net_keeps, keeps_with, line_stays}
 use Rattle.flow_core.proofs.EndsLook.{target_looks, source_looks_out}
+use Rattle.flow_core.proofs.PlacesOfLinks.{entry_there, exit_there, port_there}
 
 module _ {W : Type 0} (kept : NodesKept W) (views : CallsMoveViews W) (next_may : NextMovesMay W) (inputs : InputsKeep)
     (blocks_move : BlocksMoveWell W) (inputs_move : InputsMoveWell W) (targets_move : TargetsMoveWell W)
     (layout : Layout W) (meaning : ℕ → Value → Result (List Value) ℕ) (run : IsRun layout)
     (net : NetState) (keeps : NetKeeps layout meaning net) where
-  parts : PartsKeep layout meaning net
-  parts = parts_keep layout meaning net keeps
+  parts : PartsInOrder layout meaning net
+  parts = parts_in_order layout meaning net keeps
 
   -- A move of a link
   module _ (l : ℕ) (there : l < length layout.links) (next : Move) (phase : Phase)
@@ -200,16 +201,16 @@ module _ {W : Type 0} (kept : NodesKept W) (views : CallsMoveViews W) (next_may 
         → ((q j : ℕ) → IsAboutIn q j call → ⊥) → ((j : ℕ) → IsAboutOut j call → ⊥)
         → NetKeeps layout meaning (with_node b (node_after layout meaning b (Some call)) net)
     call_keeps call may about_in about_out =
+        let In : ℕ → ℕ → Type 0 = λ p j. IsAboutIn p j call in
+        let Out : ℕ → Type 0 = λ j. IsAboutOut j call in
         let change = node_after layout meaning b (Some call) in
-        let law = keeps.nodes b low in
-        let steps = alone_steps layout meaning kept views b (node_at net b) law call may about_in about_out in
+        let steps = call_steps layout meaning kept views b (node_at net b) (keeps.nodes b low) call may in
         let new = with_node b change net in
-        let parts_then = node_changes layout meaning run net parts b low (λ q j. ⊥) (λ j. ⊥) change steps in
+        let parts_then = node_changes layout meaning run net parts b low In Out change steps in
         keeps_with layout meaning net keeps new parts_then (λ k there.
         line_stays layout meaning net keeps new parts_then k there refl
-        (given_stays layout meaning run net parts b low (λ q j. ⊥) (λ j. ⊥) change steps k there (λ leads about. about))
-        (taken_stays layout meaning run net parts b low (λ q j. ⊥) (λ j. ⊥) change steps k there
-        (λ p leads about. about)))
+        (given_stays layout meaning run net parts b low In Out change steps k there (λ leads. about_out _))
+        (taken_stays layout meaning run net parts b low In Out change steps k there (λ p leads. about_in p _)))
 
     fault_keeps : (found : Option ℕ) → next_fault (node_at net b).block ≡ found → is_some found ≡ true
         → NetKeeps layout meaning (with_node b (node_after layout meaning b (option_map NodeCall.fault found)) net)

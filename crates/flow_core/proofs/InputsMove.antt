@@ -69,7 +69,7 @@ module _ (facts : LinkFacts) (phase new : Phase) (slot : Option Value) (target :
         let view = input_view input in
         let known = keeps.views input InputCall.give law may in
         let crossing = gives_next view.given view.last (next_id input) known.value input.stage may
-            (λ i e. (law.speaks i e).0) ok allowed in
+        (λ i e. (law.speaks i e).0) ok allowed in
         let after = input_view (input_after (Some InputCall.give) input) in
         subst (λ (laid : Option Value). Moved laid after) (sym known.next)
         (subst (Moved (Some known.value)) (sym known.view) crossing)

@@ -6,11 +6,14 @@ pub mod FreshNets
 pub mod InputsMove
 pub mod KeptIsLawful
 pub mod LinesKeep
+pub mod LinksTakeFreely
 pub mod NetworksInOrder
 pub mod NextIsAllowed
 pub mod PartsChange
 pub mod PlacesOfLinks
 pub mod PlacesTell
 pub mod SchedulesGoWell
+pub mod SoleLinks
+pub mod StagesShow
 pub mod StillIsQuiet
 pub mod TargetsMove

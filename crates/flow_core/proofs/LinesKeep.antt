@@ -10,15 +10,15 @@ use Rattle.flow_link.specs.Looks.{Seen}
 use Rattle.flow_link.specs.Views.{SourceView, TargetView}
 use Rattle.flow_core.specs.Keeps.{LineKeeps, NetKeeps}
 use Rattle.flow_core.specs.State.{NetState, LineState, fresh_line, line_at}
-use Rattle.flow_core.proofs.PartsChange.{PartsKeep, given_at, taken_at}
+use Rattle.flow_core.proofs.PartsChange.{PartsInOrder, given_at, taken_at}
 
-module _ {W : Type 0} (layout : Layout W) (meaning : ℕ → Value → Result (List Value) ℕ) where
+module _ {W : Type 0} (layout : Layout W) where
   -- a link in order, of which both ends have seen the phase
   abbrev pub IsKept : ℕ → LineState → SourceView Value → TargetView Value → Type 0
   IsKept k line source target =
       LinkOk (facts_in layout k) line.phase line.slot source target × Seen line.phase source target
 
-  line_keeps : (new : NetState) (k : ℕ) (line : LineState) (source : SourceView Value) (target : TargetView Value)
+  pub line_keeps : (new : NetState) (k : ℕ) (line : LineState) (source : SourceView Value) (target : TargetView Value)
       → line_at new k ≡ line → given_at layout new k ≡ source → taken_at layout new k ≡ target
       → IsKept k line source target
       → LineKeeps layout new k
@@ -29,8 +29,8 @@ module _ {W : Type 0} (layout : Layout W) (meaning : ℕ → Value → Result (L
       (subst (λ (view : TargetView Value). IsKept k line source view) (sym taken_is) is_kept)) in
       record { in_order = now.0; seen = now.1 }
 
-  module _ (net : NetState) (keeps : NetKeeps layout meaning net)
-      (new : NetState) (parts : PartsKeep layout meaning new) where
+  module _ (meaning : ℕ → Value → Result (List Value) ℕ) (net : NetState) (keeps : NetKeeps layout meaning net)
+      (new : NetState) (parts : PartsInOrder layout meaning new) where
     -- nothing has changed at this link
     pub line_stays : (k : ℕ) → k < length layout.links → line_at new k ≡ line_at net k
         → given_at layout new k ≡ given_at layout net k → taken_at layout new k ≡ taken_at layout net k

@@ -13,7 +13,7 @@ use Rattle.flow_core.proofs.BlocksMove.{blocks_move}
 use Rattle.flow_core.proofs.EventsKeep.{events_keep}
 use Rattle.flow_core.proofs.FreshNets.{fresh_keeps}
 use Rattle.flow_core.proofs.InputsMove.{inputs_move}
-use Rattle.flow_core.proofs.KeptIsLawful.{kept_is_lawful, parts_keep}
+use Rattle.flow_core.proofs.KeptIsLawful.{kept_is_lawful}
 use Rattle.flow_core.proofs.SchedulesGoWell.{schedules_go_well}
 use Rattle.flow_core.proofs.StillIsQuiet.{still_is_quiet}
 use Rattle.flow_core.proofs.TargetsMove.{targets_move}
@@ -24,15 +24,16 @@ fresh_nets_keep W = fresh_keeps (fresh_in_order W) inputs_keep
 pub all_events_keep : (W : Type 0) → EventsKeep W
 all_events_keep W =
     events_keep (nodes_kept W) (calls_move_views W) next_moves_may inputs_keep
-    (blocks_move (calls_move_views W) next_moves_may) (inputs_move inputs_keep) (targets_move (calls_move_views W) next_moves_may)
+    (blocks_move (calls_move_views W) next_moves_may) (inputs_move inputs_keep)
+    (targets_move (calls_move_views W) next_moves_may)
 
 pub kept_nets_are_lawful : (W : Type 0) → KeptIsLawful W
 kept_nets_are_lawful W = kept_is_lawful (nodes_are_lawful W) (inputs_are_parts W)
 
 pub still_nets_are_quiet : (W : Type 0) → StillIsQuiet W
 still_nets_are_quiet W =
-    still_is_quiet (nodes_are_still W) (nodes_rest W) (inputs_are_parts W)
-    (λ layout meaning runs net keeps. parts_keep layout meaning runs net keeps (nodes_are_lawful W) (inputs_are_parts W))
+    still_is_quiet (nodes_are_still W) (nodes_rest W) (nodes_are_lawful W) (inputs_are_parts W)
 
 pub all_schedules_go_well : (W : Type 0) → SchedulesGoWell W
-all_schedules_go_well W = schedules_go_well (all_events_keep W) (fresh_nets_keep W) (kept_nets_are_lawful W) (still_nets_are_quiet W)
+all_schedules_go_well W =
+    schedules_go_well (all_events_keep W) (fresh_nets_keep W) (kept_nets_are_lawful W) (still_nets_are_quiet W)

@@ -1,11 +1,12 @@
 -- What an end of a link would do next is a move that the link's phase allows.
-use Rattle.std.proofs.Common.{◌≡◌, ◌≢◌, ℕ, ◌==◌, ◌||◌, ◌&&◌, not, cond, Bool, true, false, Option, Some, None, is_some, ⊎_elim, refl, ap, sym, ◌∙◌}
+use Rattle.std.proofs.Common.{◌≡◌, ℕ, ◌==◌, ◌||◌, ◌&&◌, not, cond, Bool, true, false, Option, Some, None, is_some, refl, ap, sym, ◌∙◌}
+use Rattle.std.proofs.lemmas.Bool.{not-true}
 use Rattle.flow_value.specs.declared.value.Value.{Value}
 use Rattle.flow_value.specs.declared.message.MessageStatus.{MessageStatus}
 use Rattle.flow_value.specs.declared.message.MessageStatus.TheVariants as status
 use Rattle.flow_link.specs.declared.phase.LinkEnd.{LinkEnd}
 use Rattle.flow_link.specs.declared.phase.Phase.{Phase}
-use Rattle.flow_link.specs.declared.phase.Phase.TheVariants.{Idle, Posted, Offered, Postponed, Wanted, Given, Opened, Asked, Held, Refused, Ended}
+use Rattle.flow_link.specs.declared.phase.Phase.TheVariants.{Given, Opened}
 use Rattle.flow_link.specs.declared.phase.Move.{Move}
 use Rattle.flow_link.specs.declared.phase.Move.TheVariants as move
 use Rattle.flow_link.specs.declared.plan.LinkSource.{LinkSource}
@@ -25,9 +26,10 @@ use Rattle.flow_link.specs.Phase.{phase_after}
 use Rattle.flow_link.specs.Plan.{link_in}
 use Rattle.flow_link.specs.Stage.{source_stage_of, target_stage_of}
 use Rattle.flow_link.specs.Views.{SourceStage, TargetStage}
+use Rattle.flow_link.proofs.ListTests.{both_of}
 use Rattle.flow_link.proofs.LooksKeepOrder.{looks_keep}
 use Rattle.flow_intake.specs.Port.{PortState, stage_at as port_stage, hand_in, has_room}
-use Rattle.flow_intake.specs.Calls.{move_of, move_at as in_move_at, is_at as is_queued_at, next_place, answer_to, answer_where}
+use Rattle.flow_intake.specs.Calls.{move_of, move_at as in_move_at, is_at as is_queued_at, next_place, answer_where}
 use Rattle.flow_outlet.specs.Outlet.{OutletState, stage_at, end_at, end_of, free_move, is_at, may_offer, move_at as out_move_at}
 use Rattle.flow_block.specs.Block.{port_at}
 use Rattle.flow_block.specs.Input.{InputState, move_from, end_move, end_by, has_next, next_id}
@@ -36,33 +38,19 @@ use Rattle.flow_block.specs.Planned.{in_place, out_place}
 use Rattle.flow_core.specs.Events.{is_of_source, peek_by, source_peek, target_peek}
 use Rattle.flow_core.specs.State.{NetState, node_at, line_at, input_at, ends_of, source_from, target_from}
 use Rattle.flow_core.specs.Statements.{NextIsAllowed}
+use Rattle.flow_core.proofs.StagesShow.{source_shows, source_shown, target_shows, target_shown}
 
--- the moves that an end at a stage ever makes, if it makes one
-abbrev pub source_fits : SourceStage → Option Move → Bool
+abbrev is_allowed : Phase → Move → Bool
+is_allowed phase next = is_some (phase_after phase next)
+
+-- a next move, if there is one, is the end's own, and one that the phase allows which it has seen
+abbrev source_fits : SourceStage → Option Move → Bool
 source_fits s None = true
-source_fits SourceStage.free (Some (move.Offer _)) = true
-source_fits SourceStage.free (Some (move.End _)) = true
-source_fits (SourceStage.waiting _) (Some move.Withdraw) = true
-source_fits (SourceStage.accepted _) (Some move.Give) = true
-source_fits (SourceStage.wished _) (Some move.Give) = true
-source_fits (SourceStage.wished _) (Some move.Deny) = true
-source_fits (SourceStage.asked_by _) (Some move.Deny) = true
-source_fits (SourceStage.claimed _) (Some move.Give) = true
-source_fits _ _ = false
+source_fits s (Some next) = is_allowed (source_shows s) next && is_of_source next
 
-abbrev pub target_fits : TargetStage Value → Option Move → Bool
+abbrev target_fits : TargetStage Value → Option Move → Bool
 target_fits t None = true
-target_fits (TargetStage.offered _) (Some move.Want) = true
-target_fits (TargetStage.offered _) (Some move.Postpone) = true
-target_fits (TargetStage.offered _) (Some move.Refuse) = true
-target_fits (TargetStage.posted _) (Some move.Want) = true
-target_fits (TargetStage.posted _) (Some move.TurnDown) = true
-target_fits (TargetStage.posted _) (Some move.Refuse) = true
-target_fits (TargetStage.postponed _) (Some move.Refuse) = true
-target_fits (TargetStage.postponed _) (Some move.Consume) = true
-target_fits (TargetStage.arrived _) (Some move.Open) = true
-target_fits (TargetStage.hand _ _) (Some move.Close) = true
-target_fits _ _ = false
+target_fits t (Some next) = is_allowed (target_shows t) next && not (is_of_source next)
 
 -- an outlet's end, and an input, make only such moves
 either : (test : Option Move → Bool) (b : Bool) (one other : Option Move) → test one ≡ true → test other ≡ true
@@ -108,35 +96,14 @@ input_fits input (source.Wished i) = refl
 input_fits input _ = refl
 
 -- so does a port's end
-offer_fits : (i : ℕ) (answer : MessageStatus) → answer ≢ status.Declined
-    → target_fits (TargetStage.offered i) (move_of answer) ≡ true
-offer_fits i status.Accepted never = refl
-offer_fits i status.Declined never = absurd (never refl)
-offer_fits i status.Postponed never = refl
-offer_fits i status.NotAvailable never = refl
-offer_fits i status.DecliningPermanently never = refl
-
-never_declined : (refusing : Option Refusal) (reserves free : Bool)
-    → answer_where refusing reserves free status.Postponed ≢ status.Declined
-never_declined (Some why) reserves free same = cc
-never_declined None true free same = cc
-never_declined None false true same = cc
-never_declined None false false same = cc
-
-post_fits : (i : ℕ) (answer : MessageStatus) → answer ≢ status.Postponed
-    → target_fits (TargetStage.posted i) (move_of answer) ≡ true
-post_fits i status.Accepted never = refl
-post_fits i status.Declined never = refl
-post_fits i status.Postponed never = absurd (never refl)
-post_fits i status.NotAvailable never = refl
-post_fits i status.DecliningPermanently never = refl
-
-never_put_off : (refusing : Option Refusal) (reserves free : Bool)
-    → answer_where refusing reserves free status.Declined ≢ status.Postponed
-never_put_off (Some why) reserves free same = cc
-never_put_off None true free same = cc
-never_put_off None false true same = cc
-never_put_off None false false same = cc
+reply_fits : (t : TargetStage Value) (put_off : MessageStatus) → target_fits t (move_of put_off) ≡ true
+    → target_fits t (Some move.Want) ≡ true → target_fits t (Some move.Refuse) ≡ true
+    → (refusing : Option Refusal) (reserves free : Bool)
+    → target_fits t (move_of (answer_where refusing reserves free put_off)) ≡ true
+reply_fits t put_off puts_off wants refuses (Some why) reserves free = refuses
+reply_fits t put_off puts_off wants refuses None true free = puts_off
+reply_fits t put_off puts_off wants refuses None false true = wants
+reply_fits t put_off puts_off wants refuses None false false = puts_off
 
 queued_fits : (i : ℕ) (refusing : Option Refusal) (b : Bool)
     → target_fits (TargetStage.postponed i)
@@ -147,135 +114,41 @@ queued_fits i None b = either (target_fits (TargetStage.postponed i)) b (Some mo
 in_fits : (k : ℕ) (port : PortState) (stage : TargetKept) (hand : Option Value)
     → target_fits (target_stage_of stage hand) (in_move_at k port stage) ≡ true
 in_fits k port (target.Offered i) hand =
-    offer_fits i (answer_to true port)
-    (never_declined port.refusing port.reserves (has_room port && is_empty port.queue))
+    reply_fits (TargetStage.offered i) status.Postponed refl refl refl port.refusing port.reserves
+    (has_room port && is_empty port.queue)
 in_fits k port (target.Posted i) hand =
-    post_fits i (answer_to false port)
-    (never_put_off port.refusing port.reserves (has_room port && is_empty port.queue))
+    reply_fits (TargetStage.posted i) status.Declined refl refl refl port.refusing port.reserves
+    (has_room port && is_empty port.queue)
 in_fits k port (target.Postponed i) hand = queued_fits i port.refusing (is_queued_at k (next_place port))
 in_fits k port (target.Arrived i) hand = refl
 in_fits k port (target.Hand i) hand = refl
 in_fits k port _ hand = refl
 
--- at each phase that both ends have seen, the moves that fit their stages are allowed
-idle_allows : (next : Move) → source_fits SourceStage.free (Some next) ≡ true → is_some (phase_after Idle next) ≡ true
-idle_allows (move.Offer i) e = refl
-idle_allows (move.End how) e = refl
-idle_allows _ e = absurd (cc)
+-- the phase that both ends have seen allows it too: a source has no move while its message crosses
+source_may : (next : Move) (phase : Phase) (s : SourceStage) (t : TargetStage Value) → SeenAt phase s t
+    → source_fits s (Some next) ≡ (is_allowed phase next && is_of_source next)
+source_may next phase s t seen =
+    source_shown (λ at. is_allowed at next && is_of_source next) (given_alike next) (opened_alike next) phase s t seen
+  where
+    given_alike : (next : Move) (i : ℕ)
+        → (is_allowed (Given 0) next && is_of_source next) ≡ (is_allowed (Given i) next && is_of_source next)
+    given_alike move.Open i = refl
+    given_alike _ i = refl
 
-waiting_allows : (i : ℕ) (next : Move) → source_fits (SourceStage.waiting i) (Some next) ≡ true
-    → is_some (phase_after (Postponed i) next) ≡ true
-waiting_allows i move.Withdraw e = refl
-waiting_allows i _ e = absurd (cc)
+    opened_alike : (next : Move) (i : ℕ)
+        → (is_allowed (Given 0) next && is_of_source next) ≡ (is_allowed (Opened i) next && is_of_source next)
+    opened_alike move.Open i = refl
+    opened_alike move.Close i = refl
+    opened_alike _ i = refl
 
-accepted_allows : (i : ℕ) (next : Move) → source_fits (SourceStage.accepted i) (Some next) ≡ true
-    → is_some (phase_after (Wanted i) next) ≡ true
-accepted_allows i move.Give e = refl
-accepted_allows i _ e = absurd (cc)
-
-wished_allows : (i : ℕ) (next : Move) → source_fits (SourceStage.wished i) (Some next) ≡ true
-    → is_some (phase_after (Wanted i) next) ≡ true
-wished_allows i move.Give e = refl
-wished_allows i move.Deny e = refl
-wished_allows i _ e = absurd (cc)
-
-claimed_allows : (i : ℕ) (next : Move) → source_fits (SourceStage.claimed i) (Some next) ≡ true
-    → is_some (phase_after (Wanted i) next) ≡ true
-claimed_allows i move.Give e = refl
-claimed_allows i _ e = absurd (cc)
-
-asked_allows : (i : ℕ) (next : Move) → source_fits (SourceStage.asked_by i) (Some next) ≡ true
-    → is_some (phase_after (Asked i) next) ≡ true
-asked_allows i move.Deny e = refl
-asked_allows i _ e = absurd (cc)
-
-source_allowed : (phase : Phase) (s : SourceStage) (t : TargetStage Value) → SeenAt phase s t → (next : Move)
-    → source_fits s (Some next) ≡ true
-    → is_some (phase_after phase next) ≡ true
-source_allowed Idle s t h next e = idle_allows next (sym (ap (λ (x : SourceStage). source_fits x (Some next)) h.0) ∙ e)
-source_allowed (Postponed i) s t h next e =
-    waiting_allows i next (sym (ap (λ (x : SourceStage). source_fits x (Some next)) h.0) ∙ e)
-source_allowed (Wanted i) s t h next e =
-    ⊎_elim (λ is. accepted_allows i next (sym (ap (λ (x : SourceStage). source_fits x (Some next)) is) ∙ e))
-    (λ rest. ⊎_elim (λ is. wished_allows i next (sym (ap (λ (x : SourceStage). source_fits x (Some next)) is) ∙ e))
-    (λ rest. ⊎_elim (λ is. claimed_allows i next (sym (ap (λ (x : SourceStage). source_fits x (Some next)) is) ∙ e))
-    (λ is. let wrong : true ≡ false = sym e ∙ ap (λ (x : SourceStage). source_fits x (Some next)) is in absurd (cc))
-    rest) rest) h.0
-source_allowed (Asked i) s t h next e =
-    asked_allows i next (sym (ap (λ (x : SourceStage). source_fits x (Some next)) h.0) ∙ e)
-source_allowed (Posted i) s t h next e =
-    let wrong : true ≡ false = sym e ∙ ap (λ (x : SourceStage). source_fits x (Some next)) h.0 in absurd (cc)
-source_allowed (Offered i) s t h next e =
-    let wrong : true ≡ false = sym e ∙ ap (λ (x : SourceStage). source_fits x (Some next)) h.0 in absurd (cc)
-source_allowed (Given i) s t h next e =
-    let wrong : true ≡ false = sym e ∙ ap (λ (x : SourceStage). source_fits x (Some next)) h.0 in absurd (cc)
-source_allowed (Opened i) s t h next e =
-    let wrong : true ≡ false = sym e ∙ ap (λ (x : SourceStage). source_fits x (Some next)) h.0 in absurd (cc)
-source_allowed (Held i) s t h next e =
-    let wrong : true ≡ false = sym e ∙ ap (λ (x : SourceStage). source_fits x (Some next)) h.0 in absurd (cc)
-source_allowed Refused s t h next e =
-    let wrong : true ≡ false = sym e ∙ ap (λ (x : SourceStage). source_fits x (Some next)) h.0 in absurd (cc)
-source_allowed (Ended how) s t h next e =
-    let wrong : true ≡ false = sym e ∙ ap (λ (x : SourceStage). source_fits x (Some next)) h.0 in absurd (cc)
-
-offered_allows : (i : ℕ) (next : Move) → target_fits (TargetStage.offered i) (Some next) ≡ true
-    → is_some (phase_after (Offered i) next) ≡ true
-offered_allows i move.Want e = refl
-offered_allows i move.Postpone e = refl
-offered_allows i move.Refuse e = refl
-offered_allows i _ e = absurd (cc)
-
-posted_allows : (i : ℕ) (next : Move) → target_fits (TargetStage.posted i) (Some next) ≡ true
-    → is_some (phase_after (Posted i) next) ≡ true
-posted_allows i move.Want e = refl
-posted_allows i move.TurnDown e = refl
-posted_allows i move.Refuse e = refl
-posted_allows i _ e = absurd (cc)
-
-postponed_allows : (i : ℕ) (next : Move) → target_fits (TargetStage.postponed i) (Some next) ≡ true
-    → is_some (phase_after (Postponed i) next) ≡ true
-postponed_allows i move.Refuse e = refl
-postponed_allows i move.Consume e = refl
-postponed_allows i _ e = absurd (cc)
-
-arrived_allows : (i : ℕ) (next : Move) → target_fits (TargetStage.arrived i) (Some next) ≡ true
-    → is_some (phase_after (Given i) next) ≡ true
-arrived_allows i move.Open e = refl
-arrived_allows i _ e = absurd (cc)
-
-hand_allows : (i : ℕ) (value : Value) (next : Move) → target_fits (TargetStage.hand i value) (Some next) ≡ true
-    → is_some (phase_after (Opened i) next) ≡ true
-hand_allows i value move.Close e = refl
-hand_allows i value _ e = absurd (cc)
-
--- a test of a target's stage carries over
-module _ (next : Move) where
-  abbrev fits : TargetStage Value → Bool
-  fits t = target_fits t (Some next)
-
-  moved : (t s : TargetStage Value) → t ≡ s → fits t ≡ true → fits s ≡ true
-  moved t s is e = sym (ap fits is) ∙ e
-
-  target_allowed : (phase : Phase) (s : SourceStage) (t : TargetStage Value) → SeenAt phase s t → fits t ≡ true
-      → is_some (phase_after phase next) ≡ true
-  target_allowed (Posted i) s t h e = posted_allows i next (moved t (TargetStage.posted i) h.1 e)
-  target_allowed (Offered i) s t h e = offered_allows i next (moved t (TargetStage.offered i) h.1 e)
-  target_allowed (Postponed i) s t h e = postponed_allows i next (moved t (TargetStage.postponed i) h.1 e)
-  target_allowed (Given i) s t h e = arrived_allows i next (moved t (TargetStage.arrived i) h.1 e)
-  target_allowed (Opened i) s t h e = hand_allows i h.1.0 next (moved t (TargetStage.hand i h.1.0) h.1.1 e)
-  target_allowed (Wanted i) s t h e =
-      ⊎_elim (λ is. let wrong : false ≡ true = moved t (TargetStage.accepted i) is e in absurd (cc))
-      (λ rest. ⊎_elim (λ is. let wrong : false ≡ true = moved t (TargetStage.consuming i) is e in absurd (cc))
-      (λ is. let wrong : false ≡ true = moved t (TargetStage.claiming i) is e in absurd (cc)) rest) h.1
-  target_allowed Idle s t h e = let wrong : false ≡ true = moved t TargetStage.free h.1 e in absurd (cc)
-  target_allowed (Asked i) s t h e = let wrong : false ≡ true = moved t (TargetStage.asking i) h.1 e in absurd (cc)
-  target_allowed (Held i) s t h e = let wrong : false ≡ true = moved t (TargetStage.holding i) h.1 e in absurd (cc)
-  target_allowed Refused s t h e = let wrong : false ≡ true = moved t (TargetStage.refused h.1.0) h.1.1 e in absurd (cc)
-  target_allowed (Ended how) s t h e = let wrong : false ≡ true = moved t (TargetStage.ended how) h.1 e in absurd (cc)
+target_may : (next : Move) (phase : Phase) (s : SourceStage) (t : TargetStage Value) → SeenAt phase s t
+    → target_fits t (Some next) ≡ (is_allowed phase next && not (is_of_source next))
+target_may next phase s t seen =
+    ap (λ (at : Phase). is_allowed at next && not (is_of_source next)) (target_shown phase s t seen)
 
 -- the two ends of a link
 module _ {W : Type 0} (layout : Layout W) (net : NetState) (l : ℕ) where
-  pub source_peek_fits : (from : LinkSource)
+  source_peek_fits : (from : LinkSource)
       → source_fits (source_from layout net l from).stage (source_peek layout net l from) ≡ true
   source_peek_fits (Block s) =
       let node = node_at net s in
@@ -283,7 +156,7 @@ module _ {W : Type 0} (layout : Layout W) (net : NetState) (l : ℕ) where
       (stage_at node.block.exits (out_place layout s l))
   source_peek_fits (Input b) = input_fits (input_at layout net b) (input_at layout net b).stage
 
-  pub target_peek_fits : (into : LinkTarget)
+  target_peek_fits : (into : LinkTarget)
       → target_fits (target_from layout net l into).stage (target_peek layout net l into) ≡ true
   target_peek_fits (Port t p) =
       let port = port_at p (node_at net t).block in
@@ -291,20 +164,46 @@ module _ {W : Type 0} (layout : Layout W) (net : NetState) (l : ℕ) where
       (hand_in (in_place layout t p l) port.ends)
   target_peek_fits Exit = refl
 
-  by_owner : (b : Bool) (next : Move)
-      → SeenAt (line_at net l).phase (ends_of layout net l).source.stage (ends_of layout net l).target.stage
+  abbrev source_stage : SourceStage
+  source_stage = (ends_of layout net l).source.stage
+
+  abbrev target_stage : TargetStage Value
+  target_stage = (ends_of layout net l).target.stage
+
+  source_next_fits : (next : Move) → source_peek layout net l (link_in layout.links l).source ≡ Some next
+      → source_fits source_stage (Some next) ≡ true
+  source_next_fits next peek =
+      sym (ap (source_fits source_stage) peek) ∙ source_peek_fits (link_in layout.links l).source
+
+  target_next_fits : (next : Move) → target_peek layout net l (link_in layout.links l).target ≡ Some next
+      → target_fits target_stage (Some next) ≡ true
+  target_next_fits next peek =
+      sym (ap (target_fits target_stage) peek) ∙ target_peek_fits (link_in layout.links l).target
+
+  -- the next move of an end tells whose it is
+  pub of_source : (next : Move) → source_peek layout net l (link_in layout.links l).source ≡ Some next
+      → is_of_source next ≡ true
+  of_source next peek =
+      (both_of (is_allowed (source_shows source_stage) next) (is_of_source next) (source_next_fits next peek)).1
+
+  pub of_target : (next : Move) → target_peek layout net l (link_in layout.links l).target ≡ Some next
+      → is_of_source next ≡ false
+  of_target next peek =
+      let both = both_of (is_allowed (target_shows target_stage) next) (not (is_of_source next))
+      (target_next_fits next peek) in
+      not-true (is_of_source next) both.1
+
+  by_owner : (b : Bool) (next : Move) → SeenAt (line_at net l).phase source_stage target_stage
       → peek_by layout b net l (link_in layout.links l) ≡ Some next
-      → is_some (phase_after (line_at net l).phase next) ≡ true
+      → is_allowed (line_at net l).phase next ≡ true
   by_owner true next seen peek =
-      source_allowed (line_at net l).phase (ends_of layout net l).source.stage (ends_of layout net l).target.stage
-      seen next
-      (sym (ap (source_fits (ends_of layout net l).source.stage) peek)
-      ∙ source_peek_fits (link_in layout.links l).source)
+      let phase = (line_at net l).phase in
+      (both_of (is_allowed phase next) (is_of_source next)
+      (sym (source_may next phase source_stage target_stage seen) ∙ source_next_fits next peek)).0
   by_owner false next seen peek =
-      target_allowed next (line_at net l).phase (ends_of layout net l).source.stage (ends_of layout net l).target.stage
-      seen
-      (sym (ap (target_fits (ends_of layout net l).target.stage) peek)
-      ∙ target_peek_fits (link_in layout.links l).target)
+      let phase = (line_at net l).phase in
+      (both_of (is_allowed phase next) (not (is_of_source next))
+      (sym (target_may next phase source_stage target_stage seen) ∙ target_next_fits next peek)).0
 
 pub next_is_allowed : {W : Type 0} → NextIsAllowed W
 next_is_allowed layout meaning runs net l next keeps there peek =

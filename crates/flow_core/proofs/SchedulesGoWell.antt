@@ -1,5 +1,6 @@
--- Whatever events are asked for, in whatever order, the run so far is lawful, and quiet where nothing may happen any more.
-use Rattle.std.proofs.Common.{◌≡◌, ℕ, zero, suc, Bool, true, false, List, [], ◌∷◌, ◌⊎◌, ⊎_elim, length, get_or, set, map, count_by, Option, Some, None, Result, option_map, refl, ap, sym, subst, ◌∙◌}
+-- Whatever events are asked for, in whatever order, the run so far is lawful, and quiet where nothing may happen.
+use Rattle.std.proofs.Common.{◌≡◌, ℕ, Bool, true, false, List, [], ◌∷◌, ⊎_elim, map, Option, Some, None, Result, refl, sym, subst, ◌∙◌}
+use Rattle.std.proofs.Math.Seq.{map-set_same}
 use Rattle.flow_value.specs.declared.value.Value.{Value}
 use Rattle.flow_link.specs.declared.phase.Move.{Move}
 use Rattle.flow_link.specs.declared.phase.Phase.{Phase}
@@ -12,19 +13,13 @@ use Rattle.flow_link.specs.Layout.{Layout}
 use Rattle.flow_link.specs.Phase.{phase_after}
 use Rattle.flow_link.specs.Plan.{link_in}
 use Rattle.flow_link.specs.Trace.{InputTrace}
-use Rattle.flow_block.specs.Input.{InputState, InputCall, no_input, input_trace, after_input}
-use Rattle.flow_core.specs.Events.{NetEvent, MayHappen, after, after_move, moved_by, source_moves, target_moves, source_sees, target_sees, with_line, line_after, with_input, is_of_source, input_after, input_call}
+use Rattle.flow_block.specs.Input.{InputState, InputCall, no_input, input_trace}
+use Rattle.flow_core.specs.Events.{NetEvent, after, after_move, moved_by, source_moves, target_moves, source_sees, target_sees, with_line, line_after, with_input, is_of_source, input_after, input_call}
 use Rattle.flow_core.specs.Keeps.{IsRun, NetKeeps}
 use Rattle.flow_core.specs.State.{NetState, line_at, input_at, input_place, fresh_net}
-use Rattle.flow_core.specs.Statements.{EventsKeep, FreshKeeps, KeptIsLawful, StillIsQuiet, SchedulesGoWell, Goes, Answers, Happens, IsPassedOver}
+use Rattle.flow_core.specs.Statements.{EventsKeep, FreshKeeps, KeptIsLawful, StillIsQuiet, SchedulesGoWell, Goes, Answers}
 
 -- what is posted stays
-same_set : (inputs : List InputState) (k : ℕ) (new : InputState) → input_trace new ≡ input_trace (get_or inputs k no_input)
-    → map input_trace (set inputs k new) ≡ map input_trace inputs
-same_set [] k new same = refl
-same_set (input ∷ inputs) zero new same = ap (λ (trace : InputTrace). trace ∷ map input_trace inputs) same
-same_set (input ∷ inputs) (suc k) new same = ap (λ (traces : List InputTrace). input_trace input ∷ traces) (same_set inputs k new same)
-
 same_call : (call : Option InputCall) (input : InputState) → input_trace (input_after call input) ≡ input_trace input
 same_call None input = refl
 same_call (Some InputCall.offer) input = refl
@@ -35,39 +30,46 @@ same_call (Some (InputCall.look phase)) input = refl
 abbrev posted_in : NetState → List InputTrace
 posted_in net = map input_trace net.inputs
 
-module _ {W : Type 0} (layout : Layout W) (meaning : ℕ → Value → Result (List Value) ℕ) where
-  input_stays : (b : ℕ) (call : Option InputCall) (net : NetState) → posted_in (with_input layout b (input_after call) net) ≡ posted_in net
-  input_stays b call net = same_set net.inputs (input_place layout b) _ (same_call call (input_at layout net b))
+abbrev Stays : (NetState → NetState) → Type 0
+Stays change = (net : NetState) → posted_in (change net) ≡ posted_in net
 
-  source_stays : (l : ℕ) (next : Move) (from : LinkSource) (net : NetState) → posted_in (source_moves layout meaning l next from net) ≡ posted_in net
+module _ {W : Type 0} (layout : Layout W) (meaning : ℕ → Value → Result (List Value) ℕ) where
+  input_stays : (b : ℕ) (call : Option InputCall) → Stays (with_input layout b (input_after call))
+  input_stays b call net =
+      map-set_same input_trace net.inputs (input_place layout b) _ no_input (same_call call (input_at layout net b))
+
+  source_stays : (l : ℕ) (next : Move) (source : LinkSource) → Stays (source_moves layout meaning l next source)
   source_stays l next (Block s) net = refl
   source_stays l next (Input b) net = input_stays b (input_call next) net
 
-  look_stays : (l : ℕ) (phase : Phase) (from : LinkSource) (net : NetState) → posted_in (source_sees layout meaning l phase from net) ≡ posted_in net
+  look_stays : (l : ℕ) (phase : Phase) (source : LinkSource) → Stays (source_sees layout meaning l phase source)
   look_stays l phase (Block s) net = refl
   look_stays l phase (Input b) net = input_stays b (Some (InputCall.look phase)) net
 
-  target_stays : (l : ℕ) (next : Move) (into : LinkTarget) (net : NetState) → posted_in (target_moves layout meaning l next into net) ≡ posted_in net
+  target_stays : (l : ℕ) (next : Move) (target : LinkTarget) → Stays (target_moves layout meaning l next target)
   target_stays l next (Port t p) net = refl
   target_stays l next Exit net = refl
 
-  sight_stays : (l : ℕ) (phase : Phase) (into : LinkTarget) (net : NetState) → posted_in (target_sees layout meaning l phase into net) ≡ posted_in net
+  sight_stays : (l : ℕ) (phase : Phase) (target : LinkTarget) → Stays (target_sees layout meaning l phase target)
   sight_stays l phase (Port t p) net = refl
   sight_stays l phase Exit net = refl
 
-  moved_stays : (b : Bool) (l : ℕ) (next : Move) (phase : Phase) (link : Link) (net : NetState) → posted_in (moved_by layout meaning b l next phase link net) ≡ posted_in net
+  moved_stays : (b : Bool) (l : ℕ) (next : Move) (phase : Phase) (link : Link)
+      → Stays (moved_by layout meaning b l next phase link)
   moved_stays true l next phase link net =
-      sight_stays l phase link.target (with_line l (line_after layout meaning l next phase link.source net) (source_moves layout meaning l next link.source net))
+      let line = line_after layout meaning l next phase link.source net in
+      sight_stays l phase link.target (with_line l line (source_moves layout meaning l next link.source net))
       ∙ source_stays l next link.source net
   moved_stays false l next phase link net =
-      look_stays l phase link.source (with_line l (line_after layout meaning l next phase link.source net) (target_moves layout meaning l next link.target net))
+      let line = line_after layout meaning l next phase link.source net in
+      look_stays l phase link.source (with_line l line (target_moves layout meaning l next link.target net))
       ∙ target_stays l next link.target net
 
-  move_stays : (l : ℕ) (next : Move) (phase : Option Phase) (net : NetState) → posted_in (after_move layout meaning l next phase net) ≡ posted_in net
+  move_stays : (l : ℕ) (next : Move) (phase : Option Phase) → Stays (after_move layout meaning l next phase)
   move_stays l next None net = refl
   move_stays l next (Some phase) net = moved_stays (is_of_source next) l next phase (link_in layout.links l) net
 
-  event_stays : (event : NetEvent) (net : NetState) → posted_in (after layout meaning event net) ≡ posted_in net
+  event_stays : (event : NetEvent) → Stays (after layout meaning event)
   event_stays (NetEvent.at_link l next) net = move_stays l next (phase_after (line_at net l).phase next) net
   event_stays (NetEvent.make b) net = refl
   event_stays (NetEvent.complete b p) net = refl
@@ -80,14 +82,16 @@ module _ {W : Type 0} (layout : Layout W) (meaning : ℕ → Value → Result (L
     same : posted_in now ≡ posted_in start
 
   module _ (events_keep : EventsKeep W) (runs : IsRun layout) where
-    one_event : (event : NetEvent) (old new : NetState) → NetKeeps layout meaning old → Answers layout meaning event old new → Comes old new
+    one_event : (event : NetEvent) (old new : NetState) → NetKeeps layout meaning old
+        → Answers layout meaning event old new → Comes old new
     one_event event old new keeps answer = ⊎_elim
         (λ happens. subst (Comes old) (sym happens.new_is)
         (record { keeps = events_keep layout meaning runs old event keeps happens.may; same = event_stays event old }))
         (λ passed. subst (Comes old) (sym passed.same) (record { keeps = keeps; same = refl }))
         answer
 
-    all_events : (events : List NetEvent) (old new : NetState) → NetKeeps layout meaning old → Goes layout meaning events old new → Comes old new
+    all_events : (events : List NetEvent) (old new : NetState) → NetKeeps layout meaning old
+        → Goes layout meaning events old new → Comes old new
     all_events [] old new keeps goes = subst (Comes old) (sym goes) (record { keeps = keeps; same = refl })
     all_events (event ∷ events) old new keeps goes =
         let first = one_event event old goes.0 keeps goes.1.0 in

@@ -1,15 +1,13 @@
 -- A move of a block's end of a link that leads into it keeps the link in order.
-use Rattle.std.proofs.Common.{◌≡◌, ℕ, ◌+◌, ◌<◌, ◌≤◌, Bool, true, false, List, length, Option, Some, None, Result, option_map, refl, ap, sym, subst, inl, inr, ◌∙◌, arith}
+use Rattle.std.proofs.Common.{◌≡◌, ℕ, ◌+◌, ◌≤◌, true, false, List, length, Option, Some, None, Result, option_map, refl, ap, sym, subst, inl, inr, ◌∙◌, arith}
 use Rattle.flow_value.specs.declared.value.Value.{Value}
-use Rattle.flow_link.specs.declared.draft.BlockKind.{BlockKind}
-use Rattle.flow_link.specs.declared.draft.BlockKind.TheVariants.{Buffer, Action, Transform}
 use Rattle.flow_link.specs.declared.phase.Move.{Move}
 use Rattle.flow_link.specs.declared.phase.Move.TheVariants as move
 use Rattle.flow_link.specs.declared.phase.Phase.{Phase}
 use Rattle.flow_link.specs.declared.phase.Phase.TheVariants.{Idle, Posted, Offered, Postponed, Wanted, Opened, Refused}
 use Rattle.flow_link.specs.declared.stage.TargetStage.{TargetStage as TargetKept}
 use Rattle.flow_link.specs.declared.stage.TargetStage.TheVariants as target
-use Rattle.flow_link.specs.Facts.{facts_in, reserves_in}
+use Rattle.flow_link.specs.Facts.{facts_in}
 use Rattle.flow_link.specs.Layout.{Layout}
 use Rattle.flow_link.specs.LinkOk.{LinkOk, StandAt, MayPutOff}
 use Rattle.flow_link.specs.Looks.{TargetHasSeen}
@@ -17,7 +15,6 @@ use Rattle.flow_link.specs.Moves.{source_at, target_at, wanting, turning_down, r
 use Rattle.flow_link.specs.LooksKeep.{OwnMovesAreSeen}
 use Rattle.flow_link.specs.MovesKeep.{Keeps, TargetMovesKeep}
 use Rattle.flow_link.specs.Phase.{phase_after}
-use Rattle.flow_link.specs.Plan.{block_in, reserves_by_kind}
 use Rattle.flow_link.specs.Stage.{target_stage_of, refusal_of, in_hand}
 use Rattle.flow_link.specs.Trace.{took_at, took_over}
 use Rattle.flow_link.specs.Views.{SourceStage, TargetStage, Refusal, SourceView, TargetView, LinkFacts}
@@ -29,11 +26,13 @@ use Rattle.flow_block.specs.Block.{port_at}
 use Rattle.flow_block.specs.NextMoves.{NextMovesMay, MayMoveIn}
 use Rattle.flow_block.specs.Node.{NodeState, NodeCall, in_view}
 use Rattle.flow_block.specs.NodeLaw.{NodeLaw}
-use Rattle.flow_block.specs.Planned.{is_built, in_place}
+use Rattle.flow_block.specs.Planned.{in_place}
 use Rattle.flow_block.specs.ViewsMove.{CallsMoveViews}
 use Rattle.flow_core.specs.Events.{node_after, in_call, slot_after}
 use Rattle.flow_core.specs.OneMove.{TargetMoved, TargetsMoveWell}
-use Rattle.flow_core.proofs.PlacesOfLinks.{end_in_of, all_over_sole}
+use Rattle.flow_core.proofs.LinksTakeFreely.{takes_freely}
+use Rattle.flow_core.proofs.PlacesOfLinks.{entry_there, link_there, port_there}
+use Rattle.flow_core.proofs.SoleLinks.{all_over_sole}
 
 keeps : TargetMovesKeep Value
 keeps = target_moves_keep Value
@@ -177,13 +176,6 @@ module _ (facts : LinkFacts) (phase new : Phase) (slot : Option Value) (source :
         (keeps.close facts phase slot source view ok i value stage) allowed (own_moves.close value view)
     closes_hand value held _ e ok allowed = absurd (cc)
 
--- no block that is built reserves
-built_takes : (kind : BlockKind) (greedy : Option Bool) → is_built kind ≡ true → reserves_by_kind kind greedy ≡ false
-built_takes Buffer greedy e = refl
-built_takes Action greedy e = refl
-built_takes Transform greedy e = refl
-built_takes _ greedy e = absurd (cc)
-
 module _ {W : Type 0} (layout : Layout W) (meaning : ℕ → Value → Result (List Value) ℕ) (t p l k : ℕ) (node : NodeState)
     (law : NodeLaw layout meaning t node) (views : CallsMoveViews W) where
   abbrev facts : LinkFacts
@@ -258,11 +250,10 @@ pub targets_move : {W : Type 0} → CallsMoveViews W → NextMovesMay W → Targ
 targets_move views may layout meaning runs l t p low leads node law phase new slot given source next ok peek allowed =
     let k = in_place layout t p l in
     let enters = runs.well_formed.enters l t p low leads in
-    let port : p < length node.block.ports = omega (arith, law.shape.port_count_is, enters.1) in
-    let end = end_in_of layout meaning t node.block law.shape p l port low leads in
-    let own = (may layout meaning t node runs.well_formed enters.0 law).0 p k next port end.there peek in
-    let free = ap (reserves_in layout) leads
-        ∙ built_takes (block_in layout.blocks t).kind (block_in layout.blocks t).greedy (runs.built t enters.0) in
-    moves layout meaning t p l k node law views end.link_is free
+    let port = port_there layout meaning t node law runs p l low leads in
+    let place = entry_there layout meaning t node law runs p l low leads in
+    let own = (may layout meaning t node runs.well_formed enters.0 law).0 p k next port place peek in
+    moves layout meaning t p l k node law views (link_there layout meaning t node law runs p l low leads)
+    (takes_freely layout runs l low)
     (λ sole. all_over_sole layout meaning t p l low leads sole node.journal law.marks.own)
     phase new slot given source ok next own allowed

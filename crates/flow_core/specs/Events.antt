@@ -1,7 +1,7 @@
 -- What may happen next in a network, and what it changes. A move of a link may happen where the link's phase allows it and the
 -- mover's end, by its own data alone, would make it; then the mover makes it, the link takes its new phase, and the other end
 -- looks.
-use Rattle.std.specs.Prelude.{◌≡◌, ℕ, ◌<◌, ◌^◌, Bool, true, false, cond, List, length, set, option_map, Option, Some, None, is_some, Result}
+use Rattle.std.specs.Prelude.{◌≡◌, ℕ, ◌<◌, ◌^◌, Bool, true, false, List, length, set, option_map, Option, Some, None, is_some, Result}
 use Rattle.flow_value.specs.declared.value.Value.{Value}
 use Rattle.flow_link.specs.declared.phase.Move.{Move}
 use Rattle.flow_link.specs.declared.phase.Move.TheVariants as move

@@ -2,6 +2,7 @@ pub mod AnswersTell
 pub mod CallsByLinkKeepOrder
 pub mod CallsKeepOrder
 pub mod CountsOfEnds
+pub mod EndingsCounted
 pub mod EndsInOrder
 pub mod EntriesStand
 pub mod ProfileHolds

@@ -1,5 +1,6 @@
 pub mod ByLink
 pub mod Calls
+pub mod Ended
 pub mod Port
 pub mod PortExamples
 pub mod PortKeeps

@@ -2,9 +2,11 @@
 ghost use Rattle.std.specs.Prelude.{◌≡◌, Some, None, true};
 ghost use Rattle.flow_intake.specs.Port.{fresh_end, is_hand, is_coming as coming_at, is_queued as queued_at};
 ghost use Rattle.flow_intake.specs.Port.{is_owed as owed_at};
+ghost use Rattle.flow_intake.specs.Ended.{is_completion as completion_at, fault_seen as fault_at};
+ghost use Rattle.flow_intake.specs.Ended.{has_seen_fault as seen_fault_at};
 ghost use Rattle.flow_link.specs.declared.stage.TargetStage.TheVariants.{Free, Hand};
 
-use flow_link::{LinkId, TargetStage};
+use flow_link::{LinkEnd, LinkId, TargetStage};
 use flow_value::{MessageHeader, Parcel, Value};
 use std::marker::Model;
 
@@ -61,6 +63,30 @@ pub(crate) fn is_owed(stage: &TargetStage) -> bool
     ensures { result ≡ owed_at stage.now }
 {
     is_queued(stage) || is_coming(stage)
+}
+
+/// Whether it has seen that its link ended with completion.
+pub(crate) fn is_completion(stage: &TargetStage) -> bool
+    ensures { result ≡ completion_at stage.now }
+{
+    matches!(stage, TargetStage::Ended(LinkEnd::Complete))
+}
+
+/// The fault with which it has seen its link end.
+pub(crate) fn fault_seen(stage: &TargetStage) -> Option<u32>
+    ensures { result ≡ fault_at stage.now }
+{
+    match stage {
+        TargetStage::Ended(LinkEnd::Fault(number)) => Some(*number),
+        _ => None,
+    }
+}
+
+/// Whether it has seen that its link ended with a fault.
+pub(crate) fn has_seen_fault(stage: &TargetStage) -> bool
+    ensures { result ≡ seen_fault_at stage.now }
+{
+    fault_seen(stage).is_some()
 }
 
 impl InEnd {

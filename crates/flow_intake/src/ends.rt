@@ -2,11 +2,12 @@
 ghost use Rattle.std.specs.Prelude.{◌≡◌, ◌<◌, ◌≤◌, ◌+◌, ◌^◌, [], ◌∷◌, ◌++◌, Some, None, true, length};
 ghost use Rattle.std.specs.Prelude.{◌==◌, cond, OnOk, OnErr, IfSome};
 ghost use Rattle.flow_intake.specs.Port.{fresh_end, stage_in, link_in, hand_in, is_hand, is_coming, is_owed, count_at};
+ghost use Rattle.flow_intake.specs.Ended.{is_completion, has_seen_fault, has_seen_completion, fault_at_ends};
 ghost use Rattle.flow_intake.specs.ByLink.{place_of};
 ghost use Rattle.flow_intake.specs.Calls.{put_stage, put_hand};
 ghost use Rattle.flow_link.specs.declared.stage.TargetStage.TheVariants.{Free, Hand};
 
-use crate::end::{InEnd, is_coming, is_owed};
+use crate::end::{InEnd, fault_seen, has_seen_fault, is_coming, is_completion, is_owed};
 use flow_link::{LinkId, TargetStage};
 use flow_value::{MessageHeader, Parcel};
 use std::alloc::{AllocError, Global};
@@ -20,6 +21,10 @@ pub(crate) struct Ends {
     coming: usize,
     /// For how many messages memory is set aside.
     owed: usize,
+    /// At how many ends completion was seen.
+    completed: usize,
+    /// At how many ends a fault was seen.
+    faulted: usize,
 }
 
 impl Model for Ends {
@@ -27,6 +32,7 @@ impl Model for Ends {
     ghost use Rattle.std.specs.Prelude.{List, ◌≡◌};
     ghost use Rattle.flow_value.specs.contracts.value.Value as content;
     ghost use Rattle.flow_intake.specs.Port.{EndState, count_at, is_coming, is_owed};
+    ghost use Rattle.flow_intake.specs.Ended.{is_completion, has_seen_fault};
 
     ghost Value = { List EndState };
 
@@ -35,7 +41,9 @@ impl Model for Ends {
     ghost view = { λ e. e.ends.items };
 
     ghost invariant = { λ e. (e.coming ≡ count_at is_coming e.ends.items) ×
-        (e.owed ≡ count_at is_owed e.ends.items) };
+        (e.owed ≡ count_at is_owed e.ends.items) ×
+        (e.completed ≡ count_at is_completion e.ends.items) ×
+        (e.faulted ≡ count_at has_seen_fault e.ends.items) };
 }
 
 impl Ends {
@@ -47,6 +55,8 @@ impl Ends {
             ends: Vec::new(alloc),
             coming: 0,
             owed: 0,
+            completed: 0,
+            faulted: 0,
         }
     }
 
@@ -62,6 +72,29 @@ impl Ends {
         ensures count { result ≡ count_at is_owed self.now }
     {
         self.owed
+    }
+
+    /// Whether completion was seen at one of them.
+    pub(crate) fn has_seen_completion(&self) -> bool
+        ensures { result ≡ has_seen_completion self.now }
+    {
+        self.completed > 0
+    }
+
+    /// The fault that was seen at one of them, the first by their places.
+    pub(crate) fn fault_seen(&self) -> Option<u32>
+        ensures { result ≡ fault_at_ends self.now }
+    {
+        if self.faulted == 0 {
+            return None;
+        }
+        for end in &self.ends {
+            let fault = fault_seen(&end.stage());
+            if fault.is_some() {
+                return fault;
+            }
+        }
+        None
     }
 
     /// How many ends there are.
@@ -102,6 +135,16 @@ impl Ends {
         self.ends[place].go_to(stage);
         self.coming = recounted(self.coming, is_coming(&before), is_coming(&stage));
         self.owed = recounted(self.owed, is_owed(&before), is_owed(&stage));
+        self.completed = recounted(
+            self.completed,
+            is_completion(&before),
+            is_completion(&stage),
+        );
+        self.faulted = recounted(
+            self.faulted,
+            has_seen_fault(&before),
+            has_seen_fault(&stage),
+        );
     }
 
     /// The end at this place, where the message lies in the slot, has it in hand.

@@ -3,9 +3,11 @@
 //! A move that takes memory has two calls. `prepare_answer` takes it, and may be refused; what follows takes none and
 //! does not fail, from the answer until the message is taken.
 ghost use Rattle.std.specs.Prelude.{◌≡◌, ◌<◌, ◌≤◌, ◌+◌, ◌-◌, true, false, ◌++◌, ◌∷◌, [], ◌^◌, length, OnOk, OnErr};
-ghost use Rattle.std.specs.Prelude.{IfOk, Some, is_some, cond};
+ghost use Rattle.std.specs.Prelude.{IfOk, Some, is_some, cond, drop, unwrap_or};
 ghost use Rattle.flow_intake.specs.Port.{PortState, fresh_end, fresh_port, stage_at, hand_in, is_offer};
 ghost use Rattle.flow_intake.specs.Port.{is_owed, is_hand, is_wanted, coming, has_room, count_at, is_coming};
+ghost use Rattle.flow_intake.specs.Ended.{has_seen_completion, fault_at_ends};
+ghost use Rattle.flow_intake.specs.Port.{link_in};
 ghost use Rattle.flow_intake.specs.Calls.{first_of, answer_to, next_place, in_move, is_offered, is_posted};
 ghost use Rattle.flow_intake.specs.Calls.{is_postponed, is_arrived, may_be_refused, may_be_dropped, prepared};
 ghost use Rattle.flow_intake.specs.Calls.{accepts, puts_off, wants, turns_down, postpones, refuses};
@@ -23,6 +25,7 @@ use flow_value::{MessageHeader, MessageStatus, Parcel, Value};
 use std::alloc::{AllocError, Global};
 use std::collections::VecDeque;
 use std::marker::Model;
+use std::mem;
 
 /// One port of a block, with its ends of the links that lead into it.
 #[derive(Drop)]
@@ -105,11 +108,70 @@ impl Intake {
         self.ends.add(link)
     }
 
+    /// How many messages it has room for, or none for any number.
+    pub fn capacity(&self) -> Option<u32>
+        ensures capacity { result ≡ self.now.capacity }
+        ensures room { self.now.load ≤ unwrap_or self.now.capacity 0 }
+    {
+        self.capacity
+    }
+
+    /// How many links lead into it.
+    pub fn link_count(&self) -> usize
+        ensures { result ≡ length self.now.ends }
+    {
+        self.ends.len()
+    }
+
+    /// The link of the end at this place.
+    pub fn link(&self, place: usize) -> LinkId
+        requires { place < length self.now.ends }
+        ensures { result ≡ link_in place self.now.ends }
+    {
+        self.ends.link(place)
+    }
+
+    /// Where the end at this place stands.
+    pub fn stage(&self, place: usize) -> TargetStage
+        requires { place < length self.now.ends }
+        ensures { result ≡ stage_at place self.now }
+    {
+        self.ends.stage(place)
+    }
+
+    /// For how many messages of its links memory is set aside, beside the one that it is ready for.
+    pub fn owed(&self) -> usize
+        ensures { result ≡ count_at is_owed self.now.ends }
+    {
+        self.ends.owed()
+    }
+
+    /// Whether memory is set aside for one more message.
+    pub fn is_ready(&self) -> bool
+        ensures { result ≡ self.now.ready }
+    {
+        self.ready
+    }
+
     /// How many messages come: they are wanted, and not taken yet.
     pub fn coming(&self) -> usize
         ensures { result ≡ coming self.now }
     {
         self.ends.coming()
+    }
+
+    /// Whether completion came over a link that has ended.
+    pub fn has_seen_completion(&self) -> bool
+        ensures { result ≡ has_seen_completion self.now.ends }
+    {
+        self.ends.has_seen_completion()
+    }
+
+    /// The fault that came over a link that has ended, the first by the places of the links.
+    pub fn fault_seen(&self) -> Option<u32>
+        ensures { result ≡ fault_at_ends self.now.ends }
+    {
+        self.ends.fault_seen()
     }
 
     /// Whether there is room for one more message.
@@ -318,6 +380,15 @@ impl Intake {
         ensures taken { self.new ≡ takes_next self.old }
     {
         self.waiting.pop_front()
+    }
+
+    /// Exchanges the message that waits longest for this value.
+    pub fn swap_first(&mut self, value: Value) -> Value
+        requires { 0 < length self.old.waiting }
+        ensures first { first_of self.old.waiting ≡ Some result }
+        ensures swapped { self.new ≡ record self.old { waiting = value ∷ drop 1 self.old.waiting } }
+    {
+        mem::replace(&mut self.waiting[0], value)
     }
 
     /// How many messages were taken on whose room may come back; where there is no capacity, none is counted.

@@ -1,5 +1,5 @@
 -- What the outlet keeps ready stays right when one end changes.
-use Rattle.std.proofs.Common.{◌≡◌, ℕ, ◌+◌, ◌-◌, ◌<◌, ◌≤◌, ◌^◌, ◌==◌, ◌||◌, ◌&&◌, not, ltb, cond, Bool, true, false, List, [], ◌∷◌, ◌++◌, length, set, get_or, drop, map, Option, Some, None, refl, sym, arith}
+use Rattle.std.proofs.Common.{◌≡◌, ℕ, ◌+◌, ◌-◌, ◌<◌, ◌≤◌, ◌^◌, ◌==◌, ◌||◌, ◌&&◌, not, ltb, cond, Bool, true, false, List, [], ◌∷◌, ◌++◌, length, set, get_or, drop, map, Option, Some, None, refl, sym, subst, arith}
 use Rattle.std.specs.Option.{ForSome}
 use Rattle.std.proofs.lemmas.List.{length-set, length-append, length-map, get_or_read}
 use Rattle.std.proofs.lemmas.Bool.Decides.{nat_tests}
@@ -118,6 +118,19 @@ fits_put {ends} {left} {next} {parcel} {groups} {room} {cursor} fits values weig
   room_fits = omega (arith, small, room_put (next + length left) (length values) weight room groups);
   parcel_is = fits_parcel left values parcel fits.parcel_is;
 }
+
+-- one value is put, whose room does not come back at once
+pub fits_put_one : {ends : List OutEnd} {left : List Value} {next : ℕ} {parcel : Option Value} {groups : List Group} {room cursor away waiting : ℕ} →
+    Fits ends left next parcel groups room cursor away waiting → (value : Value) (weight : ℕ) →
+    next + length left < 2 ^ 59 → room + weight_of groups + weight < 2 ^ 32
+    → Fits ends (left ++ value ∷ []) next parcel (groups_with (next + length left) 1 weight groups) room
+    (cond (is_empty left) (0 + place_in next (first_of (left ++ value ∷ [])) (drop 0 ends)) cursor) away waiting
+fits_put_one {ends} {left} {next} {parcel} {groups} {room} {cursor} {away} {waiting} fits value weight ids small =
+    let same : room_with 1 weight room ≡ room = omega arith in
+    let fit : next + length left + 1 ≤ 2 ^ 59 = omega (arith, ids) in
+    subst
+    (λ r. Fits ends (left ++ value ∷ []) next parcel (groups_with (next + length left) 1 weight groups) r (cond (is_empty left) (0 + place_in next (first_of (left ++ value ∷ [])) (drop 0 ends)) cursor) away waiting)
+    same (fits_put fits (value ∷ []) weight fit small)
 
 no_count : (test : SourceStage → Bool) (rules : List LinkRule) → test Free ≡ false → count_at test (map fresh_end rules) ≡ 0
 no_count test [] e = refl

@@ -1,6 +1,6 @@
 //! What a block has to give, and its ends of the links that lead out of it.
 ghost use Rattle.std.specs.Prelude.{◌≡◌, ◌<◌, ◌≤◌, ◌+◌, ◌-◌, ◌^◌, ◌++◌, ◌∷◌, ◌==◌, ◌↔◌, length, true, is_some};
-ghost use Rattle.std.specs.Prelude.{Some, None, Err, IfOk, IfErr, OnOk, OnErr, MatchResult, cond, drop, map};
+ghost use Rattle.std.specs.Prelude.{Some, None, Err, IfOk, IfErr, OnOk, OnErr, MatchResult, cond, drop, map, []};
 ghost use Rattle.std.specs.Option.{option_copied};
 ghost use Rattle.std.specs.VecDeque.{deque_len, deque_capacity};
 ghost use Rattle.flow_link.specs.LinkOk.{HasRoom};
@@ -164,6 +164,29 @@ impl Outlet {
         Ok(())
     }
 
+    /// Takes one value, as [`Outlet::put`] does, without a list of it.
+    pub fn put_one(&mut self, value: Value, weight: u32) -> Result<(), (Value, OutletFault)>
+        requires { self.old.room + weight_of self.old.groups + weight < 2 ^ 32 }
+        ensures done { OnOk result (self.new ≡ puts (value ∷ []) weight self.old) }
+        ensures kept { OnErr result (self.new ≡ self.old) }
+        ensures back { IfErr result (λ refused. refused.0 ≡ value) }
+        ensures ids { (result ≡ Err (value, Ids)) ↔ (lacks_ids (value ∷ []) self.old ≡ true) }
+    {
+        let start = self.next + left_count(&self.left);
+        if start > MAX_ID {
+            return Err((value, OutletFault::Ids));
+        }
+        if self.left.reserve(1).is_err() || self.groups.reserve(1).is_err() {
+            return Err((value, OutletFault::Memory));
+        }
+        add_group(&mut self.groups, start, 1, weight);
+        let was_empty = is_empty(&self.left);
+        self.left.push_back_reserved(value);
+        let head = front(&self.left);
+        self.cursor = cursor_with(was_empty, self.cursor, &self.ends, self.next, head);
+        Ok(())
+    }
+
     fn lacks_ids(&self, values: &Vec<Value>) -> bool
         ensures { result ≡ lacks_ids values.now.items self.now }
     {
@@ -255,6 +278,13 @@ impl Outlet {
             self.parcel = Some(Parcel::of(alloc, value)?);
         }
         Ok(())
+    }
+
+    /// Whether the parcel of the head is made.
+    pub fn is_ready(&self) -> bool
+        ensures { result ≡ is_some self.now.parcel }
+    {
+        self.parcel.is_some()
     }
 
     /// Offers the head over the link at the place where it may be offered, and tells its header.

@@ -1,5 +1,6 @@
 use Rattle.std.proofs.Common.{◌<◌, length, arith}
 use Rattle.flow_intake.specs.Port.{is_coming, is_owed}
+use Rattle.flow_intake.specs.Ended.{is_completion, has_seen_fault}
 use Rattle.flow_intake.proofs.CountsOfEnds.{count_there, count_below, count_moved, count_after_set}
 use Rattle.flow_intake.proofs.ends.Ends.go_to.Goals as goal
 
@@ -19,15 +20,47 @@ recounted-self-inside-requires-2-clause-there c =
 pub recounted-self-inside-requires-2-clause-small : goal.recounted-self-inside-requires-2-clause-small
 recounted-self-inside-requires-2-clause-small c = omega (arith, c.self.invariant.1, count_below is_owed c.self.inside.ends.items)
 
+pub recounted-self-inside-requires-3-clause-there : goal.recounted-self-inside-requires-3-clause-there
+recounted-self-inside-requires-3-clause-there c =
+    let ends = c.self.inside.ends.items in
+    let known : c.args.place < length ends = rw (← c.self.view_is) at c.requires.place in
+    rw (c.is_completion.ensures, c.stage-before.ensures, ← c.self.view_is, c.self.invariant.2)
+    (count_there is_completion ends c.args.place known)
+
+pub recounted-self-inside-requires-3-clause-small : goal.recounted-self-inside-requires-3-clause-small
+recounted-self-inside-requires-3-clause-small c =
+    omega (arith, c.self.invariant.2, count_below is_completion c.self.inside.ends.items)
+
+pub recounted-self-inside-requires-4-clause-there : goal.recounted-self-inside-requires-4-clause-there
+recounted-self-inside-requires-4-clause-there c =
+    let ends = c.self.inside.ends.items in
+    let known : c.args.place < length ends = rw (← c.self.view_is) at c.requires.place in
+    rw (c.has_seen_fault.ensures, c.stage-before.ensures, ← c.self.view_is, c.self.invariant.3)
+    (count_there has_seen_fault ends c.args.place known)
+
+pub recounted-self-inside-requires-4-clause-small : goal.recounted-self-inside-requires-4-clause-small
+recounted-self-inside-requires-4-clause-small c =
+    omega (arith, c.self.invariant.3, count_below has_seen_fault c.self.inside.ends.items)
+
 pub invariant_of-self : goal.invariant_of-self
 invariant_of-self c =
     let ends = c.self.inside.ends.items in
     let known : c.args.place < length ends = rw (← c.self.view_is) at c.requires.place in
     let coming = rw (c.is_coming.ensures, c.is_coming-2.ensures, c.stage-before.ensures, ← c.self.view_is) at c.recounted-self-inside.ensures in
     let owed = rw (c.is_owed.ensures, c.is_owed-2.ensures, c.stage-before.ensures, ← c.self.view_is) at c.recounted-self-inside-2.ensures in
+    let completed =
+    rw (c.is_completion.ensures, c.is_completion-2.ensures, c.stage-before.ensures, ← c.self.view_is)
+    at c.recounted-self-inside-3.ensures in
+    let faulted =
+    rw (c.has_seen_fault.ensures, c.has_seen_fault-2.ensures, c.stage-before.ensures, ← c.self.view_is)
+    at c.recounted-self-inside-4.ensures in
     rw c.go_to.ensures (
       count_moved is_coming ends c.args.place _ c.self.inside.coming c.recounted-self-inside.result known c.self.invariant.0 coming,
       count_moved is_owed ends c.args.place _ c.self.inside.owed c.recounted-self-inside-2.result known c.self.invariant.1 owed,
+      count_moved is_completion ends c.args.place _ c.self.inside.completed
+          c.recounted-self-inside-3.result known c.self.invariant.2 completed,
+      count_moved has_seen_fault ends c.args.place _ c.self.inside.faulted
+          c.recounted-self-inside-4.result known c.self.invariant.3 faulted,
     )
 
 pub returns-clause-coming : goal.returns-clause-coming

@@ -1,0 +1,204 @@
+-- What a node that has nothing to do knows of itself, where its ends rest.
+use Rattle.std.proofs.Common.{◌≡◌, ℕ, ◌<◌, Bool, true, false, cond, not, ◌==◌, ◌&&◌, ◌||◌, List, [], ◌∷◌, length, is_some, is_none, Option, Some, None, Result, refl, ap, ap₂, sym, subst, ◌∙◌, arith, eq-eqb}
+use Rattle.std.proofs.lemmas.Bool.{OnTrue_at, or_from, or_parts}
+use Rattle.flow_value.specs.declared.value.Value.{Value}
+use Rattle.flow_value.specs.declared.when.When.{When}
+use Rattle.flow_link.specs.declared.stage.SourceStage.{SourceStage}
+use Rattle.flow_link.specs.declared.stage.SourceStage.TheVariants as source
+use Rattle.flow_link.specs.Layout.{Layout}
+use Rattle.flow_link.proofs.LinksAtRest.{never_both, false_where}
+use Rattle.flow_link.proofs.ListTests.{and_true}
+use Rattle.flow_intake.specs.Port.{PortState, fresh_port, stage_at as port_stage, coming}
+use Rattle.flow_outlet.specs.End.{is_over, is_out, is_waiting, is_cut, is_closed, speaks_of, rejects}
+use Rattle.flow_outlet.specs.Law.{admits_head as admits}
+use Rattle.flow_outlet.specs.Order.{StopsAt}
+use Rattle.flow_outlet.specs.Outlet.{OutletState, first_of, is_empty, head_of, end_at, stage_at, may_offer, end_of, is_at, is_at_rest, only_waits, move_at}
+use Rattle.flow_outlet.specs.declared.ends.OutEnd.{OutEnd}
+use Rattle.flow_outlet.proofs.OffersInOrder.{offers_in_order}
+use Rattle.flow_outlet.proofs.StagesTell.{free_is, at_itself}
+use Rattle.flow_block.specs.Block.{BlockState, port_at, held_by}
+use Rattle.flow_block.specs.Node.{NodeState}
+use Rattle.flow_block.specs.NodeLaw.{NodeLaw}
+use Rattle.flow_block.specs.NodeRests.{HasNothingToDo, EndsRest}
+use Rattle.flow_block.specs.Peeks.{fault_at_ports, holds_nothing, nothing_comes, all_ended, is_pending, fault_cause, could_stop, next_fault, is_held_up, may_finish}
+use Rattle.flow_block.proofs.EndsAtRest.{not_out, must_wait, away_waits, none_away, waiting_stays, free_stays, not_cut, not_coming}
+use Rattle.flow_block.proofs.EndsTell.{none_come}
+use Rattle.flow_block.proofs.FaultsSeen.{first_none}
+use Rattle.flow_block.proofs.GoingOn.{away_goes_on, waiting_away}
+use Rattle.flow_block.proofs.KindsBuilt.{has_one_port}
+use Rattle.flow_block.proofs.TestsTell.{every_where}
+
+offer_none : (offer : Option ℕ) → ((j : ℕ) → offer ≡ Some j → ⊥) → offer ≡ None
+offer_none None h = refl
+offer_none (Some j) h = absurd (h j refl)
+
+-- nothing is held where nothing is made of it
+none_held : (going well : Bool) (held : List Value) → going ≡ true → well ≡ true
+    → (going && well && not (is_empty held)) ≡ false → held ≡ []
+none_held true true [] eg ew e = refl
+none_held true true (value ∷ held) eg ew e = absurd (cc)
+none_held true false held eg ew e = absurd (cc)
+none_held false well held eg ew e = absurd (cc)
+
+all_five : (a b c d e : Bool) → a ≡ true → b ≡ true → c ≡ true → d ≡ true → e ≡ true → (a && b && c && d && e) ≡ true
+all_five a b c d e ea eb ec ed ee =
+    and_true (a && b && c && d) e (and_true (a && b && c) d (and_true (a && b) c (and_true a b ea eb) ec) ed) ee
+
+all_three : (a b c : Bool) → a ≡ true → b ≡ true → c ≡ true → (a && b && c) ≡ true
+all_three a b c ea eb ec = and_true (a && b) c (and_true a b ea eb) ec
+
+none_of_four : (a b c d : Bool) → a ≡ false → b ≡ false → c ≡ false → d ≡ false → (a || b || c || d) ≡ false
+none_of_four a b c d ea eb ec ed =
+    or_from (a || b || c) d (or_from (a || b) c (or_from a b ea eb) ec) ed
+
+first_two_of_four : (a b c d : Bool) → (a || b || c || d) ≡ false → (a ≡ false) × (b ≡ false)
+first_two_of_four a b c d e = or_parts a b (or_parts (a || b) c (or_parts (a || b || c) d e).0).0
+
+pub left_where : (when : When) (values : List Value) → admits when (first_of values) ≡ true → is_empty values ≡ false
+left_where when [] e = absurd (cc)
+left_where when (value ∷ values) e = refl
+
+not_rejected : (when : When) (head : Option Value) → admits when head ≡ true → rejects when head ≡ false
+not_rejected when None e = absurd (cc)
+not_rejected when (Some value) e = ap not e
+
+closed_unless : (end : OutEnd) → end.stage ≡ source.Free → is_cut end ≡ false → is_closed end ≡ false
+closed_unless end free cut = ap₂ (λ (over cut : Bool). over || cut) (ap is_over free) cut
+
+-- What the node knows of itself
+
+module _ {W : Type 0} (layout : Layout W) (meaning : ℕ → Value → Result (List Value) ℕ) (b : ℕ) (node : NodeState)
+    (law : NodeLaw layout meaning b node) (nothing : HasNothingToDo node) (rest : EndsRest node) where
+  abbrev pub block : BlockState
+  block = node.block
+
+  abbrev pub exits : OutletState
+  exits = node.block.exits
+
+  none_out : exits.offer ≡ None
+  none_out = offer_none exits.offer (λ j e.
+      let near = law.exits.law.offer_there j e in
+      never_both (is_out (stage_at exits j)) (law.exits.law.offer_out j e)
+      (not_out (stage_at exits j) (rest.outs j near)))
+
+  pub no_coming : (p : ℕ) → p < length block.ports → coming (port_at p block) ≡ 0
+  no_coming p small =
+      none_come (port_at p block).ends
+      (λ k near. not_coming (port_stage k (port_at p block)) (rest.ins p k small near))
+
+  none_coming : nothing_comes block.ports ≡ true
+  none_coming =
+      every_where (λ (port : PortState). coming port == 0) block.ports (fresh_port None)
+      (λ p small. eq-eqb (coming (port_at p block)) 0 (no_coming p small))
+
+  could : block.stopped ≡ None → could_stop block ≡ true
+  could going = and_true (is_none block.stopped) (nothing_comes block.ports) (ap is_none going) none_coming
+
+  waiting_tells : (k : ℕ) → k < length exits.ends → is_waiting (stage_at exits k) ≡ true
+      → (is_held_up block ≡ false) × (speaks_of exits.next (stage_at exits k) ≡ true)
+  waiting_tells k small e =
+      waiting_stays exits k block.stopped (is_held_up block) (stage_at exits k) e (nothing.outs k small)
+
+  -- it does not fault: nothing but offers that wait could hold it up, and these it would withdraw
+  no_cause_where : (cause : Option ℕ) → block.stopped ≡ None → fault_cause block ≡ cause → fault_cause block ≡ None
+  no_cause_where None going e = e
+  no_cause_where (Some n) going e =
+      let held_up : is_held_up block ≡ true =
+      all_three (could_stop block) (only_waits exits) (is_some (fault_cause block)) (could going)
+      (away_waits exits.ends rest.outs) (ap is_some e) in
+      let at_rest : is_at_rest exits ≡ true =
+      none_away exits.ends rest.outs (λ k small.
+      false_where (is_waiting (stage_at exits k))
+      (λ waits. never_both (is_held_up block) held_up (waiting_tells k small waits).0)) in
+      let found : next_fault block ≡ fault_cause block =
+      ap (λ (stops : Bool). cond stops (fault_cause block) None)
+      (and_true (could_stop block) (is_at_rest exits) (could going) at_rest) in
+      sym found ∙ nothing.faults
+
+  no_cause : block.stopped ≡ None → fault_cause block ≡ None
+  no_cause going = no_cause_where (fault_cause block) going refl
+
+  no_own_fault : block.stopped ≡ None → block.fault ≡ None
+  no_own_fault going = (first_none block.fault _ (no_cause going)).0
+
+  no_held : block.stopped ≡ None → held_by block ≡ []
+  no_held going =
+      none_held (is_none block.stopped) (is_none block.fault) (held_by block) (ap is_none going)
+      (ap is_none (no_own_fault going)) nothing.makes
+
+  pub held_none : block.stopped ≡ None → holds_nothing block.ports ≡ true
+  held_none going =
+      every_where (λ (port : PortState). is_empty port.waiting) block.ports (fresh_port None) (λ p small.
+      let first : 0 ≡ p = omega (arith, has_one_port layout meaning b block law.shape) in
+      subst (λ (q : ℕ). is_empty (port_at q block).waiting ≡ true) first
+      (ap is_empty (no_held going)))
+
+  pub none_seen : block.stopped ≡ None → fault_at_ports block.ports ≡ None
+  none_seen going =
+      ap (λ (none : Bool). cond none (fault_at_ports block.ports) None) (sym (held_none going))
+      ∙ (first_none block.fault (cond (holds_nothing block.ports) (fault_at_ports block.ports) None) (no_cause going)).1
+
+  not_pending : block.stopped ≡ None → is_pending block ≡ false
+  not_pending going = ap₂ (λ (own seen : Option ℕ). is_some own || is_some seen) (no_own_fault going) (none_seen going)
+
+  -- an offer that waits is the head's, of a block that has not stopped
+  pub waiting_goes : (k : ℕ) → k < length exits.ends → is_waiting (stage_at exits k) ≡ true → block.stopped ≡ None
+  waiting_goes k small e =
+      away_goes_on layout meaning b block node.journal law.ends k (waiting_away (stage_at exits k) e)
+
+  waiting_left : (k : ℕ) → k < length exits.ends → is_waiting (stage_at exits k) ≡ true → is_empty exits.left ≡ false
+  waiting_left k small e =
+      left_where (end_at exits k).rule.when exits.left
+      (OnTrue_at (waiting_tells k small e).1 (law.exits.law.each k small).admitted)
+
+  pub free_at : (k : ℕ) → k < length exits.ends → stage_at exits k ≡ source.Free
+      → (end_of (end_at exits k) block.stopped ≡ None) × (is_at (may_offer exits) k ≡ false)
+  free_at k small e =
+      free_stays exits k (end_of (end_at exits k) block.stopped)
+      (ap (λ (stage : SourceStage). move_at exits k block.stopped (is_held_up block) stage) (sym e)
+      ∙ nothing.outs k small)
+
+  no_offer : may_offer exits ≡ None
+  no_offer = offer_none (may_offer exits) (λ j e.
+      let next = (offers_in_order.named exits j).0 e in
+      let stays = free_at j next.there (free_is (stage_at exits j) next.free) in
+      never_both (is_at (may_offer exits) j) (at_itself (may_offer exits) j e) stays.1)
+
+  -- the head goes past each free end
+  none_stops : (k : ℕ) → k < length exits.ends → is_empty exits.left ≡ false → StopsAt exits k → ⊥
+  none_stops k small left stops =
+      let held = offers_in_order.none exits no_offer left none_out k small stops in
+      let j = held.place in
+      let near : j < length exits.ends = omega (arith, held.before) in
+      let open_there =
+      first_two_of_four (is_closed (end_at exits j)) (speaks_of exits.next (stage_at exits j)) _ _ held.stops in
+      let waits = must_wait (stage_at exits j) (rest.outs j near) held.busy
+      (or_parts (is_over (stage_at exits j)) (is_cut (end_at exits j)) open_there.0).0 in
+      never_both (speaks_of exits.next (stage_at exits j)) (waiting_tells j near waits).1 open_there.1
+
+  pub not_admitted : (k : ℕ) → k < length exits.ends → stage_at exits k ≡ source.Free → block.stopped ≡ None
+      → admits (end_at exits k).rule.when (head_of exits) ≡ true → ⊥
+  not_admitted k small free going e =
+      let end = end_at exits k in
+      let own = law.exits.law.each k small in
+      let cut = not_cut end block.stopped (free_at k small free).0 in
+      let late : (end.declined == exits.next) ≡ false =
+      false_where (end.declined == exits.next)
+      (λ late. never_both (is_pending block) (OnTrue_at late own.given_up) (not_pending going)) in
+      none_stops k small (left_where end.rule.when exits.left e)
+      (none_of_four (is_closed end) (speaks_of exits.next end.stage) (end.declined == exits.next)
+      (rejects end.rule.when (head_of exits))
+      (closed_unless end free cut) (ap (speaks_of exits.next) free) late (not_rejected end.rule.when (head_of exits) e))
+
+  -- it could finish, if it had nothing left and its ports were complete
+  pub not_finished : block.stopped ≡ None → all_ended block.ports ≡ true → is_empty exits.left ≡ true → ⊥
+  not_finished going ended left =
+      let at_rest : is_at_rest exits ≡ true =
+      none_away exits.ends rest.outs (λ k small.
+      false_where (is_waiting (stage_at exits k))
+      (λ waits. never_both (is_empty exits.left) left (waiting_left k small waits))) in
+      never_both (may_finish block)
+      (all_five (could_stop block) (all_ended block.ports) (holds_nothing block.ports) (is_empty exits.left)
+      (is_at_rest exits)
+      (could going) ended (held_none going) left at_rest)
+      nothing.finishes

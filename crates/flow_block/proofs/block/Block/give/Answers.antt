@@ -1,0 +1,15 @@
+use Rattle.std.proofs.Common.{◌≡◌}
+use Rattle.flow_outlet.specs.Outlet.{gives}
+use Rattle.flow_block.proofs.RoomFits.{given_out, fits_given}
+use Rattle.flow_block.proofs.block.Block.give.Goals as goal
+
+pub give_room-requires : goal.give_room-requires
+give_room-requires c =
+    let room : c.room_back-room.result ≡ (gives c.args.place c.self.inside.exits).room = rw c.give-given.ensures.given at c.room_back-room.ensures.room in
+    given_out c.self.invariant c.args.place c.room_back-room.result room
+
+pub invariant_of-self : goal.invariant_of-self
+invariant_of-self c =
+    let room : c.room_back-room.result ≡ (gives c.args.place c.self.inside.exits).room = rw c.give-given.ensures.given at c.room_back-room.ensures.room in
+    rw (c.give_room.ensures, c.room_back-room.ensures.told, c.give-given.ensures.given)
+    (fits_given c.self.invariant c.args.place c.room_back-room.result room)

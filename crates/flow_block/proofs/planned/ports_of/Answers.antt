@@ -1,0 +1,11 @@
+use Rattle.std.proofs.Common.{◌∙◌}
+use Rattle.flow_link.specs.Planned.{layout_of}
+use Rattle.flow_block.specs.Planned.{port_of_plan}
+use Rattle.flow_block.proofs.PlanMade.{mapped_more}
+use Rattle.flow_block.proofs.planned.ports_of.Goals as goal
+
+pub loop-port-preserved : goal.loop-port-preserved
+loop-port-preserved g c =
+    c.in_ok-push.ensures.items
+    ∙ mapped_more (port_of_plan (layout_of c.args.plan.now) c.args.block) c.loop-port.ports.items c.loop-port.port
+    c.in_ok-port_of.field-0 c.loop-port.invariant c.in_ok-port_of.ensures

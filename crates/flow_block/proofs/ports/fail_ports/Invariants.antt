@@ -1,0 +1,7 @@
+use Rattle.std.proofs.Common.{◌≡◌, ◌++◌, take, drop, map}
+use Rattle.flow_intake.specs.Calls.{port_fails}
+use Rattle.flow_block.proofs.ports.fail_ports.Given as goal
+
+abbrev pub invariant-loop-place : goal.invariant-loop-place
+invariant-loop-place l =
+    l.ports.items ≡ map port_fails (take l.place l.initial.ports.items) ++ drop l.place l.initial.ports.items

@@ -1,0 +1,15 @@
+use Rattle.std.proofs.Common.{◌<◌, length, arith}
+use Rattle.std.proofs.lemmas.List.Edits.{map_over_more}
+use Rattle.flow_intake.specs.Calls.{gives_room}
+use Rattle.flow_block.proofs.RoomFits.{next_out}
+use Rattle.flow_block.proofs.ports.give_room.Goals as goal
+
+pub give_room-requires : goal.give_room-requires
+give_room-requires c =
+    let here : c.loop-place.place < length c.args.ports.now.items = omega (arith, c.loop-place-test.true, c.len-place-end.ensures, c.args.ports.now.ok) in
+    next_out c.args.room c.args.ports.now.items c.loop-place.ports.items c.loop-place.place _ c.requires here c.loop-place.invariant c.index_mut.ensures.value
+
+pub loop-place-preserved : goal.loop-place-preserved
+loop-place-preserved c =
+    let here : c.loop-place.place < length c.args.ports.now.items = omega (arith, c.loop-place-test.true, c.len-place-end.ensures, c.args.ports.now.ok) in
+    rw c.give_room.ensures (map_over_more (gives_room c.args.room) c.args.ports.now.items c.loop-place.ports.items c.loop-place.place _ here c.loop-place.invariant c.index_mut.ensures.value)

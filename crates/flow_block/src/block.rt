@@ -1,0 +1,194 @@
+//! One block, and what can be asked of it.
+ghost use Rattle.std.specs.Prelude.{◌≡◌, ◌<◌, ◌^◌, true, length, MatchResult};
+ghost use Rattle.flow_intake.specs.Calls.{in_move};
+ghost use Rattle.flow_intake.specs.Port.{link_in};
+ghost use Rattle.flow_outlet.specs.Outlet.{out_move, end_at};
+ghost use Rattle.flow_block.specs.Block.{port_at};
+ghost use Rattle.flow_block.specs.BlockFits.{fresh_block};
+ghost use Rattle.flow_block.specs.JournalFits.{marks_due};
+ghost use Rattle.flow_block.specs.Peeks.{holds_nothing};
+
+use crate::ports::ports_due;
+use flow_intake::Intake;
+use flow_link::{BlockKind, LinkId, Move, Outcome};
+use flow_outlet::{LinkRule, Outlet};
+use flow_value::{MessageHeader, Value};
+use std::alloc::Global;
+use std::collections::VecDeque;
+use std::marker::Model;
+
+/// A block: its ports, its exits, and what it made.
+///
+/// Contracts see a `BlockState`. Its calls name an end of a link by its place: that of a link into the block by the
+/// number of its port, and the place there.
+#[derive(Drop)]
+pub struct Block {
+    pub(crate) kind: BlockKind,
+    pub(crate) ports: Vec<Intake>,
+    pub(crate) exits: Outlet,
+    /// The results that an action keeps.
+    pub(crate) recorded: Vec<Value>,
+    /// The fault of its own function.
+    pub(crate) fault: Option<u32>,
+    pub(crate) stopped: Option<Outcome>,
+}
+
+impl Model for Block {
+    ghost use Rattle.std.specs.Coded.{codes};
+    ghost use Rattle.flow_value.specs.contracts.value.Value as content;
+    ghost use Rattle.flow_block.specs.Block.{BlockState};
+    ghost use Rattle.flow_block.specs.BlockFits.{BlockFits};
+
+    ghost Value = { BlockState };
+
+    ghost coded = { Prim.hlevel (codes, content.the_row.coded) };
+
+    ghost view = { λ b. record {
+      kind = b.kind;
+      ports = b.ports.items;
+      exits = b.exits;
+      recorded = b.recorded.items;
+      fault = b.fault;
+      stopped = b.stopped;
+    } };
+
+    ghost invariant = { λ b. BlockFits b.ports.items b.exits };
+}
+
+impl Block {
+    /// A block of this kind with these ports, at which nothing waits, and with these links out of it. Its messages are
+    /// counted from 1 on. Where there is no memory for it, its parts come back.
+    pub fn new(
+        alloc: Global,
+        kind: BlockKind,
+        ports: Vec<Intake>,
+        rules: Vec<LinkRule>,
+    ) -> Result<Block, (Vec<Intake>, Vec<LinkRule>)>
+        requires { holds_nothing ports.items ≡ true }
+        ensures { MatchResult result (λ block. block ≡ fresh_block kind ports.items rules.items)
+            (λ back. (back.0 ≡ ports) × (back.1 ≡ rules)) }
+    {
+        let Some(first) = MessageHeader::new(1) else {
+            unreachable!()
+        };
+        match Outlet::new(alloc, rules, first) {
+            Ok(exits) => Ok(Block {
+                kind,
+                ports,
+                exits,
+                recorded: Vec::new(alloc),
+                fault: None,
+                stopped: None,
+            }),
+            Err(rules) => Err((ports, rules)),
+        }
+    }
+
+    /// What it does with its messages.
+    pub fn kind(&self) -> BlockKind
+        ensures { result ≡ self.now.kind }
+    {
+        self.kind
+    }
+
+    /// How many ports it has.
+    pub fn port_count(&self) -> usize
+        ensures { result ≡ length self.now.ports }
+    {
+        self.ports.len()
+    }
+
+    /// How many links lead into a port.
+    pub fn in_count(&self, port: usize) -> usize
+        requires { port < length self.now.ports }
+        ensures { result ≡ length (port_at port self.now).ends }
+    {
+        self.ports[port].link_count()
+    }
+
+    /// How many links lead out of it.
+    pub fn out_count(&self) -> usize
+        ensures { result ≡ length self.now.exits.ends }
+    {
+        self.exits.ends().len()
+    }
+
+    /// The link into a port whose end has this place.
+    pub fn in_link(&self, port: usize, place: usize) -> LinkId
+        requires port { port < length self.now.ports }
+        requires place { place < length (port_at port self.now).ends }
+        ensures { result ≡ link_in place (port_at port self.now).ends }
+    {
+        self.ports[port].link(place)
+    }
+
+    /// The link out of it whose end has this place.
+    pub fn out_link(&self, place: usize) -> LinkId
+        requires { place < length self.now.exits.ends }
+        ensures { result ≡ (end_at self.now.exits place).rule.id }
+    {
+        self.exits.ends()[place].rule.id
+    }
+
+    /// What it took at a port and has not worked on, oldest first.
+    pub fn waiting(&self, port: usize) -> &VecDeque<Value>
+        requires { port < length self.now.ports }
+        ensures { result.now.items ≡ (port_at port self.now).waiting }
+    {
+        self.ports[port].waiting()
+    }
+
+    /// What it has to give, oldest first.
+    pub fn left(&self) -> &VecDeque<Value>
+        ensures { result.now.items ≡ self.now.exits.left }
+    {
+        self.exits.left()
+    }
+
+    /// The results that it keeps, if it is an action.
+    pub fn recorded(&self) -> &[Value]
+        ensures { result.now ≡ self.now.recorded }
+    {
+        self.recorded.as_slice()
+    }
+
+    /// The fault of its own function on the message that waits longest, once that is known.
+    pub fn fault(&self) -> Option<u32>
+        ensures { result ≡ self.now.fault }
+    {
+        self.fault
+    }
+
+    /// How it ended, once it has.
+    pub fn stopped(&self) -> Option<Outcome>
+        ensures { result ≡ self.now.stopped }
+    {
+        self.stopped
+    }
+
+    /// How many marks may follow from what memory is set aside for: a message that is taken, and a head that is given.
+    pub(crate) fn marks_due(&self) -> usize
+        requires { marks_due self.now < 2 ^ 64 }
+        ensures { result ≡ marks_due self.now }
+    {
+        ports_due(&self.ports) + usize::from(self.exits.is_ready())
+    }
+
+    /// What the end of a link into it would do next.
+    pub fn in_move(&self, port: usize, place: usize) -> Option<Move>
+        requires port { port < length self.now.ports }
+        requires place { place < length (port_at port self.now).ends }
+        ensures { result ≡ in_move place (port_at port self.now) }
+    {
+        self.ports[port].in_move(place)
+    }
+
+    /// What the end of a link out of it would do next. The caller tells whether the block would fault but for offers
+    /// that wait.
+    pub fn out_move(&self, place: usize, held_up: bool) -> Option<Move>
+        requires { place < length self.now.exits.ends }
+        ensures { result ≡ out_move place self.now.stopped held_up self.now.exits }
+    {
+        self.exits.out_move(place, self.stopped, held_up)
+    }
+}

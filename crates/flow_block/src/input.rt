@@ -1,0 +1,200 @@
+//! The values that are posted to a block from outside, given in order over one link.
+ghost use Rattle.std.specs.Prelude.{◌≡◌, ◌<◌, ◌^◌, ◌&&◌, true, not, ltb, cond, drop, is_some, Some, None};
+ghost use Rattle.std.specs.Prelude.{OnOk, OnErr};
+ghost use Rattle.std.specs.Option.{option_copied};
+ghost use Rattle.flow_link.specs.declared.stage.SourceStage.TheVariants.{Free};
+ghost use Rattle.flow_intake.specs.Calls.{first_of};
+ghost use Rattle.flow_outlet.specs.End.{is_free};
+ghost use Rattle.flow_block.specs.Input.{InputCall, after_input, input_move, next_value, next_id, has_next, end_by};
+ghost use Rattle.flow_block.specs.InputKeeps.{is_wanted};
+
+use flow_link::{Ending, LinkEnd, Move, Phase, SourceStage};
+use flow_value::{MAX_ID, MessageHeader, Parcel, Value};
+use std::alloc::{AllocError, Global};
+use std::marker::Model;
+
+/// What is posted to a block: values, which it gives over one link, and how they end.
+///
+/// Contracts see an `InputState`.
+#[derive(Drop)]
+pub struct Input {
+    posted: Vec<Value>,
+    /// How many of them it gave.
+    sent: usize,
+    ending: Ending,
+    stage: SourceStage,
+    /// The parcel of the next one.
+    parcel: Option<Parcel>,
+}
+
+impl Model for Input {
+    ghost use Rattle.std.specs.Coded.{codes};
+    ghost use Rattle.std.specs.Prelude.{◌≡◌, ◌≤◌, length, drop, Some};
+    ghost use Rattle.std.specs.Option.{ForSome};
+    ghost use Rattle.flow_value.specs.contracts.value.Value as content;
+    ghost use Rattle.flow_intake.specs.Calls.{first_of};
+    ghost use Rattle.flow_block.specs.Input.{InputState};
+
+    ghost Value = { InputState };
+
+    ghost coded = { Prim.hlevel (codes, content.the_row.coded) };
+
+    ghost view = { λ i. record {
+      posted = i.posted.items;
+      sent = i.sent;
+      ending = i.ending;
+      stage = i.stage;
+      parcel = i.parcel;
+    } };
+
+    ghost invariant = { λ i. (i.sent ≤ length i.posted.items) ×
+        ForSome i.parcel (λ value. first_of (drop i.sent i.posted.items) ≡ Some value) };
+}
+
+impl Input {
+    /// An input with these values, which ends so when they are all given.
+    pub fn new(posted: Vec<Value>, ending: Ending) -> Input
+        ensures { result ≡ record { posted = posted.items; sent = 0; ending = ending; stage = Free; parcel = None } }
+    {
+        Input {
+            posted,
+            sent: 0,
+            ending,
+            stage: SourceStage::Free,
+            parcel: None,
+        }
+    }
+
+    /// The values, those that it gave among them.
+    pub fn posted(&self) -> &[Value]
+        ensures { result.now ≡ self.now.posted }
+    {
+        self.posted.as_slice()
+    }
+
+    /// How many of them it gave.
+    pub fn sent(&self) -> usize
+        ensures { result ≡ self.now.sent }
+    {
+        self.sent
+    }
+
+    /// How it ends.
+    pub fn ending(&self) -> Ending
+        ensures { result ≡ self.now.ending }
+    {
+        self.ending
+    }
+
+    /// Where its end of the link stands.
+    pub fn stage(&self) -> SourceStage
+        ensures { result ≡ self.now.stage }
+    {
+        self.stage
+    }
+
+    /// Whether there is a next value.
+    fn has_next(&self) -> bool
+        ensures { result ≡ has_next self.now }
+    {
+        self.sent < self.posted.len()
+    }
+
+    /// Whether there is a next value, which would need an id above 2^59 - 1.
+    pub fn lacks_id(&self) -> bool
+        ensures { result ≡ (has_next self.now && not (ltb (next_id self.now) (2 ^ 59))) }
+    {
+        self.has_next() && self.sent as u64 >= MAX_ID
+    }
+
+    /// What it does next by itself, if anything. Past the last id it makes no offer.
+    pub fn next_move(&self) -> Option<Move>
+        ensures { result ≡ cond (is_free self.now.stage && has_next self.now && not (ltb (next_id self.now) (2 ^ 59)))
+            None (input_move self.now) }
+    {
+        match self.stage {
+            SourceStage::Free if self.has_next() => {
+                MessageHeader::new(self.sent as u64 + 1).map(Move::Offer)
+            }
+            SourceStage::Free => link_end(self.ending).map(Move::End),
+            SourceStage::Accepted(_) | SourceStage::Wished(_) => Some(Move::Give),
+            _ => None,
+        }
+    }
+
+    /// Makes the parcel of the next value, unless it is made.
+    pub fn prepare(&mut self, alloc: Global) -> Result<(), AllocError>
+        ensures done { OnOk result (self.new ≡ record self.old { parcel = next_value self.old }) }
+        ensures kept { OnErr result (self.new ≡ self.old) }
+    {
+        if self.parcel.is_some() {
+            return Ok(());
+        }
+        if let Some(value) = value_at(&self.posted, self.sent) {
+            self.parcel = Some(Parcel::of(alloc, value)?);
+        }
+        Ok(())
+    }
+
+    /// Offers the next value, and tells its header.
+    pub fn offer(&mut self) -> MessageHeader
+        requires free { is_free self.old.stage ≡ true }
+        requires ready { is_some self.old.parcel ≡ true }
+        requires id { next_id self.old < 2 ^ 59 }
+        ensures header { result ≡ next_id self.old }
+        ensures out { self.new ≡ after_input InputCall.offer self.old }
+    {
+        let Some(header) = MessageHeader::new(self.sent as u64 + 1) else {
+            unreachable!()
+        };
+        self.stage = SourceStage::Out(header);
+        header
+    }
+
+    /// Gives the next value, which is wanted.
+    pub fn give(&mut self) -> Parcel
+        requires wanted { is_wanted self.old.stage ≡ true }
+        requires ready { is_some self.old.parcel ≡ true }
+        ensures value { next_value self.old ≡ Some result }
+        ensures given { self.new ≡ after_input InputCall.give self.old }
+    {
+        let Some(parcel) = self.parcel.take() else {
+            unreachable!()
+        };
+        self.sent += 1;
+        self.stage = SourceStage::Crossing;
+        parcel
+    }
+
+    /// Ends its link.
+    pub fn end(&mut self, how: LinkEnd)
+        requires { is_free self.old.stage ≡ true }
+        ensures { self.new ≡ after_input (InputCall.end_link how) self.old }
+    {
+        self.stage = SourceStage::Ended(how);
+    }
+
+    /// Looks at the phase of its link.
+    pub fn look(&mut self, phase: Phase)
+        ensures { self.new ≡ after_input (InputCall.look phase) self.old }
+    {
+        self.stage = self.stage.look(phase);
+    }
+}
+
+/// How the link ends when all is given.
+fn link_end(ending: Ending) -> Option<LinkEnd>
+    ensures { result ≡ end_by ending }
+{
+    match ending {
+        Ending::Open => None,
+        Ending::Complete => Some(LinkEnd::Complete),
+        Ending::Fault(number) => Some(LinkEnd::Fault(number)),
+    }
+}
+
+fn value_at(values: &[Value], place: usize) -> Option<&Value>
+    ensures { option_copied result ≡ first_of (drop place values.now) }
+{
+    values.get(place)
+}

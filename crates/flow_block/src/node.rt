@@ -1,0 +1,357 @@
+//! A node of a network: a block with its journal.
+//!
+//! Room for the mark of a message is set aside with the room for the message, so that the calls that move it take no
+//! memory.
+ghost use Rattle.std.specs.Prelude.{◌≡◌, ◌<◌, ◌≤◌, ◌+◌, ◌^◌, [], true, length, is_some, take, Some, Err, OnOk, OnErr};
+ghost use Rattle.std.specs.Prelude.{◌↔◌, IfErr, vec_len, vec_capacity};
+ghost use Rattle.flow_link.specs.LinkOk.{HasRoom};
+ghost use Rattle.flow_link.specs.declared.trace.Mark.TheVariants.{Complete, Fault, Done};
+ghost use Rattle.flow_link.specs.declared.trace.Outcome.TheVariants as outcome;
+ghost use Rattle.flow_intake.specs.Port.{stage_at as port_stage, is_offer, is_hand, has_room};
+ghost use Rattle.flow_intake.specs.Calls.{prepared, is_offered, is_posted, is_postponed, is_arrived};
+ghost use Rattle.flow_intake.specs.Calls.{may_be_refused, wants, turns_down, postpones, refuses, consumes, opens};
+ghost use Rattle.flow_intake.specs.Calls.{looks as port_looks, port_closes};
+ghost use Rattle.flow_outlet.specs.End.{is_waiting, is_free};
+ghost use Rattle.flow_outlet.specs.Outlet.{end_at, stage_at, may_offer, may_give, is_wish, prepares, offers, denies};
+ghost use Rattle.flow_outlet.specs.Outlet.{withdraws, ends_link, looks, head_of, lacks_ids};
+ghost use Rattle.flow_outlet.specs.declared.fault.OutletFault.TheVariants.{Ids};
+ghost use Rattle.flow_block.specs.Block.{port_at, with_port, held_by, records, puts_out, fails, stops_by};
+ghost use Rattle.flow_block.specs.JournalFits.{marks_due};
+ghost use Rattle.flow_block.specs.Node.{with_block, with_exits, marks, takes_in, gives_from, hand_at};
+
+use crate::block::Block;
+use flow_link::{LinkEnd, Mark, Outcome, Phase};
+use flow_outlet::OutletFault;
+use flow_value::{MessageHeader, Parcel, Value};
+use std::alloc::{AllocError, Global};
+use std::marker::Model;
+
+/// A block with its journal. Contracts see a `NodeState`.
+#[derive(Drop)]
+pub struct Node {
+    journal: Vec<Mark>,
+    block: Block,
+}
+
+impl Model for Node {
+    ghost use Rattle.std.specs.Coded.{codes};
+    ghost use Rattle.std.specs.Prelude.{◌≤◌, ◌+◌, vec_len, vec_capacity};
+    ghost use Rattle.flow_value.specs.contracts.value.Value as content;
+    ghost use Rattle.flow_link.specs.contracts.trace.Mark as mark;
+    ghost use Rattle.flow_block.specs.JournalFits.{marks_due};
+    ghost use Rattle.flow_block.specs.Node.{NodeState};
+
+    ghost Value = { NodeState };
+
+    ghost coded = { Prim.hlevel (codes, mark.the_row.coded, content.the_row.coded) };
+
+    ghost view = { λ n. record { block = n.block; journal = n.journal.items } };
+
+    ghost invariant = { λ n. vec_len n.journal + marks_due n.block ≤ vec_capacity n.journal };
+}
+
+impl Node {
+    /// A node with this block, for which nothing is under way, and with an empty journal.
+    pub fn new(alloc: Global, block: Block) -> Node
+        requires { marks_due block ≡ 0 }
+        ensures { result ≡ record { block = block; journal = [] } }
+    {
+        Node {
+            journal: Vec::new(alloc),
+            block,
+        }
+    }
+
+    /// The block.
+    pub fn block(&self) -> &Block
+        ensures { result.now ≡ self.now.block }
+    {
+        &self.block
+    }
+
+    /// What happened to it, in order.
+    pub fn journal(&self) -> &[Mark]
+        ensures { result.now ≡ self.now.journal }
+    {
+        self.journal.as_slice()
+    }
+}
+
+// The target's side of each move: see `Block`.
+impl Node {
+    /// Sets memory aside for one more message at a port, and for its mark, from the answer to its offer until it is
+    /// taken.
+    pub fn prepare_answer(&mut self, port: u32) -> Result<(), AllocError>
+        requires { port < length self.old.block.ports }
+        ensures done { OnOk result (self.new ≡ with_block (with_port port prepared self.old.block) self.old) }
+        ensures kept { OnErr result (self.new ≡ self.old) }
+    {
+        reserve_mark(&mut self.journal, &self.block)?;
+        self.block.prepare_answer(port as usize)?;
+        Ok(())
+    }
+
+    /// Accepts the offer over the link at this place.
+    pub fn want(&mut self, port: u32, place: usize)
+        requires port { port < length self.old.block.ports }
+        requires place { place < length (port_at port self.old.block).ends }
+        requires offer { is_offer (port_stage place (port_at port self.old.block)) ≡ true }
+        requires ready { (port_at port self.old.block).ready ≡ true }
+        requires room { has_room (port_at port self.old.block) ≡ true }
+        ensures { self.new ≡ with_block (with_port port (wants place) self.old.block) self.old }
+    {
+        self.block.want(port as usize, place);
+    }
+
+    /// Does not take the message that was posted over the link at this place.
+    pub fn turn_down(&mut self, port: u32, place: usize)
+        requires port { port < length self.old.block.ports }
+        requires place { place < length (port_at port self.old.block).ends }
+        requires posted { is_posted (port_stage place (port_at port self.old.block)) ≡ true }
+        ensures { self.new ≡ with_block (with_port port (turns_down place) self.old.block) self.old }
+    {
+        self.block.turn_down(port as usize, place);
+    }
+
+    /// Postpones the offer over the link at this place.
+    pub fn postpone(&mut self, port: u32, place: usize)
+        requires port { port < length self.old.block.ports }
+        requires place { place < length (port_at port self.old.block).ends }
+        requires offered { is_offered (port_stage place (port_at port self.old.block)) ≡ true }
+        requires ready { (port_at port self.old.block).ready ≡ true }
+        ensures { self.new ≡ with_block (with_port port (postpones place) self.old.block) self.old }
+    {
+        self.block.postpone(port as usize, place);
+    }
+
+    /// Refuses the offer over the link at this place for good, which it may have postponed before.
+    pub fn refuse(&mut self, port: u32, place: usize)
+        requires port { port < length self.old.block.ports }
+        requires place { place < length (port_at port self.old.block).ends }
+        requires refusing { is_some (port_at port self.old.block).refusing ≡ true }
+        requires offer { may_be_refused (port_stage place (port_at port self.old.block)) ≡ true }
+        ensures { self.new ≡ with_block (with_port port (refuses place) self.old.block) self.old }
+    {
+        self.block.refuse(port as usize, place);
+    }
+
+    /// Consumes the offer over the link at this place, which it postponed.
+    pub fn consume(&mut self, port: u32, place: usize)
+        requires port { port < length self.old.block.ports }
+        requires place { place < length (port_at port self.old.block).ends }
+        requires postponed { is_postponed (port_stage place (port_at port self.old.block)) ≡ true }
+        requires room { has_room (port_at port self.old.block) ≡ true }
+        ensures { self.new ≡ with_block (with_port port (consumes place) self.old.block) self.old }
+    {
+        self.block.consume(port as usize, place);
+    }
+
+    /// Takes the message out of the slot of the link at this place: this is its parcel.
+    pub fn open(&mut self, port: u32, place: usize, parcel: Parcel)
+        requires port { port < length self.old.block.ports }
+        requires place { place < length (port_at port self.old.block).ends }
+        requires arrived { is_arrived (port_stage place (port_at port self.old.block)) ≡ true }
+        ensures { self.new ≡ with_block (with_port port (opens place parcel) self.old.block) self.old }
+    {
+        self.block.open(port as usize, place, parcel);
+    }
+
+    /// Makes the message the block's own that it has in hand from the link at this place, and marks that it took it.
+    pub fn close(&mut self, port: u32, place: usize)
+        requires port { port < length self.old.block.ports }
+        requires place { place < length (port_at port self.old.block).ends }
+        requires hand { is_hand (port_stage place (port_at port self.old.block)) ≡ true }
+        ensures { self.new ≡ takes_in port place (hand_at port place self.old) self.old }
+    {
+        let link = self.block.in_link(port as usize, place);
+        let value = self.block.close(port as usize, place);
+        self.journal.push_reserved(Mark::Took(port, link, value));
+    }
+
+    /// Looks at the phase of the link into it at this place.
+    pub fn look_in(&mut self, port: u32, place: usize, phase: Phase)
+        requires port { port < length self.old.block.ports }
+        requires place { place < length (port_at port self.old.block).ends }
+        ensures { self.new ≡ with_block (with_port port (port_looks place phase) self.old.block) self.old }
+    {
+        self.block.look_in(port as usize, place, phase);
+    }
+}
+
+// The source's side.
+impl Node {
+    /// Sets memory aside for the parcel of the head, and for the mark that it is given.
+    pub fn prepare_offer(&mut self, alloc: Global) -> Result<(), AllocError>
+        ensures done { OnOk result (self.new ≡ with_exits (prepares self.old.block.exits) self.old) }
+        ensures kept { OnErr result (self.new ≡ self.old) }
+    {
+        reserve_mark(&mut self.journal, &self.block)?;
+        self.block.prepare_offer(alloc)?;
+        Ok(())
+    }
+
+    /// Offers the head over the link at the place where it may be offered, and tells its header.
+    pub fn offer(&mut self, place: usize) -> MessageHeader
+        requires may { may_offer self.old.block.exits ≡ Some place }
+        requires ready { is_some self.old.block.exits.parcel ≡ true }
+        ensures header { result ≡ self.old.block.exits.next }
+        ensures out { self.new ≡ with_exits (offers place self.old.block.exits) self.old }
+    {
+        self.block.offer(place)
+    }
+
+    /// Gives the head over the link at this place, where it is wanted, and marks that; this is its parcel.
+    pub fn give(&mut self, place: usize) -> Parcel
+        requires there { place < length self.old.block.exits.ends }
+        requires wanted { may_give place self.old.block.exits ≡ true }
+        requires ready { is_some self.old.block.exits.parcel ≡ true }
+        requires room { HasRoom (end_at self.old.block.exits place).rule.max (end_at self.old.block.exits place).given }
+        ensures oldest { head_of self.old.block.exits ≡ Some result }
+        ensures given { self.new ≡ gives_from place (head_of self.old.block.exits) self.old }
+    {
+        let link = self.block.out_link(place);
+        let (value, parcel) = self.block.give(place);
+        self.journal.push_reserved(Mark::Gave(link, value));
+        parcel
+    }
+
+    /// Denies the wish for a message over the link at this place.
+    pub fn deny(&mut self, place: usize)
+        requires there { place < length self.old.block.exits.ends }
+        requires wish { is_wish (stage_at self.old.block.exits place) ≡ true }
+        ensures { self.new ≡ with_exits (denies place self.old.block.exits) self.old }
+    {
+        self.block.deny(place);
+    }
+
+    /// Withdraws the offer that was postponed over the link at this place.
+    pub fn withdraw(&mut self, place: usize)
+        requires there { place < length self.old.block.exits.ends }
+        requires waits { is_waiting (stage_at self.old.block.exits place) ≡ true }
+        ensures { self.new ≡ with_exits (withdraws place self.old.block.exits) self.old }
+    {
+        self.block.withdraw(place);
+    }
+
+    /// Ends the link at this place.
+    pub fn end(&mut self, place: usize, how: LinkEnd)
+        requires there { place < length self.old.block.exits.ends }
+        requires free { is_free (stage_at self.old.block.exits place) ≡ true }
+        ensures { self.new ≡ with_exits (ends_link place how self.old.block.exits) self.old }
+    {
+        self.block.end(place, how);
+    }
+
+    /// Looks at the phase of the link out of it at this place.
+    pub fn look_out(&mut self, place: usize, phase: Phase)
+        requires { place < length self.old.block.exits.ends }
+        ensures { self.new ≡ with_exits (looks place phase self.old.block.exits) self.old }
+    {
+        self.block.look_out(place, phase);
+    }
+}
+
+// What it does by itself.
+impl Node {
+    /// Hands the message that waits longest on as it is. Where message ids are used up or there is no memory for it,
+    /// nothing has changed.
+    pub fn hand_on(&mut self) -> Result<(), OutletFault>
+        requires alone { length self.old.block.ports ≡ 1 }
+        requires waits { 0 < length (held_by self.old.block) }
+        ensures done { OnOk result
+            (self.new ≡ with_block (puts_out (take 1 (held_by self.old.block)) self.old.block) self.old) }
+        ensures kept { OnErr result (self.new ≡ self.old) }
+        ensures ids { (result ≡ Err Ids) ↔ (lacks_ids (take 1 (held_by self.old.block)) self.old.block.exits ≡ true) }
+    {
+        self.block.hand_on()?;
+        Ok(())
+    }
+
+    /// Has these results of the message that waits longest to give. Where message ids are used up or there is no memory
+    /// for them, nothing has changed, and they come back.
+    pub fn put_out(&mut self, values: Vec<Value>) -> Result<(), (Vec<Value>, OutletFault)>
+        requires alone { length self.old.block.ports ≡ 1 }
+        requires waits { 0 < length (held_by self.old.block) }
+        ensures done { OnOk result (self.new ≡ with_block (puts_out values.items self.old.block) self.old) }
+        ensures kept { OnErr result (self.new ≡ self.old) }
+        ensures back { IfErr result (λ refused. refused.0 ≡ values) }
+        ensures ids { (result ≡ Err (values, Ids)) ↔ (lacks_ids values.items self.old.block.exits ≡ true) }
+    {
+        self.block.put_out(values)?;
+        Ok(())
+    }
+
+    /// Keeps these results of the message that waits longest. Where there is no memory for them, nothing has changed,
+    /// and they come back.
+    pub fn record(&mut self, values: Vec<Value>) -> Result<(), Vec<Value>>
+        requires alone { length self.old.block.ports ≡ 1 }
+        requires waits { 0 < length (held_by self.old.block) }
+        ensures done { OnOk result (self.new ≡ with_block (records values.items self.old.block) self.old) }
+        ensures kept { OnErr result (self.new ≡ self.old) }
+        ensures back { IfErr result (λ back. back.items ≡ values.items) }
+    {
+        self.block.record(values)?;
+        Ok(())
+    }
+
+    /// The block's function faults on the message that waits longest, with this number.
+    pub fn fail(&mut self, number: u32)
+        ensures { self.new ≡ with_block (fails number self.old.block) self.old }
+    {
+        self.block.fail(number);
+    }
+
+    /// A port takes no message any more, and the journal says so. Where there is no memory for the mark, nothing has
+    /// changed.
+    ///
+    /// Microsoft: `IDataflowBlock.Complete`.
+    pub fn complete(&mut self, port: u32) -> Result<(), AllocError>
+        requires { port < length self.old.block.ports }
+        ensures done { OnOk result
+            (self.new ≡ marks (Complete port) (with_block (with_port port port_closes self.old.block) self.old)) }
+        ensures kept { OnErr result (self.new ≡ self.old) }
+    {
+        reserve_mark(&mut self.journal, &self.block)?;
+        self.block.complete(port as usize);
+        self.journal.push_reserved(Mark::Complete(port));
+        Ok(())
+    }
+
+    /// The block stops by a fault, and the journal says so. Where there is no memory for the mark, nothing has changed.
+    ///
+    /// Microsoft: `IDataflowBlock.Fault`.
+    pub fn fault(&mut self, number: u32) -> Result<(), AllocError>
+        ensures done { OnOk result
+            (self.new ≡ marks (Fault number) (with_block (stops_by (outcome.Faulted number) self.old.block) self.old)) }
+        ensures kept { OnErr result (self.new ≡ self.old) }
+    {
+        reserve_mark(&mut self.journal, &self.block)?;
+        self.block.stop(Outcome::Faulted(number));
+        self.journal.push_reserved(Mark::Fault(number));
+        Ok(())
+    }
+
+    /// The block stops, and has nothing left; the journal says so. Where there is no memory for the mark, nothing has
+    /// changed.
+    pub fn finish(&mut self) -> Result<(), AllocError>
+        ensures done { OnOk result
+            (self.new ≡ marks Done (with_block (stops_by outcome.Done self.old.block) self.old)) }
+        ensures kept { OnErr result (self.new ≡ self.old) }
+    {
+        reserve_mark(&mut self.journal, &self.block)?;
+        self.block.stop(Outcome::Done);
+        self.journal.push_reserved(Mark::Done);
+        Ok(())
+    }
+}
+
+/// Sets room aside in the journal for one more mark than those that may follow anyway.
+fn reserve_mark(journal: &mut Vec<Mark>, block: &Block) -> Result<(), AllocError>
+    requires { vec_len journal.old + marks_due block.now ≤ vec_capacity journal.old }
+    ensures items { journal.new.items ≡ journal.old.items }
+    ensures len { vec_len journal.new ≡ vec_len journal.old }
+    ensures room { OnOk result (vec_len journal.new + marks_due block.now + 1 ≤ vec_capacity journal.new) }
+    ensures capacity { vec_capacity journal.old ≤ vec_capacity journal.new }
+{
+    journal.reserve(block.marks_due() + 1)
+}

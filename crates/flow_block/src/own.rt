@@ -1,0 +1,92 @@
+//! What a block does by itself: it works on the message that waits longest, and it ends.
+ghost use Rattle.std.specs.Prelude.{◌≡◌, ◌<◌, ◌↔◌, true, length, take, Err, OnOk, OnErr, IfErr};
+ghost use Rattle.flow_intake.specs.Calls.{port_closes};
+ghost use Rattle.flow_outlet.specs.Outlet.{lacks_ids};
+ghost use Rattle.flow_outlet.specs.declared.fault.OutletFault.TheVariants.{Ids};
+ghost use Rattle.flow_block.specs.Block.{with_port, held_by, records, puts_out, fails, stops_by};
+
+use crate::block::Block;
+use crate::ports::{close_ports, fail_ports, hand_first, unit_weight};
+use flow_link::Outcome;
+use flow_outlet::OutletFault;
+use flow_value::Value;
+
+// What it makes of the message that waits longest.
+impl Block {
+    /// Hands the message on as it is. Where message ids are used up or there is no memory for it, nothing has changed.
+    pub fn hand_on(&mut self) -> Result<(), OutletFault>
+        requires alone { length self.old.ports ≡ 1 }
+        requires waits { 0 < length (held_by self.old) }
+        ensures done { OnOk result (self.new ≡ puts_out (take 1 (held_by self.old)) self.old) }
+        ensures kept { OnErr result (self.new ≡ self.old) }
+        ensures ids { (result ≡ Err Ids) ↔ (lacks_ids (take 1 (held_by self.old)) self.old.exits ≡ true) }
+    {
+        let weight = unit_weight(&self.ports[0]);
+        hand_first(&mut self.ports[0], &mut self.exits, weight)?;
+        Ok(())
+    }
+
+    /// Has these results of the message to give; its room comes back when they are all given. Where message ids are
+    /// used up or there is no memory for them, nothing has changed, and they come back.
+    pub fn put_out(&mut self, values: Vec<Value>) -> Result<(), (Vec<Value>, OutletFault)>
+        requires alone { length self.old.ports ≡ 1 }
+        requires waits { 0 < length (held_by self.old) }
+        ensures done { OnOk result (self.new ≡ puts_out values.items self.old) }
+        ensures kept { OnErr result (self.new ≡ self.old) }
+        ensures back { IfErr result (λ refused. refused.0 ≡ values) }
+        ensures ids { (result ≡ Err (values, Ids)) ↔ (lacks_ids values.items self.old.exits ≡ true) }
+    {
+        let weight = unit_weight(&self.ports[0]);
+        self.exits.put(values, weight)?;
+        let _value = self.ports[0].take_next();
+        Ok(())
+    }
+
+    /// Keeps these results of the message, whose room comes back at once. Where there is no memory for them, nothing
+    /// has changed, and they come back.
+    pub fn record(&mut self, values: Vec<Value>) -> Result<(), Vec<Value>>
+        requires alone { length self.old.ports ≡ 1 }
+        requires waits { 0 < length (held_by self.old) }
+        ensures done { OnOk result (self.new ≡ records values.items self.old) }
+        ensures kept { OnErr result (self.new ≡ self.old) }
+        ensures back { IfErr result (λ back. back.items ≡ values.items) }
+    {
+        let mut values = values;
+        if self.recorded.append(&mut values).is_err() {
+            return Err(values);
+        }
+        let port = &mut self.ports[0];
+        let _value = port.take_next();
+        port.give_room(1);
+        Ok(())
+    }
+
+    /// Its function faults on the message, with this number: from now on its ports take no message any more.
+    pub fn fail(&mut self, number: u32)
+        ensures { self.new ≡ fails number self.old }
+    {
+        self.fault = Some(number);
+        fail_ports(&mut self.ports);
+    }
+}
+
+// How it ends.
+impl Block {
+    /// A port takes no message any more.
+    ///
+    /// Microsoft: `IDataflowBlock.Complete`.
+    pub fn complete(&mut self, port: usize)
+        requires { port < length self.old.ports }
+        ensures { self.new ≡ with_port port port_closes self.old }
+    {
+        self.ports[port].close_port();
+    }
+
+    /// It stops so, and no port takes a message any more.
+    pub fn stop(&mut self, how: Outcome)
+        ensures { self.new ≡ stops_by how self.old }
+    {
+        self.stopped = Some(how);
+        close_ports(&mut self.ports);
+    }
+}
