@@ -185,7 +185,7 @@ impl Block {
 
     /// What the end of a link out of it would do next. The caller tells whether the block would fault but for offers
     /// that wait.
-    pub fn out_move(&self, place: usize, held_up: bool) -> Option<Move>
+    pub(crate) fn out_move(&self, place: usize, held_up: bool) -> Option<Move>
         requires { place < length self.now.exits.ends }
         ensures { result ≡ out_move place self.now.stopped held_up self.now.exits }
     {

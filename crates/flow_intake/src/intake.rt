@@ -8,6 +8,7 @@ ghost use Rattle.flow_intake.specs.Port.{PortState, fresh_end, fresh_port, stage
 ghost use Rattle.flow_intake.specs.Port.{is_owed, is_hand, is_wanted, coming, has_room, count_at, is_coming};
 ghost use Rattle.flow_intake.specs.Ended.{has_seen_completion, fault_at_ends};
 ghost use Rattle.flow_intake.specs.Port.{link_in};
+ghost use Rattle.flow_intake.specs.PortLaw.{has_ended};
 ghost use Rattle.flow_intake.specs.Calls.{first_of, answer_to, next_place, in_move, is_offered, is_posted};
 ghost use Rattle.flow_intake.specs.Calls.{is_postponed, is_arrived, may_be_refused, may_be_dropped, prepared};
 ghost use Rattle.flow_intake.specs.Calls.{accepts, puts_off, wants, turns_down, postpones, refuses};
@@ -172,6 +173,13 @@ impl Intake {
         ensures { result ≡ fault_at_ends self.now.ends }
     {
         self.ends.fault_seen()
+    }
+
+    /// Whether it was completed: no message comes into it any more.
+    pub fn has_ended(&self) -> bool
+        ensures { result ≡ has_ended self.now.refusing }
+    {
+        matches!(self.refusing, Some(Refusal::PortEnded))
     }
 
     /// Whether there is room for one more message.

@@ -1,0 +1,133 @@
+//! What a block could do next by itself. Each tells it by the ports, and by counts that they and the exits keep.
+ghost use Rattle.std.specs.Prelude.{◌≡◌, ◌<◌, ◌==◌, not, length};
+ghost use Rattle.std.specs.List.{list_all};
+ghost use Rattle.flow_intake.specs.Port.{PortState, coming};
+ghost use Rattle.flow_intake.specs.PortLaw.{has_ended};
+ghost use Rattle.flow_outlet.specs.Outlet.{out_move, is_empty};
+ghost use Rattle.flow_block.specs.Block.{port_in};
+ghost use Rattle.flow_block.specs.Peeks.{may_make, may_complete, next_fault, is_held_up, may_finish, could_stop};
+ghost use Rattle.flow_block.specs.Peeks.{fault_cause, fault_at_ports};
+
+use crate::block::Block;
+use flow_intake::Intake;
+use flow_link::Move;
+
+impl Block {
+    /// Whether a message waits to be worked on, and may be.
+    pub fn may_make(&self) -> bool
+        ensures { result ≡ may_make self.now }
+    {
+        self.stopped.is_none() && self.fault.is_none() && holds_first(&self.ports)
+    }
+
+    /// Whether this port completes now: completion came over a link into it, and no message is on its way into it.
+    pub fn may_complete(&self, port: usize) -> bool
+        requires { port < length self.now.ports }
+        ensures { result ≡ may_complete port self.now }
+    {
+        let port = &self.ports[port];
+        !port.has_ended() && port.coming() == 0 && port.has_seen_completion()
+    }
+
+    /// The fault by which it stops now, if it does.
+    pub fn next_fault(&self) -> Option<u32>
+        ensures { result ≡ next_fault self.now }
+    {
+        if self.could_stop() && self.exits.is_at_rest() {
+            self.fault_cause()
+        } else {
+            None
+        }
+    }
+
+    /// Whether it would stop by a fault, but for offers that wait for their targets.
+    pub fn is_held_up(&self) -> bool
+        ensures { result ≡ is_held_up self.now }
+    {
+        self.could_stop() && self.exits.only_waits() && self.fault_cause().is_some()
+    }
+
+    /// Whether it is done now: all its ports have completed, and it has nothing to work on and nothing to give.
+    #[tactic(auto, using(flow_link::proofs::FirstInOrder::all_is_every))]
+    pub fn may_finish(&self) -> bool
+        ensures { result ≡ may_finish self.now }
+    {
+        self.could_stop()
+            && all_ended(&self.ports)
+            && holds_nothing(&self.ports)
+            && self.exits.left().is_empty()
+            && self.exits.is_at_rest()
+    }
+
+    /// What the end of a link out of it would do next.
+    pub fn next_out(&self, place: usize) -> Option<Move>
+        requires { place < length self.now.exits.ends }
+        ensures { result ≡ out_move place self.now.stopped (is_held_up self.now) self.now.exits }
+    {
+        self.out_move(place, self.is_held_up())
+    }
+
+    /// Whether it has not stopped, and no message is on its way into it.
+    #[tactic(auto, using(flow_link::proofs::FirstInOrder::all_is_every))]
+    fn could_stop(&self) -> bool
+        ensures { result ≡ could_stop self.now }
+    {
+        self.stopped.is_none() && nothing_comes(&self.ports)
+    }
+
+    /// The fault by which it would stop: its own, or one that it has seen, once all that it took is worked on.
+    #[tactic(auto, using(flow_link::proofs::FirstInOrder::all_is_every))]
+    fn fault_cause(&self) -> Option<u32>
+        ensures { result ≡ fault_cause self.now }
+    {
+        match self.fault {
+            Some(number) => Some(number),
+            None if holds_nothing(&self.ports) => fault_at_ports(&self.ports),
+            None => None,
+        }
+    }
+}
+
+/// Whether a message waits at the first port.
+fn holds_first(ports: &[Intake]) -> bool
+    ensures { result ≡ not (is_empty (port_in ports.now 0).waiting) }
+{
+    match ports.first() {
+        Some(port) => !port.waiting().is_empty(),
+        None => false,
+    }
+}
+
+/// Whether no message waits at a port.
+fn holds_nothing(ports: &[Intake]) -> bool
+    ensures { result ≡ list_all (λ (port : PortState). is_empty port.waiting) ports.now }
+{
+    ports.iter().all(|port| port.waiting().is_empty())
+}
+
+/// Whether no message is on its way into a port.
+fn nothing_comes(ports: &[Intake]) -> bool
+    ensures { result ≡ list_all (λ (port : PortState). coming port == 0) ports.now }
+{
+    ports.iter().all(|port| port.coming() == 0)
+}
+
+/// Whether each port was completed.
+fn all_ended(ports: &[Intake]) -> bool
+    ensures { result ≡ list_all (λ (port : PortState). has_ended port.refusing) ports.now }
+{
+    ports.iter().all(|port| port.has_ended())
+}
+
+/// The fault that was seen at the ports, the first by the places of the ports.
+fn fault_at_ports(ports: &[Intake]) -> Option<u32>
+    ensures { result ≡ fault_at_ports ports.now }
+{
+    for port in ports {
+        let fault = port.fault_seen();
+        if fault.is_some() {
+            return fault;
+        }
+    }
+    None
+}
