@@ -14,7 +14,7 @@ pub struct Ran {
 }
 
 /// Why there was no run, or no report of it.
-#[derive(Clone, Copy, Debug, PartialEq, Eq)]
+#[derive(Clone, Copy, Debug, PartialEq, Eq, thiserror::Error)]
 pub enum RunRefusal {
     /// A text was refused, or could not be read or written.
     Text(TextFault),

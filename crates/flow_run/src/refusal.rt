@@ -7,7 +7,6 @@ ghost use Rattle.flow_run.specs.Refusal.{refusal_text, refusal_line};
 use crate::outcome::RunRefusal;
 use arrayvec::ArrayString;
 use flow_text::{TextFault, write_bytes};
-use std::error::Error;
 use std::fmt;
 use std::fmt::Write as _;
 use std::io::Write;
@@ -50,5 +49,3 @@ impl fmt::Display for RunRefusal {
         }
     }
 }
-
-impl Error for RunRefusal {}

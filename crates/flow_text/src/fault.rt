@@ -5,7 +5,6 @@ ghost use Rattle.flow_text.specs.FaultText.{place_text, fault_text};
 use crate::plan_line::PlanLine;
 use flow_link::PlanFault;
 use std::alloc::{AllocError, AllocFailed};
-use std::error::Error;
 use std::fmt;
 
 /// Where in a network's text a fault stands.
@@ -20,7 +19,7 @@ pub enum TextPlace {
 }
 
 /// Why a network or its records can't be read, or its report can't be written.
-#[derive(Clone, Copy, Debug, PartialEq, Eq)]
+#[derive(Clone, Copy, Debug, PartialEq, Eq, thiserror::Error)]
 pub enum TextFault {
     /// The network is no TOML.
     Syntax,
@@ -119,5 +118,3 @@ impl fmt::Display for TextFault {
         }
     }
 }
-
-impl Error for TextFault {}
