@@ -1,5 +1,6 @@
 -- What a node in order does next has its cause.
 use Rattle.std.proofs.Common.{◌≡◌, ◌≢◌, ℕ, ◌<◌, ◌≤◌, ◌==◌, ◌&&◌, ◌||◌, ◌⊎◌, inl, inr, cond, Bool, true, false, List, length, Option, Some, None, is_some, is_none, Result, refl, ap, sym, ◌∙◌, arith, eqb-true, eq-eqb}
+use Rattle.std.proofs.lemmas.Bool.{and_parts, or_parts}
 use Rattle.flow_value.specs.declared.value.Value.{Value}
 use Rattle.flow_value.specs.declared.message.MessageStatus.{MessageStatus}
 use Rattle.flow_value.specs.declared.message.MessageStatus.TheVariants as status
@@ -13,7 +14,6 @@ use Rattle.flow_link.specs.declared.stage.TargetStage.{TargetStage}
 use Rattle.flow_link.specs.declared.stage.TargetStage.TheVariants as target
 use Rattle.flow_link.specs.declared.trace.Outcome.{Outcome}
 use Rattle.flow_link.specs.Layout.{Layout}
-use Rattle.flow_link.proofs.ListTests.{both_of}
 use Rattle.flow_intake.specs.Port.{PortState, stage_at as port_stage, has_room}
 use Rattle.flow_intake.specs.Calls.{answer_to, move_of, move_at, is_at, next_place}
 use Rattle.flow_intake.specs.PortLaw.{has_ended as has_port_ended}
@@ -52,6 +52,13 @@ answer_postpones status.Accepted e = absurd (cc)
 answer_postpones status.DecliningPermanently e = absurd (cc)
 answer_postpones status.Declined e = absurd (cc)
 answer_postpones status.NotAvailable e = absurd (cc)
+
+answer_never_consumes : (answer : MessageStatus) → move_of answer ≡ Some move.Consume → ⊥
+answer_never_consumes status.Accepted e = cc
+answer_never_consumes status.Declined e = cc
+answer_never_consumes status.Postponed e = cc
+answer_never_consumes status.NotAvailable e = cc
+answer_never_consumes status.DecliningPermanently e = cc
 
 -- one end of a port
 module _ (port : PortState) (k : ℕ) where
@@ -96,22 +103,8 @@ module _ (port : PortState) (k : ℕ) where
 
   consumes_at : (stage : TargetStage) → move_at k port stage ≡ Some move.Consume → next_place port ≡ Some k
   consumes_at (target.Postponed i) e = queued_consumes port.refusing (next_place port) e
-  consumes_at (target.Offered i) e = absurd (never (answer_to true port) e)
-    where
-      never : (answer : MessageStatus) → move_of answer ≡ Some move.Consume → ⊥
-      never status.Accepted e = cc
-      never status.Declined e = cc
-      never status.Postponed e = cc
-      never status.NotAvailable e = cc
-      never status.DecliningPermanently e = cc
-  consumes_at (target.Posted i) e = absurd (never (answer_to false port) e)
-    where
-      never : (answer : MessageStatus) → move_of answer ≡ Some move.Consume → ⊥
-      never status.Accepted e = cc
-      never status.Declined e = cc
-      never status.Postponed e = cc
-      never status.NotAvailable e = cc
-      never status.DecliningPermanently e = cc
+  consumes_at (target.Offered i) e = absurd (answer_never_consumes (answer_to true port) e)
+  consumes_at (target.Posted i) e = absurd (answer_never_consumes (answer_to false port) e)
   consumes_at (target.Arrived i) e = absurd (cc)
   consumes_at (target.Hand i) e = absurd (cc)
   consumes_at _ e = absurd (cc)
@@ -133,9 +126,6 @@ postpones_at port k (target.Hand i) e takes = cc
 postpones_at port k _ e takes = cc
 
 -- a place at which the head may be offered
-neither : (b c : Bool) → b || c ≡ false → (b ≡ false) × (c ≡ false)
-neither true c e = absurd (cc)
-neither false c e = (refl, e)
 
 not_later : (j k : ℕ) → (k < j → ⊥) → j ≤ k
 not_later j k never = elim (le_or_lt j k) [ inl before ↦ before | inr later ↦ absurd (never later) ]
@@ -154,8 +144,8 @@ not_due end stopped cut is goes going = rw (is ∙ goes, going) refl
 offers_there : (o : OutletState) (stopped : Option Outcome) (up : Bool) (k : ℕ) → IsNextOffer o k → stopped ≡ None → may_offer o ≡ Some k
     → out_move_at o k stopped up (stage_at o k) ≡ Some (move.Offer o.next)
 offers_there o stopped up k next going may =
-    let open_end = (neither (is_closed (end_at o k)) (speaks_of o.next (stage_at o k)) (first_false next.stops)).0 in
-    let uncut = (neither (is_over (end_at o k).stage) (is_cut (end_at o k)) open_end).1 in
+    let open_end = (or_parts (is_closed (end_at o k)) (speaks_of o.next (stage_at o k)) (first_false next.stops)).0 in
+    let uncut = (or_parts (is_over (end_at o k).stage) (is_cut (end_at o k)) open_end).1 in
     let same = not_due (end_at o k) stopped (is_cut (end_at o k)) refl uncut going in
     free_moves o stopped up k (stage_at o k) next.free
     ∙ ap (free_move o k) same
@@ -164,8 +154,8 @@ offers_there o stopped up k next going may =
   where
     first_false : StopsAt o k → is_closed (end_at o k) || speaks_of o.next (stage_at o k) ≡ false
     first_false stops =
-        let two = neither (is_closed (end_at o k) || speaks_of o.next (stage_at o k) || (end_at o k).declined == o.next) (rejects (end_at o k).rule.when (head_of o)) stops in
-        (neither (is_closed (end_at o k) || speaks_of o.next (stage_at o k)) ((end_at o k).declined == o.next) two.0).0
+        let two = or_parts (is_closed (end_at o k) || speaks_of o.next (stage_at o k) || (end_at o k).declined == o.next) (rejects (end_at o k).rule.when (head_of o)) stops in
+        (or_parts (is_closed (end_at o k) || speaks_of o.next (stage_at o k)) ((end_at o k).declined == o.next) two.0).0
 
 module _ {W : Type 0} (layout : Layout W) (meaning : ℕ → Value → Result (List Value) ℕ) (b : ℕ) (node : NodeState) (law : NodeLaw layout meaning b node) where
   -- the fault that is known is that of its own function
@@ -191,7 +181,7 @@ module _ {W : Type 0} (layout : Layout W) (meaning : ℕ → Value → Result (L
   in_time : (stops rests : Bool) (number : ℕ) → could_stop node.block ≡ stops → is_at_rest node.block.exits ≡ rests
       → cond (stops && rests) (fault_cause node.block) None ≡ Some number → FaultsInTime layout meaning b node number
   in_time true true number stops rests e = record {
-    none_comes = (both_of (is_none node.block.stopped) (nothing_comes node.block.ports) stops).1;
+    none_comes = (and_parts (is_none node.block.stopped) (nothing_comes node.block.ports) stops).1;
     none_away = rests;
     cause = caused node.block.fault (fault_at_ports node.block.ports) (holds_nothing node.block.ports) number refl refl e;
   }

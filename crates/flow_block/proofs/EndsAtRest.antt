@@ -1,5 +1,6 @@
 -- What ends at rest tell: what is away there only waits, and nothing comes.
 use Rattle.std.proofs.Common.{◌≡◌, ℕ, suc, ◌+◌, ◌<◌, Bool, true, false, cond, not, ◌==◌, ◌||◌, List, [], ◌∷◌, length, Option, Some, None, refl, ap, ap₂, sym, subst, ◌∙◌, arith, eq-eqb}
+use Rattle.std.proofs.lemmas.Bool.{or_left, false_from_ne_true}
 use Rattle.flow_link.specs.declared.phase.LinkEnd.{LinkEnd}
 use Rattle.flow_link.specs.declared.phase.Move.{Move}
 use Rattle.flow_link.specs.declared.phase.Move.TheVariants as move
@@ -12,8 +13,8 @@ use Rattle.flow_link.specs.declared.trace.Outcome.{Outcome}
 use Rattle.flow_link.specs.RestsByParts.{is_over as is_view_over}
 use Rattle.flow_link.specs.Stage.{source_stage_of}
 use Rattle.flow_link.specs.Views.{LinkFacts}
-use Rattle.flow_link.proofs.LinksAtRest.{never_both, false_where}
-use Rattle.flow_link.proofs.ListTests.{or_first}
+use Rattle.flow_link.proofs.ListTests.{never_both}
+use Rattle.flow_link.proofs.LinksLaidOut.{none_step}
 use Rattle.flow_intake.specs.Calls.{is_postponed, in_move, next_place, is_at as is_place, move_at as move_in}
 use Rattle.flow_intake.specs.Port.{PortState, stage_at as port_stage, is_coming, is_queued, has_room}
 use Rattle.flow_intake.specs.PortLaw.{PortLaw, AreBelow, is_in}
@@ -91,22 +92,17 @@ pub waiting_stays : (o : OutletState) (k : ℕ) (stopped : Option Outcome) (held
 waiting_stays o k stopped held_up (source.Waiting i) e none = stays_put held_up (i == o.next) none
 waiting_stays o k stopped held_up _ e none = absurd (cc)
 
-due_then : {A : Type 0} (cut : Bool) (last : A) (by : Option A) → cond cut (Some last) by ≡ None
-    → (cut ≡ false) × (by ≡ None)
-due_then true last by e = absurd (cc)
-due_then false last by e = (refl, e)
-
 pub free_stays : (o : OutletState) (k : ℕ) (how : Option LinkEnd) → free_move o k how ≡ None
     → (how ≡ None) × (is_at (may_offer o) k ≡ false)
 free_stays o k (Some how) e = absurd (cc)
-free_stays o k None e = (refl, (due_then (is_at (may_offer o) k) (move.Offer o.next) None e).0)
+free_stays o k None e = (refl, (none_step (is_at (may_offer o) k) (move.Offer o.next) None e).0)
 
 pub not_cut : (end : OutEnd) (stopped : Option Outcome) → end_of end stopped ≡ None → is_cut end ≡ false
-not_cut end stopped e = (due_then (is_cut end) _ _ e).0
+not_cut end stopped e = (none_step (is_cut end) _ _ e).0
 
 pub not_stopped : (end : OutEnd) (stopped : Option Outcome) → end_of end stopped ≡ None → stopped ≡ None
 not_stopped end None e = refl
-not_stopped end (Some how) e = let none = (due_then (is_cut end) _ _ e).1 in absurd (cc)
+not_stopped end (Some how) e = let none = (none_step (is_cut end) _ _ e).1 in absurd (cc)
 
 -- Ends in
 
@@ -130,7 +126,7 @@ waiting_queue : (place : ℕ) (port : PortState) (stage : TargetStage) → is_po
     → (port.refusing ≡ None) × (is_place place (next_place port) ≡ false)
 waiting_queue place port (target.Postponed i) e none =
     let both = unrefused port.refusing (cond (is_place place (next_place port)) (Some move.Consume) None) none in
-    (both.0, (due_then (is_place place (next_place port)) move.Consume None both.1).0)
+    (both.0, (none_step (is_place place (next_place port)) move.Consume None both.1).0)
 waiting_queue place port _ e none = absurd (cc)
 
 queued_where : (stage : TargetStage) → is_postponed stage ≡ true → is_queued stage ≡ true
@@ -158,7 +154,7 @@ pub no_room_where : (facts : ℕ → LinkFacts) (taken : ℕ) (port : PortState)
     → ((j : ℕ) → j < length port.ends → rests_in (port_stage j port) ≡ true)
     → ((j : ℕ) → j < length port.ends → in_move j port ≡ None)
     → k < length port.ends → is_postponed (port_stage k port) ≡ true → has_room port ≡ false
-no_room_where facts taken port k law freely rest none small waits = false_where (has_room port) (λ room.
+no_room_where facts taken port k law freely rest none small waits = false_from_ne_true (has_room port) (λ room.
     let queued : is_in k port.queue ≡ true = (law.each k small).queued ∙ queued_where (port_stage k port) waits in
     let first = has_first port.queue k queued in
     let going = (waiting_queue k port (port_stage k port) waits (none k small)).0 in
@@ -169,7 +165,7 @@ no_room_where facts taken port k law freely rest none small waits = false_where 
     subst (AreBelow (length port.ends)) first.parts law.known in
     let there : is_in first.place port.queue ≡ true =
     ap (is_in first.place) first.parts
-    ∙ or_first (first.place == first.place) _ (eq-eqb first.place first.place refl) in
+    ∙ or_left (first.place == first.place) _ (eq-eqb first.place first.place refl) in
     let stage = port_stage first.place port in
     let postponed =
     postponed_where stage (sym (law.each first.place known.0).queued ∙ there) (rest first.place known.0) in

@@ -1,5 +1,6 @@
 -- Which faults the ends of a block's links in have seen, and what a change of one end leaves of that.
 use Rattle.std.proofs.Common.{◌≡◌, ◌⊎◌, ℕ, zero, suc, ◌<◌, ◌||◌, cond, Bool, true, false, List, [], ◌∷◌, length, set, map, Option, Some, None, is_some, refl, ap, ◌∙◌, inl, inr, ⊎_elim, arith, eq-eqb}
+use Rattle.std.proofs.lemmas.Bool.{or_left, or_right}
 use Rattle.flow_link.specs.declared.phase.LinkEnd.{LinkEnd}
 use Rattle.flow_link.specs.declared.phase.Phase.{Phase}
 use Rattle.flow_link.specs.declared.stage.TargetStage.{TargetStage}
@@ -7,8 +8,7 @@ use Rattle.flow_link.specs.declared.stage.TargetStage.TheVariants as target
 use Rattle.flow_link.specs.Endings.{is_number}
 use Rattle.flow_link.specs.Lists.{some}
 use Rattle.flow_link.specs.Stage.{target_looks}
-use Rattle.flow_link.proofs.LinksAtRest.{never_both}
-use Rattle.flow_link.proofs.ListTests.{or_first, or_second}
+use Rattle.flow_link.proofs.ListTests.{never_both}
 use Rattle.flow_intake.specs.Port.{EndState, PortState, end_in, stage_in}
 use Rattle.flow_intake.specs.Ended.{is_completion, fault_seen, first_some, fault_at_ends}
 use Rattle.flow_block.specs.Block.{port_in}
@@ -94,8 +94,8 @@ seen_at_ends number [] is = absurd (cc)
 seen_at_ends number (end ∷ ends) is =
     let rest = some (λ (e : EndState). is_fault_seen number e) ends in
     ⊎_elim
-    (λ here. or_first (is_fault_seen number end) rest (fault_there number (fault_seen end.stage) here))
-    (λ later. or_second (is_fault_seen number end) rest (seen_at_ends number ends later))
+    (λ here. or_left (is_fault_seen number end) rest (fault_there number (fault_seen end.stage) here))
+    (λ later. or_right (is_fault_seen number end) rest (seen_at_ends number ends later))
     (one_some (fault_seen end.stage) (fault_at_ends ends) number is)
 
 pub seen_at_ports : (number : ℕ) (ports : List PortState) → fault_at_ports ports ≡ Some number
@@ -104,8 +104,8 @@ seen_at_ports number [] is = absurd (cc)
 seen_at_ports number (port ∷ ports) is =
     let rest = some (λ (q : PortState). sees_at number q) ports in
     ⊎_elim
-    (λ here. or_first (sees_at number port) rest (seen_at_ends number port.ends here))
-    (λ later. or_second (sees_at number port) rest (seen_at_ports number ports later))
+    (λ here. or_left (sees_at number port) rest (seen_at_ends number port.ends here))
+    (λ later. or_right (sees_at number port) rest (seen_at_ports number ports later))
     (one_some (fault_at_ends port.ends) (fault_at_ports ports) number is)
 
 pub record SeenCause (fault : Option ℕ) (nothing : Bool) (seen : Option ℕ) (number : ℕ) : Type 0 where

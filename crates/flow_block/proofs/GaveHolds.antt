@@ -1,6 +1,6 @@
 -- Each call keeps in order what the marks tell of what was given.
 use Rattle.std.proofs.Common.{◌≡◌, ℕ, ◌+◌, ◌==◌, ◌<◌, Bool, true, false, not, ◌&&◌, ◌||◌, cond, List, [], ◌∷◌, ◌++◌, length, set, Option, Some, None, is_some, Result, Ok, Err, refl, ap, sym, ◌∙◌, subst, inl, inr, arith, append-nil, append_assoc, length-append}
-use Rattle.std.proofs.lemmas.Bool.{cases_lt}
+use Rattle.std.proofs.lemmas.Bool.{cases_lt, and_from, and_parts}
 use Rattle.std.proofs.lemmas.List.{get_or_past}
 use Rattle.flow_value.specs.When.{admits}
 use Rattle.flow_value.specs.declared.value.Value.{Value}
@@ -20,7 +20,7 @@ use Rattle.flow_link.specs.Lists.{every, below}
 use Rattle.flow_link.specs.Plan.{begins_at, link_in, no_link, is_steady}
 use Rattle.flow_link.specs.Trace.{Run, gave, gave_over, is_used_up}
 use Rattle.flow_link.proofs.JournalsGrow.{gave_more}
-use Rattle.flow_link.proofs.ListTests.{and_true, both_of, every_below, every_weaker, and_weaker, or_weaker}
+use Rattle.flow_link.proofs.ListTests.{every_below, every_weaker, and_weaker, or_weaker, never_both}
 use Rattle.flow_link.proofs.OneMoreMark.{every_more, gave_by_gave}
 use Rattle.flow_intake.specs.Calls.{first_of}
 use Rattle.flow_outlet.specs.declared.ends.LinkRule.{LinkRule}
@@ -32,7 +32,7 @@ use Rattle.flow_outlet.proofs.LawKept.{gives_in_order as outlet_gives_in_order}
 use Rattle.flow_outlet.proofs.LookTells.{look_tells}
 use Rattle.flow_outlet.proofs.OffersInOrder.{offers_in_order}
 use Rattle.flow_outlet.proofs.OneEndChanges.{each_set}
-use Rattle.flow_outlet.proofs.StagesTell.{never_both, number_same}
+use Rattle.flow_outlet.proofs.StagesTell.{number_same}
 use Rattle.flow_block.specs.Block.{BlockState, made_of, keeps_results, yields, makes_of, held_by}
 use Rattle.flow_block.specs.Node.{NodeState, NodeCall, hand_at, takes_in, gives_from}
 use Rattle.flow_block.specs.NodeLaw.{NodeLaw, ShapeLaw, GaveLaw, GaveOver, refuses_over, run_seen_by}
@@ -83,8 +83,8 @@ module _ {W : Type 0} (run : Run W) (b : ℕ) (mark : Mark) where
   order_more (Gave link value ∷ marks) before e last =
       let more = before ++ Gave link value ∷ [] in
       let passes = every (is_passed run b before value) (below link) in
-      let both = both_of passes (gives_in_order run b more marks) e in
-      and_true passes (gives_in_order run b more (marks ++ mark ∷ [])) both.0
+      let both = and_parts passes (gives_in_order run b more marks) e in
+      and_from passes (gives_in_order run b more (marks ++ mark ∷ [])) both.0
       (order_more marks more both.1 (λ all is. last all (λ l.
       is l ∙ ap (λ (values : List Value). values ++ gave_over l marks)
       (gave_more (λ n. n == l) before (Gave link value))
@@ -208,7 +208,7 @@ module _ {W : Type 0} (layout : Layout W) (meaning : ℕ → Value → Result (L
         (is_used_up end.rule.max (gave_over end.rule.id journal)) (refuses_over o.ends end.rule.id)
         head (used_up_told end.rule.max end.given (gave_over end.rule.id journal) (law.each j has.there).counted)
         (λ refused. some_where (λ (e : OutEnd). e.rule.id == end.rule.id && is_refused e.stage) o.ends no_end j
-        has.there (and_true (end.rule.id == end.rule.id) (is_refused end.stage) (number_same end.rule.id) refused))
+        has.there (and_from (end.rule.id == end.rule.id) (is_refused end.stage) (number_same end.rule.id) refused))
         (outlet_gives_in_order.earlier pending stopped o outlet k here may j before))
 
     past_all : (all : List Mark) → ((l : ℕ) → gave_over l all ≡ gave_over l journal) → (l : ℕ)
@@ -257,7 +257,7 @@ module _ {W : Type 0} (layout : Layout W) (meaning : ℕ → Value → Result (L
               (none_refused (is_wanted o.next (is_some o.offer)) refl end.stage (is_refused given.stage) may)))
               marks []
               (order_more run b (Gave link value) journal [] law.in_order
-              (λ all is. and_true (every (is_passed run b all value) (below link)) true
+              (λ all is. and_from (every (is_passed run b all value) (below link)) true
               (every_below (is_passed run b all value) link (λ l low. past_all all is l low)) refl));
         }
 

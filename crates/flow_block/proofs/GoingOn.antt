@@ -1,6 +1,6 @@
 -- What tells that a block goes on: what it may do by itself, an open port, or a link with something under way.
 use Rattle.std.proofs.Common.{◌≡◌, ℕ, zero, suc, ◌+◌, ◌<◌, ◌==◌, cond, Bool, true, false, not, ◌&&◌, List, [], ◌∷◌, length, set, Option, Some, None, is_none, is_some, Result, refl, sym, ◌∙◌, arith, eq-eqb, eqb-true}
-use Rattle.std.proofs.lemmas.Bool.{not-true}
+use Rattle.std.proofs.lemmas.Bool.{not-true, and_parts, false_from_ne_true}
 use Rattle.flow_value.specs.declared.value.Value.{Value}
 use Rattle.flow_link.specs.declared.stage.SourceStage.{SourceStage}
 use Rattle.flow_link.specs.declared.stage.SourceStage.TheVariants.{Free, Accepted, Claimed, Wished, AskedBy, Waiting, Refused, Ended}
@@ -9,8 +9,7 @@ use Rattle.flow_link.specs.declared.phase.Phase.{Phase}
 use Rattle.flow_link.specs.Layout.{Layout}
 use Rattle.flow_link.specs.Stage.{source_looks}
 use Rattle.flow_link.specs.Trace.{has_complete}
-use Rattle.flow_link.proofs.LinksAtRest.{never_both, false_where}
-use Rattle.flow_link.proofs.ListTests.{both_of}
+use Rattle.flow_link.proofs.ListTests.{never_both}
 use Rattle.flow_intake.specs.Port.{coming}
 use Rattle.flow_intake.specs.PortLaw.{has_ended}
 use Rattle.flow_intake.specs.Ended.{has_seen_completion}
@@ -79,7 +78,7 @@ look_stays_home stage phase e = absurd (cc)
 could_tells : (block : BlockState) → could_stop block ≡ true
     → (block.stopped ≡ None) × (nothing_comes block.ports ≡ true)
 could_tells block e =
-    let both = both_of (is_none block.stopped) (nothing_comes block.ports) e in
+    let both = and_parts (is_none block.stopped) (nothing_comes block.ports) e in
     (none_is block.stopped both.0, both.1)
 
 pub record MayMake (block : BlockState) : Type 0 where
@@ -88,8 +87,8 @@ pub record MayMake (block : BlockState) : Type 0 where
 
 pub may_make_tells : (block : BlockState) → may_make block ≡ true → MayMake block
 may_make_tells block e =
-    let outer = both_of (is_none block.stopped && is_none block.fault) (not (is_empty (held_by block))) e in
-    let inner = both_of (is_none block.stopped) (is_none block.fault) outer.0 in
+    let outer = and_parts (is_none block.stopped && is_none block.fault) (not (is_empty (held_by block))) e in
+    let inner = and_parts (is_none block.stopped) (is_none block.fault) outer.0 in
     record { going = none_is block.stopped inner.0; no_fault = none_is block.fault inner.1 }
 
 pub record MayComplete (p : ℕ) (block : BlockState) : Type 0 where
@@ -101,8 +100,8 @@ pub may_complete_tells : (p : ℕ) (block : BlockState) → may_complete p block
 may_complete_tells p block e =
     let open_port = not (has_ended (port_at p block).refusing) in
     let empty = coming (port_at p block) == 0 in
-    let outer = both_of (open_port && empty) (has_seen_completion (port_at p block).ends) e in
-    let inner = both_of open_port empty outer.0 in
+    let outer = and_parts (open_port && empty) (has_seen_completion (port_at p block).ends) e in
+    let inner = and_parts open_port empty outer.0 in
     record {
       open_port = not-true (has_ended (port_at p block).refusing) inner.0;
       none_comes = eqb-true (coming (port_at p block)) 0 inner.1;
@@ -123,7 +122,7 @@ fault_may false cause number e = absurd (cc)
 pub may_fault_tells : (block : BlockState) (number : ℕ) → next_fault block ≡ Some number → MayFault block number
 may_fault_tells block number e =
     let may = fault_may (could_stop block && is_at_rest block.exits) (fault_cause block) number e in
-    let both = both_of (could_stop block) (is_at_rest block.exits) may.0 in
+    let both = and_parts (could_stop block) (is_at_rest block.exits) may.0 in
     let could = could_tells block both.0 in
     record { going = could.0; none_comes = could.1; rest = both.1; cause = may.1 }
 
@@ -164,5 +163,5 @@ module _ {W : Type 0} (layout : Layout W) (meaning : ℕ → Value → Result (L
   -- a link with something under way
   pub away_goes_on : (k : ℕ) → is_away (stage_at block.exits k) ≡ true → block.stopped ≡ None
   away_goes_on k away =
-      none_unless block.stopped (false_where (is_some block.stopped) (λ stopped.
+      none_unless block.stopped (false_from_ne_true (is_some block.stopped) (λ stopped.
       never_both (is_away (stage_at block.exits k)) away (nothing_away block.exits.ends k (law.at_rest stopped))))

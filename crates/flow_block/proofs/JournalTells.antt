@@ -1,6 +1,6 @@
 -- What a journal tells of how its block stopped, and what one more mark changes of what it tells.
 use Rattle.std.proofs.Common.{◌≡◌, ℕ, ◌==◌, ltb, Bool, true, false, not, ◌&&◌, ◌||◌, cond, List, [], ◌∷◌, ◌++◌, length, Some, None, is_some, refl, ap, sym, ◌∙◌, append-nil, eq-eqb, eqb-true}
-use Rattle.std.proofs.lemmas.Bool.{or_parts, or_from, not-true}
+use Rattle.std.proofs.lemmas.Bool.{or_parts, or_from, not-true, and_from, and_parts, or_left, or_right}
 use Rattle.flow_value.specs.declared.value.Value.{Value}
 use Rattle.flow_link.specs.declared.trace.Mark.{Mark}
 use Rattle.flow_link.specs.declared.trace.Mark.TheVariants.{Took, Gave, Complete, Fault, Done}
@@ -11,10 +11,10 @@ use Rattle.flow_link.specs.Law.{is_own_mark}
 use Rattle.flow_link.specs.Lists.{every, is_empty}
 use Rattle.flow_link.specs.Trace.{Run, took_at, took_where, gave_where, has_complete, has_fault, has_ended, is_faulted, is_done, is_complete_mark, is_any_fault_mark, is_done_mark, ports_of}
 use Rattle.flow_link.proofs.JournalsGrow.{took_more, gave_more}
-use Rattle.flow_link.proofs.ListTests.{and_true, both_of, or_first, or_second}
 use Rattle.flow_link.proofs.OneMoreMark.{some_no_more}
+use Rattle.flow_link.proofs.ListTests.{or_others}
 use Rattle.flow_block.specs.NodeLaw.{stops_at, first_stop, outcome_in}
-use Rattle.flow_block.proofs.TestsTell.{none_unless, or_others}
+use Rattle.flow_block.proofs.TestsTell.{none_unless}
 
 -- How a block stopped
 
@@ -25,14 +25,14 @@ stopped_tells (Took p l v ∷ marks) = stopped_tells marks
 stopped_tells (Gave l v ∷ marks) = stopped_tells marks
 stopped_tells (Complete p ∷ marks) = stopped_tells marks
 stopped_tells (Fault n ∷ marks) = refl
-stopped_tells (Done ∷ marks) = sym (or_second (is_faulted marks) true refl)
+stopped_tells (Done ∷ marks) = sym (or_right (is_faulted marks) true refl)
 
 pub fault_marked : (marks : List Mark) (n : ℕ) → outcome_in marks ≡ Some (outcome.Faulted n) → has_fault n marks ≡ true
 fault_marked [] n e = absurd (cc)
 fault_marked (Took p l v ∷ marks) n e = fault_marked marks n e
 fault_marked (Gave l v ∷ marks) n e = fault_marked marks n e
 fault_marked (Complete p ∷ marks) n e = fault_marked marks n e
-fault_marked (Fault m ∷ marks) n e = or_first (m == n) (has_fault n marks) (eq-eqb m n (cc))
+fault_marked (Fault m ∷ marks) n e = or_left (m == n) (has_fault n marks) (eq-eqb m n (cc))
 fault_marked (Done ∷ marks) n e = absurd (cc)
 
 pub faulted_marked : (marks : List Mark) (n : ℕ) → outcome_in marks ≡ Some (outcome.Faulted n)
@@ -90,12 +90,12 @@ ended_by_complete p marks is = rw is refl
 
 pub ended_by_fault : (p : ℕ) (marks : List Mark) → is_faulted marks ≡ true → has_ended p marks ≡ true
 ended_by_fault p marks is =
-    or_others (has_complete p marks) (is_faulted marks) (is_done marks) (or_first (is_faulted marks) (is_done marks) is)
+    or_others (has_complete p marks) (is_faulted marks) (is_done marks) (or_left (is_faulted marks) (is_done marks) is)
 
 pub ended_by_done : (p : ℕ) (marks : List Mark) → is_done marks ≡ true → has_ended p marks ≡ true
 ended_by_done p marks is =
     or_others (has_complete p marks) (is_faulted marks) (is_done marks)
-    (or_second (is_faulted marks) (is_done marks) is)
+    (or_right (is_faulted marks) (is_done marks) is)
 
 -- a block that stopped takes nothing any more, at any port
 pub stopped_ends : (p : ℕ) (marks : List Mark) → is_some (outcome_in marks) ≡ true → has_ended p marks ≡ true
@@ -133,24 +133,24 @@ pub every_mark : (test : Mark → Bool) (marks : List Mark)
     → every test marks ≡ true
 every_mark test [] tk gv dn cm ft = refl
 every_mark test (Took p l v ∷ marks) tk gv dn cm ft =
-    and_true (test (Took p l v)) (every test marks) (tk p l v) (every_mark test marks tk gv dn cm ft)
+    and_from (test (Took p l v)) (every test marks) (tk p l v) (every_mark test marks tk gv dn cm ft)
 every_mark test (Gave l v ∷ marks) tk gv dn cm ft =
-    and_true (test (Gave l v)) (every test marks) (gv l v) (every_mark test marks tk gv dn cm ft)
+    and_from (test (Gave l v)) (every test marks) (gv l v) (every_mark test marks tk gv dn cm ft)
 every_mark test (Done ∷ marks) tk gv dn cm ft =
-    and_true (test Done) (every test marks) dn (every_mark test marks tk gv dn cm ft)
+    and_from (test Done) (every test marks) dn (every_mark test marks tk gv dn cm ft)
 every_mark test (Complete p ∷ marks) tk gv dn cm ft =
-    and_true (test (Complete p)) (every test marks) (cm p (or_first (p == p) (has_complete p marks) (eq-eqb p p refl)))
-    (every_mark test marks tk gv dn (λ q e. cm q (or_second (p == q) (has_complete q marks) e)) ft)
+    and_from (test (Complete p)) (every test marks) (cm p (or_left (p == p) (has_complete p marks) (eq-eqb p p refl)))
+    (every_mark test marks tk gv dn (λ q e. cm q (or_right (p == q) (has_complete q marks) e)) ft)
 every_mark test (Fault n ∷ marks) tk gv dn cm ft =
-    and_true (test (Fault n)) (every test marks) (ft n (or_first (n == n) (has_fault n marks) (eq-eqb n n refl)))
-    (every_mark test marks tk gv dn cm (λ m e. ft m (or_second (n == m) (has_fault m marks) e)))
+    and_from (test (Fault n)) (every test marks) (ft n (or_left (n == n) (has_fault n marks) (eq-eqb n n refl)))
+    (every_mark test marks tk gv dn cm (λ m e. ft m (or_right (n == m) (has_fault m marks) e)))
 
 -- a port that completes is one of the block's
 pub complete_own : {W : Type 0} (run : Run W) (b p : ℕ) (marks : List Mark) → every (is_own_mark run b) marks ≡ true
     → has_complete p marks ≡ true → ltb p (length (ports_of run b)) ≡ true
 complete_own run b p [] own e = absurd (cc)
 complete_own run b p (Complete port ∷ marks) own e =
-    let both = both_of (ltb port (length (ports_of run b))) (every (is_own_mark run b) marks) own in
+    let both = and_parts (ltb port (length (ports_of run b))) (every (is_own_mark run b) marks) own in
     by_port (port == p) refl both.0 (complete_own run b p marks both.1) e
   where
     by_port : (same : Bool) → (port == p) ≡ same → ltb port (length (ports_of run b)) ≡ true
@@ -160,9 +160,9 @@ complete_own run b p (Complete port ∷ marks) own e =
         ap (λ (q : ℕ). ltb q (length (ports_of run b))) (sym (eqb-true port p is)) ∙ mine
     by_port false is mine later e = later e
 complete_own run b p (Took q l v ∷ marks) own e =
-    complete_own run b p marks (both_of (is_own_mark run b (Took q l v)) (every (is_own_mark run b) marks) own).1 e
+    complete_own run b p marks (and_parts (is_own_mark run b (Took q l v)) (every (is_own_mark run b) marks) own).1 e
 complete_own run b p (Gave l v ∷ marks) own e =
-    complete_own run b p marks (both_of (is_own_mark run b (Gave l v)) (every (is_own_mark run b) marks) own).1 e
+    complete_own run b p marks (and_parts (is_own_mark run b (Gave l v)) (every (is_own_mark run b) marks) own).1 e
 complete_own run b p (Fault n ∷ marks) own e = complete_own run b p marks own e
 complete_own run b p (Done ∷ marks) own e = complete_own run b p marks own e
 
@@ -245,18 +245,18 @@ once_more (Gave l v ∷ marks) mark goes e = once_more marks mark goes e
 once_more (Fault n ∷ marks) mark goes e = once_more marks mark goes e
 once_more (Done ∷ marks) mark goes e = once_more marks mark goes e
 once_more (Complete p ∷ marks) mark goes e =
-    let outer = both_of (not (has_complete p marks) && is_empty (took_at p marks)) (completes_once marks) e in
-    let inner = both_of (not (has_complete p marks)) (is_empty (took_at p marks)) outer.0 in
-    let here = goes p (or_first (p == p) (has_complete p marks) (eq-eqb p p refl)) in
+    let outer = and_parts (not (has_complete p marks) && is_empty (took_at p marks)) (completes_once marks) e in
+    let inner = and_parts (not (has_complete p marks)) (is_empty (took_at p marks)) outer.0 in
+    let here = goes p (or_left (p == p) (has_complete p marks) (eq-eqb p p refl)) in
     let fresh : not (has_complete p (marks ++ mark ∷ [])) ≡ true =
     ap not
     (some_no_more (is_complete_mark p) marks mark here.not_again ∙ not-true (has_complete p marks) inner.0) in
     let empty : is_empty (took_at p (marks ++ mark ∷ [])) ≡ true =
     ap is_empty (took_same (λ port link. port == p) marks mark here.takes_none) ∙ inner.1 in
-    and_true (not (has_complete p (marks ++ mark ∷ [])) && is_empty (took_at p (marks ++ mark ∷ [])))
+    and_from (not (has_complete p (marks ++ mark ∷ [])) && is_empty (took_at p (marks ++ mark ∷ [])))
     (completes_once (marks ++ mark ∷ []))
-    (and_true (not (has_complete p (marks ++ mark ∷ []))) (is_empty (took_at p (marks ++ mark ∷ []))) fresh empty)
-    (once_more marks mark (λ q is. goes q (or_second (p == q) (has_complete q marks) is)) outer.1)
+    (and_from (not (has_complete p (marks ++ mark ∷ []))) (is_empty (took_at p (marks ++ mark ∷ []))) fresh empty)
+    (once_more marks mark (λ q is. goes q (or_right (p == q) (has_complete q marks) is)) outer.1)
 
 -- an earlier link that was passed over, where its refusal is seen
 pub passed_by : (begins rejects late used told seen : Bool) → (begins ≡ true → told ≡ true → seen ≡ true)

@@ -1,6 +1,6 @@
 -- Each call keeps the marks of a node in order.
 use Rattle.std.proofs.Common.{◌≡◌, ℕ, ◌==◌, ltb, Bool, true, false, List, [], ◌∷◌, ◌++◌, length, Option, Some, None, is_some, Result, refl, sym, ◌∙◌, subst, arith, eqb-true}
-use Rattle.std.proofs.lemmas.Bool.{lt-ltb}
+use Rattle.std.proofs.lemmas.Bool.{lt-ltb, and_from}
 use Rattle.flow_value.specs.declared.value.Value.{Value}
 use Rattle.flow_link.specs.declared.trace.Mark.{Mark}
 use Rattle.flow_link.specs.declared.trace.Mark.TheVariants.{Took, Gave, Complete, Fault, Done}
@@ -9,7 +9,7 @@ use Rattle.flow_link.specs.Layout.{Layout}
 use Rattle.flow_link.specs.Lists.{below}
 use Rattle.flow_link.specs.Plan.{block_in, link_in, port_count}
 use Rattle.flow_link.specs.Trace.{has_complete}
-use Rattle.flow_link.proofs.ListTests.{and_true, length_numbers}
+use Rattle.flow_link.proofs.ListTests.{length_numbers}
 use Rattle.flow_link.proofs.OneMoreMark.{every_more}
 use Rattle.flow_intake.specs.Port.{stage_at as port_stage, hand_in, is_hand}
 use Rattle.flow_intake.proofs.CountsOfEnds.{hand_comes}
@@ -75,7 +75,7 @@ module _ {W : Type 0} (layout : Layout W) (meaning : ℕ → Value → Result (L
       let l = in_link_at p k node in
       let link = end_in_is layout meaning b node.block law.shape p k at.port at.place in
       one_more node.journal (Took p l value) law.marks
-      (and_true (ltb l (length layout.links)) (is_into layout b p l) (lt-ltb l (length layout.links) link.there)
+      (and_from (ltb l (length layout.links)) (is_into layout b p l) (lt-ltb l (length layout.links) link.there)
       (there_at_port b p (link_in layout.links l).target link.leads))
       goes.0 (took_goes p l value node.journal goes.1)
 
@@ -90,7 +90,7 @@ module _ {W : Type 0} (layout : Layout W) (meaning : ℕ → Value → Result (L
       let l = out_link_at k node in
       let link = end_out_is layout meaning b node.block law.shape k may.place in
       one_more node.journal (Gave l value) law.marks
-      (and_true (ltb l (length layout.links)) (is_out_of layout b l) (lt-ltb l (length layout.links) link.there)
+      (and_from (ltb l (length layout.links)) (is_out_of layout b l) (lt-ltb l (length layout.links) link.there)
       (there_at_source b (link_in layout.links l).source link.begins))
       (sym law.ends.stopped_is ∙ goes) (gave_goes l value node.journal)
 

@@ -1,5 +1,6 @@
 -- What a node would do next at an end of a link is a call that it may make.
 use Rattle.std.proofs.Common.{◌≡◌, ℕ, zero, suc, ◌+◌, ◌<◌, ◌≤◌, ◌==◌, ◌&&◌, ◌||◌, not, cond, Bool, true, false, List, [], ◌∷◌, length, Option, Some, None, is_some, is_none, Result, refl, ap, sym, subst, ◌∙◌, arith, eqb-true, eq-eqb, lt-ltb}
+use Rattle.std.proofs.lemmas.Bool.{and_parts, false_from_ne_true}
 use Rattle.flow_value.specs.declared.value.Value.{Value}
 use Rattle.flow_value.specs.declared.message.MessageStatus.{MessageStatus}
 use Rattle.flow_value.specs.declared.message.MessageStatus.TheVariants as status
@@ -22,8 +23,7 @@ use Rattle.flow_link.specs.PlanFaults.{options_fit, keys_fit, ranges_fit, is_in,
 use Rattle.flow_link.specs.Trace.{took_at}
 use Rattle.flow_link.specs.WellFormed.{IsWellFormed}
 use Rattle.flow_link.specs.declared.plan.LinkTarget.TheVariants.{Port}
-use Rattle.flow_link.proofs.ListTests.{both_of}
-use Rattle.flow_link.proofs.LinksAtRest.{false_where}
+use Rattle.flow_link.proofs.ListTests.{not_both}
 use Rattle.flow_intake.specs.Port.{PortState, stage_at as port_stage, link_in, coming, has_room, is_below, is_offer, is_queued, is_coming, is_hand}
 use Rattle.flow_intake.specs.Calls.{answer_where, answer_to, move_of, move_at, is_at, next_place, is_offered, is_posted, is_postponed, is_arrived, may_be_refused}
 use Rattle.flow_intake.specs.PortLaw.{PortLaw, AreBelow, puts_off, is_in as is_in_queue}
@@ -90,10 +90,6 @@ put_off_where None true free never is = absurd (cc)
 put_off_where None false true never is = absurd (cc)
 put_off_where None false false never is = refl
 
-no_room_or_waits : (room alone : Bool) → room && alone ≡ false → room ≡ true → alone ≡ false
-no_room_or_waits true alone e is = e
-no_room_or_waits false alone e is = absurd (cc)
-
 no_room_alone : (room alone : Bool) → room && alone ≡ false → (alone ≡ false → ⊥) → room ≡ false
 no_room_alone true true e nobody = e
 no_room_alone true false e nobody = absurd (nobody refl)
@@ -109,11 +105,11 @@ room_at_first load count (Some (suc capacity)) l c fits =
 capacity_in_range : {W : Type 0} (block : BlockDef W) → options_fit block ≡ true
     → is_in 1 2147483647 block.capacity ≡ true
 capacity_in_range block fit =
-    let ranges = (both_of (is_name block.name && keys_fit block) (ranges_fit block) fit).1 in
+    let ranges = (and_parts (is_name block.name && keys_fit block) (ranges_fit block) fit).1 in
     let fits = is_in 1 2147483647 block.capacity in
-    let three = both_of (fits && is_in 1 16 block.lanes && is_in 1 4096 block.size) (is_in 2 3 block.ports) ranges in
-    let two = both_of (fits && is_in 1 16 block.lanes) (is_in 1 4096 block.size) three.0 in
-    (both_of fits (is_in 1 16 block.lanes) two.0).0
+    let three = and_parts (fits && is_in 1 16 block.lanes && is_in 1 4096 block.size) (is_in 2 3 block.ports) ranges in
+    let two = and_parts (fits && is_in 1 16 block.lanes) (is_in 1 4096 block.size) three.0 in
+    (and_parts fits (is_in 1 16 block.lanes) two.0).0
 
 -- what is postponed may be put off
 module _ {W : Type 0} (layout : Layout W) (meaning : ℕ → Value → Result (List Value) ℕ) (b : ℕ) (node : NodeState)
@@ -149,13 +145,13 @@ module _ {W : Type 0} (layout : Layout W) (meaning : ℕ → Value → Result (L
         let at_once = sym (steady_is k place_there) ∙ steady in
         let planned = block_in layout.blocks b in
         let never = is_none planned.capacity && not (is_write_once planned.kind) in
-        let both = both_of never (not (is_reserving planned)) at_once in
-        let free = both_of (is_none planned.capacity) (not (is_write_once planned.kind)) both.0 in
+        let both = and_parts never (not (is_reserving planned)) at_once in
+        let free = and_parts (is_none planned.capacity) (not (is_write_once planned.kind)) both.0 in
         let unbounded = none_is planned.capacity free.0 in
         let capacity : port.capacity ≡ None = (law.shape.ports p port_there).capacity ∙ unbounded in
         let room : has_room port ≡ true = ap (is_below (port.load + coming port)) capacity in
         let other = someone_waits layout (length (took_at p node.journal)) port kept
-        (no_room_or_waits (has_room port) (is_empty port.queue) no_room room) in
+        (not_both (has_room port) (is_empty port.queue) no_room room) in
         let not_so = ((kept.each other.place other.there).put_off other.put_off).not_steady in
         let wrong : true ≡ false = sym at_once ∙ sym (steady_is other.place other.there) ∙ not_so in
         cc
@@ -167,7 +163,7 @@ module _ {W : Type 0} (layout : Layout W) (meaning : ℕ → Value → Result (L
         let planned = block_in layout.blocks b in
         let one =
         eqb-true (links_into b layout.links) 1
-        (both_of (links_into b layout.links == 1) (not (is_reserving planned))
+        (and_parts (links_into b layout.links == 1) (not (is_reserving planned))
         (sym (ap (is_sole layout.blocks layout.links) (leads k place_there)) ∙ sole)).0 in
         let few = few_enter layout.links b p in
         let many = count_in layout meaning b node.block law.shape p port_there in
@@ -196,7 +192,7 @@ module _ {W : Type 0} (layout : Layout W) (meaning : ℕ → Value → Result (L
     may_postpone = record {
       offered = in_at is_offered (target.Offered i) at refl;
       may = record {
-        not_steady = false_where (facts_in layout (link_in k port.ends)).steady not_steady;
+        not_steady = false_from_ne_true (facts_in layout (link_in k port.ends)).steady not_steady;
         not_the_first = λ sole. one_at_least (length (took_at p node.journal)) (not_the_first sole);
       };
     }
@@ -338,7 +334,7 @@ only_own o k stopped up _ = refl
 -- a block that is held up has a fault coming
 held_up_pending : (block : BlockState) → is_held_up block ≡ true → is_pending block ≡ true
 held_up_pending block e =
-    let parts = both_of (could_stop block && only_waits block.exits) (is_some (fault_cause block)) e in
+    let parts = and_parts (could_stop block && only_waits block.exits) (is_some (fault_cause block)) e in
     cause_pending block.fault (fault_at_ports block.ports) (holds_nothing block.ports) parts.1
 
 module _ {W : Type 0} (layout : Layout W) (meaning : ℕ → Value

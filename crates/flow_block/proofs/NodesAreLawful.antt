@@ -1,6 +1,6 @@
 -- A node in order keeps what each block of a lawful run keeps.
 use Rattle.std.proofs.Common.{◌≡◌, ℕ, ◌+◌, ◌==◌, ◌<◌, ltb, Bool, true, false, not, ◌&&◌, ◌||◌, is_some, List, [], ◌∷◌, ◌++◌, length, Option, Some, None, refl, ap, sym, subst, ◌∙◌, arith, ⊎_elim, eq-eqb, eqb-true, ltb-true, le-leb}
-use Rattle.std.proofs.lemmas.Bool.{OnTrue_at}
+use Rattle.std.proofs.lemmas.Bool.{OnTrue_at, and_from, and_parts, or_left, or_right}
 use Rattle.std.proofs.Math.Bool.{or_comm}
 use Rattle.flow_value.specs.When.{admits}
 use Rattle.flow_value.specs.declared.value.Value.{Value}
@@ -27,7 +27,7 @@ use Rattle.flow_link.specs.Trace.{BlockTrace, Run, took, gave, gave_over, took_o
 use Rattle.flow_link.specs.Views as views
 use Rattle.flow_link.specs.Worked.{WorkedInto}
 use Rattle.flow_link.proofs.RoundsOfWalks.{some_here_below}
-use Rattle.flow_link.proofs.ListTests.{and_true, both_of, or_first, or_second, or_not, every_below, every_weaker_below, length_numbers}
+use Rattle.flow_link.proofs.ListTests.{or_not, every_below, every_weaker_below, length_numbers, or_others}
 use Rattle.flow_intake.specs.Port.{EndState, PortState, end_in, fresh_end, fresh_port, coming as coming_at, is_coming as is_coming_at}
 use Rattle.flow_intake.specs.PortLaw.{has_ended as has_port_ended}
 use Rattle.flow_intake.specs.Ended.{is_completion}
@@ -46,7 +46,7 @@ use Rattle.flow_block.proofs.JournalTells.{stopped_tells, every_mark, complete_o
 use Rattle.flow_block.proofs.KindsBuilt.{by_kind, planned_built}
 use Rattle.flow_block.proofs.NodesSeen.{held_is, none_held, own_fault_is, complete_is, load_is}
 use Rattle.flow_block.proofs.PlacesOfLinks.{IsEndIn, HasEndOut, end_in_is, end_in_of, end_out_is, end_out_of, count_of_links, there_at_port, there_at_block, source_there}
-use Rattle.flow_block.proofs.TestsTell.{some_tells, or_others}
+use Rattle.flow_block.proofs.TestsTell.{some_tells}
 
 -- one of three
 or_one : (a b c : Bool) → a ≡ true → a || b || c ≡ true
@@ -189,7 +189,7 @@ module _ {W : Type 0} (run : Run W) (ends : ℕ → Ends) (b : ℕ) (node : Node
 
   level_so : takes_level run b ≡ true
   level_so =
-      or_first (not (is_reserving (block_of run b))) _
+      or_left (not (is_reserving (block_of run b))) _
       (by_kind (λ kind. not (reserves_by_kind kind (block_of run b).greedy) ≡ true) refl refl refl
       (block_of run b).kind plain)
 
@@ -201,12 +201,12 @@ module _ {W : Type 0} (run : Run W) (ends : ℕ → Ends) (b : ℕ) (node : Node
   done_so e =
       let ended : is_done node.journal ≡ true = ap is_done (sym marks_are) ∙ e in
       let nothing = law.ends.done_empty (law.ends.stopped_is ∙ done_outcome node.journal law.marks.last ended) in
-      and_true (is_complete run b) (has_nothing run b)
+      and_from (is_complete run b) (has_nothing run b)
       (complete_is run ends b node law is
       ∙ of_marks (λ marks. every (λ p. has_complete p marks) (ports_of run b) ≡ true)
       (subst (λ (n : ℕ). every (λ p. has_complete p node.journal) (below n) ≡ true) law.shape.port_count_is
       (law.ends.done_complete ended)))
-      (and_true (every (λ p. is_empty (held_at run b p)) (ports_of run b)) (is_empty (left_at run b))
+      (and_from (every (λ p. is_empty (held_at run b p)) (ports_of run b)) (is_empty (left_at run b))
       (none_held run ends b node law is nothing.0) (ap is_empty (left_is ∙ nothing.1)))
 
   completion_seen : (p : ℕ) → has_complete p node.journal ≡ true → has_seen_cause run ends b (Complete p) ≡ true
@@ -217,9 +217,9 @@ module _ {W : Type 0} (run : Run W) (ends : ℕ → Ends) (b : ℕ) (node : Node
       (law.ends.complete_cause p there e) in
       let end = end_into p at.place in
       let link = into_is p at.place there at.there in
-      or_first (some (completes_over p) (link_numbers run)) _
+      or_left (some (completes_over p) (link_numbers run)) _
       (some_here_below (completes_over p) (length run.layout.links) end.link link.there
-      (and_true (ends_at_port b p (link_of run end.link).target) (has_seen_completion (ends end.link).target.stage)
+      (and_from (ends_at_port b p (link_of run end.link).target) (has_seen_completion (ends end.link).target.stage)
       (there_at_port b p (link_of run end.link).target link.leads)
       (ap has_seen_completion (seen_stage p at.place there at.there) ∙ completion_told end.stage end.hand at.passes)))
 
@@ -235,7 +235,7 @@ module _ {W : Type 0} (run : Run W) (ends : ℕ → Ends) (b : ℕ) (node : Node
       let end = end_into p at.place in
       let link = into_is p at.place port.there at.there in
       some_here_below (faults_over number) (length run.layout.links) end.link link.there
-      (and_true (ends_at b (link_of run end.link).target) (has_seen_fault number (ends end.link).target.stage)
+      (and_from (ends_at b (link_of run end.link).target) (has_seen_fault number (ends end.link).target.stage)
       (there_at_block b p (link_of run end.link).target link.leads)
       (ap (has_seen_fault number) (seen_stage p at.place port.there at.there)
       ∙ fault_told number end.stage end.hand at.passes))
@@ -244,9 +244,9 @@ module _ {W : Type 0} (run : Run W) (ends : ℕ → Ends) (b : ℕ) (node : Node
   fault_so number e =
       let over = some (faults_over number) (link_numbers run) in
       ⊎_elim
-      (λ own. or_first (is_number number (own_fault run b)) over
+      (λ own. or_left (is_number number (own_fault run b)) over
       (ap (is_number number) (own_fault_is run ends b node law is number own) ∙ eq-eqb number number refl))
-      (λ came. or_second (is_number number (own_fault run b)) over (fault_came number came))
+      (λ came. or_right (is_number number (own_fault run b)) over (fault_came number came))
       (law.ends.fault_cause number e)
 
   causes_so : every (has_seen_cause run ends b) (marks_of run b) ≡ true
@@ -264,7 +264,7 @@ module _ {W : Type 0} (run : Run W) (ends : ℕ → Ends) (b : ℕ) (node : Node
   refused_seen l small begins e =
       let at = some_tells (λ (end : OutEnd). end.rule.id == l && is_refused end.stage) node.block.exits.ends no_end e in
       let end = end_at node.block.exits at.place in
-      let both = both_of (end.rule.id == l) (is_refused end.stage) at.passes in
+      let both = and_parts (end.rule.id == l) (is_refused end.stage) at.passes in
       let stands = end_out_is run.layout run.meaning b node.block law.shape at.place at.there in
       let place : place_of l ≡ at.place = ap place_of (sym (eqb-true end.rule.id l both.0)) ∙ stands.place in
       ap is_refused_stage
@@ -283,26 +283,26 @@ module _ {W : Type 0} (run : Run W) (ends : ℕ → Ends) (b : ℕ) (node : Node
       → gives_in_order own_run b before marks ≡ true → gives_in_order (as_seen run ends) b before marks ≡ true
   order_so before [] own e = refl
   order_so before (Gave link value ∷ marks) own e =
-      let mine = both_of (is_own_mark run b (Gave link value)) (every (is_own_mark run b) marks) own in
+      let mine = and_parts (is_own_mark run b (Gave link value)) (every (is_own_mark run b) marks) own in
       let there = ltb-true link (length run.layout.links)
-      (both_of (ltb link (length run.layout.links)) (begins_at b (link_of run link).source) mine.0).0 in
-      let both = both_of (every (is_passed own_run b before value) (below link))
+      (and_parts (ltb link (length run.layout.links)) (begins_at b (link_of run link).source) mine.0).0 in
+      let both = and_parts (every (is_passed own_run b before value) (below link))
       (gives_in_order own_run b (before ++ Gave link value ∷ []) marks) e in
-      and_true (every (is_passed (as_seen run ends) b before value) (below link))
+      and_from (every (is_passed (as_seen run ends) b before value) (below link))
       (gives_in_order (as_seen run ends) b (before ++ Gave link value ∷ []) marks)
       (every_weaker_below (is_passed own_run b before value) (is_passed (as_seen run ends) b before value) link
       (λ l less. passed_so before value l (omega (arith, there))) both.0)
       (order_so (before ++ Gave link value ∷ []) marks mine.1 both.1)
   order_so before (Took p l v ∷ marks) own e =
-      order_so before marks (both_of (is_own_mark run b (Took p l v)) (every (is_own_mark run b) marks) own).1 e
+      order_so before marks (and_parts (is_own_mark run b (Took p l v)) (every (is_own_mark run b) marks) own).1 e
   order_so before (Complete p ∷ marks) own e =
-      order_so before marks (both_of (is_own_mark run b (Complete p)) (every (is_own_mark run b) marks) own).1 e
+      order_so before marks (and_parts (is_own_mark run b (Complete p)) (every (is_own_mark run b) marks) own).1 e
   order_so before (Fault n ∷ marks) own e = order_so before marks own e
   order_so before (Done ∷ marks) own e = order_so before marks own e
 
   order_seen_so : keeps_link_order (as_seen run ends) b ≡ true
   order_seen_so =
-      or_second (not (is_one_taker (block_of run b).kind)) (gives_in_order (as_seen run ends) b [] (marks_of run b))
+      or_right (not (is_one_taker (block_of run b).kind)) (gives_in_order (as_seen run ends) b [] (marks_of run b))
       (of_marks (λ marks. gives_in_order (as_seen run ends) b [] marks ≡ true)
       (order_so [] node.journal law.marks.own law.gave.in_order))
 

@@ -1,5 +1,6 @@
 -- A node that has nothing to do is still.
 use Rattle.std.proofs.Common.{◌≡◌, ℕ, ◌<◌, Bool, true, false, cond, ◌&&◌, length, is_some, Option, Some, None, refl, ap, sym, ◌∙◌}
+use Rattle.std.proofs.lemmas.Bool.{and_from}
 use Rattle.flow_value.specs.declared.value.Value.{Value}
 use Rattle.flow_value.specs.declared.message.MessageStatus.TheVariants.{Postponed as put_off, Declined}
 use Rattle.flow_link.specs.declared.plan.LinkSource.TheVariants.{Block}
@@ -16,9 +17,8 @@ use Rattle.flow_link.specs.RestsByParts.{NodeIsStill, is_to_hand_over, is_wished
 use Rattle.flow_link.specs.Stage.{source_stage_of, target_stage_of}
 use Rattle.flow_link.specs.Trace.{Run, link_of}
 use Rattle.flow_link.specs.Views.{SourceView, TargetView}
-use Rattle.flow_link.proofs.LinksAtRest.{never_both}
-use Rattle.flow_link.proofs.ListTests.{and_true}
 use Rattle.flow_link.proofs.RoundsOfWalks.{some_here_below}
+use Rattle.flow_link.proofs.ListTests.{never_both}
 use Rattle.flow_intake.specs.Port.{PortState, hand_in, stage_at as port_stage}
 use Rattle.flow_intake.specs.Calls.{answer_where, move_of, move_at as move_in}
 use Rattle.flow_outlet.specs.End.{is_out as is_offer_out}
@@ -130,7 +130,7 @@ module _ {W : Type 0} (run : Run W) (ends : ℕ → Ends) (b : ℕ) (node : Node
       ∙ ap (λ (k : ℕ). is_out (source_stage_of (stage_at exits k))) link.place ∙ out in
       some_here_below (λ n. begins_at b (link_of run n).source && is_out (ends n).source.stage)
       (length run.layout.links) l link.there
-      (and_true (begins_at b (link_of run l).source) (is_out (ends l).source.stage)
+      (and_from (begins_at b (link_of run l).source) (is_out (ends l).source.stage)
       (there_at_source b (link_of run l).source link.begins) seen)
 
   answers : (l : ℕ) → l < length run.layout.links → (link_of run l).source ≡ Block b

@@ -1,6 +1,6 @@
 -- A node that has nothing to do rests when its links do.
 use Rattle.std.proofs.Common.{◌≡◌, ℕ, ◌+◌, ◌<◌, ◌≤◌, Bool, true, false, not, ◌==◌, ◌&&◌, ◌||◌, List, [], ◌∷◌, length, is_some, Option, Some, None, refl, ap, ap₂, sym, subst, ◌∙◌, ⊎_elim, arith, eq-eqb}
-use Rattle.std.proofs.lemmas.Bool.{or_cases, ltb-false}
+use Rattle.std.proofs.lemmas.Bool.{or_cases, ltb-false, and_parts, or_left, or_right, false_from_ne_true}
 use Rattle.flow_value.specs.declared.value.Value.{Value}
 use Rattle.flow_link.specs.declared.draft.BlockKind.{BlockKind}
 use Rattle.flow_link.specs.declared.plan.LinkSource.TheVariants.{Block}
@@ -21,8 +21,7 @@ use Rattle.flow_link.specs.RestsByParts.{OutletRests, KindRests, NodeRests, is_o
 use Rattle.flow_link.specs.Stage.{source_stage_of, target_stage_of}
 use Rattle.flow_link.specs.Trace.{BlockTrace, Run, gave_over, given_by, given_over, took_at, has_complete, has_fault, has_ended, is_faulted, is_done, is_used_up, is_cut as is_run_cut, block_of, link_of, marks_of, held_at, left_at, ports_of}
 use Rattle.flow_link.specs.Views.{SourceStage as SourceViewStage, SourceView, TargetView}
-use Rattle.flow_link.proofs.LinksAtRest.{never_both, false_where}
-use Rattle.flow_link.proofs.ListTests.{both_of, or_first, or_second}
+use Rattle.flow_link.proofs.ListTests.{never_both, passes_below, unless_done}
 use Rattle.flow_intake.specs.Port.{EndState, PortState, fresh_port, fresh_end, hand_in, stage_at as port_stage, coming, has_room, is_below}
 use Rattle.flow_intake.specs.PortLaw.{has_ended as has_port_ended}
 use Rattle.flow_intake.specs.Ended.{has_seen_completion, is_completion, fault_seen}
@@ -46,14 +45,7 @@ use Rattle.flow_block.proofs.KindsBuilt.{by_kind, planned_built}
 use Rattle.flow_block.proofs.NodesSeen.{none_held, own_fault_is, complete_is, load_is}
 use Rattle.flow_block.proofs.NothingToDo.{held_none, none_seen, no_coming, free_at, waiting_goes, not_admitted, not_finished, left_where}
 use Rattle.flow_block.proofs.PlacesOfLinks.{end_in_of, end_out_of}
-use Rattle.flow_block.proofs.TestsTell.{below_tells, every_where, some_where}
-
-unless_done : (f d c n : Bool) → (f ≡ false → d ≡ false → c ≡ true → n ≡ true → ⊥) → (f || d || not (c && n)) ≡ true
-unless_done true d c n h = refl
-unless_done false true c n h = refl
-unless_done false false true true h = absurd (h refl refl refl refl)
-unless_done false false true false h = refl
-unless_done false false false n h = refl
+use Rattle.flow_block.proofs.TestsTell.{every_where, some_where}
 
 ended_already : (ended none seen : Bool) → none ≡ true → seen ≡ true → (not ended && none && seen) ≡ false
     → ended ≡ true
@@ -102,7 +94,7 @@ module _ {W : Type 0} (run : Run W) (ends : ℕ → Ends) (b : ℕ) (node : Node
   rests_where : holds_nothing own.ports ≡ true → rests run b ≡ true
   rests_where none =
       let empty = none_held run ends b node law part none in
-      or_second (faulted_by_itself run b) (rests_as run kind b)
+      or_right (faulted_by_itself run b) (rests_as run kind b)
       (by_kind (λ k. rests_as run k b ≡ true) empty empty empty kind built)
 
   marked : (how : Outcome) → own.stopped ≡ Some how → outcome_in node.journal ≡ Some how
@@ -114,7 +106,7 @@ module _ {W : Type 0} (run : Run W) (ends : ℕ → Ends) (b : ℕ) (node : Node
   worked_where (Some (Faulted n)) e =
       ⊎_elim
       (λ fault.
-      or_first (faulted_by_itself run b) (rests_as run kind b)
+      or_left (faulted_by_itself run b) (rests_as run kind b)
       (ap (has_this_fault run b) (own_fault_is run ends b node law part n fault)
       ∙ of_marks (λ marks. has_fault n marks ≡ true) (fault_marked node.journal n (marked (Faulted n) e))))
       (λ other. rests_where other.1)
@@ -129,7 +121,7 @@ module _ {W : Type 0} (run : Run W) (ends : ℕ → Ends) (b : ℕ) (node : Node
   all_ended_where e =
       every_where (λ (port : PortState). has_port_ended port.refusing) own.ports (fresh_port None) (λ p small.
       let complete =
-      below_tells (λ q. has_complete q (marks_of run b)) (port_count (block_of run b)) p
+      passes_below (λ q. has_complete q (marks_of run b)) (port_count (block_of run b)) p
       (sym (complete_is run ends b node law part) ∙ e)
       (omega (arith, law.shape.port_count_is)) in
       let complete_here : has_complete p node.journal ≡ true = ap (has_complete p) (sym marks_are) ∙ complete in
@@ -142,7 +134,7 @@ module _ {W : Type 0} (run : Run W) (ends : ℕ → Ends) (b : ℕ) (node : Node
       (λ f d complete none.
       let going = going_where (ap is_faulted (sym marks_are) ∙ f) (ap is_done (sym marks_are) ∙ d) in
       let none_left =
-      (both_of (every (λ p. is_none_left (held_at run b p)) (ports_of run b))
+      (and_parts (every (λ p. is_none_left (held_at run b p)) (ports_of run b))
       (is_none_left (left_at run b)) none).1 in
       not_finished run.layout run.meaning b node law nothing rest going (all_ended_where complete)
       (ap is_empty (sym left_is ∙ nothing_where (left_at run b) none_left)))
@@ -152,8 +144,8 @@ module _ {W : Type 0} (run : Run W) (ends : ℕ → Ends) (b : ℕ) (node : Node
     worked = worked_where own.stopped refl;
     done = done_so;
     served =
-        or_first (not (is_broadcast kind) || is_faulted (marks_of run b)) (is_none_left (left_at run b))
-        (or_first (not (is_broadcast kind)) (is_faulted (marks_of run b))
+        or_left (not (is_broadcast kind) || is_faulted (marks_of run b)) (is_none_left (left_at run b))
+        (or_left (not (is_broadcast kind)) (is_faulted (marks_of run b))
         (by_kind (λ k. not (is_broadcast k) ≡ true) refl refl refl kind built));
   }
 
@@ -220,9 +212,9 @@ module _ {W : Type 0} (run : Run W) (ends : ℕ → Ends) (b : ℕ) (node : Node
         ⊎_elim
         (λ first.
         ⊎_elim over_cut
-        (λ done. over_stopped (stopped_where (or_second f d done)))
+        (λ done. over_stopped (stopped_where (or_right f d done)))
         (or_cases (is_run_cut run l) d first))
-        (λ faulted. over_stopped (stopped_where (or_first f d faulted)))
+        (λ faulted. over_stopped (stopped_where (or_left f d faulted)))
         (or_cases (is_run_cut run l || d) f e)
 
     head_admitted : (faulted : Bool) → admits_head run l (head_as run b l faulted kind) ≡ true
@@ -261,7 +253,7 @@ module _ {W : Type 0} (run : Run W) (ends : ℕ → Ends) (b : ℕ) (node : Node
         (of_marks (λ marks. is_faulted marks ≡ true) (faulted_marked node.journal n (marked (Faulted n) e))) faulted
 
     offered_so : (ends l).source.stage ≡ SourceViewStage.free → admits_head run l (head_from run l (Block b)) ≡ false
-    offered_so free = false_where (admits_head run l (head_from run l (Block b))) (λ e.
+    offered_so free = false_from_ne_true (admits_head run l (head_from run l (Block b))) (λ e.
         let both = head_admitted (is_faulted (marks_of run b)) e in
         not_offered own.stopped refl free both.0 both.1)
 
@@ -310,7 +302,7 @@ module _ {W : Type 0} (run : Run W) (ends : ℕ → Ends) (b : ℕ) (node : Node
         let load_here : port.load ≡ load run b p =
         law.load.load p port_there (ap is_some (sym planned.capacity) ∙ here.0)
         ∙ sym (load_is run ends b node law part p) in
-        or_first (is_full_with run (block_of run b).capacity (load run b p))
+        or_left (is_full_with run (block_of run b).capacity (load run b p))
         (is_reserving (block_of run b) && lacks_an_offer run ends b)
         (ap₂ (is_full_with run) (sym planned.capacity) (sym load_here) ∙ here.1)
 

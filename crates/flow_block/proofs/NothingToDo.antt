@@ -1,13 +1,12 @@
 -- What a node that has nothing to do knows of itself, where its ends rest.
 use Rattle.std.proofs.Common.{◌≡◌, ℕ, ◌<◌, Bool, true, false, cond, not, ◌==◌, ◌&&◌, ◌||◌, List, [], ◌∷◌, length, is_some, is_none, Option, Some, None, Result, refl, ap, ap₂, sym, subst, ◌∙◌, arith, eq-eqb}
-use Rattle.std.proofs.lemmas.Bool.{OnTrue_at, or_from, or_parts}
+use Rattle.std.proofs.lemmas.Bool.{OnTrue_at, or_from, or_parts, and_from, false_from_ne_true}
 use Rattle.flow_value.specs.declared.value.Value.{Value}
 use Rattle.flow_value.specs.declared.when.When.{When}
 use Rattle.flow_link.specs.declared.stage.SourceStage.{SourceStage}
 use Rattle.flow_link.specs.declared.stage.SourceStage.TheVariants as source
 use Rattle.flow_link.specs.Layout.{Layout}
-use Rattle.flow_link.proofs.LinksAtRest.{never_both, false_where}
-use Rattle.flow_link.proofs.ListTests.{and_true}
+use Rattle.flow_link.proofs.ListTests.{never_both}
 use Rattle.flow_intake.specs.Port.{PortState, fresh_port, stage_at as port_stage, coming}
 use Rattle.flow_outlet.specs.End.{is_over, is_out, is_waiting, is_cut, is_closed, speaks_of, rejects}
 use Rattle.flow_outlet.specs.Law.{admits_head as admits}
@@ -16,6 +15,7 @@ use Rattle.flow_outlet.specs.Outlet.{OutletState, first_of, is_empty, head_of, e
 use Rattle.flow_outlet.specs.declared.ends.OutEnd.{OutEnd}
 use Rattle.flow_outlet.proofs.OffersInOrder.{offers_in_order}
 use Rattle.flow_outlet.proofs.StagesTell.{free_is, at_itself}
+use Rattle.flow_outlet.proofs.TestsTell.{three_all}
 use Rattle.flow_block.specs.Block.{BlockState, port_at, held_by}
 use Rattle.flow_block.specs.Node.{NodeState}
 use Rattle.flow_block.specs.NodeLaw.{NodeLaw}
@@ -42,10 +42,7 @@ none_held false well held eg ew e = absurd (cc)
 
 all_five : (a b c d e : Bool) → a ≡ true → b ≡ true → c ≡ true → d ≡ true → e ≡ true → (a && b && c && d && e) ≡ true
 all_five a b c d e ea eb ec ed ee =
-    and_true (a && b && c && d) e (and_true (a && b && c) d (and_true (a && b) c (and_true a b ea eb) ec) ed) ee
-
-all_three : (a b c : Bool) → a ≡ true → b ≡ true → c ≡ true → (a && b && c) ≡ true
-all_three a b c ea eb ec = and_true (a && b) c (and_true a b ea eb) ec
+    and_from (a && b && c && d) e (and_from (a && b && c) d (and_from (a && b) c (and_from a b ea eb) ec) ed) ee
 
 none_of_four : (a b c d : Bool) → a ≡ false → b ≡ false → c ≡ false → d ≡ false → (a || b || c || d) ≡ false
 none_of_four a b c d ea eb ec ed =
@@ -92,7 +89,7 @@ module _ {W : Type 0} (layout : Layout W) (meaning : ℕ → Value → Result (L
       (λ p small. eq-eqb (coming (port_at p block)) 0 (no_coming p small))
 
   could : block.stopped ≡ None → could_stop block ≡ true
-  could going = and_true (is_none block.stopped) (nothing_comes block.ports) (ap is_none going) none_coming
+  could going = and_from (is_none block.stopped) (nothing_comes block.ports) (ap is_none going) none_coming
 
   waiting_tells : (k : ℕ) → k < length exits.ends → is_waiting (stage_at exits k) ≡ true
       → (is_held_up block ≡ false) × (speaks_of exits.next (stage_at exits k) ≡ true)
@@ -104,15 +101,15 @@ module _ {W : Type 0} (layout : Layout W) (meaning : ℕ → Value → Result (L
   no_cause_where None going e = e
   no_cause_where (Some n) going e =
       let held_up : is_held_up block ≡ true =
-      all_three (could_stop block) (only_waits exits) (is_some (fault_cause block)) (could going)
+      three_all (could_stop block) (only_waits exits) (is_some (fault_cause block)) (could going)
       (away_waits exits.ends rest.outs) (ap is_some e) in
       let at_rest : is_at_rest exits ≡ true =
       none_away exits.ends rest.outs (λ k small.
-      false_where (is_waiting (stage_at exits k))
+      false_from_ne_true (is_waiting (stage_at exits k))
       (λ waits. never_both (is_held_up block) held_up (waiting_tells k small waits).0)) in
       let found : next_fault block ≡ fault_cause block =
       ap (λ (stops : Bool). cond stops (fault_cause block) None)
-      (and_true (could_stop block) (is_at_rest exits) (could going) at_rest) in
+      (and_from (could_stop block) (is_at_rest exits) (could going) at_rest) in
       sym found ∙ nothing.faults
 
   no_cause : block.stopped ≡ None → fault_cause block ≡ None
@@ -183,7 +180,7 @@ module _ {W : Type 0} (layout : Layout W) (meaning : ℕ → Value → Result (L
       let own = law.exits.law.each k small in
       let cut = not_cut end block.stopped (free_at k small free).0 in
       let late : (end.declined == exits.next) ≡ false =
-      false_where (end.declined == exits.next)
+      false_from_ne_true (end.declined == exits.next)
       (λ late. never_both (is_pending block) (OnTrue_at late own.given_up) (not_pending going)) in
       none_stops k small (left_where end.rule.when exits.left e)
       (none_of_four (is_closed end) (speaks_of exits.next end.stage) (end.declined == exits.next)
@@ -195,7 +192,7 @@ module _ {W : Type 0} (layout : Layout W) (meaning : ℕ → Value → Result (L
   not_finished going ended left =
       let at_rest : is_at_rest exits ≡ true =
       none_away exits.ends rest.outs (λ k small.
-      false_where (is_waiting (stage_at exits k))
+      false_from_ne_true (is_waiting (stage_at exits k))
       (λ waits. never_both (is_empty exits.left) left (waiting_left k small waits))) in
       never_both (may_finish block)
       (all_five (could_stop block) (all_ended block.ports) (holds_nothing block.ports) (is_empty exits.left)

@@ -1,5 +1,6 @@
 -- Each link into a port or out of a block has its end at its place there, and each end has a link of its own.
 use Rattle.std.proofs.Common.{◌≡◌, ◌≢◌, ℕ, suc, ◌+◌, ◌<◌, ◌≤◌, ◌==◌, ◌&&◌, Bool, true, false, cond, List, [], ◌∷◌, length, get_or, map, filter, Result, refl, ap, sym, ◌∙◌, subst, arith, eq-eqb, eqb-true, ne_eqb}
+use Rattle.std.proofs.lemmas.Bool.{and_from, and_parts}
 use Rattle.std.proofs.Math.ListN.{get_or-map}
 use Rattle.std.proofs.lemmas.List as lists
 use Rattle.flow_value.specs.declared.value.Value.{Value}
@@ -12,7 +13,6 @@ use Rattle.flow_link.specs.declared.stage.TargetStage.{TargetStage}
 use Rattle.flow_link.specs.Layout.{Layout}
 use Rattle.flow_link.specs.Lists.{numbers_from, below}
 use Rattle.flow_link.specs.Plan.{link_in, begins_at, ends_at, ends_at_port, links_into}
-use Rattle.flow_link.proofs.ListTests.{and_true, both_of}
 use Rattle.flow_intake.specs.Port.{EndState, end_in, fresh_end, count_at}
 use Rattle.flow_outlet.specs.declared.ends.LinkRule.{LinkRule}
 use Rattle.flow_outlet.specs.declared.ends.OutEnd.{OutEnd}
@@ -26,13 +26,13 @@ use Rattle.flow_block.proofs.PlacesOfNumbers.{stands_below, place_below, filter_
 -- where a link leads, and whence
 target_there : (b p : ℕ) (target : LinkTarget) → ends_at_port b p target ≡ true → target ≡ Port b p
 target_there b p (Port n q) e =
-    let both = both_of (n == b) (q == p) e in
+    let both = and_parts (n == b) (q == p) e in
     ap (λ (t : ℕ). Port t q) (eqb-true n b both.0) ∙ ap (λ (k : ℕ). Port b k) (eqb-true q p both.1)
 target_there b p Exit e = absurd (cc)
 
 pub there_at_port : (b p : ℕ) (target : LinkTarget) → target ≡ Port b p → ends_at_port b p target ≡ true
 there_at_port b p target e =
-    ap (ends_at_port b p) e ∙ and_true (b == b) (p == p) (eq-eqb b b refl) (eq-eqb p p refl)
+    ap (ends_at_port b p) e ∙ and_from (b == b) (p == p) (eq-eqb b b refl) (eq-eqb p p refl)
 
 pub there_at_block : (b p : ℕ) (target : LinkTarget) → target ≡ Port b p → ends_at b target ≡ true
 there_at_block b p target e = ap (ends_at b) e ∙ eq-eqb b b refl

@@ -1,8 +1,9 @@
 -- What tests of lists and of options tell, and what a change of elements leaves of them.
-use Rattle.std.proofs.Common.{◌≡◌, ℕ, zero, suc, ◌+◌, ◌<◌, Bool, true, false, ◌&&◌, ◌||◌, List, [], ◌∷◌, ◌++◌, length, set, map, get_or, Option, Some, None, is_some, is_none, refl, ap, arith}
+use Rattle.std.proofs.Common.{◌≡◌, ℕ, zero, suc, ◌<◌, Bool, true, false, ◌&&◌, ◌||◌, List, [], ◌∷◌, ◌++◌, length, set, map, get_or, Option, Some, None, is_some, is_none, refl, ap, arith}
+use Rattle.std.proofs.lemmas.Bool.{and_from, and_parts, or_left, or_right}
 use Rattle.flow_value.specs.declared.value.Value.{Value}
-use Rattle.flow_link.specs.Lists.{every, some, numbers_from, below}
-use Rattle.flow_link.proofs.ListTests.{and_true, both_of, or_first, or_second, or_weaker}
+use Rattle.flow_link.specs.Lists.{every, some}
+use Rattle.flow_link.proofs.ListTests.{or_weaker}
 use Rattle.flow_outlet.specs.Outlet.{is_empty}
 
 -- What a test of a list tells of its elements
@@ -10,9 +11,9 @@ use Rattle.flow_outlet.specs.Outlet.{is_empty}
 pub every_tells : {A : Type 0} (test : A → Bool) (xs : List A) (d : A) (k : ℕ) → every test xs ≡ true → k < length xs
     → test (get_or xs k d) ≡ true
 every_tells test [] d k e small = absurd (omega arith)
-every_tells test (x ∷ xs) d zero e small = (both_of (test x) (every test xs) e).0
+every_tells test (x ∷ xs) d zero e small = (and_parts (test x) (every test xs) e).0
 every_tells test (x ∷ xs) d (suc k) e small =
-    every_tells test xs d k (both_of (test x) (every test xs) e).1 (omega arith)
+    every_tells test xs d k (and_parts (test x) (every test xs) e).1 (omega arith)
 
 -- a place of a list at which a test passes
 pub record PassesAt {A : Type 0} (test : A → Bool) (xs : List A) (d : A) : Type 0 where
@@ -31,40 +32,24 @@ some_tells test (x ∷ xs) d e = by_first (test x) refl (some_tells test xs d) e
         let found = later e in
         record { place = suc found.place; there = omega (arith, found.there); passes = found.passes }
 
--- a number of those that all pass
-passes_from : (test : ℕ → Bool) (first count k : ℕ) → every test (numbers_from first count) ≡ true → k < count
-    → test (first + k) ≡ true
-passes_from test first zero k e small = absurd (omega arith)
-passes_from test first (suc count) zero e small =
-    let same : first + 0 ≡ first = omega arith in
-    rw same (both_of (test first) (every test (numbers_from (suc first) count)) e).0
-passes_from test first (suc count) (suc k) e small =
-    let same : first + suc k ≡ suc first + k = omega arith in
-    rw same
-    (passes_from test (suc first) count k (both_of (test first) (every test (numbers_from (suc first) count)) e).1
-    (omega arith))
-
-pub below_tells : (test : ℕ → Bool) (count k : ℕ) → every test (below count) ≡ true → k < count → test k ≡ true
-below_tells test count k e small = let same : k ≡ 0 + k = omega arith in rw same (passes_from test 0 count k e small)
-
 -- Where a test of a list passes
 
 pub every_where : {A : Type 0} (test : A → Bool) (xs : List A) (d : A)
     → ((k : ℕ) → k < length xs → test (get_or xs k d) ≡ true) → every test xs ≡ true
 every_where test [] d h = refl
 every_where test (x ∷ xs) d h =
-    and_true (test x) (every test xs) (h 0 (omega arith)) (every_where test xs d (λ k small. h (suc k) (omega arith)))
+    and_from (test x) (every test xs) (h 0 (omega arith)) (every_where test xs d (λ k small. h (suc k) (omega arith)))
 
 pub some_where : {A : Type 0} (test : A → Bool) (xs : List A) (d : A) (k : ℕ) → k < length xs
     → test (get_or xs k d) ≡ true → some test xs ≡ true
 some_where test [] d k small e = absurd (omega arith)
-some_where test (x ∷ xs) d zero small e = or_first (test x) (some test xs) e
+some_where test (x ∷ xs) d zero small e = or_left (test x) (some test xs) e
 some_where test (x ∷ xs) d (suc k) small e =
-    or_second (test x) (some test xs) (some_where test xs d k (omega arith) e)
+    or_right (test x) (some test xs) (some_where test xs d k (omega arith) e)
 
 pub some_last : {A : Type 0} (test : A → Bool) (xs : List A) (x : A) → test x ≡ true → some test (xs ++ x ∷ []) ≡ true
-some_last test [] x is = or_first (test x) false is
-some_last test (y ∷ ys) x is = or_second (test y) (some test (ys ++ x ∷ [])) (some_last test ys x is)
+some_last test [] x is = or_left (test x) false is
+some_last test (y ∷ ys) x is = or_right (test y) (some test (ys ++ x ∷ [])) (some_last test ys x is)
 
 -- Tests of a list in which one element changes, or each one
 
@@ -109,8 +94,3 @@ some_is (Some x) e = (x, refl)
 pub none_left : (left : List Value) → is_empty left ≡ true → left ≡ []
 none_left [] e = refl
 none_left (value ∷ left) e = absurd (cc)
-
--- the second or third of three tests passes
-pub or_others : (a b c : Bool) → b || c ≡ true → a || b || c ≡ true
-or_others true b c e = refl
-or_others false b c e = e

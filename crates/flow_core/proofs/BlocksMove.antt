@@ -1,5 +1,6 @@
 -- A move of a block's end of a link that leads from it keeps the link in order.
 use Rattle.std.proofs.Common.{◌≡◌, ◌⊎◌, ℕ, ◌<◌, ◌==◌, ◌||◌, not, Bool, true, false, cond, List, length, Option, Some, None, is_some, Result, refl, ap, sym, subst, inl, inr, ◌∙◌, arith, eqb-true}
+use Rattle.std.proofs.lemmas.Bool.{and_parts}
 use Rattle.std.proofs.lemmas.Bool.Decides.{nat_tests}
 use Rattle.flow_value.specs.declared.value.Value.{Value}
 use Rattle.flow_link.specs.declared.phase.LinkEnd.{LinkEnd}
@@ -22,7 +23,6 @@ use Rattle.flow_link.specs.MovesKeep.{Keeps, SourceMovesKeep}
 use Rattle.flow_link.specs.Phase.{phase_after}
 use Rattle.flow_link.specs.Stage.{source_stage_of}
 use Rattle.flow_link.specs.Views.{SourceStage, TargetStage, SourceView, TargetView, LinkFacts, crossed}
-use Rattle.flow_link.proofs.ListTests.{both_of}
 use Rattle.flow_link.proofs.LooksKeepOrder.{looks_keep}
 use Rattle.flow_link.proofs.SourceMoves.{source_moves_keep}
 use Rattle.flow_outlet.specs.declared.ends.LinkRule.{LinkRule}
@@ -105,11 +105,11 @@ module _ (facts : LinkFacts) (phase new : Phase) (slot : Option Value) (target :
         let same = eqb-true i next e in
         gives_on next value (standing given last (source.Accepted i)) ok (inl (ap SourceStage.accepted same)) allowed
     gives_head next out value (source.Wished i) e ok allowed =
-        let same = eqb-true i next (both_of (i == next) (not out) e).0 in
+        let same = eqb-true i next (and_parts (i == next) (not out) e).0 in
         gives_on next value (standing given last (source.Wished i)) ok (inr (inl (ap SourceStage.wished same)))
         allowed
     gives_head next out value (source.Claimed i) e ok allowed =
-        let same = eqb-true i next (both_of (i == next) (not out) e).0 in
+        let same = eqb-true i next (and_parts (i == next) (not out) e).0 in
         gives_on next value (standing given last (source.Claimed i)) ok (inr (inr (ap SourceStage.claimed same)))
         allowed
     gives_head next out value _ e ok allowed = absurd (cc)

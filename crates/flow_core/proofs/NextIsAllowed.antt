@@ -1,6 +1,6 @@
 -- What an end of a link would do next is a move that the link's phase allows.
 use Rattle.std.proofs.Common.{◌≡◌, ℕ, ◌==◌, ◌||◌, ◌&&◌, not, cond, Bool, true, false, Option, Some, None, is_some, refl, ap, sym, ◌∙◌}
-use Rattle.std.proofs.lemmas.Bool.{not-true}
+use Rattle.std.proofs.lemmas.Bool.{not-true, and_parts}
 use Rattle.flow_value.specs.declared.value.Value.{Value}
 use Rattle.flow_value.specs.declared.message.MessageStatus.{MessageStatus}
 use Rattle.flow_value.specs.declared.message.MessageStatus.TheVariants as status
@@ -26,7 +26,6 @@ use Rattle.flow_link.specs.Phase.{phase_after}
 use Rattle.flow_link.specs.Plan.{link_in}
 use Rattle.flow_link.specs.Stage.{source_stage_of, target_stage_of}
 use Rattle.flow_link.specs.Views.{SourceStage, TargetStage}
-use Rattle.flow_link.proofs.ListTests.{both_of}
 use Rattle.flow_link.proofs.LooksKeepOrder.{looks_keep}
 use Rattle.flow_intake.specs.Port.{PortState, stage_at as port_stage, hand_in, has_room}
 use Rattle.flow_intake.specs.Calls.{move_of, move_at as in_move_at, is_at as is_queued_at, next_place, answer_where}
@@ -184,12 +183,12 @@ module _ {W : Type 0} (layout : Layout W) (net : NetState) (l : ℕ) where
   pub of_source : (next : Move) → source_peek layout net l (link_in layout.links l).source ≡ Some next
       → is_of_source next ≡ true
   of_source next peek =
-      (both_of (is_allowed (source_shows source_stage) next) (is_of_source next) (source_next_fits next peek)).1
+      (and_parts (is_allowed (source_shows source_stage) next) (is_of_source next) (source_next_fits next peek)).1
 
   pub of_target : (next : Move) → target_peek layout net l (link_in layout.links l).target ≡ Some next
       → is_of_source next ≡ false
   of_target next peek =
-      let both = both_of (is_allowed (target_shows target_stage) next) (not (is_of_source next))
+      let both = and_parts (is_allowed (target_shows target_stage) next) (not (is_of_source next))
       (target_next_fits next peek) in
       not-true (is_of_source next) both.1
 
@@ -198,11 +197,11 @@ module _ {W : Type 0} (layout : Layout W) (net : NetState) (l : ℕ) where
       → is_allowed (line_at net l).phase next ≡ true
   by_owner true next seen peek =
       let phase = (line_at net l).phase in
-      (both_of (is_allowed phase next) (is_of_source next)
+      (and_parts (is_allowed phase next) (is_of_source next)
       (sym (source_may next phase source_stage target_stage seen) ∙ source_next_fits next peek)).0
   by_owner false next seen peek =
       let phase = (line_at net l).phase in
-      (both_of (is_allowed phase next) (not (is_of_source next))
+      (and_parts (is_allowed phase next) (not (is_of_source next))
       (sym (target_may next phase source_stage target_stage seen) ∙ target_next_fits next peek)).0
 
 pub next_is_allowed : {W : Type 0} → NextIsAllowed W

@@ -1,5 +1,6 @@
 -- The end that a block has of a link is there, at the link's place, and is the link's.
 use Rattle.std.proofs.Common.{◌≡◌, ℕ, ◌<◌, ◌==◌, true, List, length, get_or, map, Result, refl, ap, sym, ◌∙◌, arith, eq-eqb}
+use Rattle.std.proofs.lemmas.Bool.{and_from}
 use Rattle.std.proofs.lemmas.List as lists
 use Rattle.std.proofs.Math.ListN.{get_or-map}
 use Rattle.flow_value.specs.declared.value.Value.{Value}
@@ -7,7 +8,6 @@ use Rattle.flow_link.specs.declared.plan.LinkSource.TheVariants.{Block}
 use Rattle.flow_link.specs.declared.plan.LinkTarget.TheVariants.{Port}
 use Rattle.flow_link.specs.Layout.{Layout}
 use Rattle.flow_link.specs.Plan.{link_in, begins_at, ends_at_port}
-use Rattle.flow_link.proofs.ListTests.{and_true}
 use Rattle.flow_intake.specs.Port.{EndState, end_in, fresh_end}
 use Rattle.flow_outlet.specs.declared.ends.LinkRule.{LinkRule}
 use Rattle.flow_outlet.specs.declared.ends.OutEnd.{OutEnd}
@@ -26,7 +26,7 @@ module _ {W : Type 0} (layout : Layout W) where
   begins_here b l from = ap (begins_at b) from ∙ eq-eqb b b refl
 
   pub ends_here : (b p l : ℕ) → (link_in layout.links l).target ≡ Port b p → is_into layout b p l ≡ true
-  ends_here b p l to = ap (ends_at_port b p) to ∙ and_true (b == b) (p == p) (eq-eqb b b refl) (eq-eqb p p refl)
+  ends_here b p l to = ap (ends_at_port b p) to ∙ and_from (b == b) (p == p) (eq-eqb b b refl) (eq-eqb p p refl)
 
   module _ (meaning : ℕ → Value → Result (List Value) ℕ) (b : ℕ) (node : NodeState)
       (law : NodeLaw layout meaning b node) where

@@ -1,7 +1,7 @@
 -- Over the sole link into a block comes all that the block takes.
 use Rattle.std.proofs.Common.{◌≡◌, ℕ, ◌+◌, ◌<◌, ◌≤◌, ◌==◌, ltb, Bool, true, false, not, cond, List, [], ◌∷◌, length, Result, refl, ap, sym, ◌∙◌, arith, eq-eqb, eqb-true}
 use Rattle.std.specs.List.{count_by}
-use Rattle.std.proofs.lemmas.Bool.{ltb-true}
+use Rattle.std.proofs.lemmas.Bool.{ltb-true, and_parts}
 use Rattle.std.proofs.lemmas.List.Sums.{sum_by-cons}
 use Rattle.flow_value.specs.declared.value.Value.{Value}
 use Rattle.flow_link.specs.declared.plan.Link.{Link}
@@ -15,7 +15,6 @@ use Rattle.flow_link.specs.Layout.{Layout}
 use Rattle.flow_link.specs.Lists.{every}
 use Rattle.flow_link.specs.Plan.{block_in, link_in, no_link, ends_at, ends_at_port, links_into, is_sole, is_reserving}
 use Rattle.flow_link.specs.Trace.{took_at, took_over}
-use Rattle.flow_link.proofs.ListTests.{both_of}
 use Rattle.flow_block.specs.NodeLaw.{run_seen_by}
 use Rattle.flow_core.proofs.PlacesOfLinks.{ends_here}
 use Rattle.flow_core.proofs.PlacesTell.{count_within, counts_differ}
@@ -38,7 +37,7 @@ one_enters b links i j few low_i low_j ei ej =
 
 -- so what the block took at a port came over that link
 port_is_of_block : (b p : ℕ) (target : LinkTarget) → ends_at_port b p target ≡ true → ends_at b target ≡ true
-port_is_of_block b p (Port n q) e = (both_of (n == b) (q == p) e).0
+port_is_of_block b p (Port n q) e = (and_parts (n == b) (q == p) e).0
 port_is_of_block b p Exit e = cc
 
 counts_over : (at_port over : Bool) (value : Value) (xs ys : List Value) → over ≡ true → length xs ≤ length ys
@@ -53,14 +52,14 @@ module _ {W : Type 0} (layout : Layout W) (meaning : ℕ → Value → Result (L
       → length (took_at p journal) ≤ length (took_over l journal)
   all_over one [] own = omega arith
   all_over one (Took port link value ∷ marks) own =
-      let both = both_of (is_own_mark (run_seen_by layout meaning b []) b (Took port link value)) _ own in
+      let both = and_parts (is_own_mark (run_seen_by layout meaning b []) b (Took port link value)) _ own in
       let target = (link_in layout.links link).target in
-      let mine = both_of (ltb link (length layout.links)) (ends_at_port b port target) both.0 in
+      let mine = and_parts (ltb link (length layout.links)) (ends_at_port b port target) both.0 in
       let same = one link (ltb-true link (length layout.links) mine.0) (port_is_of_block b port target mine.1) in
       counts_over (port == p) (link == l) value (took_at p marks) (took_over l marks) (eq-eqb link l same)
       (all_over one marks both.1)
-  all_over one (Gave link value ∷ marks) own = all_over one marks (both_of _ _ own).1
-  all_over one (Complete port ∷ marks) own = all_over one marks (both_of _ _ own).1
+  all_over one (Gave link value ∷ marks) own = all_over one marks (and_parts _ _ own).1
+  all_over one (Complete port ∷ marks) own = all_over one marks (and_parts _ _ own).1
   all_over one (Fault number ∷ marks) own = all_over one marks own
   all_over one (Done ∷ marks) own = all_over one marks own
 
@@ -69,7 +68,7 @@ module _ {W : Type 0} (layout : Layout W) (meaning : ℕ → Value → Result (L
   few_where_sole target leads sole =
       let at_port = sym (ap (is_sole layout.blocks layout.links) leads) ∙ sole in
       eqb-true (links_into b layout.links) 1
-      (both_of (links_into b layout.links == 1) (not (is_reserving (block_in layout.blocks b))) at_port).0
+      (and_parts (links_into b layout.links == 1) (not (is_reserving (block_in layout.blocks b))) at_port).0
 
   pub all_over_sole : l < length layout.links → (link_in layout.links l).target ≡ Port b p
       → (facts_in layout l).sole ≡ true → (journal : List Mark)

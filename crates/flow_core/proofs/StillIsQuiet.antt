@@ -1,6 +1,6 @@
 -- Where nothing may happen any more in a network in order, its run is quiet.
 use Rattle.std.proofs.Common.{◌≡◌, ℕ, ◌<◌, Bool, true, false, ◌||◌, List, length, Option, Some, None, is_some, Result, refl, ap, sym, ◌∙◌}
-use Rattle.std.proofs.lemmas.Bool.{OnTrue_at}
+use Rattle.std.proofs.lemmas.Bool.{OnTrue_at, false_from_ne_true, or_parts}
 use Rattle.flow_value.specs.declared.value.Value.{Value}
 use Rattle.flow_link.specs.declared.phase.Move.{Move}
 use Rattle.flow_link.specs.declared.plan.Link.{Link}
@@ -22,10 +22,10 @@ use Rattle.flow_link.specs.RestsByParts.{EndsAreStill, PartsRest, is_at_rest}
 use Rattle.flow_link.specs.Stage.{source_stage_of, target_stage_of}
 use Rattle.flow_link.specs.Trace.{Run}
 use Rattle.flow_link.specs.Views.{SourceStage, TargetStage}
-use Rattle.flow_link.proofs.LinksAtRest.{never_both, false_where, links_rest}
-use Rattle.flow_link.proofs.LinksLaidOut.{neither}
+use Rattle.flow_link.proofs.LinksAtRest.{links_rest}
 use Rattle.flow_link.proofs.LooksKeepOrder.{looks_keep}
 use Rattle.flow_link.proofs.QuietByParts.{rests_compose}
+use Rattle.flow_link.proofs.ListTests.{never_both}
 use Rattle.flow_intake.specs.Port.{end_in}
 use Rattle.flow_outlet.specs.Outlet.{end_at, stage_at}
 use Rattle.flow_block.specs.Block.{port_at}
@@ -100,19 +100,19 @@ module _ {W : Type 0} (layout : Layout W) (meaning : ℕ → Value → Result (L
     none_reserved : (l : ℕ) → l < length layout.links
         → source_reserves (ends l).source.stage || target_reserves (ends l).target.stage ≡ false
     none_reserved l there =
-        false_where (source_reserves (ends l).source.stage || target_reserves (ends l).target.stage)
+        false_from_ne_true (source_reserves (ends l).source.stage || target_reserves (ends l).target.stage)
         (λ reserves. never_both (facts_in layout l).reserving
         (OnTrue_at reserves (keeps.lines l there).in_order.plan.reserved)
         (takes_freely layout runs l there))
 
     source_takes_freely : (l : ℕ) → l < length layout.links → source_reserves (ends l).source.stage ≡ false
     source_takes_freely l there =
-        (neither (source_reserves (ends l).source.stage) (target_reserves (ends l).target.stage)
+        (or_parts (source_reserves (ends l).source.stage) (target_reserves (ends l).target.stage)
         (none_reserved l there)).0
 
     target_takes_freely : (l : ℕ) → l < length layout.links → target_reserves (ends l).target.stage ≡ false
     target_takes_freely l there =
-        (neither (source_reserves (ends l).source.stage) (target_reserves (ends l).target.stage)
+        (or_parts (source_reserves (ends l).source.stage) (target_reserves (ends l).target.stage)
         (none_reserved l there)).1
 
     -- each end of a block is that of a link, which tells where it stands and what it would do next
@@ -236,14 +236,14 @@ module _ {W : Type 0} (layout : Layout W) (meaning : ℕ → Value → Result (L
         outs = λ k small.
             let is = out_end b k low small in
             sym is.peek ∙ source_done (end_at (node b).block.exits k).rule.id is.there;
-        makes = false_where (may_make (node b).block)
+        makes = false_from_ne_true (may_make (node b).block)
             (λ would. still (NetEvent.make b) (record { there = low; would = would }));
         completes = λ p known.
-            false_where (may_complete p (node b).block)
+            false_from_ne_true (may_complete p (node b).block)
             (λ would. still (NetEvent.complete b p) (record { there = low; port = known; would = would }));
         faults = none_where (next_fault (node b).block)
             (λ number is. still (NetEvent.fault b) (record { there = low; would = ap is_some is }));
-        finishes = false_where (may_finish (node b).block)
+        finishes = false_from_ne_true (may_finish (node b).block)
             (λ would. still (NetEvent.finish b) (record { there = low; would = would }));
       }
 

@@ -1,5 +1,6 @@
 -- What an answer tells of the port.
 use Rattle.std.proofs.Common.{◌≡◌, ℕ, ◌+◌, Bool, true, false, ◌&&◌, cond, Option, Some, None, refl, ap, is_some}
+use Rattle.std.proofs.lemmas.Bool.{and_parts}
 use Rattle.flow_value.specs.declared.message.MessageStatus.TheVariants.{Accepted, Declined, Postponed, DecliningPermanently}
 use Rattle.flow_link.specs.declared.stage.Refusal.{Refusal}
 use Rattle.flow_link.specs.Lists.{is_empty}
@@ -19,13 +20,10 @@ accepted_where None false true may_postpone is = refl
 accepted_where None false false true is = absurd (cc)
 accepted_where None false false false is = absurd (cc)
 
-first_of_both : (a b : Bool) → a && b ≡ true → a ≡ true
-first_of_both true b both = refl
-first_of_both false b both = both
-
 pub accepted_has_room : (may_postpone : Bool) (port : PortState) → answer_to may_postpone port ≡ Accepted → has_room port ≡ true
 accepted_has_room may_postpone port is =
-    first_of_both (has_room port) (is_empty port.queue) (accepted_where port.refusing port.reserves (has_room port && is_empty port.queue) may_postpone is)
+    (and_parts (has_room port) (is_empty port.queue)
+    (accepted_where port.refusing port.reserves (has_room port && is_empty port.queue) may_postpone is)).0
 
 -- a new link takes no room
 room_with_link_at : (place : Option ℕ) (link : ℕ) (port : PortState) → has_room (with_link_at place link port) ≡ has_room port

@@ -1,6 +1,8 @@
 -- Each call of a port that names a place keeps the port in order.
 use Rattle.std.proofs.Common.{◌≡◌, ◌≢◌, ℕ, ◌+◌, ◌-◌, ◌<◌, ◌≤◌, ◌==◌, ◌||◌, cond, Bool, true, false, List, [], ◌∷◌, ◌++◌, length, set, Option, Some, None, is_some, refl, ap, sym, ◌∙◌, subst, arith, zero, suc, ne_eqb, eq-eqb, eqb-true, length-append, length-drop}
+use Rattle.std.proofs.lemmas.Bool.{eqb-false, or_right}
 use Rattle.std.proofs.lemmas.List.{length-set}
+use Rattle.std.proofs.Math.Bool.{or-false}
 use Rattle.flow_value.specs.declared.value.Value.{Value}
 use Rattle.flow_link.specs.declared.phase.Phase.{Phase}
 use Rattle.flow_link.specs.declared.stage.Refusal.{Refusal}
@@ -94,25 +96,17 @@ pub put_off_keeps : (facts : ℕ → LinkFacts) (taken : ℕ) (port : PortState)
 put_off_keeps facts taken port place i law below before may =
     let left = without place port.queue in
     port_moved facts taken port place (Postponed i) (left ++ place ∷ []) false law below
-    (λ k other. in_joined k place left ∙ ap (λ (b : Bool). is_in k left || b) (ne_eqb place k (λ e. other (sym e))) ∙ or_none (is_in k left) ∙ in_without k place port.queue other)
+    (λ k other. in_joined k place left ∙ ap (λ (b : Bool). is_in k left || b) (ne_eqb place k (λ e. other (sym e))) ∙ or-false (is_in k left) ∙ in_without k place port.queue other)
     (distinct_joined place left (distinct_without place port.queue law.distinct) (gone place port.queue))
     (below_joined (length port.ends) place left (below_without (length port.ends) place port.queue law.known) below)
     (fits_no_more facts taken port place (record (end_in place port.ends) { stage = Postponed i }) law below (λ e. absurd (cc)))
     (let old = law.each place below in record {
-      queued = in_joined place place left ∙ ends_there (is_in place left) place;
+      queued = in_joined place place left ∙ or_right (is_in place left) (place == place) (eq-eqb place place refl);
       hand = old.hand ∙ before.hand;
       refused = λ e. absurd (cc);
       coming = λ e. absurd (cc);
       put_off = λ e. may;
     })
-  where
-    or_none : (b : Bool) → b || false ≡ b
-    or_none true = refl
-    or_none false = refl
-
-    ends_there : (b : Bool) (n : ℕ) → b || (n == n) ≡ true
-    ends_there true n = refl
-    ends_there false n = eq-eqb n n refl
 
 pub consume_keeps : (facts : ℕ → LinkFacts) (taken : ℕ) (port : PortState) (place : ℕ) → PortLaw facts taken port → place < length port.ends
     → IsAt (stage_at place port) true false false true → has_room port ≡ true → has_ended port.refusing ≡ false → PortLaw facts taken (consumes place port)
@@ -276,8 +270,6 @@ fail_port_keeps facts taken port law = record {
 }
 
 -- one more link
-apart : (m n : ℕ) → m == n ≡ false → m ≢ n
-apart m n differ same = let equal : m == n ≡ true = eq-eqb m n same in cc
 
 pub last_read : (ends : List EndState) (end : EndState) → end_in (length ends) (ends ++ end ∷ []) ≡ end
 last_read [] end = refl
@@ -307,7 +299,7 @@ added_at facts taken refusing queue ends link each known place true is below =
       put_off = λ e. absurd (cc);
     })
 added_at facts taken refusing queue ends link each known place false is below =
-    let other : place ≢ length ends = apart place (length ends) is in
+    let other : place ≢ length ends = eqb-false place (length ends) is in
     let there : place < length ends = omega arith in
     let read : end_in place (ends ++ fresh_end link ∷ []) ≡ end_in place ends = front_read ends (fresh_end link) place there in
     subst (λ (e : EndState). InLaw (facts e.link) taken refusing queue place e) (sym read) (each place there)

@@ -2,11 +2,8 @@
 use Rattle.std.proofs.Common.{◌≡◌, ℕ, zero, suc, ◌+◌, ◌<◌, ◌≤◌, Bool, true, false, cond, List, [], ◌∷◌, ◌++◌, length, set, refl, arith}
 use Rattle.flow_link.specs.declared.stage.TargetStage.{TargetStage}
 use Rattle.flow_link.specs.declared.stage.TargetStage.TheVariants.{Free, Postponed, Accepted, Consuming, Asking, Holding, Claiming, Arrived, Hand}
+use Rattle.flow_link.proofs.ListTests.{at_most_one}
 use Rattle.flow_intake.specs.Port.{EndState, count_at, stage_in, fresh_end, is_coming, is_owed, is_hand}
-
-weight_below : (b : Bool) → cond b 1 0 ≤ 1
-weight_below true = omega arith
-weight_below false = omega arith
 
 -- when one end changes, the count changes by what that end counts before and after
 pub count_after_set : (test : TargetStage → Bool) (ends : List EndState) (place : ℕ) (end : EndState) → place < length ends
@@ -24,7 +21,7 @@ count_there test (first ∷ ends) (suc place) below = omega (arith, count_there 
 
 pub count_below : (test : TargetStage → Bool) (ends : List EndState) → count_at test ends ≤ length ends
 count_below test [] = omega arith
-count_below test (first ∷ ends) = omega (arith, weight_below (test first.stage), count_below test ends)
+count_below test (first ∷ ends) = omega (arith, at_most_one (test first.stage), count_below test ends)
 
 -- the count that is kept when one end goes from one stage to another
 pub count_moved : (test : TargetStage → Bool) (ends : List EndState) (place : ℕ) (end : EndState) (count counted : ℕ) → place < length ends

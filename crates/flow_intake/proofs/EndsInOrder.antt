@@ -1,5 +1,6 @@
 -- A port stays in order when one of its ends moves.
-use Rattle.std.proofs.Common.{◌≡◌, ◌≢◌, ℕ, ◌+◌, ◌<◌, ◌≤◌, ◌==◌, cond, Bool, true, false, List, length, set, Option, Some, None, is_some, refl, sym, ◌∙◌, subst, arith, eqb-true, eq-eqb}
+use Rattle.std.proofs.Common.{◌≡◌, ◌≢◌, ℕ, ◌+◌, ◌<◌, ◌≤◌, ◌==◌, Bool, true, false, List, length, set, Option, Some, None, is_some, refl, sym, ◌∙◌, subst, arith, eqb-true}
+use Rattle.std.proofs.lemmas.Bool.{eqb-false}
 use Rattle.std.proofs.lemmas.List.{get_or-set_same, get_or-set_other, length-set}
 use Rattle.flow_link.specs.declared.phase.Phase.{Phase}
 use Rattle.flow_link.specs.declared.phase.Phase.TheVariants.{Idle}
@@ -10,15 +11,13 @@ use Rattle.flow_link.specs.declared.stage.TargetStage.TheVariants.{Free, Refused
 use Rattle.flow_link.specs.LinkOk.{IsWithin}
 use Rattle.flow_link.specs.Stage.{target_looks}
 use Rattle.flow_link.specs.Views.{LinkFacts}
+use Rattle.flow_link.proofs.ListTests.{at_most_one, counts_no_less}
 use Rattle.flow_intake.specs.Port.{EndState, PortState, fresh_end, end_in, link_in, stage_in, coming, is_below, is_coming, is_hand, is_queued, count_at}
 use Rattle.flow_intake.specs.Calls.{put_stage}
 use Rattle.flow_intake.specs.Queue.{without}
 use Rattle.flow_intake.specs.PortLaw.{is_in, IsDistinct, AreBelow, has_ended, is_refused, puts_off, InLaw, EachIn, PortLaw}
 use Rattle.flow_intake.proofs.CountsOfEnds.{count_after_set}
 use Rattle.flow_intake.proofs.QueueOrder.{in_without, gone, distinct_without, below_without}
-
-apart : (m n : ℕ) → m == n ≡ false → m ≢ n
-apart m n differ same = let equal : m == n ≡ true = eq-eqb m n same in cc
 
 -- an end is in order in another queue in which it stands just as it did
 elsewhere : {facts : LinkFacts} {taken : ℕ} {refusing : Option Refusal} {queue : List ℕ} {place : ℕ} {end : EndState} (joined : List ℕ)
@@ -36,8 +35,8 @@ moved_at facts taken refusing queue after ends place end each below others law k
     let read : end_in k (set ends place end) ≡ end = rw at (get_or-set_same ends place end (fresh_end 0) below) in
     subst (λ (e : EndState). InLaw (facts e.link) taken refusing after k e) (sym read) (rw at law)
 moved_at facts taken refusing queue after ends place end each below others law k false is there =
-    let read : end_in k (set ends place end) ≡ end_in k ends = get_or-set_other ends place k end (fresh_end 0) (apart k place is) in
-    subst (λ (e : EndState). InLaw (facts e.link) taken refusing after k e) (sym read) (elsewhere after (others k (apart k place is)) (each k there))
+    let read : end_in k (set ends place end) ≡ end_in k ends = get_or-set_other ends place k end (fresh_end 0) (eqb-false k place is) in
+    subst (λ (e : EndState). InLaw (facts e.link) taken refusing after k e) (sym read) (elsewhere after (others k (eqb-false k place is)) (each k there))
 
 pub each_moved : (facts : ℕ → LinkFacts) (taken : ℕ) (refusing : Option Refusal) (queue after : List ℕ) (ends : List EndState) (place : ℕ) (end : EndState)
     → EachIn facts taken refusing queue ends → place < length ends
@@ -61,13 +60,8 @@ pub coming_moved : (ends : List EndState) (place : ℕ) (end : EndState) → pla
     → (is_coming end.stage ≡ true → is_coming (stage_in place ends) ≡ true) → count_at is_coming (set ends place end) ≤ count_at is_coming ends
 coming_moved ends place end below kept =
     let moved = count_after_set is_coming ends place end below in
-    let weighed = no_heavier (is_coming end.stage) (is_coming (stage_in place ends)) kept in
+    let weighed = counts_no_less (is_coming end.stage) (is_coming (stage_in place ends)) kept in
     omega arith
-  where
-    no_heavier : (after before : Bool) → (after ≡ true → before ≡ true) → cond after 1 0 ≤ cond before 1 0
-    no_heavier true before kept = rw (kept refl) (omega arith)
-    no_heavier false true kept = omega arith
-    no_heavier false false kept = omega arith
 
 pub coming_more : (ends : List EndState) (place : ℕ) (end : EndState) → place < length ends → is_coming (stage_in place ends) ≡ false
     → count_at is_coming (set ends place end) ≤ count_at is_coming ends + 1
@@ -76,10 +70,6 @@ coming_more ends place end below before =
     let none = rw before at moved in
     let one = at_most_one (is_coming end.stage) in
     omega arith
-  where
-    at_most_one : (b : Bool) → cond b 1 0 ≤ 1
-    at_most_one true = omega arith
-    at_most_one false = omega arith
 
 -- what a look may change of an end
 pub record LookTells (before after : TargetStage) : Type 0 where

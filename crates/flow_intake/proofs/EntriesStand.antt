@@ -1,11 +1,9 @@
 -- Which entries of a queue stand when a place leaves, joins or is added.
 use Rattle.std.proofs.Common.{filter, ◌≡◌, ◌≢◌, ℕ, ◌+◌, ◌<◌, ◌≤◌, zero, suc, ◌==◌, Bool, true, false, cond, List, [], ◌∷◌, ◌++◌, length, get_or, set, drop, refl, ap, sym, subst, ◌∙◌, arith, eq-eqb, ne_eqb, eqb-true}
+use Rattle.std.proofs.lemmas.Bool.{eqb-false}
 use Rattle.std.proofs.lemmas.List.{get_or-set_same, get_or-set_other}
 use Rattle.flow_intake.specs.declared.queue.Entry.{Entry}
 use Rattle.flow_intake.specs.Queue.{stands, without, standing, ArePlaced, AreNumbered, FirstStands}
-
-apart : (m n : ℕ) → m == n ≡ false → m ≢ n
-apart m n differ same = let equal : m == n ≡ true = eq-eqb m n same in cc
 
 -- what leaves the queue does so whether its entry stood or not
 skips : (place other : ℕ) (rest : List ℕ) (stands : Bool) → other == place ≡ true → without place (cond stands (other ∷ rest) rest) ≡ without place rest
@@ -28,7 +26,7 @@ turned turns place turn entry rest true is below other =
     let not_so : (get_or (set turns place turn) entry.place 0 == entry.number) ≡ false = rw read (ne_eqb turn entry.number other) in
     rw not_so (sym (skips place entry.place rest (get_or turns entry.place 0 == entry.number) is))
 turned turns place turn entry rest false is below other =
-    let read : get_or (set turns place turn) entry.place 0 ≡ get_or turns entry.place 0 = get_or-set_other turns place entry.place turn 0 (apart entry.place place is) in
+    let read : get_or (set turns place turn) entry.place 0 ≡ get_or turns entry.place 0 = get_or-set_other turns place entry.place turn 0 (eqb-false entry.place place is) in
     rw read (sym (keeps place entry.place rest (get_or turns entry.place 0 == entry.number) is))
 
 pub standing-turned : (turns : List ℕ) (place turn last : ℕ) (entries : List Entry) → AreNumbered last entries → place < length turns

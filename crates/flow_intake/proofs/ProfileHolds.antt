@@ -1,9 +1,9 @@
 -- What a port answers, and whom it serves next.
 use Rattle.std.proofs.Common.{◌≡◌, ℕ, zero, suc, ◌+◌, ◌<◌, ◌≤◌, Bool, true, false, ◌&&◌, cond, List, [], ◌∷◌, Option, Some, None, is_some, refl, arith}
+use Rattle.std.proofs.lemmas.Bool.{and_parts}
 use Rattle.flow_value.specs.declared.message.MessageStatus.TheVariants.{Accepted, Declined, Postponed, DecliningPermanently}
 use Rattle.flow_link.specs.declared.stage.Refusal.{Refusal}
 use Rattle.flow_link.specs.Lists.{is_empty}
-use Rattle.flow_link.proofs.ListTests.{both_of}
 use Rattle.flow_intake.specs.Port.{PortState, coming, has_room, is_below, end_in, link_in}
 use Rattle.flow_intake.specs.Calls.{answer_where, answer_to, next_where, first_of}
 use Rattle.flow_intake.specs.PortLaw.{InLaw}
@@ -32,7 +32,7 @@ nobody_in (_ ∷ _) is = absurd (cc)
 accepts_so : (may_postpone : Bool) (port : PortState) → answer_to may_postpone port ≡ Accepted → TakesAtOnce port
 accepts_so may_postpone port is =
     let takes = taken_where port.refusing port.reserves (has_room port && is_empty port.queue) may_postpone is in
-    let both = both_of (has_room port) (is_empty port.queue) takes.is_free in
+    let both = and_parts (has_room port) (is_empty port.queue) takes.is_free in
     record { goes_on = takes.goes_on; freely = takes.freely; room = both.0; nobody = nobody_in port.queue both.1 }
 
 accepts_then : (may_postpone : Bool) (port : PortState) → TakesAtOnce port → answer_to may_postpone port ≡ Accepted
@@ -71,7 +71,7 @@ answers_tell = record {
     put_off : (port : PortState) → port.refusing ≡ None → ¬ TakesAtOnce port → (may_postpone : Bool) → answer_to may_postpone port ≡ cond may_postpone Postponed Declined
     put_off port goes not may_postpone =
         rw goes (put_off_where port.reserves (has_room port && is_empty port.queue) may_postpone (λ takes.
-        let both = both_of (has_room port) (is_empty port.queue) takes.is_free in
+        let both = and_parts (has_room port) (is_empty port.queue) takes.is_free in
         not (record { goes_on = goes; freely = takes.freely; room = both.0; nobody = nobody_in port.queue both.1 })))
 
 -- whom it serves

@@ -1,5 +1,6 @@
 -- Which places stand in a queue when one leaves or joins.
 use Rattle.std.proofs.Common.{◌≡◌, ◌≢◌, ℕ, ◌<◌, ◌+◌, ◌==◌, ◌||◌, not, cond, Bool, true, false, List, [], ◌∷◌, ◌++◌, refl, ap, sym, ◌∙◌, arith, eqb-true, eq-eqb, ne_eqb}
+use Rattle.std.proofs.Math.Bool.{or-false, or_assoc}
 use Rattle.flow_intake.specs.Queue.{without}
 use Rattle.flow_intake.specs.PortLaw.{is_in, IsDistinct, AreBelow}
 
@@ -48,17 +49,9 @@ pub below_without : (count place : ℕ) (queue : List ℕ) → AreBelow count qu
 below_without count place [] known = tt
 below_without count place (first ∷ queue) known = below_one count first (without place queue) (not (first == place)) known.0 (below_without count place queue known.1)
 
-or_assoc : (a b c : Bool) → a || (b || c) ≡ (a || b) || c
-or_assoc true b c = refl
-or_assoc false b c = refl
-
 pub in_joined : (k place : ℕ) (queue : List ℕ) → is_in k (queue ++ place ∷ []) ≡ (is_in k queue || (place == k))
-in_joined k place [] = or_none (place == k)
-  where
-    or_none : (b : Bool) → b || false ≡ b
-    or_none true = refl
-    or_none false = refl
-in_joined k place (first ∷ queue) = ap (λ (b : Bool). (first == k) || b) (in_joined k place queue) ∙ or_assoc (first == k) (is_in k queue) (place == k)
+in_joined k place [] = or-false (place == k)
+in_joined k place (first ∷ queue) = ap (λ (b : Bool). (first == k) || b) (in_joined k place queue) ∙ sym (or_assoc (first == k) (is_in k queue) (place == k))
 
 pub distinct_joined : (place : ℕ) (queue : List ℕ) → IsDistinct queue → is_in place queue ≡ false → IsDistinct (queue ++ place ∷ [])
 distinct_joined place [] distinct none = (refl, tt)

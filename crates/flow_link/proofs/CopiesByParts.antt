@@ -1,5 +1,6 @@
 -- Where each part of a network keeps its own laws, what is copied and what is passed over is so: a refusal that was seen is one.
 use Rattle.std.proofs.Common.{◌≡◌, ℕ, ◌<◌, true, ◌&&◌, ◌||◌, not, leb, ltb, List, [], ◌∷◌, ◌++◌, length, take, refl, ap, ◌∙◌, arith, ltb-true}
+use Rattle.std.proofs.lemmas.Bool.{and_parts}
 use Rattle.flow_value.specs.declared.value.Value.{Value}
 use Rattle.flow_value.specs.When.{admits}
 use Rattle.flow_link.specs.declared.draft.BlockKind.{BlockKind}
@@ -12,7 +13,7 @@ use Rattle.flow_link.specs.Trace.{Run, took, gave_over, is_used_up, block_of, li
 use Rattle.flow_link.specs.Law.{LinkOrder, is_own_mark, is_passed, gives_in_order, keeps_link_order}
 use Rattle.flow_link.specs.Copies.{Copies, copies, copies_as, elements, newest_left, owes, carries_all, carries_first, carried_of, broadcasts_over, is_served, gives_it_once}
 use Rattle.flow_link.specs.Composes.{Ends, PartsKeep, as_seen, is_refused_phase}
-use Rattle.flow_link.proofs.ListTests.{both_of, every_below, every_weaker_below, or_weaker, and_weaker}
+use Rattle.flow_link.proofs.ListTests.{every_below, every_weaker_below, or_weaker, and_weaker}
 use Rattle.flow_link.proofs.EndingsByParts.{refusal, refused_stage}
 
 module _ {W : Type 0} (run : Run W) (ends : ℕ → Ends) (keep : PartsKeep run ends) where
@@ -119,8 +120,8 @@ module _ {W : Type 0} (run : Run W) (ends : ℕ → Ends) (keep : PartsKeep run 
       → gives_in_order (as_seen run ends) b before marks ≡ true → gives_in_order run b before marks ≡ true
   order_so b before [] own e = refl
   order_so b before (Gave link value ∷ marks) own e =
-      let mine = both_of (is_own_mark run b (Gave link value)) (every (is_own_mark run b) marks) own in
-      let known = both_of (ltb link (length run.layout.links)) (begins_at b (link_of run link).source) mine.0 in
+      let mine = and_parts (is_own_mark run b (Gave link value)) (every (is_own_mark run b) marks) own in
+      let known = and_parts (ltb link (length run.layout.links)) (begins_at b (link_of run link).source) mine.0 in
       let small : link < length run.layout.links = ltb-true link (length run.layout.links) known.0 in
       and_weaker
       (every (is_passed (as_seen run ends) b before value) (below link)) (gives_in_order (as_seen run ends) b (before ++ Gave link value ∷ []) marks)
@@ -130,9 +131,9 @@ module _ {W : Type 0} (run : Run W) (ends : ℕ → Ends) (keep : PartsKeep run 
       (order_so b (before ++ Gave link value ∷ []) marks mine.1)
       e
   order_so b before (Took port link value ∷ marks) own e =
-      order_so b before marks (both_of (is_own_mark run b (Took port link value)) (every (is_own_mark run b) marks) own).1 e
+      order_so b before marks (and_parts (is_own_mark run b (Took port link value)) (every (is_own_mark run b) marks) own).1 e
   order_so b before (Complete port ∷ marks) own e =
-      order_so b before marks (both_of (is_own_mark run b (Complete port)) (every (is_own_mark run b) marks) own).1 e
+      order_so b before marks (and_parts (is_own_mark run b (Complete port)) (every (is_own_mark run b) marks) own).1 e
   order_so b before (Fault number ∷ marks) own e = order_so b before marks own e
   order_so b before (Done ∷ marks) own e = order_so b before marks own e
 

@@ -10,6 +10,7 @@ use Rattle.flow_link.specs.Layout.{input_link, input_links, exit_link, exit_link
 use Rattle.flow_link.specs.Lists.{below}
 use Rattle.flow_link.specs.Plan.{block_in, link_in, named_link, named_links}
 use Rattle.flow_link.proofs.FirstOfEachFault.{named_link_at, length-named_links, find_of_images, fails_from, none_image}
+use Rattle.flow_link.proofs.ListTests.{never_both}
 
 -- what holds of each link of a list
 abbrev pub Each : (Link → Type 0) → List Link → Type 0
@@ -32,13 +33,9 @@ each_cond P false link links here rest = rest
 abbrev pub Fails : (Link → Bool) → Link → Type 0
 Fails test link = test link ≡ false
 
-pub both_ways : (b : Bool) → b ≡ true → b ≡ false → ⊥
-both_ways true is not_so = cc
-both_ways false is not_so = cc
-
 pub in_front : (test : Link → Bool) (first last : List Link) (k : ℕ) → Each (Fails test) last → k < length (first ++ last)
     → test (link_in (first ++ last) k) ≡ true → (k < length first) × (test (link_in first k) ≡ true)
-in_front test [] last k none small e = absurd (both_ways (test (link_in last k)) e (none k small))
+in_front test [] last k none small e = never_both (test (link_in last k)) e (none k small)
 in_front test (link ∷ first) last zero none small e = (omega arith, e)
 in_front test (link ∷ first) last (suc k) none small e =
     let rest = in_front test first last k none (omega arith) e in

@@ -1,5 +1,6 @@
 -- Where each part of a network keeps its own laws, what ends has a cause in the trace, and what is copied or passed over is so.
 use Rattle.std.proofs.Common.{◌≡◌, ℕ, ◌+◌, ◌<◌, ◌≤◌, inr, Bool, true, false, ◌&&◌, not, is_some, List, length, drop, Option, Some, None, refl, ap, sym, subst, ◌∙◌, arith, le-leb, leb-true, ne_eqb, eqb-true, eq-eqb}
+use Rattle.std.proofs.lemmas.Bool.{and_from, and_parts, or_left, or_right, not_from_false}
 use Rattle.flow_value.specs.declared.value.Value.{Value}
 use Rattle.flow_link.specs.declared.phase.Phase.{Phase}
 use Rattle.flow_link.specs.declared.phase.Phase.TheVariants.{Refused}
@@ -22,7 +23,7 @@ use Rattle.flow_link.specs.Law.{Counts, has_room_for, is_within_capacity, takes_
 use Rattle.flow_link.specs.Endings.{Endings, own_fault, is_number, is_complete_ending, is_fault_ending, passes_on, brings_from, brings_completion, faults_from, brings_fault, has_cause, has_causes, refuses_rightly, is_rightly_refused, stops_at, completes_once_at, ends_rightly}
 use Rattle.flow_link.specs.Composes.{Ends, PartsKeep, facts_of, is_refused_phase, is_refused_stage, has_seen_completion, has_seen_fault, coming, has_room_at, has_seen_cause}
 use Rattle.flow_link.proofs.LinksTell.{links_tell}
-use Rattle.flow_link.proofs.ListTests.{and_true, both_of, or_first, or_second, or_not, every_below, every_weaker, or_weaker, some_weaker_below, drop_all}
+use Rattle.flow_link.proofs.ListTests.{or_not, every_below, every_weaker, or_weaker, some_weaker_below, drop_all}
 use Rattle.flow_link.proofs.LinksByParts.{source_keeps, target_keeps, given_is, taken_is}
 
 completion_stage : (stage : TargetStage Value) → has_seen_completion stage ≡ true → stage ≡ TargetStage.ended end_complete
@@ -38,10 +39,6 @@ not_refused _ h = refl
 pub refused_stage : (stage : SourceStage) → is_refused_stage stage ≡ true → stage ≡ SourceStage.refused
 refused_stage SourceStage.refused e = refl
 refused_stage _ e = cc
-
-not_of_false : (b : Bool) → b ≡ false → not b ≡ true
-not_of_false true e = cc
-not_of_false false e = refl
 
 -- where there is room for one more, not all have crossed
 not_used_up : (max : Option ℕ) (before : ℕ) (given values : List Value) → before ≡ 0 → given ≡ values → HasRoom max (before + length given) → is_used_up max values ≡ false
@@ -84,12 +81,12 @@ module _ {W : Type 0} (run : Run W) (ends : ℕ → Ends) (keep : PartsKeep run 
   passes_so : (l b : ℕ) (how : LinkEnd) → l < length run.layout.links → (link_of run l).source ≡ Block b
       → (ends l).target.stage ≡ TargetStage.ended how → PassesOn (facts_of run ends l) (crossed (ends l).source) → passes_on run l ≡ true
   passes_so l b how small es e passes =
-      and_true ((link_of run l).propagate && not (is_cut run l)) (not (is_refused run l))
-      (and_true (link_of run l).propagate (not (is_cut run l)) passes.propagates
-      (not_of_false (is_cut run l)
+      and_from ((link_of run l).propagate && not (is_cut run l)) (not (is_refused run l))
+      (and_from (link_of run l).propagate (not (is_cut run l)) passes.propagates
+      (not_from_false (is_cut run l)
       (not_used_up (link_of run l).max (ends l).source.before (ends l).source.given (given_over run l)
       (source_keeps run ends keep l b small es).from_start (given_is run ends keep l b small es) passes.not_cut)))
-      (not_of_false (is_refused run l) (not_refused_so l how small e))
+      (not_from_false (is_refused run l) (not_refused_so l how small e))
 
   -- an input whose block has seen the end has nothing waiting
   none_waits : (l s : ℕ) (t : LinkTarget) (how : LinkEnd) → l < length run.layout.links → (link_of run l).target ≡ t
@@ -105,13 +102,13 @@ module _ {W : Type 0} (run : Run W) (ends : ℕ → Ends) (keep : PartsKeep run 
       → ((link_of run l).target ≡ Exit → ⊥) → (ends l).target.stage ≡ TargetStage.ended end_complete → brings_from run l s ≡ true
   completion_comes l (Block b) small es port e =
       let told = ended_so l end_complete small e in
-      and_true (passes_on run l) (is_done (marks_of run b))
+      and_from (passes_on run l) (is_done (marks_of run b))
       (passes_so l b end_complete small es e told.by_rule)
       ((source_keeps run ends keep l b small es).after_done told.by_source)
   completion_comes l (Input b) small es port e =
       let told = ended_so l end_complete small e in
       let mine = (keep.inputs l b small es).after_complete told.by_source in
-      and_true (is_complete_ending (input_of run b).ending) (is_empty (waits_over run b l))
+      and_from (is_complete_ending (input_of run b).ending) (is_empty (waits_over run b l))
       (ap is_complete_ending mine.0)
       (none_waits l b (link_of run l).target end_complete small refl e mine.1 port)
 
@@ -125,13 +122,13 @@ module _ {W : Type 0} (run : Run W) (ends : ℕ → Ends) (keep : PartsKeep run 
       → ((link_of run l).target ≡ Exit → ⊥) → (ends l).target.stage ≡ TargetStage.ended (end_fault fault) → faults_from run fault l s ≡ true
   fault_comes fault l (Block b) small es port e =
       let told = ended_so l (end_fault fault) small e in
-      and_true (passes_on run l) (has_fault fault (marks_of run b))
+      and_from (passes_on run l) (has_fault fault (marks_of run b))
       (passes_so l b (end_fault fault) small es e told.by_rule)
       ((source_keeps run ends keep l b small es).after_fault fault told.by_source)
   fault_comes fault l (Input b) small es port e =
       let told = ended_so l (end_fault fault) small e in
       let mine = (keep.inputs l b small es).after_fault fault told.by_source in
-      and_true (is_fault_ending fault (input_of run b).ending) (is_empty (waits_over run b l))
+      and_from (is_fault_ending fault (input_of run b).ending) (is_empty (waits_over run b l))
       (ap (is_fault_ending fault) mine.0 ∙ eq-eqb fault fault refl)
       (none_waits l b (link_of run l).target (end_fault fault) small refl e mine.1 port)
 
@@ -148,8 +145,8 @@ module _ {W : Type 0} (run : Run W) (ends : ℕ → Ends) (keep : PartsKeep run 
       let has : Bool = is_write_once (block_of run b).kind && not (is_empty (took_at p (marks_of run b))) in
       or_weaker (some seen (link_numbers run)) has (some brings (link_numbers run)) has
       (some_weaker_below seen brings (length run.layout.links)
-      (λ l small e. let both = both_of (ends_at_port b p (link_of run l).target) (has_seen_completion (ends l).target.stage) e in
-      and_true (ends_at_port b p (link_of run l).target) (brings_completion run l) both.0
+      (λ l small e. let both = and_parts (ends_at_port b p (link_of run l).target) (has_seen_completion (ends l).target.stage) e in
+      and_from (ends_at_port b p (link_of run l).target) (brings_completion run l) both.0
       (completion_comes l (link_of run l).source small refl (no_exit_at_port b p (link_of run l).target both.0)
       (completion_stage (ends l).target.stage both.1))))
       (λ e. e)
@@ -160,8 +157,8 @@ module _ {W : Type 0} (run : Run W) (ends : ℕ → Ends) (keep : PartsKeep run 
       or_weaker (is_number fault (own_fault run b)) (some seen (link_numbers run)) (is_number fault (own_fault run b)) (some brings (link_numbers run))
       (λ e. e)
       (some_weaker_below seen brings (length run.layout.links)
-      (λ l small e. let both = both_of (ends_at b (link_of run l).target) (has_seen_fault fault (ends l).target.stage) e in
-      and_true (ends_at b (link_of run l).target) (brings_fault run fault l) both.0
+      (λ l small e. let both = and_parts (ends_at b (link_of run l).target) (has_seen_fault fault (ends l).target.stage) e in
+      and_from (ends_at b (link_of run l).target) (brings_fault run fault l) both.0
       (fault_comes fault l (link_of run l).source small refl (no_exit_at b (link_of run l).target both.0)
       (fault_stage fault (ends l).target.stage both.1))))
       e
@@ -172,9 +169,9 @@ module _ {W : Type 0} (run : Run W) (ends : ℕ → Ends) (keep : PartsKeep run 
   refuses_so : (l : ℕ) (t : LinkTarget) → l < length run.layout.links → (link_of run l).target ≡ t
       → (why : Refusal) → (ends l).target.stage ≡ TargetStage.refused why → refuses_rightly run t ≡ true
   refuses_so l (Port b p) small et Refusal.port_ended e =
-      or_first (has_ended p (marks_of run b)) (is_some (own_fault run b)) ((target_keeps run ends keep l b p small et).refuses Refusal.port_ended e)
+      or_left (has_ended p (marks_of run b)) (is_some (own_fault run b)) ((target_keeps run ends keep l b p small et).refuses Refusal.port_ended e)
   refuses_so l (Port b p) small et Refusal.own_fault e =
-      or_second (has_ended p (marks_of run b)) (is_some (own_fault run b)) ((target_keeps run ends keep l b p small et).refuses Refusal.own_fault e)
+      or_right (has_ended p (marks_of run b)) (is_some (own_fault run b)) ((target_keeps run ends keep l b p small et).refuses Refusal.own_fault e)
   refuses_so l Exit small et why e = absurd ((keep.exits l small et).takes why e)
 
   refused_phase : (phase : Phase) → is_refused_phase phase ≡ true → phase ≡ Refused

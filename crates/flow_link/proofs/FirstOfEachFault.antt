@@ -2,6 +2,7 @@
 use Rattle.std.proofs.Common.{◌≡◌, ℕ, zero, suc, ◌+◌, ◌<◌, Bool, true, false, cond, not, ◌&&◌, ◌||◌, List, [], ◌∷◌, ◌++◌, length, map, Option, Some, None, get_or, take, is_none, is_some, unwrap_or, ◌==◌, refl, ap, sym, ◌∙◌, subst, arith}
 use Rattle.std.specs.List.{find, position}
 use Rattle.std.specs.Option.{option_or, option_map}
+use Rattle.std.proofs.lemmas.Bool.{or_left}
 use Rattle.std.proofs.lemmas.List.{get_or-map, get_or_default}
 use Rattle.std.proofs.lemmas.List.Folds.{find-append}
 use Rattle.flow_link.specs.declared.draft.BlockDef.{BlockDef}
@@ -17,8 +18,7 @@ use Rattle.flow_link.specs.Plan.{block_named, block_in, link_in, named_link, nam
 use Rattle.flow_link.specs.PlanFaults.{lacks_port, lacks_output, options_fit, is_in, holds_no_group, stands, walks, faults_in_order, first_plan_fault}
 use Rattle.flow_link.specs.NotBuilt.{stands_now, first_at, name_faults, end_faults, option_faults, is_built_kind, is_built_block, is_bad_block, is_built_link, is_further_link, first_fault_now}
 use Rattle.flow_link.specs.Layout.{IsLaidOut}
-use Rattle.flow_link.proofs.LinksLaidOut.{laid_out_of}
-use Rattle.flow_link.proofs.ListTests.{or_first}
+use Rattle.flow_link.proofs.LinksLaidOut.{laid_out_of, none_step}
 use Rattle.flow_link.proofs.FirstInOrder.{position_is_first, none_below}
 
 module _ {W : Type 0} (blocks : List (BlockDef W)) where
@@ -300,10 +300,6 @@ module _ {W : Type 0} (blocks : List (BlockDef W)) (links : List LinkDef) where
 some_is_none : {A : Type 0} (x : A) → Some x ≡ None → ⊥
 some_is_none x e = cc
 
-one_none : {A : Type 0} (b : Bool) (x : A) (o : Option A) → cond b (Some x) o ≡ None → (b ≡ false) × (o ≡ None)
-one_none true x o e = absurd (some_is_none x e)
-one_none false x o e = (refl, e)
-
 contrary : (a b : Bool) → (a ≡ true → b ≡ true) → b ≡ false → a ≡ false
 contrary true b implies e = let h = implies refl in cc
 contrary false b implies e = refl
@@ -313,17 +309,17 @@ none_of_stronger : {A : Type 0} (strong weak : A → Bool) (xs : List A) → ((x
     → find weak xs ≡ None → find strong xs ≡ None
 none_of_stronger strong weak [] implies e = refl
 none_of_stronger strong weak (x ∷ xs) implies e =
-    let step = one_none (weak x) x (find weak xs) e in
+    let step = none_step (weak x) x (find weak xs) e in
     rw (contrary (strong x) (weak x) (implies x) step.0) (none_of_stronger strong weak xs implies step.1)
 
 module _ {W : Type 0} (blocks : List (BlockDef W)) (links : List LinkDef) where
   -- what stands by the format stands now
   pub stands_then_now : (fault : PlanFault) → stands blocks links fault ≡ true → stands_now blocks links fault ≡ true
   unfolding is_bad_block
-  stands_then_now (BadOption (Block b)) e = or_first (not (options_fit (block_in blocks b))) (not (is_built_block (block_in blocks b))) e
+  stands_then_now (BadOption (Block b)) e = or_left (not (options_fit (block_in blocks b))) (not (is_built_block (block_in blocks b))) e
   stands_then_now (BadOption (at_link l)) e =
-      or_first _ (is_further_link blocks (named_links blocks links) l)
-      (or_first (not (is_in 1 2147483647 (link_in (named_links blocks links) l).max)) (get_or (map (λ link. not (is_built_link link)) links) l false) e)
+      or_left _ (is_further_link blocks (named_links blocks links) l)
+      (or_left (not (is_in 1 2147483647 (link_in (named_links blocks links) l).max)) (get_or (map (λ link. not (is_built_link link)) links) l false) e)
   stands_then_now Limit e = e
   stands_then_now (DuplicateName b) e = e
   stands_then_now (UnknownBlock l) e = e

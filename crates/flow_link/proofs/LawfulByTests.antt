@@ -1,18 +1,18 @@
 -- A run whose tests all pass is lawful, or quiet.
 use Rattle.std.proofs.Common.{◌≡◌, ℕ, zero, suc, ◌==◌, Bool, true, ◌&&◌, List, [], ◌∷◌, length, get_or, refl, eqb-true}
+use Rattle.std.proofs.lemmas.Bool.{and_parts}
 use Rattle.flow_link.specs.Trace.{Run, block_numbers}
 use Rattle.flow_link.specs.Lists.{every}
 use Rattle.flow_link.specs.Shape.{Shape, input_count, tells_each_port}
 use Rattle.flow_link.specs.Tests.{all_pass, is_in_shape, law_tests, quiet_tests}
 use Rattle.flow_link.specs.Lawful.{Lawful}
 use Rattle.flow_link.specs.Quiet.{Quiet}
-use Rattle.flow_link.proofs.ListTests.{both_of}
 
 -- each test passes
 pub test_passes : (tests : List Bool) (k : ℕ) → all_pass tests ≡ true → get_or tests k true ≡ true
 test_passes [] k e = refl
-test_passes (test ∷ tests) zero e = (both_of test (all_pass tests) e).0
-test_passes (test ∷ tests) (suc k) e = test_passes tests k (both_of test (all_pass tests) e).1
+test_passes (test ∷ tests) zero e = (and_parts test (all_pass tests) e).0
+test_passes (test ∷ tests) (suc k) e = test_passes tests k (and_parts test (all_pass tests) e).1
 
 module _ {W : Type 0} (run : Run W) where
   in_shape : is_in_shape run ≡ true → Shape run
@@ -20,8 +20,8 @@ module _ {W : Type 0} (run : Run W) where
       let blocks = length run.trace.blocks == length run.layout.blocks in
       let inputs = length run.trace.inputs == input_count run in
       let ports = every (tells_each_port run) (block_numbers run) in
-      let all = both_of (blocks && inputs) ports e in
-      let counts = both_of blocks inputs all.0 in
+      let all = and_parts (blocks && inputs) ports e in
+      let counts = and_parts blocks inputs all.0 in
       record {
         blocks = eqb-true (length run.trace.blocks) (length run.layout.blocks) counts.0;
         inputs = eqb-true (length run.trace.inputs) (input_count run) counts.1;

@@ -1,5 +1,6 @@
 -- Where no end has a move, each link is at rest; and what its two ends know of it then.
 use Rattle.std.proofs.Common.{◌≡◌, ℕ, zero, suc, ◌+◌, ◌<◌, ⊎_elim, Bool, true, false, ◌&&◌, List, length, Option, refl, ap, arith}
+use Rattle.std.proofs.lemmas.Bool.{and_parts, false_from_ne_true}
 use Rattle.flow_value.specs.declared.value.Value.{Value}
 use Rattle.flow_link.specs.declared.phase.LinkEnd.TheVariants.{Plain, Complete as end_complete, Fault as end_fault}
 use Rattle.flow_link.specs.declared.phase.Phase.{Phase}
@@ -16,22 +17,14 @@ use Rattle.flow_link.specs.Trace.{Run, link_of}
 use Rattle.flow_link.specs.Views.{SourceStage, TargetStage, Refusal}
 use Rattle.flow_link.specs.Composes.{Ends, PartsKeep, facts_of}
 use Rattle.flow_link.specs.RestsByParts.{LinksRest, EndsAreStill, LinkSeen, has_offer_out, asks_somewhere, is_at_rest, is_over, is_to_hand_over, is_wished_for, is_out, is_postponed, is_asking, is_holding, is_to_receive, has_seen_end}
-use Rattle.flow_link.proofs.ListTests.{both_of}
 use Rattle.flow_link.proofs.LooksKeepOrder.{looks_keep}
-
-pub never_both : {P : Type 0} (b : Bool) → b ≡ true → b ≡ false → P
-never_both true is not_so = absurd (cc)
-never_both false is not_so = absurd (cc)
-
-pub false_where : (b : Bool) → (b ≡ true → ⊥) → b ≡ false
-false_where true h = absurd (h refl)
-false_where false h = refl
+use Rattle.flow_link.proofs.ListTests.{never_both}
 
 nowhere_from : (test : ℕ → Bool) (first count : ℕ) → ((k : ℕ) → k < first + count → test k ≡ true → ⊥)
     → some test (numbers_from first count) ≡ false
 nowhere_from test first zero h = refl
 nowhere_from test first (suc count) h =
-    rw (false_where (test first) (h first (omega arith)))
+    rw (false_from_ne_true (test first) (h first (omega arith)))
     (nowhere_from test (suc first) count (λ k small. h k (omega arith)))
 
 -- no number below a bound passes a test that none can pass
@@ -143,7 +136,7 @@ module _ {W : Type 0} (run : Run W) (ends : ℕ → Ends) (keep : PartsKeep run 
     none_out : (b : ℕ) → has_offer_out run ends b ≡ false
     none_out b =
         nowhere (λ l. begins_at b (link_of run l).source && is_out (ends l).source.stage) (length run.layout.links)
-        (λ l small e. let out = (both_of (begins_at b (link_of run l).source) (is_out (ends l).source.stage) e).1 in
+        (λ l small e. let out = (and_parts (begins_at b (link_of run l).source) (is_out (ends l).source.stage) e).1 in
         never_both (is_to_receive (ends l).target.stage)
         (out_is_offered (ends l).phase (ends l).source.stage (ends l).target.stage (stages l small) out)
         (receives l (link_of run l).target small refl))
@@ -152,7 +145,7 @@ module _ {W : Type 0} (run : Run W) (ends : ℕ → Ends) (keep : PartsKeep run 
     answers : (l : ℕ) (s : LinkSource) → l < length run.layout.links → (link_of run l).source ≡ s
         → is_wished_for (ends l).source.stage ≡ false
     answers l (Block b) small es =
-        false_where (is_wished_for (ends l).source.stage)
+        false_from_ne_true (is_wished_for (ends l).source.stage)
         (λ wished. never_both (has_offer_out run ends b)
         ((still.nodes b (keep.from_blocks l b small es)).answers l small es wished) (none_out b))
     answers l (Input b) small es = (still.inputs l b small es).answers
@@ -160,7 +153,7 @@ module _ {W : Type 0} (run : Run W) (ends : ℕ → Ends) (keep : PartsKeep run 
     none_asks : (b : ℕ) → asks_somewhere run ends b ≡ false
     none_asks b =
         nowhere (λ l. ends_at b (link_of run l).target && is_asking (ends l).target.stage) (length run.layout.links)
-        (λ l small e. let asks = (both_of (ends_at b (link_of run l).target) (is_asking (ends l).target.stage) e).1 in
+        (λ l small e. let asks = (and_parts (ends_at b (link_of run l).target) (is_asking (ends l).target.stage) e).1 in
         never_both (is_wished_for (ends l).source.stage)
         (asking_is_wished (ends l).phase (ends l).source.stage (ends l).target.stage (stages l small) asks)
         (answers l (link_of run l).source small refl))
@@ -169,7 +162,7 @@ module _ {W : Type 0} (run : Run W) (ends : ℕ → Ends) (keep : PartsKeep run 
     claims : (l : ℕ) (t : LinkTarget) → l < length run.layout.links → (link_of run l).target ≡ t
         → is_holding (ends l).target.stage ≡ false
     claims l (Port b p) small et =
-        false_where (is_holding (ends l).target.stage)
+        false_from_ne_true (is_holding (ends l).target.stage)
         (λ holds. never_both (asks_somewhere run ends b)
         ((still.nodes b (keep.to_blocks l b p small et)).claims l p small et holds) (none_asks b))
     claims l Exit small et = (still.exits l small et).claims

@@ -1,5 +1,6 @@
 -- Where each part of a network keeps its own laws, what crosses is in order, and each block makes what its kind makes.
 use Rattle.std.proofs.Common.{◌≡◌, ℕ, ◌+◌, ◌<◌, ⊎_elim, true, leb, List, [], ◌∷◌, ◌++◌, length, Option, Some, None, refl, ap, sym, subst, ◌∙◌, arith, le-leb}
+use Rattle.std.proofs.lemmas.Bool.{and_from}
 use Rattle.std.proofs.lemmas.List.{length-append}
 use Rattle.flow_value.specs.When.{admits}
 use Rattle.flow_value.specs.declared.value.Value.{Value}
@@ -17,17 +18,17 @@ use Rattle.flow_link.specs.Making.{Making, makes, makes_as, results_of, block_re
 use Rattle.flow_link.specs.Law.{LinkLaw, OneTaker, is_all_or_all_but_one, is_within, crosses, crosses_between, gives_admitted, gives_within, posted_before, takes_posted, has_own_marks}
 use Rattle.flow_link.specs.Composes.{Ends, SourceKeeps, TargetKeeps, WorksInto, NodeMakes, PartsKeep, facts_of}
 use Rattle.flow_link.proofs.LinksTell.{links_tell}
-use Rattle.flow_link.proofs.ListTests.{and_true, every_below, same_values_where, front_append, front_refl, front_of_front, front_without}
+use Rattle.flow_link.proofs.ListTests.{every_below, same_values_where, front_append, front_refl, front_of_front, front_without}
 
 -- all but one is a front that is shorter by one
 pub all_or_all_but_one : (given taken : List Value) → IsTakenOrUnderWay given taken → is_all_or_all_but_one given taken ≡ true
 all_or_all_but_one given taken how =
     ⊎_elim
     (λ e. let P : List Value → Type 0 = λ all. is_all_or_all_but_one all taken ≡ true in
-    subst P (sym e) (and_true (is_front taken taken) (leb (length taken) (length taken + 1)) (front_refl taken) (le-leb (length taken) (length taken + 1) (omega arith))))
+    subst P (sym e) (and_from (is_front taken taken) (leb (length taken) (length taken + 1)) (front_refl taken) (le-leb (length taken) (length taken + 1) (omega arith))))
     (λ one. let P : List Value → Type 0 = λ all. is_all_or_all_but_one all taken ≡ true in
     subst P (sym one.1)
-    (and_true (is_front taken (taken ++ one.0 ∷ [])) (leb (length (taken ++ one.0 ∷ [])) (length taken + 1))
+    (and_from (is_front taken (taken ++ one.0 ∷ [])) (leb (length (taken ++ one.0 ∷ [])) (length taken + 1))
     (front_append taken (one.0 ∷ []))
     (le-leb (length (taken ++ one.0 ∷ [])) (length taken + 1) (omega (arith, length-append taken (one.0 ∷ []))))))
     how
@@ -133,7 +134,7 @@ module _ {W : Type 0} (run : Run W) (ends : ℕ → Ends) (keep : PartsKeep run 
       rw into.taken (front_without into.done (held_at run b 0)) in
       let made_of : is_made (results_of (block_result run b) (worked run b)) made ≡ true =
       rw (front, into.worked) (same_values_where (concat into.results) made (sym into.all)) in
-      and_true
+      and_from
       (same_values (took (marks_of run b)) (worked run b ++ held_at run b 0))
       (is_made (results_of (block_result run b) (worked run b)) made)
       (same_values_where (took (marks_of run b)) (worked run b ++ held_at run b 0)
@@ -145,7 +146,7 @@ module _ {W : Type 0} (run : Run W) (ends : ℕ → Ends) (keep : PartsKeep run 
   makes_so b Broadcast e = e
   makes_so b WriteOnce e = e
   makes_so b Action records =
-      and_true (work_makes run b (trace_of run b).recorded) (is_empty (left_at run b))
+      and_from (work_makes run b (trace_of run b).recorded) (is_empty (left_at run b))
       (work_makes_so b (trace_of run b).recorded records.works)
       (ap is_empty records.none_left)
   makes_so b Transform into = work_makes_so b (outputs run b) into

@@ -3,7 +3,7 @@ use Rattle.std.proofs.Common.{◌≡◌, ℕ, suc, ◌+◌, ◌-◌, ◌<◌, lt
 use Rattle.std.specs.List.{position, position_from}
 use Rattle.std.specs.Str.{bytes_eq}
 use Rattle.std.proofs.Math.Seq.{take-append_seam}
-use Rattle.std.proofs.lemmas.Bool.{lt-ltb}
+use Rattle.std.proofs.lemmas.Bool.{lt-ltb, and_from, or_parts}
 use Rattle.std.proofs.lemmas.List.{map_more}
 use Rattle.std.proofs.lemmas.List.Quantifiers.{position-Some}
 use Rattle.std.proofs.lemmas.Iterator.Adapters.{position_from-zero}
@@ -13,7 +13,6 @@ use Rattle.flow_link.specs.declared.plan.Link.{Link}
 use Rattle.flow_link.specs.Lists.{every}
 use Rattle.flow_link.specs.Layout.{IsLaidOut, input_link, input_links, exit_link, exit_links, outer_links, between_of, is_between_blocks}
 use Rattle.flow_link.specs.Plan.{block_named, named_link, named_links, planned_links, no_block}
-use Rattle.flow_link.proofs.ListTests.{and_true}
 
 module _ {W : Type 0} (blocks : List (BlockDef W)) where
   named_links_are : (links : List LinkDef) → named_links blocks links ≡ map (named_link blocks) links
@@ -68,13 +67,9 @@ option_is_some x e = cc
 true_is_false : true ≡ false → ⊥
 true_is_false e = cc
 
-none_step : {A : Type 0} (b : Bool) (x : A) (o : Option A) → cond b (Some x) o ≡ None → (b ≡ false) × (o ≡ None)
+pub none_step : {A : Type 0} (b : Bool) (x : A) (o : Option A) → cond b (Some x) o ≡ None → (b ≡ false) × (o ≡ None)
 none_step true x o e = absurd (option_is_some x (sym e))
 none_step false x o e = (refl, e)
-
-pub neither : (a b : Bool) → (a || b) ≡ false → (a ≡ false) × (b ≡ false)
-neither true b e = (e, absurd (true_is_false e))
-neither false b e = (refl, e)
 
 is_there : (o : Option ℕ) → is_none o ≡ false → o ≡ Some (unwrap_or o 0)
 is_there None e = absurd (true_is_false e)
@@ -95,9 +90,9 @@ module _ {W : Type 0} (blocks : List (BlockDef W)) where
   all_known [] first e = refl
   all_known (link ∷ links) first e =
       let step = none_step (is_none (block_named blocks link.from) || is_none (block_named blocks link.to)) first _ e in
-      let known = neither (is_none (block_named blocks link.from)) (is_none (block_named blocks link.to)) step.0 in
-      and_true (is_between_blocks (length blocks) (named_link blocks link)) (every (is_between_blocks (length blocks)) (named_links blocks links))
-      (and_true (ltb (unwrap_or (block_named blocks link.from) 0) (length blocks)) (ltb (unwrap_or (block_named blocks link.to) 0) (length blocks))
+      let known = or_parts (is_none (block_named blocks link.from)) (is_none (block_named blocks link.to)) step.0 in
+      and_from (is_between_blocks (length blocks) (named_link blocks link)) (every (is_between_blocks (length blocks)) (named_links blocks links))
+      (and_from (ltb (unwrap_or (block_named blocks link.from) 0) (length blocks)) (ltb (unwrap_or (block_named blocks link.to) 0) (length blocks))
       (known_below link.from known.0) (known_below link.to known.1))
       (all_known links (first + 1) step.1)
 

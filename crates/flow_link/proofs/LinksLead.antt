@@ -1,6 +1,7 @@
 -- The links of a plan lead from blocks and inputs that are there, to blocks that are there. No two lead from one input, and
 -- those of inputs have no limit.
 use Rattle.std.proofs.Common.{◌≡◌, ℕ, zero, suc, ◌+◌, ◌<◌, ltb, Bool, true, false, cond, List, [], ◌∷◌, ◌++◌, length, None, refl, ap, sym, subst, arith, ltb-true, append_assoc}
+use Rattle.std.proofs.lemmas.Bool.{and_parts}
 use Rattle.flow_link.specs.declared.draft.BlockDef.{BlockDef}
 use Rattle.flow_link.specs.declared.plan.Link.{Link}
 use Rattle.flow_link.specs.declared.plan.LinkSource.{LinkSource}
@@ -12,7 +13,6 @@ use Rattle.flow_link.specs.LeadsWell.{LinksLead}
 use Rattle.flow_link.specs.Lists.{every}
 use Rattle.flow_link.specs.Plan.{block_in, link_in}
 use Rattle.flow_link.proofs.EachLinkOf.{Each, each_cons, each_append, each_input, each_exit}
-use Rattle.flow_link.proofs.ListTests.{both_of}
 
 -- a link leads from a block or input among so many, to a block among them
 record Well (count : ℕ) (inputs : ℕ → Bool) (link : Link) : Type 0 where
@@ -26,7 +26,7 @@ record Well (count : ℕ) (inputs : ℕ → Bool) (link : Link) : Type 0 where
 joined_well : (count : ℕ) (inputs : ℕ → Bool) (link : Link) (source : LinkSource) (target : LinkTarget) → link.source ≡ source → link.target ≡ target
     → joins count source target ≡ true → Well count inputs link
 joined_well count inputs link (Block s) (Port t p) es et e =
-    let both = both_of (ltb s count) (ltb t count) e in
+    let both = and_parts (ltb s count) (ltb t count) e in
     record {
       from_block = λ n is. let same : s ≡ n = cc in subst (λ (k : ℕ). k < count) same (ltb-true s count both.0);
       from_input = λ n is. absurd (cc);
@@ -41,7 +41,7 @@ joined_well count inputs link (Input b) target es et e = absurd (cc)
 between_well : (count : ℕ) (inputs : ℕ → Bool) (links : List Link) → every (is_between_blocks count) links ≡ true → Each (Well count inputs) links
 between_well count inputs [] e = λ l small. absurd (omega arith)
 between_well count inputs (link ∷ links) e =
-    let both = both_of (is_between_blocks count link) (every (is_between_blocks count) links) e in
+    let both = and_parts (is_between_blocks count link) (every (is_between_blocks count) links) e in
     each_cons (Well count inputs) link links (joined_well count inputs link link.source link.target refl refl both.0)
     (between_well count inputs links both.1)
 
@@ -93,7 +93,7 @@ joined_apart count b link (Input _) target es e is = absurd (cc)
 between_apart : (count b : ℕ) (links : List Link) → every (is_between_blocks count) links ≡ true → Each (NotFrom b) links
 between_apart count b [] e = λ l small. absurd (omega arith)
 between_apart count b (link ∷ links) e =
-    let both = both_of (is_between_blocks count link) (every (is_between_blocks count) links) e in
+    let both = and_parts (is_between_blocks count link) (every (is_between_blocks count) links) e in
     each_cons (NotFrom b) link links (joined_apart count b link link.source link.target refl both.0) (between_apart count b links both.1)
 
 one_cond : (b first : ℕ) (input : Bool) (links : List Link) → (first ≡ b → Each (NotFrom b) links) → AtMostOne b links

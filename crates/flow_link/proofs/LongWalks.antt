@@ -2,10 +2,9 @@
 -- blocks reach the end, until a round adds none, and then no later one does.
 use Rattle.std.proofs.Common.{◌≡◌, ℕ, zero, suc, ◌+◌, ◌-◌, ◌<◌, ◌≤◌, Bool, true, false, cond, not, ◌&&◌, ◌||◌, List, [], ◌∷◌, length, ◌⊎◌, inl, inr, refl, ap, sym, ◌∙◌, subst, arith}
 use Rattle.flow_link.specs.declared.plan.Link.{Link}
-use Rattle.flow_link.specs.Lists.{every, some, numbers_from, below}
+use Rattle.flow_link.specs.Lists.{every, some, below}
 use Rattle.flow_link.specs.PlanFaults.{leads, walks}
-use Rattle.flow_link.proofs.EachLinkOf.{both_ways}
-use Rattle.flow_link.proofs.ListTests.{length_numbers, both_of, or_weaker, and_weaker, some_weaker_below}
+use Rattle.flow_link.proofs.ListTests.{length_numbers, or_weaker, and_weaker, some_weaker_below, never_both, passes_from, at_most_one, counts_no_less}
 use Rattle.flow_link.proofs.RoundsOfWalks.{some_same_below}
 
 abbrev alike : Bool → Bool → Bool
@@ -26,34 +25,27 @@ few : (test : ℕ → Bool) (ns : List ℕ) → how_many test ns ≤ length ns
 few test [] = omega arith
 few test (n ∷ ns) =
     let rest = few test ns in
-    let one : cond (test n) 1 0 ≤ 1 = elim (test n) as (λ b. cond b 1 0 ≤ 1) [ true ↦ omega arith | false ↦ omega arith ] in
-    omega arith
-
-no_fewer_here : (a b : Bool) → (a ≡ true → b ≡ true) → cond a 1 0 ≤ cond b 1 0
-no_fewer_here true true h = omega arith
-no_fewer_here true false h = absurd (both_ways false (h refl) refl)
-no_fewer_here false true h = omega arith
-no_fewer_here false false h = omega arith
+    omega (arith, rest, at_most_one (test n))
 
 more_here : (a b : Bool) → (a ≡ true → b ≡ true) → alike a b ≡ false → cond a 1 0 < cond b 1 0
-more_here true true h e = absurd (both_ways true refl e)
-more_here true false h e = absurd (both_ways false (h refl) refl)
+more_here true true h e = never_both true refl e
+more_here true false h e = never_both false (h refl) refl
 more_here false true h e = omega arith
-more_here false false h e = absurd (both_ways true refl e)
+more_here false false h e = never_both true refl e
 
 no_fewer : (f g : ℕ → Bool) (ns : List ℕ) → ((n : ℕ) → f n ≡ true → g n ≡ true) → how_many f ns ≤ how_many g ns
 no_fewer f g [] h = omega arith
 no_fewer f g (n ∷ ns) h =
     let rest = no_fewer f g ns h in
-    let here = no_fewer_here (f n) (g n) (h n) in
+    let here = counts_no_less (f n) (g n) (h n) in
     omega arith
 
 more : (f g : ℕ → Bool) (ns : List ℕ) → ((n : ℕ) → f n ≡ true → g n ≡ true) → every (λ n. alike (f n) (g n)) ns ≡ false
     → how_many f ns < how_many g ns
-more f g [] h e = absurd (both_ways true refl e)
+more f g [] h e = never_both true refl e
 more f g (n ∷ ns) h e =
     let rest = every (λ k. alike (f k) (g k)) ns in
-    let here = no_fewer_here (f n) (g n) (h n) in
+    let here = counts_no_less (f n) (g n) (h n) in
     let later = no_fewer f g ns h in
     let go : (b : Bool) → alike (f n) (g n) ≡ b → (b && rest) ≡ false → how_many f (n ∷ ns) < how_many g (n ∷ ns) =
     λ b. elim b as (λ v. alike (f n) (g n) ≡ v → (v && rest) ≡ false → how_many f (n ∷ ns) < how_many g (n ∷ ns)) [
@@ -61,15 +53,6 @@ more f g (n ∷ ns) h e =
       | false ↦ λ is none. let first = more_here (f n) (g n) (h n) is in omega arith
     ] in
     go (alike (f n) (g n)) refl e
-
-every_at : (test : ℕ → Bool) (first count k : ℕ) → every test (numbers_from first count) ≡ true → k < count → test (first + k) ≡ true
-every_at test first zero k e low = absurd (omega arith)
-every_at test first (suc count) zero e low =
-    let zeroth : first + 0 ≡ first = omega arith in
-    ap test zeroth ∙ (both_of (test first) (every test (numbers_from (suc first) count)) e).0
-every_at test first (suc count) (suc k) e low =
-    let moved : first + suc k ≡ suc first + k = omega arith in
-    ap test moved ∙ every_at test (suc first) count k (both_of (test first) (every test (numbers_from (suc first) count)) e).1 (omega arith)
 
 module _ (links : List Link) (count end : ℕ) where
   -- the end is reached from this block over at most so many links
@@ -81,7 +64,7 @@ module _ (links : List Link) (count end : ℕ) where
   settles steps = every (λ block. alike (reach steps block) (reach (suc steps) block)) (below count)
 
   stays_reached : (steps block : ℕ) → reach steps block ≡ true → reach (suc steps) block ≡ true
-  stays_reached zero block e = absurd (both_ways false e refl)
+  stays_reached zero block e = never_both false e refl
   stays_reached (suc steps) block e =
       or_weaker (leads links block end) (some (λ c. leads links block c && reach steps c) (below count))
       (leads links block end) (some (λ c. leads links block c && reach (suc steps) c) (below count)) (λ h. h)
@@ -102,7 +85,7 @@ module _ (links : List Link) (count end : ℕ) where
       let zeroth : 0 + block ≡ block = omega arith in
       alike_is (reach steps block) (reach (suc steps) block)
       (ap (λ n. alike (reach steps n) (reach (suc steps) n)) (sym zeroth)
-      ∙ every_at (λ n. alike (reach steps n) (reach (suc steps) n)) 0 count block e low)
+      ∙ passes_from (λ n. alike (reach steps n) (reach (suc steps) n)) 0 count block e low)
 
   -- and then no later round adds one
   settled_later : (later steps block : ℕ) → settles steps ≡ true → block < count → reach (later + steps) block ≡ reach steps block
@@ -154,7 +137,7 @@ module _ (links : List Link) (count end : ℕ) where
             let whole : (count - k) + k ≡ count = omega arith in
             let late : reach (steps + k) block ≡ true = ap (λ n. reach n block) (sym turned) ∙ reached_later k steps block is in
             let soon : reach k block ≡ true = sym (settled_later steps k block settled.2 low) ∙ late in
-            absurd (both_ways (reach count block) (ap (λ n. reach n block) (sym whole) ∙ reached_later (count - k) k block soon) e)
+            never_both (reach count block) (ap (λ n. reach n block) (sym whole) ∙ reached_later (count - k) k block soon) e
         | false ↦ λ is. is
       ] in
       go (reach steps block) refl

@@ -1,5 +1,6 @@
 -- What one more mark changes of what a journal says.
 use Rattle.std.proofs.Common.{◌≡◌, ℕ, Bool, true, false, ◌||◌, List, [], ◌∷◌, ◌++◌, ◌⊎◌, refl, ap, ◌∙◌, inl, inr, ⊎_elim, append-nil}
+use Rattle.std.proofs.lemmas.Bool.{and_from, and_parts, or_left, or_right, or_cases, or_from}
 use Rattle.flow_value.specs.declared.value.Value.{Value}
 use Rattle.flow_link.specs.declared.trace.Mark.{Mark}
 use Rattle.flow_link.specs.declared.trace.Mark.TheVariants.{Took, Gave}
@@ -7,41 +8,33 @@ use Rattle.flow_link.specs.JournalGrows.{taken_by_mark, given_by_mark}
 use Rattle.flow_link.specs.Lists.{every, some}
 use Rattle.flow_link.specs.Trace.{took, gave}
 use Rattle.flow_link.proofs.JournalsGrow.{took_more, gave_more}
-use Rattle.flow_link.proofs.ListTests.{and_true, both_of, or_first, or_second}
 
 -- a test of one more element
 pub every_more : {A : Type 0} (test : A → Bool) (xs : List A) (x : A) → every test xs ≡ true → test x ≡ true → every test (xs ++ x ∷ []) ≡ true
-every_more test [] x all last = and_true (test x) true last refl
+every_more test [] x all last = and_from (test x) true last refl
 every_more test (y ∷ ys) x all last =
-    let both = both_of (test y) (every test ys) all in
-    and_true (test y) (every test (ys ++ x ∷ [])) both.0 (every_more test ys x both.1 last)
-
-one_of : (b c : Bool) → b || c ≡ true → (b ≡ true) ⊎ (c ≡ true)
-one_of true c e = inl refl
-one_of false c e = inr e
+    let both = and_parts (test y) (every test ys) all in
+    and_from (test y) (every test (ys ++ x ∷ [])) both.0 (every_more test ys x both.1 last)
 
 -- a mark that passes among those before, or as the last
 pub some_before : {A : Type 0} (test : A → Bool) (xs : List A) (x : A) → some test xs ≡ true → some test (xs ++ x ∷ []) ≡ true
 some_before test [] x e = absurd (cc)
 some_before test (y ∷ ys) x e =
     let rest = some test (ys ++ x ∷ []) in
-    ⊎_elim (λ here. or_first (test y) rest here) (λ later. or_second (test y) rest (some_before test ys x later)) (one_of (test y) (some test ys) e)
+    ⊎_elim (λ here. or_left (test y) rest here) (λ later. or_right (test y) rest (some_before test ys x later)) (or_cases (test y) (some test ys) e)
 
 pub some_of_more : {A : Type 0} (test : A → Bool) (xs : List A) (x : A) → some test (xs ++ x ∷ []) ≡ true → (some test xs ≡ true) ⊎ (test x ≡ true)
-some_of_more test [] x e = ⊎_elim (λ here. inr here) (λ none. absurd (cc)) (one_of (test x) false e)
+some_of_more test [] x e = ⊎_elim (λ here. inr here) (λ none. absurd (cc)) (or_cases (test x) false e)
 some_of_more test (y ∷ ys) x e =
     ⊎_elim
-    (λ here. inl (or_first (test y) (some test ys) here))
-    (λ later. ⊎_elim (λ is. inl (or_second (test y) (some test ys) is)) (λ is. inr is) (some_of_more test ys x later))
-    (one_of (test y) (some test (ys ++ x ∷ [])) e)
+    (λ here. inl (or_left (test y) (some test ys) here))
+    (λ later. ⊎_elim (λ is. inl (or_right (test y) (some test ys) is)) (λ is. inr is) (some_of_more test ys x later))
+    (or_cases (test y) (some test (ys ++ x ∷ [])) e)
 
 -- a mark that does not pass a test
-none_or : (b : Bool) → b ≡ false → b || false ≡ false
-none_or true e = e
-none_or false e = refl
 
 pub some_no_more : (test : Mark → Bool) (marks : List Mark) (mark : Mark) → test mark ≡ false → some test (marks ++ mark ∷ []) ≡ some test marks
-some_no_more test [] mark none = none_or (test mark) none
+some_no_more test [] mark none = or_from (test mark) false none refl
 some_no_more test (first ∷ marks) mark none = ap (λ (b : Bool). test first || b) (some_no_more test marks mark none)
 
 -- a mark that takes or gives nothing

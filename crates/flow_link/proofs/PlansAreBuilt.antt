@@ -2,7 +2,7 @@
 use Rattle.std.proofs.Common.{◌≡◌, ℕ, zero, suc, ◌+◌, ◌<◌, inl, inr, Bool, true, false, cond, not, ◌&&◌, ◌||◌, List, [], ◌∷◌, ◌++◌, length, map, Option, Some, None, get_or, take, is_none, unwrap_or, ◌==◌, refl, ap, sym, ◌∙◌, subst, arith}
 use Rattle.std.specs.List.{find}
 use Rattle.std.specs.Str.{bytes_eq}
-use Rattle.std.proofs.lemmas.Bool.{eqb-true, eq-eqb, leb-false, false_from_ne_true}
+use Rattle.std.proofs.lemmas.Bool.{eqb-true, eq-eqb, leb-false, false_from_ne_true, and_parts, or_parts}
 use Rattle.std.proofs.lemmas.Bool.Decides.{leb_tells}
 use Rattle.std.proofs.lemmas.List.{get_or-map, get_or_default, append-nil}
 use Rattle.std.proofs.lemmas.List.Folds.{find-append}
@@ -26,10 +26,9 @@ use Rattle.flow_link.specs.Lists.{some, below}
 use Rattle.flow_link.specs.NotBuilt.{stands_now, first_fault_now, name_faults, end_faults, option_faults, is_built_kind, is_built_block, is_bad_block, is_built_link, is_further_link, leaves_with, enters_with, shares_an_end, enters_input}
 use Rattle.flow_link.specs.Plan.{block_named, block_in, link_in, begins_at, ends_at, named_link, named_links, planned_links, ports_by_kind, no_block}
 use Rattle.flow_link.specs.PlanFaults.{options_fit, is_in, lacks_port}
-use Rattle.flow_link.proofs.EachLinkOf.{Each, each_append, Fails, both_ways, in_front, each_input, no_def, none_at, each_named}
+use Rattle.flow_link.proofs.EachLinkOf.{Each, each_append, Fails, in_front, each_input, no_def, none_at, each_named}
 use Rattle.flow_link.proofs.FirstOfEachFault.{named_link_at, length-named_links, bad_link_at, first_fault_of, none_front, none_back, none_behind}
-use Rattle.flow_link.proofs.LinksLaidOut.{neither}
-use Rattle.flow_link.proofs.ListTests.{both_of}
+use Rattle.flow_link.proofs.ListTests.{never_both}
 
 -- at most one link of the list passes
 abbrev AtMostOne : (Link → Bool) → List Link → Type 0
@@ -37,8 +36,8 @@ AtMostOne test links = (k l : ℕ) → k < length links → l < length links →
 
 one_more : (test : Link → Bool) (link : Link) (links : List Link) → (test link ≡ true → Each (Fails test) links) → AtMostOne test links → AtMostOne test (link ∷ links)
 one_more test link links apart rest zero zero small smaller ek el = refl
-one_more test link links apart rest zero (suc l) small smaller ek el = absurd (both_ways (test (link_in links l)) el (apart ek l (omega arith)))
-one_more test link links apart rest (suc k) zero small smaller ek el = absurd (both_ways (test (link_in links k)) ek (apart el k (omega arith)))
+one_more test link links apart rest zero (suc l) small smaller ek el = never_both (test (link_in links l)) el (apart ek l (omega arith))
+one_more test link links apart rest (suc k) zero small smaller ek el = never_both (test (link_in links k)) ek (apart el k (omega arith))
 one_more test link links apart rest (suc k) (suc l) small smaller ek el = ap suc (rest k l (omega arith) (omega arith) ek el)
 
 one_cond : (test : Link → Bool) (b : Bool) (link : Link) (links : List Link) → (test link ≡ true → Each (Fails test) links) → AtMostOne test links → AtMostOne test (cond b (link ∷ []) [] ++ links)
@@ -49,7 +48,7 @@ one_cond test false link links apart rest = rest
 one_after : (test : Link → Bool) (first last : List Link) → Each (Fails test) first → AtMostOne test last → AtMostOne test (first ++ last)
 one_after test [] last none one = one
 one_after test (link ∷ first) last none one =
-    one_more test link (first ++ last) (λ is. absurd (both_ways (test link) is (none 0 (omega arith))))
+    one_more test link (first ++ last) (λ is. never_both (test link) is (none 0 (omega arith)))
     (one_after test first last (λ l small. none (suc l) (omega arith)) one)
 
 one_before : (test : Link → Bool) (first last : List Link) → AtMostOne test first → Each (Fails test) last → AtMostOne test (first ++ last)
@@ -70,9 +69,9 @@ one_of_pairs test links apart k l small smaller ek el =
 none_taken : (test : Link → Bool) (links : List Link) (l k : ℕ) → k < l → l < length links → some test (take l links) ≡ false → test (link_in links k) ≡ false
 none_taken test [] l k low small e = absurd (omega arith)
 none_taken test (link ∷ links) zero k low small e = absurd (omega arith)
-none_taken test (link ∷ links) (suc l) zero low small e = (neither (test link) (some test (take l links)) e).0
+none_taken test (link ∷ links) (suc l) zero low small e = (or_parts (test link) (some test (take l links)) e).0
 none_taken test (link ∷ links) (suc l) (suc k) low small e =
-    none_taken test links l k (omega arith) (omega arith) (neither (test link) (some test (take l links)) e).1
+    none_taken test links l k (omega arith) (omega arith) (or_parts (test link) (some test (take l links)) e).1
 
 -- two links at one end share it
 leaves_together : (s : ℕ) (one two : LinkSource) → begins_at s one ≡ true → begins_at s two ≡ true → leaves_with two one ≡ true
@@ -148,13 +147,13 @@ module _ {W : Type 0} where
       each_input (Fails (λ link. ends_at t link.target)) 0 blocks
       (λ b small on. false_from_ne_true ((0 + b) == t)
       (λ same. let there : 0 + b ≡ t = eqb-true (0 + b) t same in let is : b ≡ t = omega arith in
-      absurd (both_ways (block_in blocks t).input (ap (λ n. (block_in blocks n).input) (sym is) ∙ on) off)))
+      never_both (block_in blocks t).input (ap (λ n. (block_in blocks n).input) (sym is) ∙ on) off))
 
   -- a link that enters no input's block
   not_at_input : (blocks : List (BlockDef W)) (t : ℕ) (target : LinkTarget) → enters_input blocks target ≡ false → (block_in blocks t).input ≡ true → ends_at t target ≡ false
   not_at_input blocks t Exit off on = refl
   not_at_input blocks t (at_port b p) off on =
-      false_from_ne_true (b == t) (λ same. both_ways (block_in blocks t).input on (ap (λ n. (block_in blocks n).input) (sym (eqb-true b t same)) ∙ off))
+      false_from_ne_true (b == t) (λ same. never_both (block_in blocks t).input on (ap (λ n. (block_in blocks n).input) (sym (eqb-true b t same)) ∙ off))
 
   first_port_of : (blocks : List (BlockDef W)) (links : List LinkDef) (found : Option ℕ) (target port : ℕ) → is_none found ≡ false
       → ((b : ℕ) → found ≡ Some b → is_built_kind (block_in blocks b).kind ≡ true)
@@ -201,12 +200,12 @@ module _ {W : Type 0} (blocks : List (BlockDef W)) (links : List LinkDef) (fine 
   pub links_are_built : (l : ℕ) (link : LinkDef) → l < length links → link ≡ get_or links l link → is_built_link link ≡ true
   links_are_built l link low is =
       of_no_bad (is_in 1 2147483647 link.max) (is_built_link link)
-      (neither (not (is_in 1 2147483647 link.max) || not (is_built_link link)) (is_further_link blocks (named_links blocks links) l) (link_is_good l link low is)).0
+      (or_parts (not (is_in 1 2147483647 link.max) || not (is_built_link link)) (is_further_link blocks (named_links blocks links) l) (link_is_good l link low is)).0
 
   pub no_further_link : (l : ℕ) → l < length links → is_further_link blocks (named_links blocks links) l ≡ false
   no_further_link l low =
       let link = get_or links l no_def in
-      (neither (not (is_in 1 2147483647 link.max) || not (is_built_link link)) (is_further_link blocks (named_links blocks links) l)
+      (or_parts (not (is_in 1 2147483647 link.max) || not (is_built_link link)) (is_further_link blocks (named_links blocks links) l)
       (link_is_good l link low (get_or_default links l no_def link low))).1
 
   -- each link enters the first port of its target
@@ -220,7 +219,7 @@ module _ {W : Type 0} (blocks : List (BlockDef W)) (links : List LinkDef) (fine 
       get_or-map (λ x. block_named blocks x.to) links l link (Some 0) low ∙ ap (λ x. block_named blocks x.to) (sym is) in
       let target : (link_in (named_links blocks links) l).target ≡ (named_link blocks link).target =
       ap (λ x. x.target) (named_link_at blocks links l link low) ∙ ap (λ x. (named_link blocks x).target) (sym is) in
-      let known = (neither _ (is_none (get_or (map (λ x. block_named blocks x.to) links) l (Some 0))) (none_at test UnknownBlock (length links) l low no_unknown)).1 in
+      let known = (or_parts _ (is_none (get_or (map (λ x. block_named blocks x.to) links) l (Some 0))) (none_at test UnknownBlock (length links) l low no_unknown)).1 in
       let has = none_at test Port (length links) l low
       (none_front _ _ (sym (find-append test (map Port (below (length links))) (map NoOutput (below (length links)))) ∙ no_end_fault)) in
       first_port_of blocks links found (unwrap_or found 0) (unwrap_or link.port 0)
@@ -233,7 +232,7 @@ module _ {W : Type 0} (blocks : List (BlockDef W)) (links : List LinkDef) (fine 
   enters_no_input l small =
       let named = named_links blocks links in
       let low : l < length links = omega (arith, length-named_links blocks links) in
-      (neither (enters_input blocks (link_in named l).target) (some (shares_an_end (link_in named l)) (take l named)) (no_further_link l low)).0
+      (or_parts (enters_input blocks (link_in named l).target) (some (shares_an_end (link_in named l)) (take l named)) (no_further_link l low)).0
 
   shares_no_end : (k l : ℕ) → k < l → l < length (named_links blocks links)
       → shares_an_end (link_in (named_links blocks links) l) (link_in (named_links blocks links) k) ≡ false
@@ -241,7 +240,7 @@ module _ {W : Type 0} (blocks : List (BlockDef W)) (links : List LinkDef) (fine 
       let named = named_links blocks links in
       let low : l < length links = omega (arith, length-named_links blocks links) in
       none_taken (shares_an_end (link_in named l)) named l k first small
-      (neither (enters_input blocks (link_in named l).target) (some (shares_an_end (link_in named l)) (take l named)) (no_further_link l low)).1
+      (or_parts (enters_input blocks (link_in named l).target) (some (shares_an_end (link_in named l)) (take l named)) (no_further_link l low)).1
 
   one_leaves : (s : ℕ) → AtMostOne (λ link. begins_at s link.source) (named_links blocks links)
   one_leaves s =
@@ -249,8 +248,8 @@ module _ {W : Type 0} (blocks : List (BlockDef W)) (links : List LinkDef) (fine 
       (λ k l first small ek el.
       let one = link_in (named_links blocks links) k in
       let two = link_in (named_links blocks links) l in
-      both_ways (leaves_with two.source one.source) (leaves_together s one.source two.source ek el)
-      (neither (leaves_with two.source one.source) (enters_with two.target one.target) (shares_no_end k l first small)).0)
+      never_both (leaves_with two.source one.source) (leaves_together s one.source two.source ek el)
+      (or_parts (leaves_with two.source one.source) (enters_with two.target one.target) (shares_no_end k l first small)).0)
 
   one_enters : (t : ℕ) → AtMostOne (λ link. ends_at t link.target) (named_links blocks links)
   one_enters t =
@@ -258,8 +257,8 @@ module _ {W : Type 0} (blocks : List (BlockDef W)) (links : List LinkDef) (fine 
       (λ k l first small ek el.
       let one = link_in (named_links blocks links) k in
       let two = link_in (named_links blocks links) l in
-      both_ways (enters_with two.target one.target) (enters_together t one.target two.target ek el)
-      (neither (leaves_with two.source one.source) (enters_with two.target one.target) (shares_no_end k l first small)).1)
+      never_both (enters_with two.target one.target) (enters_together t one.target two.target ek el)
+      (or_parts (leaves_with two.source one.source) (enters_with two.target one.target) (shares_no_end k l first small)).1)
 
   -- the links of the draft, and then those of the inputs
   each_led : (P : Link → Type 0) → ((l : ℕ) (link : LinkDef) → l < length links → link ≡ get_or links l link → P (named_link blocks link))
@@ -287,9 +286,9 @@ module _ {W : Type 0} (blocks : List (BlockDef W)) (links : List LinkDef) (fine 
   built_led = record {
     block_is = blocks_are_built;
     any = each_led (λ link. link.when ≡ Any)
-        (λ l link low is. when_any link.when (both_of (is_none link.when) (is_none link.max) (links_are_built l link low is)).0) (λ b. refl);
+        (λ l link low is. when_any link.when (and_parts (is_none link.when) (is_none link.max) (links_are_built l link low is)).0) (λ b. refl);
     unbounded = each_led (λ link. link.max ≡ None)
-        (λ l link low is. max_none link.max (both_of (is_none link.when) (is_none link.max) (links_are_built l link low is)).1) (λ b. refl);
+        (λ l link low is. max_none link.max (and_parts (is_none link.when) (is_none link.max) (links_are_built l link low is)).1) (λ b. refl);
     first_port = each_led (λ link. is_first_port link.target ≡ true) ports_are_first (λ b. refl);
     one_out = λ k l s small smaller ek el. one_led_out s k l small smaller
         (ap (begins_at s) ek ∙ eq-eqb s s refl) (ap (begins_at s) el ∙ eq-eqb s s refl);

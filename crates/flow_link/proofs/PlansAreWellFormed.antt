@@ -2,7 +2,7 @@
 use Rattle.std.proofs.Common.{◌≡◌, ℕ, zero, suc, ◌+◌, ◌<◌, ◌≤◌, Bool, true, false, cond, not, ◌&&◌, ◌||◌, List, [], ◌∷◌, ◌++◌, length, map, Option, Some, None, get_or, take, is_none, is_some, unwrap_or, ◌==◌, ltb, refl, ap, sym, ◌∙◌, subst, arith}
 use Rattle.std.specs.List.{find, position}
 use Rattle.std.specs.Str.{bytes_eq}
-use Rattle.std.proofs.lemmas.Bool.{eqb-true, eq-eqb, ltb-false, leb-false}
+use Rattle.std.proofs.lemmas.Bool.{eqb-true, eq-eqb, ltb-false, leb-false, and_from, and_parts, not-false, or_parts, and_right}
 use Rattle.std.proofs.lemmas.List.{get_or-map, get_or-take, get_or_default, length-take-le}
 use Rattle.std.proofs.lemmas.List.Folds.{find-append}
 use Rattle.std.proofs.lemmas.Slice.Eq.{bytes_eq-Decides}
@@ -23,17 +23,14 @@ use Rattle.flow_link.specs.Plan.{block_named, block_in, link_in, begins_at, ends
 use Rattle.flow_link.specs.PlanFaults.{allows, input_rule, output_rule, capacity_rule, work_rule, lanes_rule, size_rule, ports_rule, greedy_rule, keys_fit, ranges_fit, is_name, options_fit, lacks_port, lacks_output, is_in, holds_no_group, gives_nothing, leads, walks, shares_with, sources, targets, stands, first_plan_fault}
 use Rattle.flow_link.specs.WellFormed.{IsWellFormed}
 use Rattle.flow_link.proofs.FirstInOrder.{position_is_first}
-use Rattle.flow_link.proofs.EachLinkOf.{Each, Fails, each_append, each_input, each_exit, each_named, both_ways, in_front, none_at}
+use Rattle.flow_link.proofs.EachLinkOf.{Each, Fails, each_append, each_input, each_exit, each_named, in_front, none_at}
 use Rattle.flow_link.proofs.FirstOfEachFault.{named_link_at, length-named_links, none_front, none_back, fails_from}
-use Rattle.flow_link.proofs.LinksLaidOut.{neither, between_named, named_low}
+use Rattle.flow_link.proofs.LinksLaidOut.{between_named, named_low}
 use Rattle.flow_link.proofs.LongWalks.{never_reached}
-use Rattle.flow_link.proofs.ListTests.{both_of, and_true}
 use Rattle.flow_link.proofs.RoundsOfWalks.{some_here_below, some_same_below}
+use Rattle.flow_link.proofs.ListTests.{never_both, not_both}
 
 -- of tests that fail
-of_not : (b : Bool) → not b ≡ false → b ≡ true
-of_not true e = refl
-of_not false e = cc
 
 nowhere : {A : Type 0} (o : Option A) → is_some o ≡ false → o ≡ None
 nowhere None e = refl
@@ -43,19 +40,15 @@ stands_first : {A : Type 0} (b : Bool) (x : A) → cond b (Some x) None ≡ None
 stands_first true x e = cc
 stands_first false x e = refl
 
-not_both : (a b : Bool) → (a && b) ≡ false → a ≡ true → b ≡ false
-not_both true b e here = e
-not_both false b e here = cc
-
 none_of_some : {A : Type 0} (test : A → Bool) (xs : List A) (i : ℕ) (d : A) → some test xs ≡ false → i < length xs → test (get_or xs i d) ≡ false
 none_of_some test [] i d e low = absurd (omega arith)
-none_of_some test (x ∷ xs) zero d e low = (neither (test x) (some test xs) e).0
-none_of_some test (x ∷ xs) (suc i) d e low = none_of_some test xs i d (neither (test x) (some test xs) e).1 (omega arith)
+none_of_some test (x ∷ xs) zero d e low = (or_parts (test x) (some test xs) e).0
+none_of_some test (x ∷ xs) (suc i) d e low = none_of_some test xs i d (or_parts (test x) (some test xs) e).1 (omega arith)
 
 none_below_of : (test : ℕ → Bool) (count k : ℕ) → some test (below count) ≡ false → k < count → test k ≡ false
 none_below_of test count k e low =
     let go : (b : Bool) → test k ≡ b → test k ≡ false =
-    λ b. elim b as (λ v. test k ≡ v → test k ≡ false) [ true ↦ λ here. absurd (both_ways (some test (below count)) (some_here_below test count k low here) e) | false ↦ λ here. here ] in
+    λ b. elim b as (λ v. test k ≡ v → test k ≡ false) [ true ↦ λ here. never_both (some test (below count)) (some_here_below test count k low here) e | false ↦ λ here. here ] in
     go (test k) refl
 
 -- a test passes nowhere in a list in which nothing is found
@@ -74,12 +67,8 @@ back_of test a b e = none_back _ _ (sym (find-append test a b) ∙ e)
 
 first_two : (a b c d e f g h : Bool) → (a && b && c && d && e && f && g && h) ≡ true → (a ≡ true) × (b ≡ true)
 first_two a b c d e f g h all =
-    both_of a b (both_of (a && b) c (both_of (a && b && c) d (both_of (a && b && c && d) e (both_of (a && b && c && d && e) f
-    (both_of (a && b && c && d && e && f) g (both_of (a && b && c && d && e && f && g) h all).0).0).0).0).0).0
-
-and_false : (a : Bool) → (a && false) ≡ false
-and_false true = refl
-and_false false = refl
+    and_parts a b (and_parts (a && b) c (and_parts (a && b && c) d (and_parts (a && b && c && d) e (and_parts (a && b && c && d && e) f
+    (and_parts (a && b && c && d && e && f) g (and_parts (a && b && c && d && e && f && g) h all).0).0).0).0).0).0
 
 -- links that all fail a test behind others
 some_none_in : (test : Link → Bool) (links : List Link) → Each (Fails test) links → some test links ≡ false
@@ -113,10 +102,10 @@ has_a_port BatchedJoin ports e = cc
 has_a_port _ ports e = omega arith
 
 gives : (kind : BlockKind) → gives_nothing kind ≡ false → kind ≡ Action → ⊥
-gives kind e is = both_ways (gives_nothing kind) (ap gives_nothing is) e
+gives kind e is = never_both (gives_nothing kind) (ap gives_nothing is) e
 
 has_output : (kind : BlockKind) → allows (output_rule kind) true ≡ true → kind ≡ Action → ⊥
-has_output kind e is = both_ways (allows (output_rule kind) true) e (ap (λ k. allows (output_rule k) true) is)
+has_output kind e is = never_both (allows (output_rule kind) true) e (ap (λ k. allows (output_rule k) true) is)
 
 -- the parts of an end
 abbrev target_of : LinkTarget → ℕ
@@ -172,7 +161,7 @@ module _ {W : Type 0} (blocks : List (BlockDef W)) where
 
 module _ {W : Type 0} where
   keys_of : (block : BlockDef W) → options_fit block ≡ true → keys_fit block ≡ true
-  keys_of block e = (both_of (is_name block.name) (keys_fit block) (both_of (is_name block.name && keys_fit block) (ranges_fit block) e).0).1
+  keys_of block e = (and_parts (is_name block.name) (keys_fit block) (and_parts (is_name block.name && keys_fit block) (ranges_fit block) e).0).1
 
   -- the block's kind has what is there
   outer_keys : (block : BlockDef W) → options_fit block ≡ true → (allows (input_rule block.kind) block.input ≡ true) × (allows (output_rule block.kind) block.output ≡ true)
@@ -190,7 +179,7 @@ module _ {W : Type 0} where
 
 is_port : (t p : ℕ) (target : LinkTarget) → ends_at_port t p target ≡ true → target ≡ at_port t p
 is_port t p (at_port n q) e =
-    let both = both_of (n == t) (q == p) e in
+    let both = and_parts (n == t) (q == p) e in
     ap (λ k. at_port k q) (eqb-true n t both.0) ∙ ap (at_port t) (eqb-true q p both.1)
 is_port t p Exit e = cc
 
@@ -246,7 +235,7 @@ module _ {W : Type 0} (blocks : List (BlockDef W)) (links : List LinkDef) where
 
 module _ {W : Type 0} (blocks : List (BlockDef W)) (links : List LinkDef) (none : NoneStands blocks links) where
   options : (b : ℕ) → b < length blocks → options_fit (block_in blocks b) ≡ true
-  options b low = of_not (options_fit (block_in blocks b)) (none.block b low)
+  options b low = not-false (options_fit (block_in blocks b)) (none.block b low)
 
   names_differ : (a b : ℕ) → a < b → b < length blocks → (block_in blocks a).name ≡ (block_in blocks b).name → ⊥
   names_differ a b first low same =
@@ -255,7 +244,7 @@ module _ {W : Type 0} (blocks : List (BlockDef W)) (links : List LinkDef) (none 
       let count : length (take b blocks) ≡ b = length-take-le b blocks (omega arith) in
       let fails = none_in_list (λ block. bytes_eq block.name name) (take b blocks) a no_block nowhere_before (omega arith) in
       let at : get_or (take b blocks) a no_block ≡ block_in blocks a = get_or-take b blocks a no_block first in
-      both_ways (bytes_eq (block_in blocks a).name name) ((bytes_eq-Decides (block_in blocks a).name name).1 same) (ap (λ x. bytes_eq x.name name) (sym at) ∙ fails)
+      never_both (bytes_eq (block_in blocks a).name name) ((bytes_eq-Decides (block_in blocks a).name name).1 same) (ap (λ x. bytes_eq x.name name) (sym at) ∙ fails)
 
   -- both names of a link are known
   known : (l : ℕ) (link : LinkDef) → l < length links → link ≡ get_or links l link
@@ -265,7 +254,7 @@ module _ {W : Type 0} (blocks : List (BlockDef W)) (links : List LinkDef) (none 
       get_or-map (λ x. block_named blocks x.from) links l link (Some 0) low ∙ ap (λ x. block_named blocks x.from) (sym is) in
       let to : get_or (map (λ x. block_named blocks x.to) links) l (Some 0) ≡ block_named blocks link.to =
       get_or-map (λ x. block_named blocks x.to) links l link (Some 0) low ∙ ap (λ x. block_named blocks x.to) (sym is) in
-      let both = neither (is_none (get_or (sources blocks links) l (Some 0))) (is_none (get_or (targets blocks links) l (Some 0))) (none.unknown l low) in
+      let both = or_parts (is_none (get_or (sources blocks links) l (Some 0))) (is_none (get_or (targets blocks links) l (Some 0))) (none.unknown l low) in
       (ap is_none (sym from) ∙ both.0, ap is_none (sym to) ∙ both.1)
 
   named_at : (l : ℕ) (link : LinkDef) → l < length links → link ≡ get_or links l link → link_in (named_links blocks links) l ≡ named_link blocks link
@@ -299,7 +288,7 @@ module _ {W : Type 0} (blocks : List (BlockDef W)) (links : List LinkDef) (none 
 
   carries_named : (l : ℕ) (link : LinkDef) → l < length links → link ≡ get_or links l link → Carries blocks (named_link blocks link)
   carries_named l link low is =
-      ap (λ x. is_in 1 2147483647 x.max) (sym (named_at l link low is)) ∙ of_not _ (none.link l low)
+      ap (λ x. is_in 1 2147483647 x.max) (sym (named_at l link low is)) ∙ not-false _ (none.link l low)
 
   enters_input : (b : ℕ) → b < length blocks → (block_in blocks b).input ≡ true → Enters blocks (input_link (0 + b))
   enters_input b low on = λ t port e.
@@ -329,23 +318,23 @@ module _ {W : Type 0} (blocks : List (BlockDef W)) (links : List LinkDef) (none 
       (each_append P (input_links 0 blocks) (exit_links 0 blocks) (each_input P 0 blocks input) (each_exit P 0 blocks exit))
 
   enters : Each (Enters blocks) (planned_links blocks links)
-  enters = each_planned (Enters blocks) enters_named enters_input (λ b low on t port e. absurd (both_ways true refl (ap is_exit e)))
+  enters = each_planned (Enters blocks) enters_named enters_input (λ b low on t port e. never_both true refl (ap is_exit e))
 
   leaves : Each (Leaves blocks) (planned_links blocks links)
-  leaves = each_planned (Leaves blocks) leaves_named (λ b low on s e. absurd (both_ways true refl (ap is_input e))) leaves_exit
+  leaves = each_planned (Leaves blocks) leaves_named (λ b low on s e. never_both true refl (ap is_input e)) leaves_exit
 
   posted : Each (Posted blocks) (planned_links blocks links)
-  posted = each_planned (Posted blocks) (λ l link low is b e. absurd (both_ways true refl (sym (ap is_input e))))
+  posted = each_planned (Posted blocks) (λ l link low is b e. never_both true refl (sym (ap is_input e)))
       (λ b low on t e.
       let zeroth : b ≡ 0 + b = omega arith in
       let here : b ≡ t = zeroth ∙ ap source_of e in
       let same : 0 + b ≡ t = omega arith in
-      (and_true ((0 + b) == t) (0 == 0) (eq-eqb (0 + b) t same) refl, subst (λ (n : ℕ). (block_in blocks n).input ≡ true) here on))
-      (λ b low on t e. absurd (both_ways true refl (sym (ap is_input e))))
+      (and_from ((0 + b) == t) (0 == 0) (eq-eqb (0 + b) t same) refl, subst (λ (n : ℕ). (block_in blocks n).input ≡ true) here on))
+      (λ b low on t e. never_both true refl (sym (ap is_input e)))
 
   received : Each (Received blocks) (planned_links blocks links)
-  received = each_planned (Received blocks) (λ l link low is b e out. absurd (both_ways true refl (sym (ap is_exit out))))
-      (λ b low on t e out. absurd (both_ways true refl (sym (ap is_exit out))))
+  received = each_planned (Received blocks) (λ l link low is b e out. never_both true refl (sym (ap is_exit out)))
+      (λ b low on t e out. never_both true refl (sym (ap is_exit out)))
       (λ b low on t e out.
       let zeroth : b ≡ 0 + b = omega arith in
       subst (λ (n : ℕ). (block_in blocks n).output ≡ true) (zeroth ∙ ap source_of e) on)
@@ -357,10 +346,10 @@ module _ {W : Type 0} (blocks : List (BlockDef W)) (links : List LinkDef) (none 
   in_draft s t p l small es et =
       in_front (leads_into blocks s t p) (named_links blocks links) (outer_links blocks) l
       (each_append (Fails (leads_into blocks s t p)) (input_links 0 blocks) (exit_links 0 blocks)
-      (each_input (Fails (leads_into blocks s t p)) 0 blocks (λ b low on. refl)) (each_exit (Fails (leads_into blocks s t p)) 0 blocks (λ b low on. and_false ((0 + b) == s))))
+      (each_input (Fails (leads_into blocks s t p)) 0 blocks (λ b low on. refl)) (each_exit (Fails (leads_into blocks s t p)) 0 blocks (λ b low on. and_right ((0 + b) == s) false refl)))
       small
-      (and_true (begins_at s (link_in (planned_links blocks links) l).source) (ends_at_port t p (link_in (planned_links blocks links) l).target)
-      (ap (begins_at s) es ∙ eq-eqb s s refl) (ap (ends_at_port t p) et ∙ and_true (t == t) (p == p) (eq-eqb t t refl) (eq-eqb p p refl)))
+      (and_from (begins_at s (link_in (planned_links blocks links) l).source) (ends_at_port t p (link_in (planned_links blocks links) l).target)
+      (ap (begins_at s) es ∙ eq-eqb s s refl) (ap (ends_at_port t p) et ∙ and_from (t == t) (p == p) (eq-eqb t t refl) (eq-eqb p p refl)))
 
   one_port : (k l s join p q : ℕ) → k < length (planned_links blocks links) → l < length (planned_links blocks links) → is_reserving (block_in blocks join) ≡ true
       → (link_in (planned_links blocks links) k).source ≡ at_block s → (link_in (planned_links blocks links) k).target ≡ at_port join p
@@ -371,8 +360,8 @@ module _ {W : Type 0} (blocks : List (BlockDef W)) (links : List LinkDef) (none 
       let two = link_in named l in
       let in_k = in_draft s join p k small sk tk in
       let in_l = in_draft s join q l smaller sl tl in
-      let at_k = both_of (begins_at s one.source) (ends_at_port join p one.target) in_k.1 in
-      let at_l = both_of (begins_at s two.source) (ends_at_port join q two.target) in_l.1 in
+      let at_k = and_parts (begins_at s one.source) (ends_at_port join p one.target) in_k.1 in
+      let at_l = and_parts (begins_at s two.source) (ends_at_port join q two.target) in_l.1 in
       let source_low : s < length blocks = (leaves k small s sk).0 in
       let join_low : join < length blocks = (enters k small join p tk).0 in
       let test = λ (source : ℕ) (link : Link). begins_at source link.source && shares_with source join link.target named in
@@ -388,8 +377,8 @@ module _ {W : Type 0} (blocks : List (BlockDef W)) (links : List LinkDef) (none 
       let into_join : ends_at join two.target ≡ true = ap (ends_at join) port_two ∙ eq-eqb join join refl in
       let same_port : not (ends_at_port join p two.target) ≡ false =
       not_both (begins_at s two.source && ends_at join two.target) (not (ends_at_port join p two.target)) at_two
-      (and_true (begins_at s two.source) (ends_at join two.target) at_l.0 into_join) in
-      let both = both_of (join == join) (q == p) (ap (ends_at_port join p) (sym port_two) ∙ of_not (ends_at_port join p two.target) same_port) in
+      (and_from (begins_at s two.source) (ends_at join two.target) at_l.0 into_join) in
+      let both = and_parts (join == join) (q == p) (ap (ends_at_port join p) (sym port_two) ∙ not-false (ends_at_port join p two.target) same_port) in
       sym (eqb-true q p both.1)
 
   same_leads : (a b : ℕ) → leads (planned_links blocks links) a b ≡ leads (named_links blocks links) a b
@@ -397,7 +386,7 @@ module _ {W : Type 0} (blocks : List (BlockDef W)) (links : List LinkDef) (none 
       let test = λ (link : Link). begins_at a link.source && ends_at b link.target in
       some_front test (named_links blocks links) (outer_links blocks)
       (each_append (Fails test) (input_links 0 blocks) (exit_links 0 blocks)
-      (each_input (Fails test) 0 blocks (λ k low on. refl)) (each_exit (Fails test) 0 blocks (λ k low on. and_false ((0 + k) == a))))
+      (each_input (Fails test) 0 blocks (λ k low on. refl)) (each_exit (Fails test) 0 blocks (λ k low on. and_right ((0 + k) == a) false refl)))
 
   no_cycle : (steps b : ℕ) → b < length blocks → walks (planned_links blocks links) (length blocks) steps b b ≡ false
   no_cycle steps b low =
@@ -407,7 +396,7 @@ module _ {W : Type 0} (blocks : List (BlockDef W)) (links : List LinkDef) (none 
 
   well_formed : IsWellFormed blocks (planned_links blocks links)
   well_formed =
-      let limits = neither (ltb 256 (length blocks)) (ltb 1024 (length links)) none.limit in
+      let limits = or_parts (ltb 256 (length blocks)) (ltb 1024 (length links)) none.limit in
       let few : length links ≤ 1024 = ltb-false 1024 (length links) limits.1 in
       let between : length (between_of blocks (planned_links blocks links)) ≡ length links = ap length (between_named blocks links) ∙ length-named_links blocks links in
       record {

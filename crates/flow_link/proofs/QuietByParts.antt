@@ -1,5 +1,6 @@
 -- A network is quiet when each of its parts keeps its own laws and has nothing left to do.
 use Rattle.std.proofs.Common.{◌≡◌, ℕ, ◌+◌, ◌<◌, ◌==◌, inr, Bool, true, false, ◌&&◌, ◌||◌, not, is_some, List, [], ◌∷◌, length, drop, Option, Some, None, refl, ap, sym, subst, ◌∙◌, arith, eqb-true, eq-eqb}
+use Rattle.std.proofs.lemmas.Bool.{and_from, and_parts, or_left, or_right, not-true}
 use Rattle.flow_value.specs.declared.value.Value.{Value}
 use Rattle.flow_link.specs.declared.draft.BlockKind.{BlockKind}
 use Rattle.flow_link.specs.declared.draft.BlockKind.TheVariants.{Broadcast, WriteOnce, Action, Transform, TransformMany}
@@ -23,16 +24,12 @@ use Rattle.flow_link.specs.Composes.{Ends, PartsKeep, RefusesFor, is_done_with, 
 use Rattle.flow_link.specs.RestsByParts.{RestsCompose, PartsRest, is_over, is_postponed, lacks_an_offer, unsent}
 use Rattle.flow_link.proofs.LinksTell.{links_tell}
 use Rattle.flow_link.proofs.LinksByParts.{source_keeps, target_keeps, given_is, taken_is}
-use Rattle.flow_link.proofs.LinksAtRest.{never_both, home_at_rest, over_tells, waits_unless, stages_at}
-use Rattle.flow_link.proofs.ListTests.{and_true, both_of, or_first, or_second, or_not, or_weaker, and_weaker, every_below, some_weaker_below, same_values_where}
+use Rattle.flow_link.proofs.LinksAtRest.{home_at_rest, over_tells, waits_unless, stages_at}
+use Rattle.flow_link.proofs.ListTests.{or_not, or_weaker, and_weaker, every_below, some_weaker_below, same_values_where, never_both}
 
 either : {P : Type 0} (a b : Bool) → (a || b) ≡ true → (a ≡ true → P) → (b ≡ true → P) → P
 either true b e first second = first refl
 either false b e first second = second e
-
-not_so : (b : Bool) → not b ≡ true → b ≡ false
-not_so true e = absurd (cc)
-not_so false e = refl
 
 some_weaker : {A : Type 0} (f g : A → Bool) (xs : List A) → ((x : A) → f x ≡ true → g x ≡ true)
     → some f xs ≡ true → some g xs ≡ true
@@ -40,7 +37,7 @@ some_weaker f g [] h e = e
 some_weaker f g (x ∷ xs) h e = or_weaker (f x) (some f xs) (g x) (some g xs) (h x) (some_weaker f g xs h) e
 
 not_weaker : (a b : Bool) → (b ≡ true → a ≡ true) → not a ≡ true → not b ≡ true
-not_weaker a true h e = never_both a (h refl) (not_so a e)
+not_weaker a true h e = never_both a (h refl) (not-true a e)
 not_weaker a false h e = refl
 
 fault_is_any : (fault : ℕ) (mark : Mark) → is_fault_mark fault mark ≡ true → is_any_fault_mark mark ≡ true
@@ -56,8 +53,8 @@ faulted_where fault marks e = some_weaker (is_fault_mark fault) is_any_fault_mar
 -- a faulted block takes nothing at any port
 faulted_ends : (p : ℕ) (marks : List Mark) → is_faulted marks ≡ true → has_ended p marks ≡ true
 faulted_ends p marks e =
-    or_first (has_complete p marks || is_faulted marks) (is_done marks)
-    (or_second (has_complete p marks) (is_faulted marks) e)
+    or_left (has_complete p marks || is_faulted marks) (is_done marks)
+    (or_right (has_complete p marks) (is_faulted marks) e)
 
 work_has_one_port : (kind : BlockKind) (ports : Option ℕ) → has_work kind ≡ true → ports_by_kind kind ports ≡ 1
 work_has_one_port Action ports e = refl
@@ -68,7 +65,7 @@ work_has_one_port _ ports e = absurd (cc)
 passes_at_first : (test : ℕ → Bool) (count : ℕ) → count ≡ 1 → every test (below count) ≡ true → test 0 ≡ true
 passes_at_first test count one e =
     let P : ℕ → Type 0 = λ n. every test (below n) ≡ true in
-    (both_of (test 0) true (subst P one e)).0
+    (and_parts (test 0) true (subst P one e)).0
 
 -- a link that carried as many values as it may is cut
 used_up : (max : Option ℕ) (before : ℕ) (given values : List Value) → before ≡ 0 → given ≡ values → max ≡ Some (before + length given) → is_used_up max values ≡ true
@@ -79,7 +76,7 @@ used_up max before given values start same e =
 
 at_port : (b p : ℕ) (t : LinkTarget) → ends_at_port b p t ≡ true → t ≡ Port b p
 at_port b p (Port n q) e =
-    let both = both_of (n == b) (q == p) e in
+    let both = and_parts (n == b) (q == p) e in
     ap (λ (m : ℕ). Port m q) (eqb-true n b both.0) ∙ ap (λ (m : ℕ). Port b m) (eqb-true q p both.1)
 at_port b p Exit e = absurd (cc)
 
@@ -194,23 +191,23 @@ module _ {W : Type 0} (run : Run W) (ends : ℕ → Ends) (keep : PartsKeep run 
   block_end_comes : (l s b p : ℕ) → l < length run.layout.links → (link_of run l).source ≡ Block s → (link_of run l).target ≡ Port b p
       → end_comes_from run l (Block s) ≡ true → has_ended p (marks_of run b) ≡ true
   block_end_comes l s b p small es et e =
-      let comes = both_of (passes_on run l) (is_done (marks_of run s) || is_faulted (marks_of run s)) e in
-      let going = both_of ((link_of run l).propagate && not (is_cut run l)) (not (is_refused run l)) comes.0 in
-      let uncut = both_of (link_of run l).propagate (not (is_cut run l)) going.0 in
+      let comes = and_parts (passes_on run l) (is_done (marks_of run s) || is_faulted (marks_of run s)) e in
+      let going = and_parts ((link_of run l).propagate && not (is_cut run l)) (not (is_refused run l)) comes.0 in
+      let uncut = and_parts (link_of run l).propagate (not (is_cut run l)) going.0 in
       let with_it : is_done_with run ends l s ≡ true =
       either (is_done (marks_of run s)) (is_faulted (marks_of run s)) comes.1
-      (λ done. or_first (is_cut run l || is_done (marks_of run s)) (is_faulted (marks_of run s))
-      (or_second (is_cut run l) (is_done (marks_of run s)) done))
-      (λ faulted. or_second (is_cut run l || is_done (marks_of run s)) (is_faulted (marks_of run s)) faulted) in
+      (λ done. or_left (is_cut run l || is_done (marks_of run s)) (is_faulted (marks_of run s))
+      (or_right (is_cut run l) (is_done (marks_of run s)) done))
+      (λ faulted. or_right (is_cut run l || is_done (marks_of run s)) (is_faulted (marks_of run s)) faulted) in
       over_ends l b p small et ((rest.nodes s (keep.from_blocks l s small es)).outlet.ended l small es with_it)
-      (λ plain. never_both (is_cut run l) (cut_where_plain l s small es plain uncut.0) (not_so (is_cut run l) uncut.1))
+      (λ plain. never_both (is_cut run l) (cut_where_plain l s small es plain uncut.0) (not-true (is_cut run l) uncut.1))
 
   input_end_comes : (l s b p : ℕ) → l < length run.layout.links → (link_of run l).source ≡ Input s → (link_of run l).target ≡ Port b p
       → end_comes_from run l (Input s) ≡ true → has_ended p (marks_of run b) ≡ true
   input_end_comes l s b p small es et e =
-      let comes = both_of (not (is_open (input_of run s).ending)) (is_empty (waits_over run s l)) e in
+      let comes = and_parts (not (is_open (input_of run s).ending)) (is_empty (waits_over run s l)) e in
       let none : is_empty (unsent run ends l s) ≡ true = ap is_empty (unsent_waits l s b p small et) ∙ comes.1 in
-      over_ends l b p small et ((rest.inputs l s small es).ended (not_so (is_open (input_of run s).ending) comes.0) none)
+      over_ends l b p small et ((rest.inputs l s small es).ended (not-true (is_open (input_of run s).ending) comes.0) none)
       (λ plain. absurd ((keep.inputs l s small es).never_plain (ended_plainly l small plain).by_source))
 
   end_comes : (l : ℕ) (s : LinkSource) (b p : ℕ) → l < length run.layout.links
@@ -231,9 +228,9 @@ module _ {W : Type 0} (run : Run W) (ends : ℕ → Ends) (keep : PartsKeep run 
       no_head_left run s l (is_faulted (marks_of run s)) (block_of run s).kind
       (none_first (left_at run s)
       (either (not (is_done (marks_of run s))) (is_complete run s && has_nothing run s) (keep.nodes s there).done
-      (λ going. never_both (is_done (marks_of run s)) done (not_so (is_done (marks_of run s)) going))
-      (λ e. let nothing = (both_of (is_complete run s) (has_nothing run s) e).1 in
-      (both_of (every (λ p. is_empty (held_at run s p)) (ports_of run s)) (is_empty (left_at run s)) nothing).1)))
+      (λ going. never_both (is_done (marks_of run s)) done (not-true (is_done (marks_of run s)) going))
+      (λ e. let nothing = (and_parts (is_complete run s) (has_nothing run s) e).1 in
+      (and_parts (every (λ p. is_empty (held_at run s p)) (ports_of run s)) (is_empty (left_at run s)) nothing).1)))
 
   no_head_where_done_with : (s l : ℕ) → s < length run.layout.blocks → is_done_with run ends l s ≡ true → is_cut run l ≡ false
       → head_from run l (Block s) ≡ None
@@ -282,12 +279,12 @@ module _ {W : Type 0} (run : Run W) (ends : ℕ → Ends) (keep : PartsKeep run 
   could_waits : (l b p : ℕ) → l < length run.layout.links → (link_of run l).target ≡ Port b p → could_cross run l ≡ true
       → is_postponed (ends l).target.stage ≡ true
   could_waits l b p small et e =
-      let both = both_of (not (is_cut run l) && has_not_ended run (link_of run l).target) (admits_head run l (head_from run l (link_of run l).source)) e in
-      let first = both_of (not (is_cut run l)) (has_not_ended run (link_of run l).target) both.0 in
+      let both = and_parts (not (is_cut run l) && has_not_ended run (link_of run l).target) (admits_head run l (head_from run l (link_of run l).source)) e in
+      let first = and_parts (not (is_cut run l)) (has_not_ended run (link_of run l).target) both.0 in
       let P : LinkTarget → Type 0 = λ t. has_not_ended run t ≡ true in
       let going : not (has_ended p (marks_of run b)) ≡ true = subst P et first.1 in
       head_waits l (link_of run l).source b p small refl et
-      (not_so (is_cut run l) first.0) (not_so (has_ended p (marks_of run b)) going) both.1
+      (not-true (is_cut run l) first.0) (not-true (has_ended p (marks_of run b)) going) both.1
 
   -- a join at which no offer waits lacks a message that could cross
   lacks_so : (b : ℕ) → lacks_an_offer run ends b ≡ true → lacks_a_port run b ≡ true
@@ -297,8 +294,8 @@ module _ {W : Type 0} (run : Run W) (ends : ℕ → Ends) (keep : PartsKeep run 
       some_weaker (λ p. not (some (offers p) (link_numbers run))) (λ p. not (some (could p) (link_numbers run))) (ports_of run b)
       (λ p. not_weaker (some (offers p) (link_numbers run)) (some (could p) (link_numbers run))
       (some_weaker_below (could p) (offers p) (length run.layout.links)
-      (λ l small e. let both = both_of (ends_at_port b p (link_of run l).target) (could_cross run l) e in
-      and_true (ends_at_port b p (link_of run l).target) (is_postponed (ends l).target.stage) both.0
+      (λ l small e. let both = and_parts (ends_at_port b p (link_of run l).target) (could_cross run l) e in
+      and_from (ends_at_port b p (link_of run l).target) (is_postponed (ends l).target.stage) both.0
       (could_waits l b p small (at_port b p (link_of run l).target both.0) both.1))))
       e
 

@@ -1,7 +1,7 @@
 -- What one round more tells of walks.
 use Rattle.std.proofs.Common.{◌≡◌, ℕ, zero, suc, ◌+◌, ◌<◌, ◌==◌, Bool, true, false, ◌&&◌, ◌||◌, List, [], ◌∷◌, length, get_or, take, ◌-◌, ◌≤◌, subst, refl, ap, sym, ◌∙◌, arith, inl, inr}
 use Rattle.std.proofs.lemmas.List.Folds.{list_any_more}
-use Rattle.std.proofs.lemmas.Bool.{eq-eqb, eqb-true, cases_lt}
+use Rattle.std.proofs.lemmas.Bool.{eq-eqb, eqb-true, cases_lt, and_from, or_right}
 use Rattle.std.proofs.Math.ListN.{get_or-eq_default}
 use Rattle.flow_link.specs.declared.plan.Link.{Link}
 use Rattle.flow_link.specs.declared.plan.LinkTarget.{LinkTarget}
@@ -11,7 +11,6 @@ use Rattle.flow_link.specs.Plan.{begins_at, ends_at}
 use Rattle.flow_link.specs.PlanFaults.{leads, walks}
 use Rattle.flow_link.specs.Rounds.{goes_on, sets_out, IsRound}
 use Rattle.flow_link.proofs.FirstInOrder.{any_is_some}
-use Rattle.flow_link.proofs.ListTests.{and_true}
 
 -- one more element
 pub some_more : {A : Type 0} (test : A → Bool) (xs : List A) (i : ℕ) (d : A) → i < length xs
@@ -45,10 +44,6 @@ or_mid false true true d = refl
 or_mid false true false d = refl
 or_mid false false c d = refl
 
-or_true : (a : Bool) → (a || true) ≡ true
-or_true true = refl
-or_true false = refl
-
 some_false : (first count : ℕ) → some (λ (_ : ℕ). false) (numbers_from first count) ≡ false
 some_false first zero = refl
 some_false first (suc count) = some_false (suc first) count
@@ -72,7 +67,7 @@ some_here f first (suc count) zero low here =
     rw (ap f e ∙ here) refl
 some_here f first (suc count) (suc k) low here =
     let moved : suc first + k ≡ first + suc k = omega arith in
-    rw (some_here f (suc first) count k (omega arith) (ap f moved ∙ here)) (or_true (f first))
+    rw (some_here f (suc first) count k (omega arith) (ap f moved ∙ here)) (or_right (f first) true refl)
 
 is_not : (reached : ℕ → Bool) (t c : ℕ) → (t ≡ c → reached c ≡ false) → (t == c && reached c) ≡ false
 is_not reached t c fails =
@@ -84,7 +79,7 @@ in_row : (row : List Bool) (reached : ℕ → Bool) (t : ℕ) (b : Bool) → t <
     → some (λ c. t == c && reached c) (below (length row)) ≡ b
 in_row row reached t true low here =
     let e : t ≡ 0 + t = omega arith in
-    some_here (λ c. t == c && reached c) 0 (length row) t low (and_true (t == (0 + t)) (reached (0 + t)) (eq-eqb t (0 + t) e) (ap reached (sym e) ∙ here))
+    some_here (λ c. t == c && reached c) 0 (length row) t low (and_from (t == (0 + t)) (reached (0 + t)) (eq-eqb t (0 + t) e) (ap reached (sym e) ∙ here))
 in_row row reached t false low here =
     some_none (λ c. t == c && reached c) 0 (length row) (λ k small. is_not reached t (0 + k) (λ e. ap reached (sym e) ∙ here))
 

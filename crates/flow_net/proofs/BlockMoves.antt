@@ -1,5 +1,6 @@
 -- Each move of a link keeps what each block and each input keeps.
 use Rattle.std.proofs.Common.{◌≡◌, ℕ, suc, ◌<◌, ltb, ◌==◌, ◌&&◌, Bool, true, false, cond, List, length, is_some, Option, Some, None, Result, refl, ap, sym, subst, ◌∙◌, arith, ⊎_elim, eqb-true, ltb-false}
+use Rattle.std.proofs.lemmas.Option.{cond_some}
 use Rattle.flow_value.specs.declared.value.Value.{Value}
 use Rattle.flow_link.specs.declared.phase.LinkEnd.{LinkEnd}
 use Rattle.flow_link.specs.declared.phase.LinkEnd.TheVariants.{Complete as end_complete, Fault as end_fault}
@@ -105,10 +106,6 @@ ended_as how other e = cc
 cond_offer : (b : Bool) (first step : Move) → cond b None (Some first) ≡ Some step → first ≡ step
 cond_offer true first step e = absurd (cc)
 cond_offer false first step e = cc
-
-cond_holds : {A : Type 0} (b : Bool) (x y : A) → cond b (Some x) None ≡ Some y → (b ≡ true) × (x ≡ y)
-cond_holds true x y e = (refl, cc)
-cond_holds false x y e = absurd (cc)
 
 module _ {W : Type 0} (layout : Layout W) (meaning : ℕ → Value → Result (List Value) ℕ) (parts : PartsState)
     (leads : LeadsWell layout) (built : IsBuilt layout.blocks layout.links) (keeps : Keeps layout parts) (all : AllKeep layout meaning parts)
@@ -479,7 +476,7 @@ module _ {W : Type 0} (layout : Layout W) (meaning : ℕ → Value → Result (L
   moves_opened : (i : ℕ) (stage : TargetStage Value) (step : Move) → line.phase ≡ Opened i → line.target ≡ stage
       → cond (is_hand stage && expects_at parts link.target) (Some Close) None ≡ Some step → Moved step
   moves_opened i (TargetStage.hand j value) step is hand e =
-      let same = (cond_holds (expects_at parts link.target) Close step e).1 in
+      let same = (cond_some (expects_at parts link.target) Close step e).1 in
       subst Moved same
       (subst (λ (t : TargetStage Value). AllKeep layout meaning (with_target l link.target t (with_line l (closed_by t) parts))) (sym hand)
       (closes_on i j value link.target is refl hand))

@@ -1,5 +1,6 @@
 -- Each step of a block keeps what each block and each input keeps.
 use Rattle.std.proofs.Common.{◌≡◌, ℕ, ◌<◌, Bool, true, false, cond, not, ◌&&◌, List, [], ◌∷◌, ◌++◌, ◌⊎◌, length, is_some, is_none, Option, Some, None, Result, Ok, Err, refl, ap, sym, subst, ◌∙◌, inl, inr, ⊎_elim, append_assoc, append-nil, eqb-true}
+use Rattle.std.proofs.lemmas.Bool.{and_parts, not-true}
 use Rattle.flow_value.specs.declared.value.Value.{Value}
 use Rattle.flow_link.specs.declared.draft.BlockKind.{BlockKind}
 use Rattle.flow_link.specs.declared.draft.BlockKind.TheVariants.{Buffer, Action, Transform}
@@ -15,7 +16,6 @@ use Rattle.flow_link.specs.Plan.{has_work}
 use Rattle.flow_link.specs.Trace.{took, gave, is_done_mark, is_fault_mark, is_complete_mark, has_complete}
 use Rattle.flow_link.specs.Views.{SourceStage, TargetStage, Refusal}
 use Rattle.flow_link.specs.Worked.{WorkedInto}
-use Rattle.flow_link.proofs.ListTests.{both_of}
 use Rattle.flow_link.proofs.OneMoreMark.{every_more, some_before, some_of_more, took_no_more, gave_no_more}
 use Rattle.flow_link.proofs.OneMoreWorked.{worked_more}
 use Rattle.flow_net.specs.BlockKeeps.{AllKeep, HasFaulted, MakesAs, Refuses, block_makes, is_own, is_first_port}
@@ -112,10 +112,6 @@ pub caused : (own : Option ℕ) (held : List Value) (brought : Option ℕ) (n : 
 caused (Some m) held brought n e = inl e
 caused None [] brought n e = inr (record { no_own = refl; no_held = refl; comes = e })
 caused None (value ∷ held) brought n e = absurd (cc)
-
-not_true : (b : Bool) → not b ≡ true → b ≡ false
-not_true true e = absurd (cc)
-not_true false e = refl
 
 pub cond_some : (b : Bool) (fault : Option ℕ) (n : ℕ) → cond b fault None ≡ Some n → (b ≡ true) × (fault ≡ Some n)
 cond_some true fault n e = (refl, e)
@@ -352,40 +348,40 @@ module _ {W : Type 0} (layout : Layout W) (meaning : ℕ → Value → Result (L
 
     make_keeps_all : may_make node ≡ true → AllKeep layout meaning (after layout meaning parts (Make b))
     make_keeps_all may =
-        let outer = both_of (not (has_stopped node.state) && is_none node.fault) (not (is_empty node.held)) may in
-        let inner = both_of (not (has_stopped node.state)) (is_none node.fault) outer.0 in
+        let outer = and_parts (not (has_stopped node.state) && is_none node.fault) (not (is_empty node.held)) may in
+        let inner = and_parts (not (has_stopped node.state)) (is_none node.fault) outer.0 in
         let links = made_links (block_makes layout meaning b) node (stage_into parts node) (stage_out parts node) (kind_in layout b) in
         one_changes layout meaning parts b there (made_by layout meaning parts b) all links.0 links.1
         (made_is_well (block_makes layout meaning b) node (stage_into parts node) (stage_out parts node)
-        (not_true (has_stopped node.state) inner.0) (none_is node.fault inner.1) (kind_in layout b) before)
+        (not-true (has_stopped node.state) inner.0) (none_is node.fault inner.1) (kind_in layout b) before)
 
     complete_keeps_all : may_complete parts node ≡ true → AllKeep layout meaning (after layout meaning parts (Complete b 0))
     complete_keeps_all may =
-        let both = both_of (is_open node.state) (brings_completion (stage_into parts node)) may in
+        let both = and_parts (is_open node.state) (brings_completion (stage_into parts node)) may in
         one_changes layout meaning parts b there (completes 0) all refl refl
         (completed_is_well (block_makes layout meaning b) (kind_in layout b) node (stage_into parts node) (stage_out parts node) before both.0 both.1)
 
     still_tells : is_still parts node ≡ true → (is_coming (stage_into parts node) ≡ false) × (is_at_home (stage_out parts node) ≡ true)
     still_tells still =
-        let both = both_of (not (is_coming (stage_into parts node))) (is_at_home (stage_out parts node)) still in
-        (not_true (is_coming (stage_into parts node)) both.0, both.1)
+        let both = and_parts (not (is_coming (stage_into parts node))) (is_at_home (stage_out parts node)) still in
+        (not-true (is_coming (stage_into parts node)) both.0, both.1)
 
     fault_keeps_all : (fault : Option ℕ) → next_fault parts node ≡ fault → AllKeep layout meaning (after_fault parts b fault)
     fault_keeps_all None is = all
     fault_keeps_all (Some n) is =
         let both = cond_some (not (has_stopped node.state) && is_still parts node) (fault_cause parts node) n is in
-        let free = both_of (not (has_stopped node.state)) (is_still parts node) both.0 in
+        let free = and_parts (not (has_stopped node.state)) (is_still parts node) both.0 in
         let still = still_tells free.1 in
         one_changes layout meaning parts b there (faults n) all refl refl
         (faulted_is_well (block_makes layout meaning b) (kind_in layout b) node (stage_into parts node) (stage_out parts node) before n
-        (not_true (has_stopped node.state) free.0) still.0 still.1
+        (not-true (has_stopped node.state) free.0) still.0 still.1
         (caused node.fault node.held (fault_brought (stage_into parts node)) n both.1))
 
     done_keeps_all : may_finish parts node ≡ true → AllKeep layout meaning (after layout meaning parts (Done b))
     done_keeps_all may =
-        let third = both_of (is_completing node.state && is_still parts node && is_empty node.held) (is_empty node.left) may in
-        let second = both_of (is_completing node.state && is_still parts node) (is_empty node.held) third.0 in
-        let first = both_of (is_completing node.state) (is_still parts node) second.0 in
+        let third = and_parts (is_completing node.state && is_still parts node && is_empty node.held) (is_empty node.left) may in
+        let second = and_parts (is_completing node.state && is_still parts node) (is_empty node.held) third.0 in
+        let first = and_parts (is_completing node.state) (is_still parts node) second.0 in
         let still = still_tells first.1 in
         one_changes layout meaning parts b there finishes all refl refl
         (finished_is_well (block_makes layout meaning b) (kind_in layout b) node (stage_into parts node) (stage_out parts node) before

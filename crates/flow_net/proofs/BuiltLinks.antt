@@ -1,6 +1,7 @@
 -- What a link of a built plan is: it carries any number of any values, and its target is a port that does not reserve. And
 -- what its source does where nothing is under way.
 use Rattle.std.proofs.Common.{◌≡◌, ℕ, zero, suc, ◌<◌, ltb, Bool, true, false, cond, ◌&&◌, List, [], ◌∷◌, ◌⊎◌, length, is_some, is_none, ◌==◌, unwrap_or, not, Option, Some, None, refl, ap, sym, subst, ◌∙◌, arith, inl, inr, ltb-true}
+use Rattle.std.proofs.lemmas.Bool.{and_parts}
 use Rattle.flow_value.specs.When.{admits}
 use Rattle.flow_value.specs.declared.value.Value.{Value}
 use Rattle.flow_value.specs.declared.when.When.{When}
@@ -27,7 +28,6 @@ use Rattle.flow_link.specs.Lists.{every, is_empty}
 use Rattle.flow_link.specs.NotBuilt.{is_built_kind, is_built_block}
 use Rattle.flow_link.specs.Plan.{link_in, block_in, reserves_by_kind, is_reserving}
 use Rattle.flow_link.specs.Views.{LinkFacts}
-use Rattle.flow_link.proofs.ListTests.{both_of}
 use Rattle.flow_net.specs.Events.{first_of, value_at, head_of, end_as, move_of_node, move_of_feed, end_of_feed, move_of_source}
 use Rattle.flow_net.specs.Parts.{NodeState, FeedState, PartsState, node_at, feed_at}
 use Rattle.flow_net.specs.declared.posted.State.{State}
@@ -114,9 +114,9 @@ module _ (parts : PartsState) where
 module _ {W : Type 0} where
   built_reserves_not : (block : BlockDef W) → is_built_block block ≡ true → is_reserving block ≡ false
   built_reserves_not block e =
-      let first = both_of (is_built_kind block.kind && is_none block.capacity && unwrap_or block.lanes 1 == 1) (not block.output) e in
-      let second = both_of (is_built_kind block.kind && is_none block.capacity) (unwrap_or block.lanes 1 == 1) first.0 in
-      let third = both_of (is_built_kind block.kind) (is_none block.capacity) second.0 in
+      let first = and_parts (is_built_kind block.kind && is_none block.capacity && unwrap_or block.lanes 1 == 1) (not block.output) e in
+      let second = and_parts (is_built_kind block.kind && is_none block.capacity) (unwrap_or block.lanes 1 == 1) first.0 in
+      let third = and_parts (is_built_kind block.kind) (is_none block.capacity) second.0 in
       reserves_not block.kind block.greedy third.0
 
 module _ {W : Type 0} (layout : Layout W) (leads : LeadsWell layout) (built : IsBuilt layout.blocks layout.links) where

@@ -1,5 +1,6 @@
 -- What the state of a block says of its journal; and after a Took or Gave mark a port has still completed once at most.
-use Rattle.std.proofs.Common.{◌≡◌, ℕ, ◌==◌, ◌&&◌, ◌||◌, not, Bool, true, false, List, [], ◌∷◌, ◌++◌, Option, Some, None, refl, ap, sym, ◌∙◌, append-nil}
+use Rattle.std.proofs.Common.{◌≡◌, ℕ, ◌==◌, ◌&&◌, not, Bool, true, false, List, [], ◌∷◌, ◌++◌, Option, Some, None, refl, ap, sym, ◌∙◌, append-nil}
+use Rattle.std.proofs.lemmas.Bool.{and_parts, or_parts}
 use Rattle.flow_value.specs.declared.value.Value.{Value}
 use Rattle.flow_link.specs.declared.trace.Mark.{Mark}
 use Rattle.flow_link.specs.declared.trace.Mark.TheVariants.{Took, Gave, Complete, Fault, Done}
@@ -7,7 +8,6 @@ use Rattle.flow_link.specs.Endings.{completes_once}
 use Rattle.flow_link.specs.Lists.{every, is_empty}
 use Rattle.flow_link.specs.Trace.{took_at, has_complete, has_fault, is_done, is_complete_mark}
 use Rattle.flow_link.proofs.JournalsGrow.{took_more}
-use Rattle.flow_link.proofs.ListTests.{both_of}
 use Rattle.flow_link.proofs.OneMoreMark.{some_no_more}
 use Rattle.flow_net.specs.BlockKeeps.{is_own}
 use Rattle.flow_net.specs.Events.{is_open, has_stopped}
@@ -48,20 +48,16 @@ once_gave (Gave k u ∷ marks) l v = once_gave marks l v
 once_gave (Fault n ∷ marks) l v = once_gave marks l v
 once_gave (Done ∷ marks) l v = once_gave marks l v
 
-neither : (a b : Bool) → a || b ≡ false → (a ≡ false) × (b ≡ false)
-neither true b e = absurd (cc)
-neither false b e = (refl, e)
-
 pub once_took : (into out : Option ℕ) (marks : List Mark) (p l : ℕ) (v : Value) → every (is_own into out) marks ≡ true → has_complete 0 marks ≡ false
     → completes_once (marks ++ Took p l v ∷ []) ≡ completes_once marks
 once_took into out [] p l v own none = refl
 once_took into out (Complete q ∷ marks) p l v own none =
-    let first = both_of (q == 0) (every (is_own into out) marks) own in
-    let other = neither (q == 0) (has_complete 0 marks) none in
+    let first = and_parts (q == 0) (every (is_own into out) marks) own in
+    let other = or_parts (q == 0) (has_complete 0 marks) none in
     absurd (let wrong : true ≡ false = sym first.0 ∙ other.0 in cc)
 once_took into out (Took q k u ∷ marks) p l v own none =
-    once_took into out marks p l v (both_of (is_own into out (Took q k u)) (every (is_own into out) marks) own).1 none
+    once_took into out marks p l v (and_parts (is_own into out (Took q k u)) (every (is_own into out) marks) own).1 none
 once_took into out (Gave k u ∷ marks) p l v own none =
-    once_took into out marks p l v (both_of (is_own into out (Gave k u)) (every (is_own into out) marks) own).1 none
+    once_took into out marks p l v (and_parts (is_own into out (Gave k u)) (every (is_own into out) marks) own).1 none
 once_took into out (Fault n ∷ marks) p l v own none = once_took into out marks p l v own none
 once_took into out (Done ∷ marks) p l v own none = once_took into out marks p l v own none

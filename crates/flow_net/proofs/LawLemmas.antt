@@ -1,5 +1,6 @@
 -- What a network keeps makes the run so far keep the link law.
 use Rattle.std.proofs.Common.{◌≡◌, ℕ, zero, suc, ◌+◌, ◌<◌, Bool, true, false, cond, List, [], ◌∷◌, length, get_or, take, map, is_some, count_by, Option, Some, None, Result, refl, ap, sym, subst, ◌∙◌, arith, le-leb}
+use Rattle.std.proofs.lemmas.Bool.{and_from}
 use Rattle.std.proofs.lemmas.List.Sums.{sum_by-cons}
 use Rattle.flow_value.specs.When.{admits}
 use Rattle.flow_value.specs.declared.value.Value.{Value}
@@ -18,7 +19,7 @@ use Rattle.flow_link.specs.Lists.{every, is_front}
 use Rattle.flow_link.specs.Plan.{link_in}
 use Rattle.flow_link.specs.Told.{IsTakenOrUnderWay}
 use Rattle.flow_link.specs.Trace.{InputTrace, Run, nothing_left, nothing_posted, gave_over, took_over, marks_of, given_by, given_over, taken_by, taken_over, input_of}
-use Rattle.flow_link.proofs.ListTests.{and_true, every_below, same_value_refl}
+use Rattle.flow_link.proofs.ListTests.{every_below, same_value_refl}
 use Rattle.flow_link.proofs.LinksByParts.{all_or_all_but_one, taken_is_front, within_test}
 use Rattle.flow_link.proofs.LinksTell.{links_tell}
 use Rattle.flow_net.specs.Keeps.{Keeps}
@@ -40,7 +41,7 @@ within_none (Some max) = le-leb 0 max (omega arith)
 pub front_taken : (n : ℕ) (values : List Value) → is_front (take n values) values ≡ true
 front_taken zero values = refl
 front_taken (suc n) [] = refl
-front_taken (suc n) (value ∷ values) = and_true _ (is_front (take n values) values) (same_value_refl value) (front_taken n values)
+front_taken (suc n) (value ∷ values) = and_from _ (is_front (take n values) values) (same_value_refl value) (front_taken n values)
 
 -- a block's journal is that of its trace
 journal_of : (nodes : List NodeState) (b : ℕ) → (get_or (map block_trace nodes) b nothing_left).journal ≡ (get_or nodes b fresh_node).journal

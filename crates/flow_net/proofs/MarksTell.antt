@@ -1,37 +1,28 @@
 -- What a journal tells of its block: how the block has ended, which links its marks are of, and that they have their causes.
 use Rattle.std.proofs.Common.{◌≡◌, ℕ, ◌==◌, Bool, true, false, ◌||◌, is_some, List, [], ◌∷◌, Option, Some, None, refl, ap, sym, ◌∙◌, eq-eqb, eqb-true}
+use Rattle.std.proofs.lemmas.Bool.{and_from, and_parts, or_left, or_right}
 use Rattle.flow_value.specs.declared.value.Value.{Value}
 use Rattle.flow_link.specs.declared.trace.Mark.{Mark}
 use Rattle.flow_link.specs.declared.trace.Mark.TheVariants.{Took, Gave, Complete, Fault, Done}
 use Rattle.flow_link.specs.Endings.{stops}
 use Rattle.flow_link.specs.Lists.{every, is_empty}
 use Rattle.flow_link.specs.Trace.{has_complete, has_fault, is_faulted, is_done, has_ended}
-use Rattle.flow_link.proofs.ListTests.{and_true, both_of, or_first, or_second}
 use Rattle.flow_net.specs.BlockKeeps.{is_link, is_own}
 use Rattle.flow_net.specs.Events.{is_open, has_stopped, is_completing}
 use Rattle.flow_net.specs.States.{fault_in, state_from, state_by}
 use Rattle.flow_net.specs.declared.posted.State.TheVariants as state
 
--- tests
-pub or_either : (a b c : Bool) → b || c ≡ true → a || b || c ≡ true
-or_either true b c e = refl
-or_either false b c e = e
-
-pub false_where : (b : Bool) → (b ≡ true → ⊥) → b ≡ false
-false_where true h = absurd (h refl)
-false_where false h = refl
-
 pub every_all : {A : Type 0} (test : A → Bool) (xs : List A) → ((x : A) → test x ≡ true) → every test xs ≡ true
 every_all test [] h = refl
-every_all test (x ∷ xs) h = and_true (test x) (every test xs) (h x) (every_all test xs h)
+every_all test (x ∷ xs) h = and_from (test x) (every test xs) (h x) (every_all test xs h)
 
 pub every_by_two : {A : Type 0} (f g h : A → Bool) (xs : List A) → ((x : A) → f x ≡ true → g x ≡ true → h x ≡ true)
     → every f xs ≡ true → every g xs ≡ true → every h xs ≡ true
 every_by_two f g h [] each ef eg = refl
 every_by_two f g h (x ∷ xs) each ef eg =
-    let one = both_of (f x) (every f xs) ef in
-    let two = both_of (g x) (every g xs) eg in
-    and_true (h x) (every h xs) (each x one.0 two.0) (every_by_two f g h xs each one.1 two.1)
+    let one = and_parts (f x) (every f xs) ef in
+    let two = and_parts (g x) (every g xs) eg in
+    and_from (h x) (every h xs) (each x one.0 two.0) (every_by_two f g h xs each one.1 two.1)
 
 -- the link that is this one
 pub link_is : (l : ℕ) (o : Option ℕ) → is_link l o ≡ true → o ≡ Some l
@@ -41,7 +32,7 @@ link_is l (Some k) e = ap (λ (n : ℕ). Some n) (eqb-true k l e)
 -- a fault in the journal
 pub fault_there : (marks : List Mark) (n : ℕ) → fault_in marks ≡ Some n → has_fault n marks ≡ true
 fault_there [] n e = absurd (cc)
-fault_there (Fault m ∷ marks) n e = let same : m ≡ n = cc in or_first (m == n) (has_fault n marks) (eq-eqb m n same)
+fault_there (Fault m ∷ marks) n e = let same : m ≡ n = cc in or_left (m == n) (has_fault n marks) (eq-eqb m n same)
 fault_there (Took p l v ∷ marks) n e = fault_there marks n e
 fault_there (Gave l v ∷ marks) n e = fault_there marks n e
 fault_there (Complete p ∷ marks) n e = fault_there marks n e
@@ -152,10 +143,10 @@ port_of port p later false is first rest e = rest e
 pub port_is : (into out : Option ℕ) (marks : List Mark) (p : ℕ) → every (is_own into out) marks ≡ true → has_complete p marks ≡ true → p ≡ 0
 port_is into out [] p own e = absurd (cc)
 port_is into out (Complete port ∷ marks) p own e =
-    let both = both_of (port == 0) (every (is_own into out) marks) own in
+    let both = and_parts (port == 0) (every (is_own into out) marks) own in
     port_of port p (has_complete p marks) (port == p) refl (eqb-true port 0 both.0) (λ rest. port_is into out marks p both.1 rest) e
-port_is into out (Took q l v ∷ marks) p own e = port_is into out marks p (both_of (is_link l into) (every (is_own into out) marks) own).1 e
-port_is into out (Gave l v ∷ marks) p own e = port_is into out marks p (both_of (is_link l out) (every (is_own into out) marks) own).1 e
+port_is into out (Took q l v ∷ marks) p own e = port_is into out marks p (and_parts (is_link l into) (every (is_own into out) marks) own).1 e
+port_is into out (Gave l v ∷ marks) p own e = port_is into out marks p (and_parts (is_link l out) (every (is_own into out) marks) own).1 e
 port_is into out (Fault n ∷ marks) p own e = port_is into out marks p own e
 port_is into out (Done ∷ marks) p own e = port_is into out marks p own e
 
@@ -170,29 +161,29 @@ pub record PassesFor (test : Mark → Bool) (marks : List Mark) : Type 0 where
 pub every_mark : (test : Mark → Bool) (marks : List Mark) → PassesFor test marks → every test marks ≡ true
 every_mark test [] passes = refl
 every_mark test (Took p l v ∷ marks) passes =
-    and_true (test (Took p l v)) (every test marks) (passes.took p l v)
+    and_from (test (Took p l v)) (every test marks) (passes.took p l v)
     (every_mark test marks (record { took = passes.took; gave = passes.gave; done = passes.done; complete = passes.complete; fault = passes.fault }))
 every_mark test (Gave l v ∷ marks) passes =
-    and_true (test (Gave l v)) (every test marks) (passes.gave l v)
+    and_from (test (Gave l v)) (every test marks) (passes.gave l v)
     (every_mark test marks (record { took = passes.took; gave = passes.gave; done = passes.done; complete = passes.complete; fault = passes.fault }))
 every_mark test (Done ∷ marks) passes =
-    and_true (test Done) (every test marks) passes.done
+    and_from (test Done) (every test marks) passes.done
     (every_mark test marks (record { took = passes.took; gave = passes.gave; done = passes.done; complete = passes.complete; fault = passes.fault }))
 every_mark test (Complete p ∷ marks) passes =
-    and_true (test (Complete p)) (every test marks) (passes.complete p (or_first (p == p) (has_complete p marks) (eq-eqb p p refl)))
+    and_from (test (Complete p)) (every test marks) (passes.complete p (or_left (p == p) (has_complete p marks) (eq-eqb p p refl)))
     (every_mark test marks (record {
       took = passes.took;
       gave = passes.gave;
       done = passes.done;
-      complete = λ q e. passes.complete q (or_second (p == q) (has_complete q marks) e);
+      complete = λ q e. passes.complete q (or_right (p == q) (has_complete q marks) e);
       fault = passes.fault;
     }))
 every_mark test (Fault n ∷ marks) passes =
-    and_true (test (Fault n)) (every test marks) (passes.fault n (or_first (n == n) (has_fault n marks) (eq-eqb n n refl)))
+    and_from (test (Fault n)) (every test marks) (passes.fault n (or_left (n == n) (has_fault n marks) (eq-eqb n n refl)))
     (every_mark test marks (record {
       took = passes.took;
       gave = passes.gave;
       done = passes.done;
       complete = passes.complete;
-      fault = λ m e. passes.fault m (or_second (n == m) (has_fault m marks) e);
+      fault = λ m e. passes.fault m (or_right (n == m) (has_fault m marks) e);
     }))

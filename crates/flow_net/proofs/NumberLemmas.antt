@@ -3,7 +3,7 @@
 use Rattle.std.proofs.Common.{◌≡◌, ◌≢◌, ℕ, zero, suc, ◌<◌, true, false, not, ◌&&◌, List, [], ◌∷◌, length, get_or, set}
 use Rattle.std.proofs.Common.{map, unwrap_or, Option, Some, None, Result, Ok, Err, refl, ap, sym, subst, ◌∙◌, inr}
 use Rattle.std.proofs.Common.{⊎_elim}
-use Rattle.std.proofs.lemmas.Bool.{ne_eqb}
+use Rattle.std.proofs.lemmas.Bool.{ne_eqb, and_parts}
 use Rattle.flow_value.specs.Fault.{number_of}
 use Rattle.flow_value.specs.declared.value.Value.{Value}
 use Rattle.flow_value.specs.declared.work.WorkFault.{WorkFault}
@@ -34,7 +34,6 @@ use Rattle.flow_link.specs.Making.{result_of}
 use Rattle.flow_link.specs.Plan.{link_in}
 use Rattle.flow_link.specs.Trace.{nothing_left, is_fault_mark, has_fault}
 use Rattle.flow_link.specs.Views.{SourceStage, TargetStage, Refusal}
-use Rattle.flow_link.proofs.ListTests.{both_of}
 use Rattle.flow_link.proofs.LinksTell.{links_tell}
 use Rattle.flow_link.proofs.OneMoreMark.{some_no_more}
 use Rattle.flow_net.specs.Events.{first_of, has_stopped, fault_brought, expecting, offers, gives, takes_in_hand, works}
@@ -218,10 +217,10 @@ one_input (None ∷ feeds) (suc b) feed all is = one_input feeds b feed all is
 one_input (Some first ∷ feeds) zero feed all is =
     let same : first ≡ feed = cc in
     subst (λ (f : FeedState). ends_by_number (input_trace f) ≡ true) same
-    (both_of (ends_by_number (input_trace first)) (every ends_by_number (input_traces feeds)) all).0
+    (and_parts (ends_by_number (input_trace first)) (every ends_by_number (input_traces feeds)) all).0
 one_input (Some first ∷ feeds) (suc b) feed all is =
     one_input feeds b feed
-    (both_of (ends_by_number (input_trace first)) (every ends_by_number (input_traces feeds)) all).1 is
+    (and_parts (ends_by_number (input_trace first)) (every ends_by_number (input_traces feeds)) all).1 is
 
 module _ {W : Type 0} (meaning : W → Value → Result (List Value) WorkFault)
     (never : (work : W) (value : Value) → meaning work value ≢ Err Memory)

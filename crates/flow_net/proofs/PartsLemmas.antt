@@ -1,6 +1,6 @@
 -- Where each link, block and input of a network keeps what it should, its parts keep their own laws, and the run so far is lawful.
-use Rattle.std.proofs.Common.{◌≡◌, ℕ, zero, suc, ◌+◌, ◌==◌, ◌<◌, ◌≤◌, ltb, Bool, true, false, not, ◌&&◌, ◌||◌, is_some, is_none, unwrap_or, cond, count_by, List, [], ◌∷◌, ◌++◌, length, get_or, take, map, Option, Some, None, Result, refl, ap, sym, subst, ◌∙◌, arith, ⊎_elim, eq-eqb, eqb-true, lt-ltb, take_all}
-use Rattle.std.proofs.lemmas.Bool.{cases_eq}
+use Rattle.std.proofs.Common.{◌≡◌, ℕ, zero, suc, ◌+◌, ◌==◌, ◌<◌, ltb, Bool, true, false, not, ◌&&◌, ◌||◌, is_some, is_none, unwrap_or, cond, count_by, List, [], ◌∷◌, ◌++◌, length, get_or, take, map, Option, Some, None, Result, refl, ap, sym, subst, ◌∙◌, arith, ⊎_elim, eq-eqb, eqb-true, lt-ltb, take_all}
+use Rattle.std.proofs.lemmas.Bool.{and_from, and_parts, or_left, or_right, false_from_ne_true}
 use Rattle.std.proofs.lemmas.List.{get_or-map, length-map}
 use Rattle.std.proofs.lemmas.List.Sums.{sum_by-cons}
 use Rattle.flow_value.specs.When.{admits}
@@ -28,7 +28,7 @@ use Rattle.flow_link.specs.Law.{is_own_mark, has_own_marks, has_room_for, takes_
 use Rattle.flow_link.specs.Layout.{Layout}
 use Rattle.flow_link.specs.LeadsWell.{LeadsWell}
 use Rattle.flow_link.specs.LinkOk.{LinkOk, StandAt, MayEnd, EndsWell}
-use Rattle.flow_link.specs.Lists.{every, some, numbers_from, below, is_empty, is_front}
+use Rattle.flow_link.specs.Lists.{every, some, below, is_empty, is_front}
 use Rattle.flow_link.specs.Making.{outputs, load}
 use Rattle.flow_link.specs.NotBuilt.{is_built_kind, is_built_block}
 use Rattle.flow_link.specs.Plan.{block_in, link_in, begins_at, ends_at, ends_at_port, is_one_taker, is_reserving, reserves_by_kind, ports_by_kind, port_count}
@@ -36,8 +36,9 @@ use Rattle.flow_link.specs.Shape.{Shape, tells_each_port}
 use Rattle.flow_link.specs.Trace.{BlockTrace, InputTrace, Run, nothing_left, took, gave, gave_over, took_over, has_complete, has_fault, has_ended, is_done, is_faulted, is_cut, link_numbers, trace_of, marks_of, held_at, left_at, ports_of, input_of}
 use Rattle.flow_link.specs.Views.{SourceStage, TargetStage, LinkFacts, Refusal}
 use Rattle.flow_link.specs.Worked.{WorkedInto}
-use Rattle.flow_link.proofs.ListTests.{and_true, both_of, every_below, or_first, or_second, or_not}
+use Rattle.flow_link.proofs.ListTests.{every_below, or_not, or_others}
 use Rattle.flow_link.proofs.LawfulByParts.{composes}
+use Rattle.flow_link.proofs.RoundsOfWalks.{some_here_below}
 use Rattle.flow_net.specs.BlockKeeps.{is_link, is_own, is_first_port as is_first, MakesAs, Refuses, BlockKeeps, AllKeep, block_makes}
 use Rattle.flow_net.specs.Events.{is_open, has_stopped, stage_into, stage_out, brings_completion, fault_brought}
 use Rattle.flow_net.specs.Keeps.{Keeps}
@@ -47,7 +48,7 @@ use Rattle.flow_net.specs.Statements.{AllKeptIsLawful}
 use Rattle.flow_net.specs.declared.posted.State.TheVariants as state
 use Rattle.flow_net.proofs.LawLemmas.{input_found}
 use Rattle.flow_net.proofs.LawLemmas.{front_taken}
-use Rattle.flow_net.proofs.MarksTell.{or_either, false_where, every_all, every_by_two, link_is, ended_where, stopped_tells, done_where, port_is, every_mark}
+use Rattle.flow_net.proofs.MarksTell.{every_all, every_by_two, link_is, ended_where, stopped_tells, done_where, port_is, every_mark}
 
 -- what holds of each kind that is built
 pub by_kind : (P : BlockKind → Type 0) → P Buffer → P Action → P Transform → (kind : BlockKind) → is_built_kind kind ≡ true → P kind
@@ -69,31 +70,19 @@ pub record IsPlain {W : Type 0} (block : BlockDef W) : Type 0 where
 
 pub plain_block : {W : Type 0} (block : BlockDef W) → is_built_block block ≡ true → IsPlain block
 plain_block block e =
-    let first = both_of (is_built_kind block.kind && is_none block.capacity && unwrap_or block.lanes 1 == 1) (not block.output) e in
-    let second = both_of (is_built_kind block.kind && is_none block.capacity) (unwrap_or block.lanes 1 == 1) first.0 in
-    let third = both_of (is_built_kind block.kind) (is_none block.capacity) second.0 in
+    let first = and_parts (is_built_kind block.kind && is_none block.capacity && unwrap_or block.lanes 1 == 1) (not block.output) e in
+    let second = and_parts (is_built_kind block.kind && is_none block.capacity) (unwrap_or block.lanes 1 == 1) first.0 in
+    let third = and_parts (is_built_kind block.kind) (is_none block.capacity) second.0 in
     record { kind = third.0; unbounded = none_where block.capacity third.1 }
 
 -- a test that passes for the one port passes for all
 pub every_port : (test : ℕ → Bool) (ports : List ℕ) → ports ≡ 0 ∷ [] → test 0 ≡ true → every test ports ≡ true
-every_port test ports is e = subst (λ (ps : List ℕ). every test ps ≡ true) (sym is) (and_true (test 0) true e refl)
-
--- a test that passes for a number passes for some
-some_from : (test : ℕ → Bool) (first count k : ℕ) → first ≤ k → k < first + count → test k ≡ true → some test (numbers_from first count) ≡ true
-some_from test first zero k low high e = absurd (omega arith)
-some_from test first (suc count) k low high e =
-    ⊎_elim
-    (λ same. or_first (test first) (some test (numbers_from (suc first) count)) (subst (λ (n : ℕ). test n ≡ true) same e))
-    (λ apart. or_second (test first) (some test (numbers_from (suc first) count)) (some_from test (suc first) count k (omega arith) (omega arith) e))
-    (cases_eq k first)
-
-pub some_below : (test : ℕ → Bool) (count k : ℕ) → k < count → test k ≡ true → some test (below count) ≡ true
-some_below test count k small e = some_from test 0 count k (omega arith) (omega arith) e
+every_port test ports is e = subst (λ (ps : List ℕ). every test ps ≡ true) (sym is) (and_from (test 0) true e refl)
 
 -- the first port of a block that a link leads to
 pub port_at : (b p : ℕ) (target : LinkTarget) → ends_at b target ≡ true → is_first_port target ≡ true → p ≡ 0 → ends_at_port b p target ≡ true
 port_at b p (Port n q) ends first is =
-    and_true (n == b) (q == p) ends (eq-eqb q p (eqb-true q 0 first ∙ sym is))
+    and_from (n == b) (q == p) ends (eq-eqb q p (eqb-true q 0 first ∙ sym is))
 port_at b p Exit ends first is = absurd (cc)
 
 ends_there : (b : ℕ) (target : LinkTarget) → ends_at b target ≡ true → (p : ℕ) × (target ≡ Port b p)
@@ -243,12 +232,12 @@ module _ {W : Type 0} (meaning : W → Value → Result (List Value) WorkFault) 
     own_mark_so (Took port link value) own first =
         let is = link_is link node.into own in
         let there = keeps.into_there b link is in
-        and_true (ltb link (length layout.links)) (ends_at_port b port (link_in layout.links link).target)
+        and_from (ltb link (length layout.links)) (ends_at_port b port (link_in layout.links link).target)
         (lt-ltb link (length layout.links) there)
         (port_at b port (link_in layout.links link).target (mine.links.into_ends link is) (built.first_port link there) (eqb-true port 0 first))
     own_mark_so (Gave link value) own first =
         let is = link_is link node.out own in
-        and_true (ltb link (length layout.links)) (begins_at b (link_in layout.links link).source)
+        and_from (ltb link (length layout.links)) (begins_at b (link_in layout.links link).source)
         (lt-ltb link (length layout.links) (keeps.out_there b link is)) (mine.links.out_begins link is)
     own_mark_so (Complete port) own first =
         let is : port ≡ 0 = eqb-true port 0 own in
@@ -291,7 +280,7 @@ module _ {W : Type 0} (meaning : W → Value → Result (List Value) WorkFault) 
     level_so : takes_level run b ≡ true
     level_so =
         let block = block_in layout.blocks b in
-        or_first (not (is_reserving block)) _
+        or_left (not (is_reserving block)) _
         (by_kind (λ kind. not (reserves_by_kind kind block.greedy) ≡ true) refl refl refl block.kind plain.kind)
 
     copies_so : copies_as (as_seen run ends) b (block_in layout.blocks b).kind ≡ true
@@ -311,11 +300,11 @@ module _ {W : Type 0} (meaning : W → Value → Result (List Value) WorkFault) 
         let ended : is_done node.journal ≡ true = ap is_done (sym marks_are) ∙ e in
         let state_done : node.state ≡ state.Done = mine.state_is ∙ done_where node.journal mine.last ended in
         let nothing = mine.done_empty state_done in
-        and_true (is_complete run b) (has_nothing run b)
+        and_from (is_complete run b) (has_nothing run b)
         (complete_is
         ∙ every_port (λ p. has_complete p (marks_of run b)) (ports_of run b) ports_are
         (of_marks (λ marks. has_complete 0 marks ≡ true) (mine.done_complete ended)))
-        (and_true (every (λ p. is_empty (held_at run b p)) (ports_of run b)) (is_empty (left_at run b))
+        (and_from (every (λ p. is_empty (held_at run b p)) (ports_of run b)) (is_empty (left_at run b))
         (every_port (λ p. is_empty (held_at run b p)) (ports_of run b) ports_are (empty_where (held_at run b 0) node.held held_is nothing.0))
         (empty_where (left_at run b) node.left left_is nothing.1))
 
@@ -331,9 +320,9 @@ module _ {W : Type 0} (meaning : W → Value → Result (List Value) WorkFault) 
         let over = completion_over parts node.into (mine.complete_cause (subst (λ (q : ℕ). has_complete q node.journal ≡ true) is e)) in
         let l = over.0 in
         let there = keeps.into_there b l over.1.0 in
-        or_first (some (λ l. ends_at_port b p (link_in layout.links l).target && has_seen_completion (line_at parts l).target) (link_numbers run)) _
-        (some_below (λ l. ends_at_port b p (link_in layout.links l).target && has_seen_completion (line_at parts l).target) (length layout.links) l there
-        (and_true (ends_at_port b p (link_in layout.links l).target) (has_seen_completion (line_at parts l).target)
+        or_left (some (λ l. ends_at_port b p (link_in layout.links l).target && has_seen_completion (line_at parts l).target) (link_numbers run)) _
+        (some_here_below (λ l. ends_at_port b p (link_in layout.links l).target && has_seen_completion (line_at parts l).target) (length layout.links) l there
+        (and_from (ends_at_port b p (link_in layout.links l).target) (has_seen_completion (line_at parts l).target)
         (port_at b p (link_in layout.links l).target (mine.links.into_ends l over.1.0) (built.first_port l there) is)
         (seen_completion (line_at parts l).target over.1.1)))
 
@@ -342,17 +331,17 @@ module _ {W : Type 0} (meaning : W → Value → Result (List Value) WorkFault) 
     fault_came n e =
         let over = fault_over parts node.into n e in
         let l = over.0 in
-        some_below (λ l. ends_at b (link_in layout.links l).target && has_seen_fault n (line_at parts l).target) (length layout.links) l
+        some_here_below (λ l. ends_at b (link_in layout.links l).target && has_seen_fault n (line_at parts l).target) (length layout.links) l
         (keeps.into_there b l over.1.0)
-        (and_true (ends_at b (link_in layout.links l).target) (has_seen_fault n (line_at parts l).target)
+        (and_from (ends_at b (link_in layout.links l).target) (has_seen_fault n (line_at parts l).target)
         (mine.links.into_ends l over.1.0) (seen_fault (line_at parts l).target n over.1.1))
 
     fault_seen : (n : ℕ) → has_fault n node.journal ≡ true → has_seen_cause run ends b (Fault n) ≡ true
     fault_seen n e =
         let over = some (λ l. ends_at b (link_in layout.links l).target && has_seen_fault n (line_at parts l).target) (link_numbers run) in
         ⊎_elim
-        (λ own. or_first (is_number n (own_fault run b)) over (ap (is_number n) (own_fault_is n own) ∙ eq-eqb n n refl))
-        (λ came. or_second (is_number n (own_fault run b)) over (fault_came n came))
+        (λ own. or_left (is_number n (own_fault run b)) over (ap (is_number n) (own_fault_is n own) ∙ eq-eqb n n refl))
+        (λ came. or_right (is_number n (own_fault run b)) over (fault_came n came))
         (mine.fault_cause n e)
 
     causes_so : every (has_seen_cause run ends b) (marks_of run b) ≡ true
@@ -370,7 +359,7 @@ module _ {W : Type 0} (meaning : W → Value → Result (List Value) WorkFault) 
     passed_so : (before : List Mark) (value : Value) (link l : ℕ) → node.out ≡ Some link → l < link → is_passed (as_seen run ends) b before value l ≡ true
     passed_so before value link l is less =
         let there = keeps.out_there b link is in
-        let not_here : begins_at b (link_in layout.links l).source ≡ false = false_where (begins_at b (link_in layout.links l).source)
+        let not_here : begins_at b (link_in layout.links l).source ≡ false = false_from_ne_true (begins_at b (link_in layout.links l).source)
         (λ begins. let same = built.one_out l link b (omega arith) there (begins_there b (link_in layout.links l).source begins)
         (begins_there b (link_in layout.links link).source (mine.links.out_begins link is)) in omega arith) in
         rw not_here refl
@@ -378,18 +367,18 @@ module _ {W : Type 0} (meaning : W → Value → Result (List Value) WorkFault) 
     order_so : (before marks : List Mark) → every (is_own node.into node.out) marks ≡ true → gives_in_order (as_seen run ends) b before marks ≡ true
     order_so before [] own = refl
     order_so before (Gave link value ∷ marks) own =
-        let both = both_of (is_link link node.out) (every (is_own node.into node.out) marks) own in
-        and_true (every (is_passed (as_seen run ends) b before value) (below link)) (gives_in_order (as_seen run ends) b (before ++ Gave link value ∷ []) marks)
+        let both = and_parts (is_link link node.out) (every (is_own node.into node.out) marks) own in
+        and_from (every (is_passed (as_seen run ends) b before value) (below link)) (gives_in_order (as_seen run ends) b (before ++ Gave link value ∷ []) marks)
         (every_below (is_passed (as_seen run ends) b before value) link (λ l less. passed_so before value link l (link_is link node.out both.0) less))
         (order_so (before ++ Gave link value ∷ []) marks both.1)
-    order_so before (Took p l v ∷ marks) own = order_so before marks (both_of (is_link l node.into) (every (is_own node.into node.out) marks) own).1
-    order_so before (Complete p ∷ marks) own = order_so before marks (both_of (p == 0) (every (is_own node.into node.out) marks) own).1
+    order_so before (Took p l v ∷ marks) own = order_so before marks (and_parts (is_link l node.into) (every (is_own node.into node.out) marks) own).1
+    order_so before (Complete p ∷ marks) own = order_so before marks (and_parts (p == 0) (every (is_own node.into node.out) marks) own).1
     order_so before (Fault n ∷ marks) own = order_so before marks own
     order_so before (Done ∷ marks) own = order_so before marks own
 
     order_seen_so : keeps_link_order (as_seen run ends) b ≡ true
     order_seen_so =
-        or_second (not (is_one_taker (block_in layout.blocks b).kind)) (gives_in_order (as_seen run ends) b [] (marks_of run b))
+        or_right (not (is_one_taker (block_in layout.blocks b).kind)) (gives_in_order (as_seen run ends) b [] (marks_of run b))
         (of_marks (λ marks. gives_in_order (as_seen run ends) b [] marks ≡ true) (order_so [] node.journal mine.own_marks))
 
     source_keeps : (l : ℕ) → l < length layout.links → (link_in layout.links l).source ≡ Block b → SourceKeeps run ends l b
@@ -401,7 +390,7 @@ module _ {W : Type 0} (meaning : W → Value → Result (List Value) WorkFault) 
           admitted = of_marks (λ marks. every (admits (link_in layout.links l).when) (gave_over l marks) ≡ true) (keeps.admits_all l b there is).admitted;
           after_done = λ e. of_marks (λ marks. is_done marks ≡ true) (mine.end_done (same ∙ e));
           after_fault = λ n e. of_marks (λ marks. has_fault n marks ≡ true) (mine.end_faulted n (same ∙ e));
-          after_plain = λ e. or_either (is_cut run l) (is_done (marks_of run b)) (is_faulted (marks_of run b))
+          after_plain = λ e. or_others (is_cut run l) (is_done (marks_of run b)) (is_faulted (marks_of run b))
               (of_marks (λ marks. is_done marks || is_faulted marks ≡ true)
               (stopped_tells node.journal (ap has_stopped (sym mine.state_is) ∙ mine.end_stopped Plain (same ∙ e))));
         }

@@ -1,5 +1,6 @@
 -- Where each link, block and input of a network keeps what it should and nothing may happen any more, the run is quiet.
 use Rattle.std.proofs.Common.{◌≡◌, ℕ, ◌<◌, Bool, true, false, cond, not, ◌&&◌, ◌||◌, is_some, List, [], ◌∷◌, length, drop, Option, Some, None, Result, refl, ap, sym, subst, ◌∙◌, ⊎_elim}
+use Rattle.std.proofs.lemmas.Bool.{and_from, and_parts, or_left, or_right, not-true, true_from_ne_false}
 use Rattle.flow_value.specs.declared.value.Value.{Value}
 use Rattle.flow_value.specs.declared.work.WorkFault.{WorkFault}
 use Rattle.flow_link.specs.declared.draft.BlockKind.{BlockKind}
@@ -25,7 +26,7 @@ use Rattle.flow_link.specs.Plan.{block_in, link_in, is_broadcast}
 use Rattle.flow_link.specs.Quiet.{Quiet, is_open as is_ending_open, first_of, is_home, is_home_between, has_this_fault, holds_nothing, rests, rests_as, is_done_if_can, end_comes_from, end_reaches, hands_its_end_on, head_as, head_from, admits_head, has_not_ended, could_cross, carries_no_more, holds_back, has_served_all}
 use Rattle.flow_link.specs.Trace.{InputTrace, Run, gave_over, took_over, has_complete, has_fault, has_ended, is_faulted, is_done, marks_of, held_at, left_at, ports_of, given_by, given_over, taken_by, taken_over, input_of, waits_over, is_cut, is_refused}
 use Rattle.flow_link.specs.Views.{TargetStage, Refusal, crossed}
-use Rattle.flow_link.proofs.ListTests.{and_true, both_of, every_below, same_values_where, drop_all, or_first, or_second, or_not}
+use Rattle.flow_link.proofs.ListTests.{every_below, same_values_where, drop_all, or_not, unless_done}
 use Rattle.flow_link.proofs.LooksKeepOrder.{looks_keep}
 use Rattle.flow_net.specs.AtRest.{AtRest, is_rest, is_going}
 use Rattle.flow_net.specs.BlockKeeps.{BlockKeeps, AllKeep, Refuses}
@@ -44,27 +45,16 @@ use Rattle.flow_net.proofs.RestLemmas.{quiet_at_rest}
 port_passes : (test : ℕ → Bool) (ports : List ℕ) → ports ≡ 0 ∷ [] → every test ports ≡ true → test 0 ≡ true
 port_passes test ports is e =
     let one : every test (0 ∷ []) ≡ true = subst (λ (ps : List ℕ). every test ps ≡ true) is e in
-    (both_of (test 0) true one).0
+    (and_parts (test 0) true one).0
 
 first_false : (a b : Bool) → (a && b) ≡ false → b ≡ true → a ≡ false
 first_false true b e eb = absurd (cc)
 first_false false b e eb = refl
 
-true_where : (b : Bool) → (b ≡ false → ⊥) → b ≡ true
-true_where true h = refl
-true_where false h = absurd (h refl)
-
 third_false : (a b c : Bool) → (b ≡ true → c ≡ false) → (a && b && c) ≡ false
 third_false true true c h = h refl
 third_false true false c h = refl
 third_false false b c h = refl
-
-unless_done : (f d c n : Bool) → (f ≡ false → d ≡ false → c ≡ true → n ≡ true → ⊥) → (f || d || not (c && n)) ≡ true
-unless_done true d c n h = refl
-unless_done false true c n h = refl
-unless_done false false true true h = absurd (h refl refl refl refl)
-unless_done false false true false h = refl
-unless_done false false false n h = refl
 
 nothing_in : (values others : List Value) → values ≡ others → is_empty values ≡ true → others ≡ []
 nothing_in [] others same e = sym same
@@ -159,13 +149,13 @@ module _ {W : Type 0} (meaning : W → Value → Result (List Value) WorkFault) 
 
     rests_empty : node.held ≡ [] → rests run b ≡ true
     rests_empty none =
-        or_second (has_this_fault run b (own_fault run b)) (rests_as run (block_in layout.blocks b).kind b)
+        or_right (has_this_fault run b (own_fault run b)) (rests_as run (block_in layout.blocks b).kind b)
         (by_kind (λ kind. rests_as run kind b ≡ holds_nothing run b) refl refl refl (block_in layout.blocks b).kind plain.kind
         ∙ every_port (λ p. is_empty (held_at run b p)) (ports_of run b) one_port (ap is_empty (held ∙ none)))
 
     rests_faulted : (n : ℕ) → node.state ≡ state.Faulted n → node.fault ≡ Some n → rests run b ≡ true
     rests_faulted n is own =
-        or_first (has_this_fault run b (own_fault run b)) (rests_as run (block_in layout.blocks b).kind b)
+        or_left (has_this_fault run b (own_fault run b)) (rests_as run (block_in layout.blocks b).kind b)
         (ap (has_this_fault run b) (own_fault_is meaning layout parts leads built keeps all b small n own)
         ∙ of_marks (λ ms. has_fault n ms ≡ true) (fault_there node.journal n (fault_of_state node.journal n (sym mine.state_is ∙ is))))
 
@@ -180,7 +170,7 @@ module _ {W : Type 0} (meaning : W → Value → Result (List Value) WorkFault) 
     cannot_finish ef ed ec en =
         let complete : has_complete 0 (marks_of run b) ≡ true =
         port_passes (λ p. has_complete p (marks_of run b)) (ports_of run b) one_port (sym (complete_is meaning layout parts leads built keeps all b small) ∙ ec) in
-        let both = both_of (every (λ p. is_empty (held_at run b p)) (ports_of run b)) (is_empty (left_at run b)) en in
+        let both = and_parts (every (λ p. is_empty (held_at run b p)) (ports_of run b)) (is_empty (left_at run b)) en in
         let none_held = nothing_in (held_at run b 0) node.held held (port_passes (λ p. is_empty (held_at run b p)) (ports_of run b) one_port both.0) in
         let none_left = nothing_in (left_at run b) node.left left both.1 in
         let same = sym (marks b small) in
@@ -188,9 +178,9 @@ module _ {W : Type 0} (meaning : W → Value → Result (List Value) WorkFault) 
         ap is_completing mine.state_is
         ∙ completing_where node.journal (ap is_faulted same ∙ ef) (ap is_done same ∙ ed) (ap (has_complete 0) same ∙ complete) in
         let finishes : (is_completing node.state && is_still parts node && is_empty node.held && is_empty node.left) ≡ true =
-        and_true (is_completing node.state && is_still parts node && is_empty node.held) (is_empty node.left)
-        (and_true (is_completing node.state && is_still parts node) (is_empty node.held)
-        (and_true (is_completing node.state) (is_still parts node) completing (rest.still b small))
+        and_from (is_completing node.state && is_still parts node && is_empty node.held) (is_empty node.left)
+        (and_from (is_completing node.state && is_still parts node) (is_empty node.held)
+        (and_from (is_completing node.state) (is_still parts node) completing (rest.still b small))
         (ap is_empty none_held))
         (ap is_empty none_left) in
         let never = rest.no_finish b small in
@@ -205,7 +195,7 @@ module _ {W : Type 0} (meaning : W → Value → Result (List Value) WorkFault) 
     -- an end that has come over its link has ended it
     stopped_by : (n : ℕ) → fault_brought (stage_into parts node) ≡ Some n → has_stopped node.state ≡ true
     stopped_by n came =
-        true_where (has_stopped node.state)
+        true_from_ne_false (has_stopped node.state)
         (λ going. let none = no_other node.fault (fault_brought (stage_into parts node)) node.held (no_fault going) (has_worked going) (rest.faults b small going) in
         let clash : Some n ≡ None = sym came ∙ none in cc)
 
@@ -219,7 +209,7 @@ module _ {W : Type 0} (meaning : W → Value → Result (List Value) WorkFault) 
     refused_by : (why : Refusal) → Refuses why node.state node.fault → has_ended 0 (marks_of run b) ≡ true
     refused_by Refusal.port_ended is_closed = closed is_closed
     refused_by Refusal.own_fault own =
-        closed (closed_where node.state (true_where (has_stopped node.state) (λ going. none_is_some node.fault (no_fault going) own)))
+        closed (closed_where node.state (true_from_ne_false (has_stopped node.state) (λ going. none_is_some node.fault (no_fault going) own)))
 
     port_ended_where : (why : Refusal) → stage_into parts node ≡ TargetStage.refused why → has_ended 0 (marks_of run b) ≡ true
     port_ended_where why is = refused_by why (mine.refusal_cause why is)
@@ -303,9 +293,9 @@ module _ {W : Type 0} (meaning : W → Value → Result (List Value) WorkFault) 
 
     leaves_from : (source : LinkSource) → source_is source → end_comes_from run l source ≡ true → Leaves
     leaves_from (Block s) from e =
-        let both = both_of (passes_on run l) (is_done (marks_of run s) || is_faulted (marks_of run s)) e in
-        let unrefused = both_of ((link_in layout.links l).propagate && not (is_cut run l)) (not (is_refused run l)) both.0 in
-        let uncut = both_of (link_in layout.links l).propagate (not (is_cut run l)) unrefused.0 in
+        let both = and_parts (passes_on run l) (is_done (marks_of run s) || is_faulted (marks_of run s)) e in
+        let unrefused = and_parts ((link_in layout.links l).propagate && not (is_cut run l)) (not (is_refused run l)) both.0 in
+        let uncut = and_parts (link_in layout.links l).propagate (not (is_cut run l)) unrefused.0 in
         record {
           not_idle = λ is.
               let going = (rest.from_blocks l s small from (ap is_going is)).not_stopped in
@@ -314,7 +304,7 @@ module _ {W : Type 0} (meaning : W → Value → Result (List Value) WorkFault) 
         }
     leaves_from (Input b) from e =
         let found = feed_there meaning layout parts leads built keeps all l b small from in
-        let both = both_of (not (is_ending_open (input_of run b).ending)) (is_empty (waits_over run b l)) e in
+        let both = and_parts (not (is_ending_open (input_of run b).ending)) (is_empty (waits_over run b l)) e in
         record {
           not_idle = λ is.
               let still_open = (rest.from_inputs l b found.0 small from (ap is_going is) found.1).not_ended in
@@ -377,19 +367,15 @@ module _ {W : Type 0} (meaning : W → Value → Result (List Value) WorkFault) 
           none_first (waits_over run b l)
           (subst (λ (values : List Value). is_empty (drop (length (taken_over run l)) values) ≡ true) (sym posted) (drop_all (taken_over run l)))
 
-    not_false : (b : Bool) → not b ≡ true → b ≡ false
-    not_false true e = absurd (cc)
-    not_false false e = refl
-
     no_crossing : (target : LinkTarget) → target_is target → has_not_ended run target ≡ true
         → admits_head run l (head_from run l (link_in layout.links l).source) ≡ false
     no_crossing Exit to e = let clash : false ≡ true = ap is_first_port (sym to) ∙ built.first_port l small in absurd (cc)
     no_crossing (Port t p) to e =
-        ap (admits_head run l) (no_head_of t p to (not_false (has_ended p (marks_of run t)) e) (link_in layout.links l).source refl)
+        ap (admits_head run l) (no_head_of t p to (not-true (has_ended p (marks_of run t)) e) (link_in layout.links l).source refl)
 
     carries_none : carries_no_more run l ≡ true
     carries_none =
-        or_first (not (could_cross run l)) (holds_back run (link_in layout.links l).target)
+        or_left (not (could_cross run l)) (holds_back run (link_in layout.links l).target)
         (ap not (third_false (not (is_cut run l)) (has_not_ended run (link_in layout.links l).target)
         (admits_head run l (head_from run l (link_in layout.links l).source))
         (no_crossing (link_in layout.links l).target refl)))

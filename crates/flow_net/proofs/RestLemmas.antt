@@ -1,6 +1,6 @@
 -- Where nothing may happen any more, all that could be done is done.
-use Rattle.std.proofs.Common.{◌≡◌, ℕ, zero, suc, ◌+◌, ◌<◌, ◌≤◌, ltb, Bool, true, false, cond, not, ◌&&◌, List, [], ◌∷◌, length, take, is_some, is_none, option_map, Option, Some, None, refl, ap, sym, subst, ◌∙◌, arith, ⊎_elim, take_all, ltb-false}
-use Rattle.std.proofs.lemmas.Bool.{cases_eq}
+use Rattle.std.proofs.Common.{◌≡◌, ℕ, suc, ◌<◌, ltb, Bool, true, false, cond, not, ◌&&◌, List, [], ◌∷◌, length, take, is_some, is_none, option_map, Option, Some, None, refl, ap, sym, subst, ◌∙◌, arith, take_all, ltb-false}
+use Rattle.std.proofs.lemmas.Bool.{and_from}
 use Rattle.flow_value.specs.declared.value.Value.{Value}
 use Rattle.flow_link.specs.declared.phase.Move.{Move}
 use Rattle.flow_link.specs.declared.phase.Move.TheVariants.{Offer, Give, Open as move_open, Close}
@@ -14,11 +14,11 @@ use Rattle.flow_link.specs.Composes.{is_coming}
 use Rattle.flow_link.specs.Facts.{facts_in}
 use Rattle.flow_link.specs.Layout.{Layout}
 use Rattle.flow_link.specs.LinkOk.{LinkOk, IsInSlot}
-use Rattle.flow_link.specs.Lists.{every, numbers_from, below, is_empty}
+use Rattle.flow_link.specs.Lists.{is_empty}
 use Rattle.flow_link.specs.LooksKeep.{SeenAt}
 use Rattle.flow_link.specs.Plan.{link_in}
 use Rattle.flow_link.specs.Views.{SourceStage, TargetStage}
-use Rattle.flow_link.proofs.ListTests.{both_of, and_true}
+use Rattle.flow_link.proofs.ListTests.{passes_below}
 use Rattle.flow_net.specs.AtRest.{is_rest, is_going, LinkRests, BlockHasGivenAll, InputHasGivenAll, AtRest}
 use Rattle.flow_net.specs.Events.{has_stopped, is_at_home, is_hand, is_still, stage_into, stage_out, fault_cause, next_fault, may_make, may_complete, may_finish, move_of_node, move_of_feed, move_of_source, end_of_feed, head_of, offer_of, expects_at, move_at, next_move, event_at_link, event_at_block}
 use Rattle.flow_net.specs.Keeps.{Keeps, is_in_use, awaits_head}
@@ -30,19 +30,6 @@ use Rattle.flow_net.specs.declared.posted.State.{State}
 use Rattle.flow_net.specs.declared.posted.State.TheVariants as state
 use Rattle.flow_net.proofs.FrameLemmas.{as_kept}
 use Rattle.flow_net.proofs.LineMoves.{IsKept, told, at_phase, source_of, target_of}
-
--- a test that passes for each number passes for this one
-passes_from : (test : ℕ → Bool) (first count k : ℕ) → every test (numbers_from first count) ≡ true → first ≤ k → k < first + count → test k ≡ true
-passes_from test first zero k e low high = absurd (omega arith)
-passes_from test first (suc count) k e low high =
-    let both = both_of (test first) (every test (numbers_from (suc first) count)) e in
-    ⊎_elim
-    (λ same. subst (λ (n : ℕ). test n ≡ true) (sym same) both.0)
-    (λ apart. passes_from test (suc first) count k both.1 (omega arith) (omega arith))
-    (cases_eq k first)
-
-pub passes_below : (test : ℕ → Bool) (count k : ℕ) → every test (below count) ≡ true → k < count → test k ≡ true
-passes_below test count k e small = passes_from test 0 count k e (omega arith) (omega arith)
 
 none_of_none : {A B : Type 0} (f : A → B) (o : Option A) → is_none (option_map f o) ≡ true → o ≡ None
 none_of_none f None e = refl
@@ -142,7 +129,7 @@ module _ {W : Type 0} (layout : Layout W) (parts : PartsState) (keeps : Keeps la
         let ready = (keeps.lines l small).head (ap awaits_head is) in
         let source = (link_in layout.links l).source in
         absurd (none_at (is_some (head_of parts source) && is_some (offer_of parts source)) Give
-        (and_true (is_some (head_of parts source)) (is_some (offer_of parts source)) ready.there (ap is_some ready.ready ∙ ready.there))
+        (and_from (is_some (head_of parts source)) (is_some (offer_of parts source)) ready.there (ap is_some ready.ready ∙ ready.there))
         (no_move_at l (Wanted i) small is))
     rests_at (Given i) is =
         absurd (none_at (is_some (line_at parts l).slot) move_open
@@ -151,7 +138,7 @@ module _ {W : Type 0} (layout : Layout W) (parts : PartsState) (keeps : Keeps la
         let in_hand = (stages_at (Opened i) is).1.1 in
         let target = (link_in layout.links l).target in
         absurd (none_at (is_hand (line_at parts l).target && expects_at parts target) Close
-        (and_true (is_hand (line_at parts l).target) (expects_at parts target) (ap is_hand in_hand) ((keeps.lines l small).room (ap is_coming in_hand)))
+        (and_from (is_hand (line_at parts l).target) (expects_at parts target) (ap is_hand in_hand) ((keeps.lines l small).room (ap is_coming in_hand)))
         (no_move_at l (Opened i) small is))
     rests_at _ is = absurd (let used = sym (keeps.lines l small).in_use ∙ ap is_in_use is in cc)
 
@@ -246,14 +233,14 @@ module _ {W : Type 0} (layout : Layout W) (parts : PartsState) (keeps : Keeps la
 
   block_is_still : (b : ℕ) → is_still parts (node_at parts b) ≡ true
   block_is_still b =
-      and_true (not (is_coming (stage_into parts (node_at parts b)))) (is_at_home (stage_out parts (node_at parts b)))
+      and_from (not (is_coming (stage_into parts (node_at parts b)))) (is_at_home (stage_out parts (node_at parts b)))
       (ap not (into_still b (node_at parts b).into refl))
       (out_still b (node_at parts b).out refl)
 
   faults_have_come : (b : ℕ) → b < length layout.blocks → has_stopped (node_at parts b).state ≡ false → fault_cause parts (node_at parts b) ≡ None
   faults_have_come b small going =
       none_where (not (has_stopped (node_at parts b).state) && is_still parts (node_at parts b)) (fault_cause parts (node_at parts b))
-      (and_true (not (has_stopped (node_at parts b).state)) (is_still parts (node_at parts b)) (ap not going) (block_is_still b))
+      (and_from (not (has_stopped (node_at parts b).state)) (is_still parts (node_at parts b)) (ap not going) (block_is_still b))
       (block_is_quiet b small).no_fault
 
   all_at_rest : AtRest layout parts

@@ -2,8 +2,7 @@
 use Rattle.std.proofs.Common.{◌≡◌, ℕ, ◌+◌, ◌<◌, ◌≤◌, Bool, true, false, cond, not, length, is_none, is_some, option_map, Option, Some, None, IfSome, IfNone, IsTrue, ◌↔◌, refl, ap, sym, subst, arith, ⊎_elim}
 use Rattle.std.proofs.Math.Nat.{eq-or-lt_of_le}
 use Rattle.flow_link.specs.Layout.{Layout}
-use Rattle.flow_link.proofs.ListTests.{every_below}
-use Rattle.flow_net.proofs.RestLemmas.{passes_below}
+use Rattle.flow_link.proofs.ListTests.{every_below, passes_below}
 use Rattle.flow_link.specs.declared.phase.Move.{Move}
 use Rattle.flow_link.specs.declared.phase.Move.TheVariants.{Offer}
 use Rattle.flow_net.specs.Events.{event_at_link, event_at_block, next_move, may_make, may_complete, next_fault, may_finish, Enabled}

@@ -1,5 +1,6 @@
 -- One more mark changes the state of a block as that mark says.
 use Rattle.std.proofs.Common.{◌≡◌, ℕ, Bool, true, false, ◌||◌, List, [], ◌∷◌, ◌++◌, Option, Some, None, refl, ap, ◌∙◌}
+use Rattle.std.proofs.Math.Bool.{or-false}
 use Rattle.flow_value.specs.declared.value.Value.{Value}
 use Rattle.flow_link.specs.declared.trace.Mark.{Mark}
 use Rattle.flow_link.specs.declared.trace.Mark.TheVariants.{Took, Gave, Complete, Fault, Done}
@@ -13,12 +14,8 @@ or_on : (b x y z : Bool) → x ≡ y || z → b || x ≡ (b || y) || z
 or_on true x y z e = refl
 or_on false x y z e = e
 
-false_or : (b : Bool) → b || false ≡ false || b
-false_or true = refl
-false_or false = refl
-
 some_more : (test : Mark → Bool) (marks : List Mark) (mark : Mark) → some test (marks ++ mark ∷ []) ≡ some test marks || test mark
-some_more test [] mark = false_or (test mark)
+some_more test [] mark = or-false (test mark)
 some_more test (first ∷ marks) mark = or_on (test first) (some test (marks ++ mark ∷ [])) (some test marks) (test mark) (some_more test marks mark)
 
 abbrev first_of_two : Option ℕ → Option ℕ → Option ℕ

@@ -1,5 +1,6 @@
 -- What a mark of a block's own step changes of what its journal says.
 use Rattle.std.proofs.Common.{◌≡◌, ℕ, ◌==◌, Bool, true, false, not, ◌&&◌, ◌||◌, List, [], ◌∷◌, ◌++◌, Option, Some, None, refl, ap, sym, subst, ◌∙◌, ⊎_elim, append-nil, eq-eqb, eqb-true}
+use Rattle.std.proofs.lemmas.Bool.{and_from, and_parts, or_right, false_from_ne_true, not-true}
 use Rattle.flow_value.specs.declared.value.Value.{Value}
 use Rattle.flow_link.specs.declared.trace.Mark.{Mark}
 use Rattle.flow_link.specs.declared.trace.Mark.TheVariants.{Took, Gave, Complete, Fault, Done}
@@ -8,7 +9,6 @@ use Rattle.flow_link.specs.JournalGrows.{taken_by_mark}
 use Rattle.flow_link.specs.Lists.{is_empty}
 use Rattle.flow_link.specs.Trace.{took_at, has_complete, is_done, is_complete_mark}
 use Rattle.flow_link.proofs.JournalsGrow.{took_more}
-use Rattle.flow_link.proofs.ListTests.{and_true, both_of, or_second}
 use Rattle.flow_link.proofs.OneMoreMark.{some_of_more}
 use Rattle.flow_net.specs.Events.{is_open, has_stopped, is_completing}
 use Rattle.flow_net.specs.States.{fault_in, state_from, state_by}
@@ -34,17 +34,9 @@ pub record IsFree (mark : Mark) (p : ℕ) : Type 0 where
 abbrev pub GoesWith : List Mark → Mark → Type 0
 GoesWith marks mark = (p : ℕ) → has_complete p marks ≡ true → IsFree mark p
 
-not_false : (b : Bool) → not b ≡ true → b ≡ false
-not_false true e = absurd (cc)
-not_false false e = refl
-
-only_false : (b : Bool) → (b ≡ true → ⊥) → b ≡ false
-only_false true never = absurd (never refl)
-only_false false never = refl
-
 none_more : (p : ℕ) (marks : List Mark) (mark : Mark) → is_complete_mark p mark ≡ false → has_complete p marks ≡ false → has_complete p (marks ++ mark ∷ []) ≡ false
 none_more p marks mark other none =
-    only_false (has_complete p (marks ++ mark ∷ []))
+    false_from_ne_true (has_complete p (marks ++ mark ∷ []))
     (λ is. ⊎_elim (λ before. let clash : true ≡ false = sym before ∙ none in cc) (λ last. let clash : true ≡ false = sym last ∙ other in cc)
     (some_of_more (is_complete_mark p) marks mark is))
 
@@ -66,15 +58,15 @@ once_more (Gave l v ∷ marks) mark goes e = once_more marks mark goes e
 once_more (Fault n ∷ marks) mark goes e = once_more marks mark goes e
 once_more (Done ∷ marks) mark goes e = once_more marks mark goes e
 once_more (Complete p ∷ marks) mark goes e =
-    let outer = both_of (not (has_complete p marks) && is_empty (took_at p marks)) (completes_once marks) e in
-    let inner = both_of (not (has_complete p marks)) (is_empty (took_at p marks)) outer.0 in
+    let outer = and_parts (not (has_complete p marks) && is_empty (took_at p marks)) (completes_once marks) e in
+    let inner = and_parts (not (has_complete p marks)) (is_empty (took_at p marks)) outer.0 in
     let here = goes p (same_is p (has_complete p marks)) in
     let fresh : not (has_complete p (marks ++ mark ∷ [])) ≡ true =
-    ap not (none_more p marks mark here.not_again (not_false (has_complete p marks) inner.0)) in
+    ap not (none_more p marks mark here.not_again (not-true (has_complete p marks) inner.0)) in
     let empty : is_empty (took_at p (marks ++ mark ∷ [])) ≡ true = ap is_empty (takes_no_more p marks mark here.takes_none) ∙ inner.1 in
-    and_true (not (has_complete p (marks ++ mark ∷ [])) && is_empty (took_at p (marks ++ mark ∷ []))) (completes_once (marks ++ mark ∷ []))
-    (and_true (not (has_complete p (marks ++ mark ∷ []))) (is_empty (took_at p (marks ++ mark ∷ []))) fresh empty)
-    (once_more marks mark (λ q is. goes q (or_second (p == q) (has_complete q marks) is)) outer.1)
+    and_from (not (has_complete p (marks ++ mark ∷ [])) && is_empty (took_at p (marks ++ mark ∷ []))) (completes_once (marks ++ mark ∷ []))
+    (and_from (not (has_complete p (marks ++ mark ∷ []))) (is_empty (took_at p (marks ++ mark ∷ []))) fresh empty)
+    (once_more marks mark (λ q is. goes q (or_right (p == q) (has_complete q marks) is)) outer.1)
 
 -- the first port may complete where it has not
 pub first_port_goes : (marks : List Mark) → has_complete 0 marks ≡ false → GoesWith marks (Complete 0)
@@ -82,7 +74,7 @@ first_port_goes marks none p is =
     let other : 0 == p ≡ true → ⊥ =
     λ same. let here : has_complete 0 marks ≡ true = subst (λ (q : ℕ). has_complete q marks ≡ true) (sym (eqb-true 0 p same)) is in
     let clash : true ≡ false = sym here ∙ none in cc in
-    record { not_again = only_false (0 == p) other; takes_none = refl }
+    record { not_again = false_from_ne_true (0 == p) other; takes_none = refl }
 
 -- what the state says of the journal
 pub record HasNoEnd (marks : List Mark) : Type 0 where

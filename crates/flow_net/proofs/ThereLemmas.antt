@@ -1,5 +1,6 @@
 -- The blocks and inputs at the ends of a plan's links are there, and what a move needs stands ready where the move is next.
 use Rattle.std.proofs.Common.{◌≡◌, ℕ, suc, ◌<◌, ltb, Bool, true, false, cond, ◌&&◌, length, is_some, Option, Some, None, refl, ap, sym, subst, ◌∙◌}
+use Rattle.std.proofs.lemmas.Bool.{and_parts}
 use Rattle.flow_link.specs.declared.phase.Move.{Move}
 use Rattle.flow_link.specs.declared.phase.Move.TheVariants.{Give, Offer, Open, Close, End}
 use Rattle.flow_link.specs.declared.plan.Link.{Link}
@@ -16,7 +17,6 @@ use Rattle.flow_link.specs.Layout.{Layout}
 use Rattle.flow_link.specs.LeadsWell.{LeadsWell}
 use Rattle.flow_link.specs.Lists.{is_empty}
 use Rattle.flow_link.specs.Views.{Refusal}
-use Rattle.flow_link.proofs.ListTests.{both_of}
 use Rattle.flow_net.specs.Events.{answer_by, end_as, end_of_feed, expects_at, head_of, is_hand, move_at, move_of_feed, move_of_source, next_move, offer_of, refusal_at}
 use Rattle.flow_net.specs.declared.posted.State.{State}
 use Rattle.flow_net.specs.declared.posted.State.TheVariants as state
@@ -90,7 +90,7 @@ module _ (parts : PartsState) (link : Link) where
   at_each_phase line (Wanted i) = where_true (is_supplied parts link) (is_some (head_of parts link.source) && is_some (offer_of parts link.source)) Give (λ e. e)
   at_each_phase line (Given i) = where_true (is_supplied parts link) (is_some line.slot) Open (λ e. refl)
   at_each_phase line (Opened i) =
-      where_true (is_supplied parts link) (is_hand line.target && expects_at parts link.target) Close (λ e. (both_of (is_hand line.target) (expects_at parts link.target) e).1)
+      where_true (is_supplied parts link) (is_hand line.target && expects_at parts link.target) Close (λ e. (and_parts (is_hand line.target) (expects_at parts link.target) e).1)
   at_each_phase line _ = refl
 
 pub next_is_supplied : {W : Type 0} (layout : Layout W) (parts : PartsState) (l : ℕ) (step : Move) → next_move layout parts l ≡ Some step

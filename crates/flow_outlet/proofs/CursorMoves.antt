@@ -3,6 +3,7 @@ use Rattle.std.proofs.Common.{◌≡◌, ℕ, ◌+◌, ◌<◌, ◌≤◌, suc, 
 use Rattle.std.proofs.lemmas.Bool.Decides.{nat_tests}
 use Rattle.flow_value.specs.declared.value.Value.{Value}
 use Rattle.flow_link.specs.declared.stage.SourceStage.{SourceStage}
+use Rattle.flow_link.proofs.ListTests.{at_most_one}
 use Rattle.flow_outlet.specs.declared.ends.OutEnd.{OutEnd}
 use Rattle.flow_outlet.specs.End.{is_passed, place_in, cursor_after, end_in, count_at}
 use Rattle.flow_outlet.specs.Outlet.{recounted}
@@ -61,10 +62,6 @@ count_some test (x ∷ xs) zero l e = first_counts (test x.stage) (count_at test
 count_some test (x ∷ xs) (suc k) l e =
     let rest : 0 < count_at test xs = count_some test xs k (omega arith) e in
     omega arith
-
-at_most_one : (b : Bool) → cond b 1 0 ≤ 1
-at_most_one true = omega arith
-at_most_one false = omega arith
 
 -- no more ends count than there are
 pub count_below : (test : SourceStage → Bool) (ends : List OutEnd) → count_at test ends ≤ length ends

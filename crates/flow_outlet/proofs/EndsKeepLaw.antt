@@ -1,8 +1,8 @@
 -- Each call of an outlet keeps its law.
-use Rattle.std.proofs.Common.{◌≡◌, ◌≢◌, ℕ, ◌+◌, ◌^◌, ◌<◌, ◌≤◌, ◌==◌, ◌&&◌, not, zero, suc, Bool, true, false, cond, List, [], ◌∷◌, ◌++◌, length, set, map, Option, Some, None, is_some, unwrap_or, refl, sym, ◌∙◌, ap, subst, inl, inr, arith}
+use Rattle.std.proofs.Common.{◌≡◌, ◌≢◌, ℕ, ◌+◌, ◌^◌, ◌<◌, ◌≤◌, ◌==◌, not, zero, suc, Bool, true, false, cond, List, [], ◌∷◌, ◌++◌, length, set, map, Option, Some, None, is_some, unwrap_or, refl, sym, ◌∙◌, ap, subst, inl, inr, arith}
 use Rattle.std.specs.Bool.{OnTrue}
 use Rattle.std.specs.Option.{ForSome}
-use Rattle.std.proofs.lemmas.Bool.{cases_eq, OnTrue_at, OnTrue_from}
+use Rattle.std.proofs.lemmas.Bool.{cases_eq, OnTrue_at, OnTrue_from, and_parts, not-false}
 use Rattle.std.proofs.lemmas.Bool.Decides.{nat_tests}
 use Rattle.std.proofs.lemmas.List.{length-append, get_or-set_same, get_or-set_other}
 use Rattle.flow_value.specs.When.{admits}
@@ -16,6 +16,7 @@ use Rattle.flow_link.specs.declared.stage.SourceStage.TheVariants.{Free, Posted,
 use Rattle.flow_link.specs.declared.trace.Outcome.{Outcome}
 use Rattle.flow_link.specs.LinkOk.{IsWithin, HasRoom}
 use Rattle.flow_link.specs.Stage.{source_looks}
+use Rattle.flow_link.proofs.ListTests.{never_both}
 use Rattle.flow_outlet.specs.declared.ends.LinkRule.{LinkRule}
 use Rattle.flow_outlet.specs.declared.ends.OutEnd.{OutEnd}
 use Rattle.flow_outlet.specs.End.{id_of, speaks_of, is_out, is_over, is_free, is_waiting, is_cut, is_limit, rejects, end_in, no_end, fresh_end, counted}
@@ -25,7 +26,7 @@ use Rattle.flow_outlet.proofs.LookTells.{look_tells}
 use Rattle.flow_outlet.proofs.OutletFits.{ids_there}
 use Rattle.flow_outlet.proofs.OffersInOrder.{offers_in_order}
 use Rattle.flow_outlet.proofs.OneEndChanges.{each_set, one_changes}
-use Rattle.flow_outlet.proofs.StagesTell.{free_is, goes_past_well, id_speaks, kept_mine, kept_other, kept_out, never_both, none_true, number_below, number_same, out_speaks, past_stays, speaks_id, waits_for, was_offer, wish_home}
+use Rattle.flow_outlet.proofs.StagesTell.{free_is, goes_past_well, id_speaks, kept_mine, kept_other, kept_out, none_true, number_below, number_same, out_speaks, past_stays, speaks_id, waits_for, was_offer, wish_home}
 
 -- Each call keeps the law
 
@@ -33,14 +34,10 @@ below_limit : (max : Option ℕ) (given : ℕ) → IsWithin max given → is_lim
 below_limit None given within e = tt
 below_limit (Some max) given within e = grind (arith, nat_tests)
 
-admits_then : (b : Bool) → not b ≡ false → b ≡ true
-admits_then true e = refl
-admits_then false e = cc
-
 head_admits : (when : When) (left : List Value) → is_empty left ≡ false → rejects when (first_of left) ≡ false
     → admits_head when (first_of left) ≡ true
 head_admits when [] e r = cc
-head_admits when (value ∷ left) e r = admits_then (admits when value) r
+head_admits when (value ∷ left) e r = not-false (admits when value) r
 
 module _ {pending : Bool} {stopped : Option Outcome} (o : OutletState) (law : OutletLaw pending stopped o) (k : ℕ) (here : k < length o.ends) where
   -- an end that goes to a stage that speaks of nothing new, and makes no offer
@@ -223,11 +220,6 @@ room_keeps pending stopped o law = record {
 
 -- What is given
 
-both : (a b : Bool) → (a && b) ≡ true → (a ≡ true) × (b ≡ true)
-both true true e = (refl, refl)
-both true false e = cc
-both false b e = cc
-
 not_some : (offer : Option ℕ) → not (is_some offer) ≡ true → offer ≡ None
 not_some None e = refl
 not_some (Some k) e = cc
@@ -244,10 +236,10 @@ wanted_alone next k offer (Accepted i) e mine = record {
   alone = λ j other is. other (let same : Some j ≡ Some k = sym is ∙ mine refl in cc);
 }
 wanted_alone next k offer (Wished i) e mine =
-    let all = both (i == next) (not (is_some offer)) e in
+    let all = and_parts (i == next) (not (is_some offer)) e in
     record { speaks = all.0; alone = λ j other is. let none : None ≡ Some j = sym (not_some offer all.1) ∙ is in cc }
 wanted_alone next k offer (Claimed i) e mine =
-    let all = both (i == next) (not (is_some offer)) e in
+    let all = and_parts (i == next) (not (is_some offer)) e in
     record { speaks = all.0; alone = λ j other is. let none : None ≡ Some j = sym (not_some offer all.1) ∙ is in cc }
 wanted_alone next k offer Free e mine = cc
 wanted_alone next k offer (Posted _) e mine = cc

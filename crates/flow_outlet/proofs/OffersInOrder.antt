@@ -1,8 +1,8 @@
 -- The head is offered next where link order says, and nowhere only where nobody is left to offer it to.
 use Rattle.std.proofs.Common.{◌≡◌, ℕ, ◌+◌, ◌<◌, ◌≤◌, ◌||◌, not, zero, suc, ltb, cond, Bool, true, false, List, [], ◌∷◌, length, Option, Some, None, is_some, refl, ◌∙◌, ap, subst, inl, inr, arith}
-use Rattle.std.proofs.lemmas.Bool.Decides.{nat_tests}
-use Rattle.std.proofs.lemmas.Bool.{cases_lt}
+use Rattle.std.proofs.lemmas.Bool.{cases_lt, ltb-true, lt-ltb}
 use Rattle.flow_value.specs.declared.value.Value.{Value}
+use Rattle.flow_link.proofs.ListTests.{never_both}
 use Rattle.flow_outlet.specs.declared.ends.OutEnd.{OutEnd}
 use Rattle.flow_outlet.specs.End.{is_passed, place_in, end_in, is_free}
 use Rattle.flow_outlet.specs.Outlet.{OutletState, head_of, is_empty, stage_at, may_offer}
@@ -37,15 +37,11 @@ pub stops_there : (next : ℕ) (head : Option Value) (ends : List OutEnd) → pl
 stops_there next head [] l = absurd (omega arith)
 stops_there next head (e ∷ es) l = stops_in next head e es (is_passed next head e) refl (stops_there next head es) l
 
-true_or_false : (b : Bool) → b ≡ true → b ≡ false → ⊥
-true_or_false true s t = cc
-true_or_false false s t = cc
-
 -- it is the first place where it stops
 pub first_stop : (next : ℕ) (head : Option Value) (ends : List OutEnd) (k : ℕ) → is_passed next head (end_in ends k) ≡ false
     → place_in next head ends ≤ k
 first_stop next head ends k stops = elim (cases_lt k (place_in next head ends)) [
-  | inl l ↦ absurd (true_or_false _ (earlier_passed next head ends k l) stops)
+  | inl l ↦ never_both _ (earlier_passed next head ends k l) stops
   | inr l ↦ l
 ]
 
@@ -77,12 +73,6 @@ is_none_is : (offer : Option ℕ) → is_some offer ≡ false → offer ≡ None
 is_none_is None e = refl
 is_none_is (Some k) e = cc
 
-below : (m n : ℕ) → ltb m n ≡ true → m < n
-below m n e = grind (arith, nat_tests)
-
-is_below : (m n : ℕ) → m < n → ltb m n ≡ true
-is_below m n l = grind (arith, nat_tests)
-
 place_of_head : OutletState → ℕ
 place_of_head o = place_in o.next (head_of o) o.ends
 
@@ -90,7 +80,7 @@ named_is : (o : OutletState) (k : ℕ) → may_offer o ≡ Some k → IsNextOffe
 named_is o k e =
     let place = place_in o.next (head_of o) o.ends in
     let all = chosen (is_empty o.left) (is_some o.offer) (ltb place (length o.ends)) (is_free (stage_at o place)) place k e in
-    let there : place < length o.ends = below place (length o.ends) all.there in
+    let there : place < length o.ends = ltb-true place (length o.ends) all.there in
     let at = λ (n : ℕ). n < length o.ends in
     record {
       there = subst at all.same there;
@@ -106,11 +96,11 @@ is_named o k next =
     let place = place_in o.next (head_of o) o.ends in
     let no_later : place ≤ k = first_stop o.next (head_of o) o.ends k next.stops in
     let same : place ≡ k = elim (cases_lt place k) [
-      | inl l ↦ absurd (true_or_false _ (next.earlier place l)
-          (stops_there o.next (head_of o) o.ends (let near : place < length o.ends = omega (arith, next.there) in near)))
+      | inl l ↦ never_both _ (next.earlier place l)
+          (stops_there o.next (head_of o) o.ends (let near : place < length o.ends = omega (arith, next.there) in near))
       | inr l ↦ omega arith
     ] in
-    let there : ltb place (length o.ends) ≡ true = is_below place (length o.ends) (let near : place < length o.ends = rw same next.there in near) in
+    let there : ltb place (length o.ends) ≡ true = lt-ltb place (length o.ends) (let near : place < length o.ends = rw same next.there in near) in
     let free : is_free (stage_at o place) ≡ true = rw same next.free in
     choose _ _ _ _ place next.some_left (ap is_some next.none_out) there free ∙ ap Some same
 
@@ -124,7 +114,7 @@ none_is o e left out k l stops =
       place = place;
       before = before;
       stops = stops_there o.next (head_of o) o.ends near;
-      busy = busy_then _ _ _ (is_free (stage_at o place)) place e left (ap is_some out) (is_below place (length o.ends) near);
+      busy = busy_then _ _ _ (is_free (stage_at o place)) place e left (ap is_some out) (lt-ltb place (length o.ends) near);
     }
 
 pub offers_in_order : OffersInOrder

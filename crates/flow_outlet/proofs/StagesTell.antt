@@ -1,9 +1,8 @@
 -- What a stage tells of the head: whether it speaks of it, and why the head goes past its end.
 use Rattle.std.proofs.Common.{◌≡◌, ◌≢◌, ℕ, ◌<◌, ◌==◌, ◌||◌, ◌&&◌, not, Bool, true, false, cond, Option, Some, None, refl, ◌∙◌, ap, arith}
-use Rattle.std.proofs.lemmas.Bool.{OnTrue_at}
+use Rattle.std.proofs.lemmas.Bool.{OnTrue_at, false_from_ne_true}
 use Rattle.std.proofs.lemmas.Bool.Decides.{nat_tests}
 use Rattle.flow_value.specs.declared.value.Value.{Value}
-use Rattle.flow_value.proofs.DigitsParsed.{not_true}
 use Rattle.flow_link.specs.declared.phase.LinkEnd.{LinkEnd}
 use Rattle.flow_link.specs.declared.phase.LinkEnd.TheVariants.{Plain}
 use Rattle.flow_link.specs.declared.stage.SourceStage.{SourceStage}
@@ -23,10 +22,6 @@ number_same a = grind (arith, nat_tests)
 
 pub number_below : (a b : ℕ) → a < b → (a == b) ≡ false
 number_below a b l = grind (arith, nat_tests)
-
-pub never_both : {Q : Type 0} (b : Bool) → b ≡ true → b ≡ false → Q
-never_both true s t = cc
-never_both false s t = cc
 
 -- a stage that speaks of a message has its id
 pub speaks_id : (id : ℕ) (stage : SourceStage) → speaks_of id stage ≡ true → id_of stage ≡ Some id
@@ -149,7 +144,7 @@ goes_past_well {next} {head} end law passed =
     (λ over. over_then end over (λ how e. cut_then (is_cut end) None how (law.ended how e) refl) end.stage refl head)
     (λ cut. past_cut a end.rule.steady (is_cut end) d cut)
     (λ speaks.
-    let not_out : is_out end.stage ≡ false = not_true (is_out end.stage)
+    let not_out : is_out end.stage ≡ false = false_from_ne_true (is_out end.stage)
     (λ out. let none : None ≡ Some _ = OnTrue_at out law.out in let never : ⊥ = cc in never) in
     unsteady (OnTrue_at (out_or_off end.stage next law.offers (speaks_id next end.stage speaks) not_out) law.put_off))
     (λ up. unsteady (OnTrue_at up law.given_up_late))
@@ -172,7 +167,7 @@ kept_off true out offer e = cc
 kept_off false out offer e = refl
 
 pub elsewhere_at : (k j : ℕ) (offer : Option ℕ) → j ≢ k → offer ≡ Some j → is_at offer k ≡ false
-elsewhere_at k j offer other e = rw e (not_true (j == k) (λ same. other (same_number j k same)))
+elsewhere_at k j offer other e = rw e (false_from_ne_true (j == k) (λ same. other (same_number j k same)))
 
 pub kept_other : (k j : ℕ) (stage : SourceStage) (offer : Option ℕ) → j ≢ k → offer ≡ Some j → offer_kept k stage offer ≡ Some j
 kept_other k j stage offer other e = kept_off (is_at offer k) (is_out stage) offer (elsewhere_at k j offer other e) ∙ e

@@ -1,7 +1,6 @@
 -- The tests of what the calls by link require tell exactly that.
-use Rattle.std.proofs.Common.{◌≡◌, ℕ, ◌<◌, ◌↔◌, ◌&&◌, ◌||◌, not, ltb, Bool, true, false, length, Option, Some, None, is_some, refl, arith}
-use Rattle.std.proofs.lemmas.Bool.{OnTrue_at, OnTrue_from}
-use Rattle.std.proofs.lemmas.Bool.Decides.{nat_tests}
+use Rattle.std.proofs.Common.{◌≡◌, ℕ, ◌↔◌, ◌&&◌, ◌||◌, not, ltb, Bool, true, false, length, Option, Some, None, is_some, refl}
+use Rattle.std.proofs.lemmas.Bool.{OnTrue_at, OnTrue_from, ltb-true, lt-ltb}
 use Rattle.flow_link.specs.declared.stage.SourceStage.{SourceStage}
 use Rattle.flow_link.specs.declared.stage.SourceStage.TheVariants.{Free, Posted, Out, Waiting, Accepted, Wished, AskedBy, Reserved, Claimed, Crossing, Refused, Ended}
 use Rattle.flow_link.specs.LinkOk.{HasRoom}
@@ -20,17 +19,11 @@ all_three true true false e = cc
 all_three true false _ e = cc
 all_three false _ _ e = cc
 
-three_all : (a b c : Bool) → a ≡ true → b ≡ true → c ≡ true → (a && b && c) ≡ true
+pub three_all : (a b c : Bool) → a ≡ true → b ≡ true → c ≡ true → (a && b && c) ≡ true
 three_all true true true p q r = refl
 three_all true true false p q r = cc
 three_all true false _ p q r = cc
 three_all false _ _ p q r = cc
-
-below : (m n : ℕ) → ltb m n ≡ true → m < n
-below m n e = grind (arith, nat_tests)
-
-is_below : (m n : ℕ) → m < n → ltb m n ≡ true
-is_below m n l = grind (arith, nat_tests)
 
 offered_is : (header : ℕ) (stage : SourceStage) → is_offered header stage ≡ true → stage ≡ Out header
 offered_is header (Out i) e = let same : i ≡ header = same_number i header e in cc
@@ -57,21 +50,21 @@ asked_tells link header o =
       λ e.
           let all = all_three (ltb k (length o.ends)) (is_offered header (stage_at o k)) (is_at o.offer k) e in
           record {
-            known = below k (length o.ends) all.first;
+            known = ltb-true k (length o.ends) all.first;
             unanswered = offered_is header (stage_at o k) all.second;
             out = at_is o.offer k all.third;
           },
-      λ asked. three_all (ltb k (length o.ends)) (is_offered header (stage_at o k)) (is_at o.offer k) (is_below k (length o.ends) asked.known)
+      λ asked. three_all (ltb k (length o.ends)) (is_offered header (stage_at o k)) (is_at o.offer k) (lt-ltb k (length o.ends) asked.known)
           (rw (asked.unanswered) (number_same header)) (rw (asked.out) (number_same k)),
     )
 
 room_is : (max : Option ℕ) (given : ℕ) → has_room max given ≡ true → HasRoom max given
 room_is None given e = tt
-room_is (Some max) given e = below given max e
+room_is (Some max) given e = ltb-true given max e
 
 is_room : (max : Option ℕ) (given : ℕ) → HasRoom max given → has_room max given ≡ true
 is_room None given room = refl
-is_room (Some max) given room = is_below given max room
+is_room (Some max) given room = lt-ltb given max room
 
 take_is : (k : ℕ) (o : OutletState) → tests_take k o ≡ true → MayTake k o
 take_is k o e =
@@ -100,9 +93,9 @@ consume_tells link header o =
       λ e.
           let all = there_then (ltb k (length o.ends)) (is_head header o) (tests_take k o) e in
           record {
-            known = below k (length o.ends) all.0;
+            known = ltb-true k (length o.ends) all.0;
             there = OnTrue_from (is_head header o) _ (λ h. take_is k o (all.1 h));
           },
-      λ may. then_there (ltb k (length o.ends)) (is_head header o) (tests_take k o) (is_below k (length o.ends) may.known)
+      λ may. then_there (ltb k (length o.ends)) (is_head header o) (tests_take k o) (lt-ltb k (length o.ends) may.known)
           (λ h. is_take k o (OnTrue_at h may.there)),
     )

@@ -1,8 +1,7 @@
 -- Where a text has no fault, its tables are sound.
-use Rattle.std.proofs.Common.{◌≡◌, ℕ, ◌+◌, Bool, true, false, not, ◌&&◌, List, codes, Option, Some, None, cond, option_map, refl}
+use Rattle.std.proofs.Common.{◌≡◌, ℕ, ◌+◌, Bool, true, false, not, List, codes, Option, Some, None, cond, option_map, refl}
 use Rattle.std.specs.Prelude.{if◌then◌else◌}
-use Rattle.std.proofs.lemmas.Bool.{and_parts}
-use Rattle.flow_link.proofs.ListTests.{and_true}
+use Rattle.std.proofs.lemmas.Bool.{and_parts, and_from}
 use Rattle.toml.specs.Data.{Data, Items, Members, no_items, item, string, integer, float, boolean, datetime, array, table, get_member, as_array}
 use Rattle.flow_text.specs.Keys.{all_items, is_table, is_wrong}
 use Rattle.flow_text.specs.Passes.{or_else, tables_of, section, first_from, is_wrong_in, first_place, first_fault, format_fault}
@@ -48,7 +47,7 @@ none_wrong : (test : Data → Bool) (n : ℕ) (ds : Items) → first_from test n
 none_wrong test n no_items h = refl
 none_wrong test n (item d ds) h =
     let parts = not_first (test d) n (first_from test (n + 1) ds) h in
-    and_true (not (test d)) _ parts.0 (none_wrong test (n + 1) ds parts.1)
+    and_from (not (test d)) _ parts.0 (none_wrong test (n + 1) ds parts.1)
 
 tables_only : (b : Bool) (ds : Items) → all_items is_table ds ≡ b → all_items is_table (cond b ds no_items) ≡ true
 tables_only true ds h = h
@@ -74,7 +73,7 @@ sound_item part (float x) h m w = h
 sound_item part (boolean b) h m w = h
 sound_item part (datetime t) h m w = h
 sound_item part (array ds) h m w = h
-sound_item part (table ms) h m w = and_true _ _ m w
+sound_item part (table ms) h m w = and_from _ _ m w
 
 sound_items : (part : Part) (ds : Items) → all_items is_table ds ≡ true → all_items (λ d. not (is_wrong_in MissingKey part d)) ds ≡ true
     → all_items (λ d. not (is_wrong_in WrongType part d)) ds ≡ true → all_items (is_sound_in part) ds ≡ true
@@ -83,7 +82,7 @@ sound_items part (item d ds) h m w =
     let hs = and_parts _ _ h in
     let ms = and_parts _ _ m in
     let ws = and_parts _ _ w in
-    and_true _ _ (sound_item part d hs.0 ms.0 ws.0) (sound_items part ds hs.1 ms.1 ws.1)
+    and_from _ _ (sound_item part d hs.0 ms.0 ws.0) (sound_items part ds hs.1 ms.1 ws.1)
 
 -- the blocks of a text without a fault are sound
 pub sound_blocks : (top : Members) → first_fault top ≡ None → all_items (is_sound_in Block) (section (codes "block") top) ≡ true

@@ -4,7 +4,7 @@ use Rattle.std.specs.Char.{is_ascii_digit}
 use Rattle.std.specs.List.{list_all}
 use Rattle.std.specs.Prelude.{FitsSigned}
 use Rattle.std.specs.Str.Parse.{IsNumeral, without_leading_sign, digits_value, signed_digits_value}
-use Rattle.std.proofs.lemmas.Bool.{eqb-true, false≢true, and_parts}
+use Rattle.std.proofs.lemmas.Bool.{eqb-true, false≢true, and_parts, cond-false, cond-true, false_from_ne_true}
 use Rattle.std.proofs.lemmas.Bool.Decides.{Decides-ltb}
 use Rattle.std.proofs.lemmas.Str.Parse.{IsNumeralModel, numerals_by_value}
 use Rattle.flow_value.specs.Number.{without_minus, is_digits, is_i64, int_of}
@@ -12,16 +12,6 @@ use Rattle.flow_value.specs.declared.work.WorkFault.TheVariants.{NotInt, Range}
 
 pub numerals : IsNumeralModel (λ ds. list_all is_ascii_digit ds ≡ true) (digits_value 10)
 numerals = numerals_by_value _ (search rules)
-
-pub chosen : {A : Type 0} (b : Bool) (x y : A) → b ≡ true → cond b x y ≡ x
-chosen b x y e = ap (λ v. cond v x y) e
-
-pub left_over : {A : Type 0} (b : Bool) (x y : A) → b ≡ false → cond b x y ≡ y
-left_over b x y e = ap (λ v. cond v x y) e
-
-pub not_true : (b : Bool) → (b ≡ true → ⊥) → b ≡ false
-not_true true h = absurd (h refl)
-not_true false h = refl
 
 pub is_i64-Decides : (n : ℤ) → Decides (is_i64 n) (FitsSigned w64 n)
 is_i64-Decides (pos n) =
@@ -58,14 +48,14 @@ numeral_behind_sign bs e =
 -- digits that fit are the number
 pub int_of-fits : (bs : List ℕ) → is_digits (without_minus bs) ≡ true → FitsSigned w64 (signed_digits_value 10 bs)
     → int_of bs ≡ Ok (signed_digits_value 10 bs)
-int_of-fits bs digits fits = chosen _ _ _ digits ∙ chosen _ _ _ ((is_i64-Decides (signed_digits_value 10 bs)).1 fits)
+int_of-fits bs digits fits = cond-true _ _ _ digits ∙ cond-true _ _ _ ((is_i64-Decides (signed_digits_value 10 bs)).1 fits)
 
 -- digits that do not fit are out of range
 pub int_of-over : (bs : List ℕ) → is_digits (without_minus bs) ≡ true → (FitsSigned w64 (signed_digits_value 10 bs) → ⊥)
     → int_of bs ≡ Err Range
 int_of-over bs digits over =
-    chosen _ _ _ digits ∙ left_over _ _ _ (not_true _ (λ e. over ((is_i64-Decides (signed_digits_value 10 bs)).0 e)))
+    cond-true _ _ _ digits ∙ cond-false _ _ _ (false_from_ne_true _ (λ e. over ((is_i64-Decides (signed_digits_value 10 bs)).0 e)))
 
 -- what is not all digits is no number
 pub int_of-other : (bs : List ℕ) → is_digits (without_minus bs) ≡ false → int_of bs ≡ Err NotInt
-int_of-other bs other = left_over _ _ _ other
+int_of-other bs other = cond-false _ _ _ other

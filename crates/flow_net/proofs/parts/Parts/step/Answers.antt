@@ -1,11 +1,11 @@
 use Rattle.std.proofs.Common.{rules, ◌≡◌, ap, sym, subst, ◌∙◌, is_some, true, Some}
+use Rattle.std.proofs.lemmas.Bool.{and_parts}
 use Rattle.flow_link.specs.declared.plan.Link.{Link}
 use Rattle.flow_link.specs.declared.phase.Move.{Move}
 use Rattle.flow_link.specs.declared.phase.Move.TheVariants.{Give, Close}
 use Rattle.flow_link.specs.Plan.{no_link}
 use Rattle.flow_link.specs.Planned.{layout_of}
 use Rattle.flow_link.proofs.LinksLead.{links_lead}
-use Rattle.flow_link.proofs.ListTests.{both_of}
 use Rattle.flow_net.specs.Events.{Enabled, head_of, offer_of}
 use Rattle.flow_net.specs.declared.event.Event.{Event}
 use Rattle.flow_net.proofs.ThereLemmas.{source_there, target_there, is_supplied, next_is_supplied}
@@ -26,7 +26,7 @@ make_move-requires-clause-head g c is_give =
     let ready : is_supplied parts link Give ≡ true =
     subst (λ (x : Link). is_supplied parts x Give ≡ true) (sym (c.link.ensures.its_number no_link))
     (next_is_supplied layout parts c.in-Link.id Give (enabled ∙ ap (λ (m : Move). Some m) is_give)) in
-    (both_of (is_some (head_of parts link.source)) (is_some (offer_of parts link.source)) ready).0
+    (and_parts (is_some (head_of parts link.source)) (is_some (offer_of parts link.source)) ready).0
 
 pub make_move-requires-clause-ready : goal.make_move-requires-clause-ready
 make_move-requires-clause-ready g c is_give =
@@ -37,7 +37,7 @@ make_move-requires-clause-ready g c is_give =
     let ready : is_supplied parts link Give ≡ true =
     subst (λ (x : Link). is_supplied parts x Give ≡ true) (sym (c.link.ensures.its_number no_link))
     (next_is_supplied layout parts c.in-Link.id Give (enabled ∙ ap (λ (m : Move). Some m) is_give)) in
-    (both_of (is_some (head_of parts link.source)) (is_some (offer_of parts link.source)) ready).1
+    (and_parts (is_some (head_of parts link.source)) (is_some (offer_of parts link.source)) ready).1
 
 pub make_move-requires-clause-room : goal.make_move-requires-clause-room
 make_move-requires-clause-room g c is_close =
