@@ -35,6 +35,12 @@ fn arrive(
     Ok(())
 }
 
+/// The message that waits longest is exchanged for the value.
+fn swap_first(rt: &impl Abort, port: &mut Intake, value: Value) -> Value {
+    assert!(rt; !port.waiting().is_empty(), "nothing waits");
+    port.swap_first(value)
+}
+
 /// An offer over a link is withdrawn.
 fn withdraw(rt: &impl Abort, port: &mut Intake, link: usize) {
     assert!(rt; port.may_drop(link), "no offer waits over link {link}");
@@ -68,10 +74,11 @@ fn intake_answers(rt: HostRuntime) -> Result<(), Fail> {
 
     // The message has its room until that comes back.
     arrive(&rt, rt.alloc(), &mut port, 0, "a")?;
-    let Some(Value::Text(taken)) = port.take_next() else {
-        panic!(&rt; "nothing waits");
+    let Value::Text(taken) = swap_first(&rt, &mut port, Value::Int(1)) else {
+        panic!(&rt; "another value waits");
     };
     assert_eq!(rt; taken.as_str(), "a");
+    assert_eq!(rt; port.take_next(), Some(Value::Int(1)));
     assert_eq!(rt; port.next_postponed(), None);
     give_room(&rt, &mut port, 1);
     assert_eq!(rt; port.next_postponed(), Some((1, one)));

@@ -9,6 +9,8 @@ use std::test::Fail;
 enum Call {
     /// These numbers are put, with this weight.
     Put(&'static [i64], u32),
+    /// This number is put alone, with this weight.
+    PutOne(i64, u32),
     /// It is asked for its next offer.
     Next,
     /// The offer that is out over the link is answered so.
@@ -32,8 +34,13 @@ enum Done {
     Room(u32),
 }
 
-/// The calls with two links, where the first id is the last but one.
+/// The calls with two links, where two ids are behind the first.
 const CALLS: &[(Call, Done)] = &[
+    (Call::PutOne(4, 1), Done::Taken),
+    (Call::Next, Done::Offered(0, MAX_ID - 2)),
+    (Call::Answer(0, MessageStatus::Accepted), Done::Noted),
+    (Call::Consume(0), Done::Gave(4)),
+    (Call::Room, Done::Room(1)),
     (Call::Put(&[5, 6], 2), Done::Taken),
     (Call::Put(&[7], 1), Done::NoIds),
     (Call::Next, Done::Offered(0, MAX_ID - 1)),
@@ -49,6 +56,7 @@ const CALLS: &[(Call, Done)] = &[
     (Call::Consume(0), Done::Gave(6)),
     (Call::Room, Done::Room(2)),
     (Call::Put(&[7], 1), Done::NoIds),
+    (Call::PutOne(7, 1), Done::NoIds),
 ];
 
 /// A link that carries every message, to a target that may put it off.
@@ -80,7 +88,7 @@ struct Case {
 
 impl Case {
     fn new(alloc: Global) -> Result<Case, Fail> {
-        let first = MessageHeader::new(MAX_ID - 1).ok_or("no header")?;
+        let first = MessageHeader::new(MAX_ID - 2).ok_or("no header")?;
         let mut rules = Vec::new(alloc);
         rules.push(link(0))?;
         rules.push(link(1))?;
@@ -94,6 +102,7 @@ impl Case {
     fn act(&mut self, alloc: Global, call: &Call) -> Result<Done, Fail> {
         match call {
             Call::Put(numbers, weight) => self.put(alloc, numbers, *weight),
+            Call::PutOne(number, weight) => self.put_one(*number, *weight),
             Call::Next => self.next(alloc),
             Call::Answer(link, status) => self.answer(*link, *status),
             Call::Consume(link) => self.consume(*link),
@@ -109,6 +118,17 @@ impl Case {
         match self.outlet.put(values, weight) {
             Ok(()) => Ok(Done::Taken),
             Err((back, OutletFault::Ids)) if back == values_of(alloc, numbers)? => Ok(Done::NoIds),
+            Err(_) => Err(Fail::from("refused otherwise")),
+        }
+    }
+
+    fn put_one(&mut self, number: i64, weight: u32) -> Result<Done, Fail> {
+        if weight > u32::MAX - self.outlet.weight() {
+            return Err(Fail::from("too much weight"));
+        }
+        match self.outlet.put_one(Value::Int(number), weight) {
+            Ok(()) => Ok(Done::Taken),
+            Err((back, OutletFault::Ids)) if back == Value::Int(number) => Ok(Done::NoIds),
             Err(_) => Err(Fail::from("refused otherwise")),
         }
     }
