@@ -16,7 +16,7 @@ use Rattle.flow_link.specs.declared.plan.Place.TheVariants.{Block, Link as at_li
 use Rattle.flow_link.specs.Lists.{numbers_from, below, some}
 use Rattle.flow_link.specs.Plan.{block_named, block_in, link_in, named_link, named_links, planned_links, reserves_by_kind}
 use Rattle.flow_link.specs.PlanFaults.{lacks_port, lacks_output, options_fit, is_in, holds_no_group, stands, walks, faults_in_order, first_plan_fault}
-use Rattle.flow_link.specs.NotBuilt.{stands_now, first_at, name_faults, end_faults, option_faults, is_built_kind, is_built_block, is_bad_block, is_built_link, is_further_link, first_fault_now}
+use Rattle.flow_link.specs.NotBuilt.{stands_now, first_at, name_faults, end_faults, option_faults, is_built_kind, is_built_block, is_bad_block, first_fault_now}
 use Rattle.flow_link.specs.Layout.{IsLaidOut}
 use Rattle.flow_link.proofs.LinksLaidOut.{laid_out_of, none_step}
 use Rattle.flow_link.proofs.FirstInOrder.{position_is_first, none_below}
@@ -31,17 +31,6 @@ module _ {W : Type 0} (blocks : List (BlockDef W)) where
   pub length-named_links : (links : List LinkDef) → length (named_links blocks links) ≡ length links
   length-named_links [] = refl
   length-named_links (link ∷ links) = ap suc (length-named_links links)
-
-  -- a link's options, and the links before it
-  pub bad_link_at : (links : List LinkDef) (named : List Link) (l : ℕ) (link : LinkDef) (bad further : Bool) → l < length links
-      → link ≡ get_or links l link → named ≡ named_links blocks links
-      → bad ≡ (not (is_in 1 2147483647 link.max) || not (is_built_link link)) → further ≡ is_further_link blocks named l
-      → stands_now blocks links (BadOption (at_link l)) ≡ (bad || further)
-  bad_link_at links named l link bad further low is resolves eb ef =
-      let max : (link_in (named_links blocks links) l).max ≡ link.max = ap (λ x. x.max) (named_link_at links l link low) ∙ ap (λ x. x.max) (sym is) in
-      let built : get_or (map (λ x. not (is_built_link x)) links) l false ≡ not (is_built_link link) =
-      get_or-map (λ x. not (is_built_link x)) links l link false low ∙ ap (λ x. not (is_built_link x)) (sym is) in
-      rw (max, built, ← resolves, eb, ef) refl
 
   pub unknown_by_position : (links : List LinkDef)
       → first_at blocks links UnknownBlock (length links)
@@ -69,6 +58,12 @@ module _ {W : Type 0} (blocks : List (BlockDef W)) where
   bad_block_by_position links = position_is_first is_bad_block
       (λ b. stands_now blocks links (BadOption (Block b))) blocks
       (λ b d low. ap is_bad_block (get_or_default blocks b _ d low))
+
+  pub bad_link_by_position : (links : List LinkDef)
+      → first_at blocks links (λ l. BadOption (at_link l)) (length links) ≡ position (λ link. not (is_in 1 2147483647 link.max)) links
+  bad_link_by_position links = position_is_first (λ link. not (is_in 1 2147483647 link.max))
+      (λ l. stands_now blocks links (BadOption (at_link l))) links
+      (λ l d low. ap (λ x. not (is_in 1 2147483647 x.max)) (named_link_at links l d low))
 
   -- a block's name is looked for among those before it
   pub repeats_at : (b : ℕ) (block : BlockDef W) (name : List ℕ) (found : Option ℕ) → b < length blocks
@@ -126,15 +121,15 @@ fails_from test first (suc count) k low e =
     [ true ↦ λ here wrong. cc | false ↦ λ here rest. fails_after test first count k low here (λ j small. fails_from test (suc first) count j small rest) ] in
     go (test first) refl e
 
-kind_of_built : (a b c d e : Bool) → (a || not (b && c && d && e)) ≡ false → b ≡ true
-kind_of_built true b c d e h = cc
-kind_of_built false true c d e h = refl
-kind_of_built false false c d e h = cc
+kind_of_built : (a b c d : Bool) → (a || not (b && c && d)) ≡ false → b ≡ true
+kind_of_built true b c d h = cc
+kind_of_built false true c d h = refl
+kind_of_built false false c d h = cc
 
 module _ {W : Type 0} where
   built_kind_of : (block : BlockDef W) → is_bad_block block ≡ false → is_built_kind block.kind ≡ true
   unfolding is_bad_block
-  built_kind_of block good = kind_of_built (not (options_fit block)) (is_built_kind block.kind) (is_none block.capacity) (unwrap_or block.lanes 1 == 1) (not block.output) good
+  built_kind_of block good = kind_of_built (not (options_fit block)) (is_built_kind block.kind) (unwrap_or block.lanes 1 == 1) (not block.output) good
 
 -- what is built has no groups, and does not reserve
 built_holds : (kind : BlockKind) (capacity size : Option ℕ) → is_built_kind kind ≡ true → holds_no_group kind capacity size ≡ false
@@ -168,12 +163,12 @@ module _ {W : Type 0} (blocks : List (BlockDef W)) (links : List LinkDef) where
 
   pub first_option_fault : (block link : Option ℕ)
       → position is_bad_block blocks ≡ block
-      → first_at blocks links (λ l. BadOption (at_link l)) (length links) ≡ link
+      → position (λ x. not (is_in 1 2147483647 x.max)) links ≡ link
       → find (stands_now blocks links) (option_faults blocks links)
       ≡ option_or (option_map (λ b. BadOption (Block b)) block) (option_map (λ l. BadOption (at_link l)) link)
   first_option_fault block link eb el =
       first_of_two (stands_now blocks links) (λ b. BadOption (Block b)) (λ l. BadOption (at_link l)) (length blocks) (length links) block link
-      (bad_block_by_position blocks links ∙ eb) el
+      (bad_block_by_position blocks links ∙ eb) (bad_link_by_position blocks links ∙ el)
 
 pub none_front : {A : Type 0} (x y : Option A) → option_or x y ≡ None → x ≡ None
 none_front None y e = refl
@@ -317,9 +312,7 @@ module _ {W : Type 0} (blocks : List (BlockDef W)) (links : List LinkDef) where
   pub stands_then_now : (fault : PlanFault) → stands blocks links fault ≡ true → stands_now blocks links fault ≡ true
   unfolding is_bad_block
   stands_then_now (BadOption (Block b)) e = or_left (not (options_fit (block_in blocks b))) (not (is_built_block (block_in blocks b))) e
-  stands_then_now (BadOption (at_link l)) e =
-      or_left _ (is_further_link blocks (named_links blocks links) l)
-      (or_left (not (is_in 1 2147483647 (link_in (named_links blocks links) l).max)) (get_or (map (λ link. not (is_built_link link)) links) l false) e)
+  stands_then_now (BadOption (at_link l)) e = e
   stands_then_now Limit e = e
   stands_then_now (DuplicateName b) e = e
   stands_then_now (UnknownBlock l) e = e

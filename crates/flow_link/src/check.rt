@@ -4,23 +4,19 @@
 //! is built.
 ghost use Rattle.std.specs.Prelude.{◌≡◌, ◌<◌, [], length, ◌||◌, not, find, position, IfOk, IfErr, IfSome, OnOk, None};
 ghost use Rattle.std.specs.Prelude.{is_none};
-ghost use Rattle.std.specs.List.{list_any};
-ghost use Rattle.flow_link.specs.declared.plan.PlanFault.TheVariants.{Limit, DuplicateName, UnknownBlock, Port};
-ghost use Rattle.flow_link.specs.declared.plan.PlanFault.TheVariants.{NoOutput, BadOption};
-ghost use Rattle.flow_link.specs.declared.plan.Place.TheVariants.{Block, Link as at_link};
-ghost use Rattle.flow_link.specs.Plan.{block_named, named_link, named_links, planned_links};
+ghost use Rattle.flow_link.specs.declared.plan.PlanFault.TheVariants.{Limit, DuplicateName};
+ghost use Rattle.flow_link.specs.Plan.{block_named, named_link, planned_links};
 ghost use Rattle.flow_link.specs.Planned.{layout_of};
 ghost use Rattle.flow_link.specs.Refusal.{IsWhy};
 ghost use Rattle.flow_link.specs.PlanFaults.{gives_nothing, lacks_port, lacks_output, is_in, first_plan_fault};
 ghost use Rattle.flow_link.specs.NotBuilt.{first_fault_now, stands_now, first_at, name_faults, end_faults};
-ghost use Rattle.flow_link.specs.NotBuilt.{option_faults, is_bad_block, is_built_link, is_further_link, shares_an_end};
-ghost use Rattle.flow_link.specs.NotBuilt.{enters_input, leaves_with, enters_with};
+ghost use Rattle.flow_link.specs.NotBuilt.{option_faults, is_bad_block};
 
 use crate::cycle::{MOST_BLOCKS, has_cycle};
 use crate::draft::{BlockDef, BlockKind, Draft, LinkDef};
 use crate::layout::{NO_LINK, name_links, planned_links};
-use crate::options::{is_built_block, is_built_link, max_fits, options_fit, port_count};
-use crate::plan::{Link, LinkSource, LinkTarget, Place, Plan, PlanFault};
+use crate::options::{is_built_block, max_fits, options_fit, port_count};
+use crate::plan::{Place, Plan, PlanFault};
 use std::alloc::Global;
 use thiserror::Error;
 
@@ -70,13 +66,12 @@ fn first_fault<W>(blocks: &[BlockDef<W>], links: &[LinkDef]) -> Option<PlanFault
     if let Some(fault) = fault_of_ends(blocks, links) {
         return Some(fault);
     }
-    let mut room = [NO_LINK; MOST_LINKS];
-    name_links(blocks, links, &mut room);
-    let named = &room[..links.len()];
-    if let Some(fault) = fault_of_options(blocks, links, named) {
+    if let Some(fault) = fault_of_options(blocks, links) {
         return Some(fault);
     }
-    if has_cycle(named, blocks.len()) {
+    let mut room = [NO_LINK; MOST_LINKS];
+    name_links(blocks, links, &mut room);
+    if has_cycle(&room[..links.len()], blocks.len()) {
         return Some(PlanFault::Cycle);
     }
     None
@@ -112,18 +107,13 @@ fn fault_of_ends<W>(blocks: &[BlockDef<W>], links: &[LinkDef]) -> Option<PlanFau
 }
 
 /// The first fault among those of options.
-fn fault_of_options<W>(
-    blocks: &[BlockDef<W>],
-    links: &[LinkDef],
-    named: &[Link],
-) -> Option<PlanFault>
-    requires { named.now ≡ named_links blocks.now links.now }
+fn fault_of_options<W>(blocks: &[BlockDef<W>], links: &[LinkDef]) -> Option<PlanFault>
     ensures { result ≡ find (stands_now blocks.now links.now) (option_faults blocks.now links.now) }
 {
     if let Some(block) = first_bad_block(blocks) {
         return Some(PlanFault::BadOption(Place::Block(block)));
     }
-    match first_bad_link(blocks, links, named) {
+    match first_bad_link(links) {
         Some(link) => Some(PlanFault::BadOption(Place::Link(link))),
         None => None,
     }
@@ -173,16 +163,10 @@ fn first_bad_block<W>(blocks: &[BlockDef<W>]) -> Option<usize>
     blocks.iter().position(|block| is_bad_block(block))
 }
 
-fn first_bad_link<W>(blocks: &[BlockDef<W>], links: &[LinkDef], named: &[Link]) -> Option<usize>
-    requires { named.now ≡ named_links blocks.now links.now }
-    ensures { result ≡ first_at blocks.now links.now (λ l. BadOption (at_link l)) (length links.now) }
+fn first_bad_link(links: &[LinkDef]) -> Option<usize>
+    ensures { result ≡ position (λ link. not (is_in 1 2147483647 link.max)) links.now }
 {
-    for (place, link) in links.iter().enumerate() {
-        if is_bad_link(link) || is_further_link(blocks, named, place) {
-            return Some(place);
-        }
-    }
-    None
+    links.iter().position(|link| !max_fits(link.max))
 }
 
 /// The number of the block with this name.
@@ -230,66 +214,8 @@ fn is_bad_block<W>(block: &BlockDef<W>) -> bool
     !options_fit(block) || !is_built_block(block)
 }
 
-fn is_bad_link(link: &LinkDef) -> bool
-    ensures { result ≡ (not (is_in 1 2147483647 link.now.max) || not (is_built_link link.now)) }
-{
-    !max_fits(link.max) || !is_built_link(link)
-}
-
 fn gives_nothing(kind: BlockKind) -> bool
     ensures { result ≡ gives_nothing kind }
 {
     matches!(kind, BlockKind::Action)
-}
-
-/// Whether an earlier link enters the link's target, an input's link counted, or leaves its source.
-#[tactic(auto, using(crate::proofs::FirstInOrder::any_is_some))]
-fn is_further_link<W>(blocks: &[BlockDef<W>], named: &[Link], place: usize) -> bool
-    requires { place < length named.now }
-    ensures { result ≡ is_further_link blocks.now named.now place }
-{
-    let link = &named[place];
-    enters_input(blocks, link.target) || shares_some_end(link, &named[..place])
-}
-
-fn shares_some_end(link: &Link, others: &[Link]) -> bool
-    ensures { result ≡ list_any (shares_an_end link.now) others.now }
-{
-    others.iter().any(|other| shares_an_end(link, other))
-}
-
-fn enters_input<W>(blocks: &[BlockDef<W>], target: LinkTarget) -> bool
-    ensures { result ≡ enters_input blocks.now target }
-{
-    match target {
-        LinkTarget::Port(place, _) => match blocks.get(place) {
-            Some(block) => block.input,
-            None => false,
-        },
-        LinkTarget::Exit => false,
-    }
-}
-
-fn shares_an_end(link: &Link, other: &Link) -> bool
-    ensures { result ≡ shares_an_end link.now other.now }
-{
-    leaves_with(link.source, other.source) || enters_with(link.target, other.target)
-}
-
-fn leaves_with(source: LinkSource, other: LinkSource) -> bool
-    ensures { result ≡ leaves_with source other }
-{
-    match (source, other) {
-        (LinkSource::Block(one), LinkSource::Block(two)) => one == two,
-        _ => false,
-    }
-}
-
-fn enters_with(target: LinkTarget, other: LinkTarget) -> bool
-    ensures { result ≡ enters_with target other }
-{
-    match (target, other) {
-        (LinkTarget::Port(one, _), LinkTarget::Port(two, _)) => one == two,
-        _ => false,
-    }
 }

@@ -5,9 +5,9 @@ ghost use Rattle.flow_link.specs.Plan.{ports_by_kind};
 ghost use Rattle.flow_link.specs.PlanFaults.{is_between, is_name, is_name_byte, is_in, allows, input_rule, output_rule};
 ghost use Rattle.flow_link.specs.PlanFaults.{capacity_rule, work_rule, lanes_rule, size_rule, ports_rule, greedy_rule};
 ghost use Rattle.flow_link.specs.PlanFaults.{keys_fit, ranges_fit, options_fit};
-ghost use Rattle.flow_link.specs.NotBuilt.{is_built_kind, is_built_block, is_built_link};
+ghost use Rattle.flow_link.specs.NotBuilt.{is_built_kind, is_built_block};
 
-use crate::draft::{BlockDef, BlockKind, LinkDef};
+use crate::draft::{BlockDef, BlockKind};
 
 /// The most bytes that a name has.
 const LONGEST_NAME: usize = 64;
@@ -32,17 +32,7 @@ pub fn options_fit<W>(block: &BlockDef<W>) -> bool
 pub fn is_built_block<W>(block: &BlockDef<W>) -> bool
     ensures { result ≡ is_built_block block.now }
 {
-    is_built_kind(block.kind)
-        && block.capacity.is_none()
-        && block.lanes.unwrap_or(1) == 1
-        && !block.output
-}
-
-/// Whether the link uses only what is built.
-pub fn is_built_link(link: &LinkDef) -> bool
-    ensures { result ≡ is_built_link link.now }
-{
-    link.when.is_none() && link.max.is_none()
+    is_built_kind(block.kind) && block.lanes.unwrap_or(1) == 1 && !block.output
 }
 
 /// Whether the link's number of messages is in its range.
