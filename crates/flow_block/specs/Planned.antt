@@ -1,5 +1,5 @@
 -- What a layout says of one of its blocks: its ports, and its ends of the links that lead into it and out of it.
-use Rattle.std.specs.Prelude.{ℕ, Bool, true, false, List, [], map, filter, length, None, Result}
+use Rattle.std.specs.Prelude.{ℕ, Bool, true, false, List, [], map, filter, length, take, count_by, None, Result}
 use Rattle.flow_value.specs.declared.value.Value.{Value}
 use Rattle.flow_link.specs.declared.draft.BlockKind.{BlockKind}
 use Rattle.flow_link.specs.declared.draft.BlockKind.TheVariants.{Buffer, Action, Transform}
@@ -53,6 +53,10 @@ module _ {W : Type 0} (layout : Layout W) where
 
   abbrev pub in_place : ℕ → ℕ → ℕ → ℕ
   in_place b p l = length (filter (is_into b p) (below l))
+
+  -- the place of a block's input among all inputs
+  abbrev pub input_place : ℕ → ℕ
+  input_place b = count_by (λ block. block.input) (take b layout.blocks)
 
   -- a port and a node in which nothing has happened; messages are counted from 1 on
   abbrev pub port_of_plan : ℕ → ℕ → PortState

@@ -1,8 +1,9 @@
 //! One block, and what can be asked of it.
 ghost use Rattle.std.specs.Prelude.{◌≡◌, ◌<◌, ◌^◌, true, length, MatchResult};
-ghost use Rattle.flow_intake.specs.Calls.{in_move};
+ghost use Rattle.flow_intake.specs.Calls.{in_move, next_place};
 ghost use Rattle.flow_intake.specs.Port.{link_in};
-ghost use Rattle.flow_outlet.specs.Outlet.{out_move, end_at};
+ghost use Rattle.flow_outlet.specs.End.{count_at, is_away};
+ghost use Rattle.flow_outlet.specs.Outlet.{out_move, end_at, may_offer};
 ghost use Rattle.flow_block.specs.Block.{port_at};
 ghost use Rattle.flow_block.specs.BlockFits.{fresh_block};
 ghost use Rattle.flow_block.specs.JournalFits.{marks_due};
@@ -172,6 +173,28 @@ impl Block {
         ensures { result ≡ marks_due self.now }
     {
         ports_due(&self.ports) + usize::from(self.exits.is_ready())
+    }
+
+    /// The place of the link over which the head would be offered next.
+    pub fn next_offer(&self) -> Option<usize>
+        ensures { result ≡ may_offer self.now.exits }
+    {
+        self.exits.may_offer()
+    }
+
+    /// The place of the link over which a port would consume next what it postponed.
+    pub fn next_place(&self, port: usize) -> Option<usize>
+        requires { port < length self.now.ports }
+        ensures { result ≡ next_place (port_at port self.now) }
+    {
+        self.ports[port].next_place()
+    }
+
+    /// Over how many links out of it something is under way, or waits there.
+    pub fn away_count(&self) -> usize
+        ensures { result ≡ count_at is_away self.now.exits.ends }
+    {
+        self.exits.away_count()
     }
 
     /// What the end of a link into it would do next.

@@ -4,7 +4,7 @@ ghost use Rattle.std.specs.List.{list_all};
 ghost use Rattle.flow_intake.specs.Port.{PortState, coming};
 ghost use Rattle.flow_intake.specs.PortLaw.{has_ended};
 ghost use Rattle.flow_outlet.specs.Outlet.{out_move, is_empty};
-ghost use Rattle.flow_block.specs.Block.{port_in};
+ghost use Rattle.flow_block.specs.Block.{port_at, port_in};
 ghost use Rattle.flow_block.specs.Peeks.{may_make, may_complete, next_fault, is_held_up, may_finish, could_stop};
 ghost use Rattle.flow_block.specs.Peeks.{fault_cause, fault_at_ports};
 
@@ -27,6 +27,14 @@ impl Block {
     {
         let port = &self.ports[port];
         !port.has_ended() && port.coming() == 0 && port.has_seen_completion()
+    }
+
+    /// Whether a port takes no message any more.
+    pub fn has_ended(&self, port: usize) -> bool
+        requires { port < length self.now.ports }
+        ensures { result ≡ has_ended (port_at port self.now).refusing }
+    {
+        self.ports[port].has_ended()
     }
 
     /// The fault by which it stops now, if it does.

@@ -6,7 +6,7 @@ ghost use Rattle.flow_link.specs.Lists.{below};
 ghost use Rattle.flow_link.specs.Plan.{begins_at, block_in, ends_at, ends_at_port, is_reserving, is_sole, is_steady};
 ghost use Rattle.flow_link.specs.Plan.{links_into, port_count, takes_at_once};
 ghost use Rattle.flow_link.specs.Planned.{layout_of};
-ghost use Rattle.flow_block.specs.Planned.{in_place, links_from, out_place, port_of_plan, rule_of};
+ghost use Rattle.flow_block.specs.Planned.{in_place, input_place, links_from, out_place, port_of_plan, rule_of};
 ghost use Rattle.flow_block.specs.Routes.{route_of};
 
 use flow_intake::Intake;
@@ -18,7 +18,8 @@ use std::alloc::{AllocError, Global};
 #[derive(Clone, Copy, Debug, PartialEq, Eq)]
 pub struct Route {
     pub source: LinkSource,
-    /// How many links before it leave the same block. It is 0 at an input, which has one link.
+    /// How many links before it leave the same block. At an input, which has one link, it is the place of the input
+    /// among all inputs, in the order of their blocks.
     pub source_place: usize,
     pub target: LinkTarget,
     /// How many links before it enter the same port. It is 0 at an exit, where the caller receives.
@@ -120,7 +121,7 @@ fn route_of<W>(plan: &Plan<W>, id: LinkId) -> Route
         source: link.source,
         source_place: match link.source {
             LinkSource::Block(block) => out_place(plan, block, id),
-            LinkSource::Input(_) => 0,
+            LinkSource::Input(block) => input_place(plan, block),
         },
         target: link.target,
         target_place: match link.target {
@@ -152,6 +153,20 @@ fn in_place<W>(plan: &Plan<W>, block: usize, port: usize, id: LinkId) -> usize
     let mut place = 0;
     for earlier in 0..id {
         if enters(plan.link(earlier).target, block, port) {
+            place += 1;
+        }
+    }
+    place
+}
+
+/// How many blocks before this one have an input: the place of its input among all inputs.
+fn input_place<W>(plan: &Plan<W>, block: usize) -> usize
+    requires { block ≤ length (layout_of plan.now).blocks }
+    ensures { result ≡ input_place (layout_of plan.now) block }
+{
+    let mut place = 0;
+    for earlier in 0..block {
+        if plan.block(earlier).input {
             place += 1;
         }
     }

@@ -218,7 +218,7 @@ impl Intake {
     }
 
     /// The place of the end that consumes next.
-    fn next_place(&self) -> Option<usize>
+    pub fn next_place(&self) -> Option<usize>
         ensures { result ≡ next_place self.now }
     {
         if self.refusing.is_none() && !self.reserves && self.has_room() {

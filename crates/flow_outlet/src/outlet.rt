@@ -6,7 +6,7 @@ ghost use Rattle.std.specs.VecDeque.{deque_len, deque_capacity};
 ghost use Rattle.flow_link.specs.LinkOk.{HasRoom};
 ghost use Rattle.flow_outlet.specs.ByLink.{offer_named, offers_next, IsAsked, answered, MayConsume, consumed};
 ghost use Rattle.flow_outlet.specs.ByLink.{consumes, place_of, forgets, tests_asked, tests_consume};
-ghost use Rattle.flow_outlet.specs.End.{is_waiting, is_free, is_cut, place_in, fresh_end};
+ghost use Rattle.flow_outlet.specs.End.{count_at, is_away, is_waiting, is_free, is_cut, place_in, fresh_end};
 ghost use Rattle.flow_outlet.specs.Fits.{weight_of};
 ghost use Rattle.flow_outlet.specs.Outlet.{changes, recounted, first_of, is_empty, fresh_outlet, lacks_ids, puts};
 ghost use Rattle.flow_outlet.specs.Outlet.{groups_with, groups_after, weight_at, may_offer, prepares, offers, looks};
@@ -123,6 +123,13 @@ impl Outlet {
         ensures { result ≡ is_at_rest self.now }
     {
         self.away == 0
+    }
+
+    /// Over how many links something is under way, or waits there.
+    pub fn away_count(&self) -> usize
+        ensures { result ≡ count_at is_away self.now.ends }
+    {
+        self.away
     }
 
     /// Whether all that is under way over a link waits there to be wished for.
