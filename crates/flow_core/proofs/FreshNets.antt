@@ -21,9 +21,9 @@ use Rattle.flow_block.specs.Input.{fresh_input, no_input, input_view}
 use Rattle.flow_block.specs.InputKeeps.{InputLaw, InputsKeep}
 use Rattle.flow_block.specs.Node.{in_view, out_view, view_of_in, view_of_out}
 use Rattle.flow_block.specs.NodeLaw.{NodeLaw}
-use Rattle.flow_block.specs.Planned.{fresh_node, port_of_plan, links_from, links_to, rule_of, in_place, out_place}
+use Rattle.flow_block.specs.Planned.{fresh_node, port_of_plan, links_from, links_to, rule_of, in_place, out_place, input_place}
 use Rattle.flow_core.specs.Keeps.{LineKeeps}
-use Rattle.flow_core.specs.State.{NetState, fresh_net, fresh_line, input_place, source_from, target_from, no_node}
+use Rattle.flow_core.specs.State.{NetState, fresh_net, fresh_line, source_from, target_from, no_node}
 use Rattle.flow_core.specs.Statements.{FreshKeeps}
 use Rattle.flow_core.proofs.LinesKeep.{line_keeps}
 use Rattle.flow_core.proofs.PlacesTell.{below_at}

@@ -16,8 +16,9 @@ use Rattle.flow_block.specs.Input.{no_input, input_trace}
 use Rattle.flow_block.specs.InputKeeps.{InputLaw, InputsAreParts, IsInputOf}
 use Rattle.flow_block.specs.Node.{node_trace}
 use Rattle.flow_block.specs.NodeSeen.{NodesAreLawful, IsNodeOf}
+use Rattle.flow_block.specs.Planned.{input_place}
 use Rattle.flow_core.specs.Keeps.{IsRun, NetKeeps}
-use Rattle.flow_core.specs.State.{NetState, no_node, node_at, input_at, input_place, ends_of, source_from, target_from, run_of_net}
+use Rattle.flow_core.specs.State.{NetState, no_node, node_at, input_at, ends_of, source_from, target_from, run_of_net}
 use Rattle.flow_core.specs.Statements.{KeptIsLawful}
 use Rattle.flow_core.proofs.PlacesOfLinks.{port_there}
 use Rattle.std.specs.Prelude.{Result}

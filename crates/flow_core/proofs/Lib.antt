@@ -2,6 +2,7 @@ pub mod BlocksMove
 pub mod EndsLook
 pub mod EndsStep
 pub mod EventsKeep
+pub mod FaultsNumbered
 pub mod FreshNets
 pub mod InputsMove
 pub mod KeptIsLawful
@@ -16,4 +17,6 @@ pub mod SchedulesGoWell
 pub mod SoleLinks
 pub mod StagesShow
 pub mod StillIsQuiet
+pub mod StillRests
 pub mod TargetsMove
+pub mod WalksEnd

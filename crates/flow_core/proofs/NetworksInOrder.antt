@@ -8,9 +8,11 @@ use Rattle.flow_block.proofs.NodesAreStill.{nodes_are_still}
 use Rattle.flow_block.proofs.NodesKept.{nodes_kept}
 use Rattle.flow_block.proofs.NodesRest.{nodes_rest}
 use Rattle.flow_block.proofs.ViewsMove.{calls_move_views}
+use Rattle.flow_core.specs.Numbers.{BlocksFaultByNumber}
 use Rattle.flow_core.specs.Statements.{EventsKeep, FreshKeeps, KeptIsLawful, StillIsQuiet, SchedulesGoWell}
 use Rattle.flow_core.proofs.BlocksMove.{blocks_move}
 use Rattle.flow_core.proofs.EventsKeep.{events_keep}
+use Rattle.flow_core.proofs.FaultsNumbered.{blocks_fault_by_number}
 use Rattle.flow_core.proofs.FreshNets.{fresh_keeps}
 use Rattle.flow_core.proofs.InputsMove.{inputs_move}
 use Rattle.flow_core.proofs.KeptIsLawful.{kept_is_lawful}
@@ -37,3 +39,6 @@ still_nets_are_quiet W =
 pub all_schedules_go_well : (W : Type 0) → SchedulesGoWell W
 all_schedules_go_well W =
     schedules_go_well (all_events_keep W) (fresh_nets_keep W) (kept_nets_are_lawful W) (still_nets_are_quiet W)
+
+pub all_blocks_fault_by_number : (W : Type 0) → BlocksFaultByNumber W
+all_blocks_fault_by_number W = blocks_fault_by_number (all_schedules_go_well W)

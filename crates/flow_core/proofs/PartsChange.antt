@@ -15,10 +15,10 @@ use Rattle.flow_block.specs.Input.{InputState, input_view, no_input}
 use Rattle.flow_block.specs.InputKeeps.{InputLaw}
 use Rattle.flow_block.specs.Node.{NodeState, in_view, out_view}
 use Rattle.flow_block.specs.NodeLaw.{NodeLaw}
-use Rattle.flow_block.specs.Planned.{in_place, out_place}
+use Rattle.flow_block.specs.Planned.{in_place, out_place, input_place}
 use Rattle.flow_core.specs.Events.{with_node, with_input, with_line}
 use Rattle.flow_core.specs.Keeps.{IsRun, NetKeeps}
-use Rattle.flow_core.specs.State.{NetState, LineState, node_at, no_node, input_place, input_at, source_from}
+use Rattle.flow_core.specs.State.{NetState, LineState, node_at, no_node, input_at, source_from}
 use Rattle.flow_core.specs.State.{target_from}
 use Rattle.flow_core.proofs.PlacesOfLinks.{exit_there, port_there, entry_there}
 use Rattle.flow_core.proofs.PlacesTell.{count_within, counts_differ, element_set}

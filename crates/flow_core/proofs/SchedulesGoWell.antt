@@ -14,9 +14,10 @@ use Rattle.flow_link.specs.Phase.{phase_after}
 use Rattle.flow_link.specs.Plan.{link_in}
 use Rattle.flow_link.specs.Trace.{InputTrace}
 use Rattle.flow_block.specs.Input.{InputState, InputCall, no_input, input_trace}
+use Rattle.flow_block.specs.Planned.{input_place}
 use Rattle.flow_core.specs.Events.{NetEvent, after, after_move, moved_by, source_moves, target_moves, source_sees, target_sees, with_line, line_after, with_input, is_of_source, input_after, input_call}
 use Rattle.flow_core.specs.Keeps.{IsRun, NetKeeps}
-use Rattle.flow_core.specs.State.{NetState, line_at, input_at, input_place, fresh_net}
+use Rattle.flow_core.specs.State.{NetState, line_at, input_at, fresh_net}
 use Rattle.flow_core.specs.Statements.{EventsKeep, FreshKeeps, KeptIsLawful, StillIsQuiet, SchedulesGoWell, Goes, Answers}
 
 -- what is posted stays
@@ -30,7 +31,7 @@ same_call (Some (InputCall.look phase)) input = refl
 abbrev posted_in : NetState → List InputTrace
 posted_in net = map input_trace net.inputs
 
-abbrev Stays : (NetState → NetState) → Type 0
+abbrev pub Stays : (NetState → NetState) → Type 0
 Stays change = (net : NetState) → posted_in (change net) ≡ posted_in net
 
 module _ {W : Type 0} (layout : Layout W) (meaning : ℕ → Value → Result (List Value) ℕ) where
@@ -69,7 +70,7 @@ module _ {W : Type 0} (layout : Layout W) (meaning : ℕ → Value → Result (L
   move_stays l next None net = refl
   move_stays l next (Some phase) net = moved_stays (is_of_source next) l next phase (link_in layout.links l) net
 
-  event_stays : (event : NetEvent) → Stays (after layout meaning event)
+  pub event_stays : (event : NetEvent) → Stays (after layout meaning event)
   event_stays (NetEvent.at_link l next) net = move_stays l next (phase_after (line_at net l).phase next) net
   event_stays (NetEvent.make b) net = refl
   event_stays (NetEvent.complete b p) net = refl

@@ -275,7 +275,7 @@ module _ {W : Type 0} (layout : Layout W) (meaning : ℕ → Value → Result (L
           exits = λ l there into. absurd (runs.inside l there into);
         }
 
-        links_are_at_rest : (l : ℕ) → l < length layout.links → is_at_rest (ends l).phase ≡ true
+        pub links_are_at_rest : (l : ℕ) → l < length layout.links → is_at_rest (ends l).phase ≡ true
         links_are_at_rest = links_rest W run ends parts ends_are_still
 
         parts_rest : PartsRest run ends

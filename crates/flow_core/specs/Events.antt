@@ -20,8 +20,8 @@ use Rattle.flow_block.specs.Input.{InputState, InputCall, input_move, after_inpu
 use Rattle.flow_block.specs.NextMoves.{next_in, next_out}
 use Rattle.flow_block.specs.Node.{NodeState, NodeCall, after as after_call}
 use Rattle.flow_block.specs.Peeks.{may_make, may_complete, next_fault, may_finish}
-use Rattle.flow_block.specs.Planned.{in_place, out_place, block_makes}
-use Rattle.flow_core.specs.State.{NetState, LineState, node_at, line_at, input_place, input_at}
+use Rattle.flow_block.specs.Planned.{in_place, out_place, input_place, block_makes}
+use Rattle.flow_core.specs.State.{NetState, LineState, node_at, line_at, input_at}
 
 pub data NetEvent : Type 0 where
   -- a move at a link

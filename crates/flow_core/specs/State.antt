@@ -1,5 +1,5 @@
 -- The state of a network as plain data: what each block, input and link has come to, and the run that it stands for.
-use Rattle.std.specs.Prelude.{ℕ, List, [], get_or, map, take, count_by, Option, None, Result}
+use Rattle.std.specs.Prelude.{ℕ, List, [], get_or, map, Option, None, Result}
 use Rattle.flow_value.specs.declared.value.Value.{Value}
 use Rattle.flow_link.specs.declared.draft.BlockKind.TheVariants.{Buffer}
 use Rattle.flow_link.specs.declared.phase.Phase.{Phase}
@@ -16,7 +16,7 @@ use Rattle.flow_link.specs.Views.{SourceView, TargetView, TargetStage}
 use Rattle.flow_outlet.specs.Outlet.{fresh_outlet}
 use Rattle.flow_block.specs.Input.{InputState, fresh_input, no_input, input_view, input_trace}
 use Rattle.flow_block.specs.Node.{NodeState, in_view, out_view, node_trace}
-use Rattle.flow_block.specs.Planned.{in_place, out_place, fresh_node}
+use Rattle.flow_block.specs.Planned.{in_place, out_place, input_place, fresh_node}
 use Rattle.flow_link.specs.Lists.{below}
 use Rattle.std.specs.Prelude.{length, replicate}
 
@@ -51,12 +51,8 @@ abbrev pub idle_target : TargetView Value
 idle_target = record { before = 0; taken = []; stage = TargetStage.free }
 
 module _ {W : Type 0} (layout : Layout W) where
-  -- the place of a block's input among all inputs
-  abbrev pub input_place : ℕ → ℕ
-  input_place b = count_by (λ block. block.input) (take b layout.blocks)
-
   abbrev pub input_at : NetState → ℕ → InputState
-  input_at net b = get_or net.inputs (input_place b) no_input
+  input_at net b = get_or net.inputs (input_place layout b) no_input
 
   -- what the two ends of a link know
   abbrev pub source_from : NetState → ℕ → LinkSource → SourceView Value

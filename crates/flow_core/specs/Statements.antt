@@ -8,6 +8,7 @@ use Rattle.flow_link.specs.Phase.{phase_after}
 use Rattle.flow_link.specs.Plan.{link_in}
 use Rattle.flow_link.specs.Quiet.{Quiet}
 use Rattle.flow_link.specs.Trace.{InputTrace}
+use Rattle.flow_core.specs.AtRest.{AtRest}
 use Rattle.flow_core.specs.Events.{NetEvent, Enabled, MayHappen, after, peek_by, is_of_source}
 use Rattle.flow_core.specs.Keeps.{IsRun, NetKeeps, LineKeeps}
 use Rattle.flow_core.specs.State.{NetState, line_at, run_of_net, fresh_net}
@@ -77,6 +78,11 @@ module _ (W : Type 0) where
   abbrev pub StillIsQuiet : Type 0
   StillIsQuiet = OfEachNet λ layout meaning.
       (net : NetState) → NetKeeps layout meaning net → IsStill layout meaning net → Quiet (run_of_net layout meaning net)
+
+  -- and nothing is under way
+  abbrev pub StillRests : Type 0
+  StillRests = OfEachNet λ layout meaning.
+      (net : NetState) → NetKeeps layout meaning net → IsStill layout meaning net → AtRest layout net
 
   -- whatever events are asked for, in whatever order, the run so far is lawful
   abbrev pub SchedulesGoWell : Type 0

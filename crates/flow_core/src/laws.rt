@@ -1,6 +1,7 @@
 //! Laws about the states of a network. Each stands on a function that does nothing: whoever calls it has the whole law.
+ghost use Rattle.flow_core.specs.Numbers.{BlocksFaultByNumber};
 ghost use Rattle.flow_core.specs.Statements.{EventsKeep, FreshKeeps, KeptIsLawful, NextIsAllowed, SchedulesGoWell};
-ghost use Rattle.flow_core.specs.Statements.{StillIsQuiet};
+ghost use Rattle.flow_core.specs.Statements.{StillIsQuiet, StillRests};
 
 /// A network in which nothing has happened is in order.
 pub fn fresh_networks_are_in_order<W>()
@@ -27,8 +28,18 @@ pub fn quiet_networks_are_quiet<W>()
     ensures { StillIsQuiet W }
 {}
 
+/// Where nothing may happen any more, no message is under way over a link: each that was given was taken.
+pub fn quiet_networks_are_at_rest<W>()
+    ensures { StillRests W }
+{}
+
 /// Whatever events are asked for, in whatever order: the run so far is lawful, and where nothing may happen any more it
 /// is quiet.
 pub fn every_schedule_goes_well<W>()
     ensures { SchedulesGoWell W }
+{}
+
+/// Where no work faults by number 0 and no input ends by it, no block ends by it, whatever events are asked for.
+pub fn blocks_fault_by_number<W>()
+    ensures { BlocksFaultByNumber W }
 {}
