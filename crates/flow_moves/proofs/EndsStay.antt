@@ -1,0 +1,139 @@
+-- A move of one end of a link leaves the other end where it is, also where both are of one block.
+use Rattle.std.proofs.Common.{◌≡◌, ℕ, ◌<◌, length, List, Option, Some, None, Result, Ok, [], true, false, refl, sym, subst}
+use Rattle.std.proofs.lemmas.List.{length-set, length-map}
+use Rattle.flow_value.specs.declared.value.Value.{Value}
+use Rattle.flow_link.specs.declared.phase.Move.{Move}
+use Rattle.flow_link.specs.declared.phase.Move.TheVariants as move
+use Rattle.flow_link.specs.declared.plan.LinkSource.{LinkSource}
+use Rattle.flow_link.specs.declared.plan.LinkSource.TheVariants.{Block, Input}
+use Rattle.flow_link.specs.declared.plan.LinkTarget.{LinkTarget}
+use Rattle.flow_link.specs.declared.plan.LinkTarget.TheVariants.{Port, Exit}
+use Rattle.flow_intake.specs.Port.{PortState}
+use Rattle.flow_intake.specs.Calls.{gives_room}
+use Rattle.flow_outlet.specs.Outlet.{head_of, gives}
+use Rattle.flow_block.specs.Node.{NodeState, hand_at, gives_from, takes_in}
+use Rattle.flow_block.specs.NodeKeeps.{InAt, any_stage}
+use Rattle.flow_block.proofs.PortsChange.{port_of_map}
+use Rattle.flow_core.specs.Events.{out_call, in_call, is_of_source, slot_after, with_line}
+use Rattle.flow_core.specs.State.{NetState, LineState, node_at, no_node}
+use Rattle.flow_core.proofs.PlacesTell.{element_set}
+use Rattle.flow_moves.specs.Calls.{called, handed, left_in_slot, slot_after_source}
+use Rattle.flow_moves.specs.Ready.{SourceIsThere, TargetIsThere}
+use Rattle.flow_moves.specs.Ways.{source_moved, target_moved}
+
+-- an end of a link into a node stays when the node gives its head
+gives_stay : (k : ℕ) (head : Option Value) (node : NodeState) (p j : ℕ) → InAt any_stage p j node
+    → InAt any_stage p j (gives_from k head node)
+gives_stay k None node p j there = there
+gives_stay k (Some value) node p j there =
+    let change = gives_room (gives k node.block.exits).room in
+    record {
+      port = subst (λ (count : ℕ). p < count) (sym (length-map node.block.ports change)) there.port;
+      place =
+          subst (λ (port : PortState). j < length port.ends) (sym (port_of_map change node.block.ports p there.port)) there.place;
+      stands = refl;
+    }
+
+out_stays : (result : Value → Result (List Value) ℕ) (k : ℕ) (next : Move) (node : NodeState) (p j : ℕ)
+    → InAt any_stage p j node → InAt any_stage p j (called result (out_call k next) node)
+out_stays result k (move.Offer id) node p j there = record { port = there.port; place = there.place; stands = refl }
+out_stays result k move.Give node p j there = gives_stay k (head_of node.block.exits) node p j there
+out_stays result k move.Deny node p j there = record { port = there.port; place = there.place; stands = refl }
+out_stays result k move.Withdraw node p j there = record { port = there.port; place = there.place; stands = refl }
+out_stays result k (move.End how) node p j there = record { port = there.port; place = there.place; stands = refl }
+out_stays result k _ node p j there = there
+
+-- so do all ends of links out of it when it takes
+takes_stay : (p k : ℕ) (hand : Option Value) (node : NodeState)
+    → length (takes_in p k hand node).block.exits.ends ≡ length node.block.exits.ends
+takes_stay p k None node = refl
+takes_stay p k (Some value) node = refl
+
+opens_stay : (result : Value → Result (List Value) ℕ) (p k : ℕ) (slot : Option Value) (node : NodeState)
+    → length (called result (in_call p k slot move.Open) node).block.exits.ends ≡ length node.block.exits.ends
+opens_stay result p k None node = refl
+opens_stay result p k (Some value) node = refl
+
+in_stays : (result : Value → Result (List Value) ℕ) (p k : ℕ) (slot : Option Value) (next : Move) (node : NodeState)
+    → length (called result (in_call p k slot next) node).block.exits.ends ≡ length node.block.exits.ends
+in_stays result p k slot move.Want node = refl
+in_stays result p k slot move.TurnDown node = refl
+in_stays result p k slot move.Postpone node = refl
+in_stays result p k slot move.Refuse node = refl
+in_stays result p k slot move.Consume node = refl
+in_stays result p k slot move.Open node = opens_stay result p k slot node
+in_stays result p k slot move.Close node = takes_stay p k (hand_at p k node) node
+in_stays result p k slot _ node = refl
+
+module _ (makes : ℕ → Value → Result (List Value) ℕ) (next : Move) where
+  pub target_stays : (source : LinkSource) (k : ℕ) (target : LinkTarget) (j : ℕ) (net : NetState)
+      → TargetIsThere net target j → TargetIsThere (source_moved makes next source k net) target j
+  target_stays source k Exit j net there = there
+  target_stays (Input b) k (Port t p) j net there = there
+  target_stays (Block s) k (Port t p) j net there =
+      let moved = called (makes s) (out_call k next) (node_at net s) in (
+        subst (λ (count : ℕ). t < count) (sym (length-set net.nodes s moved)) there.0,
+        element_set (λ _ (node : NodeState). InAt any_stage p j node) net.nodes s t moved no_node
+            (λ same. out_stays (makes s) k next (node_at net s) p j
+            (subst (λ (n : ℕ). InAt any_stage p j (node_at net n)) same there.1)) there.1,
+      )
+
+  pub source_stays : (target : LinkTarget) (j : ℕ) (slot : Option Value) (source : LinkSource) (k : ℕ) (net : NetState)
+      → SourceIsThere net source k → SourceIsThere (target_moved makes next slot target j net) source k
+  source_stays Exit j slot source k net there = there
+  source_stays (Port t p) j slot (Input b) k net there = there
+  source_stays (Port t p) j slot (Block s) k net there =
+      let moved = called (makes t) (in_call p j slot next) (node_at net t) in (
+        subst (λ (count : ℕ). s < count) (sym (length-set net.nodes t moved)) there.0,
+        element_set (λ _ (node : NodeState). k < length node.block.exits.ends) net.nodes t s moved no_node
+            (λ same. subst (λ (count : ℕ). k < count) (sym (in_stays (makes t) p j slot next (node_at net t)))
+            (subst (λ (n : ℕ). k < length (node_at net n).block.exits.ends) same there.1)) there.1,
+      )
+
+  pub source_lines : (source : LinkSource) (k : ℕ) (net : NetState) → (source_moved makes next source k net).lines ≡ net.lines
+  source_lines (Block s) k net = refl
+  source_lines (Input b) k net = refl
+
+  pub target_lines : (slot : Option Value) (target : LinkTarget) (k : ℕ) (net : NetState)
+      → (target_moved makes next slot target k net).lines ≡ net.lines
+  target_lines slot (Port t p) k net = refl
+  target_lines slot Exit k net = refl
+
+-- a change of a line leaves all ends
+pub source_beside : (l : ℕ) (line : LineState) (source : LinkSource) (k : ℕ) (net : NetState) → SourceIsThere net source k
+    → SourceIsThere (with_line l line net) source k
+source_beside l line (Block s) k net there = there
+source_beside l line (Input b) k net there = there
+
+pub target_beside : (l : ℕ) (line : LineState) (target : LinkTarget) (k : ℕ) (net : NetState) → TargetIsThere net target k
+    → TargetIsThere (with_line l line net) target k
+target_beside l line (Port t p) k net there = there
+target_beside l line Exit k net there = there
+
+-- blocks that make nothing of anything: what a move leaves is told whatever they make
+pub nothing_made : ℕ → Value → Result (List Value) ℕ
+nothing_made b value = Ok []
+
+-- what lies in the slot, told for each end alone
+pub slot_by_source : (next : Move) (value slot : Option Value) → is_of_source next ≡ true
+    → slot_after_source next (handed next value) slot ≡ slot_after next value slot
+slot_by_source (move.Offer id) value slot turn = refl
+slot_by_source (move.Post id) value slot turn = refl
+slot_by_source move.Withdraw value slot turn = refl
+slot_by_source move.Deny value slot turn = refl
+slot_by_source move.Hold value slot turn = refl
+slot_by_source move.Give value slot turn = refl
+slot_by_source (move.End how) value slot turn = refl
+slot_by_source _ value slot turn = absurd (cc)
+
+pub slot_by_target : (next : Move) (value slot : Option Value) → is_of_source next ≡ false
+    → left_in_slot next slot ≡ slot_after next value slot
+slot_by_target (move.Offer id) value slot turn = absurd (cc)
+slot_by_target (move.Post id) value slot turn = absurd (cc)
+slot_by_target move.Withdraw value slot turn = absurd (cc)
+slot_by_target move.Deny value slot turn = absurd (cc)
+slot_by_target move.Hold value slot turn = absurd (cc)
+slot_by_target move.Give value slot turn = absurd (cc)
+slot_by_target (move.End how) value slot turn = absurd (cc)
+slot_by_target move.Open value slot turn = refl
+slot_by_target _ value slot turn = refl

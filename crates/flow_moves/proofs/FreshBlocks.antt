@@ -1,0 +1,23 @@
+-- A block that is made of a plan has no mark due.
+use Rattle.std.proofs.Common.{◌≡◌, ℕ, List, [], ◌∷◌, map, refl, ap, ◌∙◌, arith}
+use Rattle.flow_link.specs.declared.draft.BlockKind.{BlockKind}
+use Rattle.flow_link.specs.Layout.{Layout}
+use Rattle.flow_intake.specs.Port.{count_at, is_owed, fresh_end}
+use Rattle.flow_outlet.specs.declared.ends.LinkRule.{LinkRule}
+use Rattle.flow_block.specs.Block.{BlockState}
+use Rattle.flow_block.specs.BlockFits.{fresh_block}
+use Rattle.flow_block.specs.JournalFits.{ports_due, marks_due}
+use Rattle.flow_block.specs.Planned.{port_of_plan, links_to}
+
+none_owed : (links : List ℕ) → count_at is_owed (map fresh_end links) ≡ 0
+none_owed [] = refl
+none_owed (link ∷ links) = omega (arith, none_owed links)
+
+module _ {W : Type 0} (layout : Layout W) (b : ℕ) where
+  none_due : (ports : List ℕ) → ports_due (map (port_of_plan layout b) ports) ≡ 0
+  none_due [] = refl
+  none_due (p ∷ ports) = omega (arith, none_owed (links_to layout b p), none_due ports)
+
+  pub no_mark_due : (kind : BlockKind) (ports : List ℕ) (rules : List LinkRule) (block : BlockState)
+      → block ≡ fresh_block kind (map (port_of_plan layout b) ports) rules → marks_due block ≡ 0
+  no_mark_due kind ports rules block is = ap marks_due is ∙ omega (arith, none_due ports)

@@ -1,0 +1,9 @@
+pub mod EndsStay
+pub mod FreshBlocks
+pub mod LinksThere
+pub mod MerelyKept
+pub mod MovesPrepared
+pub mod MovesReady
+pub mod NextMovesHappen
+pub mod OneProof
+pub mod PlansRun

@@ -1,0 +1,60 @@
+-- Each link of a network in order is there, and has its two ends at the places that its way names.
+use Rattle.std.proofs.Common.{◌≡◌, ℕ, ◌<◌, List, length, Result, refl, arith}
+use Rattle.std.specs.List.{count_by}
+use Rattle.flow_value.specs.declared.value.Value.{Value}
+use Rattle.flow_link.specs.declared.plan.LinkSource.{LinkSource}
+use Rattle.flow_link.specs.declared.plan.LinkSource.TheVariants.{Block, Input}
+use Rattle.flow_link.specs.declared.plan.LinkTarget.{LinkTarget}
+use Rattle.flow_link.specs.declared.plan.LinkTarget.TheVariants.{Port, Exit}
+use Rattle.flow_link.specs.Layout.{Layout}
+use Rattle.flow_link.specs.Plan.{link_in, no_block}
+use Rattle.flow_core.specs.Keeps.{IsRun, NetKeeps}
+use Rattle.flow_block.specs.Planned.{input_place}
+use Rattle.flow_core.specs.State.{NetState, node_at}
+use Rattle.flow_core.proofs.PlacesOfLinks.{exit_there, entry_there, port_there}
+use Rattle.flow_core.proofs.PlacesTell.{count_within}
+use Rattle.flow_moves.specs.Ready.{IsThere, SourceIsThere, TargetIsThere}
+use Rattle.flow_moves.specs.Statements.{LinksAreThere}
+use Rattle.flow_block.specs.Routes.{source_place, target_place, route_of}
+
+module _ {W : Type 0} (layout : Layout W) (meaning : ℕ → Value → Result (List Value) ℕ) (run : IsRun layout)
+    (net : NetState) (keeps : NetKeeps layout meaning net) (l : ℕ) (there : l < length layout.links) where
+  -- the input at which a link begins is one of all inputs
+  input_there : (b : ℕ) → (link_in layout.links l).source ≡ Input b → input_place layout b < length net.inputs
+  input_there b from =
+      let within : input_place layout b < count_by (λ block. block.input) layout.blocks =
+      count_within (λ block. block.input) layout.blocks b no_block
+      (run.leads.from_input l b there from) (run.leads.from_inputs l b there from) in
+      omega (arith, within, keeps.input_count)
+
+  source_there : (source : LinkSource) → (link_in layout.links l).source ≡ source
+      → SourceIsThere net source (source_place layout source l)
+  source_there (Block s) from =
+      let low = run.leads.from_block l s there from in
+      let node : s < length net.nodes = omega (arith, low, keeps.node_count) in
+      (node, exit_there layout meaning s (node_at net s) (keeps.nodes s low) l there from)
+  source_there (Input b) from = input_there b from
+
+  target_there : (target : LinkTarget) → (link_in layout.links l).target ≡ target
+      → TargetIsThere net target (target_place layout target l)
+  target_there (Port t p) to =
+      let low = run.leads.to_block l t p there to in
+      let node : t < length net.nodes = omega (arith, low, keeps.node_count) in (
+        node,
+        record {
+          port = port_there layout meaning t (node_at net t) (keeps.nodes t low) run p l there to;
+          place = entry_there layout meaning t (node_at net t) (keeps.nodes t low) run p l there to;
+          stands = refl;
+        },
+      )
+  target_there Exit to = tt
+
+  link_there : IsThere net l (route_of layout l)
+  link_there = record {
+    line = omega (arith, there, keeps.line_count);
+    source = source_there (link_in layout.links l).source refl;
+    target = target_there (link_in layout.links l).target refl;
+  }
+
+pub links_are_there : (W : Type 0) → LinksAreThere W
+links_are_there W layout meaning run net keeps l there = link_there layout meaning run net keeps l there

@@ -1,0 +1,87 @@
+-- What is known of a network that merely is in order: it goes on being so, all that code asks of it holds, and its run is
+-- lawful, and quiet where nothing may happen any more.
+use Rattle.std.proofs.Common.{◌≡◌, ℕ, ◌<◌, List, length, Some, Result}
+use Rattle.std.specs.List.{count_by}
+use Rattle.std.proofs.Math.Logic.{∥∥₁_elim, ∥∥₁_map}
+use Rattle.std.proofs.Math.Nat.{ℕ_set}
+use Rattle.flow_value.specs.declared.value.Value.{Value}
+use Rattle.flow_link.specs.declared.phase.Move.{Move}
+use Rattle.flow_link.specs.Lawful.{Lawful}
+use Rattle.flow_link.specs.Layout.{Layout}
+use Rattle.flow_link.specs.Quiet.{Quiet}
+use Rattle.flow_block.specs.Routes.{route_of}
+use Rattle.flow_block.proofs.KindsBuilt.{has_one_port}
+use Rattle.flow_core.specs.Events.{NetEvent, LinkMay, HasIds, MayHappen, after}
+use Rattle.flow_core.specs.Keeps.{IsRun, NetKeeps}
+use Rattle.flow_core.specs.State.{NetState, node_at, run_of_net}
+use Rattle.flow_core.specs.Statements.{IsStill}
+use Rattle.flow_core.proofs.NetworksInOrder.{all_events_keep, kept_nets_are_lawful, still_nets_are_quiet}
+use Rattle.flow_moves.specs.Ready.{IsThere, IsReady}
+use Rattle.flow_moves.specs.Statements.{IsPlanned, source_would, target_would}
+use Rattle.flow_moves.proofs.LinksThere.{links_are_there}
+use Rattle.flow_moves.proofs.MovesReady.{moves_are_ready}
+use Rattle.flow_moves.proofs.NextMovesHappen.{sources_may as sources_happen, targets_may as targets_happen}
+use Rattle.flow_moves.proofs.OneProof.{lawful_prop, quiet_prop, planned_prop, link_may_prop, there_prop, ready_prop}
+
+module _ {W : Type 0} (layout : Layout W) (meaning : ℕ → Value → Result (List Value) ℕ) (net : NetState)
+    (kept : ∥ NetKeeps layout meaning net ∥₁) where
+  pub node_count_is : length net.nodes ≡ length layout.blocks
+  node_count_is = ∥∥₁_elim kept (ℕ_set _ _) (λ keeps. keeps.node_count)
+
+  pub line_count_is : length net.lines ≡ length layout.links
+  line_count_is = ∥∥₁_elim kept (ℕ_set _ _) (λ keeps. keeps.line_count)
+
+  pub input_count_is : length net.inputs ≡ count_by (λ block. block.input) layout.blocks
+  input_count_is = ∥∥₁_elim kept (ℕ_set _ _) (λ keeps. keeps.input_count)
+
+  -- a block is of a kind that is built, as the plan has it, and has one port
+  pub blocks_planned : (b : ℕ) → b < length layout.blocks → IsPlanned layout b (node_at net b).block
+  blocks_planned b low = ∥∥₁_elim kept (planned_prop layout b (node_at net b).block) (λ keeps.
+      let shape = (keeps.nodes b low).shape in
+      record {
+        kind_is = shape.kind_is;
+        built = shape.built;
+        alone = has_one_port layout meaning b (node_at net b).block shape;
+      })
+
+  module _ (runs : IsRun layout) where
+    -- a link has its two ends at the places that its way names
+    pub links_there : (l : ℕ) → l < length layout.links → IsThere net l (route_of layout l)
+    links_there l there =
+        ∥∥₁_elim kept (there_prop net l (route_of layout l))
+        (λ keeps. links_are_there W layout meaning runs net keeps l there)
+
+    -- what an end of a link would do next may happen
+    pub sources_may : (l : ℕ) (next : Move) → l < length layout.links → source_would layout net l ≡ Some next
+        → LinkMay layout net l next
+    sources_may l next there would =
+        ∥∥₁_elim kept (link_may_prop layout net l next)
+        (λ keeps. sources_happen W layout meaning runs net keeps l next there would)
+
+    pub targets_may : (l : ℕ) (next : Move) → l < length layout.links → target_would layout net l ≡ Some next
+        → LinkMay layout net l next
+    targets_may l next there would =
+        ∥∥₁_elim kept (link_may_prop layout net l next)
+        (λ keeps. targets_happen W layout meaning runs net keeps l next there would)
+
+    -- and all stands ready for it
+    pub moves_ready : (l : ℕ) (next : Move) → LinkMay layout net l next
+        → HasIds layout meaning (NetEvent.at_link l next) net → IsReady net l (route_of layout l) next
+    moves_ready l next may ids =
+        ∥∥₁_elim kept (ready_prop net l (route_of layout l) next)
+        (λ keeps. moves_are_ready W layout meaning runs net keeps l next may ids)
+
+    -- whatever may happen leaves it in order
+    pub kept_after : (event : NetEvent) → MayHappen layout meaning event net
+        → ∥ NetKeeps layout meaning (after layout meaning event net) ∥₁
+    kept_after event may = ∥∥₁_map kept (λ keeps. all_events_keep W layout meaning runs net event keeps may)
+
+    pub lawful_merely : Lawful (run_of_net layout meaning net)
+    lawful_merely =
+        ∥∥₁_elim kept (lawful_prop (run_of_net layout meaning net))
+        (λ keeps. kept_nets_are_lawful W layout meaning runs net keeps)
+
+    pub quiet_merely : IsStill layout meaning net → Quiet (run_of_net layout meaning net)
+    quiet_merely still =
+        ∥∥₁_elim kept (quiet_prop (run_of_net layout meaning net))
+        (λ keeps. still_nets_are_quiet W layout meaning runs net keeps still)

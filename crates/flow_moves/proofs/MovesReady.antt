@@ -1,0 +1,177 @@
+-- For a move that may happen all stands ready at the end that makes it.
+use Rattle.std.proofs.Common.{◌≡◌, ℕ, ◌<◌, ◌^◌, ◌==◌, not, Bool, true, false, List, length, Option, Some, None, is_some}
+use Rattle.std.proofs.Common.{Result, refl, ap, ◌∙◌, subst}
+use Rattle.flow_value.specs.declared.value.Value.{Value}
+use Rattle.flow_value.specs.declared.when.When.{When}
+use Rattle.flow_link.specs.declared.phase.Move.{Move}
+use Rattle.flow_link.specs.declared.phase.Move.TheVariants as move
+use Rattle.flow_link.specs.declared.phase.Phase.{Phase}
+use Rattle.flow_link.specs.declared.plan.LinkSource.{LinkSource}
+use Rattle.flow_link.specs.declared.plan.LinkSource.TheVariants.{Block, Input}
+use Rattle.flow_link.specs.declared.plan.LinkTarget.{LinkTarget}
+use Rattle.flow_link.specs.declared.plan.LinkTarget.TheVariants.{Port, Exit}
+use Rattle.flow_link.specs.declared.stage.SourceStage.{SourceStage}
+use Rattle.flow_link.specs.declared.stage.SourceStage.TheVariants.{Accepted, Wished, Claimed}
+use Rattle.flow_link.specs.declared.stage.TargetStage.{TargetStage}
+use Rattle.flow_link.specs.declared.stage.TargetStage.TheVariants.{Arrived}
+use Rattle.flow_link.specs.Facts.{facts_in}
+use Rattle.flow_link.specs.Layout.{Layout}
+use Rattle.flow_link.specs.LinkOk.{LinkOk}
+use Rattle.flow_link.specs.Plan.{link_in}
+use Rattle.flow_link.specs.Stage.{target_stage_of, in_hand}
+use Rattle.flow_link.specs.Views.{SourceView, TargetView, LinkFacts}
+use Rattle.std.proofs.lemmas.Bool.{and_parts}
+use Rattle.flow_link.proofs.TargetMoves.{target_moves_keep}
+use Rattle.flow_intake.specs.Calls.{is_arrived}
+use Rattle.flow_intake.specs.Port.{end_in}
+use Rattle.flow_outlet.specs.End.{speaks_of}
+use Rattle.flow_outlet.specs.Law.{admits_head}
+use Rattle.flow_outlet.specs.Outlet.{head_of, end_at, stage_at, may_give, is_wanted}
+use Rattle.flow_outlet.proofs.EndsKeepLaw.{given_admitted}
+use Rattle.flow_outlet.proofs.StagesTell.{speaks_id}
+use Rattle.flow_block.specs.Block.{port_at}
+use Rattle.flow_block.specs.Input.{InputState, InputCall}
+use Rattle.flow_block.specs.InputKeeps.{InputLaw, MayMoveInput}
+use Rattle.flow_block.specs.NextMoves.{MayMoveIn, MayMoveOut}
+use Rattle.flow_block.specs.Node.{NodeState, in_view}
+use Rattle.flow_block.specs.NodeLaw.{NodeLaw}
+use Rattle.flow_block.specs.Planned.{in_place, out_place}
+use Rattle.flow_block.proofs.InputsInOrder.{inputs_keep}
+use Rattle.flow_block.proofs.NextMoves.{next_moves_may}
+use Rattle.flow_core.specs.Events.{NetEvent, HasIds, is_of_source, source_peek, target_peek, peek_by}
+use Rattle.flow_core.specs.Keeps.{IsRun, NetKeeps}
+use Rattle.flow_core.specs.State.{NetState, node_at, line_at, input_at}
+use Rattle.flow_core.proofs.PartsChange.{given_at, taken_as}
+use Rattle.flow_core.proofs.PlacesOfLinks.{exit_there, entry_there, port_there}
+use Rattle.flow_moves.specs.Ready.{GiveIsReady, OutIsReady, InIsReady, InputIsReady, SourceIsReady, TargetIsReady}
+use Rattle.flow_moves.specs.Ready.{MoverIsReady}
+use Rattle.flow_moves.specs.Statements.{MovesAreReady}
+use Rattle.flow_block.specs.Routes.{source_place, target_place, route_of}
+
+-- What a block gives
+
+-- what is wanted is the head
+wanted_speaks : (next : ℕ) (out : Bool) (stage : SourceStage) → is_wanted next out stage ≡ true
+    → speaks_of next stage ≡ true
+wanted_speaks next out (Accepted i) e = e
+wanted_speaks next out (Claimed i) e = (and_parts (i == next) (not out) e).0
+wanted_speaks next out (Wished i) e = (and_parts (i == next) (not out) e).0
+wanted_speaks next out _ e = absurd (cc)
+
+-- what is admitted is there
+admitted_there : (when : When) (head : Option Value) → admits_head when head ≡ true → is_some head ≡ true
+admitted_there when None e = cc
+admitted_there when (Some value) e = refl
+
+-- What lies in a slot
+
+-- a message that has arrived lies in the slot of its link
+slot_full : (facts : LinkFacts) (phase : Phase) (slot hand : Option Value) (source : SourceView Value)
+    (target : TargetView Value) (stage : TargetStage) → is_arrived stage ≡ true
+    → target.stage ≡ target_stage_of stage hand → LinkOk facts phase slot source target → is_some slot ≡ true
+slot_full facts phase slot hand source target (Arrived i) e at ok =
+    ap is_some ((target_moves_keep Value).«open» facts phase slot source target ok i at).in_slot
+slot_full facts phase slot hand source target _ e at ok = absurd (cc)
+
+-- An input is ready
+
+-- its parcel is made for what it gives, and there is an id for what it offers
+input_ready : {W : Type 0} (layout : Layout W) (meaning : ℕ → Value → Result (List Value) ℕ) (net : NetState) (l : ℕ)
+    (input : InputState) → InputLaw input → (next : Move) → MayMoveInput input next
+    → HasIds layout meaning (NetEvent.at_link l next) net → InputIsReady next input
+input_ready layout meaning net l input law (move.Offer id) may ids =
+    record { may = may.1; id = subst (λ (i : ℕ). i < 2 ^ 59) may.0 ids }
+input_ready layout meaning net l input law move.Give may ids =
+    record { wanted = may; parcel = ap is_some (inputs_keep.views input InputCall.give law may).ready }
+input_ready layout meaning net l input law (move.End how) may ids = may.is_at_home
+input_ready layout meaning net l input law _ may ids = absurd may
+
+module _ {W : Type 0} (layout : Layout W) (meaning : ℕ → Value → Result (List Value) ℕ) (b : ℕ) (node : NodeState)
+    (law : NodeLaw layout meaning b node) where
+  -- A block's end of a link out of it
+
+  give_ready : (k : ℕ) → k < length node.block.exits.ends → may_give k node.block.exits ≡ true
+      → GiveIsReady k node.block.exits
+  give_ready k place wanted =
+      let exits = node.block.exits in
+      let outlet = law.exits.law in
+      let speaks = wanted_speaks exits.next (is_some exits.offer) (stage_at exits k) wanted in
+      let head = admitted_there (end_at exits k).rule.when (head_of exits) (given_admitted exits outlet k place wanted) in
+      record {
+        there = place;
+        wanted = wanted;
+        parcel = ap is_some (outlet.ready k place speaks) ∙ head;
+        room = (outlet.each k place).room exits.next (speaks_id exits.next (stage_at exits k) speaks);
+      }
+
+  out_ready : (k : ℕ) (next : Move) → MayMoveOut layout meaning b node k next → OutIsReady k next node
+  out_ready k (move.Offer id) may = may.1.next
+  out_ready k move.Give may = give_ready k may.place may.wanted
+  out_ready k move.Deny may = may
+  out_ready k move.Withdraw may = may.waits
+  out_ready k (move.End how) may = may.is_at_home
+  out_ready k _ may = absurd may
+
+  -- A block's end of a link into it
+
+  in_ready : (p k : ℕ) (facts : LinkFacts) (phase : Phase) (slot : Option Value) (source : SourceView Value)
+      → LinkOk facts phase slot source (in_view p k node)
+      → (next : Move) → MayMoveIn layout meaning b node p k next → InIsReady p k slot next node
+  in_ready p k facts phase slot source ok move.Want may = (may.0, may.1.room)
+  in_ready p k facts phase slot source ok move.TurnDown may = may
+  in_ready p k facts phase slot source ok move.Postpone may = may.offered
+  in_ready p k facts phase slot source ok move.Refuse may = may
+  in_ready p k facts phase slot source ok move.Consume may = (may.0, may.1.room)
+  in_ready p k facts phase slot source ok move.Open may =
+      let arrived = may (in_hand None) in
+      let end = end_in k (port_at p node.block).ends in
+      (arrived, slot_full facts phase slot end.hand source (in_view p k node) end.stage arrived.stands refl ok)
+  in_ready p k facts phase slot source ok move.Close may = may
+  in_ready p k facts phase slot source ok _ may = absurd may
+
+-- The two ends of a link
+
+module _ {W : Type 0} (layout : Layout W) (meaning : ℕ → Value → Result (List Value) ℕ) (run : IsRun layout)
+    (net : NetState) (keeps : NetKeeps layout meaning net) (l : ℕ) (there : l < length layout.links) (next : Move)
+    (ids : HasIds layout meaning (NetEvent.at_link l next) net) where
+  source_ready : (source : LinkSource) → (link_in layout.links l).source ≡ source
+      → source_peek layout net l source ≡ Some next → SourceIsReady next net source (source_place layout source l)
+  source_ready (Block s) from peek =
+      let k = out_place layout s l in
+      let node = node_at net s in
+      let low = run.leads.from_block l s there from in
+      let law = keeps.nodes s low in
+      let place = exit_there layout meaning s node law l there from in
+      out_ready layout meaning s node law k next
+      ((next_moves_may layout meaning s node run.well_formed low law).1 k next place peek)
+  source_ready (Input b) from peek =
+      let input = input_at layout net b in
+      let law = keeps.inputs b (run.leads.from_input l b there from) (run.leads.from_inputs l b there from) in
+      input_ready layout meaning net l input law next (inputs_keep.next input next law peek) ids
+
+  target_ready : (target : LinkTarget) → (link_in layout.links l).target ≡ target
+      → target_peek layout net l target ≡ Some next → TargetIsReady l next net target (target_place layout target l)
+  target_ready (Port t p) to peek =
+      let k = in_place layout t p l in
+      let node = node_at net t in
+      let low = run.leads.to_block l t p there to in
+      let law = keeps.nodes t low in
+      let port = port_there layout meaning t node law run p l there to in
+      let place = entry_there layout meaning t node law run p l there to in
+      let phase = (line_at net l).phase in
+      let slot = (line_at net l).slot in
+      let given = given_at layout net l in
+      let ok = subst (λ (view : TargetView Value). LinkOk (facts_in layout l) phase slot given view)
+      (taken_as layout net l (Port t p) to) (keeps.lines l there).in_order in
+      in_ready layout meaning t node law p k (facts_in layout l) phase slot given ok next
+      ((next_moves_may layout meaning t node run.well_formed low law).0 p k next port place peek)
+  target_ready Exit to peek = absurd (cc)
+
+  mover_ready : (by_source : Bool) → peek_by layout by_source net l (link_in layout.links l) ≡ Some next
+      → MoverIsReady net l (route_of layout l) by_source next
+  mover_ready true peek = source_ready (link_in layout.links l).source refl peek
+  mover_ready false peek = target_ready (link_in layout.links l).target refl peek
+
+pub moves_are_ready : (W : Type 0) → MovesAreReady W
+moves_are_ready W layout meaning run net keeps l next may ids =
+    mover_ready layout meaning run net keeps l may.there next ids (is_of_source next) may.peek

@@ -1,0 +1,117 @@
+-- What code is told of a network in order has one proof at most, so it follows where the network merely is in order.
+use Rattle.std.specs.Prelude.{ℕ, Bool, true, false, Option, Some, None}
+use Rattle.std.specs.Coded.{le_prop}
+use Rattle.std.proofs.Math.Bool.{Bool-set}
+use Rattle.std.proofs.Math.Nat.{ℕ_set}
+use mathlib.Core.Sum.{⊎_set}
+use Rattle.flow_value.specs.declared.value.Value.{Value}
+use Rattle.flow_link.specs.declared.phase.Move.{Move}
+use Rattle.flow_link.specs.declared.phase.Move.TheVariants as move
+use Rattle.flow_link.specs.declared.plan.LinkSource.{LinkSource}
+use Rattle.flow_link.specs.declared.plan.LinkSource.TheVariants.{Block, Input}
+use Rattle.flow_link.specs.declared.plan.LinkTarget.{LinkTarget}
+use Rattle.flow_link.specs.declared.plan.LinkTarget.TheVariants.{Port, Exit}
+use Rattle.flow_link.specs.Lawful.{Lawful}
+use Rattle.flow_link.specs.Layout.{Layout}
+use Rattle.flow_link.specs.LinkOk.{HasRoom}
+use Rattle.flow_link.specs.Quiet.{Quiet}
+use Rattle.flow_link.specs.Trace.{Run}
+use Rattle.flow_outlet.specs.Outlet.{OutletState, end_at}
+use Rattle.flow_block.specs.Block.{BlockState}
+use Rattle.flow_block.specs.Input.{InputState}
+use Rattle.flow_block.specs.Node.{NodeState}
+use Rattle.flow_block.specs.declared.planned.Route.{Route}
+use Rattle.flow_core.specs.Events.{LinkMay, is_of_source}
+use Rattle.flow_core.specs.State.{NetState, node_at, line_at}
+use Rattle.flow_moves.specs.Ready.{SourceIsThere, TargetIsThere, IsThere, GiveIsReady, OutIsReady, InIsReady}
+use Rattle.flow_moves.specs.Ready.{InputIsReady, SourceIsReady, TargetIsReady, MoverIsReady, IsReady}
+use Rattle.flow_moves.specs.Statements.{IsPlanned}
+use Rattle.flow_moves.specs.Ways.{input_in}
+
+pub lawful_prop : {W : Type 0} (run : Run W) → IsProp (Lawful run)
+lawful_prop run = hlevel (ℕ_set, Bool-set)
+
+pub quiet_prop : {W : Type 0} (run : Run W) → IsProp (Quiet run)
+quiet_prop run = hlevel Bool-set
+
+pub planned_prop : {W : Type 0} (layout : Layout W) (b : ℕ) (block : BlockState) → IsProp (IsPlanned layout b block)
+planned_prop layout b block = hlevel (ℕ_set, Bool-set, ⊎_set)
+
+-- moves are told apart
+Moves-set : IsSet (Option Move)
+Moves-set = hlevel (ℕ_set, ⊎_set)
+
+pub link_may_prop : {W : Type 0} (layout : Layout W) (net : NetState) (l : ℕ) (next : Move) → IsProp (LinkMay layout net l next)
+link_may_prop layout net l next = hlevel (le_prop, Bool-set, Moves-set)
+
+-- The two ends of a link are there
+
+source_there_prop : (net : NetState) (source : LinkSource) (k : ℕ) → IsProp (SourceIsThere net source k)
+source_there_prop net (Block s) k = hlevel le_prop
+source_there_prop net (Input b) k = le_prop
+
+target_there_prop : (net : NetState) (target : LinkTarget) (k : ℕ) → IsProp (TargetIsThere net target k)
+target_there_prop net (Port t p) k = hlevel (le_prop, Bool-set)
+target_there_prop net Exit k = hlevel
+
+pub there_prop : (net : NetState) (l : ℕ) (route : Route) → IsProp (IsThere net l route)
+there_prop net l route =
+    let source = source_there_prop net route.source route.source_place in
+    let target = target_there_prop net route.target route.target_place in
+    hlevel le_prop
+
+-- The end that makes a move stands ready
+
+room_prop : (max : Option ℕ) (count : ℕ) → IsProp (HasRoom max count)
+room_prop None count = hlevel
+room_prop (Some max) count = le_prop
+
+give_ready_prop : (k : ℕ) (exits : OutletState) → IsProp (GiveIsReady k exits)
+give_ready_prop k exits =
+    let room = room_prop (end_at exits k).rule.max (end_at exits k).given in
+    hlevel (le_prop, Bool-set)
+
+-- places among ends are told apart
+Places-set : IsSet (Option ℕ)
+Places-set = hlevel (ℕ_set, ⊎_set)
+
+out_ready_prop : (k : ℕ) (next : Move) (node : NodeState) → IsProp (OutIsReady k next node)
+out_ready_prop k (move.Offer id) node = Places-set _ _
+out_ready_prop k move.Give node = give_ready_prop k node.block.exits
+out_ready_prop k move.Deny node = hlevel (le_prop, Bool-set)
+out_ready_prop k move.Withdraw node = hlevel (le_prop, Bool-set)
+out_ready_prop k (move.End how) node = hlevel (le_prop, Bool-set)
+out_ready_prop k _ node = hlevel
+
+in_ready_prop : (p k : ℕ) (slot : Option Value) (next : Move) (node : NodeState) → IsProp (InIsReady p k slot next node)
+in_ready_prop p k slot move.Want node = hlevel (le_prop, Bool-set)
+in_ready_prop p k slot move.TurnDown node = hlevel (le_prop, Bool-set)
+in_ready_prop p k slot move.Postpone node = hlevel (le_prop, Bool-set)
+in_ready_prop p k slot move.Refuse node = hlevel (le_prop, Bool-set)
+in_ready_prop p k slot move.Consume node = hlevel (le_prop, Bool-set)
+in_ready_prop p k slot move.Open node = hlevel (le_prop, Bool-set)
+in_ready_prop p k slot move.Close node = hlevel (le_prop, Bool-set)
+in_ready_prop p k slot _ node = hlevel
+
+input_ready_prop : (next : Move) (input : InputState) → IsProp (InputIsReady next input)
+input_ready_prop (move.Offer id) input = hlevel (le_prop, Bool-set)
+input_ready_prop move.Give input = hlevel Bool-set
+input_ready_prop (move.End how) input = Bool-set _ _
+input_ready_prop _ input = hlevel
+
+source_ready_prop : (next : Move) (net : NetState) (source : LinkSource) (k : ℕ) → IsProp (SourceIsReady next net source k)
+source_ready_prop next net (Block s) k = out_ready_prop k next (node_at net s)
+source_ready_prop next net (Input b) k = input_ready_prop next (input_in net k)
+
+target_ready_prop : (l : ℕ) (next : Move) (net : NetState) (target : LinkTarget) (k : ℕ)
+    → IsProp (TargetIsReady l next net target k)
+target_ready_prop l next net (Port t p) k = in_ready_prop p k (line_at net l).slot next (node_at net t)
+target_ready_prop l next net Exit k = hlevel
+
+mover_ready_prop : (net : NetState) (l : ℕ) (route : Route) (by_source : Bool) (next : Move)
+    → IsProp (MoverIsReady net l route by_source next)
+mover_ready_prop net l route true next = source_ready_prop next net route.source route.source_place
+mover_ready_prop net l route false next = target_ready_prop l next net route.target route.target_place
+
+pub ready_prop : (net : NetState) (l : ℕ) (route : Route) (next : Move) → IsProp (IsReady net l route next)
+ready_prop net l route next = mover_ready_prop net l route (is_of_source next) next

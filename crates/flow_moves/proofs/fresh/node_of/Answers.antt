@@ -1,0 +1,16 @@
+use Rattle.std.proofs.Common.{ap, ◌∙◌, List}
+use Rattle.flow_link.specs.Lists.{below}
+use Rattle.flow_link.specs.Plan.{block_in, port_count}
+use Rattle.flow_link.specs.Planned.{layout_of}
+use Rattle.flow_intake.specs.Port.{PortState}
+use Rattle.flow_block.specs.BlockFits.{fresh_block}
+use Rattle.flow_moves.proofs.FreshBlocks.{no_mark_due}
+use Rattle.flow_moves.proofs.fresh.node_of.Goals as goal
+
+pub new-requires-in-Ok : goal.new-requires-in-Ok
+new-requires-in-Ok g c =
+    let layout = layout_of c.args.plan.now in
+    let kind = c.block.result.now.kind in
+    let rules = c.in_ok-rules.rules.items in
+    no_mark_due layout c.args.number kind (below (port_count (block_in layout.blocks c.args.number))) rules c.in-Ok.block
+    (c.in-Ok.ensures ∙ ap (λ (ports : List PortState). fresh_block kind ports rules) c.in_ok-ports.ensures)

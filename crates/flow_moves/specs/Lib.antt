@@ -1,0 +1,5 @@
+pub mod Calls
+pub mod Ready
+pub mod Statements
+pub mod Ways
+pub mod Works

@@ -1,0 +1,89 @@
+-- What holds in a network in order of what would happen next: whatever an end of a link or a block would do may happen, all
+-- stands ready for it, and it is a move along the link's route; and where nobody would do anything, nothing may happen.
+use Rattle.std.specs.Prelude.{◌≡◌, ℕ, ◌<◌, true, false, length, List, Option, Some, None, Result}
+use Rattle.flow_value.specs.declared.value.Value.{Value}
+use Rattle.flow_link.specs.declared.phase.Move.{Move}
+use Rattle.flow_link.specs.declared.phase.Phase.{Phase}
+use Rattle.flow_link.specs.Layout.{Layout}
+use Rattle.flow_link.specs.Phase.{phase_after}
+use Rattle.flow_link.specs.Plan.{block_in, link_in}
+use Rattle.flow_block.specs.Block.{BlockState}
+use Rattle.flow_block.specs.Peeks.{may_make, may_complete, next_fault, may_finish}
+use Rattle.flow_block.specs.Planned.{is_built, block_makes}
+use Rattle.flow_block.specs.Routes.{source_place, target_place, route_of}
+use Rattle.flow_core.specs.Events.{NetEvent, LinkMay, HasIds, is_of_source, after}
+use Rattle.flow_core.specs.Keeps.{NetKeeps}
+use Rattle.flow_core.specs.State.{NetState, node_at, line_at}
+use Rattle.flow_core.specs.Statements.{OfEachNet, IsStill}
+use Rattle.flow_moves.specs.Ready.{IsThere, IsReady}
+use Rattle.flow_moves.specs.Ways.{source_next, target_next, moved_along}
+
+-- a block would do nothing by itself
+pub record HasNoStep (block : BlockState) : Type 0 where
+  pub make : may_make block ≡ false
+  pub complete : (p : ℕ) → p < length block.ports → may_complete p block ≡ false
+  pub fault : next_fault block ≡ None
+  pub finish : may_finish block ≡ false
+
+module _ {W : Type 0} (layout : Layout W) (net : NetState) where
+  -- what the two ends of a link would do next
+  abbrev pub source_would : ℕ → Option Move
+  source_would l = source_next net (link_in layout.links l).source (source_place layout (link_in layout.links l).source l)
+
+  abbrev pub target_would : ℕ → Option Move
+  target_would l = target_next net (link_in layout.links l).target (target_place layout (link_in layout.links l).target l)
+
+  -- neither end of a link would do anything
+  pub record LinkIsIdle (l : ℕ) : Type 0 where
+    pub source : source_would l ≡ None
+    pub target : target_would l ≡ None
+
+  pub record NothingNext : Type 0 where
+    pub links : (l : ℕ) → l < length layout.links → LinkIsIdle l
+    pub blocks : (b : ℕ) → b < length layout.blocks → HasNoStep (node_at net b).block
+
+-- a block is of a kind that is built, as the plan has it, and has one port
+pub record IsPlanned {W : Type 0} (layout : Layout W) (b : ℕ) (block : BlockState) : Type 0 where
+  pub kind_is : block.kind ≡ (block_in layout.blocks b).kind
+  pub built : is_built block.kind ≡ true
+  pub alone : length block.ports ≡ 1
+
+module _ (W : Type 0) where
+  -- of each network in order
+  abbrev pub InEachNet : ((layout : Layout W) → (ℕ → Value → Result (List Value) ℕ) → NetState → Type 0) → Type 0
+  InEachNet P = OfEachNet W λ layout meaning. (net : NetState) → NetKeeps layout meaning net → P layout meaning net
+
+  abbrev pub LinksAreThere : Type 0
+  LinksAreThere = InEachNet λ layout meaning net. (l : ℕ) → l < length layout.links → IsThere net l (route_of layout l)
+
+  abbrev pub BlocksArePlanned : Type 0
+  BlocksArePlanned = InEachNet λ layout meaning net. (b : ℕ) → b < length layout.blocks → IsPlanned layout b (node_at net b).block
+
+  -- what an end of a link would do next may happen
+  abbrev pub SourcesMay : Type 0
+  SourcesMay = InEachNet λ layout meaning net.
+      (l : ℕ) (next : Move) → l < length layout.links → source_would layout net l ≡ Some next → LinkMay layout net l next
+
+  abbrev pub TargetsMay : Type 0
+  TargetsMay = InEachNet λ layout meaning net.
+      (l : ℕ) (next : Move) → l < length layout.links → target_would layout net l ≡ Some next → LinkMay layout net l next
+
+  -- and all stands ready for it
+  abbrev pub MovesAreReady : Type 0
+  MovesAreReady = InEachNet λ layout meaning net.
+      (l : ℕ) (next : Move) → LinkMay layout net l next → HasIds layout meaning (NetEvent.at_link l next) net
+      → IsReady net l (route_of layout l) next
+
+  -- it is a move along the link's route
+  abbrev pub MovesGoAlong : Type 0
+  MovesGoAlong =
+      (layout : Layout W) (meaning : ℕ → Value → Result (List Value) ℕ) (net : NetState) (l : ℕ) (next : Move) (phase : Phase)
+      → phase_after (line_at net l).phase next ≡ Some phase
+      → after layout meaning (NetEvent.at_link l next) net
+      ≡ moved_along (block_makes layout meaning) (is_of_source next) l next phase (route_of layout l) net
+
+  -- where nobody would do anything, nothing may happen
+  abbrev pub NothingIsStill : Type 0
+  NothingIsStill =
+      (layout : Layout W) (meaning : ℕ → Value → Result (List Value) ℕ) (net : NetState) → NothingNext layout net
+      → IsStill layout meaning net

@@ -1,0 +1,50 @@
+//! The blocks and links of a plan in which nothing has happened.
+ghost use Rattle.std.specs.Prelude.{◌≡◌, ◌<◌, true, length, map, replicate, IfOk};
+ghost use Rattle.flow_link.specs.Lists.{below};
+ghost use Rattle.flow_link.specs.Plan.{block_in};
+ghost use Rattle.flow_link.specs.Planned.{layout_of};
+ghost use Rattle.flow_block.specs.Planned.{fresh_node};
+ghost use Rattle.flow_core.specs.State.{fresh_line};
+
+use crate::parts::Line;
+use flow_block::{Block, Node, ports_of, rules_from};
+use flow_link::Plan;
+use std::alloc::{AllocError, Global};
+
+/// The blocks of a plan, in their order. It fails only where memory is out.
+///
+/// It looks at each link as often as there are blocks and ports.
+pub fn nodes_of<W>(alloc: Global, plan: &Plan<W>) -> Result<Vec<Node>, AllocError>
+    ensures { IfOk result (λ nodes. nodes.items ≡ map (fresh_node (layout_of plan.now)) (below (length (layout_of
+        plan.now).blocks))) }
+{
+    let mut nodes = Vec::with_capacity(alloc, plan.block_count())?;
+    for number in 0..plan.block_count() {
+        nodes.push(node_of(alloc, plan, number)?)?;
+    }
+    Ok(nodes)
+}
+
+/// A block of a plan.
+fn node_of<W>(alloc: Global, plan: &Plan<W>, number: usize) -> Result<Node, AllocError>
+    requires { number < length (layout_of plan.now).blocks }
+    ensures { IfOk result (λ node. node ≡ fresh_node (layout_of plan.now) number) }
+{
+    let ports = ports_of(alloc, plan, number)?;
+    let rules = rules_from(alloc, plan, number)?;
+    match Block::new(alloc, plan.block(number).kind, ports, rules) {
+        Ok(block) => Ok(Node::new(alloc, block)),
+        Err(_) => Err(AllocError),
+    }
+}
+
+/// So many links that nothing has crossed. It fails only where memory is out.
+pub fn lines_of(alloc: Global, count: usize) -> Result<Vec<Line>, AllocError>
+    ensures { IfOk result (λ lines. lines.items ≡ replicate count fresh_line) }
+{
+    let mut lines = Vec::with_capacity(alloc, count)?;
+    for _made in 0..count {
+        lines.push(Line::new())?;
+    }
+    Ok(lines)
+}

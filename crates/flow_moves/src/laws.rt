@@ -1,0 +1,35 @@
+//! Laws about what would happen next in a network in order. Each stands on a function that does nothing: whoever calls
+//! it has the whole law.
+ghost use Rattle.flow_moves.specs.Statements.{BlocksArePlanned, LinksAreThere, MovesAreReady, MovesGoAlong};
+ghost use Rattle.flow_moves.specs.Statements.{NothingIsStill, SourcesMay, TargetsMay};
+
+/// Each link has its two ends at the places that its way names.
+pub fn links_are_there<W>()
+    ensures { LinksAreThere W }
+{}
+
+/// Each block is as the plan has it: of a kind that is built, with one port.
+pub fn blocks_are_planned<W>()
+    ensures { BlocksArePlanned W }
+{}
+
+/// What an end of a link would do next may happen.
+pub fn next_moves_may_happen<W>()
+    ensures sources { SourcesMay W }
+    ensures targets { TargetsMay W }
+{}
+
+/// For a move that may happen all stands ready.
+pub fn moves_are_ready<W>()
+    ensures { MovesAreReady W }
+{}
+
+/// What a move changes is told by the link's way.
+pub fn moves_go_along_ways<W>()
+    ensures { MovesGoAlong W }
+{}
+
+/// Where nobody would do anything, nothing may happen.
+pub fn nothing_next_is_still<W>()
+    ensures { NothingIsStill W }
+{}

@@ -1,0 +1,19 @@
+//! One event in a network of blocks: what each end of a link and each block would do next, and what becomes of the
+//! network when it does.
+//!
+//! A [`Parts`] is all blocks, inputs and links of a network, by their numbers. Each event is one call, which may be
+//! refused where memory or message ids are out; then nothing has changed.
+#![tactic(auto)]
+
+mod ends;
+mod fresh;
+mod laws;
+mod parts;
+mod steps;
+
+pub use fresh::{lines_of, nodes_of};
+pub use laws::{
+    blocks_are_planned, links_are_there, moves_are_ready, moves_go_along_ways,
+    next_moves_may_happen, nothing_next_is_still,
+};
+pub use parts::{Line, Parts, is_of_source};
