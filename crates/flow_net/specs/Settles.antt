@@ -2,12 +2,13 @@
 use Rattle.std.specs.Prelude.{◌≡◌, ℕ, ◌≤◌, List, Result}
 use Rattle.flow_value.specs.declared.value.Value.{Value}
 use Rattle.flow_link.specs.Layout.{Layout}
-use Rattle.flow_net.specs.Parts.{PartsState}
-use Rattle.flow_net.specs.Steps.{Happened, IsQuiet}
+use Rattle.flow_core.specs.State.{NetState}
+use Rattle.flow_core.specs.Statements.{IsStill}
+use Rattle.flow_net.specs.Steps.{Happened}
 use Rattle.flow_net.specs.declared.posted.Settled.{Settled}
 use Rattle.flow_net.specs.declared.posted.Settled.TheVariants.{Quiet, Stopped}
 
-module _ {W : Type 0} (layout : Layout W) (meaning : ℕ → Value → Result (List Value) ℕ) (limit : ℕ) (old new : PartsState) where
+module _ {W : Type 0} (layout : Layout W) (meaning : ℕ → Value → Result (List Value) ℕ) (limit : ℕ) (old new : NetState) where
   -- some events have happened, and not more than may
   pub record GoesOn : Type 0 where
     pub count : ℕ
@@ -19,6 +20,6 @@ module _ {W : Type 0} (layout : Layout W) (meaning : ℕ → Value → Result (L
     pub count : ℕ
     pub within : count ≤ limit
     pub happened : Happened layout meaning count old new
-    pub quiet : how ≡ Quiet → IsQuiet layout new
+    pub quiet : how ≡ Quiet → IsStill layout meaning new
     pub all_done : how ≡ Stopped → count ≡ limit
-    pub not_quiet : how ≡ Stopped → IsQuiet layout new → ⊥
+    pub not_quiet : how ≡ Stopped → IsStill layout meaning new → ⊥

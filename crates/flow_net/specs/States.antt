@@ -1,7 +1,11 @@
 -- What became of a block, by its journal. Each kind that is built has one port, and is complete with it.
 use Rattle.std.specs.Prelude.{ℕ, Bool, true, false, List, [], ◌∷◌, Option, Some, None}
 use Rattle.flow_link.specs.declared.trace.Mark.{Mark}
+use Rattle.flow_link.specs.declared.trace.Outcome.{Outcome}
+use Rattle.flow_link.specs.declared.trace.Outcome.TheVariants as outcome
 use Rattle.flow_link.specs.declared.trace.Mark.TheVariants.{Took, Gave, Complete, Fault, Done}
+use Rattle.flow_link.specs.declared.trace.Outcome.{Outcome}
+use Rattle.flow_link.specs.declared.trace.Outcome.TheVariants as outcome
 use Rattle.flow_link.specs.Trace.{is_done, has_complete}
 use Rattle.flow_net.specs.declared.posted.State.{State}
 use Rattle.flow_net.specs.declared.posted.State.TheVariants as state
@@ -24,3 +28,10 @@ state_from None false false = state.Open
 
 abbrev pub state_by : List Mark → State
 state_by marks = state_from (fault_in marks) (is_done marks) (has_complete 0 marks)
+
+-- the same by how the block stopped and whether its port has ended
+abbrev pub state_told : Option Outcome → Bool → State
+state_told (Some (outcome.Faulted number)) ended = state.Faulted number
+state_told (Some outcome.Done) ended = state.Done
+state_told None true = state.Completing
+state_told None false = state.Open

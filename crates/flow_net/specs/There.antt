@@ -1,57 +1,31 @@
--- The blocks and inputs at the ends of a link are there.
-use Rattle.std.specs.Prelude.{◌≡◌, ℕ, ◌<◌, ◌≤◌, ◌^◌, length, Some}
-use Rattle.flow_link.specs.declared.phase.Move.TheVariants.{Offer}
-use Rattle.flow_link.specs.declared.plan.LinkSource.{LinkSource}
-use Rattle.flow_link.specs.declared.plan.LinkSource.TheVariants.{Block, Input}
-use Rattle.flow_link.specs.declared.plan.LinkTarget.{LinkTarget}
-use Rattle.flow_link.specs.declared.plan.LinkTarget.TheVariants.{Port, Exit}
+-- Which events may be done, and why one is not.
+use Rattle.std.specs.Prelude.{ℕ, List, Result}
+use Rattle.flow_value.specs.declared.value.Value.{Value}
 use Rattle.flow_link.specs.Layout.{Layout}
-use Rattle.flow_net.specs.Events.{Enabled, next_move}
-use Rattle.flow_net.specs.Parts.{PartsState}
-use Rattle.flow_net.specs.declared.event.Event.{Event}
+use Rattle.flow_core.specs.Events.{NetEvent, Enabled, HasIds, MayHappen}
+use Rattle.flow_core.specs.State.{NetState}
 use Rattle.flow_net.specs.declared.fault.NetFault.{NetFault}
 use Rattle.flow_net.specs.declared.fault.NetFault.TheVariants.{NotEnabled, Ids, Memory}
-use Rattle.flow_net.specs.declared.event.Event.TheVariants.{Link as at_link, Make, Complete, Fault, Done, Job}
 
--- there is a place for each block, input and link of the layout
-pub record Fits {W : Type 0} (layout : Layout W) (parts : PartsState) : Type 0 where
-  pub nodes : length parts.nodes ≡ length layout.blocks
-  pub feeds : length parts.feeds ≡ length layout.blocks
-  pub lines : length parts.lines ≡ length layout.links
+module _ {W : Type 0} (layout : Layout W) (meaning : ℕ → Value → Result (List Value) ℕ) (net : NetState) where
+  -- a message that goes over a link has an id; of what a block makes that is known when it is made
+  abbrev pub LinkHasId : NetEvent → Type 0
+  LinkHasId (NetEvent.at_link l next) = HasIds layout meaning (NetEvent.at_link l next) net
+  LinkHasId _ = Unit {0}
 
-abbrev pub SourceIsThere : PartsState → LinkSource → Type 0
-SourceIsThere parts (Block s) = s < length parts.nodes
-SourceIsThere parts (Input b) = b < length parts.feeds
+  -- the event may happen, as far as can be told before it does
+  pub record IsDue (event : NetEvent) : Type 0 where
+    pub enabled : Enabled layout net event
+    pub id : LinkHasId event
 
-abbrev pub TargetIsThere : PartsState → LinkTarget → Type 0
-TargetIsThere parts (Port t p) = t < length parts.nodes
-TargetIsThere parts Exit = Unit {0}
+  -- something would happen next for which no id is left
+  pub record NeedsId : Type 0 where
+    pub event : NetEvent
+    pub enabled : Enabled layout net event
+    pub none_left : HasIds layout meaning event net → ⊥
 
--- the link or block of an event is there
-abbrev pub EventIsThere : {W : Type 0} → Layout W → Event W → Type 0
-EventIsThere layout (at_link l step) = l < length layout.links
-EventIsThere layout (Make b) = b < length layout.blocks
-EventIsThere layout (Complete b p) = b < length layout.blocks
-EventIsThere layout (Fault b) = b < length layout.blocks
-EventIsThere layout (Done b) = b < length layout.blocks
-EventIsThere layout (Job works none) = ⊥
-
--- the event is one of the network's, and may happen now
-pub record MayHappen {W : Type 0} (layout : Layout W) (parts : PartsState) (event : Event W) : Type 0 where
-  pub there : EventIsThere layout event
-  pub enabled : Enabled layout parts event
-
--- a message would be offered next whose id is too great
-pub record NeedsId {W : Type 0} (layout : Layout W) (parts : PartsState) : Type 0 where
-  pub link : ℕ
-  pub id : ℕ
-  pub there : link < length layout.links
-  pub offers : next_move layout parts link ≡ Some (Offer id)
-  pub too_great : 2 ^ 59 ≤ id
-
--- why an event is not done: it may not happen; or a message that would be offered next has no id left, and it may not either;
--- or there is no memory for it
-abbrev pub IsWhyNot : {W : Type 0} → Layout W → PartsState → Event W → NetFault → Type 0
-IsWhyNot layout parts event NotEnabled = MayHappen layout parts event → ⊥
-IsWhyNot layout parts event Ids = NeedsId layout parts × (MayHappen layout parts event → ⊥)
-IsWhyNot layout parts event Memory = MayHappen layout parts event
+  -- why an event is not done: it may not happen; or an id is wanting, and so it may not either; or memory is out
+  abbrev pub IsWhyNot : NetEvent → NetFault → Type 0
+  IsWhyNot event NotEnabled = Enabled layout net event → ⊥
+  IsWhyNot event Ids = NeedsId × (MayHappen layout meaning event net → ⊥)
+  IsWhyNot event Memory = Enabled layout net event

@@ -3,8 +3,9 @@
 ghost use Rattle.std.specs.Prelude.{◌≡◌, ◌<◌, IfSome, vec_len};
 
 use crate::event::Event;
-use crate::parts::Parts;
-use flow_link::{Link, LinkSource, LinkTarget, Move, Plan};
+use flow_block::{Block, Route};
+use flow_link::{LinkSource, LinkTarget, Move};
+use flow_moves::Parts;
 use std::alloc::{AllocError, Global};
 
 /// A link or a block.
@@ -89,48 +90,110 @@ impl Agenda {
     }
 
     /// Lists where something may be able to happen after this event.
-    pub(crate) fn list_after<W>(&mut self, plan: &Plan<W>, parts: &Parts, event: &Event<W>) {
+    pub(crate) fn list_after<W>(&mut self, parts: &Parts, routes: &[Route], event: &Event<W>) {
         match *event {
-            Event::Link(id, step) => {
-                if id < plan.link_count() {
-                    self.list_after_move(id, &plan.link(id), step);
+            Event::Link(id, next) => {
+                if let Some(route) = routes.get(id) {
+                    self.list_after_move(parts, route, &next);
                 }
+                self.list(Spot::Link(id));
             }
-            Event::Make(number)
-            | Event::Complete(number, _)
-            | Event::Fault(number)
-            | Event::Done(number) => {
-                if let Some(node) = parts.nodes.get(number) {
-                    self.list_round(number, node.into, node.out);
-                }
+            Event::Make(number) => {
+                self.list(Spot::Block(number));
+                self.list_held_up(parts, number);
+            }
+            Event::Complete(number, _) | Event::Fault(number) | Event::Done(number) => {
+                self.list_round(parts, number);
+                self.list(Spot::Block(number));
             }
             Event::Job(_, none) => match none {},
         }
     }
 
-    /// Lists the ends of a link at which something may be able to happen after this move, and the link itself.
-    fn list_after_move(&mut self, id: usize, link: &Link, step: Move) {
-        if matches!(step, Move::Close | Move::End(_) | Move::Refuse) {
-            if let LinkSource::Block(number) = link.source {
-                self.list(Spot::Block(number));
-            }
-            self.list(Spot::Link(id));
-            if let LinkTarget::Port(number, _) = link.target {
-                self.list(Spot::Block(number));
-            }
-        } else {
-            self.list(Spot::Link(id));
+    /// Lists the blocks at the ends of a link for which this move opens something, and all links of one for which it
+    /// opens more. Most moves open nothing but the next one of the link.
+    fn list_after_move(&mut self, parts: &Parts, route: &Route, next: &Move) {
+        if let LinkSource::Block(number) = route.source {
+            self.list_source(parts, number, next);
+        }
+        if let LinkTarget::Port(number, _) = route.target {
+            self.list_target(parts, number, next);
         }
     }
 
-    /// Lists a block that has made a step of its own, and its links.
-    fn list_round(&mut self, block: usize, into: Option<usize>, out: Option<usize>) {
-        if let Some(id) = into {
-            self.list(Spot::Link(id));
+    /// Lists the source of a link after this move.
+    fn list_source(&mut self, parts: &Parts, number: usize, next: &Move) {
+        match next {
+            Move::Offer(_) | Move::Want | Move::Consume | Move::Open => {}
+            Move::Give => self.list_others(parts, number),
+            Move::Close => {
+                self.list_others(parts, number);
+                self.list(Spot::Block(number));
+            }
+            _ => self.list(Spot::Block(number)),
         }
-        self.list(Spot::Block(block));
-        if let Some(id) = out {
-            self.list(Spot::Link(id));
+    }
+
+    /// Lists the target of a link after this move.
+    fn list_target(&mut self, parts: &Parts, number: usize, next: &Move) {
+        match next {
+            Move::Offer(_) | Move::Want | Move::Give | Move::Open => {}
+            Move::End(_) | Move::Close => {
+                self.list_held_up(parts, number);
+                self.list(Spot::Block(number));
+            }
+            _ => self.list(Spot::Block(number)),
+        }
+    }
+
+    /// Lists a block of which the next message may go over another link than the one that moved; and all links out of
+    /// it where something waits over another: what waits for an earlier message is to be taken back.
+    fn list_others(&mut self, parts: &Parts, number: usize) {
+        if let Some(node) = parts.find_node(number) {
+            if node.block().out_count() > 1 {
+                self.list(Spot::Block(number));
+            }
+            if node.block().away_count() > 1 {
+                self.list_out(node.block());
+            }
+        }
+    }
+
+    /// Lists all links out of a block that would stop, but for what waits over them; and those into it, where its
+    /// function has faulted.
+    fn list_held_up(&mut self, parts: &Parts, number: usize) {
+        if let Some(node) = parts.find_node(number) {
+            if node.block().is_held_up() {
+                self.list_out(node.block());
+            }
+            if node.block().fault().is_some() {
+                self.list_in(node.block());
+            }
+        }
+    }
+
+    /// Lists all links of a block.
+    fn list_round(&mut self, parts: &Parts, number: usize) {
+        if let Some(node) = parts.find_node(number) {
+            self.list_in(node.block());
+            self.list_out(node.block());
+        }
+    }
+
+    /// Lists all links out of a block.
+    fn list_out(&mut self, block: &Block) {
+        for place in 0..block.out_count() {
+            self.list(Spot::Link(block.out_link(place)));
+        }
+    }
+
+    /// Lists all links into a block: each that is built has one port.
+    fn list_in(&mut self, block: &Block) {
+        if block.port_count() == 0 {
+            return;
+        }
+        for place in 0..block.in_count(0) {
+            self.list(Spot::Link(block.in_link(0, place)));
         }
     }
 }

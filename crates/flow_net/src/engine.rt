@@ -1,20 +1,24 @@
 //! Drives the blocks and links of a network: finds an event that may happen, does it, and goes on.
-ghost use Rattle.std.specs.Prelude.{◌≡◌, ◌≢◌, ℕ, ◌<◌, length, true, is_none, IsTrue, IfOk, IfErr, IfSome, IfNone, ◌↔◌};
-ghost use Rattle.std.specs.Prelude.{OnOk, OnErr, Err};
+ghost use Rattle.std.specs.Prelude.{◌≡◌, ◌≢◌, map, length, IfOk, IfErr, OnOk, OnErr, Err};
+ghost use Rattle.flow_link.specs.Lists.{below};
 ghost use Rattle.flow_link.specs.Planned.{layout_of};
-ghost use Rattle.flow_net.specs.Events.{after, event_at_link, event_at_block};
-ghost use Rattle.flow_net.specs.Seen.{works_of};
+ghost use Rattle.flow_block.specs.Routes.{route_of};
+ghost use Rattle.flow_core.specs.Events.{Enabled, MayHappen, NetEvent, after};
+ghost use Rattle.flow_core.specs.Keeps.{NetKeeps};
+ghost use Rattle.flow_moves.specs.Works.{works_of};
+ghost use Rattle.flow_net.specs.Ends.{IsEnd};
+ghost use Rattle.flow_net.specs.Events.{net_event};
 ghost use Rattle.flow_net.specs.Settles.{Settles, GoesOn};
-ghost use Rattle.flow_net.specs.Steps.{IsQuiet};
-ghost use Rattle.flow_net.specs.There.{Fits, IsWhyNot, MayHappen, NeedsId};
+ghost use Rattle.flow_net.specs.There.{IsDue, IsWhyNot, NeedsId};
 ghost use Rattle.flow_net.specs.declared.fault.NetFault.TheVariants.{NotEnabled, Ids, Memory};
 
-use crate::agenda::{Agenda, Spot};
+use crate::agenda::Agenda;
 use crate::event::Event;
 use crate::fault::NetFault;
-use crate::parts::Parts;
 use crate::posted::Settled;
-use flow_link::Plan;
+use flow_block::Route;
+use flow_link::{Move, Plan, step_of};
+use flow_moves::Parts;
 use flow_value::Work;
 use std::alloc::Global;
 
@@ -23,148 +27,139 @@ use std::alloc::Global;
 pub(crate) struct Engine<W> {
     pub plan: Plan<W>,
     pub parts: Parts,
+    /// The way of each link.
+    pub routes: Vec<Route>,
     pub agenda: Agenda,
+    ghost routed: { routes.items ≡ map (route_of (layout_of plan)) (below (length (layout_of plan).links)) },
 }
 
 impl<W: Work> Engine<W> {
-    /// The event that is first of those that may happen at a block.
-    fn event_at_block(&self, number: usize) -> Option<Event<W>>
-        requires { number < length (layout_of self.now.plan).blocks }
-        ensures found { result ≡ event_at_block (layout_of self.now.plan) self.now.parts number }
-        ensures enabled { IfSome result (MayHappen (layout_of self.now.plan) self.now.parts) }
-    {
-        let node = self.parts.node(number)?;
-        if node.may_work() {
-            Some(Event::Make(number))
-        } else if self.parts.may_complete(node) {
-            Some(Event::Complete(number, 0))
-        } else if self.parts.next_fault(node).is_some() {
-            Some(Event::Fault(number))
-        } else if self.parts.may_finish(node) {
-            Some(Event::Done(number))
-        } else {
-            None
-        }
-    }
-
-    /// The event that may happen at this spot.
-    fn event_at(&self, spot: Spot) -> Result<Option<Event<W>>, NetFault>
-        ensures enabled { IfOk result (λ next. IfSome next (MayHappen (layout_of self.now.plan) self.now.parts)) }
-        ensures used_up { IfErr result (λ fault. (fault ≡ Ids) × NeedsId (layout_of self.now.plan) self.now.parts) }
-    {
-        match spot {
-            Spot::Link(id) if id < self.plan.link_count() => self
-                .parts
-                .event_at_link(&self.plan, id),
-            Spot::Block(number) if number < self.plan.block_count() => {
-                Ok(self.event_at_block(number))
-            }
-            _ => Ok(None),
-        }
-    }
-
-    /// The first event that may happen at a link.
-    fn event_at_links(&self) -> Result<Option<Event<W>>, NetFault>
-        ensures enabled { IfOk result (λ next. IfSome next (MayHappen (layout_of self.now.plan) self.now.parts)) }
-        ensures none { IfOk result (λ next. IfNone next
-            ((l : ℕ) → l < length (layout_of self.now.plan).links → is_none
-            (event_at_link (layout_of self.now.plan) self.now.parts l) ≡ true)) }
-        ensures used_up { IfErr result (λ fault. (fault ≡ Ids) × NeedsId (layout_of self.now.plan) self.now.parts) }
-    {
-        for id in 0..self.plan.link_count() {
-            if let Some(event) = self.parts.event_at_link(&self.plan, id)? {
-                return Ok(Some(event));
-            }
-        }
-        Ok(None)
-    }
-
-    /// The first event that may happen at a block.
-    fn event_at_blocks(&self) -> Option<Event<W>>
-        ensures enabled { IfSome result (MayHappen (layout_of self.now.plan) self.now.parts) }
-        ensures none { IfNone result ((b : ℕ) → b < length (layout_of self.now.plan).blocks → is_none
-            (event_at_block (layout_of self.now.plan) self.now.parts b) ≡ true) }
-    {
-        for number in 0..self.plan.block_count() {
-            if let Some(event) = self.event_at_block(number) {
-                return Some(event);
-            }
-        }
-        None
-    }
-
-    /// An event that may happen, looked for everywhere.
-    fn find_event(&self) -> Result<Option<Event<W>>, NetFault>
-        ensures enabled { IfOk result (λ next. IfSome next (MayHappen (layout_of self.now.plan) self.now.parts)) }
-        ensures none { IfOk result (λ next. IfNone next (IsQuiet (layout_of self.now.plan) self.now.parts)) }
-        ensures used_up { IfErr result (λ fault. (fault ≡ Ids) × NeedsId (layout_of self.now.plan) self.now.parts) }
-    {
-        match self.event_at_links()? {
-            Some(event) => Ok(Some(event)),
-            None => Ok(self.event_at_blocks()),
-        }
-    }
-
-    /// An event that may happen: at a spot of the agenda if there is one there, and else anywhere.
-    fn next_event(&mut self) -> Result<Option<Event<W>>, NetFault>
-        ensures same_plan { self.new.plan ≡ self.old.plan }
-        ensures same_parts { self.new.parts ≡ self.old.parts }
-        ensures enabled { IfOk result (λ next. IfSome next (MayHappen (layout_of self.old.plan) self.old.parts)) }
-        ensures none { IfOk result (λ next. IfNone next (IsQuiet (layout_of self.old.plan) self.old.parts)) }
-        ensures used_up { IfErr result (λ fault. (fault ≡ Ids) × NeedsId (layout_of self.old.plan) self.old.parts) }
-    {
-        while let Some(spot) = self.agenda.take() {
-            if let Some(event) = self.event_at(spot)? {
-                return Ok(Some(event));
-            }
-        }
-        self.find_event()
-    }
-
-    /// Whether nothing may happen any more.
-    pub(crate) fn is_quiet(&self) -> bool
-        ensures { IsTrue result ↔ IsQuiet (layout_of self.now.plan) self.now.parts }
-    {
-        match self.find_event() {
-            Ok(next) => next.is_none(),
-            Err(_fault) => false,
-        }
-    }
-
-    /// Does an event that may happen, and lists where something may be able to happen after it.
-    fn go(&mut self, alloc: Global, event: &Event<W>) -> Result<(), NetFault>
-        requires fits { Fits (layout_of self.old.plan) self.old.parts }
-        requires enabled { MayHappen (layout_of self.old.plan) self.old.parts event.now }
+    /// Does an event that is due: a link's move.
+    fn move_link(&mut self, alloc: Global, id: usize, next: &Move) -> Result<(), NetFault>
+        requires kept { ∥ NetKeeps (layout_of self.old.plan) (works_of W.meaning (layout_of self.old.plan))
+            self.old.parts ∥₁ }
+        requires due { IsDue (layout_of self.old.plan) (works_of W.meaning (layout_of self.old.plan)) self.old.parts
+            (NetEvent.at_link id next.now) }
         ensures same_plan { self.new.plan ≡ self.old.plan }
         ensures done { OnOk result (self.new.parts ≡ after (layout_of self.old.plan)
-            (works_of W.meaning (layout_of self.old.plan)) self.old.parts event.now) }
+            (works_of W.meaning (layout_of self.old.plan)) (NetEvent.at_link id next.now) self.old.parts) }
         ensures kept { OnErr result (self.new.parts ≡ self.old.parts) }
         ensures memory { IfErr result (λ fault. fault ≡ Memory) }
     {
-        let Engine {
-            plan,
-            parts,
-            agenda,
-        } = self;
-        parts.step(alloc, plan, event)?;
-        agenda.list_after(plan, parts, event);
+        let Some(phase) = step_of(self.parts.phase(id), *next) else {
+            return Ok(());
+        };
+        let Engine { parts, routes, .. } = self;
+        parts.move_along(alloc, id, &routes[id], *next, phase)?;
+        Ok(())
+    }
+
+    /// Does an event that is due: a block works on the message that waits longest.
+    fn make(&mut self, alloc: Global, number: usize) -> Result<(), NetFault>
+        requires kept { ∥ NetKeeps (layout_of self.old.plan) (works_of W.meaning (layout_of self.old.plan))
+            self.old.parts ∥₁ }
+        requires enabled { Enabled (layout_of self.old.plan) self.old.parts (NetEvent.make number) }
+        ensures same_plan { self.new.plan ≡ self.old.plan }
+        ensures may { OnOk result (MayHappen (layout_of self.old.plan) (works_of W.meaning (layout_of self.old.plan))
+            (NetEvent.make number) self.old.parts) }
+        ensures done { OnOk result (self.new.parts ≡ after (layout_of self.old.plan)
+            (works_of W.meaning (layout_of self.old.plan)) (NetEvent.make number) self.old.parts) }
+        ensures kept { OnErr result (self.new.parts ≡ self.old.parts) }
+        ensures used_up { result ≡ Err Ids → MayHappen (layout_of self.old.plan)
+            (works_of W.meaning (layout_of self.old.plan)) (NetEvent.make number) self.old.parts → ⊥ }
+        ensures never { result ≢ Err NotEnabled }
+    {
+        self.parts
+            .make(alloc, number, self.plan.block(number).work.as_ref())?;
+        Ok(())
+    }
+
+    /// Does an event that is due: a port completes, or a block stops.
+    fn end(&mut self, event: &Event<W>) -> Result<(), NetFault>
+        requires kept { ∥ NetKeeps (layout_of self.old.plan) (works_of W.meaning (layout_of self.old.plan))
+            self.old.parts ∥₁ }
+        requires enabled { Enabled (layout_of self.old.plan) self.old.parts (net_event event.now) }
+        requires end { IsEnd event.now }
+        ensures same_plan { self.new.plan ≡ self.old.plan }
+        ensures done { OnOk result (self.new.parts ≡ after (layout_of self.old.plan)
+            (works_of W.meaning (layout_of self.old.plan)) (net_event event.now) self.old.parts) }
+        ensures kept { OnErr result (self.new.parts ≡ self.old.parts) }
+        ensures memory { IfErr result (λ fault. fault ≡ Memory) }
+    {
+        match *event {
+            Event::Complete(number, port) => self.parts.complete(number, port)?,
+            Event::Fault(number) => {
+                if let Some(fault) = self.parts.node(number).block().next_fault() {
+                    self.parts.fault(number, fault)?;
+                }
+            }
+            Event::Done(number) => self.parts.finish(number)?,
+            _ => {}
+        }
+        Ok(())
+    }
+
+    /// Does an event that is due.
+    fn step(&mut self, alloc: Global, event: &Event<W>) -> Result<(), NetFault>
+        requires kept { ∥ NetKeeps (layout_of self.old.plan) (works_of W.meaning (layout_of self.old.plan))
+            self.old.parts ∥₁ }
+        requires due { IsDue (layout_of self.old.plan) (works_of W.meaning (layout_of self.old.plan)) self.old.parts
+            (net_event event.now) }
+        ensures same_plan { self.new.plan ≡ self.old.plan }
+        ensures may { OnOk result (MayHappen (layout_of self.old.plan) (works_of W.meaning (layout_of self.old.plan))
+            (net_event event.now) self.old.parts) }
+        ensures done { OnOk result (self.new.parts ≡ after (layout_of self.old.plan)
+            (works_of W.meaning (layout_of self.old.plan)) (net_event event.now) self.old.parts) }
+        ensures kept { OnErr result (self.new.parts ≡ self.old.parts) }
+        ensures used_up { result ≡ Err Ids → MayHappen (layout_of self.old.plan)
+            (works_of W.meaning (layout_of self.old.plan)) (net_event event.now) self.old.parts → ⊥ }
+        ensures never { result ≢ Err NotEnabled }
+    {
+        match *event {
+            Event::Link(id, ref next) => self.move_link(alloc, id, next),
+            Event::Make(number) => self.make(alloc, number),
+            Event::Job(_, none) => match none {},
+            _ => self.end(event),
+        }
+    }
+
+    /// Does an event that is due, and lists where something may be able to happen after it.
+    fn go(&mut self, alloc: Global, event: &Event<W>) -> Result<(), NetFault>
+        requires kept { ∥ NetKeeps (layout_of self.old.plan) (works_of W.meaning (layout_of self.old.plan))
+            self.old.parts ∥₁ }
+        requires due { IsDue (layout_of self.old.plan) (works_of W.meaning (layout_of self.old.plan)) self.old.parts
+            (net_event event.now) }
+        ensures same_plan { self.new.plan ≡ self.old.plan }
+        ensures may { OnOk result (MayHappen (layout_of self.old.plan) (works_of W.meaning (layout_of self.old.plan))
+            (net_event event.now) self.old.parts) }
+        ensures done { OnOk result (self.new.parts ≡ after (layout_of self.old.plan)
+            (works_of W.meaning (layout_of self.old.plan)) (net_event event.now) self.old.parts) }
+        ensures kept { OnErr result (self.new.parts ≡ self.old.parts) }
+        ensures used_up { result ≡ Err Ids → MayHappen (layout_of self.old.plan)
+            (works_of W.meaning (layout_of self.old.plan)) (net_event event.now) self.old.parts → ⊥ }
+        ensures never { result ≢ Err NotEnabled }
+    {
+        self.step(alloc, event)?;
+        self.agenda.list_after(&self.parts, &self.routes, event);
         Ok(())
     }
 
     /// Does this event, if it may happen.
     pub(crate) fn event(&mut self, alloc: Global, event: &Event<W>) -> Result<(), NetFault>
-        requires fits { Fits (layout_of self.old.plan) self.old.parts }
+        requires kept { ∥ NetKeeps (layout_of self.old.plan) (works_of W.meaning (layout_of self.old.plan))
+            self.old.parts ∥₁ }
         ensures same_plan { self.new.plan ≡ self.old.plan }
-        ensures enabled { OnOk result (MayHappen (layout_of self.old.plan) self.old.parts event.now) }
+        ensures may { OnOk result (MayHappen (layout_of self.old.plan) (works_of W.meaning (layout_of self.old.plan))
+            (net_event event.now) self.old.parts) }
         ensures done { OnOk result (self.new.parts ≡ after (layout_of self.old.plan)
-            (works_of W.meaning (layout_of self.old.plan)) self.old.parts event.now) }
+            (works_of W.meaning (layout_of self.old.plan)) (net_event event.now) self.old.parts) }
         ensures kept { OnErr result (self.new.parts ≡ self.old.parts) }
-        ensures why { IfErr result (IsWhyNot (layout_of self.old.plan) self.old.parts event.now) }
-        ensures still_fits { Fits (layout_of self.old.plan) self.new.parts }
+        ensures why { IfErr result (IsWhyNot (layout_of self.old.plan) (works_of W.meaning (layout_of self.old.plan))
+            self.old.parts (net_event event.now)) }
         ensures goes_on { GoesOn (layout_of self.old.plan) (works_of W.meaning (layout_of self.old.plan)) 1
             self.old.parts self.new.parts }
     {
-        if self.parts.may_happen(&self.plan, event)? {
+        if self.is_due(event)? {
             self.go(alloc, event)
         } else {
             Err(NetFault::NotEnabled)
@@ -173,14 +168,15 @@ impl<W: Work> Engine<W> {
 
     /// Does events until nothing may happen any more, or as many as the limit are done.
     pub(crate) fn settle(&mut self, alloc: Global, limit: u64) -> Result<Settled, NetFault>
-        requires fits { Fits (layout_of self.old.plan) self.old.parts }
+        requires kept { ∥ NetKeeps (layout_of self.old.plan) (works_of W.meaning (layout_of self.old.plan))
+            self.old.parts ∥₁ }
         ensures same_plan { self.new.plan ≡ self.old.plan }
         ensures settled { IfOk result (Settles (layout_of self.old.plan)
             (works_of W.meaning (layout_of self.old.plan)) limit self.old.parts self.new.parts) }
-        ensures still_fits { Fits (layout_of self.old.plan) self.new.parts }
         ensures goes_on { GoesOn (layout_of self.old.plan) (works_of W.meaning (layout_of self.old.plan)) limit
             self.old.parts self.new.parts }
-        ensures used_up { result ≡ Err Ids → NeedsId (layout_of self.new.plan) self.new.parts }
+        ensures used_up { result ≡ Err Ids → NeedsId (layout_of self.new.plan)
+            (works_of W.meaning (layout_of self.new.plan)) self.new.parts }
         ensures never { result ≢ Err NotEnabled }
     {
         for _ in 0..limit {

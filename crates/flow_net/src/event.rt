@@ -1,9 +1,5 @@
 //! What can happen next in a network: a move of a link, or a step of a block.
-ghost use Rattle.std.specs.Prelude.{IsTrue, ◌↔◌};
-ghost use Rattle.flow_link.specs.Planned.{layout_of};
-ghost use Rattle.flow_net.specs.There.{EventIsThere};
-
-use flow_link::{Move, Plan};
+use flow_link::Move;
 use std::convert::Infallible;
 use std::marker::PhantomData;
 
@@ -22,22 +18,6 @@ pub enum Event<W> {
     Done(usize),
     /// A job comes back to its block. No block has any, so there is no such event.
     Job(PhantomData<W>, Infallible),
-}
-
-impl<W> Event<W> {
-    /// Whether the plan has the link or block that it names.
-    pub(crate) fn is_there(&self, plan: &Plan<W>) -> bool
-        ensures { IsTrue result ↔ EventIsThere (layout_of plan.now) self.now }
-    {
-        match *self {
-            Event::Link(id, _) => id < plan.link_count(),
-            Event::Make(number)
-            | Event::Complete(number, _)
-            | Event::Fault(number)
-            | Event::Done(number) => number < plan.block_count(),
-            Event::Job(_, none) => match none {},
-        }
-    }
 }
 
 /// What came of an event that happened.

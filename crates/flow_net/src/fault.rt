@@ -1,4 +1,5 @@
 //! Why a network cannot go on.
+use flow_outlet::OutletFault;
 use std::alloc::AllocError;
 use thiserror::Error;
 
@@ -24,5 +25,19 @@ impl From<AllocError> for NetFault {
 
     fn from(_error: AllocError) -> NetFault {
         NetFault::Memory
+    }
+}
+
+impl From<OutletFault> for NetFault {
+    ghost use Rattle.std.specs.Prelude.{◌≡◌};
+    ghost use Rattle.flow_net.specs.Told.{fault_of};
+
+    ghost from_gives = { λ given fault. fault ≡ fault_of given };
+
+    fn from(fault: OutletFault) -> NetFault {
+        match fault {
+            OutletFault::Ids => NetFault::Ids,
+            OutletFault::Memory => NetFault::Memory,
+        }
     }
 }

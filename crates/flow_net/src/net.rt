@@ -1,15 +1,18 @@
 //! A network with one owner: what is posted goes from block to block until nothing can move.
-ghost use Rattle.std.specs.Prelude.{◌≡◌, length};
+ghost use Rattle.std.specs.Prelude.{◌≡◌, ◌<◌, length};
 ghost use Rattle.flow_link.specs.Planned.{layout_of};
-ghost use Rattle.flow_net.specs.BlockKeeps.{AllKeep};
-ghost use Rattle.flow_net.specs.Keeps.{Keeps};
-ghost use Rattle.flow_net.specs.Seen.{works_of};
+ghost use Rattle.flow_intake.specs.PortLaw.{has_ended};
+ghost use Rattle.flow_block.specs.Block.{port_at};
+ghost use Rattle.flow_core.specs.Keeps.{NetKeeps};
+ghost use Rattle.flow_moves.specs.Works.{works_of};
+ghost use Rattle.flow_net.specs.States.{state_told};
 
 use crate::engine::Engine;
 use crate::event::{Event, Stepped};
 use crate::fault::NetFault;
 use crate::posted::{Settled, State};
-use flow_link::{Mark, Plan};
+use flow_block::Block;
+use flow_link::{Mark, Outcome, Plan};
 use flow_value::{Value, Work};
 use std::alloc::Global;
 use std::collections::VecDeque;
@@ -18,25 +21,23 @@ use std::collections::VecDeque;
 #[derive(Drop)]
 pub struct Net<W: Work> {
     pub(crate) engine: Engine<W>,
-    ghost node_places: { length engine.parts.nodes ≡ length (layout_of engine.plan).blocks },
-    ghost feed_places: { length engine.parts.feeds ≡ length (layout_of engine.plan).blocks },
-    ghost line_places: { length engine.parts.lines ≡ length (layout_of engine.plan).links },
-    ghost kept: { ∥ Keeps (layout_of engine.plan) engine.parts ∥₁ },
-    ghost all_kept: { ∥ AllKeep (layout_of engine.plan) (works_of W.meaning (layout_of engine.plan)) engine.parts ∥₁ },
+    ghost kept: { ∥ NetKeeps (layout_of engine.plan) (works_of W.meaning (layout_of engine.plan)) engine.parts ∥₁ },
 }
 
 impl<W: Work> Net<W> {
-    ghost use Rattle.std.specs.Prelude.{◌≢◌, IsTrue, IfOk, IfErr, OnOk, OnErr, ◌↔◌, ◌<◌, Ok, Err, true, false, []};
+    ghost use Rattle.std.specs.Prelude.{◌≢◌, IsTrue, IfOk, IfErr, OnOk, OnErr, ◌↔◌, ◌<◌, Ok, Err, true, false, [], length};
     ghost use Rattle.flow_link.specs.Lawful.{Lawful};
     ghost use Rattle.flow_link.specs.Quiet.{Quiet};
-    ghost use Rattle.flow_net.specs.AtRest.{AtRest};
-    ghost use Rattle.flow_net.specs.Net.{layout_in, parts_of, run_of};
     ghost use Rattle.flow_link.specs.Trace.{block_of, input_of, marks_of, held_at, left_at, trace_of};
+    ghost use Rattle.flow_link.specs.Plan.{port_count};
+    ghost use Rattle.flow_core.specs.AtRest.{AtRest};
+    ghost use Rattle.flow_core.specs.Events.{MayHappen, after};
+    ghost use Rattle.flow_core.specs.Statements.{IsStill};
+    ghost use Rattle.flow_net.specs.Events.{net_event};
+    ghost use Rattle.flow_net.specs.Net.{layout_in, parts_of, run_of};
     ghost use Rattle.flow_net.specs.States.{state_by};
     ghost use Rattle.flow_net.specs.Settles.{Settles, GoesOn};
-    ghost use Rattle.flow_net.specs.Steps.{IsQuiet};
-    ghost use Rattle.flow_net.specs.Events.{after};
-    ghost use Rattle.flow_net.specs.There.{IsWhyNot, MayHappen, NeedsId};
+    ghost use Rattle.flow_net.specs.There.{IsWhyNot, NeedsId};
     ghost use Rattle.flow_net.specs.declared.fault.NetFault.TheVariants.{NotEnabled, Ids};
     ghost use Rattle.flow_net.specs.declared.posted.Settled.TheVariants as Settled;
 
@@ -50,8 +51,9 @@ impl<W: Work> Net<W> {
             (parts_of self.old) (parts_of self.new) }
         ensures lawful { Lawful (run_of W.meaning self.new) }
         ensures quiet { result ≡ Ok Settled.Quiet → Quiet (run_of W.meaning self.new) }
-        ensures at_rest { result ≡ Ok Settled.Quiet → ∥ AtRest (layout_in self.new) (parts_of self.new) ∥₁ }
-        ensures used_up { result ≡ Err Ids → NeedsId (layout_in self.new) (parts_of self.new) }
+        ensures at_rest { result ≡ Ok Settled.Quiet → AtRest (layout_in self.new) (parts_of self.new) }
+        ensures used_up { result ≡ Err Ids → NeedsId (layout_in self.new) (works_of W.meaning (layout_in self.new))
+            (parts_of self.new) }
         ensures never { result ≢ Err NotEnabled }
         ensures same_inputs { (run_of W.meaning self.new).trace.inputs ≡ (run_of W.meaning self.old).trace.inputs }
     {
@@ -66,11 +68,13 @@ impl<W: Work> Net<W> {
         event: Event<W>,
     ) -> Result<Stepped<W>, (Event<W>, NetFault)>
         ensures same_plan { layout_in self.new ≡ layout_in self.old }
-        ensures enabled { OnOk result (MayHappen (layout_in self.old) (parts_of self.old) event) }
+        ensures enabled { OnOk result (MayHappen (layout_in self.old) (works_of W.meaning (layout_in self.old))
+            (net_event event) (parts_of self.old)) }
         ensures moved { OnOk result (parts_of self.new ≡ after (layout_in self.old)
-            (works_of W.meaning (layout_in self.old)) (parts_of self.old) event) }
+            (works_of W.meaning (layout_in self.old)) (net_event event) (parts_of self.old)) }
         ensures kept { OnErr result (parts_of self.new ≡ parts_of self.old) }
-        ensures why { IfErr result (λ refused. IsWhyNot (layout_in self.old) (parts_of self.old) event refused.1) }
+        ensures why { IfErr result (λ refused. IsWhyNot (layout_in self.old) (works_of W.meaning (layout_in self.old))
+            (parts_of self.old) (net_event event) refused.1) }
         ensures back { IfErr result (λ refused. refused.0 ≡ event) }
         ensures lawful { Lawful (run_of W.meaning self.new) }
     {
@@ -82,8 +86,9 @@ impl<W: Work> Net<W> {
 
     /// Whether nothing may happen any more.
     pub fn is_quiet(&self) -> bool
-        ensures quiet { IsTrue result ↔ IsQuiet (layout_in self.now) (parts_of self.now) }
-        ensures at_rest { IsTrue result → ∥ AtRest (layout_in self.now) (parts_of self.now) ∥₁ }
+        ensures quiet { IsTrue result ↔ IsStill (layout_in self.now) (works_of W.meaning (layout_in self.now))
+            (parts_of self.now) }
+        ensures at_rest { IsTrue result → AtRest (layout_in self.now) (parts_of self.now) }
         ensures at_end { IsTrue result → Quiet (run_of W.meaning self.now) }
     {
         self.engine.is_quiet()
@@ -101,7 +106,7 @@ impl<W: Work> Net<W> {
         requires { block < length (layout_in self.now).blocks }
         ensures { result.now ≡ marks_of (run_of W.meaning self.now) block }
     {
-        self.engine.parts.nodes[block].journal()
+        self.engine.parts.node(block).journal()
     }
 
     /// What became of this block.
@@ -109,7 +114,7 @@ impl<W: Work> Net<W> {
         requires { block < length (layout_in self.now).blocks }
         ensures { result ≡ state_by (marks_of (run_of W.meaning self.now) block) }
     {
-        self.engine.parts.nodes[block].state()
+        state_of(self.engine.parts.node(block).block())
     }
 
     /// What was posted to the input of this block, in order; none where the block is no input.
@@ -119,19 +124,19 @@ impl<W: Work> Net<W> {
             (input_of (run_of W.meaning self.now) block).posted }
         ensures none { (block_of (run_of W.meaning self.now) block).input ≡ false → result.now ≡ [] }
     {
-        match self.engine.parts.feed(block) {
-            Some(feed) => feed.posted(),
+        match self.engine.input(block) {
+            Some(input) => input.posted(),
             None => &[],
         }
     }
 
-    /// What this block took at this port and has not worked on, oldest first. Each kind that is built has port 0 alone.
+    /// What this block took at this port and has not worked on, oldest first.
     pub fn held(&self, block: usize, port: u32) -> &VecDeque<Value>
         requires known { block < length (layout_in self.now).blocks }
-        requires first_port { port ≡ 0 }
+        requires port { port < port_count (block_of (run_of W.meaning self.now) block) }
         ensures { result.now.items ≡ held_at (run_of W.meaning self.now) block port }
     {
-        self.engine.parts.nodes[block].held()
+        self.engine.parts.node(block).block().waiting(port as usize)
     }
 
     /// What this block made and has not given, oldest first.
@@ -139,7 +144,7 @@ impl<W: Work> Net<W> {
         requires { block < length (layout_in self.now).blocks }
         ensures { result.now.items ≡ left_at (run_of W.meaning self.now) block }
     {
-        self.engine.parts.nodes[block].left()
+        self.engine.parts.node(block).block().left()
     }
 
     /// The results that this block keeps, in order; only actions keep any.
@@ -147,6 +152,19 @@ impl<W: Work> Net<W> {
         requires { block < length (layout_in self.now).blocks }
         ensures { result.now ≡ (trace_of (run_of W.meaning self.now) block).recorded }
     {
-        self.engine.parts.nodes[block].record()
+        self.engine.parts.node(block).block().recorded()
+    }
+}
+
+/// What became of a block: each that is built has one port, and is complete with it.
+fn state_of(block: &Block) -> State
+    requires { 0 < length block.now.ports }
+    ensures { result ≡ state_told block.now.stopped (has_ended (port_at 0 block.now).refusing) }
+{
+    match block.stopped() {
+        Some(Outcome::Faulted(number)) => State::Faulted(number),
+        Some(Outcome::Done) => State::Done,
+        None if block.has_ended(0) => State::Completing,
+        None => State::Open,
     }
 }

@@ -1,4 +1,4 @@
-use Rattle.flow_net.proofs.NumberLemmas.{works_fault_by_number}
+use Rattle.flow_net.proofs.WorksNumbered.{works_fault_by_number}
 use Rattle.flow_net.proofs.laws.works_fault_by_number.Goals as goal
 
 pub returns : goal.returns

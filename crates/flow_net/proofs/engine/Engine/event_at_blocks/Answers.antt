@@ -1,11 +1,10 @@
-use Rattle.std.proofs.Common.{rules, ◌≡◌, ℕ, true, is_none}
-use Rattle.flow_link.specs.Planned.{layout_of}
-use Rattle.flow_net.specs.Events.{event_at_block}
-use Rattle.flow_net.proofs.ScanLemmas.{one_more, none_is_none}
+use Rattle.std.proofs.Common.{rules, ℕ}
+use Rattle.flow_core.specs.State.{node_at}
+use Rattle.flow_moves.specs.Statements.{HasNoStep}
+use Rattle.flow_net.proofs.FindersTell.{one_more}
 use Rattle.flow_net.proofs.engine.Engine.event_at_blocks.Goals as goal
 
--- src/net.rt:73:9
 pub loop-number-preserved : goal.loop-number-preserved
 loop-number-preserved g c =
-    one_more (λ (k : ℕ). is_none (event_at_block (layout_of c.args.self.now.plan) c.args.self.now.parts k) ≡ true) c.loop-number.number c.loop-number.invariant
-    (none_is_none _ (search rules))
+    one_more (λ (k : ℕ). HasNoStep (node_at c.args.self.now.parts k).block) c.loop-number.number c.loop-number.invariant
+    (search rules)

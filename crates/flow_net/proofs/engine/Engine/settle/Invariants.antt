@@ -1,12 +1,14 @@
 use Rattle.std.proofs.Common.{◌≡◌}
 use Rattle.flow_link.specs.Planned.{layout_of}
-use Rattle.flow_net.specs.Seen.{works_of}
+use Rattle.flow_core.specs.Keeps.{NetKeeps}
+use Rattle.flow_moves.specs.Works.{works_of}
 use Rattle.flow_net.specs.Steps.{Happened}
-use Rattle.flow_net.specs.There.{Fits}
 use Rattle.flow_net.proofs.engine.Engine.settle.Given as goal
 
+-- the plan is the same, the network is in order, and so many events have happened
 abbrev pub invariant-loop : goal.invariant-loop
 invariant-loop g l =
-    (l.self.plan ≡ l.initial.self.plan)
-    × Fits (layout_of l.initial.self.plan) l.self.parts
-    × Happened (layout_of l.initial.self.plan) (works_of g.W.Work.meaning (layout_of l.initial.self.plan)) l.counter l.initial.self.parts l.self.parts
+    let layout = layout_of l.initial.self.plan in
+    let meaning = works_of g.W.Work.meaning layout in
+    (l.self.plan ≡ l.initial.self.plan) × ∥ NetKeeps layout meaning l.self.parts ∥₁
+    × Happened layout meaning l.counter l.initial.self.parts l.self.parts

@@ -1,20 +1,31 @@
+use Rattle.std.proofs.Common.{◌≡◌, map, refl, ap, sym, subst, ◌∙◌}
+use Rattle.std.proofs.lemmas.List.{length-map}
 use Rattle.std.proofs.lemmas.Grind.{merely}
 use Rattle.flow_link.specs.Planned.{layout_of}
-use Rattle.flow_net.specs.Parts.{PartsState}
-use Rattle.flow_net.specs.Seen.{works_of}
-use Rattle.flow_net.proofs.KeptLemmas.{plan_leads}
-use Rattle.flow_net.proofs.MakeLemmas.{made_is_fresh, nodes_as_many, feeds_as_long}
-use Rattle.flow_net.proofs.WholeLemmas.{kept_at_start}
+use Rattle.flow_block.specs.Input.{input_trace}
+use Rattle.flow_core.specs.Keeps.{NetKeeps}
+use Rattle.flow_core.specs.State.{NetState, fresh_net}
+use Rattle.flow_core.proofs.NetworksInOrder.{fresh_nets_keep}
+use Rattle.flow_moves.specs.Works.{works_of}
+use Rattle.flow_moves.proofs.PlansRun.{plan_runs}
+use Rattle.flow_net.specs.Posted.{input_of}
+use Rattle.flow_net.proofs.KeptOn.{fresh_posted}
 use Rattle.flow_net.proofs.net.Net.new.Goals as goal
 
-pub invariant_of-result : goal.invariant_of-result
-invariant_of-result g c =
+pub invariant_of-result-in-Ok : goal.invariant_of-result-in-Ok
+invariant_of-result-in-Ok g c =
     let layout = layout_of c.args.plan in
-    let parts : PartsState = record { nodes = c.in-Ok.frame.nodes.items; feeds = c.fill_feeds-feeds.result.items; lines = c.in-Ok.frame.lines.items } in
-    let fresh = made_is_fresh layout parts c.in-Ok.ensures.nodes c.in-Ok.ensures.lines c.fill_feeds-feeds.ensures.places c.fill_feeds-feeds.ensures.not_begun in
-    let both = kept_at_start layout (plan_leads c.args.plan) c.args.plan.built (works_of g.W.Work.meaning layout) parts fresh in
-    record { node_places = nodes_as_many layout parts fresh; feed_places = feeds_as_long layout parts fresh; line_places = fresh.line_count; kept = merely both.keeps; all_kept = merely both.all }
+    let meaning = works_of g.W.Work.meaning layout in
+    let posted = map input_of c.args.posted.items in
+    let count = length-map c.args.posted.items input_of ∙ c.requires.one_each in
+    let kept : NetKeeps layout meaning (fresh_net layout posted) =
+    fresh_nets_keep _ layout meaning (plan_runs c.args.plan) posted count in
+    let is_fresh : c.new-parts.result ≡ fresh_net layout posted =
+    c.new-parts.ensures ∙ rw (c.in-Ok.ensures.nodes, c.fill_inputs-inputs.ensures, c.in-Ok.ensures.lines) refl in
+    record { kept = merely (subst (λ (net : NetState). NetKeeps layout meaning net) (sym is_fresh) kept) }
 
-pub returns-in-Ok-clause-fresh : goal.returns-in-Ok-clause-fresh
-returns-in-Ok-clause-fresh g c =
-    made_is_fresh (layout_of c.args.plan) _ c.in-Ok.ensures.nodes c.in-Ok.ensures.lines c.fill_feeds-feeds.ensures.places c.fill_feeds-feeds.ensures.not_begun
+pub returns-in-Ok-clause-made : goal.returns-in-Ok-clause-made
+returns-in-Ok-clause-made g c =
+    ap (λ (net : NetState). map input_trace net.inputs) c.new-parts.ensures
+    ∙ ap (map input_trace) c.fill_inputs-inputs.ensures
+    ∙ fresh_posted (map input_of c.args.posted.items)

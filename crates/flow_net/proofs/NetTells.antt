@@ -1,0 +1,153 @@
+-- What a network's parts tell is what its run has.
+use Rattle.std.proofs.Common.{◌≡◌, ℕ, ◌<◌, Bool, true, false, ◌||◌, List, [], ◌∷◌, length, get_or, Option, Some, None, Result}
+use Rattle.std.proofs.Common.{refl, ap, ap₂, sym, ◌∙◌, subst, arith}
+use Rattle.std.proofs.Math.ListN.{get_or-map}
+use Rattle.std.proofs.Math.Bridge.{le_prop}
+use Rattle.std.proofs.Math.Logic.{∥∥₁_elim}
+use Rattle.std.proofs.Math.Nat.{ℕ_set}
+use mathlib.Core.Sum.{⊎_set}
+use Rattle.flow_value.specs.declared.value.Value.{Value}
+use Rattle.flow_value.specs.declared.work.WorkFault.{WorkFault}
+use Rattle.flow_link.specs.declared.trace.Mark.{Mark}
+use Rattle.flow_link.specs.declared.trace.Mark.TheVariants.{Took, Gave, Complete, Fault, Done}
+use Rattle.flow_link.specs.declared.trace.Outcome.{Outcome}
+use Rattle.flow_link.specs.declared.trace.Outcome.TheVariants as outcome
+use Rattle.flow_link.specs.Endings.{stops}
+use Rattle.flow_link.specs.Layout.{Layout}
+use Rattle.flow_link.specs.Lists.{is_empty}
+use Rattle.flow_link.specs.Plan.{block_in, port_count, no_block}
+use Rattle.flow_link.specs.Trace.{Run, BlockTrace, InputTrace, has_ended, has_complete, is_faulted, is_done}
+use Rattle.flow_link.specs.Trace.{trace_of, marks_of, left_at, held_at, input_of}
+use Rattle.flow_intake.specs.Port.{PortState, fresh_port}
+use Rattle.flow_intake.specs.PortLaw.{has_ended as has_port_ended}
+use Rattle.flow_block.specs.Block.{port_at}
+use Rattle.flow_block.specs.Input.{no_input, input_trace}
+use Rattle.flow_block.specs.Node.{node_trace}
+use Rattle.flow_block.specs.NodeLaw.{outcome_in, NodeLaw}
+use Rattle.flow_block.specs.Planned.{input_place}
+use Rattle.flow_block.proofs.JournalTells.{done_marked, goes_on}
+use Rattle.flow_block.proofs.KindsBuilt.{has_one_port}
+use Rattle.flow_core.specs.Keeps.{NetKeeps}
+use Rattle.flow_core.specs.State.{NetState, no_node, node_at}
+use Rattle.flow_core.proofs.PlacesTell.{count_within}
+use Rattle.flow_moves.specs.Ways.{input_in}
+use Rattle.flow_moves.specs.Works.{works_of}
+use Rattle.flow_net.specs.Net.{run_with}
+use Rattle.flow_net.specs.States.{fault_in, state_from, state_by, state_told}
+use Rattle.flow_net.specs.declared.posted.State.{State}
+
+-- What a journal tells of its block's state
+
+-- where a block stopped by a fault, that is the fault in its journal
+fault_found : (marks : List Mark) (n : ℕ) → outcome_in marks ≡ Some (outcome.Faulted n) → fault_in marks ≡ Some n
+fault_found [] n e = absurd (cc)
+fault_found (Took p l v ∷ marks) n e = fault_found marks n e
+fault_found (Gave l v ∷ marks) n e = fault_found marks n e
+fault_found (Complete p ∷ marks) n e = fault_found marks n e
+fault_found (Fault m ∷ marks) n e = cc
+fault_found (Done ∷ marks) n e = absurd (cc)
+
+-- a block that goes on has none
+no_fault : (marks : List Mark) → outcome_in marks ≡ None → fault_in marks ≡ None
+no_fault [] e = refl
+no_fault (Took p l v ∷ marks) e = no_fault marks e
+no_fault (Gave l v ∷ marks) e = no_fault marks e
+no_fault (Complete p ∷ marks) e = no_fault marks e
+no_fault (Fault n ∷ marks) e = absurd (cc)
+no_fault (Done ∷ marks) e = absurd (cc)
+
+no_fault_in_none : (marks : List Mark) → is_empty marks ≡ true → fault_in marks ≡ None
+no_fault_in_none [] e = refl
+no_fault_in_none (mark ∷ marks) e = absurd (cc)
+
+-- nothing follows the mark of a block that is done
+no_fault_of_done : (marks : List Mark) → stops marks ≡ true → outcome_in marks ≡ Some outcome.Done → fault_in marks ≡ None
+no_fault_of_done [] last e = refl
+no_fault_of_done (Took p l v ∷ marks) last e = no_fault_of_done marks last e
+no_fault_of_done (Gave l v ∷ marks) last e = no_fault_of_done marks last e
+no_fault_of_done (Complete p ∷ marks) last e = no_fault_of_done marks last e
+no_fault_of_done (Fault n ∷ marks) last e = absurd (cc)
+no_fault_of_done (Done ∷ marks) last e = no_fault_in_none marks last
+
+-- the port of a block that goes on has ended where it is complete
+going_state : (complete faulted done ended : Bool) → faulted ≡ false → done ≡ false
+    → ended ≡ (complete || faulted || done) → state_from None done complete ≡ state_told None ended
+going_state complete true done ended no_fault not_done e = absurd (cc)
+going_state complete false true ended no_fault not_done e = absurd (cc)
+going_state true false false ended no_fault not_done e = ap (state_told None) (sym e)
+going_state false false false ended no_fault not_done e = ap (state_told None) (sym e)
+
+-- so how it stopped and whether its port has ended tell its state
+state_where : (marks : List Mark) (stopped : Option Outcome) (ended : Bool) → stops marks ≡ true
+    → stopped ≡ outcome_in marks → ended ≡ has_ended 0 marks → state_by marks ≡ state_told stopped ended
+state_where marks (Some (outcome.Faulted n)) ended last how e =
+    ap (λ (fault : Option ℕ). state_from fault (is_done marks) (has_complete 0 marks)) (fault_found marks n (sym how))
+state_where marks (Some outcome.Done) ended last how e =
+    ap₂ (λ (fault : Option ℕ) (done : Bool). state_from fault done (has_complete 0 marks))
+    (no_fault_of_done marks last (sym how)) (done_marked marks (sym how))
+state_where marks None ended last how e =
+    let going = goes_on marks (sym how) in
+    ap (λ (fault : Option ℕ). state_from fault (is_done marks) (has_complete 0 marks)) (no_fault marks (sym how))
+    ∙ going_state (has_complete 0 marks) (is_faulted marks) (is_done marks) ended going.0 going.1 e
+
+-- states are told apart
+State-set : IsSet State
+State-set = hlevel (ℕ_set, ⊎_set)
+
+module _ {W : Type 0} (meaning : W → Value → Result (List Value) WorkFault) (layout : Layout W) (net : NetState) where
+  abbrev run : Run W
+  run = run_with meaning layout net
+
+  -- What a block leaves of the run
+
+  module _ (b : ℕ) where
+    trace_is : node_trace (node_at net b) ≡ trace_of run b
+    trace_is = sym (get_or-map node_trace net.nodes b no_node)
+
+    pub journal_is : (node_at net b).journal ≡ marks_of run b
+    journal_is = ap (λ (trace : BlockTrace). trace.journal) trace_is
+
+    pub left_is : (node_at net b).block.exits.left ≡ left_at run b
+    left_is = ap (λ (trace : BlockTrace). trace.left) trace_is
+
+    pub record_is : (node_at net b).block.recorded ≡ (trace_of run b).recorded
+    record_is = ap (λ (trace : BlockTrace). trace.recorded) trace_is
+
+    pub held_is : (p : ℕ) → (port_at p (node_at net b).block).waiting ≡ held_at run b p
+    held_is p =
+        sym (get_or-map (λ (port : PortState). port.waiting) (node_at net b).block.ports p (fresh_port None))
+        ∙ ap (λ (trace : BlockTrace). get_or trace.held p []) trace_is
+
+    -- what was posted to the block, where it is an input
+    pub posted_is : (input_in net (input_place layout b)).posted ≡ (input_of run b).posted
+    posted_is =
+        ap (λ (input : InputTrace). input.posted) (sym (get_or-map input_trace net.inputs (input_place layout b) no_input))
+
+  -- Where the network is in order
+
+  module _ (kept : ∥ NetKeeps layout (works_of meaning layout) net ∥₁) (b : ℕ) (low : b < length layout.blocks) where
+    -- it has the ports that the plan gives it
+    pub ports_are : length (node_at net b).block.ports ≡ port_count (block_in layout.blocks b)
+    ports_are = ∥∥₁_elim kept (ℕ_set _ _) (λ keeps. (keeps.nodes b low).shape.port_count_is)
+
+    -- its state
+    state_in : NodeLaw layout (works_of meaning layout) b (node_at net b)
+        → state_by (marks_of run b)
+        ≡ state_told (node_at net b).block.stopped (has_port_ended (port_at 0 (node_at net b).block).refusing)
+    state_in law =
+        let one = has_one_port layout (works_of meaning layout) b (node_at net b).block law.shape in
+        ap state_by (sym (journal_is b))
+        ∙ state_where (node_at net b).journal (node_at net b).block.stopped
+        (has_port_ended (port_at 0 (node_at net b).block).refusing) law.marks.last law.ends.stopped_is
+        (law.ends.ended_is 0 (omega (arith, one)))
+
+    pub state_is : state_by (marks_of run b)
+        ≡ state_told (node_at net b).block.stopped (has_port_ended (port_at 0 (node_at net b).block).refusing)
+    state_is = ∥∥₁_elim kept (State-set _ _) (λ keeps. state_in (keeps.nodes b low))
+
+    -- an input has a place among the inputs
+    pub input_there : (block_in layout.blocks b).input ≡ true → input_place layout b < length net.inputs
+    input_there e =
+        ∥∥₁_elim kept le_prop (λ keeps.
+        subst (λ (n : ℕ). input_place layout b < n) (sym keeps.input_count)
+        (count_within (λ block. block.input) layout.blocks b no_block low e))

@@ -1,8 +1,0 @@
-use Rattle.std.proofs.Common.{◌≤◌}
-use Rattle.std.specs.List.{position_or_len}
-use Rattle.flow_link.specs.Plan.{begins_at}
-use Rattle.flow_link.specs.Planned.{layout_of}
-use Rattle.flow_net.proofs.make.first_link_out.Given as goal
-
-abbrev pub invariant-loop-id : goal.invariant-loop-id
-invariant-loop-id g l = l.id ≤ position_or_len (λ link. begins_at l.block link.source) (layout_of l.plan).links

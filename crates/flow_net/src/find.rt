@@ -1,0 +1,345 @@
+//! Finds events that may happen.
+ghost use Rattle.std.specs.Prelude.{◌≡◌, ℕ, ◌<◌, length, is_some, IsTrue, IfOk, IfErr, IfSome, IfNone, ◌↔◌};
+ghost use Rattle.flow_link.specs.Planned.{layout_of};
+ghost use Rattle.flow_link.specs.Plan.{block_in};
+ghost use Rattle.flow_block.specs.Planned.{input_place};
+ghost use Rattle.flow_block.specs.Routes.{route_of};
+ghost use Rattle.flow_core.specs.Events.{Enabled, MayHappen, NetEvent};
+ghost use Rattle.flow_core.specs.Keeps.{NetKeeps};
+ghost use Rattle.flow_core.specs.State.{node_at};
+ghost use Rattle.flow_core.specs.Statements.{IsStill};
+ghost use Rattle.flow_moves.specs.Statements.{HasNoStep, LinkIsIdle};
+ghost use Rattle.flow_moves.specs.Ways.{input_in};
+ghost use Rattle.flow_moves.specs.Works.{works_of};
+ghost use Rattle.flow_net.specs.Ends.{IsStep};
+ghost use Rattle.flow_net.specs.Events.{net_event};
+ghost use Rattle.flow_net.specs.There.{IsDue, LinkHasId, NeedsId};
+ghost use Rattle.flow_net.specs.declared.fault.NetFault.TheVariants.{Ids};
+
+use crate::agenda::Spot;
+use crate::engine::Engine;
+use crate::event::Event;
+use crate::fault::NetFault;
+use flow_block::{Block, Input, Route};
+use flow_link::{LinkId, Move};
+use flow_moves::is_of_source;
+use flow_value::Work;
+
+impl<W: Work> Engine<W> {
+    /// The way of a link.
+    pub(crate) fn route(&self, id: usize) -> &Route
+        requires { id < length (layout_of self.now.plan).links }
+        ensures { result.now ≡ route_of (layout_of self.now.plan) id }
+    {
+        &self.routes[id]
+    }
+
+    /// The input of a block, if it is one. It counts the inputs before it.
+    pub(crate) fn input(&self, block: usize) -> Option<&Input>
+        requires known { block < length (layout_of self.now.plan).blocks }
+        requires kept { ∥ NetKeeps (layout_of self.now.plan) (works_of W.meaning (layout_of self.now.plan))
+            self.now.parts ∥₁ }
+        ensures there { is_some result ≡ (block_in (layout_of self.now.plan).blocks block).input }
+        ensures its { IfSome result (λ input. input.now ≡ input_in self.now.parts
+            (input_place (layout_of self.now.plan) block)) }
+    {
+        if !self.plan.block(block).input {
+            return None;
+        }
+        let mut place = 0;
+        for number in 0..block {
+            if self.plan.block(number).input {
+                place += 1;
+            }
+        }
+        Some(self.parts.input(place))
+    }
+
+    /// Whether this move is what its end of the link would do next.
+    fn is_next(&self, id: usize, next: Move) -> Result<bool, NetFault>
+        requires known { id < length (layout_of self.now.plan).links }
+        requires kept { ∥ NetKeeps (layout_of self.now.plan) (works_of W.meaning (layout_of self.now.plan))
+            self.now.parts ∥₁ }
+        ensures told { IfOk result (λ due. IsTrue due ↔ Enabled (layout_of self.now.plan) self.now.parts
+            (NetEvent.at_link id next)) }
+        ensures id { IfOk result (λ due. IsTrue due → LinkHasId (layout_of self.now.plan)
+            (works_of W.meaning (layout_of self.now.plan)) self.now.parts (NetEvent.at_link id next)) }
+        ensures ids { IfErr result (λ fault. fault ≡ Ids) }
+        ensures needed { IfErr result (λ fault. NeedsId (layout_of self.now.plan)
+            (works_of W.meaning (layout_of self.now.plan)) self.now.parts) }
+        ensures may_not { IfErr result (λ fault. MayHappen (layout_of self.now.plan)
+            (works_of W.meaning (layout_of self.now.plan)) (NetEvent.at_link id next) self.now.parts → ⊥) }
+    {
+        let route = self.route(id);
+        if !is_of_source(&next) {
+            return Ok(self.parts.next_of_target(route) == Some(next));
+        }
+        if self.parts.lacks_id(route) {
+            return Err(NetFault::Ids);
+        }
+        Ok(self.parts.next_of_source(route) == Some(next))
+    }
+
+    /// Whether a block would make this step.
+    fn is_step(&self, event: &Event<W>) -> bool
+        requires kept { ∥ NetKeeps (layout_of self.now.plan) (works_of W.meaning (layout_of self.now.plan))
+            self.now.parts ∥₁ }
+        requires step { IsStep event.now }
+        ensures { IsTrue result ↔ Enabled (layout_of self.now.plan) self.now.parts (net_event event.now) }
+    {
+        let count = self.plan.block_count();
+        match *event {
+            Event::Make(number) => number < count && self.parts.node(number).block().may_make(),
+            Event::Complete(number, port) => number < count && self.may_complete(number, port),
+            Event::Fault(number) => {
+                number < count && self.parts.node(number).block().next_fault().is_some()
+            }
+            Event::Done(number) => number < count && self.parts.node(number).block().may_finish(),
+            _ => false,
+        }
+    }
+
+    /// Whether a port of a block would complete.
+    fn may_complete(&self, number: usize, port: u32) -> bool
+        requires known { number < length (layout_of self.now.plan).blocks }
+        requires kept { ∥ NetKeeps (layout_of self.now.plan) (works_of W.meaning (layout_of self.now.plan))
+            self.now.parts ∥₁ }
+        ensures { IsTrue result ↔ Enabled (layout_of self.now.plan) self.now.parts (NetEvent.complete number port) }
+    {
+        let block = self.parts.node(number).block();
+        (port as usize) < block.port_count() && block.may_complete(port as usize)
+    }
+
+    /// Whether this event is due.
+    pub(crate) fn is_due(&self, event: &Event<W>) -> Result<bool, NetFault>
+        requires kept { ∥ NetKeeps (layout_of self.now.plan) (works_of W.meaning (layout_of self.now.plan))
+            self.now.parts ∥₁ }
+        ensures told { IfOk result (λ due. IsTrue due ↔ Enabled (layout_of self.now.plan) self.now.parts
+            (net_event event.now)) }
+        ensures id { IfOk result (λ due. IsTrue due → LinkHasId (layout_of self.now.plan)
+            (works_of W.meaning (layout_of self.now.plan)) self.now.parts (net_event event.now)) }
+        ensures ids { IfErr result (λ fault. fault ≡ Ids) }
+        ensures needed { IfErr result (λ fault. NeedsId (layout_of self.now.plan)
+            (works_of W.meaning (layout_of self.now.plan)) self.now.parts) }
+        ensures may_not { IfErr result (λ fault. MayHappen (layout_of self.now.plan)
+            (works_of W.meaning (layout_of self.now.plan)) (net_event event.now) self.now.parts → ⊥) }
+    {
+        match *event {
+            Event::Link(id, next) => {
+                if id < self.plan.link_count() {
+                    self.is_next(id, next)
+                } else {
+                    Ok(false)
+                }
+            }
+            Event::Job(_, none) => match none {},
+            _ => Ok(self.is_step(event)),
+        }
+    }
+
+    /// The event that would happen next at a link: a move of its source, or else of its target.
+    fn event_at_link(&self, id: usize) -> Result<Option<Event<W>>, NetFault>
+        requires known { id < length (layout_of self.now.plan).links }
+        requires kept { ∥ NetKeeps (layout_of self.now.plan) (works_of W.meaning (layout_of self.now.plan))
+            self.now.parts ∥₁ }
+        ensures due { IfOk result (λ next. IfSome next (λ event. IsDue (layout_of self.now.plan)
+            (works_of W.meaning (layout_of self.now.plan)) self.now.parts (net_event event))) }
+        ensures none { IfOk result (λ next. IfNone next (LinkIsIdle (layout_of self.now.plan) self.now.parts id)) }
+        ensures ids { IfErr result (λ fault. fault ≡ Ids) }
+        ensures needed { IfErr result (λ fault. NeedsId (layout_of self.now.plan)
+            (works_of W.meaning (layout_of self.now.plan)) self.now.parts) }
+    {
+        let route = self.route(id);
+        if self.parts.lacks_id(route) {
+            return Err(NetFault::Ids);
+        }
+        if let Some(next) = self.parts.next_of_source(route) {
+            return Ok(Some(Event::Link(id, next)));
+        }
+        match self.parts.next_of_target(route) {
+            Some(next) => Ok(Some(Event::Link(id, next))),
+            None => Ok(None),
+        }
+    }
+
+    /// The step that a block would make next by itself.
+    fn event_at_block(&self, number: usize) -> Option<Event<W>>
+        requires known { number < length (layout_of self.now.plan).blocks }
+        requires kept { ∥ NetKeeps (layout_of self.now.plan) (works_of W.meaning (layout_of self.now.plan))
+            self.now.parts ∥₁ }
+        ensures due { IfSome result (λ event. IsDue (layout_of self.now.plan)
+            (works_of W.meaning (layout_of self.now.plan)) self.now.parts (net_event event)) }
+        ensures none { IfNone result (HasNoStep (node_at self.now.parts number).block) }
+    {
+        let block = self.parts.node(number).block();
+        if block.may_make() {
+            Some(Event::Make(number))
+        } else if block.may_complete(0) {
+            Some(Event::Complete(number, 0))
+        } else if block.next_fault().is_some() {
+            Some(Event::Fault(number))
+        } else if block.may_finish() {
+            Some(Event::Done(number))
+        } else {
+            None
+        }
+    }
+
+    /// The event that would happen next at this spot.
+    fn event_at(&self, spot: Spot) -> Result<Option<Event<W>>, NetFault>
+        requires kept { ∥ NetKeeps (layout_of self.now.plan) (works_of W.meaning (layout_of self.now.plan))
+            self.now.parts ∥₁ }
+        ensures due { IfOk result (λ next. IfSome next (λ event. IsDue (layout_of self.now.plan)
+            (works_of W.meaning (layout_of self.now.plan)) self.now.parts (net_event event))) }
+        ensures ids { IfErr result (λ fault. fault ≡ Ids) }
+        ensures needed { IfErr result (λ fault. NeedsId (layout_of self.now.plan)
+            (works_of W.meaning (layout_of self.now.plan)) self.now.parts) }
+    {
+        match spot {
+            Spot::Link(id) if id < self.plan.link_count() => self.event_at_link(id),
+            Spot::Block(number) if number < self.plan.block_count() => {
+                match self.event_at_block(number) {
+                    Some(event) => Ok(Some(event)),
+                    None => self.event_beside(number),
+                }
+            }
+            _ => Ok(None),
+        }
+    }
+
+    /// The event that would happen next at the links over which a block would offer or consume next.
+    fn event_beside(&self, number: usize) -> Result<Option<Event<W>>, NetFault>
+        requires known { number < length (layout_of self.now.plan).blocks }
+        requires kept { ∥ NetKeeps (layout_of self.now.plan) (works_of W.meaning (layout_of self.now.plan))
+            self.now.parts ∥₁ }
+        ensures due { IfOk result (λ next. IfSome next (λ event. IsDue (layout_of self.now.plan)
+            (works_of W.meaning (layout_of self.now.plan)) self.now.parts (net_event event))) }
+        ensures ids { IfErr result (λ fault. fault ≡ Ids) }
+        ensures needed { IfErr result (λ fault. NeedsId (layout_of self.now.plan)
+            (works_of W.meaning (layout_of self.now.plan)) self.now.parts) }
+    {
+        let count = self.plan.link_count();
+        let block = self.parts.node(number).block();
+        match link_to_offer(block) {
+            Some(id) if id < count => return self.event_at_link(id),
+            _ => {}
+        }
+        match link_to_consume(block) {
+            Some(id) if id < count => self.event_at_link(id),
+            _ => Ok(None),
+        }
+    }
+
+    /// The first event that would happen at a link.
+    fn event_at_links(&self) -> Result<Option<Event<W>>, NetFault>
+        requires kept { ∥ NetKeeps (layout_of self.now.plan) (works_of W.meaning (layout_of self.now.plan))
+            self.now.parts ∥₁ }
+        ensures due { IfOk result (λ next. IfSome next (λ event. IsDue (layout_of self.now.plan)
+            (works_of W.meaning (layout_of self.now.plan)) self.now.parts (net_event event))) }
+        ensures none { IfOk result (λ next. IfNone next ((l : ℕ) → l < length (layout_of self.now.plan).links →
+            LinkIsIdle (layout_of self.now.plan) self.now.parts l)) }
+        ensures ids { IfErr result (λ fault. fault ≡ Ids) }
+        ensures needed { IfErr result (λ fault. NeedsId (layout_of self.now.plan)
+            (works_of W.meaning (layout_of self.now.plan)) self.now.parts) }
+    {
+        for id in 0..self.plan.link_count() {
+            if let Some(event) = self.event_at_link(id)? {
+                return Ok(Some(event));
+            }
+        }
+        Ok(None)
+    }
+
+    /// The first step that a block would make.
+    fn event_at_blocks(&self) -> Option<Event<W>>
+        requires kept { ∥ NetKeeps (layout_of self.now.plan) (works_of W.meaning (layout_of self.now.plan))
+            self.now.parts ∥₁ }
+        ensures due { IfSome result (λ event. IsDue (layout_of self.now.plan)
+            (works_of W.meaning (layout_of self.now.plan)) self.now.parts (net_event event)) }
+        ensures none { IfNone result ((b : ℕ) → b < length (layout_of self.now.plan).blocks →
+            HasNoStep (node_at self.now.parts b).block) }
+    {
+        for number in 0..self.plan.block_count() {
+            if let Some(event) = self.event_at_block(number) {
+                return Some(event);
+            }
+        }
+        None
+    }
+
+    /// An event that is due, looked for everywhere.
+    fn find_event(&self) -> Result<Option<Event<W>>, NetFault>
+        requires kept { ∥ NetKeeps (layout_of self.now.plan) (works_of W.meaning (layout_of self.now.plan))
+            self.now.parts ∥₁ }
+        ensures due { IfOk result (λ next. IfSome next (λ event. IsDue (layout_of self.now.plan)
+            (works_of W.meaning (layout_of self.now.plan)) self.now.parts (net_event event))) }
+        ensures none { IfOk result (λ next. IfNone next (IsStill (layout_of self.now.plan)
+            (works_of W.meaning (layout_of self.now.plan)) self.now.parts)) }
+        ensures ids { IfErr result (λ fault. fault ≡ Ids) }
+        ensures needed { IfErr result (λ fault. NeedsId (layout_of self.now.plan)
+            (works_of W.meaning (layout_of self.now.plan)) self.now.parts) }
+    {
+        match self.event_at_links()? {
+            Some(event) => Ok(Some(event)),
+            None => Ok(self.event_at_blocks()),
+        }
+    }
+
+    /// An event that is due: at a spot of the agenda if there is one there, and else anywhere.
+    pub(crate) fn next_event(&mut self) -> Result<Option<Event<W>>, NetFault>
+        requires kept { ∥ NetKeeps (layout_of self.old.plan) (works_of W.meaning (layout_of self.old.plan))
+            self.old.parts ∥₁ }
+        ensures same_plan { self.new.plan ≡ self.old.plan }
+        ensures same_parts { self.new.parts ≡ self.old.parts }
+        ensures due { IfOk result (λ next. IfSome next (λ event. IsDue (layout_of self.old.plan)
+            (works_of W.meaning (layout_of self.old.plan)) self.old.parts (net_event event))) }
+        ensures none { IfOk result (λ next. IfNone next (IsStill (layout_of self.old.plan)
+            (works_of W.meaning (layout_of self.old.plan)) self.old.parts)) }
+        ensures ids { IfErr result (λ fault. fault ≡ Ids) }
+        ensures needed { IfErr result (λ fault. NeedsId (layout_of self.old.plan)
+            (works_of W.meaning (layout_of self.old.plan)) self.old.parts) }
+    {
+        while let Some(spot) = self.agenda.take() {
+            if let Some(event) = self.event_at(spot)? {
+                return Ok(Some(event));
+            }
+        }
+        self.find_event()
+    }
+
+    /// Whether nothing may happen any more.
+    pub(crate) fn is_quiet(&self) -> bool
+        requires kept { ∥ NetKeeps (layout_of self.now.plan) (works_of W.meaning (layout_of self.now.plan))
+            self.now.parts ∥₁ }
+        ensures { IsTrue result ↔ IsStill (layout_of self.now.plan) (works_of W.meaning (layout_of self.now.plan))
+            self.now.parts }
+    {
+        match self.find_event() {
+            Ok(next) => next.is_none(),
+            Err(_fault) => false,
+        }
+    }
+}
+
+/// The link over which a block would offer next.
+fn link_to_offer(block: &Block) -> Option<LinkId> {
+    let place = block.next_offer()?;
+    if place < block.out_count() {
+        Some(block.out_link(place))
+    } else {
+        None
+    }
+}
+
+/// The link over which a block would consume next: each that is built has one port.
+fn link_to_consume(block: &Block) -> Option<LinkId> {
+    if block.port_count() == 0 {
+        return None;
+    }
+    let place = block.next_place(0)?;
+    if place < block.in_count(0) {
+        Some(block.in_link(0, place))
+    } else {
+        None
+    }
+}
