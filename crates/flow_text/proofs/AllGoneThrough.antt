@@ -3,7 +3,7 @@ use Rattle.std.proofs.Common.{◌≡◌, ℕ, ◌+◌, ◌<◌, Bool, true, fals
 use Rattle.std.proofs.lemmas.Bool.{false_from_ne_true}
 use Rattle.flow_link.specs.Lists.{every, below}
 use Rattle.flow_link.proofs.ListTests.{every_below, passes_below}
-use Rattle.flow_net.proofs.ScanLemmas.{one_more}
+use Rattle.flow_net.proofs.FindersTell.{one_more}
 
 pub one_more_passes : (test : ℕ → Bool) (n : ℕ) → every test (below n) ≡ true → true ≡ test n → every test (below (n + 1)) ≡ true
 one_more_passes test n before here =

@@ -1,15 +1,16 @@
--- Tables that were read one by one, and the first whose function is none.
+-- Tables that were read one by one, and the first whose function or predicate is none.
 use Rattle.std.proofs.Common.{◌≡◌, ℕ, zero, suc, ◌+◌, ◌<◌, ◌≤◌, Bool, true, List, [], ◌∷◌, ◌++◌, length, get_or, take, Some, is_some, refl, ap, sym, ◌∙◌, subst, arith}
 use Rattle.std.proofs.lemmas.Bool.{and_parts}
 use Rattle.std.proofs.lemmas.List.{take_more, take_all}
 use Rattle.flow_link.specs.declared.draft.BlockDef.{BlockDef}
+use Rattle.flow_link.specs.declared.draft.LinkDef.{LinkDef}
 use Rattle.flow_value.specs.declared.steps.Steps.{Steps}
 use Rattle.toml.specs.Data.{Data, Members, string, integer, float, boolean, datetime, array, table, item, get_item, as_table}
 use Rattle.toml.specs.View.{view, items_view}
 use Rattle.toml.specs.declared.value.Value.{Value}
 use Rattle.flow_text.specs.Keys.{all_items}
-use Rattle.flow_text.specs.Read.{AreEach, IsBlock, IsFirstBadWork, HasBadWork, items_before, is_sound, is_sound_in}
-use Rattle.flow_text.specs.Built.{IsWorkRefusal, IsBlocksRefusal}
+use Rattle.flow_text.specs.Read.{AreEach, IsBlock, IsLink, IsFirstBad, HasBadWork, HasBadWhen, items_before, is_sound, is_sound_in}
+use Rattle.flow_text.specs.Built.{IsWorkRefusal, IsWhenRefusal, IsBlocksRefusal, IsLinksRefusal}
 use Rattle.flow_text.specs.declared.fault.TextPlace.TheVariants as place
 use Rattle.flow_text.specs.declared.fault.TextRefusal.{TextRefusal}
 use Rattle.flow_text.specs.declared.fault.TextRefusal.TheVariants.{Fault, Memory}
@@ -70,19 +71,27 @@ get_item_view [] n v lt same = absurd (omega arith)
 get_item_view (x ∷ vs) zero v lt same = ap (λ u. Some (view u)) (sym same)
 get_item_view (x ∷ vs) (suc n) v lt same = get_item_view vs n v (omega arith) same
 
--- the function of the table at this place is none, and the tables before it were read as blocks
-pub first_bad : (vs : List Value) (n : ℕ) (v : Value) (ms : Members) (blocks : List (BlockDef Steps)) → n < length vs → v ≡ get_or vs n v
-    → as_table (view v) ≡ Some ms → HasBadWork ms → AreEach IsBlock (items_view (take n vs)) blocks → IsFirstBadWork (items_view vs) n
-first_bad vs n v ms blocks lt same e bad before = record {
+-- the table at this place is bad, and the tables before it were read
+first_bad : {A : Type 0} (IsBad : Members → Type 0) (Is : Members → A → Type 0) (vs : List Value) (n : ℕ) (v : Value) (ms : Members) (xs : List A)
+    → n < length vs → v ≡ get_or vs n v → as_table (view v) ≡ Some ms → IsBad ms → AreEach Is (items_view (take n vs)) xs
+    → IsFirstBad IsBad Is (items_view vs) n
+first_bad IsBad Is vs n v ms xs lt same e bad before = record {
   table = ms;
   stands = (view v, get_item_view vs n v lt same, e);
   bad = bad;
-  blocks_before = (blocks, subst (λ ds. AreEach IsBlock ds blocks) (sym (items_before_view n vs)) before);
+  read_before = (xs, subst (λ ds. AreEach Is ds xs) (sym (items_before_view n vs)) before);
 }
 
--- the tables are refused as the one at this place is
+-- the blocks are refused as the one at this place is
 pub blocks_refused : (vs : List Value) (n : ℕ) (v : Value) (ms : Members) (blocks : List (BlockDef Steps)) (refusal : TextRefusal) → n < length vs
     → v ≡ get_or vs n v → as_table (view v) ≡ Some ms → IsWorkRefusal ms (place.Block n) refusal → AreEach IsBlock (items_view (take n vs)) blocks
     → IsBlocksRefusal vs refusal
-blocks_refused vs n v ms blocks (Fault fault) lt same e bad before = (n, bad.0, first_bad vs n v ms blocks lt same e bad.1 before)
+blocks_refused vs n v ms blocks (Fault fault) lt same e bad before = (n, bad.0, first_bad HasBadWork IsBlock vs n v ms blocks lt same e bad.1 before)
 blocks_refused vs n v ms blocks Memory lt same e bad before = tt
+
+-- the links are refused as the one at this place is
+pub links_refused : (vs : List Value) (n : ℕ) (v : Value) (ms : Members) (links : List LinkDef) (refusal : TextRefusal) → n < length vs
+    → v ≡ get_or vs n v → as_table (view v) ≡ Some ms → IsWhenRefusal ms (place.Link n) refusal → AreEach IsLink (items_view (take n vs)) links
+    → IsLinksRefusal vs refusal
+links_refused vs n v ms links (Fault fault) lt same e bad before = (n, bad.0, first_bad HasBadWhen IsLink vs n v ms links lt same e bad.1 before)
+links_refused vs n v ms links Memory lt same e bad before = tt

@@ -1,5 +1,5 @@
 -- The keys that each part of a network's text has, what their values are, and what can be wrong with the keys of a table.
-use Rattle.std.specs.Prelude.{ℕ, Bool, true, false, not, ◌&&◌, ◌||◌, List, [], ◌∷◌, codes, Option, Some, None, if◌then◌else◌, is_some, option_and_then}
+use Rattle.std.specs.Prelude.{ℕ, leb, ℤ, pos, negsuc, Bool, true, false, not, ◌&&◌, ◌||◌, List, [], ◌∷◌, codes, Option, Some, None, cond, if◌then◌else◌, is_some, option_and_then}
 use Rattle.std.specs.List.{list_any}
 use Rattle.std.specs.Str.{bytes_eq}
 use Rattle.flow_link.specs.declared.draft.BlockKind.{BlockKind}
@@ -8,7 +8,7 @@ use Rattle.toml.specs.Data.{Data, Items, no_items, item, Members, no_members, me
 use Rattle.flow_text.specs.declared.network.keys.Part.{Part}
 use Rattle.flow_text.specs.declared.network.keys.Part.TheVariants.{Top, Block, Link}
 use Rattle.flow_text.specs.declared.network.keys.Form.{Form}
-use Rattle.flow_text.specs.declared.network.keys.Form.TheVariants.{Boolean, Integer, Text, Kind, Texts, Tables}
+use Rattle.flow_text.specs.declared.network.keys.Form.TheVariants.{Boolean, Integer, Count, Text, Kind, Texts, Tables}
 use Rattle.flow_text.specs.declared.network.keys.Check.{Check}
 use Rattle.flow_text.specs.declared.network.keys.Check.TheVariants.{UnknownKey, MissingKey, WrongType}
 
@@ -27,8 +27,10 @@ optional name form = record { name = name; form = form; required = false }
 -- the keys of each part
 abbrev pub rules_of : Part → List Rule
 rules_of Top = required (codes "format") Integer ∷ required (codes "block") Tables ∷ optional (codes "link") Tables ∷ []
-rules_of Block = required (codes "name") Text ∷ required (codes "kind") Kind ∷ optional (codes "input") Boolean ∷ optional (codes "work") Texts ∷ []
-rules_of Link = required (codes "from") Text ∷ required (codes "to") Text ∷ optional (codes "propagate") Boolean ∷ []
+rules_of Block = required (codes "name") Text ∷ required (codes "kind") Kind ∷ optional (codes "input") Boolean ∷ optional (codes "capacity") Count
+    ∷ optional (codes "work") Texts ∷ []
+rules_of Link = required (codes "from") Text ∷ required (codes "to") Text ∷ optional (codes "when") Text ∷ optional (codes "max") Count
+    ∷ optional (codes "propagate") Boolean ∷ []
 
 -- the kind that a word names
 abbrev pub kind_named : List ℕ → Option BlockKind
@@ -53,10 +55,20 @@ is_text d = is_some (as_str d)
 abbrev pub is_table : Data → Bool
 is_table d = is_some (as_table d)
 
+-- the integer as a count: from 0 to 4,294,967,295
+abbrev pub count_from : ℤ → Option ℕ
+count_from (pos n) = cond (leb n 4294967295) (Some n) None
+count_from (negsuc n) = None
+
+-- the count that a value is
+abbrev pub as_count : Data → Option ℕ
+as_count d = option_and_then count_from (as_integer d)
+
 -- the value is of this form
 abbrev pub fits : Form → Data → Bool
 fits Boolean d = is_some (as_bool d)
 fits Integer d = is_some (as_integer d)
+fits Count d = is_some (as_count d)
 fits Text d = is_text d
 fits Kind d = is_some (option_and_then kind_named (as_str d))
 fits Texts d = is_array_of is_text d

@@ -1,4 +1,4 @@
--- The faults of a network's text that are told before any function is read, and which of them comes first.
+-- The faults of a network's text that are told before any function or predicate is read, and which of them comes first.
 use Rattle.std.specs.Prelude.{ℕ, ◌+◌, ◌==◌, ℤ, pos, negsuc, Bool, false, List, codes, Option, Some, None, cond, if◌then◌else◌, option_map}
 use Rattle.toml.specs.Data.{Data, Items, no_items, item, Members, get_member, as_integer, as_array, as_table}
 use Rattle.flow_text.specs.declared.fault.TextFault.{TextFault}

@@ -5,14 +5,16 @@ use Rattle.flow_link.specs.declared.draft.BlockKind.{BlockKind}
 use Rattle.flow_link.specs.declared.draft.Draft.{Draft}
 use Rattle.flow_link.specs.declared.draft.LinkDef.{LinkDef}
 use Rattle.flow_value.specs.ReadsAs.{ReadsAs}
+use Rattle.flow_value.specs.When.{SpellsWhen}
 use Rattle.flow_value.specs.declared.steps.Steps.{Steps}
 use Rattle.flow_value.specs.declared.steps.StepsError.TheVariants.{BadStep}
+use Rattle.flow_value.specs.declared.when.When.{When}
 use Rattle.toml.specs.Data.{Data, Items, no_items, item, Members, get_member, get_item, as_str, as_bool, as_array, as_table}
 use Rattle.toml.specs.Parse.{parse_document}
-use Rattle.flow_text.specs.Keys.{kind_named, is_wrong}
+use Rattle.flow_text.specs.Keys.{kind_named, as_count, is_wrong}
 use Rattle.flow_text.specs.Passes.{section, first_fault}
 use Rattle.flow_text.specs.declared.fault.TextFault.{TextFault}
-use Rattle.flow_text.specs.declared.fault.TextFault.TheVariants.{Syntax, BadWork}
+use Rattle.flow_text.specs.declared.fault.TextFault.TheVariants.{Syntax, BadWork, BadWhen}
 use Rattle.flow_text.specs.declared.fault.TextPlace.TheVariants as place
 use Rattle.flow_text.specs.declared.fault.TextRefusal.{TextRefusal}
 use Rattle.flow_text.specs.declared.fault.TextRefusal.TheVariants.{Fault, Memory}
@@ -31,6 +33,10 @@ kind_at ms = option_and_then kind_named (text_at (codes "kind") ms)
 abbrev pub flag_at : List ℕ → Members → Bool
 flag_at key ms = elim (option_and_then as_bool (get_member key ms)) [ None ↦ false | Some b ↦ b ]
 
+-- the count at a key
+abbrev pub count_at : List ℕ → Members → Option ℕ
+count_at key ms = option_and_then as_count (get_member key ms)
+
 -- the texts of an array, in order
 abbrev pub texts : Items → List (List ℕ)
 texts no_items = []
@@ -48,13 +54,22 @@ IsWork ms (Some steps) = (d : Data) × (get_member (codes "work") ms ≡ Some d)
 abbrev pub HasBadWork : Members → Type 0
 HasBadWork ms = (d : Data) × (get_member (codes "work") ms ≡ Some d) × ((at : ℕ) × ReadsAs (texts_of d) (Err (BadStep at)))
 
+-- the predicate at the key `when`
+abbrev pub IsWhen : Members → Option When → Type 0
+IsWhen ms None = text_at (codes "when") ms ≡ None
+IsWhen ms (Some when) = (text : List ℕ) × (text_at (codes "when") ms ≡ Some text) × SpellsWhen text when
+
+-- the text at the key `when` is no predicate
+abbrev pub HasBadWhen : Members → Type 0
+HasBadWhen ms = (text : List ℕ) × (text_at (codes "when") ms ≡ Some text) × ((when : When) → SpellsWhen text when → ⊥)
+
 -- the block that a table is; what has no key is absent
 pub record IsBlock (ms : Members) (block : BlockDef Steps) : Type 0 where
   pub name : text_at (codes "name") ms ≡ Some block.name
   pub kind : kind_at ms ≡ Some block.kind
   pub input : block.input ≡ flag_at (codes "input") ms
   pub output : block.output ≡ false
-  pub capacity : block.capacity ≡ None
+  pub capacity : block.capacity ≡ count_at (codes "capacity") ms
   pub work : IsWork ms block.work
   pub lanes : block.lanes ≡ None
   pub size : block.size ≡ None
@@ -66,8 +81,8 @@ pub record IsLink (ms : Members) (link : LinkDef) : Type 0 where
   pub from : text_at (codes "from") ms ≡ Some link.from
   pub to : text_at (codes "to") ms ≡ Some link.to
   pub port : link.port ≡ None
-  pub when : link.when ≡ None
-  pub max : link.max ≡ None
+  pub when : IsWhen ms link.when
+  pub max : link.max ≡ count_at (codes "max") ms
   pub propagate : link.propagate ≡ flag_at (codes "propagate") ms
 
 -- the items are tables, and each is the one of the list at its place
@@ -82,12 +97,20 @@ items_before zero _ = no_items
 items_before (suc n) no_items = no_items
 items_before (suc n) (item d ds) = item d (items_before n ds)
 
--- the table at this place has a step that is none, and those before it are blocks
-pub record IsFirstBadWork (tables : Items) (n : ℕ) : Type 0 where
+-- the table at this place is bad, and each of those before it is read
+pub record IsFirstBad {A : Type 0} (IsBad : Members → Type 0) (Is : Members → A → Type 0) (tables : Items) (n : ℕ) : Type 0 where
   pub table : Members
   pub stands : (d : Data) × (get_item n tables ≡ Some d) × (as_table d ≡ Some table)
-  pub bad : HasBadWork table
-  pub blocks_before : (blocks : List (BlockDef Steps)) × AreEach IsBlock (items_before n tables) blocks
+  pub bad : IsBad table
+  pub read_before : (made : List A) × AreEach Is (items_before n tables) made
+
+-- the block at this place has a step that is none, and those before it are read
+abbrev pub IsFirstBadWork : Items → ℕ → Type 0
+IsFirstBadWork tables n = IsFirstBad HasBadWork IsBlock tables n
+
+-- the link at this place has a predicate that is none, and those before it are read
+abbrev pub IsFirstBadWhen : Items → ℕ → Type 0
+IsFirstBadWhen tables n = IsFirstBad HasBadWhen IsLink tables n
 
 -- nothing is missing in the table, and each value is what its key wants
 abbrev pub is_sound : Part → Members → Bool
@@ -105,12 +128,21 @@ pub record IsReadAs (text : List ℕ) (draft : Draft Steps) : Type 0 where
   pub blocks : AreEach IsBlock (section (codes "block") top) draft.blocks.items
   pub links : AreEach IsLink (section (codes "link") top) draft.links.items
 
+-- the fault is that of the first block with a step that is none
+abbrev pub IsFaultOfWork : Members → TextFault → Type 0
+IsFaultOfWork top fault = (n : ℕ) × (fault ≡ BadWork (place.Block n)) × IsFirstBadWork (section (codes "block") top) n
+
+-- all blocks are read, and the fault is that of the first link with a predicate that is none
+pub record IsFaultOfWhen (top : Members) (fault : TextFault) : Type 0 where
+  pub blocks : (made : List (BlockDef Steps)) × AreEach IsBlock (section (codes "block") top) made
+  pub link : (n : ℕ) × (fault ≡ BadWhen (place.Link n)) × IsFirstBadWhen (section (codes "link") top) n
+
 -- the text is TOML, and this is its first fault
 pub record HasFault (text : List ℕ) (fault : TextFault) : Type 0 where
   pub encoded : IsUtf8 text
   pub top : Members
   pub parsed : parse_document text ≡ Some top
-  pub first : (first_fault top ≡ Some fault) ⊎ ((first_fault top ≡ None) × ((n : ℕ) × (fault ≡ BadWork (place.Block n)) × IsFirstBadWork (section (codes "block") top) n))
+  pub first : (first_fault top ≡ Some fault) ⊎ ((first_fault top ≡ None) × (IsFaultOfWork top fault ⊎ IsFaultOfWhen top fault))
 
 -- the text is no TOML
 abbrev pub IsSyntaxFault : List ℕ → TextFault → Type 0

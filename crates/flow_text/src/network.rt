@@ -59,7 +59,7 @@ fn read_draft(alloc: Global, text: &[u8]) -> Result<Draft<Steps>, TextRefusal>
     })
 }
 
-/// The first fault that can be told before any function is read.
+/// The first fault that can be told before any function or predicate is read.
 fn first_fault(top: &Table) -> Option<TextFault>
     ensures { result ≡ first_fault (table_view top.now) }
 {

@@ -43,11 +43,7 @@ pub(crate) fn held_at(net: &Net<Steps>, block: usize, port: u32) -> (&[Value], &
     requires port { port < port_count (block_of (run_in net.now) block) }
     ensures { result.0.now ++ result.1.now ≡ held_at (run_in net.now) block port }
 {
-    if port == 0 {
-        net.held(block, port).as_slices()
-    } else {
-        (&[], &[])
-    }
+    net.held(block, port).as_slices()
 }
 
 /// The outputs that weren't given, in two parts.

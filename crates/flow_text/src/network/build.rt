@@ -3,14 +3,14 @@ ghost use Rattle.std.specs.Prelude.{◌≡◌, Some, true, map, option_map, is_s
 ghost use Rattle.toml.specs.Data.{as_table};
 ghost use Rattle.toml.specs.View.{view, table_view, items_view};
 ghost use Rattle.flow_text.specs.Keys.{all_items};
-ghost use Rattle.flow_text.specs.Read.{text_at, kind_at, flag_at, texts_of, texts, IsWork, IsBlock, IsLink, AreEach};
-ghost use Rattle.flow_text.specs.Read.{is_sound, is_sound_in};
-ghost use Rattle.flow_text.specs.Built.{IsWorkRefusal, IsBlocksRefusal};
+ghost use Rattle.flow_text.specs.Read.{text_at, kind_at, flag_at, count_at, texts_of, texts, IsWork, IsWhen};
+ghost use Rattle.flow_text.specs.Read.{IsBlock, IsLink, AreEach, is_sound, is_sound_in};
+ghost use Rattle.flow_text.specs.Built.{IsWorkRefusal, IsWhenRefusal, IsBlocksRefusal, IsLinksRefusal};
 
-use super::keys::{Part, kind_of, value_at};
+use super::keys::{Part, count_of, kind_of, value_at};
 use crate::fault::{TextFault, TextPlace, TextRefusal};
 use flow_link::{BlockDef, BlockKind, LinkDef};
-use flow_value::{Steps, StepsError, Text};
+use flow_value::{Steps, StepsError, Text, When};
 use std::alloc::{AllocError, Global};
 use toml::{Table, Value};
 
@@ -31,13 +31,16 @@ pub(super) fn blocks(alloc: Global, tables: &[Value]) -> Result<Vec<BlockDef<Ste
 }
 
 /// The links that these tables are.
-pub(super) fn links(alloc: Global, tables: &[Value]) -> Result<Vec<LinkDef>, AllocError>
+pub(super) fn links(alloc: Global, tables: &[Value]) -> Result<Vec<LinkDef>, TextRefusal>
     requires { all_items (is_sound_in Part.Link) (items_view tables.now) ≡ true }
-    ensures { IfOk result (λ links. AreEach IsLink (items_view tables.now) links.items) }
+    ensures { MatchResult result
+        (λ links. AreEach IsLink (items_view tables.now) links.items)
+        (IsLinksRefusal tables.now) }
 {
     let mut links = Vec::new(alloc);
-    for value in tables {
-        let link = link(alloc, table_of(value))?;
+    for (number, value) in tables.iter().enumerate() {
+        let table = table_of(value);
+        let link = link(alloc, table, TextPlace::Link(number))?;
         links.push(link)?;
     }
     Ok(links)
@@ -64,7 +67,7 @@ fn block(alloc: Global, table: &Table, place: TextPlace) -> Result<BlockDef<Step
         kind: kind(table),
         input: flag(table, "input"),
         output: false,
-        capacity: None,
+        capacity: count(table, "capacity"),
         work,
         lanes: None,
         size: None,
@@ -73,16 +76,17 @@ fn block(alloc: Global, table: &Table, place: TextPlace) -> Result<BlockDef<Step
     })
 }
 
-fn link(alloc: Global, table: &Table) -> Result<LinkDef, AllocError>
+fn link(alloc: Global, table: &Table, place: TextPlace) -> Result<LinkDef, TextRefusal>
     requires { is_sound Part.Link (table_view table.now) ≡ true }
-    ensures { IfOk result (IsLink (table_view table.now)) }
+    ensures { MatchResult result (IsLink (table_view table.now)) (IsWhenRefusal (table_view table.now) place) }
 {
+    let when = when(table, place)?;
     Ok(LinkDef {
         from: Text::from_str(alloc, text(table, "from"))?,
         to: Text::from_str(alloc, text(table, "to"))?,
         port: None,
-        when: None,
-        max: None,
+        when,
+        max: count(table, "max"),
         propagate: flag(table, "propagate"),
     })
 }
@@ -127,6 +131,29 @@ fn flag(table: &Table, key: &str) -> bool
     match value_at(table, key) {
         Some(value) => value.as_bool().unwrap_or(false),
         None => false,
+    }
+}
+
+/// The count at a key, if it is there.
+fn count(table: &Table, key: &str) -> Option<u32>
+    ensures { result ≡ count_at key.now (table_view table.now) }
+{
+    match value_at(table, key) {
+        Some(value) => count_of(value),
+        None => None,
+    }
+}
+
+/// The predicate at the key `when`, if it is there.
+fn when(table: &Table, place: TextPlace) -> Result<Option<When>, TextRefusal>
+    ensures { MatchResult result (IsWhen (table_view table.now)) (IsWhenRefusal (table_view table.now) place) }
+{
+    let Some(text) = text_or_none(table, "when") else {
+        return Ok(None);
+    };
+    match When::read(text) {
+        Some(when) => Ok(Some(when)),
+        None => Err(TextRefusal::Fault(TextFault::BadWhen(place))),
     }
 }
 

@@ -2,7 +2,7 @@
 ghost use Rattle.std.specs.Prelude.{◌≡◌, map, option_map};
 ghost use Rattle.toml.specs.View.{view, table_view, items_view};
 ghost use Rattle.flow_text.specs.Keys.{rules_of, kind_named, is_table, fits, knows, is_wrong, all_items, is_text};
-ghost use Rattle.flow_text.specs.Keys.{is_missed, is_misfit};
+ghost use Rattle.flow_text.specs.Keys.{as_count, is_missed, is_misfit};
 ghost use Rattle.flow_text.specs.Passes.{is_wrong_in, section, tables_of};
 ghost use Rattle.flow_text.specs.Rules.{rule_of};
 ghost use Rattle.toml.specs.Data.{get_member};
@@ -23,6 +23,8 @@ pub(super) enum Part {
 pub(super) enum Form {
     Boolean,
     Integer,
+    /// An integer of 0 to 4,294,967,295.
+    Count,
     Text,
     /// The word for a kind of block.
     Kind,
@@ -86,6 +88,11 @@ const BLOCK: &[Key] = &[
         is_required: false,
     },
     Key {
+        name: "capacity",
+        form: Form::Count,
+        is_required: false,
+    },
+    Key {
         name: "work",
         form: Form::Texts,
         is_required: false,
@@ -102,6 +109,16 @@ const LINK: &[Key] = &[
         name: "to",
         form: Form::Text,
         is_required: true,
+    },
+    Key {
+        name: "when",
+        form: Form::Text,
+        is_required: false,
+    },
+    Key {
+        name: "max",
+        form: Form::Count,
+        is_required: false,
     },
     Key {
         name: "propagate",
@@ -135,6 +152,16 @@ pub(super) fn kind_of(word: &str) -> Option<BlockKind>
     }
 }
 
+/// The count that a value is.
+pub(super) fn count_of(value: &Value) -> Option<u32>
+    ensures { result ≡ as_count (view value.now) }
+{
+    match u32::try_from(value.as_integer()?) {
+        Ok(count) => Some(count),
+        Err(_) => None,
+    }
+}
+
 impl Form {
     /// Whether the value is of this form.
     fn fits(self, value: &Value) -> bool
@@ -143,6 +170,7 @@ impl Form {
         match self {
             Form::Boolean => value.is_bool(),
             Form::Integer => value.is_integer(),
+            Form::Count => count_of(value).is_some(),
             Form::Text => value.is_str(),
             Form::Kind => match value.as_str() {
                 Some(word) => kind_of(word).is_some(),

@@ -4,5 +4,5 @@ use Rattle.flow_text.specs.Read.{AreEach, IsLink}
 use Rattle.flow_text.proofs.network.build.links.Given as goal
 
 -- the tables so far were read
-abbrev pub invariant-loop-value : goal.invariant-loop-value
-invariant-loop-value l = AreEach IsLink (items_view (take l.value-index l.tables)) l.links.items
+abbrev pub invariant-loop-number : goal.invariant-loop-number
+invariant-loop-number l = AreEach IsLink (items_view (take l.number l.tables)) l.links.items
