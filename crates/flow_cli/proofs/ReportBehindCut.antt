@@ -1,9 +1,9 @@
 -- A report of the records behind a cut, or why there is none, as it is told of the whole text.
-use Rattle.std.proofs.Common.{◌⊎◌, inl, inr, ℕ, List, Option, Some, None, Result, Ok, Err, IfOk, IfErr, IfSome, ◌≡◌, [], ◌∷◌, length, take, ◌∙◌, ap, refl}
+use Rattle.std.proofs.Common.{◌⊎◌, inl, inr, ℕ, List, Option, Some, None, Result, Ok, Err, IfOk, IfErr, IfSome, ◌≡◌, ◌∙◌, refl}
 use Rattle.flow_value.specs.declared.steps.Steps.{Steps}
 use Rattle.flow_link.specs.Layout.{Layout}
 use Rattle.flow_link.specs.Trace.{Run}
-use Rattle.flow_net.specs.Parts.{PartsState}
+use Rattle.flow_core.specs.State.{NetState}
 use Rattle.flow_text.specs.declared.fault.TextFault.{TextFault}
 use Rattle.flow_text.specs.declared.fault.TextFault.TheVariants.{Write}
 use Rattle.flow_text.specs.declared.fault.TextRefusal.{TextRefusal}
@@ -26,7 +26,7 @@ ok_carries (Err e) P Q p carries = p
 pub posted_of_any : {W : Type 0} {run : Run W} (records : Option (List ℕ)) → IsPosted records run → IsPosted None run
 posted_of_any records posted = record { values = tt; endings = posted.endings }
 
-pub begins_of_any : {text : List ℕ} {layout : Layout Steps} {start : PartsState} (records : Option (List ℕ)) → Begins text records layout start → Begins text None layout start
+pub begins_of_any : {text : List ℕ} {layout : Layout Steps} {start : NetState} (records : Option (List ℕ)) → Begins text records layout start → Begins text None layout start
 begins_of_any records begins = record { planned = begins.planned; fresh = begins.fresh; posted = posted_of_any records begins.posted }
 
 -- a report of known records that were written somehow is one of any

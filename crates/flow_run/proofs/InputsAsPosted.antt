@@ -1,5 +1,5 @@
 -- What the records post is what the inputs of a network are given.
-use Rattle.std.proofs.Common.{◌≡◌, ℕ, ◌+◌, Bool, true, false, cond, List, [], ◌∷◌, ◌++◌, length, map, replicate, IfSome, Option, None, Some, ◌⊎◌, ◌≢◌, take, rules, count_by, Result, Ok, refl, ap, sym, subst, inl, inr, ◌∙◌, arith}
+use Rattle.std.proofs.Common.{◌≡◌, ℕ, ◌+◌, Bool, true, false, cond, List, [], ◌∷◌, ◌++◌, length, map, replicate, IfSome, Option, count_by, Result, Ok, Err, refl, ap, sym, subst, inl, inr, ◌∙◌, arith}
 use Rattle.std.proofs.lemmas.List.{length-map, length-replicate}
 use Rattle.std.proofs.lemmas.List.Sums.{sum_by-cons}
 use Rattle.flow_value.specs.Function.{meaning_of}
@@ -10,10 +10,10 @@ use Rattle.flow_link.specs.declared.trace.Ending.TheVariants.{Complete}
 use Rattle.flow_link.specs.Layout.{Layout}
 use Rattle.flow_link.specs.Trace.{InputTrace}
 use Rattle.flow_link.specs.declared.trace.Ending.{Ending}
-use Rattle.flow_net.specs.Fresh.{IsFresh}
-use Rattle.flow_net.specs.Made.{input_of}
-use Rattle.flow_net.specs.Parts.{PartsState}
-use Rattle.flow_net.specs.Seen.{works_of, run_with, trace_of_parts}
+use Rattle.flow_core.specs.State.{NetState}
+use Rattle.flow_moves.specs.Works.{works_of}
+use Rattle.flow_net.specs.Net.{run_with}
+use Rattle.flow_net.specs.Posted.{input_of}
 use Rattle.flow_net.specs.Settles.{Settles, GoesOn}
 use Rattle.flow_net.specs.declared.fault.NetFault.{NetFault}
 use Rattle.flow_net.specs.declared.fault.NetFault.TheVariants as net_fault
@@ -22,7 +22,7 @@ use Rattle.flow_net.specs.declared.posted.Settled.{Settled}
 use Rattle.flow_text.specs.declared.fault.TextFault.TheVariants.{Write}
 use Rattle.flow_text.specs.declared.fault.TextRefusal.{TextRefusal}
 use Rattle.flow_text.specs.declared.fault.TextRefusal.TheVariants.{Fault, Memory}
-use Rattle.flow_text.specs.Plan.{IsPlannedAs, IsUnplannedFor}
+use Rattle.flow_text.specs.Plan.{IsUnplannedFor}
 use Rattle.flow_text.specs.Written.{StaysInFront}
 use Rattle.flow_run.specs.Left.{IsLeft}
 use Rattle.flow_run.specs.Ran.{Begins, IsPosted, HasUnreadRecords, UsesUpIds, HasUnwrittenReport, IsUnbegun, IsUnreported}
@@ -53,11 +53,11 @@ given_endings [] = refl
 given_endings (input ∷ posted) = ap (λ (endings : List Ending). input.ending ∷ endings) (given_endings posted)
 
 -- the inputs of a network are given what was posted to those of its plan
-pub posts_to_inputs : (records : Option (List ℕ)) (layout : Layout Steps) (start : PartsState) (posted : List Posted) → (trace_of_parts start).inputs ≡ map input_of posted
+pub posts_to_inputs : (records : Option (List ℕ)) (layout : Layout Steps) (start : NetState) (posted : List Posted) → (run_with meaning_of layout start).trace.inputs ≡ map input_of posted
     → IfSome records (λ bytes. PostAll (input_names layout.blocks) bytes (posted_values posted))
     → posted_endings posted ≡ replicate (length (input_names layout.blocks)) Complete → IsPosted records (run_with meaning_of layout start)
 posts_to_inputs records layout start posted made values endings =
-    let given : map (λ (input : InputTrace). input.posted) (trace_of_parts start).inputs ≡ posted_values posted =
+    let given : map (λ (input : InputTrace). input.posted) (run_with meaning_of layout start).trace.inputs ≡ posted_values posted =
     ap (map (λ (input : InputTrace). input.posted)) made ∙ given_values posted in
     record {
       values = subst (λ (v : List (List Value)). IfSome records (λ bytes. PostAll (input_names layout.blocks) bytes v)) (sym given) values;
@@ -65,7 +65,7 @@ posts_to_inputs records layout start posted made values endings =
     }
 
 -- as long as no input changes, they are given the same
-pub posted_as : (records : Option (List ℕ)) (layout : Layout Steps) (start now : PartsState) → (trace_of_parts now).inputs ≡ (trace_of_parts start).inputs
+pub posted_as : (records : Option (List ℕ)) (layout : Layout Steps) (start now : NetState) → (run_with meaning_of layout now).trace.inputs ≡ (run_with meaning_of layout start).trace.inputs
     → IsPosted records (run_with meaning_of layout start) → IsPosted records (run_with meaning_of layout now)
 posted_as records layout start now same posted = record {
   values = subst (λ (inputs : List InputTrace). IfSome records (λ bytes. PostAll (input_names layout.blocks) bytes (map (λ (input : InputTrace). input.posted) inputs))) (sym same) posted.values;
@@ -73,7 +73,7 @@ posted_as records layout start now same posted = record {
 }
 
 -- a network keeps its plan
-pub begins_as : {now layout : Layout Steps} {start : PartsState} {text : List ℕ} {records : Option (List ℕ)} → now ≡ layout
+pub begins_as : {now layout : Layout Steps} {start : NetState} {text : List ℕ} {records : Option (List ℕ)} → now ≡ layout
     → Begins text records layout start → Begins text records now start
 begins_as {start = start} {text = text} {records = records} same begins = subst (λ (l : Layout Steps). Begins text records l start) (sym same) begins
 
@@ -81,12 +81,16 @@ begins_as {start = start} {text = text} {records = records} same begins = subst 
 abbrev pub answered : Settled → Result Settled NetFault
 answered settled = Ok settled
 
-pub settles_as : {now layout : Layout Steps} {limit : ℕ} {old new : PartsState} {how : Settled} → now ≡ layout
+-- and one that was
+abbrev pub failing : NetFault → Result Settled NetFault
+failing fault = Err fault
+
+pub settles_as : {now layout : Layout Steps} {limit : ℕ} {old new : NetState} {how : Settled} → now ≡ layout
     → Settles layout (works_of meaning_of layout) limit old new how → Settles now (works_of meaning_of now) limit old new how
 settles_as {limit = limit} {old = old} {new = new} {how = how} same settles =
     subst (λ (l : Layout Steps). Settles l (works_of meaning_of l) limit old new how) (sym same) settles
 
-pub goes_on_as : {now layout : Layout Steps} {limit : ℕ} {old new : PartsState} → now ≡ layout
+pub goes_on_as : {now layout : Layout Steps} {limit : ℕ} {old new : NetState} → now ≡ layout
     → GoesOn layout (works_of meaning_of layout) limit old new → GoesOn now (works_of meaning_of now) limit old new
 goes_on_as {limit = limit} {old = old} {new = new} same goes_on =
     subst (λ (l : Layout Steps). GoesOn l (works_of meaning_of l) limit old new) (sym same) goes_on

@@ -8,9 +8,9 @@ use Rattle.flow_link.specs.Quiet.{Quiet as IsQuiet}
 use Rattle.flow_link.specs.Layout.{Layout}
 use Rattle.flow_link.specs.Trace.{Run}
 use Rattle.flow_link.specs.declared.trace.Ending.TheVariants.{Complete}
-use Rattle.flow_net.specs.Fresh.{IsFresh}
-use Rattle.flow_net.specs.Parts.{PartsState}
-use Rattle.flow_net.specs.Seen.{run_with, works_of}
+use Rattle.flow_core.specs.State.{NetState, fresh_net}
+use Rattle.flow_moves.specs.Works.{works_of}
+use Rattle.flow_net.specs.Net.{run_with}
 use Rattle.flow_net.specs.Settles.{Settles, GoesOn}
 use Rattle.flow_net.specs.There.{NeedsId}
 use Rattle.flow_text.specs.Complete.{is_complete}
@@ -33,17 +33,17 @@ pub record IsPosted {W : Type 0} (records : Option (List ℕ)) (run : Run W) : T
   pub endings : map (λ input. input.ending) run.trace.inputs ≡ replicate (length (input_names run.layout.blocks)) Complete
 
 -- the network of the text, in which nothing has happened, given what the records post
-pub record Begins (text : List ℕ) (records : Option (List ℕ)) (layout : Layout Steps) (start : PartsState) : Type 0 where
+pub record Begins (text : List ℕ) (records : Option (List ℕ)) (layout : Layout Steps) (start : NetState) : Type 0 where
   -- the network is the plan of the text
   pub planned : IsPlannedAs text layout
-  pub fresh : IsFresh layout start
+  pub fresh : start ≡ fresh_net layout (run_with meaning_of layout start).trace.inputs
   pub posted : IsPosted records (run_with meaning_of layout start)
 
 -- of the network's text, of the records, of the limit of events, of what was written, and of what the run came to
 pub record IsReported (text : List ℕ) (records : Option (List ℕ)) (limit : ℕ) (Written : List ℕ → Type 0) (ran : Ran) : Type 0 where
   pub layout : Layout Steps
-  pub start : PartsState
-  pub now : PartsState
+  pub start : NetState
+  pub now : NetState
   -- nothing had happened, and it went on until nothing could happen any more, or the limit was reached
   pub begins : Begins text records layout start
   pub settles : Settles layout (works_of meaning_of layout) limit start now ran.settled
@@ -73,18 +73,18 @@ IsUnbegun text records Memory = Unit {0}
 -- the network went on to where a message is offered next whose id would be too great
 pub record UsesUpIds (text : List ℕ) (records : Option (List ℕ)) (limit : ℕ) : Type 0 where
   pub layout : Layout Steps
-  pub start : PartsState
-  pub now : PartsState
+  pub start : NetState
+  pub now : NetState
   pub begins : Begins text records layout start
   pub goes_on : GoesOn layout (works_of meaning_of layout) limit start now
-  pub used_up : NeedsId layout now
+  pub used_up : NeedsId layout (works_of meaning_of layout) now
 
 -- the network settled, and then the writer failed
 pub record HasUnwrittenReport (text : List ℕ) (records : Option (List ℕ)) (limit : ℕ) (fault : TextFault) : Type 0 where
   pub is_write : fault ≡ Write
   pub layout : Layout Steps
-  pub start : PartsState
-  pub now : PartsState
+  pub start : NetState
+  pub now : NetState
   pub settled : Settled
   pub begins : Begins text records layout start
   pub settles : Settles layout (works_of meaning_of layout) limit start now settled

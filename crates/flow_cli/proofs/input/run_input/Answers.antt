@@ -1,4 +1,4 @@
-use Rattle.flow_cli.proofs.ReportBehindCut.{ok_carries, err_carries, reported_in, refused_in, untouched}
+use Rattle.flow_cli.proofs.ReportBehindCut.{ok_carries, err_carries, reported_in, refused_in}
 use Rattle.flow_cli.proofs.input.run_input.Goals as goal
 
 pub returns-clause-reported : goal.returns-clause-reported

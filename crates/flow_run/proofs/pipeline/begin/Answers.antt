@@ -1,13 +1,12 @@
-use Rattle.std.proofs.Common.{◌≡◌, ◌∙◌, ap, length, subst, sym}
+use Rattle.std.proofs.Common.{◌∙◌, ap, length, map, sym}
 use Rattle.std.proofs.lemmas.Result.{err_from_is_err_and}
 use Rattle.flow_value.specs.declared.steps.Steps.{Steps}
 use Rattle.flow_link.specs.Layout.{Layout}
 use Rattle.flow_link.specs.Planned.{layout_of}
-use Rattle.flow_net.specs.Fresh.{IsFresh}
+use Rattle.flow_core.specs.State.{fresh_net}
 use Rattle.flow_net.specs.Net.{parts_of}
-use Rattle.flow_text.specs.Plan.{IsPlannedAs}
-use Rattle.flow_text.specs.Records.{input_names, posted_values, posted_endings}
-use Rattle.flow_run.specs.Ran.{Begins}
+use Rattle.flow_net.specs.Posted.{input_of}
+use Rattle.flow_text.specs.Records.{input_names}
 use Rattle.flow_run.proofs.InputsAsPosted.{names_count, as_many, posts_to_inputs, begins_as, no_plan, no_records}
 use Rattle.flow_run.proofs.pipeline.begin.Goals as goal
 
@@ -23,7 +22,9 @@ returns-in-Ok-clause-begins g c =
     begins_as c.in-Ok.ensures.planned
     (record {
       planned = c.in_ok-plan.ensures.planned;
-      fresh = subst (λ (l : Layout Steps). IsFresh l (parts_of net)) c.in-Ok.ensures.planned c.in-Ok.ensures.fresh;
+      fresh = c.in-Ok.ensures.fresh
+          ∙ ap (λ (l : Layout Steps). fresh_net l (map input_of c.in_ok-posted.posted.items)) c.in-Ok.ensures.planned
+          ∙ ap (fresh_net plan) (sym c.in-Ok.ensures.made);
       posted = posts_to_inputs (g.R.Read.remaining c.args.reader) plan (parts_of net) c.in_ok-posted.posted.items c.in-Ok.ensures.made
           c.in_ok-posted.ensures.values c.in_ok-posted.ensures.endings;
     })

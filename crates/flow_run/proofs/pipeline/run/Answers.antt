@@ -1,7 +1,7 @@
 use Rattle.std.proofs.Common.{ap, refl}
 use Rattle.std.proofs.lemmas.Result.{err_from_is_err_and}
 use Rattle.flow_net.specs.Net.{layout_in, parts_of}
-use Rattle.flow_run.proofs.InputsAsPosted.{answered, begins_as, posted_as, settles_as, goes_on_as, no_network, no_end, no_report, untouched}
+use Rattle.flow_run.proofs.InputsAsPosted.{answered, failing, begins_as, posted_as, settles_as, goes_on_as, no_end, no_report}
 use Rattle.flow_run.proofs.pipeline.run.Goals as goal
 
 pub returns-clause-reported : goal.returns-clause-reported
@@ -21,6 +21,21 @@ returns-clause-reported g c =
       quiet = λ is_quiet. c.in-Ok.ensures.quiet (ap answered is_quiet);
       complete = c.is_complete-complete.ensures;
     }
+
+pub returns-in-Err-clause-refused : goal.returns-in-Err-clause-refused
+returns-in-Err-clause-refused g c =
+    let net = c.settle.new.self in
+    let same_plan = c.in-Err.ensures.same_plan in
+    no_end c.args.text.now (g.R.Read.remaining c.args.reader) c.args.limit c.in-Err.fault c.refusal_of_net.result
+    c.refusal_of_net.ensures
+    (λ is_ids. record {
+      layout = layout_in net;
+      start = parts_of c.in_ok-net.net;
+      now = parts_of net;
+      begins = begins_as same_plan c.in_ok-net.ensures.begins;
+      goes_on = goes_on_as same_plan c.in-Err.ensures.goes_on;
+      used_up = c.in-Err.ensures.used_up (ap failing is_ids);
+    })
 
 pub returns-in_err-write_report-clause-refused : goal.returns-in_err-write_report-clause-refused
 returns-in_err-write_report-clause-refused g c =
