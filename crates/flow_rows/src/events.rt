@@ -136,7 +136,7 @@ fn post_to(
 }
 
 /// These values and their ending for each input of a plan.
-fn posted_for(
+pub(crate) fn post_all(
     alloc: Global,
     plan: &Plan<Steps>,
     words: &str,
@@ -156,7 +156,7 @@ fn posted_for(
 fn network(alloc: Global, drawn: &str, words: &str, ending: Ending) -> Result<Net<Steps>, Fail> {
     let text = chain(alloc, drawn)?;
     let plan = read_plan(alloc, text.as_slice())?;
-    let posted = posted_for(alloc, &plan, words, ending)?;
+    let posted = post_all(alloc, &plan, words, ending)?;
     match Net::new(alloc, plan, posted) {
         Ok(net) => Ok(net),
         Err(_) => Err(Fail::new("out of memory")),
@@ -165,7 +165,7 @@ fn network(alloc: Global, drawn: &str, words: &str, ending: Ending) -> Result<Ne
 
 /// Something that may be asked of a network: a move of a link, or a step of a block.
 #[derive(Clone, Copy)]
-enum Asked {
+pub(crate) enum Asked {
     Link(usize, Move),
     Make(usize),
     Complete(usize, u32),
@@ -231,6 +231,7 @@ fn moves(alloc: Global) -> Result<Vec<Move>, Fail> {
         Move::End(LinkEnd::Complete),
         Move::End(LinkEnd::Fault(1)),
         Move::End(LinkEnd::Fault(5)),
+        Move::End(LinkEnd::Fault(7)),
         Move::TurnDown,
         Move::Postpone,
         Move::Consume,
@@ -243,7 +244,7 @@ fn moves(alloc: Global) -> Result<Vec<Move>, Fail> {
         Move::Post(header(1)?),
     ];
     let mut moves = plain.to_vec(alloc)?;
-    for id in 1..5 {
+    for id in 1..22 {
         moves.push(Move::Offer(header(id)?))?;
     }
     Ok(moves)
@@ -272,13 +273,7 @@ fn shuffled(alloc: Global, plan: &Plan<Steps>, chance: &mut Chance) -> Result<Ve
         }
     }
     for number in 0..plan.block_count() {
-        let steps = [
-            Asked::Make(number),
-            Asked::Complete(number, 0),
-            Asked::Fault(number),
-            Asked::Done(number),
-        ];
-        put(&mut choices, &steps, chance)?;
+        put(&mut choices, &steps_of(number), chance)?;
     }
     Ok(choices)
 }
@@ -295,7 +290,12 @@ fn do_one(rt: &impl Abort, alloc: Global, net: &mut Net<Steps>, choices: &[Asked
 
 /// Does events until none may happen, and tells whether the network is quiet then, and was not before. With an even
 /// seed the first in an order of chance is done each time, with an odd one the search begins anywhere in that order.
-fn wander(rt: &impl Abort, alloc: Global, net: &mut Net<Steps>, seed: u64) -> Result<bool, Fail> {
+pub(crate) fn wander(
+    rt: &impl Abort,
+    alloc: Global,
+    net: &mut Net<Steps>,
+    seed: u64,
+) -> Result<bool, Fail> {
     let mut chance = Chance { state: seed };
     let choices = shuffled(alloc, net.plan(), &mut chance)?;
     let always_first = seed % 2 == 0;
@@ -315,13 +315,82 @@ fn wander(rt: &impl Abort, alloc: Global, net: &mut Net<Steps>, seed: u64) -> Re
     Ok(false)
 }
 
+/// All that may be asked of a network, in the order of its links and blocks: links first or blocks first, and then it
+/// may be turned round.
+pub(crate) fn in_order(
+    alloc: Global,
+    plan: &Plan<Steps>,
+    links_first: bool,
+    backwards: bool,
+) -> Result<Vec<Asked>, Fail> {
+    let mut links = link_choices(alloc, plan)?;
+    let mut blocks = block_choices(alloc, plan)?;
+    if links_first {
+        links.append(&mut blocks)?;
+    } else {
+        blocks.append(&mut links)?;
+    }
+    let mut choices = if links_first { links } else { blocks };
+    if backwards {
+        choices.reverse();
+    }
+    Ok(choices)
+}
+
+fn link_choices(alloc: Global, plan: &Plan<Steps>) -> Result<Vec<Asked>, Fail> {
+    let moves = moves(alloc)?;
+    let mut choices = Vec::new(alloc);
+    for id in 0..plan.link_count() {
+        for step in &moves {
+            choices.push(Asked::Link(id, *step))?;
+        }
+    }
+    Ok(choices)
+}
+
+fn block_choices(alloc: Global, plan: &Plan<Steps>) -> Result<Vec<Asked>, Fail> {
+    let mut choices = Vec::new(alloc);
+    for number in 0..plan.block_count() {
+        choices.extend_from_slice(&steps_of(number))?;
+    }
+    Ok(choices)
+}
+
+fn steps_of(number: usize) -> [Asked; 4] {
+    [
+        Asked::Make(number),
+        Asked::Complete(number, 0),
+        Asked::Fault(number),
+        Asked::Done(number),
+    ]
+}
+
+/// Does the first of these that may happen, again and again, and tells whether the network is quiet when none may.
+pub(crate) fn do_first(
+    rt: &impl Abort,
+    alloc: Global,
+    net: &mut Net<Steps>,
+    choices: &[Asked],
+) -> bool {
+    for _ in 0..ENOUGH {
+        if !do_one(rt, alloc, net, choices) {
+            return net.is_quiet();
+        }
+    }
+    false
+}
+
 /// Does events until none may happen, and tells whether the network is quiet then.
-fn settles(alloc: Global, net: &mut Net<Steps>) -> bool {
+pub(crate) fn settles(alloc: Global, net: &mut Net<Steps>) -> bool {
     net.settle(alloc, ENOUGH) == Ok(Settled::Quiet) && net.is_quiet()
 }
 
 /// Which of these lists of lines stands in the report of a network that is quiet.
-fn came_to(alloc: Global, net: &Net<Steps>, lists: &[&str]) -> Result<Option<usize>, TextRefusal> {
+pub(crate) fn came_to(
+    alloc: Global,
+    net: &Net<Steps>,
+    lists: &[&str],
+) -> Result<Option<usize>, TextRefusal> {
     let mut report = Vec::new(alloc);
     write_report(net, Settled::Quiet, &mut report)?;
     for (place, lines) in lists.iter().enumerate() {
@@ -477,12 +546,7 @@ fn a_network_shows_its_parts(rt: HostRuntime) -> Result<(), Fail> {
     assert!(rt; settles(alloc, &mut net));
     assert!(rt; net.plan().block_count() == 3);
     assert!(rt; net.state(0) == State::Done && net.state(1) == State::Faulted(1));
-    assert!(rt;
-        matches!(
-            net.journal(0),
-            [Mark::Took(0, 2, _), .., Mark::Complete(0), Mark::Done]
-        )
-    );
+    assert!(rt; matches!(net.journal(0), [Mark::Took(0, 2, _), .., Mark::Done]));
     assert!(rt; net.posted(0).len() == 2 && net.posted(1).is_empty());
     assert!(rt; net.held(1, 0).len() == 1);
     assert!(rt; net.left(1).len() + net.record(2).len() == 1);

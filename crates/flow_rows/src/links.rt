@@ -30,9 +30,9 @@ const WRONG: &[(&str, Options, PlanFault)] = &[
         PlanFault::BadOption(Place::Block(0)),
     ),
     (
-        "a predicate on no numbers",
-        (None, None, Some(When::Even)),
-        PlanFault::BadOption(Place::Link(0)),
+        "too much room",
+        (None, Some(2_147_483_648), None),
+        PlanFault::BadOption(Place::Block(0)),
     ),
 ];
 

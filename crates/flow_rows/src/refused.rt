@@ -38,7 +38,6 @@ const TEXTS: &str = r#"
 2 UnknownKey top | block = [] ; Format = 1
 2 UnknownKey top | block = [] ; "" = 1
 2 UnknownKey block 0 | block = [{name = "a", kind = "buffer", capasity = 1}]
-2 UnknownKey block 0 | block = [{capacity = -1}]
 2 UnknownKey block 0 | block = [{lanes = 1}]
 2 UnknownKey block 0 | block = [{size = 1}]
 2 UnknownKey block 0 | block = [{ports = 1}]
@@ -46,8 +45,6 @@ const TEXTS: &str = r#"
 2 UnknownKey block 0 | block = [{output = true}]
 2 UnknownKey block 2 | block = [{}, {}, {strange = 1}, {strange = 1}]
 2 UnknownKey link 0 | block = [] ; link = [{port = 0}]
-2 UnknownKey link 0 | block = [] ; link = [{when = "evn"}]
-2 UnknownKey link 0 | block = [] ; link = [{max = 1}]
 2 UnknownKey link 1 | block = [] ; link = [{}, {strange = 1}]
 # Keys that are required.
 3 MissingKey top | # nothing else
@@ -84,6 +81,19 @@ const TEXTS: &str = r#"
 4 WrongType link 0 | block = [] ; link = [{from = "a", to = 0}]
 4 WrongType link 0 | block = [] ; link = [{from = "a", to = "b", propagate = "true"}]
 4 WrongType link 1 | block = [] ; link = [{from = "a", to = "b"}, {from = "a", to = "b", propagate = 1}]
+4 WrongType block 0 | block = [{name = "a", kind = "buffer", capacity = "1"}]
+4 WrongType block 0 | block = [{name = "a", kind = "buffer", capacity = 1.0}]
+4 WrongType block 0 | block = [{name = "a", kind = "buffer", capacity = -1}]
+4 WrongType block 0 | block = [{name = "a", kind = "buffer", capacity = 4294967296}]
+4 WrongType link 0 | block = [] ; link = [{from = "a", to = "b", when = 2}]
+4 WrongType link 0 | block = [] ; link = [{from = "a", to = "b", when = ["even"]}]
+4 WrongType link 0 | block = [] ; link = [{from = "a", to = "b", max = true}]
+4 WrongType link 0 | block = [] ; link = [{from = "a", to = "b", max = -1}]
+4 WrongType link 0 | block = [] ; link = [{from = "a", to = "b", max = 4294967296}]
+# Predicates that there are not.
+6 BadWhen link 0 | block = [] ; link = [{from = "a", to = "b", when = "evn"}]
+6 BadWhen link 0 | block = [] ; link = [{from = "a", to = "b", when = ""}]
+6 BadWhen link 1 | link = [{from = "a", to = "b", when = "eq -0"}, {from = "a", to = "b", when = "lt"}] ; block = []
 # Blocks that are in no plan.
 8 Plan 2 DuplicateName block 1 | block = [{name = "a", kind = "buffer"}, {name = "a", kind = "buffer"}]
 8 Plan 6 BadOption block 0 | block = [{name = "a", kind = "action"}]
@@ -92,6 +102,12 @@ const TEXTS: &str = r#"
 8 Plan 6 BadOption block 1 | block = [{name = "a", kind = "buffer"}, {name = "", kind = "buffer"}]
 8 Plan 6 BadOption block 0 | block = [{name = "a b", kind = "buffer"}]
 8 Plan 6 BadOption block 0 | block = [{name = "\u00e9", kind = "buffer"}]
+8 Plan 6 BadOption block 0 | block = [{name = "a", kind = "buffer", capacity = 0}]
+8 Plan 6 BadOption block 0 | block = [{name = "a", kind = "buffer", capacity = 2147483648}]
+8 Plan 6 BadOption block 0 | block = [{name = "a", kind = "buffer", capacity = 4294967295}]
+# Links that are in no plan.
+8 Plan 6 BadOption link 0 | block = [{name = "a", kind = "buffer"}] ; link = [{from = "a", to = "a", max = 0}]
+8 Plan 6 BadOption link 0 | block = [{name = "a", kind = "buffer"}] ; link = [{from = "a", to = "a", max = 2147483648}]
 # With two faults the first in order counts.
 # An unknown key comes before one that is missing, wherever they stand.
 2 UnknownKey link 0 | block = [{}] ; link = [{strange = 1}]
@@ -100,10 +116,23 @@ const TEXTS: &str = r#"
 3 MissingKey link 0 | block = [{name = 1, kind = "buffer"}] ; link = [{from = "a"}]
 3 MissingKey block 1 | block = [{name = "a", kind = "no"}, {}]
 3 MissingKey top | link = 3
+3 MissingKey block 0 | block = [{capacity = -1}]
+3 MissingKey link 0 | block = [] ; link = [{when = 2}]
+3 MissingKey link 0 | block = [] ; link = [{max = -1}]
 # A wrong type comes before a function that is none.
 4 WrongType link 0 | block = [{name = "a", kind = "action", work = ["no"]}] ; link = [{from = 1, to = "a"}]
 4 WrongType block 1 | block = [{name = "a", kind = "action", work = ["no"]}, {name = "a", kind = "no"}]
 4 WrongType block 0 | block = [{name = "a", kind = "action", work = ["no", 1]}]
+# A wrong type comes before a predicate that is none.
+4 WrongType link 1 | block = [] ; link = [{from = "a", to = "b", when = "no"}, {from = "a", to = "b", max = -1}]
+# A function that is none comes before a predicate that is none.
+5 BadWork block 0 | block = [{name = "a", kind = "action", work = [""]}] ; link = [{from = "a", to = "b", when = "no"}]
+# A predicate that is none comes before what is wrong with the plan.
+6 BadWhen link 0 | block = [{name = "a", kind = "action"}] ; link = [{from = "a", to = "b", when = "no"}]
+# What is read as it should be, in networks that are in no plan for another cause.
+8 Plan 2 DuplicateName block 1 | block = [{name = "a", kind = "buffer", capacity = 1}, {name = "a", kind = "buffer"}]
+8 Plan 3 UnknownBlock link 0 | block = [] ; link = [{from = "a", to = "b", when = "any"}]
+8 Plan 3 UnknownBlock link 0 | block = [] ; link = [{from = "a", to = "b", max = 4294967295}]
 # A function that is none comes before what is wrong with the plan, and is looked at where its kind has none too.
 5 BadWork block 1 | block = [{name = "a", kind = "buffer"}, {name = "a", kind = "buffer", work = ["no"]}]
 5 BadWork block 0 | block = [{name = "a", kind = "action", work = ["no"]}, {name = "b", kind = "action", work = ["no"]}]
@@ -156,17 +185,13 @@ const LINKS: &str = "
 8 Plan 3 UnknownBlock link 0 | no>b
 8 Plan 3 UnknownBlock link 1 | a>b b>oot
 8 Plan 5 NoOutput link 1 | a>b out>c
-# Links that are not built yet: a second one into a block or out of it. What is posted to an input counts.
-8 Plan 6 BadOption link 1 | a>c b>c
-8 Plan 6 BadOption link 1 | a>b a>c
-8 Plan 6 BadOption link 0 | a>in
 8 Plan 9 Cycle | a>b b>a
 8 Plan 9 Cycle | b>b
 8 Plan 9 Cycle | in>out c>a a>b b>c
 # With two faults the first in order counts.
 8 Plan 3 UnknownBlock link 1 | out>b a>oot
 8 Plan 5 NoOutput link 1 | a>in out>b
-8 Plan 6 BadOption link 2 | a>b b>a c>b
+8 Plan 9 Cycle | a>b b>a c>b
 ";
 
 /// The beginning and the rest of a text that is a network, and its report where nothing is posted.

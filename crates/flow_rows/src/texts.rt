@@ -240,7 +240,6 @@ const FAULTS: &[(TextFault, &str)] = &[
         TextFault::WrongType(TextPlace::Link(1_023)),
         "4 WrongType link 1023",
     ),
-    (TextFault::BadWhen(TextPlace::Link(7)), "6 BadWhen link 7"),
     (
         TextFault::UnknownInput(u64::MAX),
         "11 UnknownInput record 18446744073709551615",
