@@ -13,8 +13,8 @@ pub fn fresh_blocks_are_in_order<W>()
     ensures { FreshInOrder W }
 {}
 
-/// Each call that may be made keeps a block in order: buffers, actions and transforms, with any links, predicates, limits
-/// and capacities.
+/// Each call that may be made keeps a block in order: buffers, actions and transforms, with any links, predicates,
+/// limits and capacities.
 pub fn calls_keep_blocks_in_order<W>()
     ensures { NodesKept W }
 {}
@@ -24,9 +24,9 @@ pub fn next_moves_may_be_made<W>()
     ensures { NextMovesMay W }
 {}
 
-/// A block refuses only where its port has ended or its own function has faulted, puts off only what it could not take at
-/// once, takes only what fits beside what is on its way, faults only when nothing is under way and its own work is done,
-/// and does not stop offering while a link is free.
+/// A block refuses only where its port has ended or its own function has faulted, puts off only what it could not take
+/// at once, takes only what fits beside what is on its way, faults only when nothing is under way and its own work is
+/// done, and does not stop offering while a link is free.
 pub fn next_moves_have_causes<W>()
     ensures { NextMovesHaveCauses W }
 {}
