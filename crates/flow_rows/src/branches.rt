@@ -56,7 +56,9 @@ const CASES: &[Case] = &[
         TWENTY,
         Ending::Complete,
         &[
-            r#"block in done ; block b done ; block c done ; block out done ; record ["1","2","3","4","5","6","7","8","9","10","11","12","13","14","15","16","17","18","19","20"]"#,
+            "block in done ; block b done ; block c done ; block out done ; record [\"1\",\"2\",\"3\",\"4\",\
+             \"5\",\"6\",\"7\",\"8\",\"9\",\"10\",\"11\",\"12\",\
+             \"13\",\"14\",\"15\",\"16\",\"17\",\"18\",\"19\",\"20\"]",
         ],
     ),
     (
@@ -401,20 +403,26 @@ fn records_of(alloc: Global, words: &str) -> Result<Vec<u8>, AllocError> {
     Ok(records)
 }
 
+/// Whether a case that is run as a text comes to one of its lists of lines.
+fn runs_as_text(rt: &impl Abort, alloc: Global, case: &Case) -> Result<bool, Fail> {
+    let text = text_of(alloc, case)?;
+    let records = records_of(alloc, case.3)?;
+    let told = told_by(rt, alloc, text.as_slice(), records.as_slice(), ENOUGH)?;
+    for lines in case.5 {
+        if has_lines(told.text.as_slice(), lines) {
+            return Ok(true);
+        }
+    }
+    Ok(false)
+}
+
 #[test]
 fn texts_of_them_run(rt: HostRuntime) -> Result<(), Fail> {
+    check(&rt, SHARED.0, runs_as_text(&rt, rt.alloc(), &SHARED)?);
     for case in CASES {
-        if case.4 != Ending::Complete {
-            continue;
+        if case.4 == Ending::Complete {
+            check(&rt, case.0, runs_as_text(&rt, rt.alloc(), case)?);
         }
-        let text = text_of(rt.alloc(), case)?;
-        let records = records_of(rt.alloc(), case.3)?;
-        let told = told_by(&rt, rt.alloc(), text.as_slice(), records.as_slice(), ENOUGH)?;
-        let mut is_due = false;
-        for lines in case.5 {
-            is_due = is_due || has_lines(told.text.as_slice(), lines);
-        }
-        check(&rt, case.0, is_due);
     }
     Ok(())
 }
