@@ -19,7 +19,7 @@ use Rattle.flow_moves.specs.Ready.{IsThere, IsReady}
 use Rattle.flow_moves.specs.Ways.{source_next, target_next, moved_along}
 
 -- a block would do nothing by itself
-pub record HasNoStep (block : BlockState) : Type 0 where
+pub record HasNothingToDo (block : BlockState) : Type 0 where
   pub make : may_make block ≡ false
   pub complete : (p : ℕ) → p < length block.ports → may_complete p block ≡ false
   pub fault : next_fault block ≡ None
@@ -40,7 +40,7 @@ module _ {W : Type 0} (layout : Layout W) (net : NetState) where
 
   pub record NothingNext : Type 0 where
     pub links : (l : ℕ) → l < length layout.links → LinkIsIdle l
-    pub blocks : (b : ℕ) → b < length layout.blocks → HasNoStep (node_at net b).block
+    pub blocks : (b : ℕ) → b < length layout.blocks → HasNothingToDo (node_at net b).block
 
 -- a block is of a kind that is built, as the plan has it, and has one port
 pub record IsPlanned {W : Type 0} (layout : Layout W) (b : ℕ) (block : BlockState) : Type 0 where

@@ -8,8 +8,8 @@
 mod ends;
 mod fresh;
 mod laws;
+mod own;
 mod parts;
-mod steps;
 
 pub use fresh::{lines_of, nodes_of};
 pub use laws::{

@@ -262,8 +262,8 @@ impl Parts {
         }
     }
 
-    /// The target's end of a link makes its move, which leads to this phase, and takes what lies in the slot if it opens
-    /// it.
+    /// The target's end of a link makes its move, which leads to this phase, and takes what lies in the slot if it
+    /// opens it.
     fn move_target(
         &mut self,
         id: usize,

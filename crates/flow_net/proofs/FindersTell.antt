@@ -21,7 +21,7 @@ use Rattle.flow_core.specs.Events.{NetEvent, LinkMay, MayHappen, is_of_source}
 use Rattle.flow_core.specs.Keeps.{NetKeeps}
 use Rattle.flow_core.specs.State.{NetState}
 use Rattle.flow_moves.specs.Ready.{IsThere, SourceIsThere, TargetIsThere}
-use Rattle.flow_moves.specs.Statements.{IsPlanned, HasNoStep, source_would, target_would}
+use Rattle.flow_moves.specs.Statements.{IsPlanned, HasNothingToDo, source_would, target_would}
 use Rattle.flow_moves.specs.Ways.{lacks_id, source_next, target_next}
 use Rattle.flow_moves.specs.Works.{works_of}
 use Rattle.flow_moves.proofs.PlansRun.{plan_runs}
@@ -129,10 +129,10 @@ module _ {W : Type 0} (works : W → Value → Result (List Value) WorkFault) (p
 -- A block
 
 -- it has one port, so it would do nothing by itself where it would do none of these
-pub no_step : {W : Type 0} (layout : Layout W) (b : ℕ) (block : BlockState) → IsPlanned layout b block
+pub nothing_to_do : {W : Type 0} (layout : Layout W) (b : ℕ) (block : BlockState) → IsPlanned layout b block
     → may_make block ≡ false → may_complete 0 block ≡ false → next_fault block ≡ None → may_finish block ≡ false
-    → HasNoStep block
-no_step layout b block planned make complete fault finish = record {
+    → HasNothingToDo block
+nothing_to_do layout b block planned make complete fault finish = record {
   make = make;
   complete = λ p low.
       let first : 0 ≡ p = omega (arith, low, planned.alone) in

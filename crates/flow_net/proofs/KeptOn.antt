@@ -20,7 +20,7 @@ use Rattle.flow_moves.proofs.MerelyKept.{kept_after, lawful_merely, quiet_merely
 use Rattle.flow_moves.proofs.PlansRun.{plan_runs}
 use Rattle.flow_net.specs.Net.{run_with}
 use Rattle.flow_net.specs.Settles.{Settles}
-use Rattle.flow_net.specs.Steps.{Happened}
+use Rattle.flow_net.specs.Happened.{Happened}
 use Rattle.flow_net.specs.declared.fault.NetFault.{NetFault}
 use Rattle.flow_net.specs.declared.posted.Settled.{Settled}
 use Rattle.flow_net.specs.declared.posted.Settled.TheVariants.{Quiet}

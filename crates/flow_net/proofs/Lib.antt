@@ -1,7 +1,7 @@
+pub mod EventsCount
 pub mod EventsDone
 pub mod FindersTell
 pub mod IdsLeft
 pub mod KeptOn
 pub mod NetTells
-pub mod StepsTaken
 pub mod WorksNumbered

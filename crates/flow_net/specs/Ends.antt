@@ -1,4 +1,4 @@
--- Which events are steps of a block, and by which of them it comes to its end.
+-- Which events a block does by itself, and by which of them it comes to its end.
 use Rattle.flow_net.specs.declared.event.Event.{Event}
 use Rattle.flow_net.specs.declared.event.Event.TheVariants.{Link, Complete, Fault, Done, Job}
 
@@ -9,8 +9,8 @@ IsEnd (Fault b) = Unit {0}
 IsEnd (Done b) = Unit {0}
 IsEnd _ = ⊥
 
--- a block's own step
-abbrev pub IsStep : {W : Type 0} → Event W → Type 0
-IsStep (Link l next) = ⊥
-IsStep (Job works none) = ⊥
-IsStep _ = Unit {0}
+-- a block does it by itself
+abbrev pub IsOwn : {W : Type 0} → Event W → Type 0
+IsOwn (Link l next) = ⊥
+IsOwn (Job works none) = ⊥
+IsOwn _ = Unit {0}

@@ -1,10 +1,10 @@
 pub mod Ends
 pub mod Events
+pub mod Happened
 pub mod Net
 pub mod Numbers
 pub mod Posted
 pub mod Settles
 pub mod States
-pub mod Steps
 pub mod There
 pub mod Told

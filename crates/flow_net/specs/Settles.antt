@@ -4,7 +4,7 @@ use Rattle.flow_value.specs.declared.value.Value.{Value}
 use Rattle.flow_link.specs.Layout.{Layout}
 use Rattle.flow_core.specs.State.{NetState}
 use Rattle.flow_core.specs.Statements.{IsStill}
-use Rattle.flow_net.specs.Steps.{Happened}
+use Rattle.flow_net.specs.Happened.{Happened}
 use Rattle.flow_net.specs.declared.posted.Settled.{Settled}
 use Rattle.flow_net.specs.declared.posted.Settled.TheVariants.{Quiet, Stopped}
 

@@ -100,7 +100,7 @@ impl<W: Work> Engine<W> {
     }
 
     /// Does an event that is due.
-    fn step(&mut self, alloc: Global, event: &Event<W>) -> Result<(), NetFault>
+    fn carry_out(&mut self, alloc: Global, event: &Event<W>) -> Result<(), NetFault>
         requires kept { ∥ NetKeeps (layout_of self.old.plan) (works_of W.meaning (layout_of self.old.plan))
             self.old.parts ∥₁ }
         requires due { IsDue (layout_of self.old.plan) (works_of W.meaning (layout_of self.old.plan)) self.old.parts
@@ -139,7 +139,7 @@ impl<W: Work> Engine<W> {
             (works_of W.meaning (layout_of self.old.plan)) (net_event event.now) self.old.parts → ⊥ }
         ensures never { result ≢ Err NotEnabled }
     {
-        self.step(alloc, event)?;
+        self.carry_out(alloc, event)?;
         self.agenda.list_after(&self.parts, &self.routes, event);
         Ok(())
     }

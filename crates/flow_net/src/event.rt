@@ -1,4 +1,4 @@
-//! What can happen next in a network: a move of a link, or a step of a block.
+//! What can happen next in a network: a move of a link, or what a block does by itself.
 use flow_link::Move;
 use std::convert::Infallible;
 use std::marker::PhantomData;

@@ -8,10 +8,10 @@ ghost use Rattle.flow_core.specs.Events.{Enabled, MayHappen, NetEvent};
 ghost use Rattle.flow_core.specs.Keeps.{NetKeeps};
 ghost use Rattle.flow_core.specs.State.{node_at};
 ghost use Rattle.flow_core.specs.Statements.{IsStill};
-ghost use Rattle.flow_moves.specs.Statements.{HasNoStep, LinkIsIdle};
+ghost use Rattle.flow_moves.specs.Statements.{HasNothingToDo, LinkIsIdle};
 ghost use Rattle.flow_moves.specs.Ways.{input_in};
 ghost use Rattle.flow_moves.specs.Works.{works_of};
-ghost use Rattle.flow_net.specs.Ends.{IsStep};
+ghost use Rattle.flow_net.specs.Ends.{IsOwn};
 ghost use Rattle.flow_net.specs.Events.{net_event};
 ghost use Rattle.flow_net.specs.There.{IsDue, LinkHasId, NeedsId};
 ghost use Rattle.flow_net.specs.declared.fault.NetFault.TheVariants.{Ids};
@@ -80,11 +80,11 @@ impl<W: Work> Engine<W> {
         Ok(self.parts.next_of_source(route) == Some(next))
     }
 
-    /// Whether a block would make this step.
-    fn is_step(&self, event: &Event<W>) -> bool
+    /// Whether a block would do this by itself.
+    fn is_own(&self, event: &Event<W>) -> bool
         requires kept { ∥ NetKeeps (layout_of self.now.plan) (works_of W.meaning (layout_of self.now.plan))
             self.now.parts ∥₁ }
-        requires step { IsStep event.now }
+        requires own { IsOwn event.now }
         ensures { IsTrue result ↔ Enabled (layout_of self.now.plan) self.now.parts (net_event event.now) }
     {
         let count = self.plan.block_count();
@@ -133,7 +133,7 @@ impl<W: Work> Engine<W> {
                 }
             }
             Event::Job(_, none) => match none {},
-            _ => Ok(self.is_step(event)),
+            _ => Ok(self.is_own(event)),
         }
     }
 
@@ -162,14 +162,14 @@ impl<W: Work> Engine<W> {
         }
     }
 
-    /// The step that a block would make next by itself.
+    /// What a block would do next by itself.
     fn event_at_block(&self, number: usize) -> Option<Event<W>>
         requires known { number < length (layout_of self.now.plan).blocks }
         requires kept { ∥ NetKeeps (layout_of self.now.plan) (works_of W.meaning (layout_of self.now.plan))
             self.now.parts ∥₁ }
         ensures due { IfSome result (λ event. IsDue (layout_of self.now.plan)
             (works_of W.meaning (layout_of self.now.plan)) self.now.parts (net_event event)) }
-        ensures none { IfNone result (HasNoStep (node_at self.now.parts number).block) }
+        ensures none { IfNone result (HasNothingToDo (node_at self.now.parts number).block) }
     {
         let block = self.parts.node(number).block();
         if block.may_make() {
@@ -250,14 +250,14 @@ impl<W: Work> Engine<W> {
         Ok(None)
     }
 
-    /// The first step that a block would make.
+    /// The first event that a block would do by itself.
     fn event_at_blocks(&self) -> Option<Event<W>>
         requires kept { ∥ NetKeeps (layout_of self.now.plan) (works_of W.meaning (layout_of self.now.plan))
             self.now.parts ∥₁ }
         ensures due { IfSome result (λ event. IsDue (layout_of self.now.plan)
             (works_of W.meaning (layout_of self.now.plan)) self.now.parts (net_event event)) }
         ensures none { IfNone result ((b : ℕ) → b < length (layout_of self.now.plan).blocks →
-            HasNoStep (node_at self.now.parts b).block) }
+            HasNothingToDo (node_at self.now.parts b).block) }
     {
         for number in 0..self.plan.block_count() {
             if let Some(event) = self.event_at_block(number) {

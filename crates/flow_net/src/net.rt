@@ -25,7 +25,8 @@ pub struct Net<W: Work> {
 }
 
 impl<W: Work> Net<W> {
-    ghost use Rattle.std.specs.Prelude.{◌≢◌, IsTrue, IfOk, IfErr, OnOk, OnErr, ◌↔◌, ◌<◌, Ok, Err, true, false, [], length};
+    ghost use Rattle.std.specs.Prelude.{◌≢◌, IsTrue, IfOk, IfErr, OnOk, OnErr, ◌↔◌, ◌<◌, Ok, Err};
+    ghost use Rattle.std.specs.Prelude.{true, false, [], length};
     ghost use Rattle.flow_link.specs.Lawful.{Lawful};
     ghost use Rattle.flow_link.specs.Quiet.{Quiet};
     ghost use Rattle.flow_link.specs.Trace.{block_of, input_of, marks_of, held_at, left_at, trace_of};

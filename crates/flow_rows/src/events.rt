@@ -163,7 +163,7 @@ fn network(alloc: Global, drawn: &str, words: &str, ending: Ending) -> Result<Ne
     }
 }
 
-/// Something that may be asked of a network: a move of a link, or a step of a block.
+/// Something that may be asked of a network: a move of a link, or what a block does by itself.
 #[derive(Clone, Copy)]
 pub(crate) enum Asked {
     Link(usize, Move),

@@ -1,7 +1,7 @@
 use Rattle.flow_link.specs.Planned.{layout_of}
 use Rattle.flow_moves.specs.Works.{works_of}
 use Rattle.flow_net.specs.Events.{net_event}
-use Rattle.flow_net.proofs.StepsTaken.{one_event_at_most}
+use Rattle.flow_net.proofs.EventsCount.{one_event_at_most}
 use Rattle.flow_net.proofs.engine.Engine.event.Goals as goal
 
 pub returns-then-branch-clause-goes_on : goal.returns-then-branch-clause-goes_on

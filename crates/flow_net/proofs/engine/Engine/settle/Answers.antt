@@ -1,5 +1,5 @@
 use Rattle.flow_net.specs.Events.{net_event}
-use Rattle.flow_net.proofs.StepsTaken.{one_round_more}
+use Rattle.flow_net.proofs.EventsCount.{one_round_more}
 use Rattle.flow_net.proofs.engine.Engine.settle.Goals as goal
 
 pub loop-preserved : goal.loop-preserved

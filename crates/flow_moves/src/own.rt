@@ -1,5 +1,6 @@
 //! What a block does by itself.
-ghost use Rattle.std.specs.Prelude.{◌≡◌, ◌≢◌, ℕ, ◌<◌, true, false, List, length, Result, Ok, Err, option_map, OnOk, OnErr, IfOk};
+ghost use Rattle.std.specs.Prelude.{◌≡◌, ◌≢◌, ℕ, ◌<◌, true, false, List, length, Result, Ok, Err, option_map};
+ghost use Rattle.std.specs.Prelude.{OnOk, OnErr, IfOk};
 ghost use Rattle.flow_value.specs.declared.value.Value.{Value};
 ghost use Rattle.flow_link.specs.declared.draft.BlockKind.TheVariants.{Buffer};
 ghost use Rattle.flow_link.specs.Making.{result_of};
@@ -36,7 +37,8 @@ impl Parts {
         requires alone { length (node_at self.old block).block.ports ≡ 1 }
         requires waits { may_make (node_at self.old block).block ≡ true }
         requires built { is_built (node_at self.old block).block.kind ≡ true }
-        ensures done { OnOk result (self.new ≡ with_node block (after (results_by (option_map (λ work. work.now) work.entry)
+        ensures done { OnOk result (self.new ≡ with_node block
+            (after (results_by (option_map (λ work. work.now) work.entry)
             (node_at self.old block).block.kind W.meaning) NodeCall.make) self.old) }
         ensures ids { OnOk result (lacks_ids (put_next (results_by (option_map (λ work. work.now) work.entry)
             (node_at self.old block).block.kind W.meaning) (node_at self.old block).block)
@@ -155,7 +157,8 @@ fn results_of<W: Work>(
     work: Option<&W>,
     value: &Value,
 ) -> Result<Result<Vec<Value>, u32>, AllocError>
-    ensures { IfOk result (λ answer. IsAnswer answer (worked_by W.meaning (option_map (λ work. work.now) work.entry) value.now)) }
+    ensures { IfOk result (λ answer. IsAnswer answer
+        (worked_by W.meaning (option_map (λ work. work.now) work.entry) value.now)) }
 {
     let Some(work) = work else {
         let mut results = Vec::with_capacity(alloc, 1)?;

@@ -12,7 +12,7 @@ use Rattle.flow_moves.specs.Works.{works_of}
 use Rattle.flow_moves.proofs.MerelyKept.{kept_after}
 use Rattle.flow_moves.proofs.PlansRun.{plan_runs}
 use Rattle.flow_net.specs.Settles.{GoesOn}
-use Rattle.flow_net.specs.Steps.{Happened}
+use Rattle.flow_net.specs.Happened.{Happened}
 
 module _ {W : Type 0} (layout : Layout W) (meaning : ℕ → Value → Result (List Value) ℕ) where
   pub one_more_event : (count : ℕ) (start old new : NetState) (event : NetEvent)
