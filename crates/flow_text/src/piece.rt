@@ -9,8 +9,31 @@ use std::io::{Error, ErrorKind, Write};
 /// Writes all of the bytes, again where a write was interrupted.
 ///
 /// A writer may do anything in `write_all`. Here it is asked for one `write` after another, each of which adds to what
-/// it holds.
+/// it holds. Most writers take all of the bytes at once.
+#[inline]
 pub fn write_bytes<W: Write>(writer: &mut W, bytes: &[u8]) -> io::Result<()>
+    ensures written { OnOk result (Appends (W.contents writer.old) (W.contents writer.new) bytes.now) }
+    ensures kept { StaysInFront (W.contents writer.old) (W.contents writer.new) }
+{
+    match writer.write(bytes) {
+        Ok(count) => {
+            if count == bytes.len() {
+                return Ok(());
+            }
+            write_rest(writer, &bytes[count..])
+        }
+        Err(error) => {
+            if error.kind() != ErrorKind::Interrupted {
+                return Err(error);
+            }
+            write_rest(writer, bytes)
+        }
+    }
+}
+
+// Writes what the first write left.
+#[cold]
+fn write_rest<W: Write>(writer: &mut W, bytes: &[u8]) -> io::Result<()>
     ensures written { OnOk result (Appends (W.contents writer.old) (W.contents writer.new) bytes.now) }
     ensures kept { StaysInFront (W.contents writer.old) (W.contents writer.new) }
 {

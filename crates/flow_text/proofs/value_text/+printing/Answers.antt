@@ -6,16 +6,16 @@ use Rattle.flow_value.specs.declared.value.Value.TheVariants.{Row}
 use Rattle.flow_text.proofs.PrintedGrows.{weight, weight-at, row-count, row-item, items-more}
 use Rattle.flow_text.proofs.value_text.+printing.Goals as goal
 
-pub write_item-write_values-requires : goal.write_item-write_values-requires
-write_item-write_values-requires g t c κs within =
+pub write_parts-write_values-requires : goal.write_parts-write_values-requires
+write_parts-write_values-requires g t c κs within =
     let inside : value_count (items_from c.items.result.now) ≡ value_count c.in-Row.row = ap (λ vs. value_count (items_from vs)) c.items.ensures ∙ row-count c.in-Row.row in
     let whole : weight c.args.value.now ≡ weight (Row c.in-Row.row) = ap weight c.in-Row.is in
     (omega (arith, inside, whole), within)
 
-pub write_item-returns-in_ok-write_comma-in-Row-clause-written : goal.write_item-returns-in_ok-write_comma-in-Row-clause-written
-write_item-returns-in_ok-write_comma-in-Row-clause-written g t c =
+pub write_parts-returns-in-Row-clause-written : goal.write_parts-returns-in-Row-clause-written
+write_parts-returns-in-Row-clause-written g t c =
     on_ok_weaker c.write_values.result
-    (λ last. row-item _ _ _ c.args.is_first c.args.value.now c.in-Row.row c.items.result.now c.in-Row.is c.items.ensures c.in_ok-write_comma-in-Row.ensures.written last)
+    (λ last. row-item _ _ _ c.args.is_first c.args.value.now c.in-Row.row c.items.result.now c.in-Row.is c.items.ensures c.in_ok-write_comma.ensures.written last)
     c.write_values.ensures.written
 
 pub write_values-write_item-requires : goal.write_values-write_item-requires

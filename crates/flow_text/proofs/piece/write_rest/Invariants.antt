@@ -1,6 +1,6 @@
 use Rattle.flow_text.specs.Written.{StaysInFront}
 use Rattle.flow_text.proofs.WritesAddUp.{WroteUpTo}
-use Rattle.flow_text.proofs.piece.write_bytes.Given as goal
+use Rattle.flow_text.proofs.piece.write_rest.Given as goal
 
 abbrev pub invariant-writes : goal.invariant-writes
 invariant-writes g l = record {

@@ -1,6 +1,6 @@
 use Rattle.flow_text.proofs.WritesAddUp.{front-of-appends, front-of-keeps, wrote-none, wrote-more, wrote-same}
-use Rattle.flow_text.proofs.piece.write_bytes.Goals as goal
-use Rattle.flow_text.proofs.piece.write_bytes.Goals.{in-Ok, in-Err+else-ne}
+use Rattle.flow_text.proofs.piece.write_rest.Goals as goal
+use Rattle.flow_text.proofs.piece.write_rest.Goals.{in-Ok, in-Err+else-ne}
 
 pub writes-init : goal.writes-init
 writes-init g c = record { wrote = wrote-none (g.W.Write.contents c.args.writer.now) c.args.bytes.now; kept = λ front begins. begins }
