@@ -7,6 +7,7 @@ pub mod NothingLost
 pub mod OffersInOrder
 pub mod OneEndChanges
 pub mod OutletFits
+pub mod SendsOver
 pub mod StagesTell
 pub mod TestsTell
 pub mod WeightsInTime

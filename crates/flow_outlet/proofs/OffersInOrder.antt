@@ -76,7 +76,7 @@ is_none_is (Some k) e = cc
 place_of_head : OutletState → ℕ
 place_of_head o = place_in o.next (head_of o) o.ends
 
-named_is : (o : OutletState) (k : ℕ) → may_offer o ≡ Some k → IsNextOffer o k
+pub named_is : (o : OutletState) (k : ℕ) → may_offer o ≡ Some k → IsNextOffer o k
 named_is o k e =
     let place = place_in o.next (head_of o) o.ends in
     let all = chosen (is_empty o.left) (is_some o.offer) (ltb place (length o.ends)) (is_free (stage_at o place)) place k e in

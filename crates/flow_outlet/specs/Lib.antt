@@ -9,3 +9,4 @@ pub mod Law
 pub mod Moves
 pub mod Order
 pub mod Outlet
+pub mod Sends

@@ -1,5 +1,5 @@
 //! The source's ends of links.
-ghost use Rattle.std.specs.Prelude.{◌≡◌, ◌+◌, ◌≤◌, ◌<◌, ◌==◌, length, drop, map, position};
+ghost use Rattle.std.specs.Prelude.{◌≡◌, ◌+◌, ◌≤◌, ◌<◌, ◌==◌, ◌||◌, length, drop, map, position};
 ghost use Rattle.flow_outlet.specs.declared.ends.OutEnd.{OutEnd};
 ghost use Rattle.std.specs.Option.{option_copied};
 ghost use Rattle.flow_outlet.specs.End.{is_cut, is_passed, id_of, speaks_of, is_free, is_over};
@@ -9,6 +9,7 @@ ghost use Rattle.flow_outlet.specs.ByLink.{answer_stage, answer_declined, place_
 ghost use Rattle.flow_outlet.specs.ByLink.{is_offered, is_taken, has_room};
 ghost use Rattle.flow_outlet.specs.Outlet.{given_end, end_of};
 ghost use Rattle.flow_outlet.specs.End.{fresh_end, place_in, cursor_after};
+ghost use Rattle.flow_outlet.specs.Sends.{sent_end};
 
 use flow_link::{LinkEnd, LinkId, Outcome, SourceStage};
 use flow_value::{MessageHeader, MessageStatus, Value, When};
@@ -60,6 +61,7 @@ impl OutEnd {
     }
 
     /// Whether it gave as many messages as the plan lets cross.
+    #[inline]
     pub fn is_cut(&self) -> bool
         ensures { result ≡ is_cut self.now }
     {
@@ -115,6 +117,7 @@ impl OutEnd {
     }
 
     /// Whether nothing is under way over it, and something may be offered.
+    #[inline]
     pub fn is_free(&self) -> bool
         ensures { result ≡ is_free self.now.stage }
     {
@@ -129,6 +132,7 @@ impl OutEnd {
     }
 
     /// Whether an offer is out over it: not answered yet, or accepted and not given yet.
+    #[inline]
     pub fn is_out(&self) -> bool
         ensures { result ≡ is_out self.now.stage }
     {
@@ -136,6 +140,7 @@ impl OutEnd {
     }
 
     /// Whether an offer over it was postponed, as far as the source has seen.
+    #[inline]
     pub fn is_waiting(&self) -> bool
         ensures { result ≡ is_waiting self.now.stage }
     {
@@ -143,6 +148,7 @@ impl OutEnd {
     }
 
     /// Whether something is under way over it, or waits there.
+    #[inline]
     pub fn is_away(&self) -> bool
         ensures { result ≡ is_away self.now.stage }
     {
@@ -202,6 +208,19 @@ impl OutEnd {
         }
     }
 
+    /// Notes that the message with this id went over it, to a target that took it at once.
+    #[inline]
+    pub(crate) fn note_sent(&mut self, id: u64)
+        requires { HasRoom self.old.rule.max self.old.given }
+        ensures { self.new ≡ sent_end id self.old }
+    {
+        if self.rule.max.is_some() {
+            self.given += 1;
+        }
+        self.last = id;
+        self.stage = SourceStage::Free;
+    }
+
     /// The stage after the target answered the offer of this message, and what is then not offered again.
     pub(crate) fn answered(
         &self,
@@ -235,15 +254,32 @@ impl OutEnd {
         }
     }
 
+    // whether a message goes past it by its stage alone
+    #[inline]
+    fn stage_passes(&self, next: u64) -> bool
+        ensures { result ≡ (is_over self.now.stage || speaks_of next self.now.stage) }
+    {
+        match self.stage {
+            SourceStage::Free | SourceStage::Crossing => false,
+            SourceStage::Refused | SourceStage::Ended(_) => true,
+            SourceStage::Posted(header)
+            | SourceStage::Out(header)
+            | SourceStage::Waiting(header)
+            | SourceStage::Accepted(header)
+            | SourceStage::Wished(header)
+            | SourceStage::AskedBy(header)
+            | SourceStage::Reserved(header)
+            | SourceStage::Claimed(header) => header.id() == next,
+        }
+    }
+
     /// Whether a message goes past it: no message is offered over it any more, this one was offered over it before, or
     /// its predicate turns this one away.
+    #[inline]
     pub fn is_passed(&self, next: u64, head: Option<&Value>) -> bool
         ensures { result ≡ is_passed next (option_copied head.entry) self.now }
     {
-        if self.is_over() || self.is_cut() {
-            return true;
-        }
-        if self.speaks_of(next) || self.declined == next {
+        if self.stage_passes(next) || self.declined == next || self.is_cut() {
             return true;
         }
         match head {
@@ -254,6 +290,7 @@ impl OutEnd {
 }
 
 /// The first place, from one on, that the message does not go past.
+#[inline]
 pub(crate) fn first_from(ends: &[OutEnd], from: usize, next: u64, head: Option<&Value>) -> usize
     requires { from ≤ length ends.now }
     ensures { result ≡ from + place_in next (option_copied head.entry) (drop from ends.now) }

@@ -3,7 +3,8 @@
 //! An [`Outlet`] offers the oldest of its messages, the head, over one link after another in their order, and gives it
 //! once. It has two kinds of call. A driver, which has the other ends too, names the place of an end: it asks what the
 //! end does next, prepares an offer, makes the move, and looks at the phase of the link. A caller in the place of the
-//! targets names a link, and tells what its target answered or takes.
+//! targets names a link, and tells what its target answered or takes. Where a target takes the head at once, one call
+//! sends it: the offer, the gift and the looks in one.
 //!
 //! stage of an end     its next move
 //! free                it offers the head in its turn, or ends

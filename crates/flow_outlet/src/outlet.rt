@@ -1,7 +1,7 @@
 //! What a block has to give, and its ends of the links that lead out of it.
 ghost use Rattle.std.specs.Prelude.{◌≡◌, ◌<◌, ◌≤◌, ◌+◌, ◌-◌, ◌^◌, ◌++◌, ◌∷◌, ◌==◌, ◌↔◌, length, true, is_some};
 ghost use Rattle.std.specs.Prelude.{Some, None, Err, IfOk, IfErr, OnOk, OnErr, MatchResult, cond, drop, map, []};
-ghost use Rattle.std.specs.Option.{option_copied};
+ghost use Rattle.std.specs.Option.{option_copied, ForSome};
 ghost use Rattle.std.specs.VecDeque.{deque_len, deque_capacity};
 ghost use Rattle.flow_link.specs.LinkOk.{HasRoom};
 ghost use Rattle.flow_outlet.specs.ByLink.{offer_named, offers_next, IsAsked, answered, MayConsume, consumed};
@@ -12,6 +12,7 @@ ghost use Rattle.flow_outlet.specs.Outlet.{changes, recounted, first_of, is_empt
 ghost use Rattle.flow_outlet.specs.Outlet.{groups_with, groups_after, weight_at, may_offer, prepares, offers, looks};
 ghost use Rattle.flow_outlet.specs.Outlet.{gives, may_give, is_wish, denies, withdraws, ends_link, out_move, free_move};
 ghost use Rattle.flow_outlet.specs.Outlet.{answers_wish, end_at, stage_at, is_at_rest, only_waits};
+ghost use Rattle.flow_outlet.specs.Sends.{sends};
 ghost use Rattle.flow_outlet.specs.declared.fault.OutletFault.TheVariants.{Ids, Memory};
 
 use crate::ends::{LinkRule, OutEnd, cursor_after, first_from, forget_waiting, place_of};
@@ -332,9 +333,7 @@ impl Outlet {
         ensures same { result.1 ≡ result.0 }
         ensures given { self.new ≡ gives place self.old }
     {
-        let (Some(value), Some(parcel)) = (self.left.pop_front(), self.parcel.take()) else {
-            unreachable!()
-        };
+        let head = taken(&mut self.left, &mut self.parcel);
         let before = self.ends[place];
         self.ends[place] = before.gave(self.next);
         self.away = recounted(self.away, before.is_away(), true);
@@ -343,7 +342,25 @@ impl Outlet {
         self.next += 1;
         self.offer = None;
         self.cursor = first_from(&self.ends, 0, self.next, front(&self.left));
-        (value, parcel)
+        head
+    }
+
+    /// Sends the head over the link at the place where it may be offered, to a target that takes it at once: the
+    /// message for the block's own account, and its parcel.
+    pub fn send(&mut self, place: usize) -> (Value, Parcel)
+        requires may { may_offer self.old ≡ Some place }
+        requires ready { is_some self.old.parcel ≡ true }
+        requires room { HasRoom (end_at self.old place).rule.max (end_at self.old place).given }
+        ensures oldest { self.old.left ≡ result.0 ∷ self.new.left }
+        ensures same { result.1 ≡ result.0 }
+        ensures sent { self.new ≡ sends place self.old }
+    {
+        let head = taken(&mut self.left, &mut self.parcel);
+        self.ends[place].note_sent(self.next);
+        self.room += end_group(&mut self.groups, self.next);
+        self.next += 1;
+        self.cursor = first_from(&self.ends, 0, self.next, front(&self.left));
+        head
     }
 
     /// Denies the wish for a message over the link at a place.
@@ -518,6 +535,22 @@ impl Outlet {
     }
 }
 
+// the head, and its parcel
+#[inline]
+fn taken(left: &mut VecDeque<Value>, parcel: &mut Option<Parcel>) -> (Value, Parcel)
+    requires ready { is_some parcel.old ≡ true }
+    requires made { ForSome parcel.old (λ value. first_of left.old.items ≡ Some value) }
+    ensures oldest { left.old.items ≡ result.0 ∷ left.new.items }
+    ensures same { result.1 ≡ result.0 }
+    ensures none { parcel.new ≡ None }
+{
+    let (Some(value), Some(parcel)) = (left.pop_front(), parcel.take()) else {
+        unreachable!()
+    };
+    (value, parcel)
+}
+
+#[inline]
 fn front(left: &VecDeque<Value>) -> Option<&Value>
     ensures { option_copied result ≡ first_of left.now.items }
 {
@@ -622,6 +655,7 @@ fn add_group(groups: &mut VecDeque<Group>, start: u64, count: usize, weight: u32
 }
 
 // drops the group that the message ends, and tells its weight
+#[inline]
 fn end_group(groups: &mut VecDeque<Group>, id: u64) -> u32
     ensures rest { groups.new.items ≡ groups_after id groups.old.items }
     ensures weight { result ≡ weight_at id groups.old.items }

@@ -1,4 +1,4 @@
-use Rattle.std.proofs.Common.{◌≡◌, ◌<◌, ◌∷◌, length, subst, sym, arith}
+use Rattle.std.proofs.Common.{◌<◌, length, subst, sym, arith}
 use Rattle.flow_outlet.specs.Outlet.{OutletState}
 use Rattle.flow_outlet.proofs.OutletFits.{away_counted, away_below, waiting_below, fits_given, weight_stays}
 use Rattle.flow_outlet.proofs.outlet.Outlet.give.Goals as goal
@@ -27,8 +27,6 @@ overflow_add-self c =
 pub invariant_of-self : goal.invariant_of-self
 invariant_of-self c =
     let here = subst (λ (o : OutletState). c.args.place < length o.ends) (sym c.self.view_is) c.requires.there in
-    let all : c.self.inside.left.items ≡ c.in-Some-Some.value ∷ c.pop_front.new.self.items =
-    rw c.in-Some-Some.is-0 at c.pop_front.ensures.items in
     rw (
       c.first_from-self-inside.ensures,
       c.front.ensures,
@@ -39,7 +37,7 @@ invariant_of-self c =
       c.is_waiting.ensures,
       c.end_group.ensures.rest,
       c.end_group.ensures.weight,
-      c.take.ensures.after,
+      c.taken-head.ensures.none,
       c.gave.ensures,
     )
-    (fits_given c.self.invariant c.args.place here _ c.index.ensures c.in-Some-Some.value c.pop_front.new.self.items all)
+    (fits_given c.self.invariant c.args.place here _ c.index.ensures _ _ c.taken-head.ensures.oldest)
