@@ -11,7 +11,7 @@ use Rattle.flow_intake.specs.ByLink.{place_of, with_link_at, with_link}
 use Rattle.flow_intake.proofs.CountsOfEnds.{count_added}
 
 -- what is accepted found room, and nobody waiting
-accepted_where : (refusing : Option Refusal) (reserves free may_postpone : Bool)
+pub accepted_where : (refusing : Option Refusal) (reserves free may_postpone : Bool)
     → answer_where refusing reserves free (cond may_postpone Postponed Declined) ≡ Accepted → free ≡ true
 accepted_where (Some _) reserves free may_postpone is = absurd (cc)
 accepted_where None true free true is = absurd (cc)

@@ -7,3 +7,4 @@ pub mod EndsInOrder
 pub mod EntriesStand
 pub mod ProfileHolds
 pub mod QueueOrder
+pub mod ReceivesAtOnce

@@ -7,3 +7,4 @@ pub mod PortKeeps
 pub mod PortLaw
 pub mod Profile
 pub mod Queue
+pub mod Receives

@@ -4,6 +4,7 @@ ghost use Rattle.flow_intake.specs.Port.{fresh_end, is_hand, is_coming as coming
 ghost use Rattle.flow_intake.specs.Port.{is_owed as owed_at};
 ghost use Rattle.flow_intake.specs.Ended.{is_completion as completion_at, fault_seen as fault_at};
 ghost use Rattle.flow_intake.specs.Ended.{has_seen_fault as seen_fault_at};
+ghost use Rattle.flow_intake.specs.ByLink.{is_free as free_at};
 ghost use Rattle.flow_link.specs.declared.stage.TargetStage.TheVariants.{Free, Hand};
 
 use flow_link::{LinkEnd, LinkId, TargetStage};
@@ -113,6 +114,15 @@ impl InEnd {
         ensures { result ≡ self.now.stage }
     {
         self.stage
+    }
+
+    /// Whether nothing is under way over the link. Then it has nothing in hand.
+    #[inline]
+    pub(crate) fn is_free(&self) -> bool
+        ensures free { result ≡ free_at self.now.stage }
+        ensures hand { result ≡ true → self.now.hand ≡ None }
+    {
+        matches!(self.stage, TargetStage::Free)
     }
 
     /// It stands elsewhere from now on, with what it has in hand, if it has.

@@ -3,7 +3,7 @@ ghost use Rattle.std.specs.Prelude.{◌≡◌, ◌<◌, ◌≤◌, ◌+◌, ◌^
 ghost use Rattle.std.specs.Prelude.{◌==◌, cond, OnOk, OnErr, IfSome};
 ghost use Rattle.flow_intake.specs.Port.{fresh_end, stage_in, link_in, hand_in, is_hand, is_coming, is_owed, count_at};
 ghost use Rattle.flow_intake.specs.Ended.{is_completion, has_seen_fault, has_seen_completion, fault_at_ends};
-ghost use Rattle.flow_intake.specs.ByLink.{place_of};
+ghost use Rattle.flow_intake.specs.ByLink.{place_of, is_free};
 ghost use Rattle.flow_intake.specs.Calls.{put_stage, put_hand};
 ghost use Rattle.flow_link.specs.declared.stage.TargetStage.TheVariants.{Free, Hand};
 
@@ -61,6 +61,7 @@ impl Ends {
     }
 
     /// How many messages come.
+    #[inline]
     pub(crate) fn coming(&self) -> usize
         ensures count { result ≡ count_at is_coming self.now }
     {
@@ -110,6 +111,16 @@ impl Ends {
         ensures { result ≡ stage_in place self.now }
     {
         self.ends[place].stage()
+    }
+
+    /// Whether nothing is under way over the link at this place. Then its end has nothing in hand.
+    #[inline]
+    pub(crate) fn is_free(&self, place: usize) -> bool
+        requires { place < length self.now }
+        ensures free { result ≡ is_free (stage_in place self.now) }
+        ensures hand { result ≡ true → hand_in place self.now ≡ None }
+    {
+        self.ends[place].is_free()
     }
 
     /// The link of the end at this place.

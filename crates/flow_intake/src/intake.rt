@@ -3,7 +3,7 @@
 //! A move that takes memory has two calls. `prepare_answer` takes it, and may be refused; what follows takes none and
 //! does not fail, from the answer until the message is taken.
 ghost use Rattle.std.specs.Prelude.{◌≡◌, ◌<◌, ◌≤◌, ◌+◌, ◌-◌, true, false, ◌++◌, ◌∷◌, [], ◌^◌, length, OnOk, OnErr};
-ghost use Rattle.std.specs.Prelude.{IfOk, Some, is_some, cond, drop, unwrap_or};
+ghost use Rattle.std.specs.Prelude.{ℕ, IfOk, Some, is_some, cond, drop, unwrap_or};
 ghost use Rattle.flow_intake.specs.Port.{PortState, fresh_end, fresh_port, stage_at, hand_in, is_offer};
 ghost use Rattle.flow_intake.specs.Port.{is_owed, is_hand, is_wanted, coming, has_room, count_at, is_coming};
 ghost use Rattle.flow_intake.specs.Ended.{has_seen_completion, fault_at_ends};
@@ -17,6 +17,7 @@ ghost use Rattle.flow_intake.specs.Calls.{port_fails};
 ghost use Rattle.flow_intake.specs.Calls.{one_more, move_of as moves_of};
 ghost use Rattle.flow_intake.specs.ByLink.{place_of, with_link, place_in, stands_at, is_free_over, answered, arrives};
 ghost use Rattle.flow_intake.specs.ByLink.{drops, next_wish, consumes_next, closes_link};
+ghost use Rattle.flow_intake.specs.Receives.{takes_at_once, receives};
 
 use crate::end::is_queued;
 use crate::ends::Ends;
@@ -183,6 +184,7 @@ impl Intake {
     }
 
     /// Whether there is room for one more message.
+    #[inline]
     pub fn has_room(&self) -> bool
         ensures { result ≡ has_room self.now }
     {
@@ -200,6 +202,7 @@ impl Intake {
     }
 
     /// The answer to an offer.
+    #[inline]
     fn answer_to(&self, may_postpone: bool) -> MessageStatus
         ensures { result ≡ answer_to may_postpone self.now }
     {
@@ -215,6 +218,15 @@ impl Intake {
         } else {
             put_off
         }
+    }
+
+    /// Whether the link at this place is free, and a message that is offered over it would be accepted.
+    #[inline]
+    pub fn takes_at_once(&self, place: usize) -> bool
+        requires { place < length self.now.ends }
+        ensures { result ≡ takes_at_once place self.now }
+    {
+        self.ends.is_free(place) && matches!(self.answer_to(true), MessageStatus::Accepted)
     }
 
     /// The place of the end that consumes next.
@@ -367,6 +379,26 @@ impl Intake {
         let (value, copy) = self.ends.close(place).into_parts();
         self.waiting.push_back_reserved(value);
         self.load = with_one_more(self.capacity, self.load);
+        copy
+    }
+
+    /// Takes a message that comes over the link at this place, and that it accepts at once: this is its parcel. It
+    /// gives a copy for a journal.
+    ///
+    /// This is the whole way of a message over a free link: nothing of it stays at the link's end.
+    #[inline]
+    pub fn receive(&mut self, place: usize, parcel: Parcel) -> Value
+        requires place { place < length self.old.ends }
+        requires takes { takes_at_once place self.old ≡ true }
+        requires ready { self.old.ready ≡ true }
+        ensures value { parcel ≡ result }
+        ensures received { (i : ℕ) → self.new ≡ receives place i result self.old }
+    {
+        prove!(self.ends.is_free(place));
+        let (value, copy) = parcel.into_parts();
+        self.waiting.push_back_reserved(value);
+        self.load = with_one_more(self.capacity, self.load);
+        self.ready = false;
         copy
     }
 
@@ -595,6 +627,7 @@ fn move_of(status: MessageStatus) -> Option<Move>
 }
 
 /// The load when one more message was taken: it counts only where there is a capacity.
+#[inline]
 fn with_one_more(capacity: Option<u32>, load: usize) -> usize
     requires { cond (is_some capacity) load 0 < 2 ^ 63 }
     ensures { result ≡ one_more capacity load }

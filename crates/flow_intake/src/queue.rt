@@ -66,6 +66,7 @@ impl Queue {
     }
 
     /// Whether no place stands in the queue.
+    #[inline]
     pub(crate) fn is_empty(&self) -> bool
         ensures { result ≡ is_empty self.now.places }
     {
