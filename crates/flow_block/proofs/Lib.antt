@@ -22,6 +22,7 @@ pub mod NodesKept
 pub mod NodesRest
 pub mod NodesSeen
 pub mod NothingToDo
+pub mod PassesOfNodes
 pub mod PlacesOfLinks
 pub mod PlacesOfNumbers
 pub mod PlanMade

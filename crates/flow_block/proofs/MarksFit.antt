@@ -22,13 +22,13 @@ due_set (first ∷ ports) zero port l = omega arith
 due_set (first ∷ ports) (suc p) port l = omega (arith, due_set ports p port (omega arith))
 
 -- where one port may take so many more or fewer, so may the block
-due_with : (p more fewer : ℕ) (change : PortState → PortState) (block : BlockState) → p < length block.ports
+pub due_with : (p more fewer : ℕ) (change : PortState → PortState) (block : BlockState) → p < length block.ports
     → port_due (change (port_at p block)) + fewer ≤ port_due (port_at p block) + more
     → marks_due (with_port p change block) + fewer ≤ marks_due block + more
 due_with p more fewer change block l one = omega (arith, due_set block.ports p (change (port_at p block)) l)
 
 -- one end of the port stands elsewhere
-due_moved : (k more fewer : ℕ) (end : EndState) (ready : Bool) (port : PortState) → k < length port.ends
+pub due_moved : (k more fewer : ℕ) (end : EndState) (ready : Bool) (port : PortState) → k < length port.ends
     → cond (is_owed end.stage) 1 0 + cond ready 1 0 + fewer ≤ cond (is_owed (stage_at k port)) 1 0 + cond port.ready 1 0 + more
     → count_at is_owed (set port.ends k end) + cond ready 1 0 + fewer ≤ port_due port + more
 due_moved k more fewer end ready port l one = omega (arith, count_after_set is_owed port.ends k end l)

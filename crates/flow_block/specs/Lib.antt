@@ -11,6 +11,7 @@ pub mod NodeKeeps
 pub mod NodeLaw
 pub mod NodeRests
 pub mod NodeSeen
+pub mod Passes
 pub mod Peeks
 pub mod Planned
 pub mod Routes

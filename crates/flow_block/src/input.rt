@@ -20,11 +20,11 @@ use std::marker::Model;
 pub struct Input {
     posted: Vec<Value>,
     /// How many of them it gave.
-    sent: usize,
+    pub(crate) sent: usize,
     ending: Ending,
     stage: SourceStage,
     /// The parcel of the next one.
-    parcel: Option<Parcel>,
+    pub(crate) parcel: Option<Parcel>,
 }
 
 impl Model for Input {

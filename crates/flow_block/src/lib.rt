@@ -22,6 +22,7 @@ mod laws;
 mod moves;
 mod node;
 mod own;
+mod passes;
 mod peeks;
 mod planned;
 mod ports;

@@ -29,8 +29,8 @@ use std::marker::Model;
 /// A block with its journal. Contracts see a `NodeState`.
 #[derive(Drop)]
 pub struct Node {
-    journal: Vec<Mark>,
-    block: Block,
+    pub(crate) journal: Vec<Mark>,
+    pub(crate) block: Block,
 }
 
 impl Model for Node {

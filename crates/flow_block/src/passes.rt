@@ -1,0 +1,116 @@
+//! A message that goes over a link in one call: the source's side of it, and the target's.
+//!
+//! It comes to what the five moves of the link come to, with the looks at its phases. A caller that has both ends uses
+//! these where the target takes the message at once.
+ghost use Rattle.std.specs.Prelude.{◌≡◌, ℕ, ◌<◌, ◌^◌, ◌∷◌, true, length, is_some, Some};
+ghost use Rattle.flow_link.specs.LinkOk.{HasRoom};
+ghost use Rattle.flow_intake.specs.Receives.{takes_at_once, receives};
+ghost use Rattle.flow_outlet.specs.ByLink.{has_room as has_room_out};
+ghost use Rattle.flow_outlet.specs.End.{is_free};
+ghost use Rattle.flow_outlet.specs.Outlet.{end_at, may_offer, head_of};
+ghost use Rattle.flow_block.specs.Block.{port_at, with_port};
+ghost use Rattle.flow_block.specs.Input.{next_id, next_value};
+ghost use Rattle.flow_block.specs.Passes.{block_sends, sends_ready, receives_on, input_sends};
+
+use crate::block::Block;
+use crate::input::Input;
+use crate::node::Node;
+use crate::ports::give_room;
+use flow_link::Mark;
+use flow_value::{Parcel, Value};
+
+impl Block {
+    /// Whether a port takes at once what is offered over the link at this place, over which nothing is under way.
+    pub fn takes_at_once(&self, port: usize, place: usize) -> bool
+        requires port { port < length self.now.ports }
+        requires place { place < length (port_at port self.now).ends }
+        ensures { result ≡ takes_at_once place (port_at port self.now) }
+    {
+        self.ports[port].takes_at_once(place)
+    }
+
+    /// Whether one more message may cross the link out of it at this place.
+    pub fn may_carry(&self, place: usize) -> bool
+        requires { place < length self.now.exits.ends }
+        ensures { result ≡ has_room_out (end_at self.now.exits place).rule.max (end_at self.now.exits place).given }
+    {
+        self.exits.ends()[place].has_room()
+    }
+
+    /// Sends the head over the link at the place where it may be offered, to a target that takes it at once: the message
+    /// for a journal, and its parcel. Room that comes back with it goes to the ports.
+    pub fn send(&mut self, place: usize) -> (Value, Parcel)
+        requires may { may_offer self.old.exits ≡ Some place }
+        requires ready { is_some self.old.exits.parcel ≡ true }
+        requires room { HasRoom (end_at self.old.exits place).rule.max (end_at self.old.exits place).given }
+        ensures oldest { self.old.exits.left ≡ result.0 ∷ self.new.exits.left }
+        ensures same { result.1 ≡ result.0 }
+        ensures sent { self.new ≡ block_sends place self.old.exits.next self.old }
+    {
+        let sent = self.exits.send(place);
+        let room = self.exits.room_back();
+        give_room(&mut self.ports, room);
+        sent
+    }
+
+    /// Takes a message that comes over the link at this place, and that the port takes at once. This is its parcel; a copy
+    /// of it is for a journal.
+    pub fn receive(&mut self, port: usize, place: usize, parcel: Parcel) -> Value
+        requires port { port < length self.old.ports }
+        requires place { place < length (port_at port self.old).ends }
+        requires takes { takes_at_once place (port_at port self.old) ≡ true }
+        requires ready { (port_at port self.old).ready ≡ true }
+        ensures value { parcel ≡ result }
+        ensures received { (i : ℕ) → self.new ≡ with_port port (receives place i result) self.old }
+    {
+        self.ports[port].receive(place, parcel)
+    }
+}
+
+impl Node {
+    /// Sends the head over the link at the place where it may be offered, to a target that takes it at once, and marks
+    /// that; this is its parcel.
+    pub fn send(&mut self, place: usize) -> Parcel
+        requires may { may_offer self.old.block.exits ≡ Some place }
+        requires ready { is_some self.old.block.exits.parcel ≡ true }
+        requires room { HasRoom (end_at self.old.block.exits place).rule.max (end_at self.old.block.exits place).given }
+        ensures oldest { head_of self.old.block.exits ≡ Some result }
+        ensures sent { self.new ≡ sends_ready place self.old.block.exits.next self.old }
+    {
+        let link = self.block.out_link(place);
+        let (value, parcel) = self.block.send(place);
+        self.journal.push_reserved(Mark::Gave(link, value));
+        parcel
+    }
+
+    /// Takes a message that comes over the link at this place, and that the port takes at once, and marks that. This is
+    /// its parcel.
+    pub fn receive(&mut self, port: u32, place: usize, parcel: Parcel)
+        requires port { port < length self.old.block.ports }
+        requires place { place < length (port_at port self.old.block).ends }
+        requires takes { takes_at_once place (port_at port self.old.block) ≡ true }
+        requires ready { (port_at port self.old.block).ready ≡ true }
+        ensures { (i : ℕ) → self.new ≡ receives_on port place i parcel self.old }
+    {
+        let link = self.block.in_link(port as usize, place);
+        let value = self.block.receive(port as usize, place, parcel);
+        self.journal.push_reserved(Mark::Took(port, link, value));
+    }
+}
+
+impl Input {
+    /// Sends the next value to a target that takes it at once: this is its parcel.
+    pub fn send(&mut self) -> Parcel
+        requires free { is_free self.old.stage ≡ true }
+        requires ready { is_some self.old.parcel ≡ true }
+        requires id { next_id self.old < 2 ^ 59 }
+        ensures value { next_value self.old ≡ Some result }
+        ensures sent { self.new ≡ input_sends (next_id self.old) self.old }
+    {
+        let Some(parcel) = self.parcel.take() else {
+            unreachable!()
+        };
+        self.sent += 1;
+        parcel
+    }
+}
