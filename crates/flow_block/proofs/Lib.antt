@@ -15,6 +15,7 @@ pub mod LoadHolds
 pub mod MakesHold
 pub mod MarksFit
 pub mod MarksHold
+pub mod MovesOut
 pub mod NextMoves
 pub mod NodesAreLawful
 pub mod NodesAreStill

@@ -1,11 +1,20 @@
 -- What a change of one port, or the same change of all, leaves of the ports and of their ends.
-use Rattle.std.proofs.Common.{◌≡◌, ◌≢◌, ℕ, zero, suc, ◌<◌, List, [], ◌∷◌, length, set, map, get_or, None, refl, ap, sym, ◌∙◌, inl, inr, arith}
+use Rattle.std.proofs.Common.{◌≡◌, ◌≢◌, ℕ, zero, suc, ◌-◌, ◌<◌, List, [], ◌∷◌, length, set, map, get_or, None, refl, ap, sym, ◌∙◌, inl, inr, arith}
 use Rattle.std.proofs.lemmas.Bool.{cases_eq}
 use Rattle.std.proofs.lemmas.List.{get_or-map as map_at, length-map, length-set, get_or-set_same, get_or-set_other}
 use Rattle.std.proofs.Math.ListN.{get_or-map}
 use Rattle.std.proofs.Math.Seq.{map-set_same}
 use Rattle.flow_intake.specs.Port.{EndState, PortState, fresh_end, fresh_port, end_in}
+use Rattle.flow_intake.specs.Calls.{gives_room}
 use Rattle.flow_block.specs.Block.{port_in}
+
+-- where no room comes back, all ports stay
+pub no_room_back : (ports : List PortState) → ports ≡ map (gives_room 0) ports
+no_room_back [] = refl
+no_room_back (port ∷ ports) =
+    let same : port.load ≡ port.load - 0 = omega arith in
+    ap (λ (more : List PortState). port ∷ more) (no_room_back ports)
+    ∙ ap (λ (load : ℕ). record port { load = load } ∷ map (gives_room 0) ports) same
 
 -- what one port's change leaves of that port, it leaves of all
 pub kept_at_one : {A : Type 0} (f : PortState → A) (ports : List PortState) (p q : ℕ) (port : PortState)

@@ -37,8 +37,8 @@ impl Block {
         self.exits.ends()[place].has_room()
     }
 
-    /// Sends the head over the link at the place where it may be offered, to a target that takes it at once: the message
-    /// for a journal, and its parcel. Room that comes back with it goes to the ports.
+    /// Sends the head over the link at the place where it may be offered, to a target that takes it at once: the
+    /// message for a journal, and its parcel. Room that comes back with it goes to the ports.
     pub fn send(&mut self, place: usize) -> (Value, Parcel)
         requires may { may_offer self.old.exits ≡ Some place }
         requires ready { is_some self.old.exits.parcel ≡ true }
@@ -53,8 +53,8 @@ impl Block {
         sent
     }
 
-    /// Takes a message that comes over the link at this place, and that the port takes at once. This is its parcel; a copy
-    /// of it is for a journal.
+    /// Takes a message that comes over the link at this place, and that the port takes at once. This is its parcel; a
+    /// copy of it is for a journal.
     pub fn receive(&mut self, port: usize, place: usize, parcel: Parcel) -> Value
         requires port { port < length self.old.ports }
         requires place { place < length (port_at port self.old).ends }

@@ -3,7 +3,8 @@ ghost use Rattle.std.specs.Prelude.{◌≡◌, ◌<◌, ◌==◌, not, length};
 ghost use Rattle.std.specs.List.{list_all};
 ghost use Rattle.flow_intake.specs.Port.{PortState, coming};
 ghost use Rattle.flow_intake.specs.PortLaw.{has_ended};
-ghost use Rattle.flow_outlet.specs.Outlet.{out_move, is_empty};
+ghost use Rattle.flow_outlet.specs.End.{is_waiting};
+ghost use Rattle.flow_outlet.specs.Outlet.{out_move, stage_at, is_empty};
 ghost use Rattle.flow_block.specs.Block.{port_at, port_in};
 ghost use Rattle.flow_block.specs.Peeks.{may_make, may_complete, next_fault, is_held_up, may_finish, could_stop};
 ghost use Rattle.flow_block.specs.Peeks.{fault_cause, fault_at_ports};
@@ -68,11 +69,21 @@ impl Block {
     }
 
     /// What the end of a link out of it would do next.
+    #[tactic(auto, using(crate::proofs::MovesOut::held_up_where_it_waits))]
     pub fn next_out(&self, place: usize) -> Option<Move>
         requires { place < length self.now.exits.ends }
         ensures { result ≡ out_move place self.now.stopped (is_held_up self.now) self.now.exits }
     {
-        self.out_move(place, self.is_held_up())
+        let held_up = self.waits_at(place) && self.is_held_up();
+        self.out_move(place, held_up)
+    }
+
+    /// Whether an offer waits over the link out of it at this place.
+    fn waits_at(&self, place: usize) -> bool
+        requires { place < length self.now.exits.ends }
+        ensures { result ≡ is_waiting (stage_at self.now.exits place) }
+    {
+        self.exits.ends()[place].is_waiting()
     }
 
     /// Whether it has not stopped, and no message is on its way into it.

@@ -67,6 +67,9 @@ pub(crate) fn give_room(ports: &mut Vec<Intake>, room: u32)
     requires { AllGaveOut room ports.old.items }
     ensures { ports.new.items ≡ map (gives_room room) ports.old.items }
 {
+    if room == 0 {
+        return;
+    }
     for place in 0..ports.len() {
         ports[place].give_room(room as usize);
     }
