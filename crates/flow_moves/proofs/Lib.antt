@@ -6,4 +6,6 @@ pub mod MovesPrepared
 pub mod MovesReady
 pub mod NextMovesHappen
 pub mod OneProof
+pub mod PassesPrepared
+pub mod PassesTell
 pub mod PlansRun

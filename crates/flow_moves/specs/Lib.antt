@@ -1,4 +1,6 @@
 pub mod Calls
+pub mod Passed
+pub mod Passes
 pub mod Ready
 pub mod Statements
 pub mod Ways

@@ -10,6 +10,7 @@ mod fresh;
 mod laws;
 mod own;
 mod parts;
+mod pass;
 
 pub use fresh::{lines_of, nodes_of};
 pub use laws::{

@@ -221,7 +221,7 @@ impl Parts {
     }
 
     /// The source of a link moves, which leads to this phase; this is the parcel that it hands over, if it does.
-    fn pass_line(&mut self, id: usize, next: &Move, phase: &Phase, given: Option<Parcel>)
+    pub(crate) fn pass_line(&mut self, id: usize, next: &Move, phase: &Phase, given: Option<Parcel>)
         requires { id < length self.old.lines }
         ensures { self.new ≡ with_line id (record {
           phase = phase.now;
@@ -301,7 +301,7 @@ impl Parts {
     }
 
     /// The target's end of a link looks at its phase.
-    fn target_looks(&mut self, route: &Route, phase: Phase)
+    pub(crate) fn target_looks(&mut self, route: &Route, phase: Phase)
         requires { TargetIsThere self.old route.now.target route.now.target_place }
         ensures { (makes : ℕ → Value → Result (List Value) ℕ) →
             self.new ≡ target_looked makes phase route.now.target route.now.target_place self.old }

@@ -1,0 +1,302 @@
+-- A message that goes over a link in one call, where memory is set aside first: source and target may do their parts, and what they
+-- leave is what they leave without that.
+use Rattle.std.proofs.Common.{◌≡◌, ◌≢◌, ℕ, ◌<◌, Bool, true, ◌||◌, cond, length, List, [], ◌∷◌, set, get_or, Option, Some, None, Result}
+use Rattle.std.proofs.Common.{is_some, ltb-true, refl, sym, ap, ◌∙◌, subst}
+use Rattle.std.proofs.lemmas.List.{get_or-set_same, get_or-set_other, set-set, set_comm, length-set}
+use Rattle.flow_value.specs.declared.value.Value.{Value}
+use Rattle.flow_link.specs.declared.phase.Move.TheVariants.{Offer}
+use Rattle.flow_link.specs.declared.phase.Phase.TheVariants.{Offered, Given}
+use Rattle.flow_link.specs.declared.plan.LinkSource.{LinkSource}
+use Rattle.flow_link.specs.declared.plan.LinkSource.TheVariants.{Block, Input}
+use Rattle.flow_link.specs.declared.plan.LinkTarget.{LinkTarget}
+use Rattle.flow_link.specs.declared.plan.LinkTarget.TheVariants.{Port, Exit}
+use Rattle.flow_link.specs.declared.stage.SourceStage.TheVariants.{Out}
+use Rattle.flow_link.specs.LinkOk.{HasRoom}
+use Rattle.flow_intake.specs.Port.{PortState, fresh_port}
+use Rattle.flow_intake.specs.Calls.{prepared, wants, opens, looks as port_looks}
+use Rattle.flow_intake.specs.Receives.{takes_at_once}
+use Rattle.flow_outlet.specs.ByLink.{has_room}
+use Rattle.flow_outlet.specs.Outlet.{OutletState, first_of, head_of, is_empty, end_at, may_offer, prepares, offers}
+use Rattle.flow_block.specs.Block.{BlockState, port_at, with_port}
+use Rattle.flow_block.specs.Input.{InputState, no_input, next_id, next_value}
+use Rattle.flow_block.specs.Node.{NodeState, with_block, with_exits}
+use Rattle.flow_block.specs.NodeKeeps.{InAt, any_stage}
+use Rattle.flow_block.specs.Passes.{on_port, takes_hand, sends_ready, receives_on, input_sends}
+use Rattle.flow_block.proofs.PassesOfNodes.{with_twice}
+use Rattle.flow_block.specs.declared.planned.Route.{Route}
+use Rattle.flow_core.specs.Events.{with_node, with_line}
+use Rattle.flow_core.specs.State.{NetState, LineState, node_at, no_node, fresh_line}
+use Rattle.flow_moves.specs.Passed.{source_prepared, target_prepared, sent_ready, received_by, offered_by, passed}
+use Rattle.flow_moves.specs.Passed.{BlockMaySend, InputMaySend, MaySend, BlockMayReceive, MayReceive}
+use Rattle.flow_moves.specs.Passes.{id_next, may_carry, takes_now, are_apart, offered_along}
+use Rattle.flow_moves.specs.Ready.{SourceIsThere, TargetIsThere, SourceIsReady, InputIsReady}
+use Rattle.flow_moves.specs.Ways.{input_in, with_input_in, value_next, source_moved, target_looked}
+use Rattle.flow_moves.proofs.MovesPrepared.{next_is_there}
+use Rattle.flow_moves.proofs.PassesTell.{blocks_apart}
+
+-- a node, or an input, changes twice
+node_twice : (s : ℕ) (first then_on : NodeState → NodeState) (net : NetState) → s < length net.nodes
+    → with_node s then_on (with_node s first net) ≡ with_node s (λ node. then_on (first node)) net
+node_twice s first then_on net there =
+    ap (λ (node : NodeState). record net { nodes = set (set net.nodes s (first (node_at net s))) s (then_on node) })
+    (get_or-set_same net.nodes s (first (node_at net s)) no_node there)
+    ∙ ap (λ (nodes : List NodeState). record net { nodes = nodes })
+    (set-set net.nodes s (first (node_at net s)) (then_on (first (node_at net s))))
+
+input_twice : (k : ℕ) (first then_on : InputState → InputState) (net : NetState) → k < length net.inputs
+    → with_input_in k then_on (with_input_in k first net) ≡ with_input_in k (λ input. then_on (first input)) net
+input_twice k first then_on net there =
+    ap (λ (input : InputState). record net { inputs = set (set net.inputs k (first (input_in net k))) k (then_on input) })
+    (get_or-set_same net.inputs k (first (input_in net k)) no_input there)
+    ∙ ap (λ (inputs : List InputState). record net { inputs = inputs })
+    (set-set net.inputs k (first (input_in net k)) (then_on (first (input_in net k))))
+
+node_found : (s : ℕ) (change : NodeState → NodeState) (net : NetState) → s < length net.nodes
+    → node_at (with_node s change net) s ≡ change (node_at net s)
+node_found s change net there = get_or-set_same net.nodes s (change (node_at net s)) no_node there
+
+node_beside : (s t : ℕ) (change : NodeState → NodeState) (net : NetState) → t ≢ s
+    → node_at (with_node s change net) t ≡ node_at net t
+node_beside s t change net apart = get_or-set_other net.nodes s t (change (node_at net s)) no_node apart
+
+input_found : (k : ℕ) (change : InputState → InputState) (net : NetState) → k < length net.inputs
+    → input_in (with_input_in k change net) k ≡ change (input_in net k)
+input_found k change net there = get_or-set_same net.inputs k (change (input_in net k)) no_input there
+
+still_there : (s t : ℕ) (change : NodeState → NodeState) (net : NetState) → t < length net.nodes
+    → t < length (with_node s change net).nodes
+still_there s t change net there = rw (length-set net.nodes s (change (node_at net s))) there
+
+-- changes of two nodes come to the same in either order
+node_swap : (s t : ℕ) (first then_on : NodeState → NodeState) (net : NetState) → s ≢ t
+    → with_node s then_on (with_node t first net) ≡ with_node t first (with_node s then_on net)
+node_swap s t first then_on net apart =
+    let at_s = node_at net s in
+    let at_t = node_at net t in
+    ap (λ (node : NodeState). record net { nodes = set (set net.nodes t (first at_t)) s (then_on node) }) (node_beside t s first net apart)
+    ∙ ap (λ (nodes : List NodeState). record net { nodes = nodes })
+    (set_comm net.nodes t s (first at_t) (then_on at_s) (λ same. apart (sym same)))
+    ∙ ap (λ (node : NodeState). record net { nodes = set (set net.nodes s (then_on at_s)) t (first node) })
+    (sym (node_beside s t then_on net (λ same. apart (sym same))))
+
+-- What the parts are called for
+
+head_from : (left : List Value) (out missing taken : Bool) (place k : ℕ)
+    → cond (is_empty left || out || missing || taken) None (Some place) ≡ Some k → is_some (first_of left) ≡ true
+head_from [] out missing taken place k may = absurd (cc)
+head_from (value ∷ left) out missing taken place k may = refl
+
+head_there : (o : OutletState) (k : ℕ) → may_offer o ≡ Some k → is_some (head_of o) ≡ true
+head_there o k may = head_from o.left _ _ _ _ k may
+
+room_there : (max : Option ℕ) (given : ℕ) → has_room max given ≡ true → HasRoom max given
+room_there None given e = tt
+room_there (Some max) given e = ltb-true given max e
+
+-- a source whose parcel is made may send
+block_may : (o : OutletState) (k : ℕ) → may_offer o ≡ Some k → has_room (end_at o k).rule.max (end_at o k).given ≡ true
+    → BlockMaySend (prepares o) k
+block_may o k may room = record {
+  may = may;
+  parcel = head_there o k may;
+  room = room_there (end_at o k).rule.max (end_at o k).given room;
+}
+
+abbrev with_parcel : InputState → InputState
+with_parcel input = record input { parcel = next_value input }
+
+input_may : (input : InputState) (id : ℕ) → InputIsReady (Offer id) input → InputMaySend (with_parcel input)
+input_may input id ready = record {
+  free = ready.may.is_at_home;
+  parcel = next_is_there input.sent input.posted ready.may.there;
+  id = ready.id;
+}
+
+-- a port that is prepared may receive, and then it is as if it had not been
+abbrev with_room : ℕ → NodeState → NodeState
+with_room p node = with_block (with_port p prepared node.block) node
+
+room_found : (p : ℕ) (block : BlockState) → p < length block.ports → port_at p (with_port p prepared block) ≡ prepared (port_at p block)
+room_found p block there = get_or-set_same block.ports p (prepared (port_at p block)) (fresh_port None) there
+
+block_may_receive : (p k : ℕ) (node : NodeState) → InAt any_stage p k node → takes_at_once k (port_at p node.block) ≡ true
+    → BlockMayReceive (with_room p node).block p k
+block_may_receive p k node at takes =
+    let found = room_found p node.block at.port in
+    record {
+      port = rw (length-set node.block.ports p (prepared (port_at p node.block))) at.port;
+      place = subst (λ (port : PortState). k < length port.ends) (sym found) at.place;
+      takes = ap (takes_at_once k) found ∙ takes;
+      ready = ap (λ (port : PortState). port.ready) found;
+    }
+
+on_twice : (p : ℕ) (first then_on : PortState → PortState) (node : NodeState) → p < length node.block.ports
+    → on_port p then_on (on_port p first node) ≡ on_port p (λ port. then_on (first port)) node
+on_twice p first then_on node there = ap (λ (block : BlockState). with_block block node) (with_twice p first then_on node.block there)
+
+forgets_room : (p k i : ℕ) (value : Value) (node : NodeState) → p < length node.block.ports
+    → receives_on p k i value (with_room p node) ≡ receives_on p k i value node
+forgets_room p k i value node there =
+    let sees = port_looks k (Offered i) in
+    ap (λ (n : NodeState). takes_hand p k (on_port p (opens k value) (on_port p (port_looks k (Given i)) n)))
+    (ap (λ (n : NodeState). on_port p (wants k) n) (on_twice p prepared sees node there)
+    ∙ on_twice p (λ port. sees (prepared port)) (wants k) node there
+    ∙ sym (on_twice p sees (wants k) node there))
+
+abbrev made_ready : NodeState → NodeState
+made_ready node = with_exits (prepares node.block.exits) node
+
+-- One end after another
+module _ (net : NetState) (id : ℕ) where
+  -- the source alone is prepared
+  pub source_may : (source : LinkSource) (k : ℕ) → SourceIsThere net source k → SourceIsReady (Offer id) net source k
+      → may_carry net source k ≡ true
+      → MaySend (source_prepared source k net) source k
+  source_may (Block s) k there ready room = (
+    still_there s s made_ready net there.0,
+    subst (λ (node : NodeState). BlockMaySend node.block.exits k) (sym (node_found s made_ready net there.0))
+        (block_may (node_at net s).block.exits k ready room),
+  )
+  source_may (Input b) k there ready room = (
+    rw (length-set net.inputs k (with_parcel (input_in net k))) there,
+    subst (λ (input : InputState). InputMaySend input) (sym (input_found k with_parcel net there)) (input_may (input_in net k) id ready),
+  )
+
+  pub id_stays : (source : LinkSource) (k : ℕ) → SourceIsThere net source k
+      → id_next (source_prepared source k net) source k ≡ id_next net source k
+  id_stays (Block s) k there = ap (λ (node : NodeState). node.block.exits.next) (node_found s made_ready net there.0)
+  id_stays (Input b) k there = ap next_id (input_found k with_parcel net there)
+
+  pub offered_ready : (makes : ℕ → Value → Result (List Value) ℕ) (i : ℕ) (source : LinkSource) (k : ℕ) → SourceIsThere net source k
+      → offered_by source k (source_prepared source k net) ≡ source_moved makes (Offer i) source k net
+  offered_ready makes i (Block s) k there =
+      node_twice s made_ready (λ (node : NodeState). with_exits (offers k node.block.exits) node) net there.0
+  offered_ready makes i (Input b) k there =
+      input_twice k with_parcel (λ (input : InputState). record input { stage = Out (next_id input); parcel = next_value input }) net there
+
+  -- both are prepared
+  abbrev both_ready : LinkSource → ℕ → LinkTarget → NetState
+  both_ready source k target = target_prepared target (source_prepared source k net)
+
+  at_source : (s k t p : ℕ) → s ≢ t
+      → node_at (both_ready (Block s) k (Port t p)) s ≡ node_at (source_prepared (Block s) k net) s
+  at_source s k t p apart = node_beside t s (with_room p) (source_prepared (Block s) k net) apart
+
+  pub both_may : (source : LinkSource) (k : ℕ) (target : LinkTarget) → SourceIsThere net source k
+      → SourceIsReady (Offer id) net source k → may_carry net source k ≡ true → are_apart source target ≡ true
+      → MaySend (both_ready source k target) source k
+  both_may source k Exit there ready room apart = source_may source k there ready room
+  both_may (Input b) k (Port t p) there ready room apart = source_may (Input b) k there ready room
+  both_may (Block s) k (Port t p) there ready room apart =
+      let may = source_may (Block s) k there ready room in (
+        still_there t s (with_room p) (source_prepared (Block s) k net) may.0,
+        subst (λ (node : NodeState). BlockMaySend node.block.exits k) (sym (at_source s k t p (blocks_apart s t apart))) may.1,
+      )
+
+  pub both_id : (source : LinkSource) (k : ℕ) (target : LinkTarget) → SourceIsThere net source k → are_apart source target ≡ true
+      → id_next (both_ready source k target) source k ≡ id_next net source k
+  both_id source k Exit there apart = id_stays source k there
+  both_id (Input b) k (Port t p) there apart = id_stays (Input b) k there
+  both_id (Block s) k (Port t p) there apart =
+      ap (λ (node : NodeState). node.block.exits.next) (at_source s k t p (blocks_apart s t apart)) ∙ id_stays (Block s) k there
+
+  pub both_value : (source : LinkSource) (k : ℕ) (target : LinkTarget) → SourceIsThere net source k → are_apart source target ≡ true
+      → value_next (both_ready source k target) source k ≡ value_next net source k
+  both_value (Block s) k Exit there apart = ap (λ (node : NodeState). head_of node.block.exits) (node_found s made_ready net there.0)
+  both_value (Input b) k Exit there apart = ap next_value (input_found k with_parcel net there)
+  both_value (Input b) k (Port t p) there apart = ap next_value (input_found k with_parcel net there)
+  both_value (Block s) k (Port t p) there apart =
+      ap (λ (node : NodeState). head_of node.block.exits)
+      (at_source s k t p (blocks_apart s t apart) ∙ node_found s made_ready net there.0)
+
+  module _ (i : ℕ) where
+    abbrev sent_now : LinkSource → ℕ → LinkTarget → NetState
+    sent_now source k target = sent_ready source k i (both_ready source k target)
+
+    at_target : (s k t p : ℕ) → s ≢ t → t < length net.nodes
+        → node_at (sent_now (Block s) k (Port t p)) t ≡ with_room p (node_at net t)
+    at_target s k t p apart there =
+        let other : t ≢ s = λ same. apart (sym same) in
+        let first = source_prepared (Block s) k net in
+        node_beside s t (sends_ready k i) (both_ready (Block s) k (Port t p)) other
+        ∙ node_found t (with_room p) first (still_there s t made_ready net there)
+        ∙ ap (with_room p) (node_beside s t made_ready net other)
+
+    pub target_may : (source : LinkSource) (k : ℕ) (target : LinkTarget) (j : ℕ) → TargetIsThere net target j
+        → takes_now net target j ≡ true → are_apart source target ≡ true
+        → MayReceive (sent_now source k target) target j
+    target_may source k Exit j there takes apart = tt
+    target_may (Input b) k (Port t p) j there takes apart = (
+      still_there t t (with_room p) net there.0,
+      subst (λ (node : NodeState). BlockMayReceive node.block p j) (sym (node_found t (with_room p) net there.0))
+          (block_may_receive p j (node_at net t) there.1 takes),
+    )
+    target_may (Block s) k (Port t p) j there takes apart =
+        let first = source_prepared (Block s) k net in
+        let here = still_there s t made_ready net there.0 in (
+          still_there s t (sends_ready k i) (both_ready (Block s) k (Port t p)) (still_there t t (with_room p) first here),
+          subst (λ (node : NodeState). BlockMayReceive node.block p j) (sym (at_target s k t p (blocks_apart s t apart) there.0))
+              (block_may_receive p j (node_at net t) there.1 takes),
+        )
+
+    module _ (value : Value) (t p j : ℕ) where
+      receives_here : (now : NetState) → t < length now.nodes → p < length (node_at now t).block.ports
+          → with_node t (receives_on p j i value) (with_node t (with_room p) now) ≡ with_node t (receives_on p j i value) now
+      receives_here now there port =
+          node_twice t (with_room p) (receives_on p j i value) now there
+          ∙ ap (λ (node : NodeState). record now { nodes = set now.nodes t node }) (forgets_room p j i value (node_at now t) port)
+
+      pub passes_ready : (source : LinkSource) (k : ℕ) → SourceIsThere net source k → TargetIsThere net (Port t p) j
+          → are_apart source (Port t p) ≡ true
+          → received_by (Port t p) j i value (sent_now source k (Port t p))
+          ≡ passed i value (record { source = source; source_place = k; target = Port t p; target_place = j }) net
+      passes_ready (Input b) k source target apart =
+          let sent = with_input_in k (input_sends i) (with_input_in k with_parcel net) in
+          receives_here sent target.0 target.1.port
+          ∙ ap (λ (now : NetState). with_node t (receives_on p j i value) now) (input_twice k with_parcel (input_sends i) net source)
+      passes_ready (Block s) k source target apart =
+          let differ = blocks_apart s t apart in
+          let first = with_node s made_ready net in
+          let sent = with_node s (sends_ready k i) first in
+          let here = still_there s t (sends_ready k i) first (still_there s t made_ready net target.0) in
+          let other : t ≢ s = λ same. differ (sym same) in
+          let same_node = node_beside s t (sends_ready k i) first other ∙ node_beside s t made_ready net other in
+          ap (λ (now : NetState). with_node t (receives_on p j i value) now) (node_swap s t (with_room p) (sends_ready k i) first differ)
+          ∙ receives_here sent here (subst (λ (node : NodeState). p < length node.block.ports) (sym same_node) target.1.port)
+          ∙ ap (λ (now : NetState). with_node t (receives_on p j i value) now) (node_twice s made_ready (sends_ready k i) net source.0)
+
+    -- so all of it is what it is without that
+    pub passes_is : (value : Value) (source : LinkSource) (k : ℕ) (target : LinkTarget) (j : ℕ) → SourceIsThere net source k
+        → TargetIsThere net target j → takes_now net target j ≡ true → are_apart source target ≡ true
+        → received_by target j i value (sent_now source k target)
+        ≡ passed i value (record { source = source; source_place = k; target = target; target_place = j }) net
+    passes_is value source k Exit j begins ends takes apart = absurd (cc)
+    passes_is value source k (Port t p) j begins ends takes apart = passes_ready value t p j source k begins ends apart
+
+-- where the source alone is prepared, it offers as it does without that
+lines_stay : (source : LinkSource) (k : ℕ) (net : NetState) → (source_prepared source k net).lines ≡ net.lines
+lines_stay (Block s) k net = refl
+lines_stay (Input b) k net = refl
+
+-- the line and the target of a message that is only offered
+abbrev pub offered_then : (ℕ → Value → Result (List Value) ℕ) → ℕ → ℕ → LinkTarget → ℕ → List LineState → NetState → NetState
+offered_then makes l i target j lines moved =
+    target_looked makes (Offered i) target j
+    (with_line l (record { phase = Offered i; slot = (get_or lines l fresh_line).slot }) moved)
+
+pub offered_is : (makes : ℕ → Value → Result (List Value) ℕ) (l id : ℕ) (route : Route) (net : NetState)
+    → SourceIsThere net route.source route.source_place
+    → let first = source_prepared route.source route.source_place net in
+    offered_then makes l (id_next first route.source route.source_place) route.target route.target_place first.lines
+    (offered_by route.source route.source_place first)
+    ≡ offered_along makes l (id_next net route.source route.source_place) route net
+offered_is makes l id route net there =
+    let source = route.source in
+    let k = route.source_place in
+    let first = source_prepared source k net in
+    let i = id_next net source k in
+    ap (λ (n : ℕ). offered_then makes l n route.target route.target_place first.lines (offered_by source k first)) (id_stays net id source k there)
+    ∙ ap (λ (lines : List LineState). offered_then makes l i route.target route.target_place lines (offered_by source k first))
+    (lines_stay source k net)
+    ∙ ap (λ (moved : NetState). offered_then makes l i route.target route.target_place net.lines moved)
+    (offered_ready net id makes i source k there)
