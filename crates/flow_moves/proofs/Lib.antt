@@ -1,3 +1,4 @@
+pub mod EndsAnswer
 pub mod EndsStay
 pub mod FreshBlocks
 pub mod LinksThere
@@ -6,6 +7,7 @@ pub mod MovesPrepared
 pub mod MovesReady
 pub mod NextMovesHappen
 pub mod OneProof
+pub mod PassesHappen
 pub mod PassesPrepared
 pub mod PassesTell
 pub mod PlansRun

@@ -1,11 +1,12 @@
 -- What is known of a network that merely is in order: it goes on being so, all that code asks of it holds, and its run is
 -- lawful, and quiet where nothing may happen any more.
-use Rattle.std.proofs.Common.{◌≡◌, ℕ, ◌<◌, List, length, Some, Result}
+use Rattle.std.proofs.Common.{◌≡◌, ℕ, ◌<◌, ◌^◌, true, List, length, Some, Result}
 use Rattle.std.specs.List.{count_by}
 use Rattle.std.proofs.Math.Logic.{∥∥₁_elim, ∥∥₁_map}
 use Rattle.std.proofs.Math.Nat.{ℕ_set}
 use Rattle.flow_value.specs.declared.value.Value.{Value}
 use Rattle.flow_link.specs.declared.phase.Move.{Move}
+use Rattle.flow_link.specs.declared.phase.Move.TheVariants.{Offer}
 use Rattle.flow_link.specs.Lawful.{Lawful}
 use Rattle.flow_link.specs.Layout.{Layout}
 use Rattle.flow_link.specs.Quiet.{Quiet}
@@ -16,12 +17,14 @@ use Rattle.flow_core.specs.Keeps.{IsRun, NetKeeps}
 use Rattle.flow_core.specs.State.{NetState, node_at, run_of_net}
 use Rattle.flow_core.specs.Statements.{IsStill}
 use Rattle.flow_core.proofs.NetworksInOrder.{all_events_keep, kept_nets_are_lawful, still_nets_are_quiet}
+use Rattle.flow_moves.specs.Passes.{MayPass, may_pass}
 use Rattle.flow_moves.specs.Ready.{IsThere, IsReady}
 use Rattle.flow_moves.specs.Statements.{IsPlanned, source_would, target_would}
 use Rattle.flow_moves.proofs.LinksThere.{links_are_there}
 use Rattle.flow_moves.proofs.MovesReady.{moves_are_ready}
 use Rattle.flow_moves.proofs.NextMovesHappen.{sources_may as sources_happen, targets_may as targets_happen}
-use Rattle.flow_moves.proofs.OneProof.{lawful_prop, quiet_prop, planned_prop, link_may_prop, there_prop, ready_prop}
+use Rattle.flow_moves.proofs.OneProof.{lawful_prop, quiet_prop, planned_prop, link_may_prop, there_prop, ready_prop, pass_prop}
+use Rattle.flow_moves.proofs.PassesHappen.{passes_happen}
 
 module _ {W : Type 0} (layout : Layout W) (meaning : ℕ → Value → Result (List Value) ℕ) (net : NetState)
     (kept : ∥ NetKeeps layout meaning net ∥₁) where
@@ -70,6 +73,13 @@ module _ {W : Type 0} (layout : Layout W) (meaning : ℕ → Value → Result (L
     moves_ready l next may ids =
         ∥∥₁_elim kept (ready_prop net l (route_of layout l) next)
         (λ keeps. moves_are_ready W layout meaning runs net keeps l next may ids)
+
+    -- where a message may go over a link in one call, all five events of it may happen
+    pub passes_may : (l i : ℕ) → l < length layout.links → source_would layout net l ≡ Some (Offer i) → i < 2 ^ 59
+        → may_pass l (route_of layout l) net ≡ true → MayPass layout meaning l i net
+    passes_may l i there would small may =
+        ∥∥₁_elim kept (pass_prop layout meaning l i net)
+        (λ keeps. passes_happen W layout meaning runs net keeps l i there would small may)
 
     -- whatever may happen leaves it in order
     pub kept_after : (event : NetEvent) → MayHappen layout meaning event net

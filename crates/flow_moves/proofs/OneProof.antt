@@ -1,5 +1,5 @@
 -- What code is told of a network in order has one proof at most, so it follows where the network merely is in order.
-use Rattle.std.specs.Prelude.{ℕ, Bool, true, false, Option, Some, None}
+use Rattle.std.specs.Prelude.{ℕ, Bool, true, false, List, Option, Some, None, Result}
 use Rattle.std.specs.Coded.{le_prop}
 use Rattle.std.proofs.Math.Bool.{Bool-set}
 use Rattle.std.proofs.Math.Nat.{ℕ_set}
@@ -21,8 +21,9 @@ use Rattle.flow_block.specs.Block.{BlockState}
 use Rattle.flow_block.specs.Input.{InputState}
 use Rattle.flow_block.specs.Node.{NodeState}
 use Rattle.flow_block.specs.declared.planned.Route.{Route}
-use Rattle.flow_core.specs.Events.{LinkMay, is_of_source}
+use Rattle.flow_core.specs.Events.{NetEvent, LinkMay, HasIds, MayHappen, is_of_source}
 use Rattle.flow_core.specs.State.{NetState, node_at, line_at}
+use Rattle.flow_moves.specs.Passes.{MayPass, after_offer, after_want, after_give, after_open}
 use Rattle.flow_moves.specs.Ready.{SourceIsThere, TargetIsThere, IsThere, GiveIsReady, OutIsReady, InIsReady}
 use Rattle.flow_moves.specs.Ready.{InputIsReady, SourceIsReady, TargetIsReady, MoverIsReady, IsReady}
 use Rattle.flow_moves.specs.Statements.{IsPlanned}
@@ -115,3 +116,21 @@ mover_ready_prop net l route false next = target_ready_prop l next net route.tar
 
 pub ready_prop : (net : NetState) (l : ℕ) (route : Route) (next : Move) → IsProp (IsReady net l route next)
 ready_prop net l route next = mover_ready_prop net l route (is_of_source next) next
+
+-- each of the five events of a message that goes over a link in one call may happen
+event_prop : {W : Type 0} (layout : Layout W) (meaning : ℕ → Value → Result (List Value) ℕ) (l : ℕ) (next : Move) (net : NetState)
+    → IsProp (HasIds layout meaning (NetEvent.at_link l next) net)
+    → IsProp (MayHappen layout meaning (NetEvent.at_link l next) net)
+event_prop layout meaning l next net ids =
+    let enabled = link_may_prop layout net l next in
+    hlevel
+
+pub pass_prop : {W : Type 0} (layout : Layout W) (meaning : ℕ → Value → Result (List Value) ℕ) (l i : ℕ) (net : NetState)
+    → IsProp (MayPass layout meaning l i net)
+pass_prop layout meaning l i net =
+    let offer = event_prop layout meaning l (move.Offer i) net le_prop in
+    let want = event_prop layout meaning l move.Want (after_offer layout meaning l i net) hlevel in
+    let give = event_prop layout meaning l move.Give (after_want layout meaning l i net) hlevel in
+    let open_it = event_prop layout meaning l move.Open (after_give layout meaning l i net) hlevel in
+    let close = event_prop layout meaning l move.Close (after_open layout meaning l i net) hlevel in
+    hlevel

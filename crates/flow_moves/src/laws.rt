@@ -1,5 +1,6 @@
 //! Laws about what would happen next in a network in order. Each stands on a function that does nothing: whoever calls
 //! it has the whole law.
+ghost use Rattle.flow_moves.specs.Passes.{PassesHappen};
 ghost use Rattle.flow_moves.specs.Statements.{BlocksArePlanned, LinksAreThere, MovesAreReady, MovesGoAlong};
 ghost use Rattle.flow_moves.specs.Statements.{NothingIsStill, SourcesMay, TargetsMay};
 
@@ -27,6 +28,11 @@ pub fn moves_are_ready<W>()
 /// What a move changes is told by the link's way.
 pub fn moves_go_along_ways<W>()
     ensures { MovesGoAlong W }
+{}
+
+/// Where a message may go over a link in one call, each of its five events may happen in its turn.
+pub fn passes_may_happen<W>()
+    ensures { PassesHappen W }
 {}
 
 /// Where nobody would do anything, nothing may happen.

@@ -1,0 +1,118 @@
+-- What an end of a link would do next where it takes a message at once, and what its stage tells of that.
+use Rattle.std.proofs.Common.{◌≡◌, ℕ, ◌+◌, ◌<◌, Bool, true, ◌&&◌, length, List, Option, Some, refl, sym, ap, ◌∙◌}
+use Rattle.std.proofs.lemmas.Bool.{and_parts}
+use Rattle.std.proofs.lemmas.List.{get_or-set_same}
+use Rattle.flow_value.specs.declared.value.Value.{Value}
+use Rattle.flow_value.specs.declared.message.MessageStatus.{MessageStatus}
+use Rattle.flow_value.specs.declared.message.MessageStatus.TheVariants as status
+use Rattle.flow_link.specs.declared.phase.Move.TheVariants.{Want, Give, Open, Close}
+use Rattle.flow_link.specs.declared.phase.Phase.TheVariants.{Offered, Wanted}
+use Rattle.flow_link.specs.declared.stage.SourceStage.{SourceStage}
+use Rattle.flow_link.specs.declared.stage.SourceStage.TheVariants as source
+use Rattle.flow_link.specs.declared.stage.TargetStage.{TargetStage}
+use Rattle.flow_link.specs.declared.stage.TargetStage.TheVariants as target
+use Rattle.flow_link.specs.declared.trace.Outcome.{Outcome}
+use Rattle.flow_link.specs.Lists.{is_empty}
+use Rattle.flow_link.specs.Stage.{source_stage_of, target_stage_of, source_looks, target_looks}
+use Rattle.flow_link.specs.Views.{SourceStage as SourceSeen, TargetStage as TargetSeen}
+use Rattle.flow_intake.specs.Port.{EndState, PortState, fresh_end, end_in, stage_at, is_coming, coming, is_below, has_room}
+use Rattle.flow_intake.specs.Calls.{answer_to, answer_where, move_of, move_at, in_move, looks, queue_after}
+use Rattle.flow_intake.specs.Receives.{is_accepted, takes_at_once}
+use Rattle.flow_intake.specs.ByLink.{is_free}
+use Rattle.flow_intake.proofs.CountsOfEnds.{count_same}
+use Rattle.flow_intake.proofs.ReceivesAtOnce.{takes_tells}
+use Rattle.flow_outlet.specs.Outlet.{OutletState, end_at, stage_at as out_stage_at, out_move, move_at as out_move_at, looks as out_looks}
+use Rattle.flow_outlet.specs.End.{no_end}
+
+-- A target that takes a message at once wants it when it is offered
+
+accepted_moves : (answer : MessageStatus) → is_accepted answer ≡ true → move_of answer ≡ Some Want
+accepted_moves status.Accepted is = refl
+accepted_moves status.Declined is = absurd (cc)
+accepted_moves status.Postponed is = absurd (cc)
+accepted_moves status.NotAvailable is = absurd (cc)
+accepted_moves status.DecliningPermanently is = absurd (cc)
+
+pub still_accepts : (k i : ℕ) (port : PortState) → k < length port.ends → takes_at_once k port ≡ true
+    → in_move k (looks k (Offered i) port) ≡ Some Want
+still_accepts k i port there takes =
+    let tells = takes_tells k port takes in
+    let accepted = (and_parts (is_free (stage_at k port)) (is_accepted (answer_to true port)) takes).1 in
+    let after = target_looks (stage_at k port) (Offered i) in
+    let end = end_in k port.ends in
+    let seen = looks k (Offered i) port in
+    let offered : after ≡ target.Offered i = ap (λ (stage : TargetStage). target_looks stage (Offered i)) tells.free in
+    let stands : stage_at k seen ≡ target.Offered i =
+    ap (λ (e : EndState). e.stage) (get_or-set_same port.ends k (record end { stage = after }) (fresh_end 0) there) ∙ offered in
+    let nobody : seen.queue ≡ port.queue =
+    ap (λ (stage : TargetStage). queue_after stage k port.queue) offered
+    ∙ ap (λ (queue : List ℕ). queue_after (target.Offered i) k queue) tells.empty
+    ∙ sym tells.empty in
+    let as_many : coming seen ≡ coming port =
+    count_same is_coming port.ends k (record end { stage = after }) there (ap is_coming tells.free ∙ sym (ap is_coming offered)) in
+    let free : (has_room seen && is_empty seen.queue) ≡ (has_room port && is_empty port.queue) =
+    ap (λ (count : ℕ). is_below (port.load + count) port.capacity && is_empty seen.queue) as_many
+    ∙ ap (λ (queue : List ℕ). has_room port && is_empty queue) nobody in
+    ap (λ (stage : TargetStage). move_at k seen stage) stands
+    ∙ ap (λ (is : Bool). move_of (answer_where port.refusing port.reserves is status.Postponed)) free
+    ∙ accepted_moves (answer_to true port) accepted
+
+-- A source whose offer is out gives when it sees that the message is wanted
+
+pub out_kept : (stage : SourceStage) (i : ℕ) → source_stage_of stage ≡ SourceSeen.out i → stage ≡ source.Out i
+out_kept (source.Out j) i is = cc
+out_kept source.Free i is = absurd (cc)
+out_kept (source.Posted j) i is = absurd (cc)
+out_kept (source.Waiting j) i is = absurd (cc)
+out_kept (source.Accepted j) i is = absurd (cc)
+out_kept (source.Wished j) i is = absurd (cc)
+out_kept (source.AskedBy j) i is = absurd (cc)
+out_kept (source.Reserved j) i is = absurd (cc)
+out_kept (source.Claimed j) i is = absurd (cc)
+out_kept source.Crossing i is = absurd (cc)
+out_kept source.Refused i is = absurd (cc)
+out_kept (source.Ended how) i is = absurd (cc)
+
+pub sees_accepted : (k i : ℕ) (o : OutletState) (stopped : Option Outcome) (held_up : Bool) → k < length o.ends
+    → out_stage_at o k ≡ source.Out i → out_move k stopped held_up (out_looks k (Wanted i) o) ≡ Some Give
+sees_accepted k i o stopped held_up there out =
+    let after = source_looks (out_stage_at o k) (Wanted i) in
+    let seen = out_looks k (Wanted i) o in
+    let accepted : after ≡ source.Accepted i = ap (λ (stage : SourceStage). source_looks stage (Wanted i)) out in
+    let stands : out_stage_at seen k ≡ source.Accepted i =
+    ap (λ (e : _). e.stage) (get_or-set_same o.ends k (record (end_at o k) { stage = after }) no_end there) ∙ accepted in
+    ap (λ (stage : SourceStage). out_move_at seen k stopped held_up stage) stands
+
+-- A target opens what has arrived, and takes what it has in hand
+
+pub arrived_opens : (k i : ℕ) (port : PortState) (stage : TargetStage) (hand : Option Value)
+    → target_stage_of stage hand ≡ TargetSeen.arrived i → move_at k port stage ≡ Some Open
+arrived_opens k i port (target.Arrived j) hand is = refl
+arrived_opens k i port target.Free hand is = absurd (cc)
+arrived_opens k i port (target.Offered j) hand is = absurd (cc)
+arrived_opens k i port (target.Posted j) hand is = absurd (cc)
+arrived_opens k i port (target.Postponed j) hand is = absurd (cc)
+arrived_opens k i port (target.Accepted j) hand is = absurd (cc)
+arrived_opens k i port (target.Consuming j) hand is = absurd (cc)
+arrived_opens k i port (target.Asking j) hand is = absurd (cc)
+arrived_opens k i port (target.Holding j) hand is = absurd (cc)
+arrived_opens k i port (target.Claiming j) hand is = absurd (cc)
+arrived_opens k i port (target.Hand j) hand is = absurd (cc)
+arrived_opens k i port (target.Refused why) hand is = absurd (cc)
+arrived_opens k i port (target.Ended how) hand is = absurd (cc)
+
+pub hand_closes : (k i : ℕ) (value : Value) (port : PortState) (stage : TargetStage) (hand : Option Value)
+    → target_stage_of stage hand ≡ TargetSeen.hand i value → move_at k port stage ≡ Some Close
+hand_closes k i value port (target.Hand j) hand is = refl
+hand_closes k i value port target.Free hand is = absurd (cc)
+hand_closes k i value port (target.Offered j) hand is = absurd (cc)
+hand_closes k i value port (target.Posted j) hand is = absurd (cc)
+hand_closes k i value port (target.Postponed j) hand is = absurd (cc)
+hand_closes k i value port (target.Accepted j) hand is = absurd (cc)
+hand_closes k i value port (target.Consuming j) hand is = absurd (cc)
+hand_closes k i value port (target.Asking j) hand is = absurd (cc)
+hand_closes k i value port (target.Holding j) hand is = absurd (cc)
+hand_closes k i value port (target.Claiming j) hand is = absurd (cc)
+hand_closes k i value port (target.Arrived j) hand is = absurd (cc)
+hand_closes k i value port (target.Refused why) hand is = absurd (cc)
+hand_closes k i value port (target.Ended how) hand is = absurd (cc)
