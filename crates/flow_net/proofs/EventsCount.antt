@@ -1,5 +1,5 @@
 -- Where an event is done, one event more has happened; one that is asked for is done or changes nothing.
-use Rattle.std.proofs.Common.{◌≡◌, ℕ, suc, ◌+◌, List, Result, Ok, Err, OnOk, OnErr, refl, sym, subst, ◌∙◌, arith}
+use Rattle.std.proofs.Common.{◌≡◌, ℕ, zero, suc, ◌+◌, ◌-◌, ◌≤◌, List, Result, Ok, Err, OnOk, OnErr, refl, sym, subst, ◌∙◌, arith}
 use Rattle.flow_value.specs.declared.value.Value.{Value}
 use Rattle.flow_value.specs.declared.work.WorkFault.{WorkFault}
 use Rattle.flow_link.specs.declared.plan.Plan.{Plan}
@@ -9,10 +9,10 @@ use Rattle.flow_core.specs.Events.{NetEvent, MayHappen, after}
 use Rattle.flow_core.specs.Keeps.{NetKeeps}
 use Rattle.flow_core.specs.State.{NetState}
 use Rattle.flow_moves.specs.Works.{works_of}
-use Rattle.flow_moves.proofs.MerelyKept.{kept_after}
 use Rattle.flow_moves.proofs.PlansRun.{plan_runs}
 use Rattle.flow_net.specs.Settles.{GoesOn}
 use Rattle.flow_net.specs.Happened.{Happened}
+use Rattle.flow_net.proofs.KeptOn.{kept_on}
 
 module _ {W : Type 0} (layout : Layout W) (meaning : ℕ → Value → Result (List Value) ℕ) where
   pub one_more_event : (count : ℕ) (start old new : NetState) (event : NetEvent)
@@ -32,27 +32,38 @@ module _ {W : Type 0} (layout : Layout W) (meaning : ℕ → Value → Result (L
       record { count = 1; within = omega arith; happened = one_more_event 0 old old new event refl may is }
   one_event_at_most (Err e) event old new may is same = record { count = 0; within = omega arith; happened = same }
 
--- one round of a run: an event is found, which changes nothing, and then happens
+  -- so many events, and then as many more
+  pub happened_on : (first more : ℕ) (old mid new : NetState) → Happened layout meaning first old mid → Happened layout meaning more mid new
+      → Happened layout meaning (first + more) old new
+  happened_on first zero old mid new before same =
+      let none : first ≡ first + 0 = omega arith in
+      subst (λ (n : ℕ). Happened layout meaning n old new) none
+      (subst (λ (net : NetState). Happened layout meaning first old net) (sym same) before)
+  happened_on first (suc more) old mid new before (last, (then_on, leads)) =
+      let one : suc (first + more) ≡ first + suc more = omega arith in
+      subst (λ (n : ℕ). Happened layout meaning n old new) one (last, (happened_on first more old mid last before then_on, leads))
+
+-- one round of a run: an event is found, which changes nothing, and so many events happen
 module _ {W : Type 0} (meaning : W → Value → Result (List Value) WorkFault) (first before found then_is : Plan W)
-    (start old mid new : NetState) (count : ℕ) (event : NetEvent) where
-  pub one_round_more : let layout = layout_of first in let works = works_of meaning layout in
-      (before ≡ first) × ∥ NetKeeps layout works old ∥₁ × Happened layout works count start old
-      → found ≡ before → mid ≡ old → then_is ≡ found
-      → MayHappen (layout_of found) (works_of meaning (layout_of found)) event mid
-      → new ≡ after (layout_of found) (works_of meaning (layout_of found)) event mid
-      → (then_is ≡ first) × ∥ NetKeeps layout works new ∥₁ × Happened layout works (count + 1) start new
-  one_round_more so_far same_found same_parts same_plan may is =
+    (start old mid new : NetState) (limit rest count : ℕ) where
+  pub rounds_more : let layout = layout_of first in let works = works_of meaning layout in
+      (before ≡ first) × ∥ NetKeeps layout works old ∥₁ × (rest ≤ limit) × Happened layout works (limit - rest) start old
+      → found ≡ before → mid ≡ old → then_is ≡ found → count ≤ rest
+      → Happened (layout_of found) (works_of meaning (layout_of found)) count mid new
+      → (then_is ≡ first) × ∥ NetKeeps layout works new ∥₁ × (rest - count ≤ limit)
+      × Happened layout works (limit - (rest - count)) start new
+  rounds_more so_far same_found same_parts same_plan within more =
       let layout = layout_of first in
       let works = works_of meaning layout in
       let here : found ≡ first = same_found ∙ so_far.0 in
-      let may_here : MayHappen layout works event old =
-      subst (λ (net : NetState). MayHappen layout works event net) same_parts
-      (subst (λ (plan : Plan W). MayHappen (layout_of plan) (works_of meaning (layout_of plan)) event mid) here may) in
-      let is_here : new ≡ after layout works event old =
-      subst (λ (net : NetState). new ≡ after layout works event net) same_parts
-      (subst (λ (plan : Plan W). new ≡ after (layout_of plan) (works_of meaning (layout_of plan)) event mid) here is) in (
+      let more_here : Happened layout works count old new =
+      subst (λ (net : NetState). Happened layout works count net new) same_parts
+      (subst (λ (plan : Plan W). Happened (layout_of plan) (works_of meaning (layout_of plan)) count mid new) here more) in
+      let small : rest ≤ limit = so_far.2 in
+      let sum : limit - rest + count ≡ limit - (rest - count) = omega (arith, small, within) in (
         same_plan ∙ here,
-        subst (λ (net : NetState). ∥ NetKeeps layout works net ∥₁) (sym is_here)
-            (kept_after layout works old so_far.1 (plan_runs first) event may_here),
-        one_more_event layout works count start old new event so_far.2 may_here is_here,
+        kept_on layout works (plan_runs first) count old new more_here so_far.1,
+        omega (arith, small),
+        subst (λ (n : ℕ). Happened layout works n start new) sum
+            (happened_on layout works (limit - rest) count start old new so_far.3 more_here),
       )

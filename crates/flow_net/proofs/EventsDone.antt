@@ -34,7 +34,7 @@ use Rattle.flow_net.specs.declared.fault.NetFault.TheVariants.{Ids}
 use Rattle.flow_net.specs.Told.{fault_of}
 
 -- a move along the link's way is the event
-along_is_after : {W : Type 0} → MovesGoAlong W
+pub along_is_after : {W : Type 0} → MovesGoAlong W
 along_is_after layout meaning net l next phase leads = search rules
 
 module _ {W : Type 0} (layout : Layout W) (meaning : ℕ → Value → Result (List Value) ℕ) (old new : NetState) (l : ℕ)

@@ -4,4 +4,5 @@ pub mod FindersTell
 pub mod IdsLeft
 pub mod KeptOn
 pub mod NetTells
+pub mod PassesCount
 pub mod WorksNumbered

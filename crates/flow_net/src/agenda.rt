@@ -3,8 +3,9 @@
 ghost use Rattle.std.specs.Prelude.{◌≡◌, ◌<◌, IfSome, vec_len};
 
 use crate::event::Event;
+use crate::find::{link_to_consume, link_to_offer};
 use flow_block::{Block, Route};
-use flow_link::{LinkSource, LinkTarget, Move};
+use flow_link::{LinkId, LinkSource, LinkTarget, Move};
 use flow_moves::Parts;
 use std::alloc::{AllocError, Global};
 
@@ -15,9 +16,10 @@ pub(crate) enum Spot {
     Block(usize),
 }
 
-/// The spots to look at, the newest first, each of them once.
+/// The spots to look at: where a message goes on, and then the newest first, each of these once.
 #[derive(Drop)]
 pub(crate) struct Agenda {
+    next: Option<Spot>,
     spots: Vec<Spot>,
     has_link: Vec<bool>,
     has_block: Vec<bool>,
@@ -27,6 +29,7 @@ impl Agenda {
     /// An agenda with all of so many links and blocks.
     pub(crate) fn new(alloc: Global, links: usize, blocks: usize) -> Result<Agenda, AllocError> {
         let mut agenda = Agenda {
+            next: None,
             spots: Vec::new(alloc),
             has_link: Vec::new(alloc),
             has_block: Vec::new(alloc),
@@ -80,6 +83,19 @@ impl Agenda {
         }
     }
 
+    /// Has this spot looked at before all others.
+    fn make_next(&mut self, spot: Spot) {
+        if let Some(other) = self.next.take() {
+            self.list(other);
+        }
+        self.next = Some(spot);
+    }
+
+    /// Takes the spot at which a message goes on.
+    pub(crate) fn take_next(&mut self) -> Option<Spot> {
+        self.next.take()
+    }
+
     /// Takes the newest spot off.
     pub(crate) fn take(&mut self) -> Option<Spot>
         ensures shorter { IfSome result (λ _. vec_len self.new.spots < vec_len self.old.spots) }
@@ -98,15 +114,56 @@ impl Agenda {
                 }
                 self.list(Spot::Link(id));
             }
-            Event::Make(number) => {
-                self.list(Spot::Block(number));
-                self.list_held_up(parts, number);
-            }
+            Event::Make(number) => self.list_after_make(parts, number),
             Event::Complete(number, _) | Event::Fault(number) | Event::Done(number) => {
                 self.list_round(parts, number);
                 self.list(Spot::Block(number));
             }
             Event::Job(_, none) => match none {},
+        }
+    }
+
+    /// Lists where something may be able to happen after a block has worked on a message: what it gives goes on.
+    fn list_after_make(&mut self, parts: &Parts, number: usize) {
+        self.list_held_up(parts, number);
+        if let Some(node) = parts.find_node(number) {
+            self.list_block(node.block(), number);
+        }
+    }
+
+    /// Lists where something may be able to happen after a message went over a link in one call: it goes on at the
+    /// target.
+    pub(crate) fn list_after_pass(&mut self, parts: &Parts, route: &Route, id: LinkId) {
+        match route.source {
+            LinkSource::Block(number) => self.list_giver(parts, number),
+            LinkSource::Input(_) => self.list(Spot::Link(id)),
+        }
+        if let LinkTarget::Port(number, _) = route.target {
+            self.make_next(Spot::Block(number));
+        }
+    }
+
+    /// Lists a block that gave its head; and all links out of it where something waits over another: what waits for an
+    /// earlier message is to be taken back.
+    fn list_giver(&mut self, parts: &Parts, number: usize) {
+        if let Some(node) = parts.find_node(number) {
+            if node.block().away_count() > 0 {
+                self.list_out(node.block());
+            }
+            self.list_block(node.block(), number);
+        }
+    }
+
+    /// Lists a block that would do something by itself, and the links over which it would consume or offer next.
+    fn list_block(&mut self, block: &Block, number: usize) {
+        if has_work(block) {
+            self.list(Spot::Block(number));
+        }
+        if let Some(id) = link_to_consume(block) {
+            self.list(Spot::Link(id));
+        }
+        if let Some(id) = link_to_offer(block) {
+            self.make_next(Spot::Link(id));
         }
     }
 
@@ -163,7 +220,7 @@ impl Agenda {
     /// function has faulted.
     fn list_held_up(&mut self, parts: &Parts, number: usize) {
         if let Some(node) = parts.find_node(number) {
-            if node.block().is_held_up() {
+            if node.block().away_count() > 0 && node.block().is_held_up() {
                 self.list_out(node.block());
             }
             if node.block().fault().is_some() {
@@ -196,6 +253,14 @@ impl Agenda {
             self.list(Spot::Link(block.in_link(0, place)));
         }
     }
+}
+
+/// Whether a block would do something by itself: each that is built has one port.
+fn has_work(block: &Block) -> bool {
+    block.may_make()
+        || (block.port_count() > 0 && block.may_complete(0))
+        || block.next_fault().is_some()
+        || block.may_finish()
 }
 
 /// Sets the mark at this place; false where there is no such place, or it was so already.

@@ -124,7 +124,7 @@ impl<W: Work> Engine<W> {
     }
 
     /// Does an event that is due, and lists where something may be able to happen after it.
-    fn go(&mut self, alloc: Global, event: &Event<W>) -> Result<(), NetFault>
+    pub(crate) fn go(&mut self, alloc: Global, event: &Event<W>) -> Result<(), NetFault>
         requires kept { ∥ NetKeeps (layout_of self.old.plan) (works_of W.meaning (layout_of self.old.plan))
             self.old.parts ∥₁ }
         requires due { IsDue (layout_of self.old.plan) (works_of W.meaning (layout_of self.old.plan)) self.old.parts
@@ -179,9 +179,10 @@ impl<W: Work> Engine<W> {
             (works_of W.meaning (layout_of self.new.plan)) self.new.parts }
         ensures never { result ≢ Err NotEnabled }
     {
-        for _ in 0..limit {
+        let mut rest = limit;
+        while rest > 0 {
             match self.next_event()? {
-                Some(event) => self.go(alloc, &event)?,
+                Some(event) => rest -= self.advance(alloc, &event, rest)?,
                 None => return Ok(Settled::Quiet),
             }
         }

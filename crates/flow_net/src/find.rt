@@ -299,6 +299,11 @@ impl<W: Work> Engine<W> {
         ensures needed { IfErr result (λ fault. NeedsId (layout_of self.old.plan)
             (works_of W.meaning (layout_of self.old.plan)) self.old.parts) }
     {
+        if let Some(spot) = self.agenda.take_next() {
+            if let Some(event) = self.event_at(spot)? {
+                return Ok(Some(event));
+            }
+        }
         while let Some(spot) = self.agenda.take() {
             if let Some(event) = self.event_at(spot)? {
                 return Ok(Some(event));
@@ -322,7 +327,7 @@ impl<W: Work> Engine<W> {
 }
 
 /// The link over which a block would offer next.
-fn link_to_offer(block: &Block) -> Option<LinkId> {
+pub(crate) fn link_to_offer(block: &Block) -> Option<LinkId> {
     let place = block.next_offer()?;
     if place < block.out_count() {
         Some(block.out_link(place))
@@ -332,7 +337,7 @@ fn link_to_offer(block: &Block) -> Option<LinkId> {
 }
 
 /// The link over which a block would consume next: each that is built has one port.
-fn link_to_consume(block: &Block) -> Option<LinkId> {
+pub(crate) fn link_to_consume(block: &Block) -> Option<LinkId> {
     if block.port_count() == 0 {
         return None;
     }

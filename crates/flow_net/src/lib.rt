@@ -9,6 +9,7 @@ mod find;
 mod laws;
 mod make;
 mod net;
+mod pass;
 mod posted;
 
 pub use event::{Event, Stepped};

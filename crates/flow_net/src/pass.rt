@@ -1,0 +1,101 @@
+//! Messages that go over a link in one call.
+ghost use Rattle.std.specs.Prelude.{◌≡◌, ◌≢◌, ◌<◌, ◌≤◌, true, length, IfOk, IfErr, OnErr, Err};
+ghost use Rattle.flow_link.specs.declared.phase.Move.TheVariants.{Offer};
+ghost use Rattle.flow_link.specs.Planned.{layout_of};
+ghost use Rattle.flow_block.specs.Routes.{route_of};
+ghost use Rattle.flow_core.specs.Events.{MayHappen, NetEvent};
+ghost use Rattle.flow_core.specs.Keeps.{NetKeeps};
+ghost use Rattle.flow_moves.specs.Passes.{id_next, may_pass};
+ghost use Rattle.flow_moves.specs.Works.{works_of};
+ghost use Rattle.flow_net.specs.Events.{net_event};
+ghost use Rattle.flow_net.specs.Happened.{Happened};
+ghost use Rattle.flow_net.specs.There.{IsDue};
+ghost use Rattle.flow_net.specs.declared.fault.NetFault.TheVariants.{NotEnabled, Ids, Memory};
+
+use crate::agenda::Spot;
+use crate::engine::Engine;
+use crate::event::Event;
+use crate::fault::NetFault;
+use flow_link::Move;
+use flow_value::Work;
+use std::alloc::Global;
+
+/// The events of a message that goes over a link in one call: it is offered, wanted, given, opened and taken.
+const PASS: u64 = 5;
+
+impl<W: Work> Engine<W> {
+    /// Does an event that is due, and with an offer that its target takes at once the four that follow. Answers how many
+    /// events those are, of at most so many.
+    pub(crate) fn advance(
+        &mut self,
+        alloc: Global,
+        event: &Event<W>,
+        most: u64,
+    ) -> Result<u64, NetFault>
+        requires kept { ∥ NetKeeps (layout_of self.old.plan) (works_of W.meaning (layout_of self.old.plan))
+            self.old.parts ∥₁ }
+        requires due { IsDue (layout_of self.old.plan) (works_of W.meaning (layout_of self.old.plan)) self.old.parts
+            (net_event event.now) }
+        requires some { 0 < most }
+        ensures same_plan { self.new.plan ≡ self.old.plan }
+        ensures happened { IfOk result (λ count. Happened (layout_of self.old.plan)
+            (works_of W.meaning (layout_of self.old.plan)) count self.old.parts self.new.parts) }
+        ensures some { IfOk result (λ count. 0 < count) }
+        ensures within { IfOk result (λ count. count ≤ most) }
+        ensures kept { OnErr result (self.new.parts ≡ self.old.parts) }
+        ensures used_up { result ≡ Err Ids → MayHappen (layout_of self.old.plan)
+            (works_of W.meaning (layout_of self.old.plan)) (net_event event.now) self.old.parts → ⊥ }
+        ensures never { result ≢ Err NotEnabled }
+    {
+        if let Event::Link(id, Move::Offer(_)) = *event {
+            if most >= PASS && self.may_pass(id) {
+                return self.pass(alloc, id);
+            }
+        }
+        self.go(alloc, event)?;
+        Ok(1)
+    }
+
+    /// Whether what the source of a link would offer may go over it in one call.
+    fn may_pass(&self, id: usize) -> bool
+        requires known { id < length (layout_of self.now.plan).links }
+        requires kept { ∥ NetKeeps (layout_of self.now.plan) (works_of W.meaning (layout_of self.now.plan))
+            self.now.parts ∥₁ }
+        ensures { result ≡ may_pass id (route_of (layout_of self.now.plan) id) self.now.parts }
+    {
+        self.parts.may_pass(id, self.route(id))
+    }
+
+    /// Has the message that the source of a link would offer go over it; where the target has no memory for it, it is
+    /// offered alone. Answers how many events those are, and lists where something may be able to happen after them.
+    fn pass(&mut self, alloc: Global, id: usize) -> Result<u64, NetFault>
+        requires kept { ∥ NetKeeps (layout_of self.old.plan) (works_of W.meaning (layout_of self.old.plan))
+            self.old.parts ∥₁ }
+        requires due { IsDue (layout_of self.old.plan) (works_of W.meaning (layout_of self.old.plan)) self.old.parts
+            (NetEvent.at_link id (Offer (id_next self.old.parts (route_of (layout_of self.old.plan) id).source
+            (route_of (layout_of self.old.plan) id).source_place))) }
+        requires passes { may_pass id (route_of (layout_of self.old.plan) id) self.old.parts ≡ true }
+        ensures same_plan { self.new.plan ≡ self.old.plan }
+        ensures happened { IfOk result (λ count. Happened (layout_of self.old.plan)
+            (works_of W.meaning (layout_of self.old.plan)) count self.old.parts self.new.parts) }
+        ensures some { IfOk result (λ count. 0 < count) }
+        ensures within { IfOk result (λ count. count ≤ 5) }
+        ensures kept { OnErr result (self.new.parts ≡ self.old.parts) }
+        ensures memory { IfErr result (λ fault. fault ≡ Memory) }
+    {
+        let Engine {
+            parts,
+            routes,
+            agenda,
+            ..
+        } = self;
+        let route = &routes[id];
+        if parts.pass(alloc, id, route)? {
+            agenda.list_after_pass(parts, route, id);
+            Ok(PASS)
+        } else {
+            agenda.list(Spot::Link(id));
+            Ok(1)
+        }
+    }
+}
