@@ -7,7 +7,7 @@ ghost use Rattle.flow_outlet.specs.End.{is_waiting};
 ghost use Rattle.flow_outlet.specs.Outlet.{out_move, stage_at, is_empty};
 ghost use Rattle.flow_block.specs.Block.{port_at, port_in};
 ghost use Rattle.flow_block.specs.Peeks.{may_make, may_complete, next_fault, is_held_up, may_finish, could_stop};
-ghost use Rattle.flow_block.specs.Peeks.{fault_cause, fault_at_ports};
+ghost use Rattle.flow_block.specs.Peeks.{fault_cause, fault_at_ports, is_pending};
 
 use crate::block::Block;
 use flow_intake::Intake;
@@ -36,6 +36,13 @@ impl Block {
         ensures { result ≡ has_ended (port_at port self.now).refusing }
     {
         self.ports[port].has_ended()
+    }
+
+    /// Whether it is to fault, when nothing is under way any more: its function has faulted, or it has seen a fault.
+    pub fn is_pending(&self) -> bool
+        ensures { result ≡ is_pending self.now }
+    {
+        self.fault.is_some() || fault_at_ports(&self.ports).is_some()
     }
 
     /// The fault by which it stops now, if it does.
