@@ -32,6 +32,9 @@ module _ {W : Type 0} (layout : Layout W) (meaning : ℕ → Value → Result (L
       record { count = 1; within = omega arith; happened = one_more_event 0 old old new event refl may is }
   one_event_at_most (Err e) event old new may is same = record { count = 0; within = omega arith; happened = same }
 
+  pub none_happened : (count : ℕ) (old new : NetState) → count ≡ 0 → Happened layout meaning count old new → new ≡ old
+  none_happened count old new none happened = subst (λ (n : ℕ). Happened layout meaning n old new) none happened
+
   -- so many events, and then as many more
   pub happened_on : (first more : ℕ) (old mid new : NetState) → Happened layout meaning first old mid → Happened layout meaning more mid new
       → Happened layout meaning (first + more) old new

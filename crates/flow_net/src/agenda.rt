@@ -124,9 +124,9 @@ impl Agenda {
     }
 
     /// Lists where something may be able to happen after a block has worked on a message: what it gives goes on.
-    fn list_after_make(&mut self, parts: &Parts, number: usize) {
-        self.list_held_up(parts, number);
+    pub(crate) fn list_after_make(&mut self, parts: &Parts, number: usize) {
         if let Some(node) = parts.find_node(number) {
+            self.list_waiting(node.block());
             self.list_block(node.block(), number);
         }
     }
@@ -216,16 +216,21 @@ impl Agenda {
         }
     }
 
-    /// Lists all links out of a block that would stop, but for what waits over them; and those into it, where its
-    /// function has faulted.
+    /// Lists what waits for a block with this number that ends.
     fn list_held_up(&mut self, parts: &Parts, number: usize) {
         if let Some(node) = parts.find_node(number) {
-            if node.block().away_count() > 0 && node.block().is_held_up() {
-                self.list_out(node.block());
-            }
-            if node.block().fault().is_some() {
-                self.list_in(node.block());
-            }
+            self.list_waiting(node.block());
+        }
+    }
+
+    /// Lists all links out of a block that would stop, but for what waits over them; and those into it, where its
+    /// function has faulted.
+    fn list_waiting(&mut self, block: &Block) {
+        if block.away_count() > 0 && block.is_held_up() {
+            self.list_out(block);
+        }
+        if block.fault().is_some() {
+            self.list_in(block);
         }
     }
 
@@ -255,12 +260,11 @@ impl Agenda {
     }
 }
 
-/// Whether a block would do something by itself: each that is built has one port.
+/// Whether a block that has made or given something would do more by itself: each that is built has one port.
 fn has_work(block: &Block) -> bool {
     block.may_make()
-        || (block.port_count() > 0 && block.may_complete(0))
-        || block.next_fault().is_some()
-        || block.may_finish()
+        || (block.is_pending() && block.next_fault().is_some())
+        || (block.port_count() > 0 && block.has_ended(0) && block.may_finish())
 }
 
 /// Sets the mark at this place; false where there is no such place, or it was so already.

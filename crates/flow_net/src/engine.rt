@@ -55,7 +55,7 @@ impl<W: Work> Engine<W> {
     }
 
     /// Does an event that is due: a block works on the message that waits longest.
-    fn make(&mut self, alloc: Global, number: usize) -> Result<(), NetFault>
+    pub(crate) fn make(&mut self, alloc: Global, number: usize) -> Result<(), NetFault>
         requires kept { ∥ NetKeeps (layout_of self.old.plan) (works_of W.meaning (layout_of self.old.plan))
             self.old.parts ∥₁ }
         requires enabled { Enabled (layout_of self.old.plan) self.old.parts (NetEvent.make number) }
@@ -181,9 +181,12 @@ impl<W: Work> Engine<W> {
     {
         let mut rest = limit;
         while rest > 0 {
-            match self.next_event()? {
-                Some(event) => rest -= self.advance(alloc, &event, rest)?,
-                None => return Ok(Settled::Quiet),
+            match self.carry_on(alloc, rest)? {
+                0 => match self.next_event()? {
+                    Some(event) => rest -= self.advance(alloc, &event, rest)?,
+                    None => return Ok(Settled::Quiet),
+                },
+                count => rest -= count,
             }
         }
         if self.is_quiet() {

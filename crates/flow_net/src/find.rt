@@ -138,7 +138,7 @@ impl<W: Work> Engine<W> {
     }
 
     /// The event that would happen next at a link: a move of its source, or else of its target.
-    fn event_at_link(&self, id: usize) -> Result<Option<Event<W>>, NetFault>
+    pub(crate) fn event_at_link(&self, id: usize) -> Result<Option<Event<W>>, NetFault>
         requires known { id < length (layout_of self.now.plan).links }
         requires kept { ∥ NetKeeps (layout_of self.now.plan) (works_of W.meaning (layout_of self.now.plan))
             self.now.parts ∥₁ }
@@ -299,11 +299,6 @@ impl<W: Work> Engine<W> {
         ensures needed { IfErr result (λ fault. NeedsId (layout_of self.old.plan)
             (works_of W.meaning (layout_of self.old.plan)) self.old.parts) }
     {
-        if let Some(spot) = self.agenda.take_next() {
-            if let Some(event) = self.event_at(spot)? {
-                return Ok(Some(event));
-            }
-        }
         while let Some(spot) = self.agenda.take() {
             if let Some(event) = self.event_at(spot)? {
                 return Ok(Some(event));

@@ -9,7 +9,7 @@ ghost use Rattle.flow_moves.specs.Passes.{id_next, may_pass};
 ghost use Rattle.flow_moves.specs.Works.{works_of};
 ghost use Rattle.flow_net.specs.Events.{net_event};
 ghost use Rattle.flow_net.specs.Happened.{Happened};
-ghost use Rattle.flow_net.specs.There.{IsDue};
+ghost use Rattle.flow_net.specs.There.{IsDue, NeedsId};
 ghost use Rattle.flow_net.specs.declared.fault.NetFault.TheVariants.{NotEnabled, Ids, Memory};
 
 use crate::agenda::Spot;
@@ -24,6 +24,74 @@ use std::alloc::Global;
 const PASS: u64 = 5;
 
 impl<W: Work> Engine<W> {
+    /// Goes on with the message that moved last, where it can. Answers how many events that took, of at most so many.
+    pub(crate) fn carry_on(&mut self, alloc: Global, most: u64) -> Result<u64, NetFault>
+        requires kept { ∥ NetKeeps (layout_of self.old.plan) (works_of W.meaning (layout_of self.old.plan))
+            self.old.parts ∥₁ }
+        requires some { 0 < most }
+        ensures same_plan { self.new.plan ≡ self.old.plan }
+        ensures happened { IfOk result (λ count. Happened (layout_of self.old.plan)
+            (works_of W.meaning (layout_of self.old.plan)) count self.old.parts self.new.parts) }
+        ensures within { IfOk result (λ count. count ≤ most) }
+        ensures kept { OnErr result (self.new.parts ≡ self.old.parts) }
+        ensures used_up { result ≡ Err Ids → NeedsId (layout_of self.old.plan)
+            (works_of W.meaning (layout_of self.old.plan)) self.old.parts }
+        ensures never { result ≢ Err NotEnabled }
+    {
+        match self.agenda.take_next() {
+            Some(Spot::Block(number)) if number < self.plan.block_count() => {
+                self.work_on(alloc, number)
+            }
+            Some(Spot::Link(id)) if id < self.plan.link_count() => self.move_on(alloc, id, most),
+            _ => Ok(0),
+        }
+    }
+
+    /// Has a block work on the message that waits longest, and lists where something may be able to happen after it; or
+    /// lists the block, where none may be worked on.
+    fn work_on(&mut self, alloc: Global, number: usize) -> Result<u64, NetFault>
+        requires kept { ∥ NetKeeps (layout_of self.old.plan) (works_of W.meaning (layout_of self.old.plan))
+            self.old.parts ∥₁ }
+        requires known { number < length (layout_of self.old.plan).blocks }
+        ensures same_plan { self.new.plan ≡ self.old.plan }
+        ensures happened { IfOk result (λ count. Happened (layout_of self.old.plan)
+            (works_of W.meaning (layout_of self.old.plan)) count self.old.parts self.new.parts) }
+        ensures within { IfOk result (λ count. count ≤ 1) }
+        ensures kept { OnErr result (self.new.parts ≡ self.old.parts) }
+        ensures used_up { result ≡ Err Ids → NeedsId (layout_of self.old.plan)
+            (works_of W.meaning (layout_of self.old.plan)) self.old.parts }
+        ensures never { result ≢ Err NotEnabled }
+    {
+        if !self.parts.node(number).block().may_make() {
+            self.agenda.list(Spot::Block(number));
+            return Ok(0);
+        }
+        self.make(alloc, number)?;
+        self.agenda.list_after_make(&self.parts, number);
+        Ok(1)
+    }
+
+    /// Does what would happen next at a link, as far as so many events.
+    fn move_on(&mut self, alloc: Global, id: usize, most: u64) -> Result<u64, NetFault>
+        requires kept { ∥ NetKeeps (layout_of self.old.plan) (works_of W.meaning (layout_of self.old.plan))
+            self.old.parts ∥₁ }
+        requires known { id < length (layout_of self.old.plan).links }
+        requires some { 0 < most }
+        ensures same_plan { self.new.plan ≡ self.old.plan }
+        ensures happened { IfOk result (λ count. Happened (layout_of self.old.plan)
+            (works_of W.meaning (layout_of self.old.plan)) count self.old.parts self.new.parts) }
+        ensures within { IfOk result (λ count. count ≤ most) }
+        ensures kept { OnErr result (self.new.parts ≡ self.old.parts) }
+        ensures used_up { result ≡ Err Ids → NeedsId (layout_of self.old.plan)
+            (works_of W.meaning (layout_of self.old.plan)) self.old.parts }
+        ensures never { result ≢ Err NotEnabled }
+    {
+        match self.event_at_link(id)? {
+            Some(event) => self.advance(alloc, &event, most),
+            None => Ok(0),
+        }
+    }
+
     /// Does an event that is due, and with an offer that its target takes at once the four that follow. Answers how many
     /// events those are, of at most so many.
     pub(crate) fn advance(
