@@ -24,6 +24,7 @@ pub mod NodesRest
 pub mod NodesSeen
 pub mod NothingToDo
 pub mod PassesOfNodes
+pub mod PlacesNamed
 pub mod PlacesOfLinks
 pub mod PlacesOfNumbers
 pub mod PlanMade
@@ -32,5 +33,8 @@ pub mod PortsChange
 pub mod PortsHold
 pub mod RoomFits
 pub mod ShapeHolds
+pub mod SourceStands
+pub mod StandsInOrder
+pub mod TargetStands
 pub mod TestsTell
 pub mod ViewsMove

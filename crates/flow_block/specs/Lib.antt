@@ -15,4 +15,5 @@ pub mod Passes
 pub mod Peeks
 pub mod Planned
 pub mod Routes
+pub mod Traits
 pub mod ViewsMove

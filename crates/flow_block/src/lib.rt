@@ -26,6 +26,7 @@ mod passes;
 mod peeks;
 mod planned;
 mod ports;
+mod traits;
 
 pub use block::Block;
 pub use input::Input;
@@ -36,3 +37,4 @@ pub use laws::{
 };
 pub use node::Node;
 pub use planned::{Route, port_of, ports_of, routes_of, rules_from};
+pub use traits::blocks_in_order_stand_as_their_ends;

@@ -1,0 +1,98 @@
+//! Blocks by the calls that all blocks have in common. The test carries what one says to the other.
+ghost use Rattle.std.specs.Prelude.{◌≡◌, [], ◌∷◌, IfOk, None, true, false};
+ghost use Rattle.flow_value.specs.declared.when.When.TheVariants.{Any};
+ghost use Rattle.flow_intake.specs.Port.{fresh_port};
+ghost use Rattle.flow_block.specs.BlockFits.{fresh_block};
+
+use flow_block::Block;
+use flow_intake::Intake;
+use flow_link::{
+    BlockKind, Completing, DataflowBlock, Outcome, SourceBlock, TargetBlock, Wish, WishAnswer,
+};
+use flow_outlet::LinkRule;
+use flow_value::{MessageHeader, MessageStatus, Parcel, Value, When};
+use std::alloc::Global;
+use std::test::Fail;
+
+/// A block of this kind with room for so many messages, or for any number, and with one link out of it, number 7.
+fn block(alloc: Global, kind: BlockKind, capacity: Option<u32>) -> Result<Block, Fail>
+    ensures { IfOk result (λ block. block ≡ fresh_block kind (fresh_port capacity ∷ [])
+        (record { id = 7; when = Any; max = None; passes = true; steady = false; sole = false } ∷ [])) }
+{
+    let mut ports = Vec::new(alloc);
+    ports.push(Intake::new(alloc, capacity))?;
+    let mut rules = Vec::new(alloc);
+    rules.push(LinkRule {
+        id: 7,
+        when: When::Any,
+        max: None,
+        passes: true,
+        steady: false,
+        sole: false,
+    })?;
+    Block::new(alloc, kind, ports, rules).map_err(|_| Fail::from("out of memory"))
+}
+
+fn parcel(alloc: Global, number: i64) -> Result<Parcel, Fail> {
+    Parcel::new(alloc, Value::Int(number)).map_err(|_| Fail::from("out of memory"))
+}
+
+#[test]
+fn a_message_is_taken_and_offered(rt: HostRuntime) -> Result<(), Fail> {
+    let one = MessageHeader::new(1).ok_or("no id")?;
+    let mut source = block(rt.alloc(), BlockKind::Buffer, None)?;
+    let mut target = block(rt.alloc(), BlockKind::Action, None)?;
+
+    // The source takes a message from outside, over a link with the number 0, and makes it ready.
+    let MessageStatus::Accepted = source.offer_message(rt.alloc(), 0, one, false)? else {
+        panic!(&rt; "it is not accepted");
+    };
+    source.hand_over(0, one, parcel(rt.alloc(), 5)?);
+    assert_eq!(rt; source.make(rt.alloc()), Ok(true));
+    assert_eq!(rt; source.make(rt.alloc()), Ok(false));
+
+    // It is offered over the link to the target, which takes it.
+    let Some((link, header)) = SourceBlock::next_offer(&mut source, rt.alloc())? else {
+        panic!(&rt; "nothing is offered");
+    };
+    assert_eq!(rt; link, 7);
+    assert_eq!(rt; header, one);
+    let MessageStatus::Accepted = target.offer_message(rt.alloc(), 7, one, true)? else {
+        panic!(&rt; "it is not accepted");
+    };
+    target.hand_over(7, one, parcel(rt.alloc(), 5)?);
+    assert_eq!(rt; target.make(rt.alloc()), Ok(false));
+    assert_eq!(rt; source.completion(), None);
+    Ok(())
+}
+
+#[test]
+fn a_message_waits_for_room(rt: HostRuntime) -> Result<(), Fail> {
+    let one = MessageHeader::new(1).ok_or("no id")?;
+    let mut target = block(rt.alloc(), BlockKind::Action, Some(1))?;
+    let MessageStatus::Accepted = target.offer_message(rt.alloc(), 0, one, true)? else {
+        panic!(&rt; "it is not accepted");
+    };
+    let MessageStatus::Postponed = target.offer_message(rt.alloc(), 1, one, true)? else {
+        panic!(&rt; "it is not postponed");
+    };
+    let Wish::None = target.next_wish() else {
+        panic!(&rt; "it wishes for more than it has room for");
+    };
+    target.note_wish(1, WishAnswer::Withdrawn);
+    assert_eq!(rt; target.next_wish(), Wish::None);
+    Ok(())
+}
+
+#[test]
+fn blocks_end_once(rt: HostRuntime) -> Result<(), Fail> {
+    let mut done = block(rt.alloc(), BlockKind::Buffer, None)?;
+    assert_eq!(rt; done.completion(), None);
+    DataflowBlock::complete(&mut done, 0);
+    assert_eq!(rt; done.completion(), Some(Outcome::Done));
+
+    let mut faulted = block(rt.alloc(), BlockKind::Buffer, None)?;
+    DataflowBlock::fault(&mut faulted, 3);
+    assert_eq!(rt; faulted.completion(), Some(Outcome::Faulted(3)));
+    Ok(())
+}
