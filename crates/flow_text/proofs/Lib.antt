@@ -2,7 +2,6 @@ pub mod AllGoneThrough
 pub mod FirstInPass
 pub mod KeyTestsTell
 pub mod NoPlanFor
-pub mod NumbersPlaced
 pub mod PrintedGrows
 pub mod RecordsPost
 pub mod ReportGrows

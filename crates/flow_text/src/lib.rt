@@ -4,6 +4,7 @@
 mod complete;
 mod fault;
 mod network;
+mod page;
 mod piece;
 mod plan_line;
 mod records;

@@ -17,9 +17,10 @@ ghost use Rattle.flow_text.specs.Report.{labelled, label_text};
 ghost use Rattle.flow_text.specs.Listed.{listed};
 
 use crate::fault::{TextFault, TextRefusal};
+use crate::page::{Page, gather_bytes, write_page};
 use crate::piece::write_bytes;
 use crate::seen::{block_at, block_count, held_at, left_at, link_at, link_count};
-use crate::value_text::write_item;
+use crate::value_text::gather_item;
 use flow_link::{BlockDef, BlockKind, Link, LinkSource, Mark};
 use flow_net::{Net, Settled, State};
 use flow_value::{Steps, Value};
@@ -63,18 +64,21 @@ fn write_taken<W: Write>(writer: &mut W, journal: &[Mark], port: u32) -> io::Res
         (list_text (took_at port journal.now))) }
     ensures kept { StaysInFront (W.contents writer.old) (W.contents writer.new) }
 {
-    write_bytes(writer, b"[")?;
+    let mut page = Page::new();
+    gather_bytes(writer, &mut page, b"[")?;
     let mut is_first = true;
     for mark in journal {
         match taken_at(mark, port) {
             Some(value) => {
-                write_item(writer, is_first, value)?;
+                gather_item(writer, &mut page, is_first, value)?;
                 is_first = false;
             }
             None => {}
         }
     }
-    write_bytes(writer, b"]")
+    gather_bytes(writer, &mut page, b"]")?;
+    write_page(writer, &mut page)?;
+    Ok(())
 }
 
 fn write_given<W: Write>(writer: &mut W, journal: &[Mark], link: usize) -> io::Result<()>
@@ -82,18 +86,21 @@ fn write_given<W: Write>(writer: &mut W, journal: &[Mark], link: usize) -> io::R
         (list_text (gave_over link journal.now))) }
     ensures kept { StaysInFront (W.contents writer.old) (W.contents writer.new) }
 {
-    write_bytes(writer, b"[")?;
+    let mut page = Page::new();
+    gather_bytes(writer, &mut page, b"[")?;
     let mut is_first = true;
     for mark in journal {
         match given_over(mark, link) {
             Some(value) => {
-                write_item(writer, is_first, value)?;
+                gather_item(writer, &mut page, is_first, value)?;
                 is_first = false;
             }
             None => {}
         }
     }
-    write_bytes(writer, b"]")
+    gather_bytes(writer, &mut page, b"]")?;
+    write_page(writer, &mut page)?;
+    Ok(())
 }
 
 // The values of two parts, as one list.
@@ -102,17 +109,20 @@ fn write_parts<W: Write>(writer: &mut W, front: &[Value], back: &[Value]) -> io:
         (list_text (front.now ++ back.now))) }
     ensures kept { StaysInFront (W.contents writer.old) (W.contents writer.new) }
 {
-    write_bytes(writer, b"[")?;
+    let mut page = Page::new();
+    gather_bytes(writer, &mut page, b"[")?;
     let mut is_first = true;
     'front: for value in front {
-        write_item(writer, is_first, value)?;
+        gather_item(writer, &mut page, is_first, value)?;
         is_first = false;
     }
     'back: for value in back {
-        write_item(writer, is_first, value)?;
+        gather_item(writer, &mut page, is_first, value)?;
         is_first = false;
     }
-    write_bytes(writer, b"]")
+    gather_bytes(writer, &mut page, b"]")?;
+    write_page(writer, &mut page)?;
+    Ok(())
 }
 
 // How many values the journal took over this link.

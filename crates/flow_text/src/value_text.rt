@@ -1,18 +1,13 @@
 //! Prints values: numbers in decimal, texts between double quotes, rows and lists between brackets.
-ghost use Rattle.std.specs.Prelude.{◌≡◌, ◌<◌, ◌≤◌, ◌+◌, ◌↔◌, [], ◌∷◌, ◌++◌, length, drop, IsTrue, IfSome, OnOk};
-ghost use Rattle.std.specs.Fmt.{signed_decimal};
-ghost use Rattle.std.specs.Io.KnownBytes.{Appends};
+ghost use Rattle.std.specs.Prelude.{◌≡◌, ◌<◌, ◌↔◌, true, false, [], ◌∷◌, ◌++◌, IsTrue, OnOk};
+ghost use Rattle.std.specs.Io.KnownBytes.{Appends, append_known};
 ghost use Rattle.flow_text.specs.Written.{StaysInFront};
 ghost use Rattle.flow_text.specs.Printed.{hex_digit, escaped, escapes, quoted, value_text, list_text, comma_unless};
 
-use crate::piece::write_bytes;
+use crate::page::{Page, Unwritten, gather_bytes};
 use flow_value::Value;
-use itoa::{Buffer, write_digits};
-use std::io;
+use itoa::Buffer;
 use std::io::Write;
-
-/// How many bytes go to the writer in one piece, at most: a comma and any number, or a short text.
-const PIECE: usize = 32;
 
 // Whether the byte stands for itself in a printed text. It has no branches.
 #[inline]
@@ -33,15 +28,17 @@ fn hex_digit_of(number: u8) -> u8
     }
 }
 
-fn write_escaped<W: Write>(writer: &mut W, byte: u8) -> io::Result<()>
-    ensures written { OnOk result (Appends (W.contents writer.old) (W.contents writer.new) (escaped byte)) }
+fn gather_escaped<W: Write>(writer: &mut W, page: &mut Page, byte: u8) -> Result<(), Unwritten>
+    ensures written { OnOk result (Appends (append_known (W.contents writer.old) page.old.items)
+        (append_known (W.contents writer.new) page.new.items) (escaped byte)) }
     ensures kept { StaysInFront (W.contents writer.old) (W.contents writer.new) }
 {
     match byte {
-        b'"' | b'\\' => write_bytes(writer, &[b'\\', byte]),
+        b'"' | b'\\' => gather_bytes(writer, page, &[b'\\', byte]),
         0..=31 | 127 => {
-            write_bytes(
+            gather_bytes(
                 writer,
+                page,
                 &[
                     b'\\',
                     b'x',
@@ -50,45 +47,48 @@ fn write_escaped<W: Write>(writer: &mut W, byte: u8) -> io::Result<()>
                 ],
             )
         }
-        _ => write_bytes(writer, &[byte]),
+        _ => gather_bytes(writer, page, &[byte]),
     }
 }
 
-fn write_escapes<W: Write>(writer: &mut W, text: &[u8]) -> io::Result<()>
-    ensures written { OnOk result (Appends (W.contents writer.old) (W.contents writer.new) (escapes text.now)) }
+fn gather_escapes<W: Write>(writer: &mut W, page: &mut Page, text: &[u8]) -> Result<(), Unwritten>
+    ensures written { OnOk result (Appends (append_known (W.contents writer.old) page.old.items)
+        (append_known (W.contents writer.new) page.new.items) (escapes text.now)) }
     ensures kept { StaysInFront (W.contents writer.old) (W.contents writer.new) }
 {
-    // what stands before this place is written
+    // what stands before this place is gathered
     let mut start = 0;
     for (at, byte) in text.iter().enumerate() {
         if !is_plain(*byte) {
-            write_bytes(writer, &text[start..at])?;
-            write_escaped(writer, *byte)?;
+            gather_bytes(writer, page, &text[start..at])?;
+            gather_escaped(writer, page, *byte)?;
             start = at + 1;
         }
     }
-    write_bytes(writer, &text[start..])
+    gather_bytes(writer, page, &text[start..])
 }
 
-// The comma before an item that is not the first.
-fn write_comma<W: Write>(writer: &mut W, is_first: bool) -> io::Result<()>
-    ensures written { OnOk result (Appends (W.contents writer.old) (W.contents writer.new) (comma_unless is_first)) }
+// Gathers a text between double quotes.
+fn gather_quoted<W: Write>(writer: &mut W, page: &mut Page, text: &str) -> Result<(), Unwritten>
+    ensures written { OnOk result (Appends (append_known (W.contents writer.old) page.old.items)
+        (append_known (W.contents writer.new) page.new.items) (quoted text.now)) }
+    ensures kept { StaysInFront (W.contents writer.old) (W.contents writer.new) }
+{
+    gather_bytes(writer, page, b"\"")?;
+    gather_escapes(writer, page, text.as_bytes())?;
+    gather_bytes(writer, page, b"\"")
+}
+
+// Gathers the comma before an item that is not the first.
+fn gather_comma<W: Write>(writer: &mut W, page: &mut Page, is_first: bool) -> Result<(), Unwritten>
+    ensures written { OnOk result (Appends (append_known (W.contents writer.old) page.old.items)
+        (append_known (W.contents writer.new) page.new.items) (comma_unless is_first)) }
     ensures kept { StaysInFront (W.contents writer.old) (W.contents writer.new) }
 {
     if is_first {
         return Ok(());
     }
-    write_bytes(writer, b",")
-}
-
-// Writes a text between double quotes.
-fn write_quoted<W: Write>(writer: &mut W, text: &str) -> io::Result<()>
-    ensures written { OnOk result (Appends (W.contents writer.old) (W.contents writer.new) (quoted text.now)) }
-    ensures kept { StaysInFront (W.contents writer.old) (W.contents writer.new) }
-{
-    write_bytes(writer, b"\"")?;
-    write_escapes(writer, text.as_bytes())?;
-    write_bytes(writer, b"\"")
+    gather_bytes(writer, page, b",")
 }
 
 // Whether each byte of the text stands for itself in print.
@@ -103,114 +103,106 @@ fn is_plain_text(text: &[u8]) -> bool
     plain
 }
 
-// Places a byte in front of those that begin here, and says where they begin now.
+// Puts the digits of a number on the page as an item, if there is room for them; else false.
 #[inline]
-fn place_byte(piece: &mut [u8; PIECE], start: usize, byte: u8) -> usize
-    requires { (0 < start) × (start ≤ 32) }
-    ensures placed { drop result piece.new ≡ byte ∷ drop start piece.old }
-    ensures start { result + 1 ≡ start }
+fn put_digits(page: &mut Page, is_first: bool, digits: &[u8]) -> bool
+    ensures put { result ≡ true → page.new.items ≡ page.old.items ++ (comma_unless is_first ++ digits.now) }
+    ensures kept { result ≡ false → page.new ≡ page.old }
 {
-    piece[start - 1] = byte;
-    start - 1
-}
-
-// Places the comma in front of an item that begins here, unless it is the first, and says where that begins now.
-#[inline]
-fn place_comma(piece: &mut [u8; PIECE], start: usize, is_first: bool) -> usize
-    requires { (0 < start) × (start ≤ 32) }
-    ensures placed { drop result piece.new ≡ comma_unless is_first ++ drop start piece.old }
-    ensures within { result ≤ start }
-{
-    if is_first {
-        return start;
+    if page.remaining_capacity() <= digits.len() {
+        return false;
     }
-    place_byte(piece, start, b',')
-}
-
-// Places a number as an item at the end of the piece, and says where it begins.
-#[inline]
-fn place_number(piece: &mut [u8; PIECE], is_first: bool, number: i64) -> usize
-    ensures placed { drop result piece.new ≡ comma_unless is_first ++ signed_decimal number }
-    ensures within { result ≤ 32 }
-{
-    let digits = write_digits(number.unsigned_abs(), piece, PIECE);
-    if number >= 0 {
-        return place_comma(piece, digits, is_first);
+    if !is_first {
+        page.push(b',');
     }
-    let start = place_byte(piece, digits, b'-');
-    place_comma(piece, start, is_first)
+    let _fits = page.try_extend_from_slice(digits);
+    true
 }
 
-// Places a short text as an item at the end of the piece, and says where it begins; None where it is long or a byte of
-// it is escaped.
+// Puts a text on the page as an item, if there is room for it and none of its bytes is escaped; else false.
 #[inline]
-fn place_text(piece: &mut [u8; PIECE], is_first: bool, text: &[u8]) -> Option<usize>
-    ensures { IfSome result (λ start.
-        (drop start piece.new ≡ comma_unless is_first ++ quoted text.now) × (start ≤ 32)) }
+fn put_text(page: &mut Page, is_first: bool, text: &[u8]) -> bool
+    ensures put { result ≡ true → page.new.items ≡ page.old.items ++ (comma_unless is_first ++ quoted text.now) }
+    ensures kept { result ≡ false → page.new ≡ page.old }
 {
-    if text.len() > PIECE - 3 || !is_plain_text(text) {
-        return None;
+    if page.remaining_capacity().saturating_sub(2) <= text.len() || !is_plain_text(text) {
+        return false;
     }
-    let end = PIECE - 1;
-    let start = end - text.len();
-    piece[end] = b'"';
-    piece[start..end].copy_from_slice(text);
-    let quote = place_byte(piece, start, b'"');
-    Some(place_comma(piece, quote, is_first))
+    if !is_first {
+        page.push(b',');
+    }
+    page.push(b'"');
+    let _fits = page.try_extend_from_slice(text);
+    page.push(b'"');
+    true
 }
 
-// Places a number or a short text as an item at the end of the piece; None for what has to be written in parts.
+// Puts a number or a plain text on the page as an item, if there is room for it; else false.
 #[inline]
-fn place_value(piece: &mut [u8; PIECE], is_first: bool, value: &Value) -> Option<usize>
-    ensures { IfSome result (λ start.
-        (drop start piece.new ≡ comma_unless is_first ++ value_text value.now) × (start ≤ 32)) }
+fn put_item(page: &mut Page, is_first: bool, value: &Value) -> bool
+    ensures put { result ≡ true → page.new.items ≡ page.old.items ++ (comma_unless is_first ++ value_text value.now) }
+    ensures kept { result ≡ false → page.new ≡ page.old }
 {
     match value {
-        Value::Int(number) => Some(place_number(piece, is_first, *number)),
-        Value::Text(text) => place_text(piece, is_first, text.as_str().as_bytes()),
-        Value::Row(_) => None,
+        Value::Int(number) => put_digits(page, is_first, Buffer::new().format(*number).as_bytes()),
+        Value::Text(text) => put_text(page, is_first, text.as_str().as_bytes()),
+        Value::Row(_) => false,
     }
 }
 
-/// Writes the value as an item of a list: with a comma before it, unless it is the first.
+/// Gathers the value as an item of a list: with a comma before it, unless it is the first.
 #[cycle(printing)]
-pub(crate) fn write_item<W: Write>(writer: &mut W, is_first: bool, value: &Value) -> io::Result<()>
-    ensures written { OnOk result (Appends (W.contents writer.old) (W.contents writer.new)
-        (comma_unless is_first ++ value_text value.now)) }
+pub(crate) fn gather_item<W: Write>(
+    writer: &mut W,
+    page: &mut Page,
+    is_first: bool,
+    value: &Value,
+) -> Result<(), Unwritten>
+    ensures written { OnOk result (Appends (append_known (W.contents writer.old) page.old.items)
+        (append_known (W.contents writer.new) page.new.items) (comma_unless is_first ++ value_text value.now)) }
     ensures kept { StaysInFront (W.contents writer.old) (W.contents writer.new) }
 {
-    let mut piece = [0; PIECE];
-    match place_value(&mut piece, is_first, value) {
-        Some(start) => write_bytes(writer, &piece[start..]),
-        None => write_parts(writer, is_first, value),
+    if put_item(page, is_first, value) {
+        return Ok(());
     }
+    gather_parts(writer, page, is_first, value)
 }
 
-// Writes the value as an item, part by part.
+// Gathers the value as an item, part by part.
 #[cold]
 #[cycle(printing)]
-fn write_parts<W: Write>(writer: &mut W, is_first: bool, value: &Value) -> io::Result<()>
-    ensures written { OnOk result (Appends (W.contents writer.old) (W.contents writer.new)
-        (comma_unless is_first ++ value_text value.now)) }
+fn gather_parts<W: Write>(
+    writer: &mut W,
+    page: &mut Page,
+    is_first: bool,
+    value: &Value,
+) -> Result<(), Unwritten>
+    ensures written { OnOk result (Appends (append_known (W.contents writer.old) page.old.items)
+        (append_known (W.contents writer.new) page.new.items) (comma_unless is_first ++ value_text value.now)) }
     ensures kept { StaysInFront (W.contents writer.old) (W.contents writer.new) }
 {
-    write_comma(writer, is_first)?;
+    gather_comma(writer, page, is_first)?;
     match value {
-        Value::Int(number) => write_bytes(writer, Buffer::new().format(*number).as_bytes()),
-        Value::Text(text) => write_quoted(writer, text.as_str()),
-        Value::Row(row) => write_values(writer, row.items()),
+        Value::Int(number) => gather_bytes(writer, page, Buffer::new().format(*number).as_bytes()),
+        Value::Text(text) => gather_quoted(writer, page, text.as_str()),
+        Value::Row(row) => gather_values(writer, page, row.items()),
     }
 }
 
-/// Writes the list of these values.
+// Gathers the list of these values.
 #[cycle(printing)]
-pub(crate) fn write_values<W: Write>(writer: &mut W, values: &[Value]) -> io::Result<()>
-    ensures written { OnOk result (Appends (W.contents writer.old) (W.contents writer.new) (list_text values.now)) }
+fn gather_values<W: Write>(
+    writer: &mut W,
+    page: &mut Page,
+    values: &[Value],
+) -> Result<(), Unwritten>
+    ensures written { OnOk result (Appends (append_known (W.contents writer.old) page.old.items)
+        (append_known (W.contents writer.new) page.new.items) (list_text values.now)) }
     ensures kept { StaysInFront (W.contents writer.old) (W.contents writer.new) }
 {
-    write_bytes(writer, b"[")?;
+    gather_bytes(writer, page, b"[")?;
     for (at, value) in values.iter().enumerate() {
-        write_item(writer, at == 0, value)?;
+        gather_item(writer, page, at == 0, value)?;
     }
-    write_bytes(writer, b"]")
+    gather_bytes(writer, page, b"]")
 }

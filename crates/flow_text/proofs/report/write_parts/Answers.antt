@@ -7,8 +7,8 @@ front-preserved g c =
     let grown = take-next c.args.front.now c.front.value-index c.value-item.result c.front-test.true c.value-item.is in
     record {
       first = not-empty _ _ _ grown;
-      written = opened-next _ _ _ _ _ _ _ grown c.front.invariant.first c.front.invariant.written c.in_ok-write_item.ensures.written;
-      kept = λ front begins. c.in_ok-write_item.ensures.kept front (c.front.invariant.kept front begins);
+      written = opened-next _ _ _ _ _ _ _ grown c.front.invariant.first c.front.invariant.written c.in_ok-gather_item.ensures.written;
+      kept = λ front begins. c.in_ok-gather_item.ensures.kept front (c.front.invariant.kept front begins);
     }
 
 pub back-preserved : goal.back-preserved
@@ -17,6 +17,6 @@ back-preserved g c =
     ∙ sym (append_assoc c.args.front.now (take c.back.value-index c.args.back.now) (c.value-item-in-back.result ∷ [])) in
     record {
       first = not-empty _ _ _ grown;
-      written = opened-next _ _ _ _ _ _ _ grown c.back.invariant.first c.back.invariant.written c.in_ok-write_item-2.ensures.written;
-      kept = λ front begins. c.in_ok-write_item-2.ensures.kept front (c.back.invariant.kept front begins);
+      written = opened-next _ _ _ _ _ _ _ grown c.back.invariant.first c.back.invariant.written c.in_ok-gather_item-2.ensures.written;
+      kept = λ front begins. c.in_ok-gather_item-2.ensures.kept front (c.back.invariant.kept front begins);
     }
