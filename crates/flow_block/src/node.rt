@@ -81,6 +81,7 @@ impl Node {
 impl Node {
     /// Sets memory aside for one more message at a port, and for its mark, from the answer to its offer until it is
     /// taken.
+    #[inline(always)]
     pub fn prepare_answer(&mut self, port: u32) -> Result<(), AllocError>
         requires { port < length self.old.block.ports }
         ensures done { OnOk result (self.new ≡ with_block (with_port port prepared self.old.block) self.old) }
@@ -181,6 +182,7 @@ impl Node {
 // The source's side.
 impl Node {
     /// Sets memory aside for the parcel of the head, and for the mark that it is given.
+    #[inline(always)]
     pub fn prepare_offer(&mut self, alloc: Global) -> Result<(), AllocError>
         ensures done { OnOk result (self.new ≡ with_exits (prepares self.old.block.exits) self.old) }
         ensures kept { OnErr result (self.new ≡ self.old) }

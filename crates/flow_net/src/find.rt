@@ -138,6 +138,7 @@ impl<W: Work> Engine<W> {
     }
 
     /// The event that would happen next at a link: a move of its source, or else of its target.
+    #[inline(always)]
     pub(crate) fn event_at_link(&self, id: usize) -> Result<Option<Event<W>>, NetFault>
         requires known { id < length (layout_of self.now.plan).links }
         requires kept { ∥ NetKeeps (layout_of self.now.plan) (works_of W.meaning (layout_of self.now.plan))

@@ -626,6 +626,7 @@ fn weight_at_once(count: usize, weight: u32) -> u32
 }
 
 // the first place that the head does not go past: where nothing was left, there is a new head
+#[inline]
 fn cursor_with(
     was_empty: bool,
     cursor: usize,

@@ -121,7 +121,7 @@ impl Work for Steps {
     ghost never_memory = { meaning_of-never };
 
     fn run(&self, alloc: Global, value: &Value) -> Result<Vec<Value>, WorkFault> {
-        let mut results = Vec::new(alloc);
+        let mut results = Vec::with_capacity(alloc, 1)?;
         run_onto(alloc, self.as_slice(), value.copy(alloc)?, &mut results)?;
         Ok(results)
     }

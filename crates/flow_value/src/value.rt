@@ -131,8 +131,16 @@ impl Text {
     {
         match Arc::try_clone(&self.content) {
             Ok(content) => Ok(Text { content }),
-            Err(_) => Text::from_str(alloc, self.as_str()),
+            Err(_) => self.copy_content(alloc),
         }
+    }
+
+    // Cold, as it is where a text is shared more often than can be counted.
+    #[cold]
+    fn copy_content(&self, alloc: Global) -> Result<Text, AllocError>
+        ensures { IfOk result (λ text. text ≡ self.now) }
+    {
+        Text::from_str(alloc, self.as_str())
     }
 }
 
@@ -177,6 +185,8 @@ impl Row {
     }
 
     /// A second row with the same values.
+    // Cold, so that the copy of a number or a text, which are most, does not pay for it.
+    #[cold]
     #[cycle(copy)]
     pub fn copy(&self, alloc: Global) -> Result<Row, AllocError>
         ensures { IfOk result (λ row. row ≡ self.now) }
