@@ -16,7 +16,7 @@ with_more (Ok values) (Some firsts) all more after e rest =
 with_more (Ok values) None all more after e rest = absurd (cc)
 with_more (Err n) before all more after e rest = absurd (cc)
 
-results_more : (result : Value → Result (List Value) ℕ) (done : List Value) (results : List (List Value)) (value : Value) (made : List Value)
+pub results_more : (result : Value → Result (List Value) ℕ) (done : List Value) (results : List (List Value)) (value : Value) (made : List Value)
     → results_of result done ≡ Some results → result value ≡ Ok made → results_of result (done ++ value ∷ []) ≡ Some (results ++ made ∷ [])
 results_more result [] results value made e is =
     let none : [] ≡ results = cc in
@@ -25,7 +25,7 @@ results_more result (first ∷ done) results value made e is =
     with_more (result first) (results_of result done) results (made ∷ []) (results_of result (done ++ value ∷ [])) e
     (λ firsts so. results_more result done firsts value made so is)
 
-concat_more : (results : List (List Value)) (made : List Value) → concat (results ++ made ∷ []) ≡ concat results ++ made
+pub concat_more : (results : List (List Value)) (made : List Value) → concat (results ++ made ∷ []) ≡ concat results ++ made
 concat_more [] made = append-nil made
 concat_more (first ∷ results) made = ap (λ (vs : List Value). first ++ vs) (concat_more results made) ∙ sym (append_assoc first (concat results) made)
 

@@ -3,7 +3,7 @@ use Rattle.std.specs.Prelude.{ℕ, ◌==◌, Bool, true, false, not, ◌&&◌, �
 use Rattle.flow_link.specs.declared.draft.BlockDef.{BlockDef}
 use Rattle.flow_link.specs.declared.draft.LinkDef.{LinkDef}
 use Rattle.flow_link.specs.declared.draft.BlockKind.{BlockKind}
-use Rattle.flow_link.specs.declared.draft.BlockKind.TheVariants.{Buffer, Action, Transform}
+use Rattle.flow_link.specs.declared.draft.BlockKind.TheVariants.{Buffer, Action, Transform, TransformMany}
 use Rattle.flow_link.specs.declared.plan.Place.TheVariants.{Block, Link as at_link}
 use Rattle.flow_link.specs.declared.plan.PlanFault.{PlanFault}
 use Rattle.flow_link.specs.declared.plan.PlanFault.TheVariants.{Limit, DuplicateName, UnknownBlock, Port, NoOutput, BadOption}
@@ -15,6 +15,7 @@ abbrev pub is_built_kind : BlockKind → Bool
 is_built_kind Buffer = true
 is_built_kind Action = true
 is_built_kind Transform = true
+is_built_kind TransformMany = true
 is_built_kind _ = false
 
 -- one job at once, and nothing that the caller receives

@@ -57,7 +57,7 @@ fn is_built_kind(kind: BlockKind) -> bool
 {
     matches!(
         kind,
-        BlockKind::Buffer | BlockKind::Action | BlockKind::Transform
+        BlockKind::Buffer | BlockKind::Action | BlockKind::Transform | BlockKind::TransformMany
     )
 }
 
