@@ -265,8 +265,10 @@ module _ {W : Type 0} (layout : Layout W) (meaning : ℕ → Value → Result (L
   kept_as Action values block journal law none =
       works_on block journal law (λ port. gives_room 1 (takes_next port)) block.exits
       (block.recorded ++ values) refl refl none
-  kept_as kind values block journal law none =
-      works_on block journal law takes_next (puts_out values block).exits block.recorded refl refl none
+  kept_as kind [] block journal law none =
+      works_on block journal law (λ port. gives_room 1 (takes_next port)) block.exits block.recorded refl refl none
+  kept_as kind (value ∷ values) block journal law none =
+      works_on block journal law takes_next (puts_out (value ∷ values) block).exits block.recorded refl refl none
 
   yielded : (made : Result (List Value) ℕ) (block : BlockState) (journal : List Mark) → Ends block journal
       → block.stopped ≡ None

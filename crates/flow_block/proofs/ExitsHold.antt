@@ -1,5 +1,5 @@
 -- Each call keeps a block's exits in order.
-use Rattle.std.proofs.Common.{◌≡◌, ℕ, ◌<◌, Bool, true, false, ◌||◌, List, length, set, map, Option, Some, None, is_some, Result, Ok, Err, refl, ap, sym, ◌∙◌, subst}
+use Rattle.std.proofs.Common.{◌≡◌, ℕ, ◌<◌, Bool, true, false, ◌||◌, List, [], ◌∷◌, length, set, map, Option, Some, None, is_some, Result, Ok, Err, refl, ap, sym, ◌∙◌, subst}
 use Rattle.std.specs.Option.{ForSome}
 use Rattle.flow_value.specs.declared.value.Value.{Value}
 use Rattle.flow_link.specs.declared.draft.BlockKind.{BlockKind}
@@ -122,10 +122,15 @@ module _ {W : Type 0} (layout : Layout W) (meaning : ℕ → Value → Result (L
       law = (port_stays 0 (gives_room 1 (takes_next (port_at 0 block))) refl).law;
       none_kept = law.none_kept;
     }
-    results_keep _ values fit = record {
+    results_keep _ [] fit = record {
+      law = (port_stays 0 (gives_room 1 (takes_next (port_at 0 block))) refl).law;
+      none_kept = law.none_kept;
+    }
+    results_keep _ (value ∷ values) fit = record {
       law = calls_keep_law.put (is_pending (record block { ports = set block.ports 0 (takes_next (port_at 0 block)) }))
           block.stopped block.exits
-          (port_stays 0 (takes_next (port_at 0 block)) refl).law values (unit_weight (port_at 0 block).capacity) fit;
+          (port_stays 0 (takes_next (port_at 0 block)) refl).law (value ∷ values)
+          (unit_weight (port_at 0 block).capacity) fit;
       none_kept = law.none_kept;
     }
 

@@ -3,7 +3,7 @@ use Rattle.std.proofs.Common.{◌≡◌, ℕ, zero, suc, ◌+◌, ◌<◌, true,
 use Rattle.std.proofs.lemmas.List.{length-map}
 use Rattle.flow_value.specs.declared.value.Value.{Value}
 use Rattle.flow_link.specs.declared.draft.BlockKind.{BlockKind}
-use Rattle.flow_link.specs.declared.draft.BlockKind.TheVariants.{Buffer, Action, Transform}
+use Rattle.flow_link.specs.declared.draft.BlockKind.TheVariants.{Buffer, Action, Transform, TransformMany}
 use Rattle.flow_link.specs.declared.stage.Refusal.TheVariants.{OwnFault}
 use Rattle.flow_link.specs.declared.stage.TargetStage.TheVariants.{Refused}
 use Rattle.flow_link.specs.Facts.{facts_in}
@@ -21,7 +21,7 @@ use Rattle.flow_outlet.specs.End.{fresh_end as fresh_out, end_in as out_in}
 use Rattle.flow_outlet.proofs.LawKept.{calls_keep_law}
 use Rattle.flow_block.specs.Block.{port_in}
 use Rattle.flow_block.specs.Fresh.{FreshInOrder}
-use Rattle.flow_block.specs.NodeLaw.{is_kept, MakesAs, PortAsPlanned, GaveOver, weighed}
+use Rattle.flow_block.specs.NodeLaw.{is_kept, MakesAs, WeighsAs, PortAsPlanned, GaveOver, weighed, partly_weighed}
 use Rattle.flow_block.specs.Peeks.{is_pending}
 use Rattle.flow_block.specs.Planned.{block_makes, links_to, links_from, rule_of, port_of_plan, fresh_node}
 use Rattle.flow_block.proofs.EndsTell.{none_come}
@@ -56,11 +56,24 @@ nothing_weighed : (capacity : Option ℕ) (next : ℕ) → [] ≡ weighed capaci
 nothing_weighed None next = refl
 nothing_weighed (Some c) next = refl
 
+nothing_partly_given : (capacity : Option ℕ) → [] ≡ partly_weighed capacity 0 []
+nothing_partly_given None = refl
+nothing_partly_given (Some c) = refl
+
 nothing_made : (result : Value → Result (List Value) ℕ) (kind : BlockKind) → MakesAs result kind [] [] [] [] []
 nothing_made result Buffer = refl
 nothing_made result Action = (record { done = []; results = []; taken_is = refl; worked = refl; all = refl }, refl)
 nothing_made result Transform = record { done = []; results = []; taken_is = refl; worked = refl; all = refl }
+nothing_made result TransformMany = record { done = []; results = []; taken_is = refl; worked = refl; all = refl }
 nothing_made result _ = tt
+
+weighs_nothing : (result : Value → Result (List Value) ℕ) (kind : BlockKind) (capacity : Option ℕ) (next : ℕ)
+    → WeighsAs result kind capacity [] [] [] [] next []
+weighs_nothing result TransformMany capacity next = record {
+  works = record { done = []; results = []; taken_is = refl; worked = refl; all = refl };
+  groups_are = nothing_partly_given capacity;
+}
+weighs_nothing result _ capacity next = nothing_weighed capacity next
 
 module _ {W : Type 0} (layout : Layout W) (b : ℕ) where
   -- each port is a fresh one of the plan
@@ -150,7 +163,9 @@ fresh_in_order W layout meaning b built =
         fault_is = λ number e. absurd (cc);
       };
       load = record {
-        groups = nothing_weighed block.capacity 1;
+        groups = subst (λ (held : List Value). WeighsAs (block_makes layout meaning b) block.kind block.capacity [] held
+            [] [] 1 []) (sym (nothing_held layout b (below (port_count block))))
+            (weighs_nothing (block_makes layout meaning b) block.kind block.capacity 1);
         no_room = refl;
         load = each_port layout b (λ p port. is_some block.capacity ≡ true → port.load ≡ length port.waiting + 0)
             (λ p some. refl);

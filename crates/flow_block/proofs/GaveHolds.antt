@@ -266,7 +266,9 @@ module _ {W : Type 0} (layout : Layout W) (meaning : ℕ → Value → Result (L
       → GaveLaw layout meaning b block.exits journal
       → GaveLaw layout meaning b (keeps_results kind values block).exits journal
   results_keep block journal Action values law = law
-  results_keep block journal _ values law = record { each = law.each; next_is = law.next_is; in_order = law.in_order }
+  results_keep block journal _ [] law = law
+  results_keep block journal _ (value ∷ values) law =
+      record { each = law.each; next_is = law.next_is; in_order = law.in_order }
 
   result_keeps : (block : BlockState) (journal : List Mark) (made : Result (List Value) ℕ)
       → GaveLaw layout meaning b block.exits journal

@@ -2,20 +2,21 @@
 use Rattle.std.proofs.Common.{◌≡◌, ℕ, true, length, Result, refl, ap, sym, ◌∙◌, List}
 use Rattle.flow_value.specs.declared.value.Value.{Value}
 use Rattle.flow_link.specs.declared.draft.BlockKind.{BlockKind}
-use Rattle.flow_link.specs.declared.draft.BlockKind.TheVariants.{Buffer, Action, Transform}
+use Rattle.flow_link.specs.declared.draft.BlockKind.TheVariants.{Buffer, Action, Transform, TransformMany}
 use Rattle.flow_link.specs.Layout.{Layout}
 use Rattle.flow_link.specs.Plan.{block_in, ports_by_kind}
 use Rattle.flow_block.specs.Block.{BlockState}
 use Rattle.flow_block.specs.NodeLaw.{ShapeLaw}
 use Rattle.flow_block.specs.Planned.{is_built}
 
--- what holds of buffers, actions and transforms holds of each kind that is built
-pub by_kind : (P : BlockKind → Type 0) → P Buffer → P Action → P Transform → (kind : BlockKind) → is_built kind ≡ true
-    → P kind
-by_kind P buffer action transform Buffer e = buffer
-by_kind P buffer action transform Action e = action
-by_kind P buffer action transform Transform e = transform
-by_kind P buffer action transform _ e = absurd (cc)
+-- what holds of buffers, actions and both transforms holds of each kind that is built
+pub by_kind : (P : BlockKind → Type 0) → P Buffer → P Action → P Transform → P TransformMany → (kind : BlockKind)
+    → is_built kind ≡ true → P kind
+by_kind P buffer action transform many Buffer e = buffer
+by_kind P buffer action transform many Action e = action
+by_kind P buffer action transform many Transform e = transform
+by_kind P buffer action transform many TransformMany e = many
+by_kind P buffer action transform many _ e = absurd (cc)
 
 module _ {W : Type 0} (layout : Layout W) (meaning : ℕ → Value → Result (List Value) ℕ) (b : ℕ) (block : BlockState)
     (shape : ShapeLaw layout meaning b block) where
@@ -25,5 +26,5 @@ module _ {W : Type 0} (layout : Layout W) (meaning : ℕ → Value → Result (L
   pub has_one_port : length block.ports ≡ 1
   has_one_port =
       shape.port_count_is
-      ∙ by_kind (λ kind. ports_by_kind kind (block_in layout.blocks b).ports ≡ 1) refl refl refl
+      ∙ by_kind (λ kind. ports_by_kind kind (block_in layout.blocks b).ports ≡ 1) refl refl refl refl
       (block_in layout.blocks b).kind planned_built

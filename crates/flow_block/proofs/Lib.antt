@@ -38,3 +38,4 @@ pub mod StandsInOrder
 pub mod TargetStands
 pub mod TestsTell
 pub mod ViewsMove
+pub mod WeightsOfResults

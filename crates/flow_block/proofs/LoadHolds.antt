@@ -1,22 +1,31 @@
--- Each call keeps what a block counts of its places: one is taken by each message that it holds or has left.
-use Rattle.std.proofs.Common.{◌≡◌, ℕ, ◌+◌, ◌<◌, cond, Bool, true, false, List, [], ◌∷◌, ◌++◌, length, map, set, drop, Option, Some, None, is_some, Result, Ok, Err, refl, ap, sym, ◌∙◌, subst, arith, eq-eqb, length-append}
+-- Each call keeps what a block counts of its places: one is taken by each message that it holds or has not wholly given.
+use Rattle.std.proofs.Common.{◌≡◌, ℕ, ◌+◌, ◌-◌, ◌<◌, ◌==◌, ◌||◌, cond, Bool, true, false, List, [], ◌∷◌, ◌++◌, length, map, set, drop, Option, Some, None, is_some, Result, Ok, Err, refl, ap, sym, ◌∙◌, subst, append-nil, arith, ne_eqb, length-append}
+use Rattle.std.proofs.lemmas.List.{get_or-set_same}
 use Rattle.flow_value.specs.declared.value.Value.{Value}
 use Rattle.flow_link.specs.declared.draft.BlockKind.{BlockKind}
-use Rattle.flow_link.specs.declared.draft.BlockKind.TheVariants.{Buffer, Action, Transform}
+use Rattle.flow_link.specs.declared.draft.BlockKind.TheVariants.{Buffer, Action, Transform, TransformMany}
+use Rattle.flow_link.specs.declared.trace.Mark.{Mark}
+use Rattle.flow_link.specs.declared.trace.Mark.TheVariants.{Complete, Fault, Done}
+use Rattle.flow_link.specs.declared.trace.Outcome.{Outcome}
+use Rattle.flow_link.specs.declared.trace.Outcome.TheVariants as outcome
+use Rattle.flow_link.specs.JournalGrows.{taken_by_mark, given_by_mark}
 use Rattle.flow_link.specs.Layout.{Layout}
 use Rattle.flow_link.specs.Making.{result_of}
 use Rattle.flow_link.specs.Plan.{block_in}
-use Rattle.flow_intake.specs.Port.{PortState}
-use Rattle.flow_intake.specs.Calls.{first_of, one_more, closes, takes_next, gives_room, port_closes, port_fails}
+use Rattle.flow_link.specs.Trace.{took, gave}
+use Rattle.flow_link.proofs.OneMoreMark.{took_no_more, gave_no_more, took_by_took, gave_by_took, took_by_gave, gave_by_gave}
+use Rattle.flow_intake.specs.Port.{PortState, fresh_port}
+use Rattle.flow_intake.specs.Calls.{first_of, one_more, wants, turns_down, postpones, refuses, consumes, opens, closes, looks as port_looks, takes_next, gives_room, port_closes, port_fails}
 use Rattle.flow_outlet.specs.declared.group.Group.{Group}
-use Rattle.flow_outlet.specs.Outlet.{OutletState, first_of as first_left, rest_of, head_of, groups_with, groups_after, room_with, weight_at, gives}
-use Rattle.flow_block.specs.Block.{BlockState, port_in, held_by, unit_weight, made_of, yields, keeps_results, makes_of}
-use Rattle.flow_block.specs.Node.{NodeState, NodeCall, hand_at, takes_in, gives_from}
-use Rattle.flow_block.specs.NodeLaw.{ShapeLaw, LoadLaw, weighed}
-use Rattle.flow_block.specs.NodeKeeps.{after_call, LoadKept}
+use Rattle.flow_outlet.specs.Outlet.{OutletState, head_of, groups_with, groups_after, room_with, gives, prepares, offers, denies, withdraws, ends_link, looks as exit_looks}
+use Rattle.flow_block.specs.Block.{BlockState, port_in, port_at, with_port, held_by, unit_weight, made_of, puts_out, fails, yields, keeps_results, makes_of, stops_by}
+use Rattle.flow_block.specs.Node.{NodeState, NodeCall, hand_at, in_link_at, out_link_at, takes_in, gives_from}
+use Rattle.flow_block.specs.NodeLaw.{NodeLaw, ShapeLaw, LoadLaw, WeighsAs}
+use Rattle.flow_block.specs.NodeKeeps.{MayCall, after_call, LoadKept}
 use Rattle.flow_block.specs.Planned.{is_built, block_makes}
 use Rattle.flow_block.proofs.KindsBuilt.{has_one_port}
-use Rattle.flow_block.proofs.PortsChange.{each_after_one, each_after_all}
+use Rattle.flow_block.proofs.PortsChange.{kept_at_one, kept_at_all, each_after_one, each_after_all}
+use Rattle.flow_block.proofs.WeightsOfResults.{is_many, weight_back, weighs_taken, weighs_given, weighs_many, weighs_one}
 
 abbrev is_action : BlockKind → Bool
 is_action Action = true
@@ -32,51 +41,45 @@ transformed_is_one (Ok (value ∷ next ∷ more)) values e = absurd (cc)
 
 made_by_kind : (kind : BlockKind) (raw : Value → Result (List Value) ℕ) (value : Value) (values : List Value)
     → is_built kind ≡ true → made_of kind (λ v. result_of kind (raw v)) value ≡ Ok values
-    → is_action kind ≡ false → length values ≡ 1
-made_by_kind Buffer raw value values built e other = let same : values ≡ value ∷ [] = cc in rw same refl
-made_by_kind Action raw value values built e other = absurd (cc)
-made_by_kind Transform raw value values built e other = transformed_is_one (raw value) values e
-made_by_kind kind raw value values built e other = absurd (cc)
+    → is_action kind ≡ false → is_many kind ≡ false → length values ≡ 1
+made_by_kind Buffer raw value values built e other single = let same : values ≡ value ∷ [] = cc in rw same refl
+made_by_kind Action raw value values built e other single = absurd (cc)
+made_by_kind Transform raw value values built e other single = transformed_is_one (raw value) values e
+made_by_kind TransformMany raw value values built e other single = absurd (cc)
+made_by_kind kind raw value values built e other single = absurd (cc)
 
 made_is_one : (kind planned : BlockKind) (raw : Value → Result (List Value) ℕ) (value : Value) (values : List Value)
     → kind ≡ planned → is_built kind ≡ true → made_of kind (λ v. result_of planned (raw v)) value ≡ Ok values
-    → is_action kind ≡ false → length values ≡ 1
-made_is_one kind planned raw value values same built e other =
+    → is_action kind ≡ false → is_many kind ≡ false → length values ≡ 1
+made_is_one kind planned raw value values same built e other single =
     made_by_kind kind raw value values built
-    (subst (λ (other : BlockKind). made_of kind (λ v. result_of other (raw v)) value ≡ Ok values) (sym same) e) other
+    (subst (λ (other : BlockKind). made_of kind (λ v. result_of other (raw v)) value ≡ Ok values) (sym same) e)
+    other single
 
--- the weights of what is left, with one message more and with one less
-weighed_more : (capacity next : ℕ) (left : List Value) (value : Value)
-    → weighed (Some capacity) next (left ++ value ∷ [])
-    ≡ weighed (Some capacity) next left ++ record { until = next + length left; weight = 1 } ∷ []
-weighed_more capacity next [] value = ap (λ (n : ℕ). record { until = n; weight = 1 } ∷ []) (omega arith)
-weighed_more capacity next (first ∷ left) value =
-    let last : next + 1 + length left ≡ next + length (first ∷ left) = omega arith in
-    ap (λ (groups : List Group). record { until = next; weight = 1 } ∷ groups)
-    (weighed_more capacity (next + 1) left value
-    ∙ ap (λ (n : ℕ). weighed (Some capacity) (next + 1) left ++ record { until = n; weight = 1 } ∷ []) last)
+-- a result that is there takes a place
+one_group : (capacity : Option ℕ) (next count : ℕ) (groups : List Group) → is_some capacity ≡ true → 0 < count
+    → length (groups_with next count (unit_weight capacity) groups) ≡ length groups + 1
+one_group None next count groups there some = absurd (cc)
+one_group (Some c) next count groups there some =
+    let last : Group = record { until = next + (count - 1); weight = 1 } in
+    let more : (count == 0) ≡ false = ne_eqb count 0 (λ e. omega arith) in
+    ap (λ (test : Bool). length (cond (test || false) groups (groups ++ last ∷ []))) more
+    ∙ length-append groups (last ∷ [])
 
-groups_put : (capacity : Option ℕ) (next : ℕ) (left values : List Value) → length values ≡ 1
-    → groups_with (next + length left) (length values) (unit_weight capacity) (weighed capacity next left)
-    ≡ weighed capacity next (left ++ values)
-groups_put None next left values one = rw one refl
-groups_put (Some c) next left [] one = absurd (omega arith)
-groups_put (Some c) next left (value ∷ []) one =
-    let last : next + length left + 0 ≡ next + length left = omega arith in
-    ap (λ (n : ℕ). weighed (Some c) next left ++ record { until = n; weight = 1 } ∷ []) last
-    ∙ sym (weighed_more c next left value)
-groups_put (Some c) next left (value ∷ second ∷ more) one = absurd (omega arith)
+none_back : (count weight room : ℕ) → 0 < count → room ≡ 0 → room_with count weight room ≡ 0
+none_back count weight room some none =
+    let more : (count == 0) ≡ false = ne_eqb count 0 (λ e. omega arith) in
+    ap (λ (test : Bool). room + cond test weight 0) more ∙ omega arith
 
-groups_given : (capacity : Option ℕ) (next : ℕ) (left : List Value)
-    → groups_after next (weighed capacity next left) ≡ weighed capacity (next + 1) (rest_of left)
-groups_given None next left = refl
-groups_given (Some c) next [] = refl
-groups_given (Some c) next (value ∷ left) =
-    ap (λ (b : Bool). cond b (weighed (Some c) (next + 1) left) (weighed (Some c) next (value ∷ left)))
-    (eq-eqb next next refl)
+-- an outlet has the same left to give
+record IsLeftSo (before after : OutletState) : Type 0 where
+  left : after.left ≡ before.left
+  next : after.next ≡ before.next
+  groups : after.groups ≡ before.groups
+  room : after.room ≡ before.room
 
-room_put : (count weight room : ℕ) → count ≡ 1 → room ≡ 0 → room_with count weight room ≡ 0
-room_put count weight room one none = rw (one, none) refl
+left_so : (exits : OutletState) → IsLeftSo exits exits
+left_so exits = record { left = refl; next = refl; groups = refl; room = refl }
 
 -- what is counted at each port, where there is a capacity
 abbrev Counts : Bool → ℕ → PortState → Type 0
@@ -115,22 +118,6 @@ one_goes : (waiting : List Value) (value : Value) → first_of waiting ≡ Some 
 one_goes [] value first = absurd (cc)
 one_goes (message ∷ waiting) value first = omega arith
 
-pub one_given : (left : List Value) (value : Value) → first_left left ≡ Some value
-    → length left ≡ length (rest_of left) + 1
-one_given [] value head = absurd (cc)
-one_given (first ∷ left) value head = omega arith
-
--- what is wholly given has its message's weight
-pub weight_of_head : (capacity : Option ℕ) (next : ℕ) (left : List Value) (value : Value) → first_left left ≡ Some value
-    → weight_at next (weighed capacity next left) ≡ unit_weight capacity
-weight_of_head None next left value head = refl
-weight_of_head (Some c) next [] value head = cc
-weight_of_head (Some c) next (first ∷ left) value head = ap (λ (b : Bool). cond b 1 0) (eq-eqb next next refl)
-
-weighs_one : (capacity : Option ℕ) → is_some capacity ≡ true → unit_weight capacity ≡ 1
-weighs_one None there = absurd (cc)
-weighs_one (Some c) there = refl
-
 module _ {W : Type 0} (layout : Layout W) (meaning : ℕ → Value → Result (List Value) ℕ) (b : ℕ) where
   abbrev limit : Option ℕ
   limit = (block_in layout.blocks b).capacity
@@ -139,154 +126,275 @@ module _ {W : Type 0} (layout : Layout W) (meaning : ℕ → Value → Result (L
   abbrev Loads : ℕ → ℕ → PortState → Type 0
   Loads left p port = Counts (is_some limit) left port
 
-  -- what is left stays
-  left_stays : (before after : BlockState) → after.exits.groups ≡ before.exits.groups
-      → after.exits.next ≡ before.exits.next → after.exits.left ≡ before.exits.left
-      → after.exits.room ≡ before.exits.room
-      → EachCounts (is_some limit) (length before.exits.left) after.ports
-      → LoadLaw layout meaning b before → LoadLaw layout meaning b after
-  left_stays before after groups next left room counts law = record {
-    groups = rw (groups, next, left) law.groups;
-    no_room = room ∙ law.no_room;
-    load = rw left counts;
+  abbrev Counted : ℕ → List PortState → Type 0
+  Counted left ports = EachCounts (is_some limit) left ports
+
+  -- the law, where what it reads is as it was
+  stays : (before after : BlockState) (journal later : List Mark) → LoadLaw layout meaning b before journal
+      → after.kind ≡ before.kind → held_by after ≡ held_by before → IsLeftSo before.exits after.exits
+      → took later ≡ took journal → gave later ≡ gave journal
+      → Counted (length before.exits.groups) after.ports
+      → LoadLaw layout meaning b after later
+  stays before after journal later law kind held exits taken given counts = record {
+    groups = rw (kind, taken, held, given, exits.left, exits.next, exits.groups) law.groups;
+    no_room = exits.room ∙ law.no_room;
+    load = rw exits.groups counts;
   }
 
-  exits_move : (before after : BlockState) → after.ports ≡ before.ports → after.exits.groups ≡ before.exits.groups
-      → after.exits.next ≡ before.exits.next → after.exits.left ≡ before.exits.left
-      → after.exits.room ≡ before.exits.room
-      → LoadLaw layout meaning b before → LoadLaw layout meaning b after
-  exits_move before after ports groups next left room law =
-      left_stays before after groups next left room (rw ports law.load) law
+  -- its exits change, and have the same left to give
+  exits_move : (node : NodeState) (exits : OutletState) → exits.left ≡ node.block.exits.left
+      → exits.next ≡ node.block.exits.next → exits.groups ≡ node.block.exits.groups
+      → exits.room ≡ node.block.exits.room → LoadLaw layout meaning b node.block node.journal
+      → LoadLaw layout meaning b (record node.block { exits = exits }) node.journal
+  exits_move node exits left next groups room law =
+      stays node.block (record node.block { exits = exits }) node.journal node.journal law refl refl
+      (record { left = left; next = next; groups = groups; room = room }) refl refl law.load
 
-  exits_stay : (before after : BlockState) → after.exits ≡ before.exits
-      → EachCounts (is_some limit) (length before.exits.left) after.ports
-      → LoadLaw layout meaning b before → LoadLaw layout meaning b after
-  exits_stay before after exits counts law =
-      left_stays before after (ap (λ (o : OutletState). o.groups) exits) (ap (λ (o : OutletState). o.next) exits)
-      (ap (λ (o : OutletState). o.left) exits) (ap (λ (o : OutletState). o.room) exits) counts law
+  -- one port changes, and holds as much as before
+  one_moves : (block : BlockState) (journal later : List Mark) (p : ℕ) (change : PortState → PortState)
+      → (change (port_at p block)).load ≡ (port_at p block).load
+      → (change (port_at p block)).waiting ≡ (port_at p block).waiting
+      → took later ≡ took journal → gave later ≡ gave journal
+      → LoadLaw layout meaning b block journal → LoadLaw layout meaning b (with_port p change block) later
+  one_moves block journal later p change load waiting taken given law =
+      let port = change (port_at p block) in
+      stays block (with_port p change block) journal later law refl
+      (kept_at_one (λ q. q.waiting) block.ports p 0 port waiting) (left_so block.exits) taken given
+      (one_as_before (is_some limit) (length block.exits.groups) block.ports p port load waiting law.load)
 
-  one_moves : (before after : BlockState) (p : ℕ) (port : PortState)
-      → after.exits ≡ before.exits → after.ports ≡ set before.ports p port
-      → port.load ≡ (port_in before.ports p).load → port.waiting ≡ (port_in before.ports p).waiting
-      → LoadLaw layout meaning b before → LoadLaw layout meaning b after
-  one_moves before after p port exits ports load waiting law =
-      let left = length before.exits.left in
-      exits_stay before after exits
-      (rw ports (one_as_before (is_some limit) left before.ports p port load waiting law.load)) law
+  -- all ports change, and hold as much as before
+  all_move : (block after : BlockState) (journal later : List Mark) (change : PortState → PortState)
+      → after.kind ≡ block.kind → after.exits ≡ block.exits → after.ports ≡ map change block.ports
+      → ((port : PortState) → (change port).load ≡ port.load) → ((port : PortState) → (change port).waiting ≡ port.waiting)
+      → took later ≡ took journal → gave later ≡ gave journal
+      → LoadLaw layout meaning b block journal → LoadLaw layout meaning b after later
+  all_move block after journal later change kind exits ports load waiting taken given law =
+      stays block after journal later law kind
+      (ap (λ (ports : List PortState). (port_in ports 0).waiting) ports
+      ∙ kept_at_all (λ q. q.waiting) change block.ports 0 waiting)
+      (subst (IsLeftSo block.exits) (sym exits) (left_so block.exits)) taken given
+      (rw ports (each_as_before (is_some limit) (length block.exits.groups) block.ports change
+      (λ port old there. load port ∙ old there
+      ∙ ap (λ (vs : List Value). length vs + length block.exits.groups) (sym (waiting port))) law.load))
 
   -- what it makes of a message
-  results_kept : (kind : BlockKind) (values : List Value) (value : Value) (block : BlockState)
-      → first_of (held_by block) ≡ Some value
-      → ShapeLaw layout meaning b block → LoadLaw layout meaning b block → (is_action kind ≡ false → length values ≡ 1)
-      → LoadLaw layout meaning b (keeps_results kind values block)
-  results_kept Action values value block first shape law single =
-      let port = port_in block.ports 0 in
-      let left = length block.exits.left in
-      exits_stay block _ refl
-      (each_after_one (Loads left) block.ports 0 (gives_room 1 (takes_next port))
-      (λ below there. let all = law.load 0 below there in let goes = one_goes port.waiting value first in omega arith)
-      (λ q there other. law.load q there))
-      law
-  results_kept kind values value block first shape law single =
-      let port = port_in block.ports 0 in
-      let exits = block.exits in
-      let one : length values ≡ 1 = single refl in
+
+  held_next : (block : BlockState) (change : PortState → PortState) → length block.ports ≡ 1
+      → (change (port_at 0 block)).waiting ≡ drop 1 (held_by block)
+      → held_by (with_port 0 change block) ≡ drop 1 (held_by block)
+  held_next block change one changes =
+      ap (λ (port : PortState). port.waiting)
+      (get_or-set_same block.ports 0 (change (port_at 0 block)) (fresh_port None) (omega arith))
+      ∙ changes
+
+  -- the message is done with, and its room is back
+  done_counts : (value : Value) (block : BlockState) (left : ℕ) → first_of (held_by block) ≡ Some value
+      → Counted left block.ports → Counted left (with_port 0 (λ port. gives_room 1 (takes_next port)) block).ports
+  done_counts value block left first counts =
+      let port = port_at 0 block in
+      each_after_one (Loads left) block.ports 0 (gives_room 1 (takes_next port))
+      (λ below there. let all = counts 0 below there in let goes = one_goes port.waiting value first in omega arith)
+      (λ q there other. counts q there)
+
+  abbrev weighs : BlockKind → (taken held given left : List Value) → ℕ → List Group → Type 0
+  weighs kind taken held given left next groups =
+      WeighsAs (block_makes layout meaning b) kind limit taken held given left next groups
+
+  -- what is kept for what it has left, when these values are put
+  abbrev put_groups : List Value → BlockState → List Group
+  put_groups values block =
+      groups_with (block.exits.next + length block.exits.left) (length values) (unit_weight limit) block.exits.groups
+
+  put_keeps : (kind : BlockKind) (values : List Value) (value : Value) (block : BlockState) (journal : List Mark)
+      → block.kind ≡ kind → first_of (held_by block) ≡ Some value
+      → ShapeLaw layout meaning b block → LoadLaw layout meaning b block journal
+      → weighs kind (took journal) (drop 1 (held_by block)) (gave journal) (block.exits.left ++ values)
+      block.exits.next (put_groups values block)
+      → LoadLaw layout meaning b (puts_out values block) journal
+  put_keeps kind [] value block journal same first shape law put =
+      let change : PortState → PortState = λ port. gives_room 1 (takes_next port) in
+      let one = has_one_port layout meaning b block shape in
+      record {
+        groups = rw (same, held_next block change one refl)
+            (subst (λ (left : List Value). weighs kind (took journal) (drop 1 (held_by block)) (gave journal) left
+            block.exits.next block.exits.groups) (append-nil block.exits.left) put);
+        no_room = law.no_room;
+        load = done_counts value block (length block.exits.groups) first law.load;
+      }
+  put_keeps kind (made ∷ values) value block journal same first shape law put =
+      let port = port_at 0 block in
       let alone = has_one_port layout meaning b block shape in
       let below : 0 < length block.ports = omega arith in
       let capacity : port.capacity ≡ limit = (shape.ports 0 below).capacity in
       record {
-        groups = rw (capacity, law.groups) (groups_put limit exits.next exits.left values one);
-        no_room = room_put (length values) (unit_weight port.capacity) exits.room one law.no_room;
-        load = each_after_one (Loads (length (exits.left ++ values))) block.ports 0 (takes_next port)
+        groups = rw (same, held_next block takes_next alone refl, capacity) put;
+        no_room = none_back (length (made ∷ values)) (unit_weight port.capacity) block.exits.room (omega arith) law.no_room;
+        load = each_after_one (Loads (length (puts_out (made ∷ values) block).exits.groups)) block.ports 0 (takes_next port)
             (λ below there.
             let all = law.load 0 below there in
             let goes = one_goes port.waiting value first in
-            rw (length-append exits.left values) (omega arith))
+            let more = one_group port.capacity (block.exits.next + length block.exits.left) (length (made ∷ values))
+            block.exits.groups (ap is_some capacity ∙ there) (omega arith) in
+            omega arith)
             (λ q there other. absurd (other (omega arith)));
       }
 
-  yield_keeps : (result : Result (List Value) ℕ) (value : Value) (block : BlockState)
-      → first_of (held_by block) ≡ Some value
-      → ShapeLaw layout meaning b block → LoadLaw layout meaning b block
-      → ((values : List Value) → result ≡ Ok values → is_action block.kind ≡ false → length values ≡ 1)
-      → LoadLaw layout meaning b (yields result block)
-  yield_keeps (Ok values) value block first shape law single =
-      results_kept block.kind values value block first shape law (single values refl)
-  yield_keeps (Err number) value block first shape law single =
-      exits_stay block _ refl
-      (each_as_before (is_some limit) (length block.exits.left) block.ports port_fails (λ port old. old) law.load) law
+  held_first : (held : List Value) (value : Value) → first_of held ≡ Some value → held ≡ value ∷ drop 1 held
+  held_first [] value first = absurd (cc)
+  held_first (message ∷ rest) value first = let same : message ≡ value = cc in ap (λ (v : Value). v ∷ rest) same
 
-  make_keeps : (held : Option Value) (block : BlockState) → first_of (held_by block) ≡ held
-      → ShapeLaw layout meaning b block → LoadLaw layout meaning b block
-      → LoadLaw layout meaning b (makes_of (block_makes layout meaning b) held block)
-  make_keeps None block first shape law = law
-  make_keeps (Some value) block first shape law =
-      yield_keeps (made_of block.kind (block_makes layout meaning b) value) value block first shape law
-      (λ values.
-      made_is_one block.kind (block_in layout.blocks b).kind (meaning b) value values shape.kind_is shape.built)
+  results_kept : (kind : BlockKind) (values : List Value) (value : Value) (block : BlockState) (journal : List Mark)
+      → block.kind ≡ kind → first_of (held_by block) ≡ Some value → block.exits.next ≡ 1 + length (gave journal)
+      → ShapeLaw layout meaning b block → LoadLaw layout meaning b block journal
+      → made_of kind (block_makes layout meaning b) value ≡ Ok values
+      → (is_action kind ≡ false → is_many kind ≡ false → length values ≡ 1)
+      → LoadLaw layout meaning b (keeps_results kind values block) journal
+  results_kept Action values value block journal same first next shape law made single = record {
+    groups = rw same (subst (λ (kind : BlockKind). weighs kind (took journal) (held_by block) (gave journal)
+        block.exits.left block.exits.next block.exits.groups) same law.groups);
+    no_room = law.no_room;
+    load = done_counts value block (length block.exits.groups) first law.load;
+  }
+  results_kept TransformMany values value block journal same first next shape law made single =
+      let exits = block.exits in
+      put_keeps TransformMany values value block journal same first shape law
+      (weighs_many (block_makes layout meaning b) limit (took journal) (drop 1 (held_by block)) (gave journal)
+      exits.left exits.next exits.groups value values made next
+      (subst (λ (held : List Value). weighs TransformMany (took journal) held (gave journal) exits.left exits.next
+      exits.groups) (held_first (held_by block) value first)
+      (subst (λ (kind : BlockKind). weighs kind (took journal) (held_by block) (gave journal) exits.left exits.next
+      exits.groups) same law.groups)))
+  results_kept kind values value block journal same first next shape law made single =
+      let exits = block.exits in
+      put_keeps kind values value block journal same first shape law
+      (weighs_one (block_makes layout meaning b) kind limit (took journal) (held_by block) (drop 1 (held_by block))
+      (gave journal) exits.left exits.next exits.groups values refl (single refl refl)
+      (subst (λ (k : BlockKind). weighs k (took journal) (held_by block) (gave journal) exits.left exits.next
+      exits.groups) same law.groups))
 
-  take_keeps : (p k : ℕ) (hand : Option Value) (node : NodeState)
-      → ShapeLaw layout meaning b node.block → LoadLaw layout meaning b node.block
-      → LoadLaw layout meaning b (takes_in p k hand node).block
-  take_keeps p k None node shape law = law
-  take_keeps p k (Some value) node shape law =
-      let ports = node.block.ports in
-      let port = port_in ports p in
-      let left = length node.block.exits.left in
-      exits_stay node.block _ refl
-      (each_after_one (Loads left) ports p (closes k value port)
-      (λ below there.
-      one_taken limit port.capacity port.load left port.waiting value (shape.ports p below).capacity there
-      (law.load p below there))
-      (λ q there other. law.load q there))
-      law
+  yield_keeps : (result : Result (List Value) ℕ) (value : Value) (block : BlockState) (journal : List Mark)
+      → first_of (held_by block) ≡ Some value → block.exits.next ≡ 1 + length (gave journal)
+      → ShapeLaw layout meaning b block → LoadLaw layout meaning b block journal
+      → made_of block.kind (block_makes layout meaning b) value ≡ result
+      → LoadLaw layout meaning b (yields result block) journal
+  yield_keeps (Ok values) value block journal first next shape law made =
+      results_kept block.kind values value block journal refl first next shape law made
+      (λ other. made_is_one block.kind (block_in layout.blocks b).kind (meaning b) value values shape.kind_is
+      shape.built made other)
+  yield_keeps (Err number) value block journal first next shape law made =
+      all_move block (fails number block) journal journal port_fails refl refl refl (λ port. refl) (λ port. refl)
+      refl refl law
+
+  make_keeps : (held : Option Value) (block : BlockState) (journal : List Mark) → first_of (held_by block) ≡ held
+      → block.exits.next ≡ 1 + length (gave journal)
+      → ShapeLaw layout meaning b block → LoadLaw layout meaning b block journal
+      → LoadLaw layout meaning b (makes_of (block_makes layout meaning b) held block) journal
+  make_keeps None block journal first next shape law = law
+  make_keeps (Some value) block journal first next shape law =
+      yield_keeps (made_of block.kind (block_makes layout meaning b) value) value block journal first next shape law
+      refl
+
+  take_keeps : (p k : ℕ) (hand : Option Value) (node : NodeState) → p < length node.block.ports
+      → ShapeLaw layout meaning b node.block → LoadLaw layout meaning b node.block node.journal
+      → LoadLaw layout meaning b (takes_in p k hand node).block (takes_in p k hand node).journal
+  take_keeps p k None node below shape law = law
+  take_keeps p k (Some value) node below shape law =
+      let block = node.block in
+      let exits = block.exits in
+      let change = closes k value in
+      let one = has_one_port layout meaning b block shape in
+      let first : p ≡ 0 = omega arith in
+      let held : held_by (with_port p change block) ≡ held_by block ++ value ∷ [] =
+      rw first (ap (λ (port : PortState). port.waiting)
+      (get_or-set_same block.ports 0 (change (port_at 0 block)) (fresh_port None) (omega arith))) in
+      let taken = took_by_took node.journal p (in_link_at p k node) value in
+      let given = gave_by_took node.journal p (in_link_at p k node) value in
+      let port = port_in block.ports p in
+      record {
+        groups = rw (held, taken, given)
+            (weighs_taken (block_makes layout meaning b) block.kind limit (took node.journal) (held_by block)
+            (gave node.journal) exits.left exits.next exits.groups value law.groups);
+        no_room = law.no_room;
+        load = each_after_one (Loads (length exits.groups)) block.ports p (closes k value port)
+            (λ below there.
+            one_taken limit port.capacity port.load (length exits.groups) port.waiting value
+            (shape.ports p below).capacity there (law.load p below there))
+            (λ q there other. law.load q there);
+      }
 
   give_keeps : (k : ℕ) (head : Option Value) (node : NodeState) → head_of node.block.exits ≡ head
-      → LoadLaw layout meaning b node.block → LoadLaw layout meaning b (gives_from k head node).block
-  give_keeps k None node head law = law
-  give_keeps k (Some value) node head law =
-      let exits = node.block.exits in
-      let less = one_given exits.left value head in
+      → node.block.exits.next ≡ 1 + length (gave node.journal)
+      → LoadLaw layout meaning b node.block node.journal
+      → LoadLaw layout meaning b (gives_from k head node).block (gives_from k head node).journal
+  give_keeps k None node head next law = law
+  give_keeps k (Some value) node head next law =
+      let block = node.block in
+      let exits = block.exits in
+      let change = gives_room (gives k exits).room in
+      let held = kept_at_all (λ port. port.waiting) change block.ports 0 (λ port. refl) in
+      let taken = took_by_gave node.journal (out_link_at k node) value in
+      let given = gave_by_gave node.journal (out_link_at k node) value in
+      let back = weight_back (block_makes layout meaning b) block.kind limit (took node.journal) (held_by block)
+      (gave node.journal) exits.left exits.next exits.groups law.groups in
       record {
-        groups = rw law.groups (groups_given limit exits.next exits.left);
+        groups = rw (held, taken, given)
+            (weighs_given (block_makes layout meaning b) block.kind limit (took node.journal) (held_by block)
+            (gave node.journal) exits.left exits.next exits.groups value next head law.groups);
         no_room = refl;
-        load = each_after_all (Loads (length (rest_of exits.left))) (gives_room (gives k exits).room) node.block.ports
+        load = each_after_all (Loads (length (groups_after exits.next exits.groups))) change block.ports
             (λ q below there.
             let all = law.load q below there in
-            let weight : weight_at exits.next exits.groups ≡ 1 =
-            rw law.groups (weight_of_head limit exits.next exits.left value head ∙ weighs_one limit there) in
             let none = law.no_room in
             omega arith);
       }
 
-  stop_keeps : (before after : BlockState) → after.exits ≡ before.exits → after.ports ≡ map port_closes before.ports
-      → LoadLaw layout meaning b before → LoadLaw layout meaning b after
-  stop_keeps before after exits ports law =
-      let left = length before.exits.left in
-      exits_stay before after exits
-      (rw ports (each_as_before (is_some limit) left before.ports port_closes (λ port old. old) law.load)) law
+  stop_keeps : (node : NodeState) (how : Outcome) (mark : Mark)
+      → taken_by_mark (λ port link. true) mark ≡ [] → given_by_mark (λ link. true) mark ≡ []
+      → LoadLaw layout meaning b node.block node.journal
+      → LoadLaw layout meaning b (stops_by how node.block) (node.journal ++ mark ∷ [])
+  stop_keeps node how mark takes gives law =
+      all_move node.block (stops_by how node.block) node.journal (node.journal ++ mark ∷ []) port_closes refl refl refl
+      (λ port. refl) (λ port. refl) (took_no_more node.journal mark takes) (gave_no_more node.journal mark gives) law
 
-  call_keeps : (node : NodeState) (call : NodeCall)
-      → ShapeLaw layout meaning b node.block → LoadLaw layout meaning b node.block
+  call_keeps : (node : NodeState) (call : NodeCall) → NodeLaw layout meaning b node → MayCall layout meaning b call node
       → LoadLaw layout meaning b (after_call layout meaning b call node).block
-  call_keeps node (NodeCall.want p k) shape law = one_moves node.block _ p _ refl refl refl refl law
-  call_keeps node (NodeCall.turn_down p k) shape law = one_moves node.block _ p _ refl refl refl refl law
-  call_keeps node (NodeCall.postpone p k) shape law = one_moves node.block _ p _ refl refl refl refl law
-  call_keeps node (NodeCall.refuse p k) shape law = one_moves node.block _ p _ refl refl refl refl law
-  call_keeps node (NodeCall.consume p k) shape law = one_moves node.block _ p _ refl refl refl refl law
-  call_keeps node (NodeCall.open_with p k value) shape law = one_moves node.block _ p _ refl refl refl refl law
-  call_keeps node (NodeCall.close p k) shape law = take_keeps p k (hand_at p k node) node shape law
-  call_keeps node (NodeCall.offer k) shape law = exits_move node.block _ refl refl refl refl refl law
-  call_keeps node (NodeCall.give k) shape law = give_keeps k (head_of node.block.exits) node refl law
-  call_keeps node (NodeCall.deny k) shape law = exits_move node.block _ refl refl refl refl refl law
-  call_keeps node (NodeCall.withdraw k) shape law = exits_move node.block _ refl refl refl refl refl law
-  call_keeps node (NodeCall.end_link k how) shape law = exits_move node.block _ refl refl refl refl refl law
-  call_keeps node (NodeCall.look_in p k phase) shape law = one_moves node.block _ p _ refl refl refl refl law
-  call_keeps node (NodeCall.look_out k phase) shape law = exits_move node.block _ refl refl refl refl refl law
-  call_keeps node NodeCall.make shape law = make_keeps (first_of (held_by node.block)) node.block refl shape law
-  call_keeps node (NodeCall.complete p) shape law = one_moves node.block _ p _ refl refl refl refl law
-  call_keeps node (NodeCall.fault number) shape law = stop_keeps node.block _ refl refl law
-  call_keeps node NodeCall.finish shape law = stop_keeps node.block _ refl refl law
+      (after_call layout meaning b call node).journal
+  call_keeps node (NodeCall.want p k) law may =
+      one_moves node.block node.journal node.journal p (wants k) refl refl refl refl law.load
+  call_keeps node (NodeCall.turn_down p k) law may =
+      one_moves node.block node.journal node.journal p (turns_down k) refl refl refl refl law.load
+  call_keeps node (NodeCall.postpone p k) law may =
+      one_moves node.block node.journal node.journal p (postpones k) refl refl refl refl law.load
+  call_keeps node (NodeCall.refuse p k) law may =
+      one_moves node.block node.journal node.journal p (refuses k) refl refl refl refl law.load
+  call_keeps node (NodeCall.consume p k) law may =
+      one_moves node.block node.journal node.journal p (consumes k) refl refl refl refl law.load
+  call_keeps node (NodeCall.open_with p k value) law may =
+      one_moves node.block node.journal node.journal p (opens k value) refl refl refl refl law.load
+  call_keeps node (NodeCall.close p k) law may =
+      take_keeps p k (hand_at p k node) node may.port law.shape law.load
+  call_keeps node (NodeCall.offer k) law may =
+      exits_move node (offers k (prepares node.block.exits)) refl refl refl refl law.load
+  call_keeps node (NodeCall.give k) law may =
+      give_keeps k (head_of node.block.exits) node refl law.gave.next_is law.load
+  call_keeps node (NodeCall.deny k) law may =
+      exits_move node (denies k node.block.exits) refl refl refl refl law.load
+  call_keeps node (NodeCall.withdraw k) law may =
+      exits_move node (withdraws k node.block.exits) refl refl refl refl law.load
+  call_keeps node (NodeCall.end_link k how) law may =
+      exits_move node (ends_link k how node.block.exits) refl refl refl refl law.load
+  call_keeps node (NodeCall.look_in p k phase) law may =
+      one_moves node.block node.journal node.journal p (port_looks k phase) refl refl refl refl law.load
+  call_keeps node (NodeCall.look_out k phase) law may =
+      exits_move node (exit_looks k phase node.block.exits) refl refl refl refl law.load
+  call_keeps node NodeCall.make law may =
+      make_keeps (first_of (held_by node.block)) node.block node.journal refl law.gave.next_is law.shape law.load
+  call_keeps node (NodeCall.complete p) law may =
+      one_moves node.block node.journal (node.journal ++ Complete p ∷ []) p port_closes refl refl
+      (took_no_more node.journal (Complete p) refl) (gave_no_more node.journal (Complete p) refl) law.load
+  call_keeps node (NodeCall.fault number) law may =
+      stop_keeps node (outcome.Faulted number) (Fault number) refl refl law.load
+  call_keeps node NodeCall.finish law may = stop_keeps node outcome.Done Done refl refl law.load
 
 pub load_kept : (W : Type 0) → LoadKept W
-load_kept W layout meaning b node call law may = call_keeps layout meaning b node call law.shape law.load
+load_kept W layout meaning b node call law may = call_keeps layout meaning b node call law may

@@ -3,7 +3,7 @@ use Rattle.std.proofs.Common.{◌≡◌, ℕ, ◌<◌, true, List, [], ◌∷◌
 use Rattle.std.proofs.lemmas.List.{get_or-set_same}
 use Rattle.flow_value.specs.declared.value.Value.{Value}
 use Rattle.flow_link.specs.declared.draft.BlockKind.{BlockKind}
-use Rattle.flow_link.specs.declared.draft.BlockKind.TheVariants.{Buffer, Action, Transform}
+use Rattle.flow_link.specs.declared.draft.BlockKind.TheVariants.{Buffer, Action, Transform, TransformMany}
 use Rattle.flow_link.specs.declared.trace.Mark.{Mark}
 use Rattle.flow_link.specs.declared.trace.Mark.TheVariants.{Complete, Fault, Done}
 use Rattle.flow_link.specs.declared.trace.Outcome.{Outcome}
@@ -18,7 +18,7 @@ use Rattle.flow_link.proofs.OneMoreWorked.{worked_more}
 use Rattle.flow_intake.specs.Port.{PortState, fresh_port, hand_in}
 use Rattle.flow_intake.specs.Calls.{first_of, wants, turns_down, postpones, refuses, consumes, opens, closes, looks as port_looks, takes_next, gives_room, port_closes, port_fails}
 use Rattle.flow_outlet.specs.Outlet.{OutletState, first_of as first_left, rest_of, head_of, gives, prepares, offers, denies, withdraws, ends_link, looks as exit_looks}
-use Rattle.flow_block.specs.Block.{BlockState, port_at, with_port, held_by, made_of, put_by_kind, yields, keeps_results, makes_of, stops_by}
+use Rattle.flow_block.specs.Block.{BlockState, port_at, with_port, held_by, made_of, puts_out, put_by_kind, yields, keeps_results, makes_of, stops_by}
 use Rattle.flow_block.specs.Node.{NodeState, NodeCall, takes_in, gives_from, in_link_at, out_link_at}
 use Rattle.flow_block.specs.NodeKeeps.{MakesKept, MayCall, after_call}
 use Rattle.flow_block.specs.NodeLaw.{NodeLaw, MakesLaw, MakesAs, FaultsOn}
@@ -49,6 +49,8 @@ takes_as result Action taken held given left recorded value is =
     (worked_held result taken held recorded value is.0, is.1)
 takes_as result Transform taken held given left recorded value is =
     worked_held result taken held (given ++ left) value is
+takes_as result TransformMany taken held given left recorded value is =
+    worked_held result taken held (given ++ left) value is
 takes_as result kind taken held given left recorded value is = tt
 
 gives_as : (result : Value → Result (List Value) ℕ) (kind : BlockKind) (taken held given left recorded : List Value)
@@ -62,6 +64,10 @@ gives_as result Buffer taken held given (head ∷ rest) recorded value first is 
     ∙ ap (λ (vs : List Value). vs ++ held) (sym (append_assoc given (value ∷ []) rest))
 gives_as result Action taken held given (head ∷ rest) recorded value first is = let none = is.1 in absurd (cc)
 gives_as result Transform taken held given (head ∷ rest) recorded value first is =
+    let same : head ≡ value = cc in
+    subst (λ (vs : List Value). WorkedInto result taken held vs)
+    (ap (λ (v : Value). given ++ v ∷ rest) same ∙ sym (append_assoc given (value ∷ []) rest)) is
+gives_as result TransformMany taken held given (head ∷ rest) recorded value first is =
     let same : head ≡ value = cc in
     subst (λ (vs : List Value). WorkedInto result taken held vs)
     (ap (λ (v : Value). given ++ v ∷ rest) same ∙ sym (append_assoc given (value ∷ []) rest)) is
@@ -83,6 +89,9 @@ makes_as result Buffer taken rest given left recorded values value made is =
 makes_as result Action taken rest given left recorded values value made is =
     (worked_more result taken value rest recorded values made is.0, append-nil left ∙ is.1)
 makes_as result Transform taken rest given left recorded values value made is =
+    subst (λ (vs : List Value). WorkedInto result taken rest vs) (append_assoc given left values)
+    (worked_more result taken value rest (given ++ left) values made is)
+makes_as result TransformMany taken rest given left recorded values value made is =
     subst (λ (vs : List Value). WorkedInto result taken rest vs) (append_assoc given left values)
     (worked_more result taken value rest (given ++ left) values made is)
 makes_as result kind taken rest given left recorded values value made is = tt
@@ -110,6 +119,7 @@ fails_so : (result : Value → Result (List Value) ℕ) (kind : BlockKind) (valu
 fails_so result Buffer value number built made = absurd (cc)
 fails_so result Action value number built made = record { works = refl; fails = made }
 fails_so result Transform value number built made = record { works = refl; fails = made }
+fails_so result TransformMany value number built made = record { works = refl; fails = made }
 fails_so result kind value number built made = absurd (cc)
 
 module _ {W : Type 0} (layout : Layout W) (meaning : ℕ → Value → Result (List Value) ℕ) (b : ℕ) where
@@ -214,6 +224,24 @@ module _ {W : Type 0} (layout : Layout W) (meaning : ℕ → Value → Result (L
       (subst (λ (held : List Value). MakesAs result block.kind (took journal) held (gave journal) left block.recorded)
       first law.makes))
 
+  -- what it made of the message is there to be given
+  put_so : (kind : BlockKind) (values : List Value) (block : BlockState) (journal : List Mark) (value : Value)
+      (rest : List Value) → block.kind ≡ kind → length block.ports ≡ 1 → block.fault ≡ None
+      → held_by block ≡ value ∷ rest
+      → MakesAs (block_makes layout meaning b) kind (took journal) rest (gave journal) (block.exits.left ++ values)
+      block.recorded
+      → MakesLaw layout meaning b (puts_out values block) journal
+  put_so kind [] block journal value rest same one none first made = record {
+    makes = rw (same, held_next block (λ port. gives_room 1 (takes_next port)) value rest one first (λ port. refl))
+        (subst (λ (left : List Value). MakesAs (block_makes layout meaning b) kind (took journal) rest (gave journal) left
+        block.recorded) (append-nil block.exits.left) made);
+    fault_is = λ number is. absurd (let never : None ≡ Some number = sym none ∙ is in cc);
+  }
+  put_so kind (one_made ∷ values) block journal value rest same one none first made = record {
+    makes = rw (same, held_next block takes_next value rest one first (λ port. refl)) made;
+    fault_is = λ number is. absurd (let never : None ≡ Some number = sym none ∙ is in cc);
+  }
+
   kept_as : (kind : BlockKind) (block : BlockState) (journal : List Mark) (value : Value) (rest values : List Value)
       → block.kind ≡ kind
       → is_built kind ≡ true → length block.ports ≡ 1 → block.fault ≡ None → held_by block ≡ value ∷ rest
@@ -226,16 +254,15 @@ module _ {W : Type 0} (layout : Layout W) (meaning : ℕ → Value → Result (L
         makes = rw (same, held) (made_so.0, sym (append-nil block.exits.left) ∙ made_so.1);
         fault_is = λ number is. absurd (let never : None ≡ Some number = sym none ∙ is in cc);
       }
-  kept_as Buffer block journal value rest values same built one none first made law = record {
-    makes = rw (same, held_next block takes_next value rest one first (λ port. refl))
-        (made_more Buffer block journal value rest values same first made law);
-    fault_is = λ number is. absurd (let never : None ≡ Some number = sym none ∙ is in cc);
-  }
-  kept_as Transform block journal value rest values same built one none first made law = record {
-    makes = rw (same, held_next block takes_next value rest one first (λ port. refl))
-        (made_more Transform block journal value rest values same first made law);
-    fault_is = λ number is. absurd (let never : None ≡ Some number = sym none ∙ is in cc);
-  }
+  kept_as Buffer block journal value rest values same built one none first made law =
+      put_so Buffer values block journal value rest same one none first
+      (made_more Buffer block journal value rest values same first made law)
+  kept_as Transform block journal value rest values same built one none first made law =
+      put_so Transform values block journal value rest same one none first
+      (made_more Transform block journal value rest values same first made law)
+  kept_as TransformMany block journal value rest values same built one none first made law =
+      put_so TransformMany values block journal value rest same one none first
+      (made_more TransformMany block journal value rest values same first made law)
   kept_as kind block journal value rest values same built one none first made law = absurd (cc)
 
   yielded : (block : BlockState) (journal : List Mark) (value : Value) (rest : List Value)

@@ -5,7 +5,7 @@ use Rattle.std.proofs.Math.Bool.{or_comm}
 use Rattle.flow_value.specs.When.{admits}
 use Rattle.flow_value.specs.declared.value.Value.{Value}
 use Rattle.flow_link.specs.declared.draft.BlockKind.{BlockKind}
-use Rattle.flow_link.specs.declared.draft.BlockKind.TheVariants.{Buffer, Action, Transform}
+use Rattle.flow_link.specs.declared.draft.BlockKind.TheVariants.{Buffer, Action, Transform, TransformMany}
 use Rattle.flow_link.specs.declared.phase.LinkEnd.{LinkEnd}
 use Rattle.flow_link.specs.declared.phase.LinkEnd.TheVariants as link_end
 use Rattle.flow_link.specs.declared.plan.LinkSource.TheVariants.{Block}
@@ -146,6 +146,8 @@ module _ {W : Type 0} (run : Run W) (ends : ℕ → Ends) (b : ℕ) (node : Node
   }
   makes_by Transform built makes =
       works_so (gave node.journal ++ node.block.exits.left) (outputs run b) outputs_are makes
+  makes_by TransformMany built makes =
+      works_so (gave node.journal ++ node.block.exits.left) (outputs run b) outputs_are makes
   makes_by _ built makes = absurd (cc)
 
   makes_so : NodeMakes run ends b (block_of run b).kind
@@ -173,7 +175,7 @@ module _ {W : Type 0} (run : Run W) (ends : ℕ → Ends) (b : ℕ) (node : Node
       omega (
         arith,
         law.load.load p there bounded,
-        load_is run ends b node law is p,
+        load_is run ends b node law is p bounded,
         coming_is p there,
       )
 
@@ -190,11 +192,11 @@ module _ {W : Type 0} (run : Run W) (ends : ℕ → Ends) (b : ℕ) (node : Node
   level_so : takes_level run b ≡ true
   level_so =
       or_left (not (is_reserving (block_of run b))) _
-      (by_kind (λ kind. not (reserves_by_kind kind (block_of run b).greedy) ≡ true) refl refl refl
+      (by_kind (λ kind. not (reserves_by_kind kind (block_of run b).greedy) ≡ true) refl refl refl refl
       (block_of run b).kind plain)
 
   copies_so : copies_as (as_seen run ends) b (block_of run b).kind ≡ true
-  copies_so = by_kind (λ kind. copies_as (as_seen run ends) b kind ≡ true) refl refl refl (block_of run b).kind plain
+  copies_so = by_kind (λ kind. copies_as (as_seen run ends) b kind ≡ true) refl refl refl refl (block_of run b).kind plain
 
   -- how it ends
   done_so : is_done (marks_of run b) ≡ true → (is_complete run b && has_nothing run b) ≡ true

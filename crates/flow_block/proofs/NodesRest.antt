@@ -95,7 +95,7 @@ module _ {W : Type 0} (run : Run W) (ends : ℕ → Ends) (b : ℕ) (node : Node
   rests_where none =
       let empty = none_held run ends b node law part none in
       or_right (faulted_by_itself run b) (rests_as run kind b)
-      (by_kind (λ k. rests_as run k b ≡ true) empty empty empty kind built)
+      (by_kind (λ k. rests_as run k b ≡ true) empty empty empty empty kind built)
 
   marked : (how : Outcome) → own.stopped ≡ Some how → outcome_in node.journal ≡ Some how
   marked how e = sym law.ends.stopped_is ∙ e
@@ -146,7 +146,7 @@ module _ {W : Type 0} (run : Run W) (ends : ℕ → Ends) (b : ℕ) (node : Node
     served =
         or_left (not (is_broadcast kind) || is_faulted (marks_of run b)) (is_none_left (left_at run b))
         (or_left (not (is_broadcast kind)) (is_faulted (marks_of run b))
-        (by_kind (λ k. not (is_broadcast k) ≡ true) refl refl refl kind built));
+        (by_kind (λ k. not (is_broadcast k) ≡ true) refl refl refl refl kind built));
   }
 
   -- Its links out
@@ -225,7 +225,7 @@ module _ {W : Type 0} (run : Run W) (ends : ℕ → Ends) (b : ℕ) (node : Node
       by_kind
           (λ k. admits_head run l (head_as run b l false k) ≡ true
           → admits_head run l (first_left (left_at run b)) ≡ true)
-          (λ same. same) (λ same. same) (λ same. same) kind built e,
+          (λ same. same) (λ same. same) (λ same. same) (λ same. same) kind built e,
     )
 
     -- the predicate of the end is that of the link
@@ -301,7 +301,7 @@ module _ {W : Type 0} (run : Run W) (ends : ℕ → Ends) (b : ℕ) (node : Node
         (no_coming run.layout run.meaning b node law nothing rest p port_there) order.room full in
         let load_here : port.load ≡ load run b p =
         law.load.load p port_there (ap is_some (sym planned.capacity) ∙ here.0)
-        ∙ sym (load_is run ends b node law part p) in
+        ∙ sym (load_is run ends b node law part p (ap is_some (sym planned.capacity) ∙ here.0)) in
         or_left (is_full_with run (block_of run b).capacity (load run b p))
         (is_reserving (block_of run b) && lacks_an_offer run ends b)
         (ap₂ (is_full_with run) (sym planned.capacity) (sym load_here) ∙ here.1)

@@ -1,23 +1,27 @@
 -- What a run tells of a node that it has: what the node holds, its own fault, whether it is complete, and its load.
-use Rattle.std.proofs.Common.{◌≡◌, ℕ, ◌+◌, ◌<◌, true, List, [], length, get_or, Some, refl, ap, ap₂, sym, ◌∙◌, arith, None}
+use Rattle.std.proofs.Common.{◌≡◌, ℕ, ◌+◌, ◌-◌, ◌<◌, true, List, [], length, take, get_or, is_some, Some, refl, ap, ap₂, sym, ◌∙◌, subst, arith, None}
 use Rattle.std.proofs.Math.ListN.{get_or-map}
 use Rattle.flow_value.specs.declared.value.Value.{Value}
+use Rattle.flow_link.specs.declared.draft.BlockKind.{BlockKind}
+use Rattle.flow_link.specs.declared.trace.Mark.{Mark}
 use Rattle.flow_link.specs.Composes.{Ends}
 use Rattle.flow_link.specs.Endings.{first_fault, fault_by_kind, fault_of, own_fault, is_complete, is_complete_as}
 use Rattle.flow_link.specs.Lists.{every, is_empty}
-use Rattle.flow_link.specs.Making.{load, load_as}
+use Rattle.flow_link.specs.Making.{results_of, block_result, worked, part_left, load, load_as}
 use Rattle.flow_link.specs.Plan.{has_work, port_count}
-use Rattle.flow_link.specs.Trace.{BlockTrace, Run, has_complete, block_of, marks_of, held_at, left_at, ports_of}
-use Rattle.flow_link.proofs.ListTests.{every_below}
+use Rattle.flow_link.specs.Trace.{BlockTrace, Run, took, gave, has_complete, partly_left, block_of, marks_of, held_at, left_at, ports_of}
+use Rattle.flow_link.proofs.ListTests.{every_below, front_without}
 use Rattle.flow_intake.specs.Port.{PortState, fresh_port}
 use Rattle.flow_outlet.specs.Outlet.{is_empty as has_none}
-use Rattle.flow_block.specs.Block.{port_at}
+use Rattle.flow_block.specs.Block.{port_at, held_by}
 use Rattle.flow_block.specs.Node.{NodeState}
-use Rattle.flow_block.specs.NodeLaw.{NodeLaw}
+use Rattle.flow_block.specs.NodeLaw.{NodeLaw, WeighsAs, PartlyGiven, weighed}
 use Rattle.flow_block.specs.NodeSeen.{IsNodeOf}
 use Rattle.flow_block.specs.Peeks.{holds_nothing}
+use Rattle.flow_block.specs.Planned.{block_makes}
 use Rattle.flow_block.proofs.KindsBuilt.{by_kind, planned_built}
 use Rattle.flow_block.proofs.TestsTell.{every_tells, none_left}
+use Rattle.flow_block.proofs.WeightsOfResults.{count_weighed, count_partial}
 
 module _ {W : Type 0} (run : Run W) (ends : ℕ → Ends) (b : ℕ) (node : NodeState)
     (law : NodeLaw run.layout run.meaning b node) (part : IsNodeOf run ends b node) where
@@ -45,11 +49,52 @@ module _ {W : Type 0} (run : Run W) (ends : ℕ → Ends) (b : ℕ) (node : Node
   pub complete_is : is_complete run b ≡ every (λ p. has_complete p (marks_of run b)) (ports_of run b)
   complete_is =
       by_kind (λ kind. is_complete_as run kind b ≡ every (λ p. has_complete p (marks_of run b)) (ports_of run b))
-      refl refl refl (block_of run b).kind (planned_built run.layout run.meaning b node.block law.shape)
+      refl refl refl refl (block_of run b).kind (planned_built run.layout run.meaning b node.block law.shape)
 
-  pub load_is : (p : ℕ) → load run b p ≡ length (port_at p node.block).waiting + length node.block.exits.left
-  load_is p =
-      by_kind (λ kind. load_as run b kind p ≡ length (held_at run b p) + length (left_at run b)) refl refl refl
-      (block_of run b).kind (planned_built run.layout run.meaning b node.block law.shape)
-      ∙ ap₂ (λ (held left : List Value). length held + length left) (held_is p)
+  -- how a block of this kind has its messages counted
+  abbrev LoadIs : ℕ → BlockKind → Type 0
+  LoadIs p kind =
+      WeighsAs (block_makes run.layout run.meaning b) kind (block_of run b).capacity (took node.journal)
+      (held_by node.block) (gave node.journal) node.block.exits.left node.block.exits.next node.block.exits.groups
+      → load_as run b kind p ≡ length (port_at p node.block).waiting + length node.block.exits.groups
+
+  -- what it has left is of one message each
+  load_of_left : (p : ℕ) → is_some (block_of run b).capacity ≡ true
+      → node.block.exits.groups ≡ weighed (block_of run b).capacity node.block.exits.next node.block.exits.left
+      → length (held_at run b p) + length (left_at run b)
+      ≡ length (port_at p node.block).waiting + length node.block.exits.groups
+  load_of_left p limited weighs =
+      ap₂ (λ (held left : List Value). length held + length left) (held_is p)
       (ap (λ (t : BlockTrace). t.left) part.trace)
+      ∙ ap (λ (n : ℕ). length (port_at p node.block).waiting + n)
+      (sym (ap length weighs
+      ∙ count_weighed (block_of run b).capacity node.block.exits.next node.block.exits.left limited))
+
+  -- the messages whose results are not wholly given
+  part_left_is : is_some (block_of run b).capacity ≡ true
+      → (partial : PartlyGiven (block_makes run.layout run.meaning b) (block_of run b).capacity (took node.journal)
+      (held_by node.block) (gave node.journal) node.block.exits.left node.block.exits.groups)
+      → part_left run b (results_of (block_result run b) (worked run b)) ≡ length node.block.exits.groups
+  part_left_is limited partial =
+      let works = partial.works in
+      let front : worked run b ≡ works.done =
+      ap₂ (λ (marks : List Mark) (held : List Value). take (length (took marks) - length held) (took marks))
+      (ap (λ (t : BlockTrace). t.journal) part.trace) (held_is 0)
+      ∙ ap (λ (taken : List Value). take (length taken - length (held_by node.block)) taken) works.taken_is
+      ∙ front_without works.done (held_by node.block) in
+      ap (λ (done : List Value). part_left run b (results_of (block_result run b) done)) front
+      ∙ ap (part_left run b) works.worked
+      ∙ ap (λ (marks : List Mark). partly_left (length (gave marks)) works.results)
+      (ap (λ (t : BlockTrace). t.journal) part.trace)
+      ∙ sym (ap length partial.groups_are
+      ∙ count_partial (block_of run b).capacity (length (gave node.journal)) works.results limited)
+
+  pub load_is : (p : ℕ) → is_some (block_of run b).capacity ≡ true
+      → load run b p ≡ length (port_at p node.block).waiting + length node.block.exits.groups
+  load_is p limited =
+      by_kind (LoadIs p) (load_of_left p limited) (load_of_left p limited) (load_of_left p limited)
+      (λ partial. ap₂ (λ (held : List Value) (left : ℕ). length held + left) (held_is p) (part_left_is limited partial))
+      (block_of run b).kind (planned_built run.layout run.meaning b node.block law.shape)
+      (subst (λ (kind : BlockKind). WeighsAs (block_makes run.layout run.meaning b) kind (block_of run b).capacity
+      (took node.journal) (held_by node.block) (gave node.journal) node.block.exits.left node.block.exits.next
+      node.block.exits.groups) law.shape.kind_is law.load.groups)

@@ -9,14 +9,14 @@ use Rattle.flow_link.specs.Facts.{facts_in}
 use Rattle.flow_link.specs.JournalGrows.{taken_by_mark}
 use Rattle.flow_link.specs.Layout.{Layout}
 use Rattle.flow_link.specs.Plan.{block_in}
-use Rattle.flow_link.specs.Trace.{took_at}
+use Rattle.flow_link.specs.Trace.{took, took_at, gave}
 use Rattle.flow_link.specs.Views.{LinkFacts}
 use Rattle.flow_intake.specs.Port.{PortState, coming, is_hand, fresh_port}
 use Rattle.flow_intake.specs.PortLaw.{PortLaw}
 use Rattle.flow_intake.specs.Calls.{first_of, wants, turns_down, postpones, refuses, consumes, opens, closes, looks, takes_next, gives_room, port_closes, port_fails}
 use Rattle.flow_intake.proofs.CallsKeepOrder.{moves_keep}
 use Rattle.flow_outlet.specs.Outlet.{head_of, weight_at, gives}
-use Rattle.flow_block.specs.Block.{BlockState, port_in, held_by, unit_weight, made_of, yields, keeps_results, makes_of}
+use Rattle.flow_block.specs.Block.{BlockState, port_in, held_by, made_of, yields, keeps_results, makes_of}
 use Rattle.flow_block.specs.Node.{NodeState, NodeCall, hand_at, in_link_at, out_link_at, takes_in, gives_from}
 use Rattle.flow_block.specs.NodeLaw.{NodeLaw, ShapeLaw, PortsLaw, LoadLaw}
 use Rattle.flow_block.specs.NodeKeeps.{InAt, MayCall, after_call, PortsKept}
@@ -24,9 +24,9 @@ use Rattle.flow_block.specs.Peeks.{nothing_comes}
 use Rattle.flow_block.specs.Planned.{block_makes}
 use Rattle.flow_block.proofs.GoingOn.{may_complete_tells, may_fault_tells, may_finish_tells}
 use Rattle.flow_block.proofs.JournalTells.{took_same, took_here}
-use Rattle.flow_block.proofs.LoadHolds.{weight_of_head, one_given}
 use Rattle.flow_block.proofs.PortsChange.{each_after_one, each_after_all}
 use Rattle.flow_block.proofs.TestsTell.{every_tells}
+use Rattle.flow_block.proofs.WeightsOfResults.{weight_back}
 
 -- how many messages a port took, when the journal has one more mark
 took_as_many : (q : ℕ) (journal : List Mark) (mark : Mark) → taken_by_mark (λ port link. port == q) mark ≡ []
@@ -47,10 +47,10 @@ took_one_more p l value journal =
     ∙ length-append (took_at p journal) (value ∷ [])
 
 -- the room that comes back was counted
-given_fits : (capacity : Option ℕ) (count load waiting left : ℕ) → count ≡ unit_weight capacity
-    → (is_some capacity ≡ true → load ≡ waiting + left) → 1 ≤ left → cond (is_some capacity) count 0 ≤ load - waiting
-given_fits None count load waiting left weight counts some = omega arith
-given_fits (Some c) count load waiting left weight counts some = let all = counts refl in omega arith
+given_fits : (capacity : Option ℕ) (count load waiting kept : ℕ) → count ≤ kept
+    → (is_some capacity ≡ true → load ≡ waiting + kept) → cond (is_some capacity) count 0 ≤ load - waiting
+given_fits None count load waiting kept fits counts = omega arith
+given_fits (Some c) count load waiting kept fits counts = let all = counts refl in omega arith
 
 made_fits : (capacity : Option ℕ) (load : ℕ) (waiting : List Value) (value : Value) → first_of waiting ≡ Some value
     → (is_some capacity ≡ true → length waiting ≤ load) → cond (is_some capacity) 1 0 ≤ load - length (drop 1 waiting)
@@ -104,7 +104,14 @@ module _ {W : Type 0} (layout : Layout W) (meaning : ℕ → Value → Result (L
       moves_keep.give_room facts (taken journal 0) (takes_next port)
       (moves_keep.take_next facts (taken journal 0) port old) 1
       (made_fits port.capacity port.load port.waiting value first old.waits))
-  results_kept kind values value block journal first law =
+  results_kept kind [] value block journal first law =
+      one_port block.ports journal 0 (gives_room 1 (takes_next (port_in block.ports 0))) law
+      (λ old.
+      let port = port_in block.ports 0 in
+      moves_keep.give_room facts (taken journal 0) (takes_next port)
+      (moves_keep.take_next facts (taken journal 0) port old) 1
+      (made_fits port.capacity port.load port.waiting value first old.waits))
+  results_kept kind (made ∷ values) value block journal first law =
       one_port block.ports journal 0 (takes_next (port_in block.ports 0)) law
       (λ old. moves_keep.take_next facts (taken journal 0) (port_in block.ports 0) old)
 
@@ -141,11 +148,13 @@ module _ {W : Type 0} (layout : Layout W) (meaning : ℕ → Value → Result (L
   give_keeps k None node head law = law.ports
   give_keeps k (Some value) node head law =
       let exits = node.block.exits in
-      let load : LoadLaw layout meaning b node.block = law.load in
+      let load : LoadLaw layout meaning b node.block node.journal = law.load in
       let shape : ShapeLaw layout meaning b node.block = law.shape in
       let capacity = (block_in layout.blocks b).capacity in
-      let count : exits.room + weight_at exits.next exits.groups ≡ unit_weight capacity =
-      rw (load.no_room, load.groups) (omega (arith, weight_of_head capacity exits.next exits.left value head)) in
+      let back = weight_back (block_makes layout meaning b) node.block.kind capacity (took node.journal)
+      (held_by node.block) (gave node.journal) exits.left exits.next exits.groups load.groups in
+      let none = load.no_room in
+      let count : exits.room + weight_at exits.next exits.groups ≤ length exits.groups = omega arith in
       let mark = Gave (out_link_at k node) value in
       each_port node.block.ports node.journal (node.journal ++ mark ∷ []) (gives_room (gives k exits).room) law.ports
       (λ q. took_as_many q node.journal mark refl)
@@ -153,8 +162,8 @@ module _ {W : Type 0} (layout : Layout W) (meaning : ℕ → Value → Result (L
       let port = port_in node.block.ports q in
       moves_keep.give_room facts (taken node.journal q) port old (gives k exits).room
       (rw (shape.ports q below).capacity
-      (given_fits capacity (gives k exits).room port.load (length port.waiting) (length exits.left) count
-      (load.load q below) (let one = one_given exits.left value head in omega arith))))
+      (given_fits capacity (gives k exits).room port.load (length port.waiting) (length exits.groups) count
+      (load.load q below))))
 
   -- it stops
   stop_keeps : (ports : List PortState) (journal : List Mark) (mark : Mark)

@@ -1,5 +1,5 @@
 -- Each call keeps a block's kind, the links and capacities of its ports, and the rules of its exits.
-use Rattle.std.proofs.Common.{◌≡◌, ℕ, List, map, set, Option, Some, None, Result, Ok, Err, refl, ◌∙◌}
+use Rattle.std.proofs.Common.{◌≡◌, ℕ, List, [], ◌∷◌, map, set, Option, Some, None, Result, Ok, Err, refl, ◌∙◌}
 use Rattle.std.proofs.Math.Seq.{map-set_same}
 use Rattle.std.proofs.lemmas.List.{length-set, length-map}
 use Rattle.flow_value.specs.declared.value.Value.{Value}
@@ -137,7 +137,9 @@ module _ {W : Type 0} (layout : Layout W) (meaning : ℕ → Value → Result (L
       → ShapeLaw layout meaning b (keeps_results kind values block)
   results_kept Action values block law =
       one_port block _ 0 (λ port. gives_room 1 (takes_next port)) done_same refl refl refl law
-  results_kept kind values block law =
+  results_kept kind [] block law =
+      one_port block _ 0 (λ port. gives_room 1 (takes_next port)) done_same refl refl refl law
+  results_kept kind (value ∷ values) block law =
       one_port block _ 0 takes_next takes_next_same refl refl refl law
 
   yield_keeps : (result : Result (List Value) ℕ) (block : BlockState) → ShapeLaw layout meaning b block

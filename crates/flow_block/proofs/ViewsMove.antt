@@ -209,7 +209,14 @@ keeping_stays Action values block =
           (gives_room 1 (takes_next (port_at 0 block))) refl;
       outs = refl;
     }
-keeping_stays _ values block = record {
+keeping_stays _ [] block =
+    record {
+      ins = λ p below.
+          kept_at_one (λ (port : PortState). port.ends) block.ports 0 p
+          (gives_room 1 (takes_next (port_at 0 block))) refl;
+      outs = refl;
+    }
+keeping_stays _ (value ∷ values) block = record {
   ins = λ p below. kept_at_one (λ (port : PortState). port.ends) block.ports 0 p (takes_next (port_at 0 block)) refl;
   outs = refl;
 }

@@ -53,10 +53,11 @@ fails number block = record block { fault = Some number; ports = map port_fails 
 abbrev pub records : List Value → BlockState → BlockState
 records values block = record (with_port 0 (λ port. gives_room 1 (takes_next port)) block) { recorded = block.recorded ++ values }
 
--- the message's results are there to be given; its room comes back when they are
+-- the message's results are there to be given, and its room comes back when they are; where there are none, it does at once
 abbrev pub puts_out : List Value → BlockState → BlockState
-puts_out values block =
-    record (with_port 0 takes_next block) { exits = puts values (unit_weight (port_at 0 block).capacity) block.exits }
+puts_out [] block = with_port 0 (λ port. gives_room 1 (takes_next port)) block
+puts_out (value ∷ values) block =
+    record (with_port 0 takes_next block) { exits = puts (value ∷ values) (unit_weight (port_at 0 block).capacity) block.exits }
 
 abbrev pub keeps_results : BlockKind → List Value → BlockState → BlockState
 keeps_results Action values block = records values block

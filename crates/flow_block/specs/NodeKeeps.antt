@@ -128,7 +128,7 @@ module _ (W : Type 0) where
   MakesKept = AtEachBlock (λ layout meaning b node. MakesLaw layout meaning b node.block node.journal)
 
   abbrev pub LoadKept : Type 0
-  LoadKept = AtEachBlock (λ layout meaning b node. LoadLaw layout meaning b node.block)
+  LoadKept = AtEachBlock (λ layout meaning b node. LoadLaw layout meaning b node.block node.journal)
 
   abbrev pub MarksKept : Type 0
   MarksKept = AtEachBlock (λ layout meaning b node. MarksLaw layout meaning b node.journal)

@@ -1,9 +1,9 @@
 -- When a node is in order: its own data say so, whatever the other ends of its links do.
-use Rattle.std.specs.Prelude.{◌≡◌, ℕ, ◌+◌, ◌==◌, ◌<◌, ◌⊎◌, Bool, true, false, ◌&&◌, List, [], ◌∷◌, ◌++◌, length, map, Option, Some, None, is_some, Result, Err}
+use Rattle.std.specs.Prelude.{◌≡◌, ℕ, ◌+◌, ◌-◌, ◌==◌, ◌<◌, ltb, ◌⊎◌, Bool, true, false, cond, ◌&&◌, List, [], ◌∷◌, ◌++◌, length, map, Option, Some, None, is_some, Result, Err}
 use Rattle.flow_value.specs.When.{admits}
 use Rattle.flow_value.specs.declared.value.Value.{Value}
 use Rattle.flow_link.specs.declared.draft.BlockKind.{BlockKind}
-use Rattle.flow_link.specs.declared.draft.BlockKind.TheVariants.{Buffer, Action, Transform}
+use Rattle.flow_link.specs.declared.draft.BlockKind.TheVariants.{Buffer, Action, Transform, TransformMany}
 use Rattle.flow_link.specs.declared.stage.Refusal.{Refusal}
 use Rattle.flow_link.specs.declared.stage.Refusal.TheVariants.{PortEnded, OwnFault}
 use Rattle.flow_link.specs.declared.stage.SourceStage.{SourceStage}
@@ -63,6 +63,28 @@ weighed None next left = []
 weighed (Some capacity) next [] = []
 weighed (Some capacity) next (_ ∷ left) = record { until = next; weight = 1 } ∷ weighed (Some capacity) (next + 1) left
 
+-- of results in order, the first of which begins with this id, and of which so many values were given: each that is not
+-- wholly given has its weight, by the id of its last value
+abbrev pub partly : (first given : ℕ) → List (List Value) → List Group
+partly first given [] = []
+partly first given (result ∷ results) =
+    cond (ltb given (length result)) (record { until = first + (length result - 1); weight = 1 } ∷ []) []
+    ++ partly (first + length result) (given - length result) results
+
+abbrev pub partly_weighed : Option ℕ → ℕ → List (List Value) → List Group
+partly_weighed None given results = []
+partly_weighed (Some capacity) given results = partly 1 given results
+
+-- a result has its weight until its last value is given
+pub record PartlyGiven (result : Value → Result (List Value) ℕ) (capacity : Option ℕ) (taken held given left : List Value) (groups : List Group) : Type 0 where
+  pub works : WorkedInto result taken held (given ++ left)
+  pub groups_are : groups ≡ partly_weighed capacity (length given) works.results
+
+-- which weights a block of this kind keeps for what it has left: one for each message that is not wholly given
+abbrev pub WeighsAs : (Value → Result (List Value) ℕ) → BlockKind → Option ℕ → (taken held given left : List Value) → ℕ → List Group → Type 0
+WeighsAs result TransformMany capacity taken held given left next groups = PartlyGiven result capacity taken held given left groups
+WeighsAs result kind capacity taken held given left next groups = groups ≡ weighed capacity next left
+
 -- a message that is held first and on which the block's own function faults so
 pub record FaultsOn (result : Value → Result (List Value) ℕ) (kind : BlockKind) (held : List Value) (number : ℕ) : Type 0 where
   pub works : has_work kind ≡ true
@@ -76,6 +98,7 @@ abbrev pub MakesAs : (Value → Result (List Value) ℕ) → BlockKind → (take
 MakesAs result Buffer taken held given left recorded = taken ≡ (given ++ left) ++ held
 MakesAs result Action taken held given left recorded = WorkedInto result taken held recorded × (left ≡ [])
 MakesAs result Transform taken held given left recorded = WorkedInto result taken held (given ++ left)
+MakesAs result TransformMany taken held given left recorded = WorkedInto result taken held (given ++ left)
 MakesAs result kind taken held given left recorded = Unit {0}
 
 -- the end has seen this fault
@@ -134,12 +157,13 @@ module _ {W : Type 0} (layout : Layout W) (meaning : ℕ → Value → Result (L
     pub makes : MakesAs (block_makes layout meaning b) block.kind (took journal) (held_by block) (gave journal) block.exits.left block.recorded
     pub fault_is : (number : ℕ) → block.fault ≡ Some number → FaultsOn (block_makes layout meaning b) block.kind (held_by block) number
 
-  -- a place is taken by each message that it holds or has left
-  pub record LoadLaw (block : BlockState) : Type 0 where
-    pub groups : block.exits.groups ≡ weighed (block_in layout.blocks b).capacity block.exits.next block.exits.left
+  -- a place is taken by each message that it holds or has not wholly given
+  pub record LoadLaw (block : BlockState) (journal : List Mark) : Type 0 where
+    pub groups : WeighsAs (block_makes layout meaning b) block.kind (block_in layout.blocks b).capacity (took journal)
+        (held_by block) (gave journal) block.exits.left block.exits.next block.exits.groups
     pub no_room : block.exits.room ≡ 0
     pub load : (p : ℕ) → p < length block.ports → is_some (block_in layout.blocks b).capacity ≡ true
-        → (port_at p block).load ≡ length (port_at p block).waiting + length block.exits.left
+        → (port_at p block).load ≡ length (port_at p block).waiting + length block.exits.groups
 
   -- its marks are of its own links and ports, and nothing follows an end
   pub record MarksLaw (journal : List Mark) : Type 0 where
@@ -175,6 +199,6 @@ module _ {W : Type 0} (layout : Layout W) (meaning : ℕ → Value → Result (L
     pub exits : ExitsLaw node.block
     pub gave : GaveLaw node.block.exits node.journal
     pub makes : MakesLaw node.block node.journal
-    pub load : LoadLaw node.block
+    pub load : LoadLaw node.block node.journal
     pub marks : MarksLaw node.journal
     pub ends : EndsLaw node.block node.journal

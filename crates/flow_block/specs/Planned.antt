@@ -2,7 +2,7 @@
 use Rattle.std.specs.Prelude.{ℕ, Bool, true, false, List, [], map, filter, length, take, count_by, None, Result}
 use Rattle.flow_value.specs.declared.value.Value.{Value}
 use Rattle.flow_link.specs.declared.draft.BlockKind.{BlockKind}
-use Rattle.flow_link.specs.declared.draft.BlockKind.TheVariants.{Buffer, Action, Transform}
+use Rattle.flow_link.specs.declared.draft.BlockKind.TheVariants.{Buffer, Action, Transform, TransformMany}
 use Rattle.flow_link.specs.declared.plan.Link.{Link}
 use Rattle.flow_link.specs.Layout.{Layout}
 use Rattle.flow_link.specs.Lists.{below}
@@ -18,6 +18,7 @@ abbrev pub is_built : BlockKind → Bool
 is_built Buffer = true
 is_built Action = true
 is_built Transform = true
+is_built TransformMany = true
 is_built _ = false
 
 module _ {W : Type 0} (layout : Layout W) where

@@ -5,7 +5,7 @@
 //!
 //! call        kind of block    what becomes of the message
 //! `hand_on`   buffer           it is there to be given
-//! `put_out`   transform        its results are there to be given
+//! `put_out`   both transforms  its results are there to be given
 //! `record`    action           its results are kept
 //! `fail`      all with work    it stays, and the ports take no more
 //!

@@ -1,6 +1,6 @@
 //! What a block does by itself: it works on the message that waits longest, and it ends.
 ghost use Rattle.std.specs.Prelude.{◌≡◌, ◌<◌, ◌↔◌, true, length, take, Err, OnOk, OnErr, IfErr};
-ghost use Rattle.flow_intake.specs.Calls.{port_closes};
+ghost use Rattle.flow_intake.specs.Calls.{gives_room, port_closes, takes_next};
 ghost use Rattle.flow_outlet.specs.Outlet.{lacks_ids};
 ghost use Rattle.flow_outlet.specs.declared.fault.OutletFault.TheVariants.{Ids};
 ghost use Rattle.flow_block.specs.Block.{with_port, held_by, records, puts_out, fails, stops_by};
@@ -26,8 +26,8 @@ impl Block {
         Ok(())
     }
 
-    /// Has these results of the message to give; its room comes back when they are all given. Where message ids are
-    /// used up or there is no memory for them, nothing has changed, and they come back.
+    /// Has these results of the message to give; its room comes back when they are all given, and at once where there
+    /// are none. Where message ids are used up or there is no memory for them, nothing has changed, and they come back.
     pub fn put_out(&mut self, values: Vec<Value>) -> Result<(), (Vec<Value>, OutletFault)>
         requires alone { length self.old.ports ≡ 1 }
         requires waits { 0 < length (held_by self.old) }
@@ -36,6 +36,10 @@ impl Block {
         ensures back { IfErr result (λ refused. refused.0 ≡ values) }
         ensures ids { (result ≡ Err (values, Ids)) ↔ (lacks_ids values.items self.old.exits ≡ true) }
     {
+        if values.is_empty() {
+            self.drop_first();
+            return Ok(());
+        }
         let weight = unit_weight(&self.ports[0]);
         self.exits.put(values, weight)?;
         let _value = self.ports[0].take_next();
@@ -55,10 +59,19 @@ impl Block {
         if self.recorded.append(&mut values).is_err() {
             return Err(values);
         }
+        self.drop_first();
+        Ok(())
+    }
+
+    /// The message is done with, and its room comes back.
+    fn drop_first(&mut self)
+        requires alone { length self.old.ports ≡ 1 }
+        requires waits { 0 < length (held_by self.old) }
+        ensures { self.new ≡ with_port 0 (λ port. gives_room 1 (takes_next port)) self.old }
+    {
         let port = &mut self.ports[0];
         let _value = port.take_next();
         port.give_room(1);
-        Ok(())
     }
 
     /// Its function faults on the message, with this number: from now on its ports take no message any more.
