@@ -2,7 +2,7 @@
 use Rattle.std.proofs.Common.{◌≡◌, ◌==◌, Bool, true, not, ◌&&◌, unwrap_or}
 use Rattle.flow_link.specs.declared.draft.BlockDef.{BlockDef}
 use Rattle.flow_link.specs.declared.draft.BlockKind.{BlockKind}
-use Rattle.flow_link.specs.declared.draft.BlockKind.TheVariants.{Buffer, Action, Transform}
+use Rattle.flow_link.specs.declared.draft.BlockKind.TheVariants.{Buffer, Action, Transform, TransformMany}
 use Rattle.flow_link.specs.declared.plan.LinkTarget.{LinkTarget}
 use Rattle.flow_link.specs.declared.plan.LinkTarget.TheVariants.{Exit}
 use Rattle.flow_link.specs.declared.plan.Plan.{Plan}
@@ -20,6 +20,7 @@ kind_built : (kind : BlockKind) → is_built_kind kind ≡ true → is_built kin
 kind_built Buffer e = e
 kind_built Action e = e
 kind_built Transform e = e
+kind_built TransformMany e = e
 kind_built _ e = absurd (cc)
 
 first_of_three : (a b c : Bool) → (a && b && c) ≡ true → a ≡ true

@@ -120,8 +120,9 @@ pub(crate) fn make<W: Work>(
     }
 }
 
-/// A block has these results of the message that waits longest: an action keeps them, a transform gives its only one,
-/// and any other number of results is its fault. Where message ids are used up or memory is out, nothing has changed.
+/// A block has these results of the message that waits longest: an action keeps them, a transform-many gives them, and a
+/// transform gives its only one, where any other number of results is its fault. Where message ids are used up or
+/// memory is out, nothing has changed.
 fn yield_results(node: &mut Node, results: Vec<Value>) -> Result<(), OutletFault>
     requires alone { length node.old.block.ports ≡ 1 }
     requires waits { 0 < length (held_by node.old.block) }
@@ -141,7 +142,7 @@ fn yield_results(node: &mut Node, results: Vec<Value>) -> Result<(), OutletFault
             Err(_) => Err(OutletFault::Memory),
         };
     }
-    if results.len() != 1 {
+    if node.block().kind() == BlockKind::Transform && results.len() != 1 {
         node.fail(NOT_ONE);
         return Ok(());
     }
