@@ -148,6 +148,7 @@ pub(super) fn kind_of(word: &str) -> Option<BlockKind>
         "buffer" => Some(BlockKind::Buffer),
         "action" => Some(BlockKind::Action),
         "transform" => Some(BlockKind::Transform),
+        "transform_many" => Some(BlockKind::TransformMany),
         _ => None,
     }
 }
