@@ -104,6 +104,22 @@ const CASES: &[Case] = &[
         &["block t done ; block a open ; record [1,2] ; block b done ; record [3,4,5]"],
     ),
     (
+        "upto flattens",
+        &[IN, ("t", "transform_many", None, &["int", "upto"]), KEEP],
+        &[("in", "t", "any", None), ("t", "out", "any", None)],
+        "'2 '0 '3",
+        Ending::Complete,
+        &["block in done ; block t done ; block out done ; record [0,1,0,1,2]"],
+    ),
+    (
+        "upto flattens, with room for one message",
+        &[IN, ("t", "transform_many", Some(1), &["int", "upto"]), KEEP],
+        &[("in", "t", "any", None), ("t", "out", "any", None)],
+        "'2 '0 '3",
+        Ending::Complete,
+        &["block in done ; block t done ; block out done ; record [0,1,0,1,2]"],
+    ),
+    (
         "two sources of one block",
         &[
             IN,
@@ -186,6 +202,7 @@ fn kind_of(word: &str) -> (BlockKind, bool) {
         "buffer*" => (BlockKind::Buffer, true),
         "buffer" => (BlockKind::Buffer, false),
         "transform" => (BlockKind::Transform, false),
+        "transform_many" => (BlockKind::TransformMany, false),
         _ => (BlockKind::Action, false),
     }
 }

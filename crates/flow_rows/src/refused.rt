@@ -70,7 +70,6 @@ const TEXTS: &str = r#"
 # Kinds that are not built yet.
 4 WrongType block 0 | block = [{name = "a", kind = "broadcast"}]
 4 WrongType block 0 | block = [{name = "a", kind = "write_once"}]
-4 WrongType block 0 | block = [{name = "a", kind = "transform_many", work = []}]
 4 WrongType block 1 | block = [{name = "a", kind = "buffer"}, {name = "b", kind = "batch"}]
 4 WrongType block 0 | block = [{name = "a", kind = "join"}]
 4 WrongType block 0 | block = [{name = "a", kind = "batched_join"}]
@@ -98,6 +97,7 @@ const TEXTS: &str = r#"
 8 Plan 2 DuplicateName block 1 | block = [{name = "a", kind = "buffer"}, {name = "a", kind = "buffer"}]
 8 Plan 6 BadOption block 0 | block = [{name = "a", kind = "action"}]
 8 Plan 6 BadOption block 0 | block = [{name = "a", kind = "transform"}]
+8 Plan 6 BadOption block 0 | block = [{name = "a", kind = "transform_many"}]
 8 Plan 6 BadOption block 0 | block = [{name = "a", kind = "buffer", work = []}]
 8 Plan 6 BadOption block 1 | block = [{name = "a", kind = "buffer"}, {name = "", kind = "buffer"}]
 8 Plan 6 BadOption block 0 | block = [{name = "a b", kind = "buffer"}]

@@ -125,6 +125,18 @@ const RUNS: &[Case] = &[
         ],
     ),
     (
+        "upto flattens",
+        r#"in buffer => t transform_many ["int", "upto"] => out action []"#,
+        b"in,2\nin,0\nin,3\n",
+        ENOUGH,
+        0,
+        &[
+            r#"block in done ; input [] ; port 0 ["2","0","3"] ; held 0 [] ; link 0 ["2","0","3"] ; left []"#,
+            r#"block t done ; port 0 ["2","0","3"] ; held 0 [] ; link 1 [0,1,0,1,2] ; left []"#,
+            "block out done ; port 0 [0,1,0,1,2] ; held 0 [] ; record [0,1,0,1,2] ; quiet",
+        ],
+    ),
+    (
         "an input without a link",
         "b-1.b_2 buffer",
         b"b-1.b_2,x",
