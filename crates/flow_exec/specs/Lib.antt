@@ -1,3 +1,0 @@
-pub mod Jobs
-pub mod Results
-pub mod Works
