@@ -18,12 +18,13 @@ use Rattle.flow_link.proofs.OneMoreWorked.{worked_more}
 use Rattle.flow_intake.specs.Port.{PortState, fresh_port, hand_in}
 use Rattle.flow_intake.specs.Calls.{first_of, wants, turns_down, postpones, refuses, consumes, opens, closes, looks as port_looks, takes_next, gives_room, port_closes, port_fails}
 use Rattle.flow_outlet.specs.Outlet.{OutletState, first_of as first_left, rest_of, head_of, gives, prepares, offers, denies, withdraws, ends_link, looks as exit_looks}
-use Rattle.flow_block.specs.Block.{BlockState, port_at, with_port, held_by, made_of, puts_out, put_by_kind, yields, keeps_results, makes_of, stops_by}
+use Rattle.flow_block.specs.Block.{BlockState, port_at, with_port, with_jobs, held_by, made_of, puts_out, put_by_kind, yields, keeps_results, makes_of, stops_by}
+use Rattle.flow_block.specs.Jobs.{JobsState, begins, works_off}
 use Rattle.flow_block.specs.Node.{NodeState, NodeCall, takes_in, gives_from, in_link_at, out_link_at}
 use Rattle.flow_block.specs.NodeKeeps.{MakesKept, MayCall, after_call}
 use Rattle.flow_block.specs.NodeLaw.{NodeLaw, MakesLaw, MakesAs, FaultsOn}
 use Rattle.flow_block.specs.Planned.{is_built, block_makes}
-use Rattle.flow_block.proofs.GoingOn.{may_make_tells}
+use Rattle.flow_block.proofs.GoingOn.{may_work_tells}
 use Rattle.flow_block.proofs.KindsBuilt.{has_one_port}
 use Rattle.flow_block.proofs.PortsChange.{kept_at_one, kept_at_all}
 
@@ -191,6 +192,13 @@ module _ {W : Type 0} (layout : Layout W) (meaning : ℕ → Value → Result (L
       stays node.block (record node.block { exits = exits }) node.journal node.journal law
       refl refl same refl refl refl refl
 
+  -- its jobs change
+  pub jobs_change : (node : NodeState) → MakesLaw layout meaning b node.block node.journal
+      → (change : JobsState → JobsState)
+      → MakesLaw layout meaning b (with_jobs change node.block) node.journal
+  jobs_change node law change =
+      stays node.block (with_jobs change node.block) node.journal node.journal law refl refl refl refl refl refl refl
+
   -- all its ports close
   stops_so : (node : NodeState) → MakesLaw layout meaning b node.block node.journal → (how : Outcome) (mark : Mark)
       → taken_by_mark (λ port link. true) mark ≡ [] → given_by_mark (λ link. true) mark ≡ []
@@ -258,11 +266,13 @@ module _ {W : Type 0} (layout : Layout W) (meaning : ℕ → Value → Result (L
       put_so Buffer values block journal value rest same one none first
       (made_more Buffer block journal value rest values same first made law)
   kept_as Transform block journal value rest values same built one none first made law =
-      put_so Transform values block journal value rest same one none first
-      (made_more Transform block journal value rest values same first made law)
+      jobs_change (record { block = puts_out values block; journal = journal })
+      (put_so Transform values block journal value rest same one none first
+      (made_more Transform block journal value rest values same first made law)) works_off
   kept_as TransformMany block journal value rest values same built one none first made law =
-      put_so TransformMany values block journal value rest same one none first
-      (made_more TransformMany block journal value rest values same first made law)
+      jobs_change (record { block = puts_out values block; journal = journal })
+      (put_so TransformMany values block journal value rest same one none first
+      (made_more TransformMany block journal value rest values same first made law)) works_off
   kept_as kind block journal value rest values same built one none first made law = absurd (cc)
 
   yielded : (block : BlockState) (journal : List Mark) (value : Value) (rest : List Value)
@@ -308,9 +318,10 @@ module _ {W : Type 0} (layout : Layout W) (meaning : ℕ → Value → Result (L
   after_each node (NodeCall.close p k) law may = taken_in node law p k (hand_in k (port_at p node.block).ends) may.port
   after_each node (NodeCall.give k) law may = given_out node law.makes k (head_of node.block.exits) refl
   after_each node (NodeCall.look_in p k phase) law may = port_stays node law.makes p (port_looks k phase) refl
+  after_each node NodeCall.begin law may = jobs_change node law.makes begins
   after_each node NodeCall.make law may =
       let block = node.block in
-      let none = (may_make_tells block may.waits).no_fault in
+      let none = (may_work_tells block may.waits).no_fault in
       let one = has_one_port layout meaning b block law.shape in
       made_next block node.journal (held_by block) refl one none law.shape.built law.makes
   after_each node (NodeCall.complete p) law may =

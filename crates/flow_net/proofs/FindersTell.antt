@@ -16,14 +16,14 @@ use Rattle.flow_block.specs.declared.planned.Route.{Route}
 use Rattle.flow_block.specs.Routes.{route_of}
 use Rattle.flow_block.proofs.PlanMade.{mapped_at}
 use Rattle.flow_block.specs.Block.{BlockState}
-use Rattle.flow_block.specs.Peeks.{may_make, may_complete, next_fault, may_finish}
+use Rattle.flow_block.specs.Peeks.{may_make, may_begin, may_end, may_complete, next_fault, may_finish}
 use Rattle.flow_core.specs.Events.{NetEvent, LinkMay, MayHappen, is_of_source}
 use Rattle.flow_core.specs.Keeps.{NetKeeps}
 use Rattle.flow_core.specs.State.{NetState}
 use Rattle.flow_moves.specs.Ready.{IsThere, SourceIsThere, TargetIsThere}
 use Rattle.flow_moves.specs.Statements.{IsPlanned, HasNothingToDo, source_would, target_would}
 use Rattle.flow_moves.specs.Ways.{lacks_id, source_next, target_next}
-use Rattle.flow_moves.specs.Works.{works_of}
+use Rattle.flow_exec.specs.Works.{works_of}
 use Rattle.flow_moves.proofs.PlansRun.{plan_runs}
 use Rattle.flow_moves.proofs.MerelyKept.{links_there}
 use Rattle.flow_net.specs.There.{IsDue, NeedsId}
@@ -130,10 +130,13 @@ module _ {W : Type 0} (works : W → Value → Result (List Value) WorkFault) (p
 
 -- it has one port, so it would do nothing by itself where it would do none of these
 pub nothing_to_do : {W : Type 0} (layout : Layout W) (b : ℕ) (block : BlockState) → IsPlanned layout b block
-    → may_make block ≡ false → may_complete 0 block ≡ false → next_fault block ≡ None → may_finish block ≡ false
+    → may_make block ≡ false → may_begin block ≡ false → ((ticket : ℕ) → may_end ticket block ≡ false)
+    → may_complete 0 block ≡ false → next_fault block ≡ None → may_finish block ≡ false
     → HasNothingToDo block
-nothing_to_do layout b block planned make complete fault finish = record {
+nothing_to_do layout b block planned make begin end complete fault finish = record {
   make = make;
+  begin = begin;
+  end = end;
   complete = λ p low.
       let first : 0 ≡ p = omega (arith, low, planned.alone) in
       subst (λ (q : ℕ). may_complete q block ≡ false) first complete;

@@ -2,7 +2,9 @@ pub mod EventsCount
 pub mod EventsDone
 pub mod FindersTell
 pub mod IdsLeft
+pub mod JobsReturn
 pub mod KeptOn
 pub mod NetTells
 pub mod PassesCount
+pub mod WorksHappen
 pub mod WorksNumbered

@@ -2,10 +2,12 @@
 #![tactic(auto)]
 
 mod agenda;
+mod due;
 mod engine;
 mod event;
 mod fault;
 mod find;
+mod job;
 mod laws;
 mod make;
 mod net;

@@ -4,9 +4,10 @@ ghost use Rattle.flow_link.specs.Planned.{layout_of};
 ghost use Rattle.flow_intake.specs.PortLaw.{has_ended};
 ghost use Rattle.flow_block.specs.Block.{port_at};
 ghost use Rattle.flow_core.specs.Keeps.{NetKeeps};
-ghost use Rattle.flow_moves.specs.Works.{works_of};
+ghost use Rattle.flow_exec.specs.Works.{works_of};
 ghost use Rattle.flow_net.specs.States.{state_told};
 
+use crate::due::Due;
 use crate::engine::Engine;
 use crate::event::{Event, Stepped};
 use crate::fault::NetFault;
@@ -34,6 +35,7 @@ impl<W: Work> Net<W> {
     ghost use Rattle.flow_core.specs.AtRest.{AtRest};
     ghost use Rattle.flow_core.specs.Events.{MayHappen, after};
     ghost use Rattle.flow_core.specs.Statements.{IsStill};
+    ghost use Rattle.flow_net.specs.Dues.{event_of};
     ghost use Rattle.flow_net.specs.Events.{net_event};
     ghost use Rattle.flow_net.specs.Net.{layout_in, parts_of, run_of};
     ghost use Rattle.flow_net.specs.States.{state_by};
@@ -79,7 +81,43 @@ impl<W: Work> Net<W> {
         ensures back { IfErr result (λ refused. refused.0 ≡ event) }
         ensures lawful { Lawful (run_of W.meaning self.new) }
     {
-        match self.engine.event(alloc, &event) {
+        match event {
+            Event::Begin(number) => match self.engine.begin_job(alloc, number) {
+                Ok(job) => Ok(Stepped::Began(job)),
+                Err(fault) => Err((Event::Begin(number), fault)),
+            },
+            Event::End(number, done) => match self.engine.end_job(number, done) {
+                Ok(()) => Ok(Stepped::Moved),
+                Err((done, fault)) => Err((Event::End(number, done), fault)),
+            },
+            Event::Link(id, next) => self.step(alloc, Due::Link(id, next), event),
+            Event::Make(number) => self.step(alloc, Due::Make(number), event),
+            Event::Complete(number, port) => self.step(alloc, Due::Complete(number, port), event),
+            Event::Fault(number) => self.step(alloc, Due::Fault(number), event),
+            Event::Done(number) => self.step(alloc, Due::Done(number), event),
+        }
+    }
+
+    /// Does this event, which is no job's.
+    fn step(
+        &mut self,
+        alloc: Global,
+        due: Due,
+        event: Event<W>,
+    ) -> Result<Stepped<W>, (Event<W>, NetFault)>
+        requires same { net_event event ≡ event_of due }
+        ensures same_plan { layout_in self.new ≡ layout_in self.old }
+        ensures enabled { OnOk result (MayHappen (layout_in self.old) (works_of W.meaning (layout_in self.old))
+            (event_of due) (parts_of self.old)) }
+        ensures moved { OnOk result (parts_of self.new ≡ after (layout_in self.old)
+            (works_of W.meaning (layout_in self.old)) (event_of due) (parts_of self.old)) }
+        ensures kept { OnErr result (parts_of self.new ≡ parts_of self.old) }
+        ensures why { IfErr result (λ refused. IsWhyNot (layout_in self.old) (works_of W.meaning (layout_in self.old))
+            (parts_of self.old) (event_of due) refused.1) }
+        ensures back { IfErr result (λ refused. refused.0 ≡ event) }
+        ensures lawful { Lawful (run_of W.meaning self.new) }
+    {
+        match self.engine.event(alloc, &due) {
             Ok(()) => Ok(Stepped::Moved),
             Err(fault) => Err((event, fault)),
         }

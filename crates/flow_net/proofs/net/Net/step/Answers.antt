@@ -1,5 +1,5 @@
 use Rattle.flow_net.proofs.KeptOn.{kept_by_plan, lawful_by_plan}
-use Rattle.flow_net.proofs.net.Net.event.Goals as goal
+use Rattle.flow_net.proofs.net.Net.step.Goals as goal
 
 pub invariant_of-self : goal.invariant_of-self
 invariant_of-self g c =

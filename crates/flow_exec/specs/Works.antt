@@ -1,7 +1,5 @@
 -- What the blocks of a layout make of a message: what their works mean, by the numbers of faults.
-use Rattle.std.specs.Prelude.{◌≡◌, ℕ, List, [], ◌∷◌, unwrap_or, Option, Some, None, Result, Ok, Err}
-use Rattle.std.specs.declared.vec.Vec.{Vec}
-use Rattle.std.specs.declared.alloc.Global.{Global}
+use Rattle.std.specs.Prelude.{ℕ, List, [], ◌∷◌, unwrap_or, Option, Some, None, Result, Ok, Err}
 use Rattle.flow_value.specs.Fault.{number_of}
 use Rattle.flow_value.specs.declared.value.Value.{Value}
 use Rattle.flow_value.specs.declared.work.WorkFault.{WorkFault}
@@ -23,10 +21,6 @@ worked_by meaning (Some work) value = result_by_number (meaning work value)
 abbrev pub results_by : {W : Type 0} → Option W → BlockKind → (W → Value → Result (List Value) WorkFault) → Value → Result (List Value) ℕ
 results_by work kind meaning value = result_of kind (worked_by meaning work value)
 
--- an answer of the program is this result
-abbrev pub IsAnswer : Result (Vec Value Global) ℕ → Result (List Value) ℕ → Type 0
-IsAnswer (Ok values) meaning = meaning ≡ Ok values.items
-IsAnswer (Err number) meaning = meaning ≡ Err number
-
+-- what each block of a layout makes of a message
 abbrev pub works_of : {W : Type 0} → (W → Value → Result (List Value) WorkFault) → Layout W → ℕ → Value → Result (List Value) ℕ
 works_of meaning layout b value = worked_by meaning (block_in layout.blocks b).work value
