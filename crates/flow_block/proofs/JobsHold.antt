@@ -16,6 +16,7 @@ use Rattle.flow_link.specs.Layout.{Layout}
 use Rattle.flow_link.specs.Lists.{every}
 use Rattle.flow_link.specs.Plan.{has_work}
 use Rattle.flow_link.specs.Trace.{took}
+use Rattle.flow_link.specs.NotBuilt.{is_built_kind}
 use Rattle.flow_link.proofs.ListTests.{never_both}
 use Rattle.flow_link.proofs.OneMoreMark.{took_no_more, took_by_took, took_by_gave}
 use Rattle.flow_intake.specs.Port.{PortState, fresh_port, hand_in}
@@ -27,7 +28,7 @@ use Rattle.flow_block.specs.Node.{NodeState, NodeCall, takes_in, gives_from, in_
 use Rattle.flow_block.specs.NodeKeeps.{JobsKept, MayCall, after_call}
 use Rattle.flow_block.specs.NodeLaw.{NodeLaw, JobsLaw}
 use Rattle.flow_block.specs.Peeks.{may_work, may_begin}
-use Rattle.flow_block.specs.Planned.{is_built, block_makes}
+use Rattle.flow_block.specs.Planned.{block_makes}
 use Rattle.flow_block.proofs.KindsBuilt.{has_one_port}
 use Rattle.flow_block.proofs.PortsChange.{kept_at_one, kept_at_all}
 
@@ -241,7 +242,7 @@ module _ {W : Type 0} (layout : Layout W) (meaning : ℕ → Value → Result (L
   results_kept : (kind : BlockKind) (values : List Value) (block : BlockState) (journal : List Mark) (value : Value)
       (rest : List Value)
       → block.kind ≡ kind → length block.ports ≡ 1 → held_by block ≡ value ∷ rest
-      → is_built kind ≡ true → (works : Bool) → has_work kind ≡ works → every is_none block.jobs.slots ≡ true
+      → is_built_kind kind ≡ true → (works : Bool) → has_work kind ≡ works → every is_none block.jobs.slots ≡ true
       → Jobs block journal → Jobs (keeps_results kind values block) journal
   results_kept Action values block journal value rest same one first built works is out law =
       worked_off block (keeps_results Action values block) journal value rest refl refl first
@@ -263,7 +264,7 @@ module _ {W : Type 0} (layout : Layout W) (meaning : ℕ → Value → Result (L
 
   yielded : (block : BlockState) (journal : List Mark) (value : Value) (rest : List Value)
       (made : Result (List Value) ℕ)
-      → length block.ports ≡ 1 → is_built block.kind ≡ true → held_by block ≡ value ∷ rest
+      → length block.ports ≡ 1 → is_built_kind block.kind ≡ true → held_by block ≡ value ∷ rest
       → every is_none block.jobs.slots ≡ true → Jobs block journal → Jobs (yields made block) journal
   yielded block journal value rest (Ok values) one built first out law =
       results_kept block.kind values block journal value rest refl one first built (has_work block.kind) refl out law
@@ -280,7 +281,7 @@ module _ {W : Type 0} (layout : Layout W) (meaning : ℕ → Value → Result (L
       }
 
   made_next : (block : BlockState) (journal : List Mark) (held : List Value) → held_by block ≡ held
-      → length block.ports ≡ 1 → is_built block.kind ≡ true → every is_none block.jobs.slots ≡ true → Jobs block journal
+      → length block.ports ≡ 1 → is_built_kind block.kind ≡ true → every is_none block.jobs.slots ≡ true → Jobs block journal
       → Jobs (makes_of (block_makes layout meaning b) (first_of held) block) journal
   made_next block journal [] is one built out law = law
   made_next block journal (value ∷ rest) is one built out law =

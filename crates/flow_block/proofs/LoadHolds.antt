@@ -13,6 +13,7 @@ use Rattle.flow_link.specs.Layout.{Layout}
 use Rattle.flow_link.specs.Making.{result_of}
 use Rattle.flow_link.specs.Plan.{block_in}
 use Rattle.flow_link.specs.Trace.{took, gave}
+use Rattle.flow_link.specs.NotBuilt.{is_built_kind}
 use Rattle.flow_link.proofs.OneMoreMark.{took_no_more, gave_no_more, took_by_took, gave_by_took, took_by_gave, gave_by_gave}
 use Rattle.flow_intake.specs.Port.{PortState, fresh_port}
 use Rattle.flow_intake.specs.Calls.{first_of, one_more, wants, turns_down, postpones, refuses, consumes, opens, closes, looks as port_looks, takes_next, gives_room, port_closes, port_fails}
@@ -23,7 +24,7 @@ use Rattle.flow_block.specs.Jobs.{JobsState, begins, works_off}
 use Rattle.flow_block.specs.Node.{NodeState, NodeCall, hand_at, in_link_at, out_link_at, takes_in, gives_from}
 use Rattle.flow_block.specs.NodeLaw.{NodeLaw, ShapeLaw, LoadLaw, WeighsAs}
 use Rattle.flow_block.specs.NodeKeeps.{MayCall, after_call, LoadKept}
-use Rattle.flow_block.specs.Planned.{is_built, block_makes}
+use Rattle.flow_block.specs.Planned.{block_makes}
 use Rattle.flow_block.proofs.KindsBuilt.{has_one_port}
 use Rattle.flow_block.proofs.PortsChange.{kept_at_one, kept_at_all, each_after_one, each_after_all}
 use Rattle.flow_block.proofs.WeightsOfResults.{is_many, weight_back, weighs_taken, weighs_given, weighs_many, weighs_one}
@@ -41,7 +42,7 @@ transformed_is_one (Ok (value ∷ [])) values e = let same : values ≡ value �
 transformed_is_one (Ok (value ∷ next ∷ more)) values e = absurd (cc)
 
 made_by_kind : (kind : BlockKind) (raw : Value → Result (List Value) ℕ) (value : Value) (values : List Value)
-    → is_built kind ≡ true → made_of kind (λ v. result_of kind (raw v)) value ≡ Ok values
+    → is_built_kind kind ≡ true → made_of kind (λ v. result_of kind (raw v)) value ≡ Ok values
     → is_action kind ≡ false → is_many kind ≡ false → length values ≡ 1
 made_by_kind Buffer raw value values built e other single = let same : values ≡ value ∷ [] = cc in rw same refl
 made_by_kind Action raw value values built e other single = absurd (cc)
@@ -50,7 +51,7 @@ made_by_kind TransformMany raw value values built e other single = absurd (cc)
 made_by_kind kind raw value values built e other single = absurd (cc)
 
 made_is_one : (kind planned : BlockKind) (raw : Value → Result (List Value) ℕ) (value : Value) (values : List Value)
-    → kind ≡ planned → is_built kind ≡ true → made_of kind (λ v. result_of planned (raw v)) value ≡ Ok values
+    → kind ≡ planned → is_built_kind kind ≡ true → made_of kind (λ v. result_of planned (raw v)) value ≡ Ok values
     → is_action kind ≡ false → is_many kind ≡ false → length values ≡ 1
 made_is_one kind planned raw value values same built e other single =
     made_by_kind kind raw value values built

@@ -13,6 +13,7 @@ use Rattle.flow_link.specs.Layout.{Layout}
 use Rattle.flow_link.specs.Plan.{has_work}
 use Rattle.flow_link.specs.Trace.{took, gave}
 use Rattle.flow_link.specs.Worked.{WorkedInto}
+use Rattle.flow_link.specs.NotBuilt.{is_built_kind}
 use Rattle.flow_link.proofs.OneMoreMark.{took_no_more, gave_no_more, took_by_took, gave_by_took, took_by_gave, gave_by_gave}
 use Rattle.flow_link.proofs.OneMoreWorked.{worked_more}
 use Rattle.flow_intake.specs.Port.{PortState, fresh_port, hand_in}
@@ -23,7 +24,7 @@ use Rattle.flow_block.specs.Jobs.{JobsState, begins, works_off}
 use Rattle.flow_block.specs.Node.{NodeState, NodeCall, takes_in, gives_from, in_link_at, out_link_at}
 use Rattle.flow_block.specs.NodeKeeps.{MakesKept, MayCall, after_call}
 use Rattle.flow_block.specs.NodeLaw.{NodeLaw, MakesLaw, MakesAs, FaultsOn}
-use Rattle.flow_block.specs.Planned.{is_built, block_makes}
+use Rattle.flow_block.specs.Planned.{block_makes}
 use Rattle.flow_block.proofs.GoingOn.{may_work_tells}
 use Rattle.flow_block.proofs.KindsBuilt.{has_one_port}
 use Rattle.flow_block.proofs.PortsChange.{kept_at_one, kept_at_all}
@@ -116,7 +117,7 @@ record Fails (result : Value → Result (List Value) ℕ) (kind : BlockKind) (va
   fails : result value ≡ Err number
 
 fails_so : (result : Value → Result (List Value) ℕ) (kind : BlockKind) (value : Value) (number : ℕ)
-    → is_built kind ≡ true → made_of kind result value ≡ Err number → Fails result kind value number
+    → is_built_kind kind ≡ true → made_of kind result value ≡ Err number → Fails result kind value number
 fails_so result Buffer value number built made = absurd (cc)
 fails_so result Action value number built made = record { works = refl; fails = made }
 fails_so result Transform value number built made = record { works = refl; fails = made }
@@ -252,7 +253,7 @@ module _ {W : Type 0} (layout : Layout W) (meaning : ℕ → Value → Result (L
 
   kept_as : (kind : BlockKind) (block : BlockState) (journal : List Mark) (value : Value) (rest values : List Value)
       → block.kind ≡ kind
-      → is_built kind ≡ true → length block.ports ≡ 1 → block.fault ≡ None → held_by block ≡ value ∷ rest
+      → is_built_kind kind ≡ true → length block.ports ≡ 1 → block.fault ≡ None → held_by block ≡ value ∷ rest
       → made_of kind (block_makes layout meaning b) value ≡ Ok values → MakesLaw layout meaning b block journal
       → MakesLaw layout meaning b (keeps_results kind values block) journal
   kept_as Action block journal value rest values same built one none first made law =
@@ -278,7 +279,7 @@ module _ {W : Type 0} (layout : Layout W) (meaning : ℕ → Value → Result (L
   yielded : (block : BlockState) (journal : List Mark) (value : Value) (rest : List Value)
       (made : Result (List Value) ℕ)
       → length block.ports ≡ 1 → block.fault ≡ None → held_by block ≡ value ∷ rest
-      → is_built block.kind ≡ true
+      → is_built_kind block.kind ≡ true
       → made_of block.kind (block_makes layout meaning b) value ≡ made → MakesLaw layout meaning b block journal
       → MakesLaw layout meaning b (yields made block) journal
   yielded block journal value rest (Ok values) one none first built is law =
@@ -298,7 +299,7 @@ module _ {W : Type 0} (layout : Layout W) (meaning : ℕ → Value → Result (L
       }
 
   made_next : (block : BlockState) (journal : List Mark) (held : List Value) → held_by block ≡ held
-      → length block.ports ≡ 1 → block.fault ≡ None → is_built block.kind ≡ true
+      → length block.ports ≡ 1 → block.fault ≡ None → is_built_kind block.kind ≡ true
       → MakesLaw layout meaning b block journal
       → MakesLaw layout meaning b (makes_of (block_makes layout meaning b) (first_of held) block) journal
   made_next block journal [] is one none built law = law

@@ -21,6 +21,7 @@ use Rattle.flow_link.specs.Lists.{every, some, below}
 use Rattle.flow_link.specs.Plan.{block_in, port_count, has_work}
 use Rattle.flow_link.specs.Trace.{Run, took, took_at, gave, gave_over, has_complete, has_fault, has_ended, is_done}
 use Rattle.flow_link.specs.Worked.{WorkedInto}
+use Rattle.flow_link.specs.NotBuilt.{is_built_kind}
 use Rattle.flow_intake.specs.Port.{EndState, PortState, stage_at as port_stage}
 use Rattle.flow_intake.specs.PortLaw.{PortLaw, has_ended as has_port_ended}
 use Rattle.flow_intake.specs.Ended.{has_seen_completion, fault_seen}
@@ -32,7 +33,7 @@ use Rattle.flow_block.specs.Block.{BlockState, port_at, held_by}
 use Rattle.flow_block.specs.Jobs.{AreOf, is_front_back}
 use Rattle.flow_block.specs.Node.{NodeState}
 use Rattle.flow_block.specs.Peeks.{is_pending, holds_nothing}
-use Rattle.flow_block.specs.Planned.{is_built, lanes_of, links_to, links_from, rule_of, block_makes}
+use Rattle.flow_block.specs.Planned.{lanes_of, links_to, links_from, rule_of, block_makes}
 
 -- the source knows that this link is refused
 abbrev pub refuses_over : List OutEnd → ℕ → Bool
@@ -125,7 +126,7 @@ module _ {W : Type 0} (layout : Layout W) (meaning : ℕ → Value → Result (L
 
   -- the block is of a kind that is built, and has the ports and links that the plan gives it
   pub record ShapeLaw (block : BlockState) : Type 0 where
-    pub built : is_built block.kind ≡ true
+    pub built : is_built_kind block.kind ≡ true
     pub kind_is : block.kind ≡ (block_in layout.blocks b).kind
     pub port_count_is : length block.ports ≡ port_count (block_in layout.blocks b)
     pub ports : (p : ℕ) → p < length block.ports → PortAsPlanned p (port_at p block)

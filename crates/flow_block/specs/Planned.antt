@@ -1,8 +1,6 @@
 -- What a layout says of one of its blocks: its ports, and its ends of the links that lead into it and out of it.
-use Rattle.std.specs.Prelude.{ℕ, Bool, true, false, List, [], map, filter, length, take, count_by, unwrap_or, None, Result}
+use Rattle.std.specs.Prelude.{ℕ, Bool, List, [], map, filter, length, take, count_by, unwrap_or, None, Result}
 use Rattle.flow_value.specs.declared.value.Value.{Value}
-use Rattle.flow_link.specs.declared.draft.BlockKind.{BlockKind}
-use Rattle.flow_link.specs.declared.draft.BlockKind.TheVariants.{Buffer, Action, Transform, TransformMany}
 use Rattle.flow_link.specs.declared.plan.Link.{Link}
 use Rattle.flow_link.specs.Layout.{Layout}
 use Rattle.flow_link.specs.Lists.{below}
@@ -13,14 +11,6 @@ use Rattle.flow_outlet.specs.declared.ends.LinkRule.{LinkRule}
 use Rattle.flow_outlet.specs.Outlet.{fresh_outlet}
 use Rattle.flow_block.specs.Jobs.{fresh_jobs}
 use Rattle.flow_block.specs.Node.{NodeState}
-
--- the kinds that are built
-abbrev pub is_built : BlockKind → Bool
-is_built Buffer = true
-is_built Action = true
-is_built Transform = true
-is_built TransformMany = true
-is_built _ = false
 
 module _ {W : Type 0} (layout : Layout W) where
   abbrev pub is_out_of : ℕ → ℕ → Bool

@@ -86,3 +86,14 @@ module _ {W : Type 0} (meaning : W → Value → Result (List Value) WorkFault) 
           (sym (is ∙ answer_is))
           ∙ ok_has result e (lacks_ids (put_by_job ticket answer block) block.exits) refused x done;
     }
+
+    pub returned_may_not : {T E : Type 0} (result : Result T E) (e : E) (answer : Result (List Value) ℕ)
+        → answer ≡ results_by (work_in job) (kind_in job) meaning (message_in job)
+        → ((result ≡ Err e) ↔ (lacks_ids (put_by_job ticket answer block) block.exits ≡ true)) → result ≡ Err e
+        → MayHappen layout works (NetEvent.end_job b ticket) old → ⊥
+    returned_may_not result e answer is refused why may =
+        let same : lacks_ids (put_by_job ticket answer block) block.exits
+        ≡ lacks_ids (put_by_job ticket (job_result (block_makes layout works b) ticket block) block) block.exits =
+        ap (λ (made : Result (List Value) ℕ). lacks_ids (put_by_job ticket made block) block.exits) (is ∙ answer_is) in
+        let wrong : true ≡ false = sym (refused.0 why) ∙ same ∙ may.ids in
+        absurd (cc)

@@ -1,5 +1,5 @@
 //! Jobs that a caller runs: they begin in the network, and their results come back to it.
-ghost use Rattle.std.specs.Prelude.{◌≡◌, ◌+◌, ◌<◌, true, length, IsTrue, IfOk, IfErr, OnOk, OnErr};
+ghost use Rattle.std.specs.Prelude.{◌≡◌, ◌≢◌, ◌↔◌, ◌+◌, ◌<◌, true, length, IsTrue, IfOk, IfErr, OnOk, OnErr};
 ghost use Rattle.flow_link.specs.Planned.{layout_of};
 ghost use Rattle.flow_link.specs.Plan.{block_in};
 ghost use Rattle.flow_block.specs.Block.{job_message};
@@ -81,6 +81,13 @@ impl<W: Work> Engine<W> {
             self.old.parts) }
         ensures kept { OnErr result (self.new.parts ≡ self.old.parts) }
         ensures back { IfErr result (λ refused. refused.0 ≡ done) }
+        ensures strange { IfErr result (λ refused. refused.1 ≡ NotEnabled →
+            IsOwnJob W.eq (layout_of self.old.plan) self.old.parts number (job_in done) → ⊥) }
+        ensures enabled { IfErr result (λ refused. refused.1 ≢ NotEnabled → Enabled (layout_of self.old.plan)
+            self.old.parts (NetEvent.end_job number (ticket_in (job_in done)))) }
+        ensures used_up { IfErr result (λ refused. refused.1 ≡ Ids → MayHappen (layout_of self.old.plan)
+            (works_of W.meaning (layout_of self.old.plan)) (NetEvent.end_job number (ticket_in (job_in done)))
+            self.old.parts → ⊥) }
     {
         if !self.is_own_job(number, done.job()) {
             return Err((done, NetFault::NotEnabled));
@@ -100,7 +107,7 @@ impl<W: Work> Engine<W> {
     fn is_own_job(&self, number: usize, job: &Job<W>) -> bool
         requires kept { ∥ NetKeeps (layout_of self.now.plan) (works_of W.meaning (layout_of self.now.plan))
             self.now.parts ∥₁ }
-        ensures { IsTrue result → IsOwnJob W.eq (layout_of self.now.plan) self.now.parts number job.now }
+        ensures { IsTrue result ↔ IsOwnJob W.eq (layout_of self.now.plan) self.now.parts number job.now }
     {
         number < self.plan.block_count() && self.is_out(number, job) && self.has_work(number, job)
     }
@@ -114,6 +121,7 @@ impl<W: Work> Engine<W> {
         ensures kind { IsTrue result → kind_in job.now ≡ (node_at self.now.parts number).block.kind }
         ensures message { IsTrue result → message_in job.now ≡
             job_message (ticket_in job.now) (node_at self.now.parts number).block }
+        ensures only { IsOwnJob W.eq (layout_of self.now.plan) self.now.parts number job.now → IsTrue result }
     {
         let block = self.parts.node(number).block();
         block.may_end(job.ticket())
@@ -124,7 +132,7 @@ impl<W: Work> Engine<W> {
     /// Whether this job's work is that of a block.
     fn has_work(&self, number: usize, job: &Job<W>) -> bool
         requires known { number < length (layout_of self.now.plan).blocks }
-        ensures { IsTrue result → SameWork W.eq (block_in (layout_of self.now.plan).blocks number).work
+        ensures { IsTrue result ↔ SameWork W.eq (block_in (layout_of self.now.plan).blocks number).work
             (work_in job.now) }
     {
         match (&self.plan.block(number).work, job.work()) {

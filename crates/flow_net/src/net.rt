@@ -1,10 +1,12 @@
 //! A network with one owner: what is posted goes from block to block until nothing can move.
-ghost use Rattle.std.specs.Prelude.{◌≡◌, ◌<◌, length};
+ghost use Rattle.std.specs.Prelude.{◌≡◌, ◌<◌, length, IfSome, None};
 ghost use Rattle.flow_link.specs.Planned.{layout_of};
 ghost use Rattle.flow_intake.specs.PortLaw.{has_ended};
 ghost use Rattle.flow_block.specs.Block.{port_at};
 ghost use Rattle.flow_core.specs.Keeps.{NetKeeps};
 ghost use Rattle.flow_exec.specs.Works.{works_of};
+ghost use Rattle.flow_net.specs.Dues.{event_of};
+ghost use Rattle.flow_net.specs.Events.{net_event, IsOfJob};
 ghost use Rattle.flow_net.specs.States.{state_told};
 
 use crate::due::Due;
@@ -35,8 +37,7 @@ impl<W: Work> Net<W> {
     ghost use Rattle.flow_core.specs.AtRest.{AtRest};
     ghost use Rattle.flow_core.specs.Events.{MayHappen, after};
     ghost use Rattle.flow_core.specs.Statements.{IsStill};
-    ghost use Rattle.flow_net.specs.Dues.{event_of};
-    ghost use Rattle.flow_net.specs.Events.{net_event};
+    ghost use Rattle.flow_net.specs.Events.{IsRefused};
     ghost use Rattle.flow_net.specs.Net.{layout_in, parts_of, run_of};
     ghost use Rattle.flow_net.specs.States.{state_by};
     ghost use Rattle.flow_net.specs.Settles.{Settles, GoesOn};
@@ -76,8 +77,32 @@ impl<W: Work> Net<W> {
         ensures moved { OnOk result (parts_of self.new ≡ after (layout_in self.old)
             (works_of W.meaning (layout_in self.old)) (net_event event) (parts_of self.old)) }
         ensures kept { OnErr result (parts_of self.new ≡ parts_of self.old) }
-        ensures why { IfErr result (λ refused. IsWhyNot (layout_in self.old) (works_of W.meaning (layout_in self.old))
-            (parts_of self.old) (net_event event) refused.1) }
+        ensures why { IfErr result (λ refused. IsRefused W.eq (layout_in self.old)
+            (works_of W.meaning (layout_in self.old)) (parts_of self.old) event refused.1) }
+        ensures back { IfErr result (λ refused. refused.0 ≡ event) }
+        ensures lawful { Lawful (run_of W.meaning self.new) }
+    {
+        match due_of(&event) {
+            Some(due) => self.step(alloc, due, event),
+            None => self.step_job(alloc, event),
+        }
+    }
+
+    /// Does this event, by which a job begins or its result comes back.
+    fn step_job(
+        &mut self,
+        alloc: Global,
+        event: Event<W>,
+    ) -> Result<Stepped<W>, (Event<W>, NetFault)>
+        requires job { IsOfJob event }
+        ensures same_plan { layout_in self.new ≡ layout_in self.old }
+        ensures enabled { OnOk result (MayHappen (layout_in self.old) (works_of W.meaning (layout_in self.old))
+            (net_event event) (parts_of self.old)) }
+        ensures moved { OnOk result (parts_of self.new ≡ after (layout_in self.old)
+            (works_of W.meaning (layout_in self.old)) (net_event event) (parts_of self.old)) }
+        ensures kept { OnErr result (parts_of self.new ≡ parts_of self.old) }
+        ensures why { IfErr result (λ refused. IsRefused W.eq (layout_in self.old)
+            (works_of W.meaning (layout_in self.old)) (parts_of self.old) event refused.1) }
         ensures back { IfErr result (λ refused. refused.0 ≡ event) }
         ensures lawful { Lawful (run_of W.meaning self.new) }
     {
@@ -90,11 +115,7 @@ impl<W: Work> Net<W> {
                 Ok(()) => Ok(Stepped::Moved),
                 Err((done, fault)) => Err((Event::End(number, done), fault)),
             },
-            Event::Link(id, next) => self.step(alloc, Due::Link(id, next), event),
-            Event::Make(number) => self.step(alloc, Due::Make(number), event),
-            Event::Complete(number, port) => self.step(alloc, Due::Complete(number, port), event),
-            Event::Fault(number) => self.step(alloc, Due::Fault(number), event),
-            Event::Done(number) => self.step(alloc, Due::Done(number), event),
+            _ => unreachable!(),
         }
     }
 
@@ -106,6 +127,7 @@ impl<W: Work> Net<W> {
         event: Event<W>,
     ) -> Result<Stepped<W>, (Event<W>, NetFault)>
         requires same { net_event event ≡ event_of due }
+        requires driven { IsOfJob event → ⊥ }
         ensures same_plan { layout_in self.new ≡ layout_in self.old }
         ensures enabled { OnOk result (MayHappen (layout_in self.old) (works_of W.meaning (layout_in self.old))
             (event_of due) (parts_of self.old)) }
@@ -192,6 +214,22 @@ impl<W: Work> Net<W> {
         ensures { result.now ≡ (trace_of (run_of W.meaning self.now) block).recorded }
     {
         self.engine.parts.node(block).block().recorded()
+    }
+}
+
+/// The event as a driver finds it; none where a job begins or its result comes back.
+fn due_of<W: Work>(event: &Event<W>) -> Option<Due>
+    ensures same { IfSome result (λ due. net_event event.now ≡ event_of due) }
+    ensures driven { IfSome result (λ due. IsOfJob event.now → ⊥) }
+    ensures job { result ≡ None → IsOfJob event.now }
+{
+    match *event {
+        Event::Begin(_) | Event::End(_, _) => None,
+        Event::Link(id, next) => Some(Due::Link(id, next)),
+        Event::Make(number) => Some(Due::Make(number)),
+        Event::Complete(number, port) => Some(Due::Complete(number, port)),
+        Event::Fault(number) => Some(Due::Fault(number)),
+        Event::Done(number) => Some(Due::Done(number)),
     }
 }
 

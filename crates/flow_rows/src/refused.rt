@@ -38,7 +38,6 @@ const TEXTS: &str = r#"
 2 UnknownKey top | block = [] ; Format = 1
 2 UnknownKey top | block = [] ; "" = 1
 2 UnknownKey block 0 | block = [{name = "a", kind = "buffer", capasity = 1}]
-2 UnknownKey block 0 | block = [{lanes = 1}]
 2 UnknownKey block 0 | block = [{size = 1}]
 2 UnknownKey block 0 | block = [{ports = 1}]
 2 UnknownKey block 0 | block = [{greedy = true}]
@@ -84,6 +83,7 @@ const TEXTS: &str = r#"
 4 WrongType block 0 | block = [{name = "a", kind = "buffer", capacity = 1.0}]
 4 WrongType block 0 | block = [{name = "a", kind = "buffer", capacity = -1}]
 4 WrongType block 0 | block = [{name = "a", kind = "buffer", capacity = 4294967296}]
+4 WrongType block 0 | block = [{name = "a", kind = "action", work = [], lanes = 4294967296}]
 4 WrongType link 0 | block = [] ; link = [{from = "a", to = "b", when = 2}]
 4 WrongType link 0 | block = [] ; link = [{from = "a", to = "b", when = ["even"]}]
 4 WrongType link 0 | block = [] ; link = [{from = "a", to = "b", max = true}]
@@ -105,6 +105,9 @@ const TEXTS: &str = r#"
 8 Plan 6 BadOption block 0 | block = [{name = "a", kind = "buffer", capacity = 0}]
 8 Plan 6 BadOption block 0 | block = [{name = "a", kind = "buffer", capacity = 2147483648}]
 8 Plan 6 BadOption block 0 | block = [{name = "a", kind = "buffer", capacity = 4294967295}]
+8 Plan 6 BadOption block 0 | block = [{name = "a", kind = "buffer", lanes = 1}]
+8 Plan 6 BadOption block 0 | block = [{name = "a", kind = "action", work = [], lanes = 0}]
+8 Plan 6 BadOption block 0 | block = [{name = "a", kind = "action", work = [], lanes = 17}]
 # Links that are in no plan.
 8 Plan 6 BadOption link 0 | block = [{name = "a", kind = "buffer"}] ; link = [{from = "a", to = "a", max = 0}]
 8 Plan 6 BadOption link 0 | block = [{name = "a", kind = "buffer"}] ; link = [{from = "a", to = "a", max = 2147483648}]
