@@ -1,5 +1,6 @@
 pub mod EventsCount
 pub mod EventsDone
+pub mod EventsRefused
 pub mod FindersTell
 pub mod IdsLeft
 pub mod JobsReturn
