@@ -156,7 +156,17 @@ pub(crate) fn post_all(
 /// The network that is drawn so, to which these values are posted, which end so.
 fn network(alloc: Global, drawn: &str, words: &str, ending: Ending) -> Result<Net<Steps>, Fail> {
     let text = chain(alloc, drawn)?;
-    let plan = read_plan(alloc, text.as_slice())?;
+    network_of(alloc, text.as_slice(), words, ending)
+}
+
+/// The network of this text, to which these values are posted, which end so.
+pub(crate) fn network_of(
+    alloc: Global,
+    text: &[u8],
+    words: &str,
+    ending: Ending,
+) -> Result<Net<Steps>, Fail> {
+    let plan = read_plan(alloc, text)?;
     let posted = post_all(alloc, &plan, words, ending)?;
     match Net::new(alloc, plan, posted) {
         Ok(net) => Ok(net),
@@ -198,7 +208,7 @@ impl Asked {
 }
 
 /// What came of a job.
-fn run(alloc: Global, job: Job<Steps>) -> Result<JobResult<Steps>, Fail> {
+pub(crate) fn run_job(alloc: Global, job: Job<Steps>) -> Result<JobResult<Steps>, Fail> {
     match job.run(alloc) {
         Ok(done) => Ok(done),
         Err(_) => Err(Fail::new("out of memory")),
@@ -207,7 +217,7 @@ fn run(alloc: Global, job: Job<Steps>) -> Result<JobResult<Steps>, Fail> {
 
 /// Asks for this event. Tells whether it is done; where it is not, it has to come back as not enabled. A job that begins
 /// is run at once, and its result kept.
-fn is_done(
+pub(crate) fn is_done(
     rt: &impl Abort,
     alloc: Global,
     net: &mut Net<Steps>,
@@ -219,7 +229,7 @@ fn is_done(
     };
     match (net.event(alloc, event), asked) {
         (Ok(Stepped::Began(job)), Asked::Begin(number)) => {
-            results.push((number, run(alloc, job)?))?;
+            results.push((number, run_job(alloc, job)?))?;
             Ok(true)
         }
         (Ok(stepped), _) => {
@@ -611,11 +621,13 @@ fn kept_result(rt: HostRuntime) -> Result<(), Fail> {
         Asked::Link(2, Move::Want),
         Asked::Link(2, Move::Give),
         Asked::Link(2, Move::Open),
+        Asked::Link(2, Move::Close),
         Asked::Make(0),
         Asked::Link(0, Move::Offer(first)),
         Asked::Link(0, Move::Want),
         Asked::Link(0, Move::Give),
         Asked::Link(0, Move::Open),
+        Asked::Link(0, Move::Close),
         Asked::Begin(1),
     ] {
         assert!(rt; is_done(&rt, alloc, &mut net, &mut results, asked)?);

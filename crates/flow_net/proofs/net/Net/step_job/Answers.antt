@@ -56,7 +56,8 @@ pub returns-in-Ok-end_job-clause-lawful : goal.returns-in-Ok-end_job-clause-lawf
 returns-in-Ok-end_job-clause-lawful g c =
     let start = c.args.self.now.engine in
     let layout = layout_of start.plan in
-    let on = one_event_at_most layout (works_of g.W.Work.meaning layout) c.end_job.result (NetEvent.end_job c.in-End.number (ticket_in (job_in c.in-End.done)))
+    let on = one_event_at_most layout (works_of g.W.Work.meaning layout) c.end_job.result
+    (NetEvent.end_job c.in-End.number (ticket_in (job_in c.in-End.done)))
     start.parts c.end_job.new.self.parts c.end_job.ensures.may c.end_job.ensures.done c.end_job.ensures.kept in
     lawful_by_plan g.W.Work.meaning start.plan c.end_job.new.self.plan on.count start.parts c.end_job.new.self.parts
     c.end_job.ensures.same_plan on.happened c.args.self.now.kept
@@ -65,7 +66,8 @@ pub returns-in-Err-end_job-clause-lawful : goal.returns-in-Err-end_job-clause-la
 returns-in-Err-end_job-clause-lawful g c =
     let start = c.args.self.now.engine in
     let layout = layout_of start.plan in
-    let on = one_event_at_most layout (works_of g.W.Work.meaning layout) c.end_job.result (NetEvent.end_job c.in-End.number (ticket_in (job_in c.in-End.done)))
+    let on = one_event_at_most layout (works_of g.W.Work.meaning layout) c.end_job.result
+    (NetEvent.end_job c.in-End.number (ticket_in (job_in c.in-End.done)))
     start.parts c.end_job.new.self.parts c.end_job.ensures.may c.end_job.ensures.done c.end_job.ensures.kept in
     lawful_by_plan g.W.Work.meaning start.plan c.end_job.new.self.plan on.count start.parts c.end_job.new.self.parts
     c.end_job.ensures.same_plan on.happened c.args.self.now.kept
