@@ -26,7 +26,10 @@ use Rattle.flow_moves.specs.Ways.{lacks_id, source_next, target_next}
 use Rattle.flow_exec.specs.Works.{works_of}
 use Rattle.flow_moves.proofs.PlansRun.{plan_runs}
 use Rattle.flow_moves.proofs.MerelyKept.{links_there}
+use Rattle.std.specs.Option.{IfNone}
+use Rattle.flow_net.specs.Opens.{IsOpen}
 use Rattle.flow_net.specs.There.{IsDue, NeedsId}
+use Rattle.flow_net.specs.declared.due.Due.{Due}
 use Rattle.flow_net.proofs.IdsLeft.{source_is_due, target_is_due, source_would_do, target_would_do, needs_id, may_not_happen}
 
 -- The ways of the links
@@ -143,3 +146,11 @@ nothing_to_do layout b block planned make begin end complete fault finish = reco
   fault = fault;
   finish = finish;
 }
+
+-- and so where it would make nothing, and is found to be open
+pub nothing_where_open : {W : Type 0} (layout : Layout W) (b : ℕ) (block : BlockState) → IsPlanned layout b block
+    → may_make block ≡ false → may_begin block ≡ false → ((ticket : ℕ) → may_end ticket block ≡ false)
+    → (found : Option Due) → IfNone found (IsOpen block) → IfNone found (HasNothingToDo block)
+nothing_where_open plan b block planned make begin end None is_open =
+    nothing_to_do plan b block planned make begin end is_open.port is_open.fault is_open.goes_on
+nothing_where_open plan b block planned make begin end (Some due) is_open = is_open

@@ -7,5 +7,6 @@ pub mod JobsReturn
 pub mod KeptOn
 pub mod NetTells
 pub mod PassesCount
+pub mod RunsGoOn
 pub mod WorksHappen
 pub mod WorksNumbered

@@ -3,6 +3,7 @@ pub mod Events
 pub mod Happened
 pub mod Net
 pub mod Numbers
+pub mod Opens
 pub mod OwnJobs
 pub mod Posted
 pub mod Settles

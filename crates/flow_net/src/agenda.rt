@@ -96,6 +96,14 @@ impl Agenda {
         self.next.take()
     }
 
+    /// Takes the spot at which a message goes on, or else the newest.
+    pub(crate) fn take_any(&mut self) -> Option<Spot> {
+        match self.next.take() {
+            Some(spot) => Some(spot),
+            None => self.take(),
+        }
+    }
+
     /// Takes the newest spot off.
     pub(crate) fn take(&mut self) -> Option<Spot>
         ensures shorter { IfSome result (λ _. vec_len self.new.spots < vec_len self.old.spots) }

@@ -13,6 +13,7 @@ ghost use Rattle.flow_moves.specs.Ways.{input_in};
 ghost use Rattle.flow_exec.specs.Works.{works_of};
 ghost use Rattle.flow_net.specs.Dues.{IsOwn};
 ghost use Rattle.flow_net.specs.Dues.{event_of};
+ghost use Rattle.flow_net.specs.Opens.{IsOpen};
 ghost use Rattle.flow_net.specs.There.{IsDue, LinkHasId, NeedsId};
 ghost use Rattle.flow_net.specs.declared.fault.NetFault.TheVariants.{Ids};
 
@@ -104,7 +105,7 @@ impl<W: Work> Engine<W> {
     }
 
     /// Whether a block would work on one more message.
-    fn may_begin(&self, number: usize) -> bool
+    pub(crate) fn may_begin(&self, number: usize) -> bool
         requires known { number < length (layout_of self.now.plan).blocks }
         requires kept { ∥ NetKeeps (layout_of self.now.plan) (works_of W.meaning (layout_of self.now.plan))
             self.now.parts ∥₁ }
@@ -192,7 +193,22 @@ impl<W: Work> Engine<W> {
             Some(Due::Begin(number))
         } else if let Some(ticket) = block.next_end() {
             Some(Due::End(number, ticket))
-        } else if block.may_complete(0) {
+        } else {
+            self.end_of_block(number)
+        }
+    }
+
+    /// How a block would end next: its port, or itself.
+    fn end_of_block(&self, number: usize) -> Option<Due>
+        requires known { number < length (layout_of self.now.plan).blocks }
+        requires kept { ∥ NetKeeps (layout_of self.now.plan) (works_of W.meaning (layout_of self.now.plan))
+            self.now.parts ∥₁ }
+        ensures due { IfSome result (λ event. IsDue (layout_of self.now.plan)
+            (works_of W.meaning (layout_of self.now.plan)) self.now.parts (event_of event)) }
+        ensures none { IfNone result (IsOpen (node_at self.now.parts number).block) }
+    {
+        let block = self.parts.node(number).block();
+        if block.may_complete(0) {
             Some(Due::Complete(number, 0))
         } else if block.next_fault().is_some() {
             Some(Due::Fault(number))
@@ -203,8 +219,22 @@ impl<W: Work> Engine<W> {
         }
     }
 
+    /// What a block would do next, but for its messages: it ends, or something happens at the links beside it.
+    pub(crate) fn event_but_work(&self, number: usize) -> Result<Option<Due>, NetFault>
+        requires known { number < length (layout_of self.now.plan).blocks }
+        requires kept { ∥ NetKeeps (layout_of self.now.plan) (works_of W.meaning (layout_of self.now.plan))
+            self.now.parts ∥₁ }
+        ensures due { IfOk result (λ next. IfSome next (λ event. IsDue (layout_of self.now.plan)
+            (works_of W.meaning (layout_of self.now.plan)) self.now.parts (event_of event))) }
+    {
+        match self.end_of_block(number) {
+            Some(event) => Ok(Some(event)),
+            None => self.event_beside(number),
+        }
+    }
+
     /// The event that would happen next at this spot.
-    fn event_at(&self, spot: Spot) -> Result<Option<Due>, NetFault>
+    pub(crate) fn event_at(&self, spot: Spot) -> Result<Option<Due>, NetFault>
         requires kept { ∥ NetKeeps (layout_of self.now.plan) (works_of W.meaning (layout_of self.now.plan))
             self.now.parts ∥₁ }
         ensures due { IfOk result (λ next. IfSome next (λ event. IsDue (layout_of self.now.plan)

@@ -39,13 +39,55 @@ impl<W: Work> Engine<W> {
         if !self.is_due(&Due::Begin(number))? {
             return Err(NetFault::NotEnabled);
         }
-        let job = self.job_of(alloc, number)?;
+        let work = self.copy_of_work(alloc, number)?;
+        self.begin_with(alloc, number, work)
+    }
+
+    /// A copy of a block's work, to be shared.
+    fn copy_of_work(
+        &self,
+        alloc: Global,
+        number: usize,
+    ) -> Result<Option<Arc<W, Global>>, AllocError>
+        requires known { number < length (layout_of self.now.plan).blocks }
+    {
+        match self.plan.block(number).work {
+            Some(ref work) => Ok(Some(Arc::new(alloc, work.copy(alloc)?)?)),
+            None => Ok(None),
+        }
+    }
+
+    /// Begins a job of a block that may begin one, with a share of the block's work.
+    pub(crate) fn begin_with(
+        &mut self,
+        alloc: Global,
+        number: usize,
+        work: Option<Arc<W, Global>>,
+    ) -> Result<Job<W>, NetFault>
+        requires kept { ∥ NetKeeps (layout_of self.old.plan) (works_of W.meaning (layout_of self.old.plan))
+            self.old.parts ∥₁ }
+        requires enabled { Enabled (layout_of self.old.plan) self.old.parts (NetEvent.begin number) }
+        ensures same_plan { self.new.plan ≡ self.old.plan }
+        ensures may { OnOk result (MayHappen (layout_of self.old.plan) (works_of W.meaning (layout_of self.old.plan))
+            (NetEvent.begin number) self.old.parts) }
+        ensures done { OnOk result (self.new.parts ≡ after (layout_of self.old.plan)
+            (works_of W.meaning (layout_of self.old.plan)) (NetEvent.begin number) self.old.parts) }
+        ensures kept { OnErr result (self.new.parts ≡ self.old.parts) }
+        ensures why { IfErr result (IsWhyNot (layout_of self.old.plan) (works_of W.meaning (layout_of self.old.plan))
+            self.old.parts (NetEvent.begin number)) }
+    {
+        let job = self.job_of(alloc, number, work)?;
         self.go(alloc, &Due::Begin(number))?;
         Ok(job)
     }
 
-    /// The job that a block would begin next.
-    fn job_of(&self, alloc: Global, number: usize) -> Result<Job<W>, AllocError>
+    /// The job that a block would begin next, with this share of the block's work.
+    fn job_of(
+        &self,
+        alloc: Global,
+        number: usize,
+        work: Option<Arc<W, Global>>,
+    ) -> Result<Job<W>, AllocError>
         requires kept { ∥ NetKeeps (layout_of self.now.plan) (works_of W.meaning (layout_of self.now.plan))
             self.now.parts ∥₁ }
         requires enabled { Enabled (layout_of self.now.plan) self.now.parts (NetEvent.begin number) }
@@ -58,10 +100,6 @@ impl<W: Work> Engine<W> {
             return Err(AllocError);
         }
         let message = block.begun_message().copy(alloc)?;
-        let work = match self.plan.block(number).work {
-            Some(ref work) => Some(Arc::new(alloc, work.copy(alloc)?)?),
-            None => None,
-        };
         Ok(Job::new(work, block.kind(), message, block.next_ticket()))
     }
 

@@ -2,6 +2,8 @@
 #![tactic(auto)]
 
 mod agenda;
+mod crew;
+mod drive;
 mod due;
 mod engine;
 mod event;

@@ -19,6 +19,8 @@ use flow_link::{Mark, Outcome, Plan};
 use flow_value::{Value, Work};
 use std::alloc::Global;
 use std::collections::VecDeque;
+use std::sync::Wait;
+use std::thread::Threads;
 
 /// Blocks and links with what has become of them so far.
 #[derive(Drop)]
@@ -62,6 +64,42 @@ impl<W: Work> Net<W> {
         ensures same_inputs { (run_of W.meaning self.new).trace.inputs ≡ (run_of W.meaning self.old).trace.inputs }
     {
         self.engine.settle(alloc, limit)
+    }
+
+    /// The same as `settle`, by several threads: the calling one, and at most one fewer than there are workers.
+    ///
+    /// A block with several `lanes` (in .NET its `MaxDegreeOfParallelism`) works on up to so many messages at a time, each
+    /// in one of these threads; its results go on in the order of its messages. All that blocks with one lane do, and all
+    /// links, are the calling thread's, which runs jobs too before it waits for others. So workers above the lanes of all
+    /// blocks are not made use of.
+    ///
+    /// The threads are made for this call, and have ended when it returns, whatever comes of it: there is no
+    /// `TaskScheduler`, and nothing goes on behind the caller's back. Where no thread can be made, where there is no
+    /// memory for the crew, with no worker or one, and in a network without such blocks, the calling thread does all of it.
+    ///
+    /// Where the limit stops it, jobs may be out: their messages are in their blocks, and are worked on anew by the next
+    /// call of this or of `settle`.
+    pub fn settle_with<R: Threads + Wait + Sync>(
+        &mut self,
+        rt: &R,
+        alloc: Global,
+        workers: usize,
+        limit: u64,
+    ) -> Result<Settled, NetFault>
+        ensures same_plan { layout_in self.new ≡ layout_in self.old }
+        ensures settled { IfOk result (Settles (layout_in self.old) (works_of W.meaning (layout_in self.old)) limit
+            (parts_of self.old) (parts_of self.new)) }
+        ensures goes_on { GoesOn (layout_in self.old) (works_of W.meaning (layout_in self.old)) limit
+            (parts_of self.old) (parts_of self.new) }
+        ensures lawful { Lawful (run_of W.meaning self.new) }
+        ensures quiet { result ≡ Ok Settled.Quiet → Quiet (run_of W.meaning self.new) }
+        ensures at_rest { result ≡ Ok Settled.Quiet → AtRest (layout_in self.new) (parts_of self.new) }
+        ensures used_up { result ≡ Err Ids → NeedsId (layout_in self.new) (works_of W.meaning (layout_in self.new))
+            (parts_of self.new) }
+        ensures never { result ≢ Err NotEnabled }
+        ensures same_inputs { (run_of W.meaning self.new).trace.inputs ≡ (run_of W.meaning self.old).trace.inputs }
+    {
+        self.engine.settle_with(rt, alloc, workers, limit)
     }
 
     /// Does this event, if it may happen. One that names a link, block or port which the plan has not is not enabled.
