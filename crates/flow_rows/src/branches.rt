@@ -7,7 +7,9 @@ use flow_net::Net;
 use flow_value::{Steps, Text, Value, When};
 use std::alloc::{AllocError, Global};
 use std::process::Abort;
+use std::sync::Wait;
 use std::test::Fail;
+use std::thread::Threads;
 
 /// A block: its name, its kind, with a star where it is an input, and with its lanes after a stroke if it has any, its
 /// capacity if it has one, and its function.
@@ -463,7 +465,11 @@ fn records_of(alloc: Global, words: &str) -> Result<Vec<u8>, AllocError> {
 }
 
 /// Whether a case that is run as a text comes to one of its lists of lines.
-fn runs_as_text(rt: &impl Abort, alloc: Global, case: &Case) -> Result<bool, Fail> {
+fn runs_as_text(
+    rt: &(impl Abort + Threads + Wait + Sync),
+    alloc: Global,
+    case: &Case,
+) -> Result<bool, Fail> {
     let text = text_of(alloc, case)?;
     let records = records_of(alloc, case.3)?;
     let told = told_by(rt, alloc, text.as_slice(), records.as_slice(), ENOUGH)?;

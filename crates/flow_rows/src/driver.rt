@@ -7,7 +7,9 @@ use flow_value::{Row, Text, Value};
 use std::alloc::{AllocError, Global};
 use std::io::Read;
 use std::process::Abort;
+use std::sync::Wait;
 use std::test::Fail;
+use std::thread::Threads;
 
 /// More events than any run here has.
 pub(crate) const ENOUGH: u64 = 100_000;
@@ -21,7 +23,7 @@ pub(crate) struct Told {
 
 /// Runs a network over records with two workers.
 pub(crate) fn told_by<R: Read + Drop>(
-    rt: &impl Abort,
+    rt: &(impl Abort + Threads + Wait + Sync),
     alloc: Global,
     network: &[u8],
     records: R,
@@ -32,7 +34,7 @@ pub(crate) fn told_by<R: Read + Drop>(
 
 /// Runs a network over records. Tests that nothing is written before a refusal.
 pub(crate) fn told_with<R: Read + Drop>(
-    rt: &impl Abort,
+    rt: &(impl Abort + Threads + Wait + Sync),
     alloc: Global,
     network: &[u8],
     records: R,
@@ -42,7 +44,7 @@ pub(crate) fn told_with<R: Read + Drop>(
     requires { (1 ≤ workers) × (workers ≤ 64) }
 {
     let mut text = Vec::new(alloc);
-    let outcome = run(alloc, network, records, &mut text, workers, limit);
+    let outcome = run(rt, alloc, network, records, &mut text, workers, limit);
     if let Err(refusal) = &outcome {
         assert!(rt; text.is_empty());
         write_refusal(refusal, &mut text)?;

@@ -4,7 +4,9 @@ use std::alloc::{AllocError, Global};
 use std::io;
 use std::io::Write;
 use std::process::Abort;
+use std::sync::Wait;
 use std::test::Fail;
+use std::thread::Threads;
 
 /// A whole text, and the line that it is refused with.
 const WHOLE: &[(&[u8], &str)] = &[
@@ -217,7 +219,12 @@ const READ: &[(&[u8], &str, &[&str])] = &[
 ];
 
 // Tests that a network is refused with this line.
-fn refuses(rt: &(impl Abort + Print), alloc: Global, text: &[u8], line: &str) -> Result<(), Fail> {
+fn refuses(
+    rt: &(impl Abort + Print + Threads + Wait + Sync),
+    alloc: Global,
+    text: &[u8],
+    line: &str,
+) -> Result<(), Fail> {
     let told = told_by(rt, alloc, text, &b""[..], ENOUGH)?;
     check(
         rt,
@@ -247,7 +254,7 @@ fn written(alloc: Global, lines: &str) -> Result<Vec<u8>, AllocError> {
 
 /// Tests each row of a table, in which the line of a refusal stands before what makes a text.
 fn check_rows(
-    rt: &(impl Abort + Print),
+    rt: &(impl Abort + Print + Threads + Wait + Sync),
     alloc: Global,
     table: &str,
     has_links: bool,
