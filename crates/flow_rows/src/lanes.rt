@@ -1,13 +1,15 @@
 //! Blocks that work on several messages at once: their results come out in the order of the messages.
 use crate::driver::{ENOUGH, Told, add, has_lines, told_with};
-use crate::events::{Asked, Results, is_done, network_of, run_job};
+use crate::events::{Asked, Results, came_to, is_done, network_of, run_job, settles};
 use flow_exec::JobResult;
 use flow_link::{Ending, Move};
-use flow_net::{Event, Net, NetFault, Stepped};
+use flow_net::{Event, Net, NetFault, Settled, Stepped};
 use flow_value::{MessageHeader, Steps, Value};
 use std::alloc::{AllocError, Global};
 use std::process::Abort;
+use std::sync::Wait;
 use std::test::Fail;
+use std::thread::Threads;
 
 /// A transform with so many lanes between an input and an action.
 fn text_with_lanes(alloc: Global, lanes: &str, steps: &str) -> Result<Vec<u8>, AllocError> {
@@ -62,6 +64,41 @@ fn lanes_keep_order(rt: HostRuntime) -> Result<(), Fail> {
     assert!(rt; is_due(&one, &line));
     assert!(rt; one.text == two.text && one.text == eight.text);
     assert!(rt; two.status == 0 && eight.status == 0);
+    Ok(())
+}
+
+/// Whether a chain whose transform has four lanes comes to what it should, where this many workers do so many events of
+/// it, and the caller alone does the rest.
+fn settles_with(
+    rt: &(impl Threads + Wait + Sync),
+    alloc: Global,
+    workers: usize,
+    limit: u64,
+) -> Result<bool, Fail> {
+    let text = text_with_lanes(alloc, "4", r#"["int", "add 1"]"#)?;
+    let words = "'1 '2 '3 '4 '5 '6 '7 '8";
+    let mut net = network_of(alloc, text.as_slice(), words, Ending::Complete)?;
+    let settled = net.settle_with(rt, alloc, workers, limit);
+    let is_stopped = settled == Ok(Settled::Stopped) && !net.is_quiet();
+    let is_quiet = settled == Ok(Settled::Quiet) && net.is_quiet();
+    let end = "block in done ; block t done ; block out done ; record [2,3,4,5,6,7,8,9]";
+    Ok((is_quiet || is_stopped && settles(alloc, &mut net))
+        && came_to(alloc, &net, &[end])?.is_some())
+}
+
+#[test]
+fn workers_come_to_the_same(rt: HostRuntime) -> Result<(), Fail> {
+    for workers in [1, 2, 8, 64] {
+        assert!(rt; settles_with(&rt, rt.alloc(), workers, ENOUGH)?, "{workers}");
+    }
+    Ok(())
+}
+
+#[test]
+fn what_workers_leave_is_done(rt: HostRuntime) -> Result<(), Fail> {
+    for limit in 0..180 {
+        assert!(rt; settles_with(&rt, rt.alloc(), 3, limit)?, "{limit}");
+    }
     Ok(())
 }
 
