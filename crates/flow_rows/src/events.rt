@@ -453,7 +453,7 @@ pub(crate) fn came_to(
     lists: &[&str],
 ) -> Result<Option<usize>, TextRefusal> {
     let mut report = Vec::new(alloc);
-    write_report(net, Settled::Quiet, &mut report)?;
+    write_report(alloc, net, Settled::Quiet, &mut report)?;
     for (place, lines) in lists.iter().enumerate() {
         if has_lines(report.as_slice(), lines) {
             return Ok(Some(place));
@@ -568,7 +568,7 @@ fn what_may_not_happen_changes_nothing(rt: HostRuntime) -> Result<(), Fail> {
     }
     assert!(rt; !net.is_quiet());
     let mut report = Vec::new(alloc);
-    write_report(&net, Settled::Stopped, &mut report)?;
+    write_report(alloc, &net, Settled::Stopped, &mut report)?;
     assert!(rt; is_report(report.as_slice(), UNTOUCHED));
     Ok(())
 }

@@ -40,7 +40,7 @@ pub fn run<C: Threads + Wait + Sync, R: Read + Drop, W: Write>(
         Ok(settled) => settled,
         Err(fault) => return Err(refusal_of_net(fault)),
     };
-    write_report(&net, settled, writer)?;
+    write_report(alloc, &net, settled, writer)?;
     let complete = is_complete(&net);
     Ok(Ran { settled, complete })
 }
