@@ -7,7 +7,8 @@
 //! blocks have in common, `begin` gives a job of the oldest message that is not worked on yet, and `end` takes its
 //! result back. A block without a function is a [`Buffer`].
 //!
-//! Microsoft: `ActionBlock`, `TransformBlock`, `TransformManyBlock`, `BufferBlock`; the tasks in which an execution block calls its delegate, `ExecutionDataflowBlockOptions`.
+//! Microsoft: `ActionBlock`, `TransformBlock`, `TransformManyBlock`, `BufferBlock`; the tasks in which an execution block
+//! calls its delegate, `ExecutionDataflowBlockOptions`.
 #![tactic(auto)]
 
 mod execution;

@@ -13,6 +13,7 @@ use Rattle.flow_block.specs.Jobs.{is_out}
 use Rattle.flow_block.specs.JobsEnd.{job_result}
 use Rattle.flow_block.specs.Node.{NodeState, with_block}
 use Rattle.flow_block.specs.Planned.{block_makes}
+use Rattle.flow_exec.specs.Execution.{SameWork}
 use Rattle.flow_exec.specs.Jobs.{work_in, kind_in, message_in, ticket_in}
 use Rattle.flow_exec.specs.Works.{result_by_number, worked_by, results_by, works_of}
 use Rattle.flow_exec.specs.declared.job.Job.{Job}
@@ -22,7 +23,7 @@ use Rattle.flow_core.specs.State.{NetState, node_at}
 use Rattle.flow_moves.specs.Statements.{IsPlanned}
 use Rattle.flow_moves.proofs.MerelyKept.{blocks_planned}
 use Rattle.flow_moves.proofs.WorksAtOnce.{result_is}
-use Rattle.flow_net.specs.OwnJobs.{IsOwnJob, SameWork}
+use Rattle.flow_net.specs.OwnJobs.{IsOwnJob}
 
 -- where the call is not refused, no id is wanting
 ok_has : {T E : Type 0} (result : Result T E) (e : E) (lacks : Bool) → ((result ≡ Err e) ↔ (lacks ≡ true)) → (x : T)

@@ -4,13 +4,14 @@ ghost use Rattle.flow_link.specs.Planned.{layout_of};
 ghost use Rattle.flow_link.specs.Plan.{block_in};
 ghost use Rattle.flow_block.specs.Block.{job_message};
 ghost use Rattle.flow_block.specs.Peeks.{may_end};
+ghost use Rattle.flow_exec.specs.Execution.{SameWork};
 ghost use Rattle.flow_exec.specs.Jobs.{work_in, kind_in, message_in, ticket_in};
 ghost use Rattle.flow_exec.specs.Results.{job_in};
 ghost use Rattle.flow_exec.specs.Works.{works_of};
 ghost use Rattle.flow_core.specs.Events.{Enabled, MayHappen, NetEvent, after};
 ghost use Rattle.flow_core.specs.Keeps.{NetKeeps};
 ghost use Rattle.flow_core.specs.State.{node_at};
-ghost use Rattle.flow_net.specs.OwnJobs.{IsOwnJob, SameWork};
+ghost use Rattle.flow_net.specs.OwnJobs.{IsOwnJob};
 ghost use Rattle.flow_net.specs.There.{IsWhyNot};
 ghost use Rattle.flow_net.specs.declared.fault.NetFault.TheVariants.{NotEnabled, Ids, Memory};
 
