@@ -1,5 +1,5 @@
 -- So many events, and then a run with those that are left of the limit: together they are a run of the whole limit.
-use Rattle.std.proofs.Common.{◌≡◌, ℕ, ◌+◌, ◌-◌, ◌≤◌, List, Result, Ok, Err, IfOk, refl, sym, subst, ◌∙◌, arith}
+use Rattle.std.proofs.Common.{◌≡◌, ℕ, ◌+◌, ◌-◌, ◌≤◌, List, Result, Ok, Err, IfOk, subst, arith}
 use Rattle.flow_value.specs.declared.value.Value.{Value}
 use Rattle.flow_value.specs.declared.work.WorkFault.{WorkFault}
 use Rattle.flow_link.specs.declared.plan.Plan.{Plan}
