@@ -29,7 +29,9 @@ fn main(rt: HostRuntime) -> ExitCode {
 }
 
 /// Does what the arguments of the process ask for.
-fn perform<R: Env + Files + Input + Print + AllocGlobal + Threads + Wait + Sync>(rt: &R) -> Conclusion {
+fn perform<R: Env + Files + Input + Print + AllocGlobal + Threads + Wait + Sync>(
+    rt: &R,
+) -> Conclusion {
     match arguments(rt) {
         Ok(arguments) => answer(rt, &arguments),
         Err(conclusion) => conclusion,

@@ -82,14 +82,19 @@ fn settles_with(
     let is_stopped = settled == Ok(Settled::Stopped) && !net.is_quiet();
     let is_quiet = settled == Ok(Settled::Quiet) && net.is_quiet();
     let end = "block in done ; block t done ; block out done ; record [2,3,4,5,6,7,8,9]";
-    Ok((is_quiet || is_stopped && settles(alloc, &mut net))
-        && came_to(alloc, &net, &[end])?.is_some())
+    Ok(
+        (is_quiet || is_stopped && settles(alloc, &mut net))
+            && came_to(alloc, &net, &[end])?.is_some(),
+    )
 }
 
 #[test]
 fn workers_come_to_the_same(rt: HostRuntime) -> Result<(), Fail> {
     for workers in [1, 2, 8, 64] {
-        assert!(rt; settles_with(&rt, rt.alloc(), workers, ENOUGH)?, "{workers}");
+        assert!(rt;
+            settles_with(&rt, rt.alloc(), workers, ENOUGH)?,
+            "{workers}"
+        );
     }
     Ok(())
 }
@@ -103,12 +108,7 @@ fn what_workers_leave_is_done(rt: HostRuntime) -> Result<(), Fail> {
 }
 
 /// Brings so many messages from the input of a chain to its second block.
-fn bring(
-    rt: &impl Abort,
-    alloc: Global,
-    net: &mut Net<Steps>,
-    count: u64,
-) -> Result<(), Fail> {
+fn bring(rt: &impl Abort, alloc: Global, net: &mut Net<Steps>, count: u64) -> Result<(), Fail> {
     let mut results: Results = Vec::new(alloc);
     for id in 0..count {
         let header = MessageHeader::new(id + 1).ok_or("no id")?;
