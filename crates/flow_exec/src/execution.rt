@@ -302,9 +302,15 @@ impl<W: Work> Execution<W> {
         ensures message { IsTrue result → message_in job.now ≡ job_message (ticket_in job.now) self.now.block }
         ensures only { IsOwnJob W.eq self.now job.now → IsTrue result }
     {
-        self.block.may_end(job.ticket())
-            && self.block.kind() == job.kind()
-            && self.block.job_message(job.ticket()) == job.message()
+        self.block.may_end(job.ticket()) && self.block.kind() == job.kind() && self.has_message(job)
+    }
+
+    /// Whether this job's message is the one of its ticket.
+    fn has_message(&self, job: &Job<W>) -> bool
+        requires { is_out (ticket_in job.now) self.now.block.jobs ≡ true }
+        ensures { IsTrue result ↔ (message_in job.now ≡ job_message (ticket_in job.now) self.now.block) }
+    {
+        self.block.job_message(job.ticket()) == job.message()
     }
 
     /// Whether this job's work is that of the block.
