@@ -9,7 +9,6 @@ ghost use Rattle.flow_block.specs.BlockFits.{fresh_block};
 ghost use Rattle.flow_block.specs.JournalFits.{marks_due};
 ghost use Rattle.flow_block.specs.Peeks.{holds_nothing};
 
-use crate::jobs::Jobs;
 use crate::ports::ports_due;
 use flow_intake::Intake;
 use flow_link::{BlockKind, LinkId, Move, Outcome};
@@ -28,7 +27,6 @@ pub struct Block {
     pub(crate) kind: BlockKind,
     pub(crate) ports: Vec<Intake>,
     pub(crate) exits: Outlet,
-    pub(crate) jobs: Jobs,
     /// The results that an action keeps.
     pub(crate) recorded: Vec<Value>,
     /// The fault of its own function.
@@ -50,7 +48,6 @@ impl Model for Block {
       kind = b.kind;
       ports = b.ports.items;
       exits = b.exits;
-      jobs = b.jobs;
       recorded = b.recorded.items;
       fault = b.fault;
       stopped = b.stopped;
@@ -60,17 +57,16 @@ impl Model for Block {
 }
 
 impl Block {
-    /// A block of this kind with so many lanes, with these ports, at which nothing waits, and with these links out of it.
-    /// Its messages are counted from 1 on. Where there is no memory for it, its parts come back.
+    /// A block of this kind with these ports, at which nothing waits, and with these links out of it. Its messages are
+    /// counted from 1 on. Where there is no memory for it, its parts come back.
     pub fn new(
         alloc: Global,
         kind: BlockKind,
-        lanes: usize,
         ports: Vec<Intake>,
         rules: Vec<LinkRule>,
     ) -> Result<Block, (Vec<Intake>, Vec<LinkRule>)>
         requires { holds_nothing ports.items ≡ true }
-        ensures { MatchResult result (λ block. block ≡ fresh_block kind lanes ports.items rules.items)
+        ensures { MatchResult result (λ block. block ≡ fresh_block kind ports.items rules.items)
             (λ back. (back.0 ≡ ports) × (back.1 ≡ rules)) }
     {
         let Some(first) = MessageHeader::new(1) else {
@@ -81,7 +77,6 @@ impl Block {
                 kind,
                 ports,
                 exits,
-                jobs: Jobs::new(alloc, lanes),
                 recorded: Vec::new(alloc),
                 fault: None,
                 stopped: None,

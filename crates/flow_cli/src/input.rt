@@ -14,12 +14,10 @@ use flow_text::write_bytes;
 use std::alloc::Global;
 use std::fs::Files;
 use std::io::{BufReader, BufWriter, ErrorKind, Input, Read, Write};
-use std::sync::Wait;
-use std::thread::Threads;
 use std::{fs, io};
 
 /// Runs the network in this file over the records in standard input.
-pub fn run_file<R: Files + Input + Print + AllocGlobal + Threads + Wait + Sync>(
+pub fn run_file<R: Files + Input + Print + AllocGlobal>(
     rt: &R,
     path: &str,
     bounds: Bounds,
@@ -30,12 +28,11 @@ pub fn run_file<R: Files + Input + Print + AllocGlobal + Threads + Wait + Sync>(
 {
     let text = fs::read(rt, path).map_err(|error| unread(&error))?;
     let records = BufReader::new(rt.alloc(), rt.reader()).map_err(|error| unread(&error))?;
-    run_buffered(rt, rt.alloc(), &text, records, io::writer(rt), bounds)
+    run_buffered(rt.alloc(), &text, records, io::writer(rt), bounds)
 }
 
 /// Runs a network over records, and writes its report through a buffer.
-fn run_buffered<C: Threads + Wait + Sync, R: Read + Drop, W: Write + Drop>(
-    rt: &C,
+fn run_buffered<R: Read + Drop, W: Write + Drop>(
     alloc: Global,
     text: &[u8],
     records: R,
@@ -50,7 +47,7 @@ fn run_buffered<C: Threads + Wait + Sync, R: Read + Drop, W: Write + Drop>(
         return Err(RunRefusal::Memory);
     };
     let Bounds { workers, limit } = bounds;
-    let ran = run(rt, alloc, text, records, &mut buffer, workers, limit)?;
+    let ran = run(alloc, text, records, &mut buffer, workers, limit)?;
     match buffer.into_inner() {
         Ok(_) => Ok(ran),
         Err(_) => Err(RunRefusal::Text(TextFault::Write)),
@@ -58,8 +55,7 @@ fn run_buffered<C: Threads + Wait + Sync, R: Read + Drop, W: Write + Drop>(
 }
 
 /// Runs the network at the beginning of what is read over the records behind it.
-pub fn run_input<C: Threads + Wait + Sync, R: Read + Drop, W: Write>(
-    rt: &C,
+pub fn run_input<R: Read + Drop, W: Write>(
     alloc: Global,
     reader: R,
     writer: &mut W,
@@ -72,12 +68,11 @@ pub fn run_input<C: Threads + Wait + Sync, R: Read + Drop, W: Write>(
 {
     let text = whole_input(alloc, reader)?;
     let (network, records) = split_input(&text);
-    run_whole(rt, alloc, network, records, writer, DEFAULT_BOUNDS)
+    run_whole(alloc, network, records, writer, DEFAULT_BOUNDS)
 }
 
 /// Runs a network over records, and writes its report once all of it is there.
-fn run_whole<C: Threads + Wait + Sync, W: Write>(
-    rt: &C,
+fn run_whole<W: Write>(
     alloc: Global,
     text: &[u8],
     records: &[u8],
@@ -92,7 +87,7 @@ fn run_whole<C: Threads + Wait + Sync, W: Write>(
 {
     let mut report: Vec<u8> = Vec::new(alloc);
     let Bounds { workers, limit } = bounds;
-    let ran = match run(rt, alloc, text, records, &mut report, workers, limit) {
+    let ran = match run(alloc, text, records, &mut report, workers, limit) {
         Ok(ran) => ran,
         Err(refusal) => return Err(in_memory(refusal)),
     };

@@ -11,4 +11,3 @@ pub mod PassesHappen
 pub mod PassesPrepared
 pub mod PassesTell
 pub mod PlansRun
-pub mod WorksAtOnce

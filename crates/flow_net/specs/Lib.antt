@@ -1,10 +1,8 @@
-pub mod Dues
+pub mod Ends
 pub mod Events
 pub mod Happened
 pub mod Net
 pub mod Numbers
-pub mod Opens
-pub mod OwnJobs
 pub mod Posted
 pub mod Settles
 pub mod States

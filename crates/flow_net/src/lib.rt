@@ -2,14 +2,10 @@
 #![tactic(auto)]
 
 mod agenda;
-mod crew;
-mod drive;
-mod due;
 mod engine;
 mod event;
 mod fault;
 mod find;
-mod job;
 mod laws;
 mod make;
 mod net;

@@ -3,8 +3,6 @@
 
 mod complete;
 mod fault;
-mod given;
-mod list_line;
 mod network;
 mod page;
 mod piece;

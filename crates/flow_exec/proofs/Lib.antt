@@ -1,4 +1,0 @@
-pub mod CallsRun
-pub mod ExecutionRuns
-pub mod OnlyResult
-pub mod OwnResult

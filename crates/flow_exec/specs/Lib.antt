@@ -1,5 +1,0 @@
-pub mod Calls
-pub mod Execution
-pub mod Jobs
-pub mod Results
-pub mod Works
