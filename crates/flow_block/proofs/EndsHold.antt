@@ -4,7 +4,7 @@ use Rattle.std.proofs.lemmas.Bool.{ne_eqb}
 use Rattle.std.proofs.lemmas.List.{length-map, length-set}
 use Rattle.flow_value.specs.declared.value.Value.{Value}
 use Rattle.flow_link.specs.declared.draft.BlockKind.{BlockKind}
-use Rattle.flow_link.specs.declared.draft.BlockKind.TheVariants.{Action}
+use Rattle.flow_link.specs.declared.draft.BlockKind.TheVariants.{Buffer, Action}
 use Rattle.flow_link.specs.declared.stage.SourceStage.TheVariants as source
 use Rattle.flow_link.specs.declared.stage.TargetStage.TheVariants.{Free, Postponed, Accepted, Consuming, Hand}
 use Rattle.flow_link.specs.declared.trace.Mark.{Mark}
@@ -22,14 +22,15 @@ use Rattle.flow_intake.specs.PortLaw.{has_ended as has_port_ended}
 use Rattle.flow_intake.specs.Calls.{message_of, is_offered, is_posted, is_postponed, is_arrived, may_be_refused, first_of, refused_by, wants, turns_down, postpones, refuses, consumes, opens, closes, looks as port_looks, takes_next, gives_room, port_closes, port_fails}
 use Rattle.flow_intake.proofs.CountsOfEnds.{hand_comes}
 use Rattle.flow_outlet.specs.Outlet.{OutletState, is_empty, head_of, gives, prepares, offers, denies, withdraws, ends_link, looks as exit_looks, is_at_rest, end_at, stage_at}
-use Rattle.flow_block.specs.Block.{BlockState, port_in, port_at, with_port, held_by, made_of, fails, puts_out, yields, keeps_results, makes_of, gives_out, stops_by}
+use Rattle.flow_block.specs.Block.{BlockState, port_in, port_at, with_port, with_jobs, held_by, made_of, fails, puts_out, yields, keeps_results, makes_of, gives_out, stops_by}
+use Rattle.flow_block.specs.Jobs.{JobsState, begins, works_off}
 use Rattle.flow_block.specs.Node.{NodeState, NodeCall, takes_in, gives_from, in_link_at, out_link_at}
 use Rattle.flow_block.specs.NodeKeeps.{EndsKept, MayCall, InAt, MayGive, MayCompletePort, after_call}
 use Rattle.flow_block.specs.NodeLaw.{NodeLaw, EndsLaw, is_fault_seen, stops_at, outcome_in}
 use Rattle.flow_block.specs.Peeks.{fault_at_ports, holds_nothing, next_fault, may_finish}
 use Rattle.flow_block.specs.Planned.{block_makes}
 use Rattle.flow_block.proofs.FaultsSeen.{sees_at, seen_at_ports, cause_tells}
-use Rattle.flow_block.proofs.GoingOn.{open_goes_on, away_goes_on, rest_stays, wanted_away, wish_away, waiting_away, look_stays_home, may_make_tells, may_complete_tells, may_fault_tells, may_finish_tells}
+use Rattle.flow_block.proofs.GoingOn.{open_goes_on, away_goes_on, rest_stays, wanted_away, wish_away, waiting_away, look_stays_home, may_work_tells, may_complete_tells, may_fault_tells, may_finish_tells}
 use Rattle.flow_block.proofs.JournalTells.{goes_on, not_faulted_so, outcome_more, ended_no_more, complete_where, ended_by_complete, ended_by_fault, ended_by_done}
 use Rattle.flow_block.proofs.PortEnds.{PortEnds, StageGoes, end_moves, port_closed, port_failed, unseen_goes, refuses_so, look_goes}
 use Rattle.flow_block.proofs.PortsChange.{each_after_one, each_after_all}
@@ -247,12 +248,12 @@ module _ {W : Type 0} (layout : Layout W) (meaning : ℕ → Value → Result (L
 
   -- it works on a message
   works_on : (block : BlockState) (journal : List Mark) → Ends block journal
-      → (change : PortState → PortState) (exits : OutletState) (recorded : List Value)
+      → (change : PortState → PortState) (exits : OutletState) (jobs : JobsState) (recorded : List Value)
       → (change (port_at 0 block)).refusing ≡ (port_at 0 block).refusing
       → (change (port_at 0 block)).ends ≡ (port_at 0 block).ends → block.stopped ≡ None
-      → Ends (record (with_port 0 change block) { exits = exits; recorded = recorded }) journal
-  works_on block journal law change exits recorded refusing ends none =
-      both (record (with_port 0 change block) { exits = exits; recorded = recorded }) journal
+      → Ends (record (with_port 0 change block) { exits = exits; jobs = jobs; recorded = recorded }) journal
+  works_on block journal law change exits jobs recorded refusing ends none =
+      both (record (with_port 0 change block) { exits = exits; jobs = jobs; recorded = recorded }) journal
       (each_after_one (PortEndsBy block.fault journal) block.ports 0 (change (port_at 0 block))
       (λ there. rw (refusing, ends) (each_port block journal law 0 there))
       (λ q there other. each_port block journal law q there))
@@ -264,11 +265,19 @@ module _ {W : Type 0} (layout : Layout W) (meaning : ℕ → Value → Result (L
       → Ends (keeps_results kind values block) journal
   kept_as Action values block journal law none =
       works_on block journal law (λ port. gives_room 1 (takes_next port)) block.exits
-      (block.recorded ++ values) refl refl none
+      (works_off block.jobs) (block.recorded ++ values) refl refl none
+  kept_as Buffer [] block journal law none =
+      works_on block journal law (λ port. gives_room 1 (takes_next port)) block.exits block.jobs block.recorded refl refl
+      none
+  kept_as Buffer (value ∷ values) block journal law none =
+      works_on block journal law takes_next (puts_out (value ∷ values) block).exits block.jobs block.recorded refl refl
+      none
   kept_as kind [] block journal law none =
-      works_on block journal law (λ port. gives_room 1 (takes_next port)) block.exits block.recorded refl refl none
+      works_on block journal law (λ port. gives_room 1 (takes_next port)) block.exits (works_off block.jobs)
+      block.recorded refl refl none
   kept_as kind (value ∷ values) block journal law none =
-      works_on block journal law takes_next (puts_out (value ∷ values) block).exits block.recorded refl refl none
+      works_on block journal law takes_next (puts_out (value ∷ values) block).exits (works_off block.jobs)
+      block.recorded refl refl none
 
   yielded : (made : Result (List Value) ℕ) (block : BlockState) (journal : List Mark) → Ends block journal
       → block.stopped ≡ None
@@ -404,6 +413,23 @@ module _ {W : Type 0} (layout : Layout W) (meaning : ℕ → Value → Result (L
         faulted_by = λ number is. absurd (cc);
       })
 
+  -- its jobs change
+  pub jobs_change : (block : BlockState) (journal : List Mark) → Ends block journal → (change : JobsState → JobsState)
+      → Ends (with_jobs change block) journal
+  jobs_change block journal law change = record {
+    stopped_is = law.stopped_is;
+    ended_is = law.ended_is;
+    failed = law.failed;
+    own_fault = law.own_fault;
+    refused = law.refused;
+    at_rest = law.at_rest;
+    done_empty = law.done_empty;
+    done_complete = law.done_complete;
+    complete_cause = law.complete_cause;
+    fault_cause = law.fault_cause;
+    faulted_by = law.faulted_by;
+  }
+
   after_each : (node : NodeState) (call : NodeCall) → NodeLaw layout meaning b node → MayCall layout meaning b call node
       → Ends (after_call layout meaning b call node).block (after_call layout meaning b call node).journal
   after_each node (NodeCall.want p k) law may =
@@ -481,9 +507,10 @@ module _ {W : Type 0} (layout : Layout W) (meaning : ℕ → Value → Result (L
       exits_go node.block node.journal law.ends (exit_looks k phase node.block.exits) refl
       (rest_stays node.block.exits.ends k (record end { stage = source_looks end.stage phase })
       (look_stays_home end.stage phase))
+  after_each node NodeCall.begin law may = jobs_change node.block node.journal law.ends begins
   after_each node NodeCall.make law may =
       made_next (first_of (held_by node.block)) node.block node.journal law.ends
-      (may_make_tells node.block may.waits).going
+      (may_work_tells node.block may.waits).going
   after_each node (NodeCall.complete p) law may = completed node law p may
   after_each node (NodeCall.fault number) law may = faulted node.block node.journal law.ends number may
   after_each node NodeCall.finish law may = finished node.block node.journal law.ends may

@@ -228,6 +228,7 @@ module _ {W : Type 0} (layout : Layout W) (meaning : ℕ → Value → Result (L
       exits_change node.block law (looks k phase o) k _ may.place refl
       (none_kept_by_looks (stage_at o k) phase (law.none_kept k may.place))
       (calls_keep_law.look (is_pending node.block) node.block.stopped o law.law k may.place phase may.put_off)
+  exits_keep node NodeCall.begin law may = record { law = law.law; none_kept = law.none_kept }
   exits_keep node NodeCall.make law may =
       make_keeps node.block law (block_makes layout meaning b) (first_of (held_by node.block)) may.ids
   exits_keep node (NodeCall.complete p) law may = port_stays node.block law p (port_closes (port_at p node.block)) refl

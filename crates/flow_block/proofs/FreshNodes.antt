@@ -132,7 +132,7 @@ module _ {W : Type 0} (layout : Layout W) (b : ℕ) where
   }
 
 pub fresh_in_order : (W : Type 0) → FreshInOrder W
-fresh_in_order W layout meaning b built =
+fresh_in_order W layout meaning b built lane =
     let node = fresh_node layout b in
     let rules = map (rule_of layout) (links_from layout b) in
     let block = block_in layout.blocks b in
@@ -161,6 +161,16 @@ fresh_in_order W layout meaning b built =
             (sym (nothing_held layout b (below (port_count block))))
             (nothing_made (block_makes layout meaning b) block.kind);
         fault_is = λ number e. absurd (cc);
+      };
+      jobs = record {
+        lanes_are = refl;
+        some_lane = lane;
+        within = omega arith;
+        only_works = λ idle. refl;
+        results = tt;
+        drained = λ well. refl;
+        counted = λ works.
+            ap (λ (held : List Value). 0 + length held) (nothing_held layout b (below (port_count block)));
       };
       load = record {
         groups = subst (λ (held : List Value). WeighsAs (block_makes layout meaning b) block.kind block.capacity [] held

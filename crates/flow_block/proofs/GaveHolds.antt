@@ -329,6 +329,7 @@ module _ {W : Type 0} (layout : Layout W) (meaning : ℕ → Value → Result (L
   gave_keep node (NodeCall.look_out k phase) law may =
       let o = node.block.exits in
       end_moves o node.journal k _ _ _ _ may.place (look_tells (stage_at o k) phase).refused law.gave
+  gave_keep node NodeCall.begin law may = law.gave
   gave_keep node NodeCall.make law may =
       make_keeps node.block node.journal (block_makes layout meaning b) (first_of (held_by node.block)) law.gave
   gave_keep node (NodeCall.complete p) law may =

@@ -1,5 +1,5 @@
 -- What tells that a block goes on: what it may do by itself, an open port, or a link with something under way.
-use Rattle.std.proofs.Common.{◌≡◌, ℕ, zero, suc, ◌+◌, ◌<◌, ◌==◌, cond, Bool, true, false, not, ◌&&◌, List, [], ◌∷◌, length, set, Option, Some, None, is_none, is_some, Result, refl, sym, ◌∙◌, arith, eq-eqb, eqb-true}
+use Rattle.std.proofs.Common.{◌≡◌, ℕ, zero, suc, ◌+◌, ◌<◌, ltb, ◌==◌, cond, Bool, true, false, not, ◌&&◌, List, [], ◌∷◌, length, set, Option, Some, None, is_none, is_some, Result, refl, sym, ◌∙◌, arith, eq-eqb, eqb-true}
 use Rattle.std.proofs.lemmas.Bool.{not-true, and_parts, false_from_ne_true}
 use Rattle.flow_value.specs.declared.value.Value.{Value}
 use Rattle.flow_link.specs.declared.stage.SourceStage.{SourceStage}
@@ -7,6 +7,7 @@ use Rattle.flow_link.specs.declared.stage.SourceStage.TheVariants.{Free, Accepte
 use Rattle.flow_link.specs.declared.trace.Mark.{Mark}
 use Rattle.flow_link.specs.declared.phase.Phase.{Phase}
 use Rattle.flow_link.specs.Layout.{Layout}
+use Rattle.flow_link.specs.Plan.{has_work}
 use Rattle.flow_link.specs.Stage.{source_looks}
 use Rattle.flow_link.specs.Trace.{has_complete}
 use Rattle.flow_link.proofs.ListTests.{never_both}
@@ -17,7 +18,7 @@ use Rattle.flow_outlet.specs.declared.ends.OutEnd.{OutEnd}
 use Rattle.flow_outlet.specs.End.{is_away, is_waiting, count_at, end_in}
 use Rattle.flow_outlet.specs.Outlet.{is_empty, is_wanted, is_wish, is_at_rest, stage_at}
 use Rattle.flow_block.specs.Block.{BlockState, port_at, held_by}
-use Rattle.flow_block.specs.Peeks.{could_stop, may_make, may_complete, next_fault, may_finish, fault_cause, nothing_comes, all_ended, holds_nothing}
+use Rattle.flow_block.specs.Peeks.{could_stop, may_work, may_begin, may_make, may_complete, next_fault, may_finish, fault_cause, nothing_comes, all_ended, holds_nothing}
 use Rattle.flow_block.specs.NodeLaw.{EndsLaw, outcome_in}
 use Rattle.flow_block.proofs.JournalTells.{open_tells}
 use Rattle.flow_block.proofs.TestsTell.{none_is, none_unless}
@@ -85,11 +86,24 @@ pub record MayMake (block : BlockState) : Type 0 where
   pub going : block.stopped ≡ None
   pub no_fault : block.fault ≡ None
 
-pub may_make_tells : (block : BlockState) → may_make block ≡ true → MayMake block
-may_make_tells block e =
+pub may_work_tells : (block : BlockState) → may_work block ≡ true → MayMake block
+may_work_tells block e =
     let outer = and_parts (is_none block.stopped && is_none block.fault) (not (is_empty (held_by block))) e in
     let inner = and_parts (is_none block.stopped) (is_none block.fault) outer.0 in
     record { going = none_is block.stopped inner.0; no_fault = none_is block.fault inner.1 }
+
+pub may_begin_tells : (block : BlockState) → may_begin block ≡ true → MayMake block
+may_begin_tells block e =
+    let few = ltb (length block.jobs.slots) block.jobs.lanes in
+    let outer =
+    and_parts (may_work block && has_work block.kind && few) (ltb (length block.jobs.slots) (length (held_by block))) e in
+    let inner = and_parts (may_work block && has_work block.kind) few outer.0 in
+    may_work_tells block (and_parts (may_work block) (has_work block.kind) inner.0).0
+
+pub may_make_tells : (block : BlockState) → may_make block ≡ true → MayMake block
+may_make_tells block e =
+    may_work_tells block
+    (and_parts (may_work block) (not (has_work block.kind)) e).0
 
 pub record MayComplete (p : ℕ) (block : BlockState) : Type 0 where
   pub open_port : has_ended (port_at p block).refusing ≡ false

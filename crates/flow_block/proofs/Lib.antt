@@ -9,6 +9,13 @@ pub mod GaveHolds
 pub mod GoingOn
 pub mod InputsAreParts
 pub mod InputsInOrder
+pub mod JobsBack
+pub mod JobsCount
+pub mod JobsEnd
+pub mod JobsHold
+pub mod JobsOut
+pub mod JobsRecorded
+pub mod JobsRest
 pub mod JournalTells
 pub mod KindsBuilt
 pub mod LoadHolds

@@ -13,16 +13,18 @@ use Rattle.flow_link.specs.Layout.{Layout}
 use Rattle.flow_link.specs.Making.{result_of}
 use Rattle.flow_link.specs.Plan.{block_in}
 use Rattle.flow_link.specs.Trace.{took, gave}
+use Rattle.flow_link.specs.NotBuilt.{is_built_kind}
 use Rattle.flow_link.proofs.OneMoreMark.{took_no_more, gave_no_more, took_by_took, gave_by_took, took_by_gave, gave_by_gave}
 use Rattle.flow_intake.specs.Port.{PortState, fresh_port}
 use Rattle.flow_intake.specs.Calls.{first_of, one_more, wants, turns_down, postpones, refuses, consumes, opens, closes, looks as port_looks, takes_next, gives_room, port_closes, port_fails}
 use Rattle.flow_outlet.specs.declared.group.Group.{Group}
 use Rattle.flow_outlet.specs.Outlet.{OutletState, head_of, groups_with, groups_after, room_with, gives, prepares, offers, denies, withdraws, ends_link, looks as exit_looks}
-use Rattle.flow_block.specs.Block.{BlockState, port_in, port_at, with_port, held_by, unit_weight, made_of, puts_out, fails, yields, keeps_results, makes_of, stops_by}
+use Rattle.flow_block.specs.Block.{BlockState, port_in, port_at, with_port, with_jobs, held_by, unit_weight, made_of, puts_out, fails, yields, keeps_results, makes_of, stops_by}
+use Rattle.flow_block.specs.Jobs.{JobsState, begins, works_off}
 use Rattle.flow_block.specs.Node.{NodeState, NodeCall, hand_at, in_link_at, out_link_at, takes_in, gives_from}
 use Rattle.flow_block.specs.NodeLaw.{NodeLaw, ShapeLaw, LoadLaw, WeighsAs}
 use Rattle.flow_block.specs.NodeKeeps.{MayCall, after_call, LoadKept}
-use Rattle.flow_block.specs.Planned.{is_built, block_makes}
+use Rattle.flow_block.specs.Planned.{block_makes}
 use Rattle.flow_block.proofs.KindsBuilt.{has_one_port}
 use Rattle.flow_block.proofs.PortsChange.{kept_at_one, kept_at_all, each_after_one, each_after_all}
 use Rattle.flow_block.proofs.WeightsOfResults.{is_many, weight_back, weighs_taken, weighs_given, weighs_many, weighs_one}
@@ -40,7 +42,7 @@ transformed_is_one (Ok (value ∷ [])) values e = let same : values ≡ value �
 transformed_is_one (Ok (value ∷ next ∷ more)) values e = absurd (cc)
 
 made_by_kind : (kind : BlockKind) (raw : Value → Result (List Value) ℕ) (value : Value) (values : List Value)
-    → is_built kind ≡ true → made_of kind (λ v. result_of kind (raw v)) value ≡ Ok values
+    → is_built_kind kind ≡ true → made_of kind (λ v. result_of kind (raw v)) value ≡ Ok values
     → is_action kind ≡ false → is_many kind ≡ false → length values ≡ 1
 made_by_kind Buffer raw value values built e other single = let same : values ≡ value ∷ [] = cc in rw same refl
 made_by_kind Action raw value values built e other single = absurd (cc)
@@ -49,7 +51,7 @@ made_by_kind TransformMany raw value values built e other single = absurd (cc)
 made_by_kind kind raw value values built e other single = absurd (cc)
 
 made_is_one : (kind planned : BlockKind) (raw : Value → Result (List Value) ℕ) (value : Value) (values : List Value)
-    → kind ≡ planned → is_built kind ≡ true → made_of kind (λ v. result_of planned (raw v)) value ≡ Ok values
+    → kind ≡ planned → is_built_kind kind ≡ true → made_of kind (λ v. result_of planned (raw v)) value ≡ Ok values
     → is_action kind ≡ false → is_many kind ≡ false → length values ≡ 1
 made_is_one kind planned raw value values same built e other single =
     made_by_kind kind raw value values built
@@ -150,6 +152,12 @@ module _ {W : Type 0} (layout : Layout W) (meaning : ℕ → Value → Result (L
       stays node.block (record node.block { exits = exits }) node.journal node.journal law refl refl
       (record { left = left; next = next; groups = groups; room = room }) refl refl law.load
 
+  -- its jobs change
+  pub jobs_change : (block : BlockState) (journal : List Mark) (change : JobsState → JobsState)
+      → LoadLaw layout meaning b block journal → LoadLaw layout meaning b (with_jobs change block) journal
+  jobs_change block journal change law =
+      stays block (with_jobs change block) journal journal law refl refl (left_so block.exits) refl refl law.load
+
   -- one port changes, and holds as much as before
   one_moves : (block : BlockState) (journal later : List Mark) (p : ℕ) (change : PortState → PortState)
       → (change (port_at p block)).load ≡ (port_at p block).load
@@ -243,6 +251,18 @@ module _ {W : Type 0} (layout : Layout W) (meaning : ℕ → Value → Result (L
   held_first [] value first = absurd (cc)
   held_first (message ∷ rest) value first = let same : message ≡ value = cc in ap (λ (v : Value). v ∷ rest) same
 
+  -- a block that makes one value of a message weighs it
+  weighs_put : (kind : BlockKind) (values : List Value) (block : BlockState) (journal : List Mark) → block.kind ≡ kind
+      → is_many kind ≡ false → length values ≡ 1 → LoadLaw layout meaning b block journal
+      → weighs kind (took journal) (drop 1 (held_by block)) (gave journal) (block.exits.left ++ values)
+      block.exits.next (put_groups values block)
+  weighs_put kind values block journal same other one law =
+      let exits = block.exits in
+      weighs_one (block_makes layout meaning b) kind limit (took journal) (held_by block) (drop 1 (held_by block))
+      (gave journal) exits.left exits.next exits.groups values other one
+      (subst (λ (k : BlockKind). weighs k (took journal) (held_by block) (gave journal) exits.left exits.next
+      exits.groups) same law.groups)
+
   results_kept : (kind : BlockKind) (values : List Value) (value : Value) (block : BlockState) (journal : List Mark)
       → block.kind ≡ kind → first_of (held_by block) ≡ Some value → block.exits.next ≡ 1 + length (gave journal)
       → ShapeLaw layout meaning b block → LoadLaw layout meaning b block journal
@@ -257,20 +277,21 @@ module _ {W : Type 0} (layout : Layout W) (meaning : ℕ → Value → Result (L
   }
   results_kept TransformMany values value block journal same first next shape law made single =
       let exits = block.exits in
-      put_keeps TransformMany values value block journal same first shape law
+      jobs_change (puts_out values block) journal works_off
+      (put_keeps TransformMany values value block journal same first shape law
       (weighs_many (block_makes layout meaning b) limit (took journal) (drop 1 (held_by block)) (gave journal)
       exits.left exits.next exits.groups value values made next
       (subst (λ (held : List Value). weighs TransformMany (took journal) held (gave journal) exits.left exits.next
       exits.groups) (held_first (held_by block) value first)
       (subst (λ (kind : BlockKind). weighs kind (took journal) (held_by block) (gave journal) exits.left exits.next
-      exits.groups) same law.groups)))
+      exits.groups) same law.groups))))
+  results_kept Buffer values value block journal same first next shape law made single =
+      put_keeps Buffer values value block journal same first shape law
+      (weighs_put Buffer values block journal same refl (single refl refl) law)
   results_kept kind values value block journal same first next shape law made single =
-      let exits = block.exits in
-      put_keeps kind values value block journal same first shape law
-      (weighs_one (block_makes layout meaning b) kind limit (took journal) (held_by block) (drop 1 (held_by block))
-      (gave journal) exits.left exits.next exits.groups values refl (single refl refl)
-      (subst (λ (k : BlockKind). weighs k (took journal) (held_by block) (gave journal) exits.left exits.next
-      exits.groups) same law.groups))
+      jobs_change (puts_out values block) journal works_off
+      (put_keeps kind values value block journal same first shape law
+      (weighs_put kind values block journal same refl (single refl refl) law))
 
   yield_keeps : (result : Result (List Value) ℕ) (value : Value) (block : BlockState) (journal : List Mark)
       → first_of (held_by block) ≡ Some value → block.exits.next ≡ 1 + length (gave journal)
@@ -387,6 +408,8 @@ module _ {W : Type 0} (layout : Layout W) (meaning : ℕ → Value → Result (L
       one_moves node.block node.journal node.journal p (port_looks k phase) refl refl refl refl law.load
   call_keeps node (NodeCall.look_out k phase) law may =
       exits_move node (exit_looks k phase node.block.exits) refl refl refl refl law.load
+  call_keeps node NodeCall.begin law may =
+      jobs_change node.block node.journal begins law.load
   call_keeps node NodeCall.make law may =
       make_keeps (first_of (held_by node.block)) node.block node.journal refl law.gave.next_is law.shape law.load
   call_keeps node (NodeCall.complete p) law may =

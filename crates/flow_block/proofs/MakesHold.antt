@@ -13,17 +13,19 @@ use Rattle.flow_link.specs.Layout.{Layout}
 use Rattle.flow_link.specs.Plan.{has_work}
 use Rattle.flow_link.specs.Trace.{took, gave}
 use Rattle.flow_link.specs.Worked.{WorkedInto}
+use Rattle.flow_link.specs.NotBuilt.{is_built_kind}
 use Rattle.flow_link.proofs.OneMoreMark.{took_no_more, gave_no_more, took_by_took, gave_by_took, took_by_gave, gave_by_gave}
 use Rattle.flow_link.proofs.OneMoreWorked.{worked_more}
 use Rattle.flow_intake.specs.Port.{PortState, fresh_port, hand_in}
 use Rattle.flow_intake.specs.Calls.{first_of, wants, turns_down, postpones, refuses, consumes, opens, closes, looks as port_looks, takes_next, gives_room, port_closes, port_fails}
 use Rattle.flow_outlet.specs.Outlet.{OutletState, first_of as first_left, rest_of, head_of, gives, prepares, offers, denies, withdraws, ends_link, looks as exit_looks}
-use Rattle.flow_block.specs.Block.{BlockState, port_at, with_port, held_by, made_of, puts_out, put_by_kind, yields, keeps_results, makes_of, stops_by}
+use Rattle.flow_block.specs.Block.{BlockState, port_at, with_port, with_jobs, held_by, made_of, puts_out, put_by_kind, yields, keeps_results, makes_of, stops_by}
+use Rattle.flow_block.specs.Jobs.{JobsState, begins, works_off}
 use Rattle.flow_block.specs.Node.{NodeState, NodeCall, takes_in, gives_from, in_link_at, out_link_at}
 use Rattle.flow_block.specs.NodeKeeps.{MakesKept, MayCall, after_call}
 use Rattle.flow_block.specs.NodeLaw.{NodeLaw, MakesLaw, MakesAs, FaultsOn}
-use Rattle.flow_block.specs.Planned.{is_built, block_makes}
-use Rattle.flow_block.proofs.GoingOn.{may_make_tells}
+use Rattle.flow_block.specs.Planned.{block_makes}
+use Rattle.flow_block.proofs.GoingOn.{may_work_tells}
 use Rattle.flow_block.proofs.KindsBuilt.{has_one_port}
 use Rattle.flow_block.proofs.PortsChange.{kept_at_one, kept_at_all}
 
@@ -115,7 +117,7 @@ record Fails (result : Value → Result (List Value) ℕ) (kind : BlockKind) (va
   fails : result value ≡ Err number
 
 fails_so : (result : Value → Result (List Value) ℕ) (kind : BlockKind) (value : Value) (number : ℕ)
-    → is_built kind ≡ true → made_of kind result value ≡ Err number → Fails result kind value number
+    → is_built_kind kind ≡ true → made_of kind result value ≡ Err number → Fails result kind value number
 fails_so result Buffer value number built made = absurd (cc)
 fails_so result Action value number built made = record { works = refl; fails = made }
 fails_so result Transform value number built made = record { works = refl; fails = made }
@@ -191,6 +193,13 @@ module _ {W : Type 0} (layout : Layout W) (meaning : ℕ → Value → Result (L
       stays node.block (record node.block { exits = exits }) node.journal node.journal law
       refl refl same refl refl refl refl
 
+  -- its jobs change
+  pub jobs_change : (node : NodeState) → MakesLaw layout meaning b node.block node.journal
+      → (change : JobsState → JobsState)
+      → MakesLaw layout meaning b (with_jobs change node.block) node.journal
+  jobs_change node law change =
+      stays node.block (with_jobs change node.block) node.journal node.journal law refl refl refl refl refl refl refl
+
   -- all its ports close
   stops_so : (node : NodeState) → MakesLaw layout meaning b node.block node.journal → (how : Outcome) (mark : Mark)
       → taken_by_mark (λ port link. true) mark ≡ [] → given_by_mark (λ link. true) mark ≡ []
@@ -244,7 +253,7 @@ module _ {W : Type 0} (layout : Layout W) (meaning : ℕ → Value → Result (L
 
   kept_as : (kind : BlockKind) (block : BlockState) (journal : List Mark) (value : Value) (rest values : List Value)
       → block.kind ≡ kind
-      → is_built kind ≡ true → length block.ports ≡ 1 → block.fault ≡ None → held_by block ≡ value ∷ rest
+      → is_built_kind kind ≡ true → length block.ports ≡ 1 → block.fault ≡ None → held_by block ≡ value ∷ rest
       → made_of kind (block_makes layout meaning b) value ≡ Ok values → MakesLaw layout meaning b block journal
       → MakesLaw layout meaning b (keeps_results kind values block) journal
   kept_as Action block journal value rest values same built one none first made law =
@@ -258,17 +267,19 @@ module _ {W : Type 0} (layout : Layout W) (meaning : ℕ → Value → Result (L
       put_so Buffer values block journal value rest same one none first
       (made_more Buffer block journal value rest values same first made law)
   kept_as Transform block journal value rest values same built one none first made law =
-      put_so Transform values block journal value rest same one none first
-      (made_more Transform block journal value rest values same first made law)
+      jobs_change (record { block = puts_out values block; journal = journal })
+      (put_so Transform values block journal value rest same one none first
+      (made_more Transform block journal value rest values same first made law)) works_off
   kept_as TransformMany block journal value rest values same built one none first made law =
-      put_so TransformMany values block journal value rest same one none first
-      (made_more TransformMany block journal value rest values same first made law)
+      jobs_change (record { block = puts_out values block; journal = journal })
+      (put_so TransformMany values block journal value rest same one none first
+      (made_more TransformMany block journal value rest values same first made law)) works_off
   kept_as kind block journal value rest values same built one none first made law = absurd (cc)
 
   yielded : (block : BlockState) (journal : List Mark) (value : Value) (rest : List Value)
       (made : Result (List Value) ℕ)
       → length block.ports ≡ 1 → block.fault ≡ None → held_by block ≡ value ∷ rest
-      → is_built block.kind ≡ true
+      → is_built_kind block.kind ≡ true
       → made_of block.kind (block_makes layout meaning b) value ≡ made → MakesLaw layout meaning b block journal
       → MakesLaw layout meaning b (yields made block) journal
   yielded block journal value rest (Ok values) one none first built is law =
@@ -288,7 +299,7 @@ module _ {W : Type 0} (layout : Layout W) (meaning : ℕ → Value → Result (L
       }
 
   made_next : (block : BlockState) (journal : List Mark) (held : List Value) → held_by block ≡ held
-      → length block.ports ≡ 1 → block.fault ≡ None → is_built block.kind ≡ true
+      → length block.ports ≡ 1 → block.fault ≡ None → is_built_kind block.kind ≡ true
       → MakesLaw layout meaning b block journal
       → MakesLaw layout meaning b (makes_of (block_makes layout meaning b) (first_of held) block) journal
   made_next block journal [] is one none built law = law
@@ -308,9 +319,10 @@ module _ {W : Type 0} (layout : Layout W) (meaning : ℕ → Value → Result (L
   after_each node (NodeCall.close p k) law may = taken_in node law p k (hand_in k (port_at p node.block).ends) may.port
   after_each node (NodeCall.give k) law may = given_out node law.makes k (head_of node.block.exits) refl
   after_each node (NodeCall.look_in p k phase) law may = port_stays node law.makes p (port_looks k phase) refl
+  after_each node NodeCall.begin law may = jobs_change node law.makes begins
   after_each node NodeCall.make law may =
       let block = node.block in
-      let none = (may_make_tells block may.waits).no_fault in
+      let none = (may_work_tells block may.waits).no_fault in
       let one = has_one_port layout meaning b block law.shape in
       made_next block node.journal (held_by block) refl one none law.shape.built law.makes
   after_each node (NodeCall.complete p) law may =

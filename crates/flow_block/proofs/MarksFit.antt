@@ -1,6 +1,8 @@
 -- What each call of a block makes of the number of marks that may follow it.
-use Rattle.std.proofs.Common.{◌≡◌, ℕ, zero, suc, ◌+◌, ◌<◌, ◌≤◌, Bool, true, false, cond, List, [], ◌∷◌, length, set, map, Option, Some, None, is_some, ◌||◌, refl, arith}
+use Rattle.std.proofs.Common.{◌≡◌, ℕ, zero, suc, ◌+◌, ◌<◌, ◌≤◌, Bool, true, false, cond, List, [], ◌∷◌, length, set, map, Option, Some, None, is_some, is_none, Result, Ok, Err, ◌||◌, refl, arith}
 use Rattle.flow_value.specs.declared.value.Value.{Value}
+use Rattle.flow_link.specs.declared.draft.BlockKind.{BlockKind}
+use Rattle.flow_link.specs.declared.draft.BlockKind.TheVariants.{Action}
 use Rattle.flow_link.specs.declared.phase.Phase.{Phase}
 use Rattle.flow_link.specs.declared.stage.Refusal.{Refusal}
 use Rattle.flow_link.specs.declared.stage.TargetStage.{TargetStage}
@@ -8,11 +10,12 @@ use Rattle.flow_link.specs.declared.stage.TargetStage.TheVariants.{Offered, Post
 use Rattle.flow_link.specs.declared.trace.Outcome.{Outcome}
 use Rattle.flow_link.specs.Stage.{target_looks}
 use Rattle.flow_intake.specs.Port.{EndState, PortState, stage_at, is_offer, is_queued, is_coming, is_owed, is_hand, count_at}
-use Rattle.flow_intake.specs.Calls.{is_offered, is_postponed, is_arrived, refused_by, prepared, wants, turns_down, postpones, refuses, consumes, opens, closes, looks, gives_room, port_closes, port_fails}
+use Rattle.flow_intake.specs.Calls.{is_offered, is_postponed, is_arrived, refused_by, prepared, wants, turns_down, postpones, refuses, consumes, opens, closes, looks, takes_next, gives_room, port_closes, port_fails}
 use Rattle.flow_intake.proofs.CountsOfEnds.{count_after_set, coming_is_owed, hand_comes}
 use Rattle.flow_intake.proofs.EndsInOrder.{look_tells}
 use Rattle.flow_outlet.specs.Outlet.{gives}
-use Rattle.flow_block.specs.Block.{BlockState, port_in, port_at, with_port, gives_out, fails, stops_by}
+use Rattle.flow_block.specs.Block.{BlockState, port_in, port_at, with_port, gives_out, with_jobs, fails, keeps_results, yields_all, yields_where, ends_job, stops_by}
+use Rattle.flow_block.specs.Jobs.{Slot, brings}
 use Rattle.flow_block.specs.JournalFits.{port_due, ports_due, marks_due}
 
 due_set : (ports : List PortState) (p : ℕ) (port : PortState) → p < length ports
@@ -130,3 +133,34 @@ due_failed number block = rw (due_map port_fails block.ports (λ _. refl)) refl
 
 pub due_stopped : (how : Outcome) (block : BlockState) → marks_due (stops_by how block) ≡ marks_due block
 due_stopped how block = rw (due_map port_closes block.ports (λ _. refl)) refl
+
+-- A job that ends
+
+first_kept : (change : PortState → PortState) (ports : List PortState)
+    → ((port : PortState) → port_due (change port) ≡ port_due port)
+    → ports_due (set ports 0 (change (port_in ports 0))) ≡ ports_due ports
+first_kept change [] same = refl
+first_kept change (port ∷ ports) same = omega (arith, same port)
+
+due_kept : (kind : BlockKind) (values : List Value) (block : BlockState)
+    → marks_due (keeps_results kind values block) ≡ marks_due block
+due_kept Action values block =
+    omega (arith, first_kept (λ port. gives_room 1 (takes_next port)) block.ports (λ port. refl))
+due_kept _ [] block =
+    omega (arith, first_kept (λ port. gives_room 1 (takes_next port)) block.ports (λ port. refl))
+due_kept _ (value ∷ values) block = omega (arith, first_kept takes_next block.ports (λ port. refl))
+
+all_due : (slots : List Slot) (block : BlockState) → marks_due (yields_all slots block) ≤ marks_due block
+all_due [] block = omega arith
+all_due (None ∷ slots) block = omega arith
+all_due (Some (Err number) ∷ slots) block = omega (arith, due_failed number block)
+all_due (Some (Ok values) ∷ slots) block =
+    omega (arith, all_due slots (keeps_results block.kind values block), due_kept block.kind values block)
+
+where_due : (well : Bool) (block : BlockState) → marks_due (yields_where well block) ≤ marks_due block
+where_due true block = all_due block.jobs.slots block
+where_due false block = omega arith
+
+pub due_ended : (ticket : ℕ) (made : Result (List Value) ℕ) (block : BlockState)
+    → marks_due (ends_job ticket made block) ≤ marks_due block
+due_ended ticket made block = where_due (is_none block.fault) (with_jobs (brings ticket made) block)

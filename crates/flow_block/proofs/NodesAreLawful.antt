@@ -26,6 +26,7 @@ use Rattle.flow_link.specs.Stage.{source_stage_of, target_stage_of, refusal_of}
 use Rattle.flow_link.specs.Trace.{BlockTrace, Run, took, gave, gave_over, took_over, has_complete, has_fault, has_ended, is_done, is_faulted, is_used_up, is_cut, block_of, link_of, link_numbers, trace_of, marks_of, held_at, left_at, ports_of, given_by}
 use Rattle.flow_link.specs.Views as views
 use Rattle.flow_link.specs.Worked.{WorkedInto}
+use Rattle.flow_link.specs.NotBuilt.{is_built_kind}
 use Rattle.flow_link.proofs.RoundsOfWalks.{some_here_below}
 use Rattle.flow_link.proofs.ListTests.{or_not, every_below, every_weaker_below, length_numbers, or_others}
 use Rattle.flow_intake.specs.Port.{EndState, PortState, end_in, fresh_end, fresh_port, coming as coming_at, is_coming as is_coming_at}
@@ -40,7 +41,7 @@ use Rattle.flow_block.specs.Block.{port_at, held_by}
 use Rattle.flow_block.specs.Node.{NodeState, in_view}
 use Rattle.flow_block.specs.NodeLaw.{NodeLaw, MakesAs, RefusesFor as RefusesBy, refuses_over, run_seen_by, is_fault_seen}
 use Rattle.flow_block.specs.NodeSeen.{IsNodeOf, NodesAreLawful}
-use Rattle.flow_block.specs.Planned.{is_built, out_place, in_place, block_makes}
+use Rattle.flow_block.specs.Planned.{out_place, in_place, block_makes}
 use Rattle.flow_block.proofs.EndsTell.{ended_complete, ended_fault, ended_plain, used_up_told, ended_stage, refused_told, spoken_is_out, refusal_told, coming_told, completion_told, fault_told}
 use Rattle.flow_block.proofs.JournalTells.{stopped_tells, every_mark, complete_own, done_outcome, done_marked, fault_marked, passed_by}
 use Rattle.flow_block.proofs.KindsBuilt.{by_kind, planned_built}
@@ -100,7 +101,7 @@ module _ {W : Type 0} (run : Run W) (ends : ℕ → Ends) (b : ℕ) (node : Node
       → HasEndOut run.layout run.meaning b node.block law.shape l
   from_has l small begins = end_out_of run.layout run.meaning b node.block law.shape l small begins
 
-  plain : is_built (block_of run b).kind ≡ true
+  plain : is_built_kind (block_of run b).kind ≡ true
   plain = planned_built run.layout run.meaning b node.block law.shape
 
   marks_are : marks_of run b ≡ node.journal
@@ -135,7 +136,7 @@ module _ {W : Type 0} (run : Run W) (ends : ℕ → Ends) (b : ℕ) (node : Node
   outputs_are : gave node.journal ++ node.block.exits.left ≡ outputs run b
   outputs_are = sym (ap (λ (t : BlockTrace). gave t.journal ++ t.left) is.trace)
 
-  makes_by : (kind : BlockKind) → is_built kind ≡ true → MakesAsKind kind → NodeMakes run ends b kind
+  makes_by : (kind : BlockKind) → is_built_kind kind ≡ true → MakesAsKind kind → NodeMakes run ends b kind
   makes_by Buffer built makes =
       ap took marks_are ∙ makes ∙ ap (λ (made : List Value). made ++ held_by node.block) outputs_are
       ∙ ap (λ (held : List Value). outputs run b ++ held) (sym (held_is run ends b node law is 0))

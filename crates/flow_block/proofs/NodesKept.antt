@@ -3,6 +3,7 @@ use Rattle.flow_block.specs.NodeKeeps.{NodesKept}
 use Rattle.flow_block.proofs.EndsHold.{ends_kept}
 use Rattle.flow_block.proofs.ExitsHold.{exits_kept}
 use Rattle.flow_block.proofs.GaveHolds.{gave_kept}
+use Rattle.flow_block.proofs.JobsHold.{jobs_kept}
 use Rattle.flow_block.proofs.LoadHolds.{load_kept}
 use Rattle.flow_block.proofs.MakesHold.{makes_kept}
 use Rattle.flow_block.proofs.MarksHold.{marks_kept}
@@ -16,6 +17,7 @@ nodes_kept W layout meaning b node call law may = record {
   exits = exits_kept W layout meaning b node call law may;
   gave = gave_kept W layout meaning b node call law may;
   makes = makes_kept W layout meaning b node call law may;
+  jobs = jobs_kept W layout meaning b node call law may;
   load = load_kept W layout meaning b node call law may;
   marks = marks_kept W layout meaning b node call law may;
   ends = ends_kept W layout meaning b node call law may;

@@ -21,6 +21,7 @@ use Rattle.flow_link.specs.RestsByParts.{OutletRests, KindRests, NodeRests, is_o
 use Rattle.flow_link.specs.Stage.{source_stage_of, target_stage_of}
 use Rattle.flow_link.specs.Trace.{BlockTrace, Run, gave_over, given_by, given_over, took_at, has_complete, has_fault, has_ended, is_faulted, is_done, is_used_up, is_cut as is_run_cut, block_of, link_of, marks_of, held_at, left_at, ports_of}
 use Rattle.flow_link.specs.Views.{SourceStage as SourceViewStage, SourceView, TargetView}
+use Rattle.flow_link.specs.NotBuilt.{is_built_kind}
 use Rattle.flow_link.proofs.ListTests.{never_both, passes_below, unless_done}
 use Rattle.flow_intake.specs.Port.{EndState, PortState, fresh_port, fresh_end, hand_in, stage_at as port_stage, coming, has_room, is_below}
 use Rattle.flow_intake.specs.PortLaw.{has_ended as has_port_ended}
@@ -36,7 +37,7 @@ use Rattle.flow_block.specs.NodeLaw.{NodeLaw, outcome_in}
 use Rattle.flow_block.specs.NodeRests.{HasNothingToDo, EndsRest, NodesRest}
 use Rattle.flow_block.specs.NodeSeen.{IsNodeOf}
 use Rattle.flow_block.specs.Peeks.{holds_nothing, all_ended}
-use Rattle.flow_block.specs.Planned.{is_built, rule_of, out_place, in_place}
+use Rattle.flow_block.specs.Planned.{rule_of, out_place, in_place}
 use Rattle.flow_block.proofs.EndsAtRest.{over_unless, not_cut, not_stopped, no_room_where}
 use Rattle.flow_block.proofs.EndsTell.{limit_is, no_room_left, free_back, postponed_back, end_back}
 use Rattle.flow_block.proofs.FaultsSeen.{not_seen_at_ends, not_seen_at_ports}
@@ -79,7 +80,7 @@ module _ {W : Type 0} (run : Run W) (ends : ℕ → Ends) (b : ℕ) (node : Node
   abbrev kind : BlockKind
   kind = (block_of run b).kind
 
-  built : is_built kind ≡ true
+  built : is_built_kind kind ≡ true
   built = planned_built run.layout run.meaning b own law.shape
 
   marks_are : marks_of run b ≡ node.journal

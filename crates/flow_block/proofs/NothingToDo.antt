@@ -25,20 +25,13 @@ use Rattle.flow_block.proofs.EndsAtRest.{not_out, must_wait, away_waits, none_aw
 use Rattle.flow_block.proofs.EndsTell.{none_come}
 use Rattle.flow_block.proofs.FaultsSeen.{first_none}
 use Rattle.flow_block.proofs.GoingOn.{away_goes_on, waiting_away}
+use Rattle.flow_block.proofs.JobsRest.{holds_none}
 use Rattle.flow_block.proofs.KindsBuilt.{has_one_port}
 use Rattle.flow_block.proofs.TestsTell.{every_where}
 
 offer_none : (offer : Option ℕ) → ((j : ℕ) → offer ≡ Some j → ⊥) → offer ≡ None
 offer_none None h = refl
 offer_none (Some j) h = absurd (h j refl)
-
--- nothing is held where nothing is made of it
-none_held : (going well : Bool) (held : List Value) → going ≡ true → well ≡ true
-    → (going && well && not (is_empty held)) ≡ false → held ≡ []
-none_held true true [] eg ew e = refl
-none_held true true (value ∷ held) eg ew e = absurd (cc)
-none_held true false held eg ew e = absurd (cc)
-none_held false well held eg ew e = absurd (cc)
 
 all_five : (a b c d e : Bool) → a ≡ true → b ≡ true → c ≡ true → d ≡ true → e ≡ true → (a && b && c && d && e) ≡ true
 all_five a b c d e ea eb ec ed ee =
@@ -120,8 +113,8 @@ module _ {W : Type 0} (layout : Layout W) (meaning : ℕ → Value → Result (L
 
   no_held : block.stopped ≡ None → held_by block ≡ []
   no_held going =
-      none_held (is_none block.stopped) (is_none block.fault) (held_by block) (ap is_none going)
-      (ap is_none (no_own_fault going)) nothing.makes
+      let well = no_own_fault going in
+      holds_none block going well law.jobs.some_lane (law.jobs.drained well) nothing.makes nothing.begins nothing.ends
 
   pub held_none : block.stopped ≡ None → holds_nothing block.ports ≡ true
   held_none going =

@@ -214,6 +214,7 @@ module _ {W : Type 0} (layout : Layout W) (meaning : ℕ → Value → Result (L
       one_port node.block.ports node.journal p (looks k phase port) law.ports
       (λ old. moves_keep.look facts (taken node.journal p) port old k phase may.place)
   call_keeps node (NodeCall.look_out k phase) law may = law.ports
+  call_keeps node NodeCall.begin law may = law.ports
   call_keeps node NodeCall.make law may =
       make_keeps (first_of (held_by node.block)) node.block node.journal refl law.ports
   call_keeps node (NodeCall.complete p) law may =

@@ -121,7 +121,7 @@ module _ {W : Type 0} (layout : Layout W) (meaning : ℕ → Value → Result (L
     rules = rules ∙ law.rules;
   }
 
-  exits_move : (before after : BlockState) → after.kind ≡ before.kind → after.ports ≡ before.ports
+  pub exits_move : (before after : BlockState) → after.kind ≡ before.kind → after.ports ≡ before.ports
       → map (λ (end : OutEnd). end.rule) after.exits.ends ≡ map (λ (end : OutEnd). end.rule) before.exits.ends
       → ShapeLaw layout meaning b before → ShapeLaw layout meaning b after
   exits_move before after kind ports rules law = record {
@@ -192,6 +192,7 @@ module _ {W : Type 0} (layout : Layout W) (meaning : ℕ → Value → Result (L
       one_port node.block _ p (looks k phase) (looks_same k phase) refl refl refl law
   call_keeps node (NodeCall.look_out k phase) law =
       exits_move node.block _ refl refl (rules_stay node.block.exits.ends k _ refl) law
+  call_keeps node NodeCall.begin law = exits_move node.block _ refl refl refl law
   call_keeps node NodeCall.make law = make_keeps (first_of (held_by node.block)) node.block law
   call_keeps node (NodeCall.complete p) law =
       one_port node.block _ p port_closes port_closes_same refl refl refl law

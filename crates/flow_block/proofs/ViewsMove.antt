@@ -27,7 +27,8 @@ use Rattle.flow_outlet.specs.Law.{admits_head}
 use Rattle.flow_outlet.specs.Outlet.{OutletState, head_of, end_at, stage_at, gives, given_end, offers, prepares, denies, withdraws, ends_link, looks as exit_looks}
 use Rattle.flow_outlet.proofs.LawKept.{gives_in_order}
 use Rattle.flow_outlet.proofs.OffersInOrder.{offers_in_order}
-use Rattle.flow_block.specs.Block.{BlockState, port_at, with_port, made_of, keeps_results, yields, makes_of, held_by, stops_by}
+use Rattle.flow_block.specs.Block.{BlockState, port_at, with_port, with_jobs, begins, made_of, keeps_results, yields, makes_of, held_by, stops_by}
+use Rattle.flow_block.specs.Jobs.{JobsState, begins as one_more}
 use Rattle.flow_block.specs.Node.{NodeState, NodeCall, with_block, with_exits, marks, hand_at, in_link_at, out_link_at, takes_in, gives_from, view_of_in, view_of_out, in_view, out_view}
 use Rattle.flow_block.specs.NodeKeeps.{after_call}
 use Rattle.flow_block.specs.NodeLaw.{NodeLaw}
@@ -182,9 +183,9 @@ module _ {W : Type 0} (layout : Layout W) (meaning : ℕ → Value → Result (L
       }
 
 -- what a block makes, and how its ports fail or close, moves no end
-record EndsStay (block new : BlockState) : Type 0 where
-  ins : (p : ℕ) → p < length block.ports → (port_at p new).ends ≡ (port_at p block).ends
-  outs : new.exits.ends ≡ block.exits.ends
+pub record EndsStay (block new : BlockState) : Type 0 where
+  pub ins : (p : ℕ) → p < length block.ports → (port_at p new).ends ≡ (port_at p block).ends
+  pub outs : new.exits.ends ≡ block.exits.ends
 
 none_moves : (node : NodeState) (block : BlockState) → EndsStay node.block block
     → NoneMoves node (with_block block node)
@@ -200,7 +201,7 @@ none_moves_by node block mark stay none_taken none_given = record {
   given = λ l. gave_same (λ link. link == l) node.journal mark (none_given (λ link. link == l));
 }
 
-keeping_stays : (kind : BlockKind) (values : List Value) (block : BlockState)
+pub keeping_stays : (kind : BlockKind) (values : List Value) (block : BlockState)
     → EndsStay block (keeps_results kind values block)
 keeping_stays Action values block =
     record {
@@ -221,7 +222,7 @@ keeping_stays _ (value ∷ values) block = record {
   outs = refl;
 }
 
-yielding_stays : (result : Result (List Value) ℕ) (block : BlockState) → EndsStay block (yields result block)
+pub yielding_stays : (result : Result (List Value) ℕ) (block : BlockState) → EndsStay block (yields result block)
 yielding_stays (Ok values) block = keeping_stays block.kind values block
 yielding_stays (Err number) block =
     record {
@@ -233,6 +234,9 @@ making_stays : (result : Value → Result (List Value) ℕ) (message : Option Va
     → EndsStay block (makes_of result message block)
 making_stays result None block = record { ins = λ p below. refl; outs = refl }
 making_stays result (Some value) block = yielding_stays (made_of block.kind result value) block
+
+jobs_stay : (block : BlockState) (change : JobsState → JobsState) → EndsStay block (with_jobs change block)
+jobs_stay block change = record { ins = λ p below. refl; outs = refl }
 
 closing_stays : (block : BlockState) (p : ℕ) → EndsStay block (with_port p port_closes block)
 closing_stays block p = record {
@@ -368,6 +372,9 @@ calls_move_views W layout meaning b node (NodeCall.look_out k phase) law may =
           (source_looks_kept old.stage phase);
       others = others_out (NodeCall.look_out k phase) node k _ end (λ j apart. apart) one;
     }
+calls_move_views W layout meaning b node NodeCall.begin law may =
+    let none = none_moves node (begins node.block) (jobs_stay node.block one_more) in
+    record { moved = tt; others = others_stay NodeCall.begin node (after_call layout meaning b NodeCall.begin node) none }
 calls_move_views W layout meaning b node NodeCall.make law may =
     let new = after_call layout meaning b NodeCall.make node in
     let stay = making_stays (block_makes layout meaning b) (first_of (held_by node.block)) node.block in

@@ -1,18 +1,22 @@
 -- A block as plain data, and what its calls make of it: each block takes messages at its ports, makes something of them, and
 -- gives that over its exits.
-use Rattle.std.specs.Prelude.{ℕ, List, [], ◌∷◌, ◌++◌, get_or, set, map, Option, Some, None, Result, Ok, Err}
+use Rattle.std.specs.Prelude.{ℕ, Bool, true, false, List, [], ◌∷◌, ◌++◌, get_or, set, map, Option, Some, None, is_none, Result, Ok, Err, pos}
 use Rattle.flow_value.specs.declared.value.Value.{Value}
+use Rattle.flow_value.specs.declared.value.Value.TheVariants.{Int}
 use Rattle.flow_link.specs.declared.draft.BlockKind.{BlockKind}
 use Rattle.flow_link.specs.declared.draft.BlockKind.TheVariants.{Buffer, Action}
 use Rattle.flow_link.specs.declared.trace.Outcome.{Outcome}
 use Rattle.flow_intake.specs.Port.{PortState, fresh_port}
 use Rattle.flow_intake.specs.Calls.{first_of, takes_next, gives_room, port_closes, port_fails}
 use Rattle.flow_outlet.specs.Outlet.{OutletState, puts, gives}
+use Rattle.flow_block.specs.Jobs.{JobsState, Slot, begins as one_more, brings, works_off, comes_out, place_of}
 
 pub record BlockState : Type 0 where
   pub kind : BlockKind
   pub ports : List PortState
   pub exits : OutletState
+  -- what it works on
+  pub jobs : JobsState
   -- the results that an action keeps
   pub recorded : List Value
   -- the fault of its own function on the message that waits longest, once it is known
@@ -59,9 +63,14 @@ puts_out [] block = with_port 0 (λ port. gives_room 1 (takes_next port)) block
 puts_out (value ∷ values) block =
     record (with_port 0 takes_next block) { exits = puts (value ∷ values) (unit_weight (port_at 0 block).capacity) block.exits }
 
+-- a block with a function is done with a job by that
+abbrev pub with_jobs : (JobsState → JobsState) → BlockState → BlockState
+with_jobs change block = record block { jobs = change block.jobs }
+
 abbrev pub keeps_results : BlockKind → List Value → BlockState → BlockState
-keeps_results Action values block = records values block
-keeps_results _ values block = puts_out values block
+keeps_results Action values block = with_jobs works_off (records values block)
+keeps_results Buffer values block = puts_out values block
+keeps_results _ values block = with_jobs works_off (puts_out values block)
 
 abbrev pub yields : Result (List Value) ℕ → BlockState → BlockState
 yields (Ok values) block = keeps_results block.kind values block
@@ -71,7 +80,7 @@ abbrev pub makes_of : (Value → Result (List Value) ℕ) → Option Value → B
 makes_of result None block = block
 makes_of result (Some value) block = yields (made_of block.kind result value) block
 
--- it works on the message that waits longest
+-- it makes what it makes of the message that it holds first
 abbrev pub makes : (Value → Result (List Value) ℕ) → BlockState → BlockState
 makes result block = makes_of result (first_of (held_by block)) block
 
@@ -90,6 +99,39 @@ put_of kind result (Some value) = put_by_kind kind (values_of_result (made_of ki
 
 abbrev pub put_next : (Value → Result (List Value) ℕ) → BlockState → List Value
 put_next result block = put_of block.kind result (first_of (held_by block))
+
+-- Its jobs
+
+-- one more of the messages that it holds is worked on
+abbrev pub begins : BlockState → BlockState
+begins block = with_jobs one_more block
+
+-- the results that are there come out in order, up to one that is not, or is a fault
+abbrev pub yields_all : List Slot → BlockState → BlockState
+yields_all (Some (Ok values) ∷ slots) block = yields_all slots (keeps_results block.kind values block)
+yields_all (Some (Err number) ∷ slots) block = fails number block
+yields_all _ block = block
+
+-- nothing comes out behind a fault of its own
+abbrev pub yields_where : Bool → BlockState → BlockState
+yields_where true block = yields_all block.jobs.slots block
+yields_where false block = block
+
+-- the result of a message comes back, and what is in order comes out
+abbrev pub ends_job : ℕ → Result (List Value) ℕ → BlockState → BlockState
+ends_job ticket result block = yields_where (is_none block.fault) (with_jobs (brings ticket result) block)
+
+-- what it would put into its exits by that
+abbrev pub put_where : Bool → BlockKind → List Slot → List Value
+put_where true kind slots = put_by_kind kind (comes_out slots)
+put_where false kind slots = []
+
+abbrev pub put_by_job : ℕ → Result (List Value) ℕ → BlockState → List Value
+put_by_job ticket result block = put_where (is_none block.fault) block.kind (brings ticket result block.jobs).slots
+
+-- the message of a job
+abbrev pub job_message : ℕ → BlockState → Value
+job_message ticket block = get_or (held_by block) (place_of ticket block.jobs) (Int (pos 0))
 
 -- What it gives, and how it ends
 

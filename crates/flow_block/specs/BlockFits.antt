@@ -6,11 +6,19 @@ use Rattle.flow_outlet.specs.Fits.{weight_of}
 use Rattle.flow_outlet.specs.Outlet.{OutletState, fresh_outlet}
 use Rattle.flow_outlet.specs.declared.ends.LinkRule.{LinkRule}
 use Rattle.flow_block.specs.Block.{BlockState}
+use Rattle.flow_block.specs.Jobs.{fresh_jobs}
 
--- a block with these ports, which made nothing yet; messages are counted from 1 on
-abbrev pub fresh_block : BlockKind → List PortState → List LinkRule → BlockState
-fresh_block kind ports rules =
-    record { kind = kind; ports = ports; exits = fresh_outlet rules 1; recorded = []; fault = None; stopped = None }
+-- a block with these ports and so many lanes, which made nothing yet; messages are counted from 1 on
+abbrev pub fresh_block : BlockKind → ℕ → List PortState → List LinkRule → BlockState
+fresh_block kind lanes ports rules = record {
+  kind = kind;
+  ports = ports;
+  exits = fresh_outlet rules 1;
+  jobs = fresh_jobs lanes;
+  recorded = [];
+  fault = None;
+  stopped = None;
+}
 
 -- the weights of what was put and is not told as room
 abbrev pub weight_out : OutletState → ℕ

@@ -4,6 +4,9 @@ pub mod Causes
 pub mod Fresh
 pub mod Input
 pub mod InputKeeps
+pub mod Jobs
+pub mod JobsEnd
+pub mod JobsOut
 pub mod JournalFits
 pub mod NextMoves
 pub mod Node

@@ -14,7 +14,7 @@ use Rattle.flow_intake.specs.Port.{EndState, PortState, end_in, link_in, hand_in
 use Rattle.flow_intake.specs.Calls.{wants, turns_down, postpones, refuses, consumes, opens, closes, looks as port_looks, port_closes}
 use Rattle.flow_outlet.specs.Outlet.{OutletState, head_of, end_at, prepares, offers, denies, withdraws, ends_link, looks as exit_looks}
 use Rattle.flow_outlet.specs.declared.ends.OutEnd.{OutEnd}
-use Rattle.flow_block.specs.Block.{BlockState, port_at, with_port, makes, gives_out, stops_by}
+use Rattle.flow_block.specs.Block.{BlockState, port_at, with_port, begins, makes, gives_out, stops_by}
 
 pub record NodeState : Type 0 where
   pub block : BlockState
@@ -39,7 +39,8 @@ pub data NodeCall : Type 0 where
   -- the looks
   look_in : ℕ → ℕ → Phase → NodeCall
   look_out : ℕ → Phase → NodeCall
-  -- what it does by itself
+  -- what it does by itself: it begins to work on one more message, and what it makes of its first message comes out
+  begin : NodeCall
   make : NodeCall
   complete : ℕ → NodeCall
   fault : ℕ → NodeCall
@@ -91,6 +92,7 @@ module _ (result : Value → Result (List Value) ℕ) where
   after (NodeCall.end_link k how) node = with_exits (ends_link k how node.block.exits) node
   after (NodeCall.look_in p k phase) node = with_block (with_port p (port_looks k phase) node.block) node
   after (NodeCall.look_out k phase) node = with_exits (exit_looks k phase node.block.exits) node
+  after NodeCall.begin node = with_block (begins node.block) node
   after NodeCall.make node = with_block (makes result node.block) node
   after (NodeCall.complete p) node = marks (Complete p) (with_block (with_port p port_closes node.block) node)
   after (NodeCall.fault number) node = marks (Fault number) (with_block (stops_by (outcome.Faulted number) node.block) node)

@@ -1,5 +1,5 @@
 -- When each call of a node may be made, and that it keeps the node in order.
-use Rattle.std.specs.Prelude.{◌≡◌, ℕ, ◌<◌, Bool, true, false, List, length, Some, None, is_some, Result}
+use Rattle.std.specs.Prelude.{◌≡◌, ℕ, ◌<◌, Bool, true, false, List, length, Some, None, is_some, is_none, Result}
 use Rattle.std.specs.Bool.{OnTrue}
 use Rattle.flow_value.specs.declared.value.Value.{Value}
 use Rattle.flow_link.specs.declared.phase.LinkEnd.{LinkEnd}
@@ -9,6 +9,7 @@ use Rattle.flow_link.specs.declared.stage.TargetStage.{TargetStage}
 use Rattle.flow_link.specs.Facts.{facts_in}
 use Rattle.flow_link.specs.Layout.{Layout}
 use Rattle.flow_link.specs.LinkOk.{MayPutOff}
+use Rattle.flow_link.specs.Lists.{every}
 use Rattle.flow_link.specs.Stage.{source_looks}
 use Rattle.flow_link.specs.Trace.{took_at}
 use Rattle.flow_intake.specs.Port.{stage_at as port_stage, has_room, is_offer, is_hand}
@@ -19,8 +20,8 @@ use Rattle.flow_outlet.specs.Law.{is_put_off}
 use Rattle.flow_outlet.specs.Outlet.{end_at, stage_at, may_offer, may_give, is_wish, end_of, lacks_ids}
 use Rattle.flow_block.specs.Block.{port_at, put_next}
 use Rattle.flow_block.specs.Node.{NodeState, NodeCall, in_link_at, after}
-use Rattle.flow_block.specs.NodeLaw.{NodeLaw, ShapeLaw, PortsLaw, ExitsLaw, GaveLaw, MakesLaw, LoadLaw, MarksLaw, EndsLaw}
-use Rattle.flow_block.specs.Peeks.{is_pending, may_make, may_complete, next_fault, may_finish}
+use Rattle.flow_block.specs.NodeLaw.{NodeLaw, ShapeLaw, PortsLaw, ExitsLaw, GaveLaw, MakesLaw, JobsLaw, LoadLaw, MarksLaw, EndsLaw}
+use Rattle.flow_block.specs.Peeks.{is_pending, may_work, may_begin, may_complete, next_fault, may_finish}
 use Rattle.flow_block.specs.Planned.{block_makes}
 
 -- an end of a link into the node stands so
@@ -65,9 +66,10 @@ pub record MayLookOut (k : ℕ) (phase : Phase) (node : NodeState) : Type 0 wher
   pub place : k < length node.block.exits.ends
   pub put_off : OnTrue (is_put_off (source_looks (stage_at node.block.exits k) phase)) ((end_at node.block.exits k).rule.steady ≡ false)
 
--- there are ids left for what it makes
+-- there are ids left for what it makes, and no result that came back waits for it
 pub record MayMake (result : Value → Result (List Value) ℕ) (node : NodeState) : Type 0 where
-  pub waits : may_make node.block ≡ true
+  pub waits : may_work node.block ≡ true
+  pub all_out : every is_none node.block.jobs.slots ≡ true
   pub ids : lacks_ids (put_next result node.block) node.block.exits ≡ false
 
 pub record MayCompletePort (p : ℕ) (node : NodeState) : Type 0 where
@@ -95,6 +97,7 @@ module _ {W : Type 0} (layout : Layout W) (meaning : ℕ → Value → Result (L
   MayCall (NodeCall.end_link k how) node = MayEndLink k how node
   MayCall (NodeCall.look_in p k phase) node = InAt any_stage p k node
   MayCall (NodeCall.look_out k phase) node = MayLookOut k phase node
+  MayCall NodeCall.begin node = may_begin node.block ≡ true
   MayCall NodeCall.make node = MayMake (block_makes layout meaning b) node
   MayCall (NodeCall.complete p) node = MayCompletePort p node
   MayCall (NodeCall.fault number) node = next_fault node.block ≡ Some number
@@ -126,6 +129,9 @@ module _ (W : Type 0) where
 
   abbrev pub MakesKept : Type 0
   MakesKept = AtEachBlock (λ layout meaning b node. MakesLaw layout meaning b node.block node.journal)
+
+  abbrev pub JobsKept : Type 0
+  JobsKept = AtEachBlock (λ layout meaning b node. JobsLaw layout meaning b node.block node.journal)
 
   abbrev pub LoadKept : Type 0
   LoadKept = AtEachBlock (λ layout meaning b node. LoadLaw layout meaning b node.block node.journal)

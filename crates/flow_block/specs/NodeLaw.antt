@@ -1,5 +1,5 @@
 -- When a node is in order: its own data say so, whatever the other ends of its links do.
-use Rattle.std.specs.Prelude.{◌≡◌, ℕ, ◌+◌, ◌-◌, ◌==◌, ◌<◌, ltb, ◌⊎◌, Bool, true, false, cond, ◌&&◌, List, [], ◌∷◌, ◌++◌, length, map, Option, Some, None, is_some, Result, Err}
+use Rattle.std.specs.Prelude.{◌≡◌, ℕ, ◌+◌, ◌-◌, ◌==◌, ◌<◌, ◌≤◌, ltb, ◌⊎◌, Bool, true, false, cond, ◌&&◌, List, [], ◌∷◌, ◌++◌, length, map, Option, Some, None, is_some, Result, Err}
 use Rattle.flow_value.specs.When.{admits}
 use Rattle.flow_value.specs.declared.value.Value.{Value}
 use Rattle.flow_link.specs.declared.draft.BlockKind.{BlockKind}
@@ -21,6 +21,7 @@ use Rattle.flow_link.specs.Lists.{every, some, below}
 use Rattle.flow_link.specs.Plan.{block_in, port_count, has_work}
 use Rattle.flow_link.specs.Trace.{Run, took, took_at, gave, gave_over, has_complete, has_fault, has_ended, is_done}
 use Rattle.flow_link.specs.Worked.{WorkedInto}
+use Rattle.flow_link.specs.NotBuilt.{is_built_kind}
 use Rattle.flow_intake.specs.Port.{EndState, PortState, stage_at as port_stage}
 use Rattle.flow_intake.specs.PortLaw.{PortLaw, has_ended as has_port_ended}
 use Rattle.flow_intake.specs.Ended.{has_seen_completion, fault_seen}
@@ -29,9 +30,10 @@ use Rattle.flow_outlet.specs.Outlet.{OutletState, end_at, stage_at, is_at_rest}
 use Rattle.flow_outlet.specs.declared.ends.OutEnd.{OutEnd}
 use Rattle.flow_outlet.specs.declared.group.Group.{Group}
 use Rattle.flow_block.specs.Block.{BlockState, port_at, held_by}
+use Rattle.flow_block.specs.Jobs.{AreOf, is_front_back}
 use Rattle.flow_block.specs.Node.{NodeState}
 use Rattle.flow_block.specs.Peeks.{is_pending, holds_nothing}
-use Rattle.flow_block.specs.Planned.{is_built, links_to, links_from, rule_of, block_makes}
+use Rattle.flow_block.specs.Planned.{lanes_of, links_to, links_from, rule_of, block_makes}
 
 -- the source knows that this link is refused
 abbrev pub refuses_over : List OutEnd → ℕ → Bool
@@ -124,7 +126,7 @@ module _ {W : Type 0} (layout : Layout W) (meaning : ℕ → Value → Result (L
 
   -- the block is of a kind that is built, and has the ports and links that the plan gives it
   pub record ShapeLaw (block : BlockState) : Type 0 where
-    pub built : is_built block.kind ≡ true
+    pub built : is_built_kind block.kind ≡ true
     pub kind_is : block.kind ≡ (block_in layout.blocks b).kind
     pub port_count_is : length block.ports ≡ port_count (block_in layout.blocks b)
     pub ports : (p : ℕ) → p < length block.ports → PortAsPlanned p (port_at p block)
@@ -156,6 +158,18 @@ module _ {W : Type 0} (layout : Layout W) (meaning : ℕ → Value → Result (L
   pub record MakesLaw (block : BlockState) (journal : List Mark) : Type 0 where
     pub makes : MakesAs (block_makes layout meaning b) block.kind (took journal) (held_by block) (gave journal) block.exits.left block.recorded
     pub fault_is : (number : ℕ) → block.fault ≡ Some number → FaultsOn (block_makes layout meaning b) block.kind (held_by block) number
+
+  -- it works on the messages that it holds first, no more than it has lanes, and the results that came back are theirs
+  pub record JobsLaw (block : BlockState) (journal : List Mark) : Type 0 where
+    pub lanes_are : block.jobs.lanes ≡ lanes_of layout b
+    pub some_lane : 0 < block.jobs.lanes
+    pub within : length block.jobs.slots ≤ block.jobs.lanes
+    pub only_works : has_work block.kind ≡ false → block.jobs.slots ≡ []
+    pub results : AreOf (block_makes layout meaning b) (held_by block) block.jobs.slots
+    -- a result that came back in its turn came out, unless it is the fault of the block's own function
+    pub drained : block.fault ≡ None → is_front_back block.jobs.slots ≡ false
+    -- tickets count the messages
+    pub counted : has_work block.kind ≡ true → block.jobs.first + length (held_by block) ≡ length (took journal)
 
   -- a place is taken by each message that it holds or has not wholly given
   pub record LoadLaw (block : BlockState) (journal : List Mark) : Type 0 where
@@ -199,6 +213,7 @@ module _ {W : Type 0} (layout : Layout W) (meaning : ℕ → Value → Result (L
     pub exits : ExitsLaw node.block
     pub gave : GaveLaw node.block.exits node.journal
     pub makes : MakesLaw node.block node.journal
+    pub jobs : JobsLaw node.block node.journal
     pub load : LoadLaw node.block node.journal
     pub marks : MarksLaw node.journal
     pub ends : EndsLaw node.block node.journal

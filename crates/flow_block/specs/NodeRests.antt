@@ -15,13 +15,15 @@ use Rattle.flow_block.specs.NextMoves.{next_in, next_out}
 use Rattle.flow_block.specs.Node.{NodeState}
 use Rattle.flow_block.specs.NodeLaw.{NodeLaw}
 use Rattle.flow_block.specs.NodeSeen.{IsNodeOf}
-use Rattle.flow_block.specs.Peeks.{may_make, may_complete, next_fault, may_finish}
+use Rattle.flow_block.specs.Peeks.{may_make, may_begin, may_end, may_complete, next_fault, may_finish}
 
 -- nothing that it could do
 pub record HasNothingToDo (node : NodeState) : Type 0 where
   pub ins : (p k : ℕ) → p < length node.block.ports → k < length (port_at p node.block).ends → next_in p k node ≡ None
   pub outs : (k : ℕ) → k < length node.block.exits.ends → next_out k node ≡ None
   pub makes : may_make node.block ≡ false
+  pub begins : may_begin node.block ≡ false
+  pub ends : (ticket : ℕ) → may_end ticket node.block ≡ false
   pub completes : (p : ℕ) → p < length node.block.ports → may_complete p node.block ≡ false
   pub faults : next_fault node.block ≡ None
   pub finishes : may_finish node.block ≡ false

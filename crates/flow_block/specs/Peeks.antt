@@ -1,11 +1,13 @@
 -- What a block could do next by itself, told by its own data alone.
-use Rattle.std.specs.Prelude.{ℕ, ◌==◌, Bool, not, ◌&&◌, ◌||◌, cond, List, [], ◌∷◌, Option, None, is_some, is_none}
+use Rattle.std.specs.Prelude.{ℕ, ◌==◌, ltb, Bool, not, ◌&&◌, ◌||◌, cond, List, [], ◌∷◌, length, Option, None, is_some, is_none}
 use Rattle.flow_link.specs.Lists.{every}
+use Rattle.flow_link.specs.Plan.{has_work}
 use Rattle.flow_intake.specs.Port.{PortState, coming}
 use Rattle.flow_intake.specs.Ended.{first_some, has_seen_completion, fault_at_ends}
 use Rattle.flow_intake.specs.PortLaw.{has_ended}
 use Rattle.flow_outlet.specs.Outlet.{is_empty, is_at_rest, only_waits}
 use Rattle.flow_block.specs.Block.{BlockState, port_at, held_by}
+use Rattle.flow_block.specs.Jobs.{is_out}
 
 abbrev pub fault_at_ports : List PortState → Option ℕ
 fault_at_ports [] = None
@@ -24,9 +26,23 @@ all_ended ports = every (λ (port : PortState). has_ended port.refusing) ports
 abbrev pub is_pending : BlockState → Bool
 is_pending block = is_some block.fault || is_some (fault_at_ports block.ports)
 
--- a message waits to be worked on, and may be
+-- it goes on, and holds a message
+abbrev pub may_work : BlockState → Bool
+may_work block = is_none block.stopped && is_none block.fault && not (is_empty (held_by block))
+
+-- it may hand on the message that it holds first: a block without a function makes its outputs at once
 abbrev pub may_make : BlockState → Bool
-may_make block = is_none block.stopped && is_none block.fault && not (is_empty (held_by block))
+may_make block = may_work block && not (has_work block.kind)
+
+-- it may work on one more of the messages that it holds
+abbrev pub may_begin : BlockState → Bool
+may_begin block =
+    may_work block && has_work block.kind
+    && ltb (length block.jobs.slots) block.jobs.lanes && ltb (length block.jobs.slots) (length (held_by block))
+
+-- the result of this job may come back
+abbrev pub may_end : ℕ → BlockState → Bool
+may_end ticket block = is_none block.stopped && is_out ticket block.jobs
 
 -- the port is open, completion came over a link, and no message is on its way into the port
 abbrev pub may_complete : ℕ → BlockState → Bool

@@ -1,8 +1,6 @@
 -- What a layout says of one of its blocks: its ports, and its ends of the links that lead into it and out of it.
-use Rattle.std.specs.Prelude.{ℕ, Bool, true, false, List, [], map, filter, length, take, count_by, None, Result}
+use Rattle.std.specs.Prelude.{ℕ, Bool, List, [], map, filter, length, take, count_by, unwrap_or, None, Result}
 use Rattle.flow_value.specs.declared.value.Value.{Value}
-use Rattle.flow_link.specs.declared.draft.BlockKind.{BlockKind}
-use Rattle.flow_link.specs.declared.draft.BlockKind.TheVariants.{Buffer, Action, Transform, TransformMany}
 use Rattle.flow_link.specs.declared.plan.Link.{Link}
 use Rattle.flow_link.specs.Layout.{Layout}
 use Rattle.flow_link.specs.Lists.{below}
@@ -11,15 +9,8 @@ use Rattle.flow_link.specs.Plan.{block_in, link_in, begins_at, ends_at_port, por
 use Rattle.flow_intake.specs.Port.{PortState, fresh_port, fresh_end}
 use Rattle.flow_outlet.specs.declared.ends.LinkRule.{LinkRule}
 use Rattle.flow_outlet.specs.Outlet.{fresh_outlet}
+use Rattle.flow_block.specs.Jobs.{fresh_jobs}
 use Rattle.flow_block.specs.Node.{NodeState}
-
--- the kinds that are built
-abbrev pub is_built : BlockKind → Bool
-is_built Buffer = true
-is_built Action = true
-is_built Transform = true
-is_built TransformMany = true
-is_built _ = false
 
 module _ {W : Type 0} (layout : Layout W) where
   abbrev pub is_out_of : ℕ → ℕ → Bool
@@ -63,12 +54,17 @@ module _ {W : Type 0} (layout : Layout W) where
   abbrev pub port_of_plan : ℕ → ℕ → PortState
   port_of_plan b p = record (fresh_port (block_in layout.blocks b).capacity) { ends = map fresh_end (links_to b p) }
 
+  -- how many messages a block may work on at once
+  abbrev pub lanes_of : ℕ → ℕ
+  lanes_of b = unwrap_or (block_in layout.blocks b).lanes 1
+
   abbrev pub fresh_node : ℕ → NodeState
   fresh_node b = record {
     block = record {
       kind = (block_in layout.blocks b).kind;
       ports = map (port_of_plan b) (below (port_count (block_in layout.blocks b)));
       exits = fresh_outlet (map rule_of (links_from b)) 1;
+      jobs = fresh_jobs (lanes_of b);
       recorded = [];
       fault = None;
       stopped = None;

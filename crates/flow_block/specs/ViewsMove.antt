@@ -54,6 +54,7 @@ module _ (node new : NodeState) where
   MovesView (NodeCall.end_link k how) = out_view k new ≡ ending how (out_view k node)
   MovesView (NodeCall.look_in p k phase) = in_view p k new ≡ looking_in phase (in_view p k node)
   MovesView (NodeCall.look_out k phase) = out_view k new ≡ looking_out phase (out_view k node)
+  MovesView NodeCall.begin = Unit {0}
   MovesView NodeCall.make = Unit {0}
   MovesView (NodeCall.complete p) = Unit {0}
   MovesView (NodeCall.fault number) = Unit {0}

@@ -9,6 +9,7 @@ ghost use Rattle.flow_block.specs.BlockFits.{fresh_block};
 ghost use Rattle.flow_block.specs.JournalFits.{marks_due};
 ghost use Rattle.flow_block.specs.Peeks.{holds_nothing};
 
+use crate::jobs::Jobs;
 use crate::ports::ports_due;
 use flow_intake::Intake;
 use flow_link::{BlockKind, LinkId, Move, Outcome};
@@ -27,6 +28,7 @@ pub struct Block {
     pub(crate) kind: BlockKind,
     pub(crate) ports: Vec<Intake>,
     pub(crate) exits: Outlet,
+    pub(crate) jobs: Jobs,
     /// The results that an action keeps.
     pub(crate) recorded: Vec<Value>,
     /// The fault of its own function.
@@ -48,6 +50,7 @@ impl Model for Block {
       kind = b.kind;
       ports = b.ports.items;
       exits = b.exits;
+      jobs = b.jobs;
       recorded = b.recorded.items;
       fault = b.fault;
       stopped = b.stopped;
@@ -57,16 +60,17 @@ impl Model for Block {
 }
 
 impl Block {
-    /// A block of this kind with these ports, at which nothing waits, and with these links out of it. Its messages are
-    /// counted from 1 on. Where there is no memory for it, its parts come back.
+    /// A block of this kind with so many lanes, with these ports, at which nothing waits, and with these links out of it.
+    /// Its messages are counted from 1 on. Where there is no memory for it, its parts come back.
     pub fn new(
         alloc: Global,
         kind: BlockKind,
+        lanes: usize,
         ports: Vec<Intake>,
         rules: Vec<LinkRule>,
     ) -> Result<Block, (Vec<Intake>, Vec<LinkRule>)>
         requires { holds_nothing ports.items ≡ true }
-        ensures { MatchResult result (λ block. block ≡ fresh_block kind ports.items rules.items)
+        ensures { MatchResult result (λ block. block ≡ fresh_block kind lanes ports.items rules.items)
             (λ back. (back.0 ≡ ports) × (back.1 ≡ rules)) }
     {
         let Some(first) = MessageHeader::new(1) else {
@@ -77,6 +81,7 @@ impl Block {
                 kind,
                 ports,
                 exits,
+                jobs: Jobs::new(alloc, lanes),
                 recorded: Vec::new(alloc),
                 fault: None,
                 stopped: None,

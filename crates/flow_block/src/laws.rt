@@ -2,6 +2,7 @@
 ghost use Rattle.flow_block.specs.Causes.{NextMovesHaveCauses};
 ghost use Rattle.flow_block.specs.Fresh.{FreshInOrder};
 ghost use Rattle.flow_block.specs.InputKeeps.{InputsKeep, InputsAreParts};
+ghost use Rattle.flow_block.specs.JobsEnd.{JobsEndWell};
 ghost use Rattle.flow_block.specs.NextMoves.{NextMovesMay};
 ghost use Rattle.flow_block.specs.NodeKeeps.{NodesKept};
 ghost use Rattle.flow_block.specs.NodeRests.{NodesAreStill, NodesRest};
@@ -17,6 +18,12 @@ pub fn fresh_blocks_are_in_order<W>()
 /// predicates, limits and capacities.
 pub fn calls_keep_blocks_in_order<W>()
     ensures { NodesKept W }
+{}
+
+/// A job that ends keeps its block in order, whatever its place: its result waits for those before it, or comes out with
+/// those behind it that are there. No end of a link learns anything by that.
+pub fn jobs_that_end_keep_blocks_in_order<W>()
+    ensures { JobsEndWell W }
 {}
 
 /// What a block would do next at an end of a link is a call that it may make.

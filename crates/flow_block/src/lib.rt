@@ -8,6 +8,8 @@
 //! `put_out`   both transforms  its results are there to be given
 //! `record`    action           its results are kept
 //! `fail`      all with work    it stays, and the ports take no more
+//! `begin`     all with work    it stays, and is worked on beside others
+//! `end_job`   all with work    its results come out in its turn, or its fault stands
 //!
 //! Room at the ports comes back when what was made of a message is wholly given. A [`Node`] is a block with its
 //! journal, and an [`Input`] is the values that are posted to a block from outside.
@@ -16,8 +18,10 @@
 //! them. A call that takes memory may be refused, and then nothing has changed; all other calls take none.
 #![tactic(auto)]
 
+mod answer;
 mod block;
 mod input;
+mod jobs;
 mod laws;
 mod moves;
 mod node;
@@ -27,13 +31,15 @@ mod peeks;
 mod planned;
 mod ports;
 mod traits;
+mod work;
 
 pub use block::Block;
 pub use input::Input;
+pub use jobs::Answer;
 pub use laws::{
     blocks_in_order_are_lawful, blocks_with_nothing_to_do_rest, calls_keep_blocks_in_order,
     calls_keep_inputs_in_order, calls_move_views, fresh_blocks_are_in_order, inputs_are_parts,
-    next_moves_have_causes, next_moves_may_be_made,
+    jobs_that_end_keep_blocks_in_order, next_moves_have_causes, next_moves_may_be_made,
 };
 pub use node::Node;
 pub use planned::{Route, port_of, ports_of, routes_of, rules_from};

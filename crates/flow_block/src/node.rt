@@ -2,9 +2,10 @@
 //!
 //! Room for the mark of a message is set aside with the room for the message, so that the calls that move it take no
 //! memory.
-ghost use Rattle.std.specs.Prelude.{◌≡◌, ◌<◌, ◌≤◌, ◌+◌, ◌^◌, [], true, length, is_some, take, Some, Err, OnOk, OnErr};
-ghost use Rattle.std.specs.Prelude.{◌↔◌, IfErr, vec_len, vec_capacity};
+ghost use Rattle.std.specs.Prelude.{◌≡◌, ◌<◌, ◌≤◌, ◌+◌, ◌^◌, [], true, length, is_some, take, Some, None, Err, OnOk, OnErr};
+ghost use Rattle.std.specs.Prelude.{◌↔◌, false, IfErr, vec_len, vec_capacity};
 ghost use Rattle.flow_link.specs.LinkOk.{HasRoom};
+ghost use Rattle.flow_link.specs.Plan.{has_work};
 ghost use Rattle.flow_link.specs.declared.trace.Mark.TheVariants.{Complete, Fault, Done};
 ghost use Rattle.flow_link.specs.declared.trace.Outcome.TheVariants as outcome;
 ghost use Rattle.flow_intake.specs.Port.{stage_at as port_stage, is_offer, is_hand, has_room};
@@ -15,11 +16,14 @@ ghost use Rattle.flow_outlet.specs.End.{is_waiting, is_free};
 ghost use Rattle.flow_outlet.specs.Outlet.{end_at, stage_at, may_offer, may_give, is_wish, prepares, offers, denies};
 ghost use Rattle.flow_outlet.specs.Outlet.{withdraws, ends_link, looks, head_of, lacks_ids};
 ghost use Rattle.flow_outlet.specs.declared.fault.OutletFault.TheVariants.{Ids};
-ghost use Rattle.flow_block.specs.Block.{port_at, with_port, held_by, records, puts_out, fails, stops_by};
+ghost use Rattle.flow_block.specs.Block.{port_at, with_port, with_jobs, begins, held_by, records, puts_out, ends_job};
+ghost use Rattle.flow_block.specs.Block.{put_by_job, fails, stops_by};
+ghost use Rattle.flow_block.specs.Jobs.{has_ticket, works_off, is_out, is_front_back, faults_at_once};
 ghost use Rattle.flow_block.specs.JournalFits.{marks_due};
 ghost use Rattle.flow_block.specs.Node.{with_block, with_exits, marks, takes_in, gives_from, hand_at};
 
 use crate::block::Block;
+use crate::jobs::Answer;
 use flow_link::{LinkEnd, Mark, Outcome, Phase};
 use flow_outlet::OutletFault;
 use flow_value::{MessageHeader, Parcel, Value};
@@ -274,7 +278,10 @@ impl Node {
     pub fn put_out(&mut self, values: Vec<Value>) -> Result<(), (Vec<Value>, OutletFault)>
         requires alone { length self.old.block.ports ≡ 1 }
         requires waits { 0 < length (held_by self.old.block) }
-        ensures done { OnOk result (self.new ≡ with_block (puts_out values.items self.old.block) self.old) }
+        requires alone_at_work { self.old.block.jobs.slots ≡ [] }
+        requires ticket { has_ticket self.old.block.jobs ≡ true }
+        ensures done { OnOk result
+            (self.new ≡ with_block (with_jobs works_off (puts_out values.items self.old.block)) self.old) }
         ensures kept { OnErr result (self.new ≡ self.old) }
         ensures back { IfErr result (λ refused. refused.0 ≡ values) }
         ensures ids { (result ≡ Err (values, Ids)) ↔ (lacks_ids values.items self.old.block.exits ≡ true) }
@@ -288,11 +295,42 @@ impl Node {
     pub fn record(&mut self, values: Vec<Value>) -> Result<(), Vec<Value>>
         requires alone { length self.old.block.ports ≡ 1 }
         requires waits { 0 < length (held_by self.old.block) }
-        ensures done { OnOk result (self.new ≡ with_block (records values.items self.old.block) self.old) }
+        requires alone_at_work { self.old.block.jobs.slots ≡ [] }
+        requires ticket { has_ticket self.old.block.jobs ≡ true }
+        ensures done { OnOk result
+            (self.new ≡ with_block (with_jobs works_off (records values.items self.old.block)) self.old) }
         ensures kept { OnErr result (self.new ≡ self.old) }
         ensures back { IfErr result (λ back. back.items ≡ values.items) }
     {
         self.block.record(values)?;
+        Ok(())
+    }
+
+    /// Works on one more of the messages that the block holds. It is refused where memory is out, and where tickets are
+    /// used up, after 2^64 - 1 of them.
+    pub fn begin(&mut self) -> Result<(), AllocError>
+        ensures done { OnOk result (self.new ≡ with_block (begins self.old.block) self.old) }
+        ensures kept { OnErr result (self.new ≡ self.old) }
+    {
+        self.block.begin()?;
+        Ok(())
+    }
+
+    /// The result of a job comes back, and what is in order comes out, up to a fault. Where message ids are used up or
+    /// there is no memory for what comes out, nothing has changed, and the result comes back.
+    pub fn end_job(&mut self, ticket: u64, answer: Answer) -> Result<(), (Answer, OutletFault)>
+        requires alone { length self.old.block.ports ≡ 1 }
+        requires works { has_work self.old.block.kind ≡ true }
+        requires out { is_out ticket self.old.block.jobs ≡ true }
+        requires held { length self.old.block.jobs.slots ≤ length (held_by self.old.block) }
+        requires drained { self.old.block.fault ≡ None → is_front_back self.old.block.jobs.slots ≡ false }
+        ensures done { OnOk result (self.new ≡ with_block (ends_job ticket answer self.old.block) self.old) }
+        ensures kept { OnErr result (self.new ≡ self.old) }
+        ensures back { IfErr result (λ refused. refused.0 ≡ answer) }
+        ensures ids { (result ≡ Err (answer, Ids)) ↔
+            (lacks_ids (put_by_job ticket answer self.old.block) self.old.block.exits ≡ true) }
+    {
+        self.block.end_job(ticket, answer)?;
         Ok(())
     }
 
@@ -301,6 +339,18 @@ impl Node {
         ensures { self.new ≡ with_block (fails number self.old.block) self.old }
     {
         self.block.fail(number);
+    }
+
+    /// The block's function faults on the message that it holds first, on which it worked at once. It is refused where
+    /// there is no memory for that, and where tickets are used up.
+    pub fn fail_at_once(&mut self, number: u32) -> Result<(), AllocError>
+        requires { self.old.block.jobs.slots ≡ [] }
+        ensures done { OnOk result (self.new ≡ with_block
+            (fails number (with_jobs (faults_at_once number) self.old.block)) self.old) }
+        ensures kept { OnErr result (self.new ≡ self.old) }
+    {
+        self.block.fail_at_once(number)?;
+        Ok(())
     }
 
     /// A port takes no message any more, and the journal says so. Where there is no memory for the mark, nothing has

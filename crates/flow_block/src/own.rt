@@ -1,15 +1,17 @@
 //! What a block does by itself: it works on the message that waits longest, and it ends.
-ghost use Rattle.std.specs.Prelude.{◌≡◌, ◌<◌, ◌↔◌, true, length, take, Err, OnOk, OnErr, IfErr};
+ghost use Rattle.std.specs.Prelude.{◌≡◌, ◌<◌, ◌↔◌, true, [], length, take, Err, OnOk, OnErr, IfErr};
 ghost use Rattle.flow_intake.specs.Calls.{gives_room, port_closes, takes_next};
 ghost use Rattle.flow_outlet.specs.Outlet.{lacks_ids};
 ghost use Rattle.flow_outlet.specs.declared.fault.OutletFault.TheVariants.{Ids};
-ghost use Rattle.flow_block.specs.Block.{with_port, held_by, records, puts_out, fails, stops_by};
+ghost use Rattle.flow_block.specs.Block.{with_port, with_jobs, begins, held_by, records, puts_out, fails, stops_by};
+ghost use Rattle.flow_block.specs.Jobs.{has_ticket, works_off};
 
 use crate::block::Block;
 use crate::ports::{close_ports, fail_ports, hand_first, unit_weight};
 use flow_link::Outcome;
 use flow_outlet::OutletFault;
 use flow_value::Value;
+use std::alloc::AllocError;
 
 // What it makes of the message that waits longest.
 impl Block {
@@ -31,18 +33,22 @@ impl Block {
     pub fn put_out(&mut self, values: Vec<Value>) -> Result<(), (Vec<Value>, OutletFault)>
         requires alone { length self.old.ports ≡ 1 }
         requires waits { 0 < length (held_by self.old) }
-        ensures done { OnOk result (self.new ≡ puts_out values.items self.old) }
+        requires alone_at_work { self.old.jobs.slots ≡ [] }
+        requires ticket { has_ticket self.old.jobs ≡ true }
+        ensures done { OnOk result (self.new ≡ with_jobs works_off (puts_out values.items self.old)) }
         ensures kept { OnErr result (self.new ≡ self.old) }
         ensures back { IfErr result (λ refused. refused.0 ≡ values) }
         ensures ids { (result ≡ Err (values, Ids)) ↔ (lacks_ids values.items self.old.exits ≡ true) }
     {
         if values.is_empty() {
             self.drop_first();
+            self.jobs.work_off();
             return Ok(());
         }
         let weight = unit_weight(&self.ports[0]);
         self.exits.put(values, weight)?;
         let _value = self.ports[0].take_next();
+        self.jobs.work_off();
         Ok(())
     }
 
@@ -51,7 +57,9 @@ impl Block {
     pub fn record(&mut self, values: Vec<Value>) -> Result<(), Vec<Value>>
         requires alone { length self.old.ports ≡ 1 }
         requires waits { 0 < length (held_by self.old) }
-        ensures done { OnOk result (self.new ≡ records values.items self.old) }
+        requires alone_at_work { self.old.jobs.slots ≡ [] }
+        requires ticket { has_ticket self.old.jobs ≡ true }
+        ensures done { OnOk result (self.new ≡ with_jobs works_off (records values.items self.old)) }
         ensures kept { OnErr result (self.new ≡ self.old) }
         ensures back { IfErr result (λ back. back.items ≡ values.items) }
     {
@@ -60,11 +68,12 @@ impl Block {
             return Err(values);
         }
         self.drop_first();
+        self.jobs.work_off();
         Ok(())
     }
 
     /// The message is done with, and its room comes back.
-    fn drop_first(&mut self)
+    pub(crate) fn drop_first(&mut self)
         requires alone { length self.old.ports ≡ 1 }
         requires waits { 0 < length (held_by self.old) }
         ensures { self.new ≡ with_port 0 (λ port. gives_room 1 (takes_next port)) self.old }
@@ -72,6 +81,15 @@ impl Block {
         let port = &mut self.ports[0];
         let _value = port.take_next();
         port.give_room(1);
+    }
+
+    /// Works on one more of the messages that it holds. It is refused where memory is out, and where tickets are used up,
+    /// after 2^64 - 1 of them.
+    pub fn begin(&mut self) -> Result<(), AllocError>
+        ensures done { OnOk result (self.new ≡ begins self.old) }
+        ensures kept { OnErr result (self.new ≡ self.old) }
+    {
+        self.jobs.begin()
     }
 
     /// Its function faults on the message, with this number: from now on its ports take no message any more.

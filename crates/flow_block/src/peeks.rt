@@ -1,24 +1,63 @@
 //! What a block could do next by itself. Each tells it by the ports, and by counts that they and the exits keep.
-ghost use Rattle.std.specs.Prelude.{◌≡◌, ◌<◌, ◌==◌, not, length};
+ghost use Rattle.std.specs.Prelude.{◌≡◌, ℕ, ◌<◌, ◌==◌, true, false, not, length, IfSome};
+ghost use Rattle.std.specs.Option.{IfNone};
 ghost use Rattle.std.specs.List.{list_all};
 ghost use Rattle.flow_intake.specs.Port.{PortState, coming};
 ghost use Rattle.flow_intake.specs.PortLaw.{has_ended};
+ghost use Rattle.flow_link.specs.Plan.{has_work};
 ghost use Rattle.flow_outlet.specs.End.{is_waiting};
 ghost use Rattle.flow_outlet.specs.Outlet.{out_move, stage_at, is_empty};
 ghost use Rattle.flow_block.specs.Block.{port_at, port_in};
-ghost use Rattle.flow_block.specs.Peeks.{may_make, may_complete, next_fault, is_held_up, may_finish, could_stop};
+ghost use Rattle.flow_block.specs.Peeks.{may_work, may_make, may_begin, may_end, may_complete, next_fault, is_held_up, may_finish, could_stop};
 ghost use Rattle.flow_block.specs.Peeks.{fault_cause, fault_at_ports, is_pending};
 
 use crate::block::Block;
 use flow_intake::Intake;
-use flow_link::Move;
+use flow_link::{BlockKind, Move};
 
 impl Block {
-    /// Whether a message waits to be worked on, and may be.
+    /// Whether it goes on, and holds a message.
+    fn may_work(&self) -> bool
+        ensures { result ≡ may_work self.now }
+    {
+        self.stopped.is_none() && self.fault.is_none() && holds_first(&self.ports)
+    }
+
+    /// Whether it would hand on the message that it holds first: it has no function.
     pub fn may_make(&self) -> bool
         ensures { result ≡ may_make self.now }
     {
-        self.stopped.is_none() && self.fault.is_none() && holds_first(&self.ports)
+        self.may_work() && !has_work(self.kind)
+    }
+
+    /// Whether it may work on one more of the messages that it holds.
+    pub fn may_begin(&self) -> bool
+        requires { 0 < length self.now.ports }
+        ensures { result ≡ may_begin self.now }
+    {
+        let begun = self.jobs.len();
+        self.may_work()
+            && has_work(self.kind)
+            && begun < self.jobs.lanes()
+            && begun < self.ports[0].waiting().len()
+    }
+
+    /// Whether the result of the job with this ticket may come back.
+    pub fn may_end(&self, ticket: u64) -> bool
+        ensures { result ≡ may_end ticket self.now }
+    {
+        self.stopped.is_none() && self.jobs.is_out(ticket)
+    }
+
+    /// The job whose result may come back: the oldest of those that are out.
+    pub fn next_end(&self) -> Option<u64>
+        ensures some { IfSome result (λ ticket. may_end ticket self.now ≡ true) }
+        ensures none { IfNone result ((ticket : ℕ) → may_end ticket self.now ≡ false) }
+    {
+        if self.stopped.is_some() {
+            return None;
+        }
+        self.find_out()
     }
 
     /// Whether this port completes now: completion came over a link into it, and no message is on its way into it.
@@ -112,6 +151,16 @@ impl Block {
             None => None,
         }
     }
+}
+
+/// Whether blocks of this kind have a function.
+fn has_work(kind: BlockKind) -> bool
+    ensures { result ≡ has_work kind }
+{
+    matches!(
+        kind,
+        BlockKind::Action | BlockKind::Transform | BlockKind::TransformMany
+    )
 }
 
 /// Whether a message waits at the first port.

@@ -14,10 +14,12 @@ use flow_text::write_bytes;
 use std::alloc::Global;
 use std::fs::Files;
 use std::io::{BufReader, BufWriter, ErrorKind, Input, Read, Write};
+use std::sync::Wait;
+use std::thread::Threads;
 use std::{fs, io};
 
 /// Runs the network in this file over the records in standard input.
-pub fn run_file<R: Files + Input + Print + AllocGlobal>(
+pub fn run_file<R: Files + Input + Print + AllocGlobal + Threads + Wait + Sync>(
     rt: &R,
     path: &str,
     bounds: Bounds,
@@ -28,11 +30,12 @@ pub fn run_file<R: Files + Input + Print + AllocGlobal>(
 {
     let text = fs::read(rt, path).map_err(|error| unread(&error))?;
     let records = BufReader::new(rt.alloc(), rt.reader()).map_err(|error| unread(&error))?;
-    run_buffered(rt.alloc(), &text, records, io::writer(rt), bounds)
+    run_buffered(rt, rt.alloc(), &text, records, io::writer(rt), bounds)
 }
 
 /// Runs a network over records, and writes its report through a buffer.
-fn run_buffered<R: Read + Drop, W: Write + Drop>(
+fn run_buffered<C: Threads + Wait + Sync, R: Read + Drop, W: Write + Drop>(
+    rt: &C,
     alloc: Global,
     text: &[u8],
     records: R,
@@ -47,7 +50,7 @@ fn run_buffered<R: Read + Drop, W: Write + Drop>(
         return Err(RunRefusal::Memory);
     };
     let Bounds { workers, limit } = bounds;
-    let ran = run(alloc, text, records, &mut buffer, workers, limit)?;
+    let ran = run(rt, alloc, text, records, &mut buffer, workers, limit)?;
     match buffer.into_inner() {
         Ok(_) => Ok(ran),
         Err(_) => Err(RunRefusal::Text(TextFault::Write)),
@@ -55,7 +58,8 @@ fn run_buffered<R: Read + Drop, W: Write + Drop>(
 }
 
 /// Runs the network at the beginning of what is read over the records behind it.
-pub fn run_input<R: Read + Drop, W: Write>(
+pub fn run_input<C: Threads + Wait + Sync, R: Read + Drop, W: Write>(
+    rt: &C,
     alloc: Global,
     reader: R,
     writer: &mut W,
@@ -68,11 +72,12 @@ pub fn run_input<R: Read + Drop, W: Write>(
 {
     let text = whole_input(alloc, reader)?;
     let (network, records) = split_input(&text);
-    run_whole(alloc, network, records, writer, DEFAULT_BOUNDS)
+    run_whole(rt, alloc, network, records, writer, DEFAULT_BOUNDS)
 }
 
 /// Runs a network over records, and writes its report once all of it is there.
-fn run_whole<W: Write>(
+fn run_whole<C: Threads + Wait + Sync, W: Write>(
+    rt: &C,
     alloc: Global,
     text: &[u8],
     records: &[u8],
@@ -87,7 +92,7 @@ fn run_whole<W: Write>(
 {
     let mut report: Vec<u8> = Vec::new(alloc);
     let Bounds { workers, limit } = bounds;
-    let ran = match run(alloc, text, records, &mut report, workers, limit) {
+    let ran = match run(rt, alloc, text, records, &mut report, workers, limit) {
         Ok(ran) => ran,
         Err(refusal) => return Err(in_memory(refusal)),
     };

@@ -17,6 +17,8 @@ use std::env::Env;
 use std::fs::Files;
 use std::io::Input;
 use std::process::ExitCode;
+use std::sync::Wait;
+use std::thread::Threads;
 use std::{env, io};
 
 fn main(rt: HostRuntime) -> ExitCode {
@@ -27,7 +29,9 @@ fn main(rt: HostRuntime) -> ExitCode {
 }
 
 /// Does what the arguments of the process ask for.
-fn perform<R: Env + Files + Input + Print + AllocGlobal>(rt: &R) -> Conclusion {
+fn perform<R: Env + Files + Input + Print + AllocGlobal + Threads + Wait + Sync>(
+    rt: &R,
+) -> Conclusion {
     match arguments(rt) {
         Ok(arguments) => answer(rt, &arguments),
         Err(conclusion) => conclusion,
@@ -54,12 +58,16 @@ fn unread_arguments(error: &io::Error) -> Conclusion {
 }
 
 /// Does what these arguments ask for.
-fn answer<R: Files + Input + Print + AllocGlobal>(rt: &R, arguments: &[String]) -> Conclusion
+fn answer<R: Files + Input + Print + AllocGlobal + Threads + Wait + Sync>(
+    rt: &R,
+    arguments: &[String],
+) -> Conclusion
     ensures { (result ≡ Conclusion.Usage) ↔ Asks arguments.now None }
 {
     match read_request(arguments) {
         Some(Request::Input) => {
-            Conclusion::Run(run_input(rt.alloc(), rt.reader(), &mut io::writer(rt)))
+            let mut writer = io::writer(rt);
+            Conclusion::Run(run_input(rt, rt.alloc(), rt.reader(), &mut writer))
         }
         Some(Request::File { path, bounds }) => Conclusion::Run(run_file(rt, path, bounds)),
         None => Conclusion::Usage,

@@ -1,6 +1,7 @@
 -- Each event that may happen keeps a network in order.
-use Rattle.std.proofs.Common.{◌≡◌, ℕ, ◌<◌, Bool, true, false, List, length, set, Option, Some, None, is_some}
+use Rattle.std.proofs.Common.{◌≡◌, ℕ, ◌<◌, Bool, true, false, not, List, length, set, Option, Some, None, is_some, is_none}
 use Rattle.std.proofs.Common.{option_map, Result, refl, ap, sym, ◌∙◌, subst}
+use Rattle.std.proofs.lemmas.Bool.{and_parts, not-true}
 use Rattle.flow_value.specs.declared.value.Value.{Value}
 use Rattle.flow_link.specs.declared.phase.Move.{Move}
 use Rattle.flow_link.specs.declared.phase.Phase.{Phase}
@@ -11,20 +12,23 @@ use Rattle.flow_link.specs.declared.plan.LinkTarget.TheVariants.{Port, Exit}
 use Rattle.flow_link.specs.Facts.{facts_in}
 use Rattle.flow_link.specs.Layout.{Layout}
 use Rattle.flow_link.specs.LinkOk.{LinkOk}
+use Rattle.flow_link.specs.Lists.{every}
 use Rattle.flow_link.specs.Looks.{looking_in, looking_out}
 use Rattle.flow_link.specs.Phase.{phase_after}
-use Rattle.flow_link.specs.Plan.{link_in}
+use Rattle.flow_link.specs.Plan.{link_in, has_work}
 use Rattle.flow_link.specs.Views.{SourceView, TargetView}
 use Rattle.flow_link.proofs.LooksKeepOrder.{looks_keep}
 use Rattle.flow_block.specs.Input.{input_view}
 use Rattle.flow_block.specs.InputKeeps.{InputsKeep}
+use Rattle.flow_block.specs.Jobs.{Slot}
+use Rattle.flow_block.specs.JobsEnd.{JobsEndWell, after_job}
 use Rattle.flow_block.specs.NextMoves.{NextMovesMay}
-use Rattle.flow_block.specs.Node.{NodeCall, in_view, out_view}
+use Rattle.flow_block.specs.Node.{NodeState, NodeCall, in_view, out_view}
 use Rattle.flow_block.specs.NodeKeeps.{NodesKept, MayCall}
-use Rattle.flow_block.specs.Peeks.{next_fault}
-use Rattle.flow_block.specs.Planned.{in_place, out_place}
+use Rattle.flow_block.specs.Peeks.{may_work, may_make, may_end, next_fault}
+use Rattle.flow_block.specs.Planned.{in_place, out_place, block_makes}
 use Rattle.flow_block.specs.ViewsMove.{CallsMoveViews, IsAboutIn, IsAboutOut}
-use Rattle.flow_core.specs.Events.{NetEvent, MayHappen, LinkMay, is_of_source, node_after, out_call, in_call}
+use Rattle.flow_core.specs.Events.{NetEvent, MayHappen, HasIds, LinkMay, is_of_source, node_after, out_call, in_call}
 use Rattle.flow_core.specs.Events.{input_call, input_after, with_node, with_line, source_peek, target_peek, peek_by}
 use Rattle.flow_core.specs.Events.{value_from, slot_after, source_moves, target_moves, source_sees, target_sees}
 use Rattle.flow_core.specs.Events.{line_after, moved_by, after_move, after}
@@ -32,7 +36,7 @@ use Rattle.flow_core.specs.Keeps.{IsRun, NetKeeps}
 use Rattle.flow_core.specs.OneMove.{SourceMoved, TargetMoved, BlocksMoveWell, InputsMoveWell, TargetsMoveWell}
 use Rattle.flow_core.specs.State.{NetState, LineState, node_at, line_at, input_at}
 use Rattle.flow_core.specs.Statements.{EventsKeep}
-use Rattle.flow_core.proofs.PartsChange.{PartsInOrder, given_at, taken_at, given_as, taken_as, parts_in_order}
+use Rattle.flow_core.proofs.PartsChange.{PartsInOrder, NodeSteps, given_at, taken_at, given_as, taken_as, parts_in_order}
 use Rattle.flow_core.proofs.PartsChange.{node_changes, given_stays, taken_stays, line_changes}
 use Rattle.flow_core.proofs.EndsStep.{SourceSteps, TargetSteps, out_steps, in_steps, call_steps, input_steps}
 use Rattle.flow_core.proofs.EndsStep.{block_gives, block_takes, input_gives}
@@ -40,7 +44,7 @@ use Rattle.flow_core.proofs.LinesKeep.{net_keeps, keeps_with, line_stays}
 use Rattle.flow_core.proofs.EndsLook.{target_looks, source_looks_out}
 use Rattle.flow_core.proofs.PlacesOfLinks.{entry_there, exit_there, port_there}
 
-module _ {W : Type 0} (kept : NodesKept W) (views : CallsMoveViews W) (next_may : NextMovesMay W) (inputs : InputsKeep)
+module _ {W : Type 0} (kept : NodesKept W) (jobs : JobsEndWell W) (views : CallsMoveViews W) (next_may : NextMovesMay W) (inputs : InputsKeep)
     (blocks_move : BlocksMoveWell W) (inputs_move : InputsMoveWell W) (targets_move : TargetsMoveWell W)
     (layout : Layout W) (meaning : ℕ → Value → Result (List Value) ℕ) (run : IsRun layout)
     (net : NetState) (keeps : NetKeeps layout meaning net) where
@@ -197,20 +201,55 @@ module _ {W : Type 0} (kept : NodesKept W) (views : CallsMoveViews W) (next_may 
 
   -- What a block does by itself
   module _ (b : ℕ) (low : b < length layout.blocks) where
-    call_keeps : (call : NodeCall) → MayCall layout meaning b call (node_at net b)
-        → ((q j : ℕ) → IsAboutIn q j call → ⊥) → ((j : ℕ) → IsAboutOut j call → ⊥)
-        → NetKeeps layout meaning (with_node b (node_after layout meaning b (Some call)) net)
-    call_keeps call may about_in about_out =
-        let In : ℕ → ℕ → Type 0 = λ p j. IsAboutIn p j call in
-        let Out : ℕ → Type 0 = λ j. IsAboutOut j call in
-        let change = node_after layout meaning b (Some call) in
-        let steps = call_steps layout meaning kept views b (node_at net b) (keeps.nodes b low) call may in
+    change_keeps : (In : ℕ → ℕ → Type 0) (Out : ℕ → Type 0) (change : NodeState → NodeState)
+        → NodeSteps layout meaning b In Out (node_at net b) (change (node_at net b))
+        → ((q j : ℕ) → In q j → ⊥) → ((j : ℕ) → Out j → ⊥)
+        → NetKeeps layout meaning (with_node b change net)
+    change_keeps In Out change steps about_in about_out =
         let new = with_node b change net in
         let parts_then = node_changes layout meaning run net parts b low In Out change steps in
         keeps_with layout meaning net keeps new parts_then (λ k there.
         line_stays layout meaning net keeps new parts_then k there refl
         (given_stays layout meaning run net parts b low In Out change steps k there (λ leads. about_out _))
         (taken_stays layout meaning run net parts b low In Out change steps k there (λ p leads. about_in p _)))
+
+    call_keeps : (call : NodeCall) → MayCall layout meaning b call (node_at net b)
+        → ((q j : ℕ) → IsAboutIn q j call → ⊥) → ((j : ℕ) → IsAboutOut j call → ⊥)
+        → NetKeeps layout meaning (with_node b (node_after layout meaning b (Some call)) net)
+    call_keeps call may about_in about_out =
+        change_keeps (λ p j. IsAboutIn p j call) (λ j. IsAboutOut j call) (node_after layout meaning b (Some call))
+        (call_steps layout meaning kept views b (node_at net b) (keeps.nodes b low) call may) about_in about_out
+
+    -- a message is handed on
+    make_keeps : may_make (node_at net b).block ≡ true
+        → HasIds layout meaning (NetEvent.make b) net
+        → NetKeeps layout meaning (with_node b (node_after layout meaning b (Some NodeCall.make)) net)
+    make_keeps would ids =
+        let block = (node_at net b).block in
+        let both = and_parts (may_work block) (not (has_work block.kind)) would in
+        let none = (keeps.nodes b low).jobs.only_works (not-true (has_work block.kind) both.1) in
+        call_keeps NodeCall.make
+        (record {
+          waits = both.0;
+          all_out = ap (λ (slots : List Slot). every is_none slots) none;
+          ids = ids;
+        })
+        (λ q j about. about) (λ j about. about)
+
+    -- a job ends
+    job_keeps : (ticket : ℕ) → may_end ticket (node_at net b).block ≡ true
+        → HasIds layout meaning (NetEvent.end_job b ticket) net
+        → NetKeeps layout meaning (with_node b (after_job (block_makes layout meaning b) ticket) net)
+    job_keeps ticket out ids =
+        let well =
+        jobs layout meaning b (node_at net b) ticket (keeps.nodes b low) (record { out = out; ids = ids }) in
+        change_keeps (λ p j. ⊥) (λ j. ⊥) (after_job (block_makes layout meaning b) ticket)
+        (record {
+          law = well.law;
+          ins = λ p k small near apart. well.views.ins p k small near;
+          outs = λ k near apart. well.views.outs k near;
+        })
+        (λ q j about. about) (λ j about. about)
 
     fault_keeps : (found : Option ℕ) → next_fault (node_at net b).block ≡ found → is_some found ≡ true
         → NetKeeps layout meaning (with_node b (node_after layout meaning b (option_map NodeCall.fault found)) net)
@@ -222,8 +261,10 @@ module _ {W : Type 0} (kept : NodesKept W) (views : CallsMoveViews W) (next_may 
   event_keeps (NetEvent.at_link l next) may =
       move_keeps l next may.enabled (phase_after (line_at net l).phase next) refl
   event_keeps (NetEvent.make b) may =
-      call_keeps b may.enabled.there NodeCall.make (record { waits = may.enabled.would; ids = may.ids })
-      (λ q j about. about) (λ j about. about)
+      make_keeps b may.enabled.there may.enabled.would may.ids
+  event_keeps (NetEvent.begin b) may =
+      call_keeps b may.enabled.there NodeCall.begin may.enabled.would (λ q j about. about) (λ j about. about)
+  event_keeps (NetEvent.end_job b ticket) may = job_keeps b may.enabled.there ticket may.enabled.would may.ids
   event_keeps (NetEvent.complete b p) may =
       call_keeps b may.enabled.there (NodeCall.complete p)
       (record { port = may.enabled.port; completes = may.enabled.would })
@@ -233,7 +274,7 @@ module _ {W : Type 0} (kept : NodesKept W) (views : CallsMoveViews W) (next_may 
   event_keeps (NetEvent.finish b) may =
       call_keeps b may.enabled.there NodeCall.finish may.enabled.would (λ q j about. about) (λ j about. about)
 
-pub events_keep : {W : Type 0} → NodesKept W → CallsMoveViews W → NextMovesMay W → InputsKeep
+pub events_keep : {W : Type 0} → NodesKept W → JobsEndWell W → CallsMoveViews W → NextMovesMay W → InputsKeep
     → BlocksMoveWell W → InputsMoveWell W → TargetsMoveWell W → EventsKeep W
-events_keep kept views next_may inputs blocks_move inputs_move targets_move layout meaning run net event keeps may =
-    event_keeps kept views next_may inputs blocks_move inputs_move targets_move layout meaning run net keeps event may
+events_keep kept jobs views next_may inputs blocks_move inputs_move targets_move layout meaning run net event keeps may =
+    event_keeps kept jobs views next_may inputs blocks_move inputs_move targets_move layout meaning run net keeps event may

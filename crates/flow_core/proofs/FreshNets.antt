@@ -1,7 +1,9 @@
 -- A network in which nothing has happened is in order.
-use Rattle.std.proofs.Common.{◌≡◌, ℕ, zero, suc, ◌<◌, List, [], ◌∷◌, length, get_or, map, None, refl, ap, sym, subst, ◌∙◌, arith}
+use Rattle.std.proofs.Common.{◌≡◌, ℕ, zero, suc, ◌<◌, leb, true, ◌&&◌, unwrap_or, Option, Some, List, [], ◌∷◌, length, get_or, map, None, refl, ap, sym, subst, ◌∙◌, arith}
 use Rattle.std.proofs.lemmas.List.{get_or-map, get_or-replicate, length-map, length-replicate}
+use Rattle.std.proofs.lemmas.Bool.{and_parts, leb-true}
 use Rattle.flow_value.specs.declared.value.Value.{Value}
+use Rattle.flow_link.specs.declared.draft.BlockDef.{BlockDef}
 use Rattle.flow_link.specs.declared.plan.LinkSource.{LinkSource}
 use Rattle.flow_link.specs.declared.plan.LinkSource.TheVariants.{Block, Input}
 use Rattle.flow_link.specs.declared.plan.LinkTarget.{LinkTarget}
@@ -11,6 +13,7 @@ use Rattle.flow_link.specs.Layout.{Layout}
 use Rattle.flow_link.specs.Lists.{below}
 use Rattle.flow_link.specs.LooksKeep.{fresh_source, fresh_target}
 use Rattle.flow_link.specs.Plan.{block_in, link_in, port_count}
+use Rattle.flow_link.specs.PlanFaults.{is_name, is_in, keys_fit, ranges_fit, options_fit}
 use Rattle.flow_link.specs.Trace.{InputTrace, nothing_posted}
 use Rattle.flow_link.proofs.ListTests.{length_numbers}
 use Rattle.flow_link.proofs.LooksKeepOrder.{looks_keep}
@@ -27,6 +30,21 @@ use Rattle.flow_core.specs.State.{NetState, fresh_net, fresh_line, source_from, 
 use Rattle.flow_core.specs.Statements.{FreshKeeps}
 use Rattle.flow_core.proofs.LinesKeep.{line_keeps}
 use Rattle.flow_core.proofs.PlacesTell.{below_at}
+
+-- a plan gives each block a lane
+lane_between : (lanes : Option ℕ) → is_in 1 16 lanes ≡ true → 0 < unwrap_or lanes 1
+lane_between None e = omega arith
+lane_between (Some n) e = let low = leb-true 1 n (and_parts (leb 1 n) (leb n 16) e).0 in omega (arith, low)
+
+some_lane : {W : Type 0} (block : BlockDef W) → options_fit block ≡ true → 0 < unwrap_or block.lanes 1
+some_lane block fit =
+    let ranges = (and_parts (is_name block.name && keys_fit block) (ranges_fit block) fit).1 in
+    let capacity = is_in 1 2147483647 block.capacity in
+    let lanes = is_in 1 16 block.lanes in
+    let size = is_in 1 4096 block.size in
+    let outer = and_parts (capacity && lanes && size) (is_in 2 3 block.ports) ranges in
+    let inner = and_parts (capacity && lanes) size outer.0 in
+    lane_between block.lanes (and_parts capacity lanes inner.0).1
 
 -- what is made of a number stands at that number's place
 mapped_at : {A : Type 0} (f : ℕ → A) (count k : ℕ) (none : A) → k < count → get_or (map f (below count)) k none ≡ f k
@@ -89,7 +107,8 @@ fresh_keeps blocks inputs layout meaning runs posted count = record {
   nodes = λ b here.
       subst (NodeLaw layout meaning b)
       (sym (mapped_at (fresh_node layout) (length layout.blocks) b no_node here))
-      (blocks layout meaning b (runs.built b here));
+      (blocks layout meaning b (runs.built b here)
+      (some_lane (block_in layout.blocks b) (runs.well_formed.options b here)));
   inputs = λ b here is.
       holds_mapped InputLaw fresh_input posted (input_place layout b) no_input
       (inputs.fresh nothing_posted) inputs.fresh;

@@ -7,10 +7,10 @@ use Rattle.flow_link.specs.declared.plan.LinkTarget.TheVariants.{Port, Exit}
 use Rattle.flow_link.specs.Facts.{facts_in, reserves_in}
 use Rattle.flow_link.specs.Layout.{Layout}
 use Rattle.flow_link.specs.Plan.{link_in, reserves_by_kind}
-use Rattle.flow_block.specs.Planned.{is_built}
+use Rattle.flow_link.specs.NotBuilt.{is_built_kind}
 use Rattle.flow_core.specs.Keeps.{IsRun}
 
-built_takes_freely : (kind : BlockKind) (greedy : Option Bool) → is_built kind ≡ true
+built_takes_freely : (kind : BlockKind) (greedy : Option Bool) → is_built_kind kind ≡ true
     → reserves_by_kind kind greedy ≡ false
 built_takes_freely Buffer greedy e = refl
 built_takes_freely Action greedy e = refl

@@ -2,6 +2,7 @@
 use Rattle.flow_block.proofs.FreshNodes.{fresh_in_order}
 use Rattle.flow_block.proofs.InputsAreParts.{inputs_are_parts}
 use Rattle.flow_block.proofs.InputsInOrder.{inputs_keep}
+use Rattle.flow_block.proofs.JobsEnd.{jobs_end_well}
 use Rattle.flow_block.proofs.NextMoves.{next_moves_may}
 use Rattle.flow_block.proofs.NodesAreLawful.{nodes_are_lawful}
 use Rattle.flow_block.proofs.NodesAreStill.{nodes_are_still}
@@ -25,7 +26,7 @@ fresh_nets_keep W = fresh_keeps (fresh_in_order W) inputs_keep
 
 pub all_events_keep : (W : Type 0) → EventsKeep W
 all_events_keep W =
-    events_keep (nodes_kept W) (calls_move_views W) next_moves_may inputs_keep
+    events_keep (nodes_kept W) (jobs_end_well W) (calls_move_views W) next_moves_may inputs_keep
     (blocks_move (calls_move_views W) next_moves_may) (inputs_move inputs_keep)
     (targets_move (calls_move_views W) next_moves_may)
 

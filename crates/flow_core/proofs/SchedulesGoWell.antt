@@ -73,6 +73,8 @@ module _ {W : Type 0} (layout : Layout W) (meaning : ℕ → Value → Result (L
   pub event_stays : (event : NetEvent) → Stays (after layout meaning event)
   event_stays (NetEvent.at_link l next) net = move_stays l next (phase_after (line_at net l).phase next) net
   event_stays (NetEvent.make b) net = refl
+  event_stays (NetEvent.begin b) net = refl
+  event_stays (NetEvent.end_job b ticket) net = refl
   event_stays (NetEvent.complete b p) net = refl
   event_stays (NetEvent.fault b) net = refl
   event_stays (NetEvent.finish b) net = refl

@@ -35,7 +35,7 @@ use Rattle.flow_block.specs.NextMoves.{next_in, next_out}
 use Rattle.flow_block.specs.Node.{NodeState, in_view}
 use Rattle.flow_block.specs.NodeRests.{NodesAreStill, NodesRest, HasNothingToDo, EndsRest, NoneReserve, rests_in, rests_out, is_asked, is_reserving}
 use Rattle.flow_block.specs.NodeSeen.{NodesAreLawful}
-use Rattle.flow_block.specs.Peeks.{may_make, may_complete, next_fault, may_finish}
+use Rattle.flow_block.specs.Peeks.{may_make, may_begin, may_end, may_complete, next_fault, may_finish}
 use Rattle.flow_block.proofs.PlacesOfLinks.{end_in_is, end_out_is}
 use Rattle.flow_core.specs.Events.{NetEvent, is_of_source, peek_by, source_peek, target_peek}
 use Rattle.flow_core.specs.Keeps.{IsRun, NetKeeps}
@@ -238,6 +238,11 @@ module _ {W : Type 0} (layout : Layout W) (meaning : ℕ → Value → Result (L
             sym is.peek ∙ source_done (end_at (node b).block.exits k).rule.id is.there;
         makes = false_from_ne_true (may_make (node b).block)
             (λ would. still (NetEvent.make b) (record { there = low; would = would }));
+        begins = false_from_ne_true (may_begin (node b).block)
+            (λ would. still (NetEvent.begin b) (record { there = low; would = would }));
+        ends = λ ticket.
+            false_from_ne_true (may_end ticket (node b).block)
+            (λ would. still (NetEvent.end_job b ticket) (record { there = low; would = would }));
         completes = λ p known.
             false_from_ne_true (may_complete p (node b).block)
             (λ would. still (NetEvent.complete b p) (record { there = low; port = known; would = would }));

@@ -17,17 +17,20 @@ use Rattle.flow_link.specs.Plan.{link_in}
 use Rattle.flow_outlet.specs.Outlet.{head_of, lacks_ids}
 use Rattle.flow_block.specs.Block.{put_next}
 use Rattle.flow_block.specs.Input.{InputState, InputCall, input_move, after_input, next_value}
+use Rattle.flow_block.specs.JobsEnd.{after_job, put_at_end}
 use Rattle.flow_block.specs.NextMoves.{next_in, next_out}
 use Rattle.flow_block.specs.Node.{NodeState, NodeCall, after as after_call}
-use Rattle.flow_block.specs.Peeks.{may_make, may_complete, next_fault, may_finish}
+use Rattle.flow_block.specs.Peeks.{may_make, may_begin, may_end, may_complete, next_fault, may_finish}
 use Rattle.flow_block.specs.Planned.{in_place, out_place, input_place, block_makes}
 use Rattle.flow_core.specs.State.{NetState, LineState, node_at, line_at, input_at}
 
 pub data NetEvent : Type 0 where
   -- a move at a link
   at_link : ℕ → Move → NetEvent
-  -- what a block does by itself
+  -- what a block does by itself: it hands a message on, or begins to work on one, and the result of a job, by its ticket, comes back
   make : ℕ → NetEvent
+  begin : ℕ → NetEvent
+  end_job : ℕ → ℕ → NetEvent
   complete : ℕ → ℕ → NetEvent
   fault : ℕ → NetEvent
   finish : ℕ → NetEvent
@@ -126,6 +129,8 @@ module _ {W : Type 0} (layout : Layout W) (net : NetState) where
   abbrev pub Enabled : NetEvent → Type 0
   Enabled (NetEvent.at_link l next) = LinkMay l next
   Enabled (NetEvent.make b) = BlockMay b (may_make (node_at net b).block)
+  Enabled (NetEvent.begin b) = BlockMay b (may_begin (node_at net b).block)
+  Enabled (NetEvent.end_job b ticket) = BlockMay b (may_end ticket (node_at net b).block)
   Enabled (NetEvent.complete b p) = PortMay b p
   Enabled (NetEvent.fault b) = BlockMay b (is_some (next_fault (node_at net b).block))
   Enabled (NetEvent.finish b) = BlockMay b (may_finish (node_at net b).block)
@@ -172,6 +177,8 @@ module _ {W : Type 0} (layout : Layout W) (meaning : ℕ → Value → Result (L
   abbrev pub after : NetEvent → NetState → NetState
   after (NetEvent.at_link l next) net = after_move l next (phase_after (line_at net l).phase next) net
   after (NetEvent.make b) net = with_node b (node_after b (Some NodeCall.make)) net
+  after (NetEvent.begin b) net = with_node b (node_after b (Some NodeCall.begin)) net
+  after (NetEvent.end_job b ticket) net = with_node b (after_job (block_makes layout meaning b) ticket) net
   after (NetEvent.complete b p) net = with_node b (node_after b (Some (NodeCall.complete p))) net
   after (NetEvent.fault b) net = with_node b (node_after b (option_map NodeCall.fault (next_fault (node_at net b).block))) net
   after (NetEvent.finish b) net = with_node b (node_after b (Some NodeCall.finish)) net
@@ -180,6 +187,8 @@ module _ {W : Type 0} (layout : Layout W) (meaning : ℕ → Value → Result (L
   abbrev pub HasIds : NetEvent → NetState → Type 0
   HasIds (NetEvent.at_link l (move.Offer id)) net = id < 2 ^ 59
   HasIds (NetEvent.make b) net = lacks_ids (put_next (block_makes layout meaning b) (node_at net b).block) (node_at net b).block.exits ≡ false
+  HasIds (NetEvent.end_job b ticket) net =
+      lacks_ids (put_at_end (block_makes layout meaning b) ticket (node_at net b).block) (node_at net b).block.exits ≡ false
   HasIds _ net = Unit {0}
 
   -- an event that may happen, with the ids that it needs

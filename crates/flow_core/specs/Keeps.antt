@@ -10,9 +10,9 @@ use Rattle.flow_link.specs.LinkOk.{LinkOk}
 use Rattle.flow_link.specs.Looks.{Seen}
 use Rattle.flow_link.specs.Plan.{block_in, link_in}
 use Rattle.flow_link.specs.WellFormed.{IsWellFormed}
+use Rattle.flow_link.specs.NotBuilt.{is_built_kind}
 use Rattle.flow_block.specs.InputKeeps.{InputLaw}
 use Rattle.flow_block.specs.NodeLaw.{NodeLaw}
-use Rattle.flow_block.specs.Planned.{is_built}
 use Rattle.flow_core.specs.State.{NetState, node_at, input_at, ends_of}
 
 module _ {W : Type 0} (layout : Layout W) where
@@ -20,7 +20,7 @@ module _ {W : Type 0} (layout : Layout W) where
   pub record IsRun : Type 0 where
     pub leads : LeadsWell layout
     pub well_formed : IsWellFormed layout.blocks layout.links
-    pub built : (b : ℕ) → b < length layout.blocks → is_built (block_in layout.blocks b).kind ≡ true
+    pub built : (b : ℕ) → b < length layout.blocks → is_built_kind (block_in layout.blocks b).kind ≡ true
     pub inside : (l : ℕ) → l < length layout.links → (link_in layout.links l).target ≡ Exit → ⊥
 
   -- a link is in order, and a look of either end would find nothing new

@@ -13,7 +13,7 @@ use Rattle.flow_link.specs.Layout.{Layout}
 use Rattle.flow_link.specs.Plan.{link_in}
 use Rattle.flow_link.specs.Trace.{InputTrace, Trace, Run}
 use Rattle.flow_link.specs.Views.{SourceView, TargetView, TargetStage}
-use Rattle.flow_outlet.specs.Outlet.{fresh_outlet}
+use Rattle.flow_block.specs.BlockFits.{fresh_block}
 use Rattle.flow_block.specs.Input.{InputState, fresh_input, no_input, input_view, input_trace}
 use Rattle.flow_block.specs.Node.{NodeState, in_view, out_view, node_trace}
 use Rattle.flow_block.specs.Planned.{in_place, out_place, input_place, fresh_node}
@@ -36,7 +36,7 @@ fresh_line = record { phase = Idle; slot = None }
 
 abbrev pub no_node : NodeState
 no_node = record {
-  block = record { kind = Buffer; ports = []; exits = fresh_outlet [] 1; recorded = []; fault = None; stopped = None };
+  block = fresh_block Buffer 1 [] [];
   journal = [];
 }
 

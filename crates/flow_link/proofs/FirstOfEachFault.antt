@@ -1,5 +1,5 @@
 -- Where each fault of a draft stands first, by going through its blocks or links.
-use Rattle.std.proofs.Common.{◌≡◌, ℕ, zero, suc, ◌+◌, ◌<◌, Bool, true, false, cond, not, ◌&&◌, ◌||◌, List, [], ◌∷◌, ◌++◌, length, map, Option, Some, None, get_or, take, is_none, is_some, unwrap_or, ◌==◌, refl, ap, sym, ◌∙◌, subst, arith}
+use Rattle.std.proofs.Common.{◌≡◌, ℕ, zero, suc, ◌+◌, ◌<◌, Bool, true, false, cond, not, ◌&&◌, ◌||◌, List, [], ◌∷◌, ◌++◌, length, map, Option, Some, None, get_or, take, is_none, is_some, refl, ap, sym, ◌∙◌, subst, arith}
 use Rattle.std.specs.List.{find, position}
 use Rattle.std.specs.Option.{option_or, option_map}
 use Rattle.std.proofs.lemmas.Bool.{or_left}
@@ -121,15 +121,15 @@ fails_from test first (suc count) k low e =
     [ true ↦ λ here wrong. cc | false ↦ λ here rest. fails_after test first count k low here (λ j small. fails_from test (suc first) count j small rest) ] in
     go (test first) refl e
 
-kind_of_built : (a b c d : Bool) → (a || not (b && c && d)) ≡ false → b ≡ true
-kind_of_built true b c d h = cc
-kind_of_built false true c d h = refl
-kind_of_built false false c d h = cc
+kind_of_built : (a b c : Bool) → (a || not (b && c)) ≡ false → b ≡ true
+kind_of_built true b c h = cc
+kind_of_built false true c h = refl
+kind_of_built false false c h = cc
 
 module _ {W : Type 0} where
   built_kind_of : (block : BlockDef W) → is_bad_block block ≡ false → is_built_kind block.kind ≡ true
   unfolding is_bad_block
-  built_kind_of block good = kind_of_built (not (options_fit block)) (is_built_kind block.kind) (unwrap_or block.lanes 1 == 1) (not block.output) good
+  built_kind_of block good = kind_of_built (not (options_fit block)) (is_built_kind block.kind) (not block.output) good
 
 -- what is built has no groups, and does not reserve
 built_holds : (kind : BlockKind) (capacity size : Option ℕ) → is_built_kind kind ≡ true → holds_no_group kind capacity size ≡ false

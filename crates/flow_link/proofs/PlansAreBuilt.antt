@@ -1,5 +1,5 @@
 -- The plan of a draft without a fault uses only what is built.
-use Rattle.std.proofs.Common.{◌≡◌, ℕ, ◌<◌, Bool, true, false, not, ◌&&◌, ◌||◌, List, ◌++◌, length, map, Option, Some, None, get_or, is_none, unwrap_or, ◌==◌, refl, ap, sym, ◌∙◌, subst, arith}
+use Rattle.std.proofs.Common.{◌≡◌, ℕ, ◌<◌, Bool, true, false, not, ◌&&◌, ◌||◌, List, ◌++◌, length, map, Option, Some, None, get_or, is_none, unwrap_or, refl, ap, sym, ◌∙◌, subst, arith}
 use Rattle.std.specs.List.{find}
 use Rattle.std.specs.Str.{bytes_eq}
 use Rattle.std.proofs.lemmas.Bool.{eq-eqb, leb-false, or_parts}
@@ -25,15 +25,14 @@ use Rattle.flow_link.proofs.FirstOfEachFault.{named_link_at, first_fault_of, non
 use Rattle.flow_link.proofs.ListTests.{never_both}
 
 -- of a block that is built
-no_output_of : (a b c : Bool) → (a && b && not c) ≡ true → c ≡ false
-no_output_of true true true e = cc
-no_output_of true true false e = refl
-no_output_of true false c e = cc
-no_output_of false b c e = cc
+no_output_of : (a b : Bool) → (a && not b) ≡ true → b ≡ false
+no_output_of true true e = cc
+no_output_of true false e = refl
+no_output_of false b e = cc
 
-kind_of : (a b c : Bool) → (a && b && not c) ≡ true → a ≡ true
-kind_of true b c e = refl
-kind_of false b c e = cc
+kind_of : (a b : Bool) → (a && not b) ≡ true → a ≡ true
+kind_of true b e = refl
+kind_of false b e = cc
 
 of_no_bad : (a b : Bool) → (not a || not b) ≡ false → b ≡ true
 of_no_bad true true e = refl
@@ -51,10 +50,10 @@ module _ {W : Type 0} where
   good_is_built block good = of_no_bad (options_fit block) (is_built_block block) good
 
   built_has_kind : (block : BlockDef W) → is_built_block block ≡ true → is_built_kind block.kind ≡ true
-  built_has_kind block e = kind_of (is_built_kind block.kind) (unwrap_or block.lanes 1 == 1) block.output e
+  built_has_kind block e = kind_of (is_built_kind block.kind) block.output e
 
   built_has_no_output : (block : BlockDef W) → is_built_block block ≡ true → block.output ≡ false
-  built_has_no_output block e = no_output_of (is_built_kind block.kind) (unwrap_or block.lanes 1 == 1) block.output e
+  built_has_no_output block e = no_output_of (is_built_kind block.kind) block.output e
 
   first_port_of : (blocks : List (BlockDef W)) (links : List LinkDef) (found : Option ℕ) (target port : ℕ) → is_none found ≡ false
       → ((b : ℕ) → found ≡ Some b → is_built_kind (block_in blocks b).kind ≡ true)

@@ -1,5 +1,5 @@
 -- What of the format is not built yet: a draft that uses it is refused with BadOption, at its place in the order of faults.
-use Rattle.std.specs.Prelude.{ℕ, ◌==◌, Bool, true, false, not, ◌&&◌, ◌||◌, List, [], ◌∷◌, ◌++◌, length, map, find, unwrap_or, Option}
+use Rattle.std.specs.Prelude.{ℕ, Bool, true, false, not, ◌&&◌, ◌||◌, List, [], ◌∷◌, ◌++◌, length, map, find, Option}
 use Rattle.flow_link.specs.declared.draft.BlockDef.{BlockDef}
 use Rattle.flow_link.specs.declared.draft.LinkDef.{LinkDef}
 use Rattle.flow_link.specs.declared.draft.BlockKind.{BlockKind}
@@ -18,9 +18,9 @@ is_built_kind Transform = true
 is_built_kind TransformMany = true
 is_built_kind _ = false
 
--- one job at once, and nothing that the caller receives
+-- nothing that the caller receives
 abbrev pub is_built_block : {W : Type 0} → BlockDef W → Bool
-is_built_block block = is_built_kind block.kind && unwrap_or block.lanes 1 == 1 && not block.output
+is_built_block block = is_built_kind block.kind && not block.output
 
 -- the block has a name or an option that its kind does not have, or one that is not built
 unfoldable pub is_bad_block : {W : Type 0} → BlockDef W → Bool

@@ -32,7 +32,7 @@ pub fn options_fit<W>(block: &BlockDef<W>) -> bool
 pub fn is_built_block<W>(block: &BlockDef<W>) -> bool
     ensures { result ≡ is_built_block block.now }
 {
-    is_built_kind(block.kind) && block.lanes.unwrap_or(1) == 1 && !block.output
+    is_built_kind(block.kind) && !block.output
 }
 
 /// Whether the link's number of messages is in its range.

@@ -11,3 +11,4 @@ pub mod PassesHappen
 pub mod PassesPrepared
 pub mod PassesTell
 pub mod PlansRun
+pub mod WorksAtOnce

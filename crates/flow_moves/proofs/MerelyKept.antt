@@ -1,6 +1,6 @@
 -- What is known of a network that merely is in order: it goes on being so, all that code asks of it holds, and its run is
 -- lawful, and quiet where nothing may happen any more.
-use Rattle.std.proofs.Common.{◌≡◌, ℕ, ◌<◌, ◌^◌, true, List, length, Some, Result}
+use Rattle.std.proofs.Common.{◌≡◌, ℕ, ◌<◌, ◌^◌, Bool, true, false, List, [], length, Some, Result, refl}
 use Rattle.std.specs.List.{count_by}
 use Rattle.std.proofs.Math.Logic.{∥∥₁_elim, ∥∥₁_map}
 use Rattle.std.proofs.Math.Nat.{ℕ_set}
@@ -9,8 +9,14 @@ use Rattle.flow_link.specs.declared.phase.Move.{Move}
 use Rattle.flow_link.specs.declared.phase.Move.TheVariants.{Offer}
 use Rattle.flow_link.specs.Lawful.{Lawful}
 use Rattle.flow_link.specs.Layout.{Layout}
+use Rattle.flow_link.specs.Plan.{has_work}
 use Rattle.flow_link.specs.Quiet.{Quiet}
 use Rattle.flow_block.specs.Routes.{route_of}
+use Rattle.flow_block.specs.Block.{held_by}
+use Rattle.flow_block.specs.Jobs.{JobsState, is_out}
+use Rattle.flow_block.specs.Planned.{block_makes}
+use Rattle.flow_block.proofs.JobsEnd.{none_out}
+use Rattle.flow_block.proofs.JobsHold.{begun_held}
 use Rattle.flow_block.proofs.KindsBuilt.{has_one_port}
 use Rattle.flow_core.specs.Events.{NetEvent, LinkMay, HasIds, MayHappen, after}
 use Rattle.flow_core.specs.Keeps.{IsRun, NetKeeps}
@@ -19,12 +25,38 @@ use Rattle.flow_core.specs.Statements.{IsStill}
 use Rattle.flow_core.proofs.NetworksInOrder.{all_events_keep, kept_nets_are_lawful, still_nets_are_quiet}
 use Rattle.flow_moves.specs.Passes.{MayPass, may_pass}
 use Rattle.flow_moves.specs.Ready.{IsThere, IsReady}
-use Rattle.flow_moves.specs.Statements.{IsPlanned, source_would, target_would}
+use Rattle.flow_moves.specs.Statements.{IsPlanned, BlocksArePlanned, source_would, target_would}
 use Rattle.flow_moves.proofs.LinksThere.{links_are_there}
 use Rattle.flow_moves.proofs.MovesReady.{moves_are_ready}
 use Rattle.flow_moves.proofs.NextMovesHappen.{sources_may as sources_happen, targets_may as targets_happen}
 use Rattle.flow_moves.proofs.OneProof.{lawful_prop, quiet_prop, planned_prop, link_may_prop, there_prop, ready_prop, pass_prop}
 use Rattle.flow_moves.proofs.PassesHappen.{passes_happen}
+
+-- only a block with a function has jobs out
+works_where : (jobs : JobsState) (ticket : ℕ) (works : Bool) → (works ≡ false → jobs.slots ≡ [])
+    → is_out ticket jobs ≡ true → works ≡ true
+works_where jobs ticket true none out = refl
+works_where jobs ticket false none out = absurd (none_out ticket jobs (none refl) out)
+
+-- a block is of a kind that is built, as the plan has it, and has one port
+planned_by : {W : Type 0} (layout : Layout W) (meaning : ℕ → Value → Result (List Value) ℕ) (net : NetState)
+    → NetKeeps layout meaning net → (b : ℕ) → b < length layout.blocks → IsPlanned layout b (node_at net b).block
+planned_by layout meaning net keeps b low =
+    let block = (node_at net b).block in
+    let shape = (keeps.nodes b low).shape in
+    let jobs = (keeps.nodes b low).jobs in
+    record {
+      kind_is = shape.kind_is;
+      built = shape.built;
+      alone = has_one_port layout meaning b block shape;
+      begun = begun_held (block_makes layout meaning b) (held_by block) block.jobs.slots jobs.results;
+      drained = jobs.drained;
+      works = λ ticket out.
+          works_where block.jobs ticket (has_work block.kind) (λ idle. jobs.only_works idle) out;
+    }
+
+pub blocks_are_planned : (W : Type 0) → BlocksArePlanned W
+blocks_are_planned W layout meaning runs net keeps b low = planned_by layout meaning net keeps b low
 
 module _ {W : Type 0} (layout : Layout W) (meaning : ℕ → Value → Result (List Value) ℕ) (net : NetState)
     (kept : ∥ NetKeeps layout meaning net ∥₁) where
@@ -39,13 +71,8 @@ module _ {W : Type 0} (layout : Layout W) (meaning : ℕ → Value → Result (L
 
   -- a block is of a kind that is built, as the plan has it, and has one port
   pub blocks_planned : (b : ℕ) → b < length layout.blocks → IsPlanned layout b (node_at net b).block
-  blocks_planned b low = ∥∥₁_elim kept (planned_prop layout b (node_at net b).block) (λ keeps.
-      let shape = (keeps.nodes b low).shape in
-      record {
-        kind_is = shape.kind_is;
-        built = shape.built;
-        alone = has_one_port layout meaning b (node_at net b).block shape;
-      })
+  blocks_planned b low =
+      ∥∥₁_elim kept (planned_prop layout b (node_at net b).block) (λ keeps. planned_by layout meaning net keeps b low)
 
   module _ (runs : IsRun layout) where
     -- a link has its two ends at the places that its way names

@@ -36,7 +36,7 @@ pub quiet_prop : {W : Type 0} (run : Run W) → IsProp (Quiet run)
 quiet_prop run = hlevel Bool-set
 
 pub planned_prop : {W : Type 0} (layout : Layout W) (b : ℕ) (block : BlockState) → IsProp (IsPlanned layout b block)
-planned_prop layout b block = hlevel (ℕ_set, Bool-set, ⊎_set)
+planned_prop layout b block = hlevel (ℕ_set, Bool-set, ⊎_set, le_prop)
 
 -- moves are told apart
 Moves-set : IsSet (Option Move)

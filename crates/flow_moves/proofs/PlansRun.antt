@@ -1,8 +1,7 @@
 -- Each plan is of a network that runs.
-use Rattle.std.proofs.Common.{◌≡◌, ◌==◌, Bool, true, not, ◌&&◌, unwrap_or}
+use Rattle.std.proofs.Common.{◌≡◌, true, not}
+use Rattle.std.proofs.lemmas.Bool.{and_parts}
 use Rattle.flow_link.specs.declared.draft.BlockDef.{BlockDef}
-use Rattle.flow_link.specs.declared.draft.BlockKind.{BlockKind}
-use Rattle.flow_link.specs.declared.draft.BlockKind.TheVariants.{Buffer, Action, Transform, TransformMany}
 use Rattle.flow_link.specs.declared.plan.LinkTarget.{LinkTarget}
 use Rattle.flow_link.specs.declared.plan.LinkTarget.TheVariants.{Exit}
 use Rattle.flow_link.specs.declared.plan.Plan.{Plan}
@@ -11,25 +10,11 @@ use Rattle.flow_link.specs.NotBuilt.{is_built_kind, is_built_block}
 use Rattle.flow_link.specs.Plan.{block_in, link_in}
 use Rattle.flow_link.specs.Planned.{layout_of}
 use Rattle.flow_link.proofs.LinksLead.{links_lead}
-use Rattle.std.proofs.lemmas.Bool.{and_parts}
-use Rattle.flow_block.specs.Planned.{is_built}
 use Rattle.flow_core.specs.Keeps.{IsRun}
 
 -- what a plan may use is what is built
-kind_built : (kind : BlockKind) → is_built_kind kind ≡ true → is_built kind ≡ true
-kind_built Buffer e = e
-kind_built Action e = e
-kind_built Transform e = e
-kind_built TransformMany e = e
-kind_built _ e = absurd (cc)
-
-first_of_three : (a b c : Bool) → (a && b && c) ≡ true → a ≡ true
-first_of_three a b c e = (and_parts a b (and_parts (a && b) c e).0).0
-
-block_built : {W : Type 0} (block : BlockDef W) → is_built_block block ≡ true → is_built block.kind ≡ true
-block_built block e =
-    kind_built block.kind
-    (first_of_three (is_built_kind block.kind) (unwrap_or block.lanes 1 == 1) (not block.output) e)
+block_built : {W : Type 0} (block : BlockDef W) → is_built_block block ≡ true → is_built_kind block.kind ≡ true
+block_built block e = (and_parts (is_built_kind block.kind) (not block.output) e).0
 
 -- an exit is no port
 no_port : (target : LinkTarget) → is_first_port target ≡ true → target ≡ Exit → ⊥

@@ -4,4 +4,4 @@ pub mod Passes
 pub mod Ready
 pub mod Statements
 pub mod Ways
-pub mod Works
+pub mod AtOnce

@@ -1,15 +1,17 @@
 -- What holds in a network in order of what would happen next: whatever an end of a link or a block would do may happen, all
 -- stands ready for it, and it is a move along the link's route; and where nobody would do anything, nothing may happen.
-use Rattle.std.specs.Prelude.{◌≡◌, ℕ, ◌<◌, true, false, length, List, Option, Some, None, Result}
+use Rattle.std.specs.Prelude.{◌≡◌, ℕ, ◌<◌, ◌≤◌, true, false, length, List, Option, Some, None, Result}
 use Rattle.flow_value.specs.declared.value.Value.{Value}
 use Rattle.flow_link.specs.declared.phase.Move.{Move}
 use Rattle.flow_link.specs.declared.phase.Phase.{Phase}
 use Rattle.flow_link.specs.Layout.{Layout}
 use Rattle.flow_link.specs.Phase.{phase_after}
-use Rattle.flow_link.specs.Plan.{block_in, link_in}
-use Rattle.flow_block.specs.Block.{BlockState}
-use Rattle.flow_block.specs.Peeks.{may_make, may_complete, next_fault, may_finish}
-use Rattle.flow_block.specs.Planned.{is_built, block_makes}
+use Rattle.flow_link.specs.Plan.{block_in, link_in, has_work}
+use Rattle.flow_link.specs.NotBuilt.{is_built_kind}
+use Rattle.flow_block.specs.Block.{BlockState, held_by}
+use Rattle.flow_block.specs.Jobs.{is_front_back, is_out}
+use Rattle.flow_block.specs.Peeks.{may_make, may_begin, may_end, may_complete, next_fault, may_finish}
+use Rattle.flow_block.specs.Planned.{block_makes}
 use Rattle.flow_block.specs.Routes.{source_place, target_place, route_of}
 use Rattle.flow_core.specs.Events.{NetEvent, LinkMay, HasIds, is_of_source, after}
 use Rattle.flow_core.specs.Keeps.{NetKeeps}
@@ -21,6 +23,8 @@ use Rattle.flow_moves.specs.Ways.{source_next, target_next, moved_along}
 -- a block would do nothing by itself
 pub record HasNothingToDo (block : BlockState) : Type 0 where
   pub make : may_make block ≡ false
+  pub begin : may_begin block ≡ false
+  pub end : (ticket : ℕ) → may_end ticket block ≡ false
   pub complete : (p : ℕ) → p < length block.ports → may_complete p block ≡ false
   pub fault : next_fault block ≡ None
   pub finish : may_finish block ≡ false
@@ -45,8 +49,12 @@ module _ {W : Type 0} (layout : Layout W) (net : NetState) where
 -- a block is of a kind that is built, as the plan has it, and has one port
 pub record IsPlanned {W : Type 0} (layout : Layout W) (b : ℕ) (block : BlockState) : Type 0 where
   pub kind_is : block.kind ≡ (block_in layout.blocks b).kind
-  pub built : is_built block.kind ≡ true
+  pub built : is_built_kind block.kind ≡ true
   pub alone : length block.ports ≡ 1
+  -- it works on no more messages than it holds, and what came back in its turn came out
+  pub begun : length block.jobs.slots ≤ length (held_by block)
+  pub drained : block.fault ≡ None → is_front_back block.jobs.slots ≡ false
+  pub works : (ticket : ℕ) → is_out ticket block.jobs ≡ true → has_work block.kind ≡ true
 
 module _ (W : Type 0) where
   -- of each network in order

@@ -32,7 +32,9 @@ fn node_of<W>(alloc: Global, plan: &Plan<W>, number: usize) -> Result<Node, Allo
 {
     let ports = ports_of(alloc, plan, number)?;
     let rules = rules_from(alloc, plan, number)?;
-    match Block::new(alloc, plan.block(number).kind, ports, rules) {
+    let def = plan.block(number);
+    let lanes = def.lanes.unwrap_or(1) as usize;
+    match Block::new(alloc, def.kind, lanes, ports, rules) {
         Ok(block) => Ok(Node::new(alloc, block)),
         Err(_) => Err(AllocError),
     }

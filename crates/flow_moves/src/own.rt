@@ -1,33 +1,63 @@
 //! What a block does by itself.
-ghost use Rattle.std.specs.Prelude.{◌≡◌, ◌≢◌, ℕ, ◌<◌, true, false, List, length, Result, Ok, Err, option_map};
-ghost use Rattle.std.specs.Prelude.{OnOk, OnErr, IfOk};
+ghost use Rattle.std.specs.Prelude.{◌≡◌, ◌≢◌, ℕ, ◌<◌, true, false, [], List, length, Result, Ok, Err, option_map, take};
+ghost use Rattle.std.specs.Prelude.{◌≤◌, ◌↔◌, None, OnOk, OnErr, IfErr};
 ghost use Rattle.flow_value.specs.declared.value.Value.{Value};
 ghost use Rattle.flow_link.specs.declared.draft.BlockKind.TheVariants.{Buffer};
-ghost use Rattle.flow_link.specs.Making.{result_of};
+ghost use Rattle.flow_link.specs.Plan.{has_work};
+ghost use Rattle.flow_link.specs.NotBuilt.{is_built_kind};
 ghost use Rattle.flow_outlet.specs.Outlet.{lacks_ids};
 ghost use Rattle.flow_outlet.specs.declared.fault.OutletFault.TheVariants.{Ids};
-ghost use Rattle.flow_block.specs.Block.{held_by, put_by_kind, put_next, values_of_result, yields};
+ghost use Rattle.flow_block.specs.Block.{held_by, put_by_kind, put_next, ends_job, put_by_job};
+ghost use Rattle.flow_block.specs.Jobs.{has_ticket, is_out, is_front_back};
+ghost use Rattle.flow_block.specs.JobsEnd.{after_job, put_at_end};
 ghost use Rattle.flow_block.specs.Node.{NodeCall, after, with_block};
-ghost use Rattle.flow_block.specs.Peeks.{may_make};
-ghost use Rattle.flow_block.specs.Planned.{is_built};
+ghost use Rattle.flow_block.specs.Peeks.{may_make, may_begin};
 ghost use Rattle.flow_core.specs.Events.{with_node};
 ghost use Rattle.flow_core.specs.State.{node_at};
-ghost use Rattle.flow_moves.specs.Works.{IsAnswer, results_by, worked_by};
+ghost use Rattle.flow_exec.specs.Works.{results_by};
+ghost use Rattle.flow_moves.specs.AtOnce.{put_at_once, works_at_once, works_out};
 
 use crate::parts::Parts;
-use flow_block::Node;
+use flow_block::{Answer, Node};
+use flow_exec::answer_of;
 use flow_link::BlockKind;
 use flow_outlet::OutletFault;
 use flow_value::{Value, Work};
 use std::alloc::{AllocError, Global};
 
-/// The fault of a transform whose work gives another number of values than one.
-const NOT_ONE: u32 = 7;
-
 impl Parts {
-    /// A block works on the message that waits longest, by this work. Where message ids are used up or memory is out,
-    /// nothing has changed.
-    pub fn make<W: Work>(
+    /// A block without a function hands on the message that waits longest. Where message ids are used up or memory is
+    /// out, nothing has changed.
+    pub fn make(&mut self, block: usize) -> Result<(), OutletFault>
+        requires there { block < length self.old.nodes }
+        requires alone { length (node_at self.old block).block.ports ≡ 1 }
+        requires waits { may_make (node_at self.old block).block ≡ true }
+        requires built { is_built_kind (node_at self.old block).block.kind ≡ true }
+        ensures done { OnOk result ((result : Value → Result (List Value) ℕ) →
+            self.new ≡ with_node block (after result NodeCall.make) self.old) }
+        ensures ids { OnOk result ((result : Value → Result (List Value) ℕ) → lacks_ids (put_next result
+            (node_at self.old block).block) (node_at self.old block).block.exits ≡ false) }
+        ensures kept { OnErr result (self.new ≡ self.old) }
+        ensures used_up { result ≡ Err Ids → (result : Value → Result (List Value) ℕ) → lacks_ids (put_next result
+            (node_at self.old block).block) (node_at self.old block).block.exits ≡ true }
+    {
+        self.nodes[block].hand_on()
+    }
+
+    /// A block works on one more of the messages that it holds. Where memory is out, or tickets are used up, nothing has
+    /// changed.
+    pub fn begin(&mut self, block: usize) -> Result<(), AllocError>
+        requires there { block < length self.old.nodes }
+        ensures done { OnOk result ((result : Value → Result (List Value) ℕ) →
+            self.new ≡ with_node block (after result NodeCall.begin) self.old) }
+        ensures kept { OnErr result (self.new ≡ self.old) }
+    {
+        self.nodes[block].begin()
+    }
+
+    /// A block works at once on the message that waits longest, by this work: the job begins, and its result comes back.
+    /// Where message ids are used up or memory is out, nothing has changed.
+    pub fn work<W: Work>(
         &mut self,
         alloc: Global,
         block: usize,
@@ -35,20 +65,78 @@ impl Parts {
     ) -> Result<(), OutletFault>
         requires there { block < length self.old.nodes }
         requires alone { length (node_at self.old block).block.ports ≡ 1 }
-        requires waits { may_make (node_at self.old block).block ≡ true }
-        requires built { is_built (node_at self.old block).block.kind ≡ true }
+        requires waits { may_begin (node_at self.old block).block ≡ true }
+        requires idle { (node_at self.old block).block.jobs.slots ≡ [] }
+        requires built { is_built_kind (node_at self.old block).block.kind ≡ true }
         ensures done { OnOk result (self.new ≡ with_node block
-            (after (results_by (option_map (λ work. work.now) work.entry)
-            (node_at self.old block).block.kind W.meaning) NodeCall.make) self.old) }
-        ensures ids { OnOk result (lacks_ids (put_next (results_by (option_map (λ work. work.now) work.entry)
-            (node_at self.old block).block.kind W.meaning) (node_at self.old block).block)
+            (works_at_once (results_by (option_map (λ work. work.now) work.entry)
+            (node_at self.old block).block.kind W.meaning)) self.old) }
+        ensures ids { OnOk result (lacks_ids (put_at_once (results_by (option_map (λ work. work.now) work.entry)
+            (node_at self.old block).block.kind W.meaning) (node_at self.old block))
             (node_at self.old block).block.exits ≡ false) }
         ensures kept { OnErr result (self.new ≡ self.old) }
-        ensures used_up { result ≡ Err Ids → lacks_ids (put_next (results_by (option_map (λ work. work.now) work.entry)
-            (node_at self.old block).block.kind W.meaning) (node_at self.old block).block)
+        ensures used_up { result ≡ Err Ids → lacks_ids (put_at_once (results_by (option_map (λ work. work.now)
+            work.entry) (node_at self.old block).block.kind W.meaning) (node_at self.old block))
             (node_at self.old block).block.exits ≡ true }
     {
-        make(&mut self.nodes[block], alloc, work)
+        work_at_once(&mut self.nodes[block], alloc, work)
+    }
+
+    /// The result of a job of a block comes back. Where message ids are used up or memory is out, nothing has changed, and
+    /// the result comes back.
+    pub fn end_job(
+        &mut self,
+        block: usize,
+        ticket: u64,
+        answer: Answer,
+    ) -> Result<(), (Answer, OutletFault)>
+        requires there { block < length self.old.nodes }
+        requires alone { length (node_at self.old block).block.ports ≡ 1 }
+        requires works { has_work (node_at self.old block).block.kind ≡ true }
+        requires out { is_out ticket (node_at self.old block).block.jobs ≡ true }
+        requires held { length (node_at self.old block).block.jobs.slots ≤
+            length (held_by (node_at self.old block).block) }
+        requires drained { (node_at self.old block).block.fault ≡ None →
+            is_front_back (node_at self.old block).block.jobs.slots ≡ false }
+        ensures done { OnOk result (self.new ≡ with_node block
+            (λ node. with_block (ends_job ticket answer node.block) node) self.old) }
+        ensures kept { OnErr result (self.new ≡ self.old) }
+        ensures back { IfErr result (λ refused. refused.0 ≡ answer) }
+        ensures ids { (result ≡ Err (answer, Ids)) ↔ (lacks_ids (put_by_job ticket answer
+            (node_at self.old block).block) (node_at self.old block).block.exits ≡ true) }
+    {
+        self.nodes[block].end_job(ticket, answer)
+    }
+
+    /// The message of a job of a block is worked on by this work, and the result comes back. Where message ids are used
+    /// up or memory is out, nothing has changed.
+    pub fn finish_job<W: Work>(
+        &mut self,
+        alloc: Global,
+        block: usize,
+        ticket: u64,
+        work: Option<&W>,
+    ) -> Result<(), OutletFault>
+        requires there { block < length self.old.nodes }
+        requires alone { length (node_at self.old block).block.ports ≡ 1 }
+        requires works { has_work (node_at self.old block).block.kind ≡ true }
+        requires out { is_out ticket (node_at self.old block).block.jobs ≡ true }
+        requires held { length (node_at self.old block).block.jobs.slots ≤
+            length (held_by (node_at self.old block).block) }
+        requires drained { (node_at self.old block).block.fault ≡ None →
+            is_front_back (node_at self.old block).block.jobs.slots ≡ false }
+        ensures done { OnOk result (self.new ≡ with_node block
+            (after_job (results_by (option_map (λ work. work.now) work.entry)
+            (node_at self.old block).block.kind W.meaning) ticket) self.old) }
+        ensures ids { OnOk result (lacks_ids (put_at_end (results_by (option_map (λ work. work.now) work.entry)
+            (node_at self.old block).block.kind W.meaning) ticket (node_at self.old block).block)
+            (node_at self.old block).block.exits ≡ false) }
+        ensures kept { OnErr result (self.new ≡ self.old) }
+        ensures used_up { result ≡ Err Ids → lacks_ids (put_at_end (results_by
+            (option_map (λ work. work.now) work.entry) (node_at self.old block).block.kind W.meaning) ticket
+            (node_at self.old block).block) (node_at self.old block).block.exits ≡ true }
+    {
+        finish_job(&mut self.nodes[block], alloc, ticket, work)
     }
 
     /// A port of a block takes no message any more. Where memory is out, nothing has changed.
@@ -83,94 +171,115 @@ impl Parts {
     }
 }
 
-/// A block works on the message that waits longest. Where message ids are used up or memory is out, nothing has
+/// A block works at once on the message that waits longest. Where message ids are used up or memory is out, nothing has
 /// changed.
-pub(crate) fn make<W: Work>(
+#[tactic(auto, using(crate::proofs::WorksAtOnce::worked_is, crate::proofs::WorksAtOnce::put_is))]
+fn work_at_once<W: Work>(
     node: &mut Node,
     alloc: Global,
     work: Option<&W>,
 ) -> Result<(), OutletFault>
     requires alone { length node.old.block.ports ≡ 1 }
-    requires waits { may_make node.old.block ≡ true }
-    requires built { is_built node.old.block.kind ≡ true }
-    ensures done { OnOk result (node.new ≡ after
-        (results_by (option_map (λ work. work.now) work.entry) node.old.block.kind W.meaning) NodeCall.make node.old) }
-    ensures ids { OnOk result (lacks_ids (put_next
-        (results_by (option_map (λ work. work.now) work.entry) node.old.block.kind W.meaning) node.old.block)
+    requires waits { may_begin node.old.block ≡ true }
+    requires idle { node.old.block.jobs.slots ≡ [] }
+    requires built { is_built_kind node.old.block.kind ≡ true }
+    ensures done { OnOk result (node.new ≡ works_at_once
+        (results_by (option_map (λ work. work.now) work.entry) node.old.block.kind W.meaning) node.old) }
+    ensures ids { OnOk result (lacks_ids (put_at_once
+        (results_by (option_map (λ work. work.now) work.entry) node.old.block.kind W.meaning) node.old)
         node.old.block.exits ≡ false) }
     ensures kept { OnErr result (node.new ≡ node.old) }
-    ensures used_up { result ≡ Err Ids → lacks_ids (put_next
-        (results_by (option_map (λ work. work.now) work.entry) node.old.block.kind W.meaning) node.old.block)
+    ensures used_up { result ≡ Err Ids → lacks_ids (put_at_once
+        (results_by (option_map (λ work. work.now) work.entry) node.old.block.kind W.meaning) node.old)
         node.old.block.exits ≡ true }
 {
-    if node.block().kind() == BlockKind::Buffer {
-        return node.hand_on();
+    if !node.block().has_ticket() {
+        return Err(OutletFault::Memory);
     }
+    let kind = node.block().kind();
     let answer = match node.block().waiting(0).front() {
-        Some(value) => results_of(alloc, work, value),
-        None => return Ok(()),
+        Some(message) => answer_of(alloc, kind, work, message),
+        None => return Err(OutletFault::Memory),
     };
-    match answer {
-        Ok(Ok(results)) => yield_results(node, results),
-        Ok(Err(number)) => {
-            node.fail(number);
-            Ok(())
-        }
-        Err(_) => Err(OutletFault::Memory),
+    let Ok(answer) = answer else {
+        return Err(OutletFault::Memory);
+    };
+    match answer.into_made() {
+        Ok(values) => yield_results(node, values),
+        Err(number) => fail_at_once(node, number),
     }
 }
 
-/// A block has these results of the message that waits longest: an action keeps them, a transform-many gives them, and a
-/// transform gives its only one, where any other number of results is its fault. Where message ids are used up or
-/// memory is out, nothing has changed.
-fn yield_results(node: &mut Node, results: Vec<Value>) -> Result<(), OutletFault>
+/// The message of a job is worked on by this work, and the result comes back.
+#[tactic(auto, using(crate::proofs::WorksAtOnce::result_is))]
+fn finish_job<W: Work>(
+    node: &mut Node,
+    alloc: Global,
+    ticket: u64,
+    work: Option<&W>,
+) -> Result<(), OutletFault>
     requires alone { length node.old.block.ports ≡ 1 }
-    requires waits { 0 < length (held_by node.old.block) }
-    requires built { is_built node.old.block.kind ≡ true }
-    requires works { node.old.block.kind ≢ Buffer }
-    ensures done { OnOk result (node.new ≡ with_block (yields
-        (result_of node.old.block.kind (Ok results.items)) node.old.block) node.old) }
-    ensures ids { OnOk result (lacks_ids (put_by_kind node.old.block.kind
-        (values_of_result (result_of node.old.block.kind (Ok results.items)))) node.old.block.exits ≡ false) }
+    requires works { has_work node.old.block.kind ≡ true }
+    requires out { is_out ticket node.old.block.jobs ≡ true }
+    requires held { length node.old.block.jobs.slots ≤ length (held_by node.old.block) }
+    requires drained { node.old.block.fault ≡ None → is_front_back node.old.block.jobs.slots ≡ false }
+    ensures done { OnOk result (node.new ≡ after_job
+        (results_by (option_map (λ work. work.now) work.entry) node.old.block.kind W.meaning) ticket node.old) }
+    ensures ids { OnOk result (lacks_ids (put_at_end
+        (results_by (option_map (λ work. work.now) work.entry) node.old.block.kind W.meaning) ticket node.old.block)
+        node.old.block.exits ≡ false) }
     ensures kept { OnErr result (node.new ≡ node.old) }
-    ensures used_up { result ≡ Err Ids → lacks_ids (put_by_kind node.old.block.kind
-        (values_of_result (result_of node.old.block.kind (Ok results.items)))) node.old.block.exits ≡ true }
+    ensures used_up { result ≡ Err Ids → lacks_ids (put_at_end
+        (results_by (option_map (λ work. work.now) work.entry) node.old.block.kind W.meaning) ticket node.old.block)
+        node.old.block.exits ≡ true }
 {
-    if node.block().kind() == BlockKind::Action {
-        return match node.record(results) {
-            Ok(()) => Ok(()),
-            Err(_) => Err(OutletFault::Memory),
-        };
-    }
-    if node.block().kind() == BlockKind::Transform && results.len() != 1 {
-        node.fail(NOT_ONE);
-        return Ok(());
-    }
-    match node.put_out(results) {
+    let kind = node.block().kind();
+    let Ok(answer) = answer_of(alloc, kind, work, node.block().job_message(ticket)) else {
+        return Err(OutletFault::Memory);
+    };
+    match node.end_job(ticket, answer) {
         Ok(()) => Ok(()),
         Err((_, fault)) => Err(fault),
     }
 }
 
-/// What a work makes of a value: its results, or the number of its fault. Without a work it is the value itself.
-fn results_of<W: Work>(
-    alloc: Global,
-    work: Option<&W>,
-    value: &Value,
-) -> Result<Result<Vec<Value>, u32>, AllocError>
-    ensures { IfOk result (λ answer. IsAnswer answer
-        (worked_by W.meaning (option_map (λ work. work.now) work.entry) value.now)) }
+/// A block has these results of the message that waits longest: an action keeps them, and any other block has them to
+/// give. Where message ids are used up or memory is out, nothing has changed.
+fn yield_results(node: &mut Node, values: Vec<Value>) -> Result<(), OutletFault>
+    requires alone { length node.old.block.ports ≡ 1 }
+    requires waits { 0 < length (held_by node.old.block) }
+    requires idle { node.old.block.jobs.slots ≡ [] }
+    requires ticket { has_ticket node.old.block.jobs ≡ true }
+    requires built { is_built_kind node.old.block.kind ≡ true }
+    requires works { node.old.block.kind ≢ Buffer }
+    ensures done { OnOk result (node.new ≡ with_block (works_out (Ok values.items) node.old.block) node.old) }
+    ensures ids { OnOk result (lacks_ids (put_by_kind node.old.block.kind values.items)
+        node.old.block.exits ≡ false) }
+    ensures kept { OnErr result (node.new ≡ node.old) }
+    ensures used_up { result ≡ Err Ids → lacks_ids (put_by_kind node.old.block.kind values.items)
+        node.old.block.exits ≡ true }
 {
-    let Some(work) = work else {
-        let mut results = Vec::with_capacity(alloc, 1)?;
-        results.push_reserved(value.copy(alloc)?);
-        return Ok(Ok(results));
-    };
-    match work.run(alloc, value) {
-        Ok(results) => Ok(Ok(results)),
-        Err(fault) => match fault.number() {
-            Some(number) => Ok(Err(number)),
-            None => Err(AllocError),
-        },
+    if node.block().kind() == BlockKind::Action {
+        return match node.record(values) {
+            Ok(()) => Ok(()),
+            Err(_) => Err(OutletFault::Memory),
+        };
+    }
+    match node.put_out(values) {
+        Ok(()) => Ok(()),
+        Err((_, fault)) => Err(fault),
+    }
+}
+
+/// The function of a block faults on the message on which it worked at once. Where memory is out, nothing has changed.
+fn fail_at_once(node: &mut Node, number: u32) -> Result<(), OutletFault>
+    requires idle { node.old.block.jobs.slots ≡ [] }
+    ensures done { OnOk result (node.new ≡ with_block (works_out (Err number) node.old.block) node.old) }
+    ensures kept { OnErr result (node.new ≡ node.old) }
+    ensures memory { result ≢ Err Ids }
+{
+    match node.fail_at_once(number) {
+        Ok(()) => Ok(()),
+        Err(_) => Err(OutletFault::Memory),
     }
 }

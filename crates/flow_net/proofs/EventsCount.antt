@@ -8,7 +8,7 @@ use Rattle.flow_link.specs.Planned.{layout_of}
 use Rattle.flow_core.specs.Events.{NetEvent, MayHappen, after}
 use Rattle.flow_core.specs.Keeps.{NetKeeps}
 use Rattle.flow_core.specs.State.{NetState}
-use Rattle.flow_moves.specs.Works.{works_of}
+use Rattle.flow_exec.specs.Works.{works_of}
 use Rattle.flow_moves.proofs.PlansRun.{plan_runs}
 use Rattle.flow_net.specs.Settles.{GoesOn}
 use Rattle.flow_net.specs.Happened.{Happened}

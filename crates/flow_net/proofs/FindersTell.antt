@@ -16,17 +16,20 @@ use Rattle.flow_block.specs.declared.planned.Route.{Route}
 use Rattle.flow_block.specs.Routes.{route_of}
 use Rattle.flow_block.proofs.PlanMade.{mapped_at}
 use Rattle.flow_block.specs.Block.{BlockState}
-use Rattle.flow_block.specs.Peeks.{may_make, may_complete, next_fault, may_finish}
+use Rattle.flow_block.specs.Peeks.{may_make, may_begin, may_end, may_complete, next_fault, may_finish}
 use Rattle.flow_core.specs.Events.{NetEvent, LinkMay, MayHappen, is_of_source}
 use Rattle.flow_core.specs.Keeps.{NetKeeps}
 use Rattle.flow_core.specs.State.{NetState}
 use Rattle.flow_moves.specs.Ready.{IsThere, SourceIsThere, TargetIsThere}
 use Rattle.flow_moves.specs.Statements.{IsPlanned, HasNothingToDo, source_would, target_would}
 use Rattle.flow_moves.specs.Ways.{lacks_id, source_next, target_next}
-use Rattle.flow_moves.specs.Works.{works_of}
+use Rattle.flow_exec.specs.Works.{works_of}
 use Rattle.flow_moves.proofs.PlansRun.{plan_runs}
 use Rattle.flow_moves.proofs.MerelyKept.{links_there}
+use Rattle.std.specs.Option.{IfNone}
+use Rattle.flow_net.specs.Opens.{IsOpen}
 use Rattle.flow_net.specs.There.{IsDue, NeedsId}
+use Rattle.flow_net.specs.declared.due.Due.{Due}
 use Rattle.flow_net.proofs.IdsLeft.{source_is_due, target_is_due, source_would_do, target_would_do, needs_id, may_not_happen}
 
 -- The ways of the links
@@ -130,13 +133,24 @@ module _ {W : Type 0} (works : W → Value → Result (List Value) WorkFault) (p
 
 -- it has one port, so it would do nothing by itself where it would do none of these
 pub nothing_to_do : {W : Type 0} (layout : Layout W) (b : ℕ) (block : BlockState) → IsPlanned layout b block
-    → may_make block ≡ false → may_complete 0 block ≡ false → next_fault block ≡ None → may_finish block ≡ false
+    → may_make block ≡ false → may_begin block ≡ false → ((ticket : ℕ) → may_end ticket block ≡ false)
+    → may_complete 0 block ≡ false → next_fault block ≡ None → may_finish block ≡ false
     → HasNothingToDo block
-nothing_to_do layout b block planned make complete fault finish = record {
+nothing_to_do layout b block planned make begin end complete fault finish = record {
   make = make;
+  begin = begin;
+  end = end;
   complete = λ p low.
       let first : 0 ≡ p = omega (arith, low, planned.alone) in
       subst (λ (q : ℕ). may_complete q block ≡ false) first complete;
   fault = fault;
   finish = finish;
 }
+
+-- and so where it would make nothing, and is found to be open
+pub nothing_where_open : {W : Type 0} (layout : Layout W) (b : ℕ) (block : BlockState) → IsPlanned layout b block
+    → may_make block ≡ false → may_begin block ≡ false → ((ticket : ℕ) → may_end ticket block ≡ false)
+    → (found : Option Due) → IfNone found (IsOpen block) → IfNone found (HasNothingToDo block)
+nothing_where_open plan b block planned make begin end None is_open =
+    nothing_to_do plan b block planned make begin end is_open.port is_open.fault is_open.goes_on
+nothing_where_open plan b block planned make begin end (Some due) is_open = is_open

@@ -15,7 +15,7 @@ use Rattle.flow_core.specs.State.{NetState}
 use Rattle.flow_core.specs.Statements.{IsStill}
 use Rattle.flow_core.proofs.SchedulesGoWell.{event_stays}
 use Rattle.flow_core.proofs.StillRests.{at_rest_merely}
-use Rattle.flow_moves.specs.Works.{works_of}
+use Rattle.flow_exec.specs.Works.{works_of}
 use Rattle.flow_moves.proofs.MerelyKept.{kept_after, lawful_merely, quiet_merely}
 use Rattle.flow_moves.proofs.PlansRun.{plan_runs}
 use Rattle.flow_net.specs.Net.{run_with}

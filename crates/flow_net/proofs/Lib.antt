@@ -1,8 +1,12 @@
 pub mod EventsCount
 pub mod EventsDone
+pub mod EventsRefused
 pub mod FindersTell
 pub mod IdsLeft
+pub mod JobsReturn
 pub mod KeptOn
 pub mod NetTells
 pub mod PassesCount
+pub mod RunsGoOn
+pub mod WorksHappen
 pub mod WorksNumbered

@@ -31,7 +31,7 @@ use Rattle.flow_core.specs.Keeps.{NetKeeps}
 use Rattle.flow_core.specs.State.{NetState, no_node, node_at}
 use Rattle.flow_core.proofs.PlacesTell.{count_within}
 use Rattle.flow_moves.specs.Ways.{input_in}
-use Rattle.flow_moves.specs.Works.{works_of}
+use Rattle.flow_exec.specs.Works.{works_of}
 use Rattle.flow_net.specs.Net.{run_with}
 use Rattle.flow_net.specs.States.{fault_in, state_from, state_by, state_told}
 use Rattle.flow_net.specs.declared.posted.State.{State}

@@ -5,7 +5,7 @@ use Rattle.flow_value.specs.declared.value.Value.{Value}
 use Rattle.flow_value.specs.declared.work.WorkFault.{WorkFault}
 use Rattle.flow_value.specs.declared.work.WorkFault.TheVariants.{NotInt, NotText, NotRow, NoField, Range, Rejected}
 use Rattle.flow_value.specs.declared.work.WorkFault.TheVariants.{Memory}
-use Rattle.flow_moves.specs.Works.{result_by_number, worked_by}
+use Rattle.flow_exec.specs.Works.{result_by_number, worked_by}
 use Rattle.flow_net.specs.Numbers.{WorksFaultByNumber}
 
 number_is : (fault : WorkFault) → fault ≢ Memory → unwrap_or (number_of fault) 0 ≢ 0

@@ -1,8 +1,10 @@
-pub mod Ends
+pub mod Dues
 pub mod Events
 pub mod Happened
 pub mod Net
 pub mod Numbers
+pub mod Opens
+pub mod OwnJobs
 pub mod Posted
 pub mod Settles
 pub mod States

@@ -6,7 +6,7 @@ use Rattle.flow_link.specs.Layout.{Layout}
 use Rattle.flow_link.specs.Planned.{layout_of}
 use Rattle.flow_link.specs.Trace.{Run}
 use Rattle.flow_core.specs.State.{NetState, run_of_net}
-use Rattle.flow_moves.specs.Works.{works_of}
+use Rattle.flow_exec.specs.Works.{works_of}
 use Rattle.flow_net.specs.declared.net.Net.{Net}
 
 abbrev pub layout_in : {W : Type 0} {w : _} {e : _} → Net W w e → Layout W

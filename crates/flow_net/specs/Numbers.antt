@@ -10,7 +10,7 @@ use Rattle.flow_core.specs.Keeps.{IsRun}
 use Rattle.flow_core.specs.Numbers.{ends_by_number}
 use Rattle.flow_core.specs.State.{NetState, fresh_net}
 use Rattle.flow_core.specs.Statements.{Goes}
-use Rattle.flow_moves.specs.Works.{works_of}
+use Rattle.flow_exec.specs.Works.{works_of}
 use Rattle.flow_net.specs.Net.{run_with}
 
 module _ (W : Type 0) (meaning : W → Value → Result (List Value) WorkFault) where

@@ -2,7 +2,7 @@
 //! it; and nothing rests on all such spots being on it.
 ghost use Rattle.std.specs.Prelude.{◌≡◌, ◌<◌, IfSome, vec_len};
 
-use crate::event::Event;
+use crate::due::Due;
 use crate::find::{link_to_consume, link_to_offer};
 use flow_block::{Block, Route};
 use flow_link::{LinkId, LinkSource, LinkTarget, Move};
@@ -96,6 +96,14 @@ impl Agenda {
         self.next.take()
     }
 
+    /// Takes the spot at which a message goes on, or else the newest.
+    pub(crate) fn take_any(&mut self) -> Option<Spot> {
+        match self.next.take() {
+            Some(spot) => Some(spot),
+            None => self.take(),
+        }
+    }
+
     /// Takes the newest spot off.
     pub(crate) fn take(&mut self) -> Option<Spot>
         ensures shorter { IfSome result (λ _. vec_len self.new.spots < vec_len self.old.spots) }
@@ -106,20 +114,21 @@ impl Agenda {
     }
 
     /// Lists where something may be able to happen after this event.
-    pub(crate) fn list_after<W>(&mut self, parts: &Parts, routes: &[Route], event: &Event<W>) {
+    pub(crate) fn list_after(&mut self, parts: &Parts, routes: &[Route], event: &Due) {
         match *event {
-            Event::Link(id, next) => {
+            Due::Link(id, next) => {
                 if let Some(route) = routes.get(id) {
                     self.list_after_move(parts, route, &next);
                 }
                 self.list(Spot::Link(id));
             }
-            Event::Make(number) => self.list_after_make(parts, number),
-            Event::Complete(number, _) | Event::Fault(number) | Event::Done(number) => {
+            Due::Make(number) | Due::Begin(number) | Due::End(number, _) => {
+                self.list_after_make(parts, number);
+            }
+            Due::Complete(number, _) | Due::Fault(number) | Due::Done(number) => {
                 self.list_round(parts, number);
                 self.list(Spot::Block(number));
             }
-            Event::Job(_, none) => match none {},
         }
     }
 
@@ -263,6 +272,8 @@ impl Agenda {
 /// Whether a block that has made or given something would do more by itself: each that is built has one port.
 fn has_work(block: &Block) -> bool {
     block.may_make()
+        || (block.port_count() > 0 && block.may_begin())
+        || block.next_end().is_some()
         || (block.is_pending() && block.next_fault().is_some())
         || (block.port_count() > 0 && block.has_ended(0) && block.may_finish())
 }

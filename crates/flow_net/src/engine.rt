@@ -1,19 +1,21 @@
 //! Drives the blocks and links of a network: finds an event that may happen, does it, and goes on.
-ghost use Rattle.std.specs.Prelude.{◌≡◌, ◌≢◌, map, length, IfOk, IfErr, OnOk, OnErr, Err};
+ghost use Rattle.std.specs.Prelude.{◌≡◌, ◌≢◌, [], map, length, IfOk, IfErr, OnOk, OnErr, Err};
 ghost use Rattle.flow_link.specs.Lists.{below};
 ghost use Rattle.flow_link.specs.Planned.{layout_of};
 ghost use Rattle.flow_block.specs.Routes.{route_of};
 ghost use Rattle.flow_core.specs.Events.{Enabled, MayHappen, NetEvent, after};
 ghost use Rattle.flow_core.specs.Keeps.{NetKeeps};
-ghost use Rattle.flow_moves.specs.Works.{works_of};
-ghost use Rattle.flow_net.specs.Ends.{IsEnd};
-ghost use Rattle.flow_net.specs.Events.{net_event};
+ghost use Rattle.flow_core.specs.State.{node_at};
+ghost use Rattle.flow_exec.specs.Works.{works_of};
+ghost use Rattle.flow_net.specs.Dues.{IsEnd};
+ghost use Rattle.flow_net.specs.Dues.{event_of};
+ghost use Rattle.flow_net.specs.Happened.{Happened};
 ghost use Rattle.flow_net.specs.Settles.{Settles, GoesOn};
 ghost use Rattle.flow_net.specs.There.{IsDue, IsWhyNot, NeedsId};
 ghost use Rattle.flow_net.specs.declared.fault.NetFault.TheVariants.{NotEnabled, Ids, Memory};
 
 use crate::agenda::Agenda;
-use crate::event::Event;
+use crate::due::Due;
 use crate::fault::NetFault;
 use crate::posted::Settled;
 use flow_block::Route;
@@ -54,8 +56,8 @@ impl<W: Work> Engine<W> {
         Ok(())
     }
 
-    /// Does an event that is due: a block works on the message that waits longest.
-    pub(crate) fn make(&mut self, alloc: Global, number: usize) -> Result<(), NetFault>
+    /// Does an event that is due: a block hands on the message that waits longest.
+    pub(crate) fn make(&mut self, number: usize) -> Result<(), NetFault>
         requires kept { ∥ NetKeeps (layout_of self.old.plan) (works_of W.meaning (layout_of self.old.plan))
             self.old.parts ∥₁ }
         requires enabled { Enabled (layout_of self.old.plan) self.old.parts (NetEvent.make number) }
@@ -69,74 +71,127 @@ impl<W: Work> Engine<W> {
             (works_of W.meaning (layout_of self.old.plan)) (NetEvent.make number) self.old.parts → ⊥ }
         ensures never { result ≢ Err NotEnabled }
     {
-        self.parts
-            .make(alloc, number, self.plan.block(number).work.as_ref())?;
+        self.parts.make(number)?;
+        Ok(())
+    }
+
+    /// Does an event that is due: a block works on one more of the messages that it holds.
+    fn begin(&mut self, number: usize) -> Result<(), NetFault>
+        requires kept { ∥ NetKeeps (layout_of self.old.plan) (works_of W.meaning (layout_of self.old.plan))
+            self.old.parts ∥₁ }
+        requires enabled { Enabled (layout_of self.old.plan) self.old.parts (NetEvent.begin number) }
+        ensures same_plan { self.new.plan ≡ self.old.plan }
+        ensures done { OnOk result (self.new.parts ≡ after (layout_of self.old.plan)
+            (works_of W.meaning (layout_of self.old.plan)) (NetEvent.begin number) self.old.parts) }
+        ensures kept { OnErr result (self.new.parts ≡ self.old.parts) }
+        ensures memory { IfErr result (λ fault. fault ≡ Memory) }
+    {
+        self.parts.begin(number)?;
+        Ok(())
+    }
+
+    /// Does an event that is due: the message of a job is worked on, and its result comes back.
+    fn finish_job(&mut self, alloc: Global, number: usize, ticket: u64) -> Result<(), NetFault>
+        requires kept { ∥ NetKeeps (layout_of self.old.plan) (works_of W.meaning (layout_of self.old.plan))
+            self.old.parts ∥₁ }
+        requires enabled { Enabled (layout_of self.old.plan) self.old.parts (NetEvent.end_job number ticket) }
+        ensures same_plan { self.new.plan ≡ self.old.plan }
+        ensures may { OnOk result (MayHappen (layout_of self.old.plan) (works_of W.meaning (layout_of self.old.plan))
+            (NetEvent.end_job number ticket) self.old.parts) }
+        ensures done { OnOk result (self.new.parts ≡ after (layout_of self.old.plan)
+            (works_of W.meaning (layout_of self.old.plan)) (NetEvent.end_job number ticket) self.old.parts) }
+        ensures kept { OnErr result (self.new.parts ≡ self.old.parts) }
+        ensures used_up { result ≡ Err Ids → MayHappen (layout_of self.old.plan)
+            (works_of W.meaning (layout_of self.old.plan)) (NetEvent.end_job number ticket) self.old.parts → ⊥ }
+        ensures never { result ≢ Err NotEnabled }
+    {
+        let work = self.plan.block(number).work.as_ref();
+        self.parts.finish_job(alloc, number, ticket, work)?;
+        Ok(())
+    }
+
+    /// Does two events, of which the first is due: a block that works on nothing begins to work on the message that
+    /// waits longest, and the result comes back.
+    pub(crate) fn work(&mut self, alloc: Global, number: usize) -> Result<(), NetFault>
+        requires kept { ∥ NetKeeps (layout_of self.old.plan) (works_of W.meaning (layout_of self.old.plan))
+            self.old.parts ∥₁ }
+        requires enabled { Enabled (layout_of self.old.plan) self.old.parts (NetEvent.begin number) }
+        requires idle { (node_at self.old.parts number).block.jobs.slots ≡ [] }
+        ensures same_plan { self.new.plan ≡ self.old.plan }
+        ensures happened { OnOk result (Happened (layout_of self.old.plan)
+            (works_of W.meaning (layout_of self.old.plan)) 2 self.old.parts self.new.parts) }
+        ensures kept { OnErr result (self.new.parts ≡ self.old.parts) }
+        ensures never { result ≢ Err NotEnabled }
+    {
+        let work = self.plan.block(number).work.as_ref();
+        self.parts.work(alloc, number, work)?;
         Ok(())
     }
 
     /// Does an event that is due: a port completes, or a block stops.
-    fn end(&mut self, event: &Event<W>) -> Result<(), NetFault>
+    fn end(&mut self, event: &Due) -> Result<(), NetFault>
         requires kept { ∥ NetKeeps (layout_of self.old.plan) (works_of W.meaning (layout_of self.old.plan))
             self.old.parts ∥₁ }
-        requires enabled { Enabled (layout_of self.old.plan) self.old.parts (net_event event.now) }
+        requires enabled { Enabled (layout_of self.old.plan) self.old.parts (event_of event.now) }
         requires end { IsEnd event.now }
         ensures same_plan { self.new.plan ≡ self.old.plan }
         ensures done { OnOk result (self.new.parts ≡ after (layout_of self.old.plan)
-            (works_of W.meaning (layout_of self.old.plan)) (net_event event.now) self.old.parts) }
+            (works_of W.meaning (layout_of self.old.plan)) (event_of event.now) self.old.parts) }
         ensures kept { OnErr result (self.new.parts ≡ self.old.parts) }
         ensures memory { IfErr result (λ fault. fault ≡ Memory) }
     {
         match *event {
-            Event::Complete(number, port) => self.parts.complete(number, port)?,
-            Event::Fault(number) => {
+            Due::Complete(number, port) => self.parts.complete(number, port)?,
+            Due::Fault(number) => {
                 if let Some(fault) = self.parts.node(number).block().next_fault() {
                     self.parts.fault(number, fault)?;
                 }
             }
-            Event::Done(number) => self.parts.finish(number)?,
+            Due::Done(number) => self.parts.finish(number)?,
             _ => {}
         }
         Ok(())
     }
 
     /// Does an event that is due.
-    fn carry_out(&mut self, alloc: Global, event: &Event<W>) -> Result<(), NetFault>
+    fn carry_out(&mut self, alloc: Global, event: &Due) -> Result<(), NetFault>
         requires kept { ∥ NetKeeps (layout_of self.old.plan) (works_of W.meaning (layout_of self.old.plan))
             self.old.parts ∥₁ }
         requires due { IsDue (layout_of self.old.plan) (works_of W.meaning (layout_of self.old.plan)) self.old.parts
-            (net_event event.now) }
+            (event_of event.now) }
         ensures same_plan { self.new.plan ≡ self.old.plan }
         ensures may { OnOk result (MayHappen (layout_of self.old.plan) (works_of W.meaning (layout_of self.old.plan))
-            (net_event event.now) self.old.parts) }
+            (event_of event.now) self.old.parts) }
         ensures done { OnOk result (self.new.parts ≡ after (layout_of self.old.plan)
-            (works_of W.meaning (layout_of self.old.plan)) (net_event event.now) self.old.parts) }
+            (works_of W.meaning (layout_of self.old.plan)) (event_of event.now) self.old.parts) }
         ensures kept { OnErr result (self.new.parts ≡ self.old.parts) }
         ensures used_up { result ≡ Err Ids → MayHappen (layout_of self.old.plan)
-            (works_of W.meaning (layout_of self.old.plan)) (net_event event.now) self.old.parts → ⊥ }
+            (works_of W.meaning (layout_of self.old.plan)) (event_of event.now) self.old.parts → ⊥ }
         ensures never { result ≢ Err NotEnabled }
     {
         match *event {
-            Event::Link(id, ref next) => self.move_link(alloc, id, next),
-            Event::Make(number) => self.make(alloc, number),
-            Event::Job(_, none) => match none {},
+            Due::Link(id, ref next) => self.move_link(alloc, id, next),
+            Due::Make(number) => self.make(number),
+            Due::Begin(number) => self.begin(number),
+            Due::End(number, ticket) => self.finish_job(alloc, number, ticket),
             _ => self.end(event),
         }
     }
 
     /// Does an event that is due, and lists where something may be able to happen after it.
-    pub(crate) fn go(&mut self, alloc: Global, event: &Event<W>) -> Result<(), NetFault>
+    pub(crate) fn go(&mut self, alloc: Global, event: &Due) -> Result<(), NetFault>
         requires kept { ∥ NetKeeps (layout_of self.old.plan) (works_of W.meaning (layout_of self.old.plan))
             self.old.parts ∥₁ }
         requires due { IsDue (layout_of self.old.plan) (works_of W.meaning (layout_of self.old.plan)) self.old.parts
-            (net_event event.now) }
+            (event_of event.now) }
         ensures same_plan { self.new.plan ≡ self.old.plan }
         ensures may { OnOk result (MayHappen (layout_of self.old.plan) (works_of W.meaning (layout_of self.old.plan))
-            (net_event event.now) self.old.parts) }
+            (event_of event.now) self.old.parts) }
         ensures done { OnOk result (self.new.parts ≡ after (layout_of self.old.plan)
-            (works_of W.meaning (layout_of self.old.plan)) (net_event event.now) self.old.parts) }
+            (works_of W.meaning (layout_of self.old.plan)) (event_of event.now) self.old.parts) }
         ensures kept { OnErr result (self.new.parts ≡ self.old.parts) }
         ensures used_up { result ≡ Err Ids → MayHappen (layout_of self.old.plan)
-            (works_of W.meaning (layout_of self.old.plan)) (net_event event.now) self.old.parts → ⊥ }
+            (works_of W.meaning (layout_of self.old.plan)) (event_of event.now) self.old.parts → ⊥ }
         ensures never { result ≢ Err NotEnabled }
     {
         self.carry_out(alloc, event)?;
@@ -145,17 +200,17 @@ impl<W: Work> Engine<W> {
     }
 
     /// Does this event, if it may happen.
-    pub(crate) fn event(&mut self, alloc: Global, event: &Event<W>) -> Result<(), NetFault>
+    pub(crate) fn event(&mut self, alloc: Global, event: &Due) -> Result<(), NetFault>
         requires kept { ∥ NetKeeps (layout_of self.old.plan) (works_of W.meaning (layout_of self.old.plan))
             self.old.parts ∥₁ }
         ensures same_plan { self.new.plan ≡ self.old.plan }
         ensures may { OnOk result (MayHappen (layout_of self.old.plan) (works_of W.meaning (layout_of self.old.plan))
-            (net_event event.now) self.old.parts) }
+            (event_of event.now) self.old.parts) }
         ensures done { OnOk result (self.new.parts ≡ after (layout_of self.old.plan)
-            (works_of W.meaning (layout_of self.old.plan)) (net_event event.now) self.old.parts) }
+            (works_of W.meaning (layout_of self.old.plan)) (event_of event.now) self.old.parts) }
         ensures kept { OnErr result (self.new.parts ≡ self.old.parts) }
         ensures why { IfErr result (IsWhyNot (layout_of self.old.plan) (works_of W.meaning (layout_of self.old.plan))
-            self.old.parts (net_event event.now)) }
+            self.old.parts (event_of event.now)) }
         ensures goes_on { GoesOn (layout_of self.old.plan) (works_of W.meaning (layout_of self.old.plan)) 1
             self.old.parts self.new.parts }
     {

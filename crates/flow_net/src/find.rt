@@ -10,15 +10,16 @@ ghost use Rattle.flow_core.specs.State.{node_at};
 ghost use Rattle.flow_core.specs.Statements.{IsStill};
 ghost use Rattle.flow_moves.specs.Statements.{HasNothingToDo, LinkIsIdle};
 ghost use Rattle.flow_moves.specs.Ways.{input_in};
-ghost use Rattle.flow_moves.specs.Works.{works_of};
-ghost use Rattle.flow_net.specs.Ends.{IsOwn};
-ghost use Rattle.flow_net.specs.Events.{net_event};
+ghost use Rattle.flow_exec.specs.Works.{works_of};
+ghost use Rattle.flow_net.specs.Dues.{IsOwn};
+ghost use Rattle.flow_net.specs.Dues.{event_of};
+ghost use Rattle.flow_net.specs.Opens.{IsOpen};
 ghost use Rattle.flow_net.specs.There.{IsDue, LinkHasId, NeedsId};
 ghost use Rattle.flow_net.specs.declared.fault.NetFault.TheVariants.{Ids};
 
 use crate::agenda::Spot;
+use crate::due::Due;
 use crate::engine::Engine;
-use crate::event::Event;
 use crate::fault::NetFault;
 use flow_block::{Block, Input, Route};
 use flow_link::{LinkId, Move};
@@ -81,22 +82,36 @@ impl<W: Work> Engine<W> {
     }
 
     /// Whether a block would do this by itself.
-    fn is_own(&self, event: &Event<W>) -> bool
+    fn is_own(&self, event: &Due) -> bool
         requires kept { ∥ NetKeeps (layout_of self.now.plan) (works_of W.meaning (layout_of self.now.plan))
             self.now.parts ∥₁ }
         requires own { IsOwn event.now }
-        ensures { IsTrue result ↔ Enabled (layout_of self.now.plan) self.now.parts (net_event event.now) }
+        ensures { IsTrue result ↔ Enabled (layout_of self.now.plan) self.now.parts (event_of event.now) }
     {
         let count = self.plan.block_count();
         match *event {
-            Event::Make(number) => number < count && self.parts.node(number).block().may_make(),
-            Event::Complete(number, port) => number < count && self.may_complete(number, port),
-            Event::Fault(number) => {
+            Due::Make(number) => number < count && self.parts.node(number).block().may_make(),
+            Due::Begin(number) => number < count && self.may_begin(number),
+            Due::End(number, ticket) => {
+                number < count && self.parts.node(number).block().may_end(ticket)
+            }
+            Due::Complete(number, port) => number < count && self.may_complete(number, port),
+            Due::Fault(number) => {
                 number < count && self.parts.node(number).block().next_fault().is_some()
             }
-            Event::Done(number) => number < count && self.parts.node(number).block().may_finish(),
+            Due::Done(number) => number < count && self.parts.node(number).block().may_finish(),
             _ => false,
         }
+    }
+
+    /// Whether a block would work on one more message.
+    pub(crate) fn may_begin(&self, number: usize) -> bool
+        requires known { number < length (layout_of self.now.plan).blocks }
+        requires kept { ∥ NetKeeps (layout_of self.now.plan) (works_of W.meaning (layout_of self.now.plan))
+            self.now.parts ∥₁ }
+        ensures { IsTrue result ↔ Enabled (layout_of self.now.plan) self.now.parts (NetEvent.begin number) }
+    {
+        self.parts.node(number).block().may_begin()
     }
 
     /// Whether a port of a block would complete.
@@ -111,40 +126,39 @@ impl<W: Work> Engine<W> {
     }
 
     /// Whether this event is due.
-    pub(crate) fn is_due(&self, event: &Event<W>) -> Result<bool, NetFault>
+    pub(crate) fn is_due(&self, event: &Due) -> Result<bool, NetFault>
         requires kept { ∥ NetKeeps (layout_of self.now.plan) (works_of W.meaning (layout_of self.now.plan))
             self.now.parts ∥₁ }
         ensures told { IfOk result (λ due. IsTrue due ↔ Enabled (layout_of self.now.plan) self.now.parts
-            (net_event event.now)) }
+            (event_of event.now)) }
         ensures id { IfOk result (λ due. IsTrue due → LinkHasId (layout_of self.now.plan)
-            (works_of W.meaning (layout_of self.now.plan)) self.now.parts (net_event event.now)) }
+            (works_of W.meaning (layout_of self.now.plan)) self.now.parts (event_of event.now)) }
         ensures ids { IfErr result (λ fault. fault ≡ Ids) }
         ensures needed { IfErr result (λ fault. NeedsId (layout_of self.now.plan)
             (works_of W.meaning (layout_of self.now.plan)) self.now.parts) }
         ensures may_not { IfErr result (λ fault. MayHappen (layout_of self.now.plan)
-            (works_of W.meaning (layout_of self.now.plan)) (net_event event.now) self.now.parts → ⊥) }
+            (works_of W.meaning (layout_of self.now.plan)) (event_of event.now) self.now.parts → ⊥) }
     {
         match *event {
-            Event::Link(id, next) => {
+            Due::Link(id, next) => {
                 if id < self.plan.link_count() {
                     self.is_next(id, next)
                 } else {
                     Ok(false)
                 }
             }
-            Event::Job(_, none) => match none {},
             _ => Ok(self.is_own(event)),
         }
     }
 
     /// The event that would happen next at a link: a move of its source, or else of its target.
     #[inline(always)]
-    pub(crate) fn event_at_link(&self, id: usize) -> Result<Option<Event<W>>, NetFault>
+    pub(crate) fn event_at_link(&self, id: usize) -> Result<Option<Due>, NetFault>
         requires known { id < length (layout_of self.now.plan).links }
         requires kept { ∥ NetKeeps (layout_of self.now.plan) (works_of W.meaning (layout_of self.now.plan))
             self.now.parts ∥₁ }
         ensures due { IfOk result (λ next. IfSome next (λ event. IsDue (layout_of self.now.plan)
-            (works_of W.meaning (layout_of self.now.plan)) self.now.parts (net_event event))) }
+            (works_of W.meaning (layout_of self.now.plan)) self.now.parts (event_of event))) }
         ensures none { IfOk result (λ next. IfNone next (LinkIsIdle (layout_of self.now.plan) self.now.parts id)) }
         ensures ids { IfErr result (λ fault. fault ≡ Ids) }
         ensures needed { IfErr result (λ fault. NeedsId (layout_of self.now.plan)
@@ -155,43 +169,76 @@ impl<W: Work> Engine<W> {
             return Err(NetFault::Ids);
         }
         if let Some(next) = self.parts.next_of_source(route) {
-            return Ok(Some(Event::Link(id, next)));
+            return Ok(Some(Due::Link(id, next)));
         }
         match self.parts.next_of_target(route) {
-            Some(next) => Ok(Some(Event::Link(id, next))),
+            Some(next) => Ok(Some(Due::Link(id, next))),
             None => Ok(None),
         }
     }
 
     /// What a block would do next by itself.
-    fn event_at_block(&self, number: usize) -> Option<Event<W>>
+    fn event_at_block(&self, number: usize) -> Option<Due>
         requires known { number < length (layout_of self.now.plan).blocks }
         requires kept { ∥ NetKeeps (layout_of self.now.plan) (works_of W.meaning (layout_of self.now.plan))
             self.now.parts ∥₁ }
         ensures due { IfSome result (λ event. IsDue (layout_of self.now.plan)
-            (works_of W.meaning (layout_of self.now.plan)) self.now.parts (net_event event)) }
+            (works_of W.meaning (layout_of self.now.plan)) self.now.parts (event_of event)) }
         ensures none { IfNone result (HasNothingToDo (node_at self.now.parts number).block) }
     {
         let block = self.parts.node(number).block();
         if block.may_make() {
-            Some(Event::Make(number))
-        } else if block.may_complete(0) {
-            Some(Event::Complete(number, 0))
+            Some(Due::Make(number))
+        } else if block.may_begin() {
+            Some(Due::Begin(number))
+        } else if let Some(ticket) = block.next_end() {
+            Some(Due::End(number, ticket))
+        } else {
+            self.end_of_block(number)
+        }
+    }
+
+    /// How a block would end next: its port, or itself.
+    fn end_of_block(&self, number: usize) -> Option<Due>
+        requires known { number < length (layout_of self.now.plan).blocks }
+        requires kept { ∥ NetKeeps (layout_of self.now.plan) (works_of W.meaning (layout_of self.now.plan))
+            self.now.parts ∥₁ }
+        ensures due { IfSome result (λ event. IsDue (layout_of self.now.plan)
+            (works_of W.meaning (layout_of self.now.plan)) self.now.parts (event_of event)) }
+        ensures none { IfNone result (IsOpen (node_at self.now.parts number).block) }
+    {
+        let block = self.parts.node(number).block();
+        if block.may_complete(0) {
+            Some(Due::Complete(number, 0))
         } else if block.next_fault().is_some() {
-            Some(Event::Fault(number))
+            Some(Due::Fault(number))
         } else if block.may_finish() {
-            Some(Event::Done(number))
+            Some(Due::Done(number))
         } else {
             None
         }
     }
 
-    /// The event that would happen next at this spot.
-    fn event_at(&self, spot: Spot) -> Result<Option<Event<W>>, NetFault>
+    /// What a block would do next, but for its messages: it ends, or something happens at the links beside it.
+    pub(crate) fn event_but_work(&self, number: usize) -> Result<Option<Due>, NetFault>
+        requires known { number < length (layout_of self.now.plan).blocks }
         requires kept { ∥ NetKeeps (layout_of self.now.plan) (works_of W.meaning (layout_of self.now.plan))
             self.now.parts ∥₁ }
         ensures due { IfOk result (λ next. IfSome next (λ event. IsDue (layout_of self.now.plan)
-            (works_of W.meaning (layout_of self.now.plan)) self.now.parts (net_event event))) }
+            (works_of W.meaning (layout_of self.now.plan)) self.now.parts (event_of event))) }
+    {
+        match self.end_of_block(number) {
+            Some(event) => Ok(Some(event)),
+            None => self.event_beside(number),
+        }
+    }
+
+    /// The event that would happen next at this spot.
+    pub(crate) fn event_at(&self, spot: Spot) -> Result<Option<Due>, NetFault>
+        requires kept { ∥ NetKeeps (layout_of self.now.plan) (works_of W.meaning (layout_of self.now.plan))
+            self.now.parts ∥₁ }
+        ensures due { IfOk result (λ next. IfSome next (λ event. IsDue (layout_of self.now.plan)
+            (works_of W.meaning (layout_of self.now.plan)) self.now.parts (event_of event))) }
         ensures ids { IfErr result (λ fault. fault ≡ Ids) }
         ensures needed { IfErr result (λ fault. NeedsId (layout_of self.now.plan)
             (works_of W.meaning (layout_of self.now.plan)) self.now.parts) }
@@ -209,12 +256,12 @@ impl<W: Work> Engine<W> {
     }
 
     /// The event that would happen next at the links over which a block would offer or consume next.
-    fn event_beside(&self, number: usize) -> Result<Option<Event<W>>, NetFault>
+    fn event_beside(&self, number: usize) -> Result<Option<Due>, NetFault>
         requires known { number < length (layout_of self.now.plan).blocks }
         requires kept { ∥ NetKeeps (layout_of self.now.plan) (works_of W.meaning (layout_of self.now.plan))
             self.now.parts ∥₁ }
         ensures due { IfOk result (λ next. IfSome next (λ event. IsDue (layout_of self.now.plan)
-            (works_of W.meaning (layout_of self.now.plan)) self.now.parts (net_event event))) }
+            (works_of W.meaning (layout_of self.now.plan)) self.now.parts (event_of event))) }
         ensures ids { IfErr result (λ fault. fault ≡ Ids) }
         ensures needed { IfErr result (λ fault. NeedsId (layout_of self.now.plan)
             (works_of W.meaning (layout_of self.now.plan)) self.now.parts) }
@@ -232,11 +279,11 @@ impl<W: Work> Engine<W> {
     }
 
     /// The first event that would happen at a link.
-    fn event_at_links(&self) -> Result<Option<Event<W>>, NetFault>
+    fn event_at_links(&self) -> Result<Option<Due>, NetFault>
         requires kept { ∥ NetKeeps (layout_of self.now.plan) (works_of W.meaning (layout_of self.now.plan))
             self.now.parts ∥₁ }
         ensures due { IfOk result (λ next. IfSome next (λ event. IsDue (layout_of self.now.plan)
-            (works_of W.meaning (layout_of self.now.plan)) self.now.parts (net_event event))) }
+            (works_of W.meaning (layout_of self.now.plan)) self.now.parts (event_of event))) }
         ensures none { IfOk result (λ next. IfNone next ((l : ℕ) → l < length (layout_of self.now.plan).links →
             LinkIsIdle (layout_of self.now.plan) self.now.parts l)) }
         ensures ids { IfErr result (λ fault. fault ≡ Ids) }
@@ -252,11 +299,11 @@ impl<W: Work> Engine<W> {
     }
 
     /// The first event that a block would do by itself.
-    fn event_at_blocks(&self) -> Option<Event<W>>
+    fn event_at_blocks(&self) -> Option<Due>
         requires kept { ∥ NetKeeps (layout_of self.now.plan) (works_of W.meaning (layout_of self.now.plan))
             self.now.parts ∥₁ }
         ensures due { IfSome result (λ event. IsDue (layout_of self.now.plan)
-            (works_of W.meaning (layout_of self.now.plan)) self.now.parts (net_event event)) }
+            (works_of W.meaning (layout_of self.now.plan)) self.now.parts (event_of event)) }
         ensures none { IfNone result ((b : ℕ) → b < length (layout_of self.now.plan).blocks →
             HasNothingToDo (node_at self.now.parts b).block) }
     {
@@ -269,11 +316,11 @@ impl<W: Work> Engine<W> {
     }
 
     /// An event that is due, looked for everywhere.
-    fn find_event(&self) -> Result<Option<Event<W>>, NetFault>
+    fn find_event(&self) -> Result<Option<Due>, NetFault>
         requires kept { ∥ NetKeeps (layout_of self.now.plan) (works_of W.meaning (layout_of self.now.plan))
             self.now.parts ∥₁ }
         ensures due { IfOk result (λ next. IfSome next (λ event. IsDue (layout_of self.now.plan)
-            (works_of W.meaning (layout_of self.now.plan)) self.now.parts (net_event event))) }
+            (works_of W.meaning (layout_of self.now.plan)) self.now.parts (event_of event))) }
         ensures none { IfOk result (λ next. IfNone next (IsStill (layout_of self.now.plan)
             (works_of W.meaning (layout_of self.now.plan)) self.now.parts)) }
         ensures ids { IfErr result (λ fault. fault ≡ Ids) }
@@ -287,13 +334,13 @@ impl<W: Work> Engine<W> {
     }
 
     /// An event that is due: at a spot of the agenda if there is one there, and else anywhere.
-    pub(crate) fn next_event(&mut self) -> Result<Option<Event<W>>, NetFault>
+    pub(crate) fn next_event(&mut self) -> Result<Option<Due>, NetFault>
         requires kept { ∥ NetKeeps (layout_of self.old.plan) (works_of W.meaning (layout_of self.old.plan))
             self.old.parts ∥₁ }
         ensures same_plan { self.new.plan ≡ self.old.plan }
         ensures same_parts { self.new.parts ≡ self.old.parts }
         ensures due { IfOk result (λ next. IfSome next (λ event. IsDue (layout_of self.old.plan)
-            (works_of W.meaning (layout_of self.old.plan)) self.old.parts (net_event event))) }
+            (works_of W.meaning (layout_of self.old.plan)) self.old.parts (event_of event))) }
         ensures none { IfOk result (λ next. IfNone next (IsStill (layout_of self.old.plan)
             (works_of W.meaning (layout_of self.old.plan)) self.old.parts)) }
         ensures ids { IfErr result (λ fault. fault ≡ Ids) }

@@ -2,10 +2,14 @@
 #![tactic(auto)]
 
 mod agenda;
+mod crew;
+mod drive;
+mod due;
 mod engine;
 mod event;
 mod fault;
 mod find;
+mod job;
 mod laws;
 mod make;
 mod net;

@@ -1,12 +1,15 @@
 //! A network with one owner: what is posted goes from block to block until nothing can move.
-ghost use Rattle.std.specs.Prelude.{◌≡◌, ◌<◌, length};
+ghost use Rattle.std.specs.Prelude.{◌≡◌, ◌<◌, length, IfSome, None};
 ghost use Rattle.flow_link.specs.Planned.{layout_of};
 ghost use Rattle.flow_intake.specs.PortLaw.{has_ended};
 ghost use Rattle.flow_block.specs.Block.{port_at};
 ghost use Rattle.flow_core.specs.Keeps.{NetKeeps};
-ghost use Rattle.flow_moves.specs.Works.{works_of};
+ghost use Rattle.flow_exec.specs.Works.{works_of};
+ghost use Rattle.flow_net.specs.Dues.{event_of};
+ghost use Rattle.flow_net.specs.Events.{net_event, IsOfJob};
 ghost use Rattle.flow_net.specs.States.{state_told};
 
+use crate::due::Due;
 use crate::engine::Engine;
 use crate::event::{Event, Stepped};
 use crate::fault::NetFault;
@@ -16,6 +19,8 @@ use flow_link::{Mark, Outcome, Plan};
 use flow_value::{Value, Work};
 use std::alloc::Global;
 use std::collections::VecDeque;
+use std::sync::Wait;
+use std::thread::Threads;
 
 /// Blocks and links with what has become of them so far.
 #[derive(Drop)]
@@ -34,7 +39,7 @@ impl<W: Work> Net<W> {
     ghost use Rattle.flow_core.specs.AtRest.{AtRest};
     ghost use Rattle.flow_core.specs.Events.{MayHappen, after};
     ghost use Rattle.flow_core.specs.Statements.{IsStill};
-    ghost use Rattle.flow_net.specs.Events.{net_event};
+    ghost use Rattle.flow_net.specs.Events.{IsRefused};
     ghost use Rattle.flow_net.specs.Net.{layout_in, parts_of, run_of};
     ghost use Rattle.flow_net.specs.States.{state_by};
     ghost use Rattle.flow_net.specs.Settles.{Settles, GoesOn};
@@ -61,6 +66,42 @@ impl<W: Work> Net<W> {
         self.engine.settle(alloc, limit)
     }
 
+    /// The same as `settle`, by several threads: the calling one, and at most one fewer than there are workers.
+    ///
+    /// A block with several `lanes` (in .NET its `MaxDegreeOfParallelism`) works on up to so many messages at a time, each
+    /// in one of these threads; its results go on in the order of its messages. All that blocks with one lane do, and all
+    /// links, are the calling thread's, which runs jobs too before it waits for others. So workers above the lanes of all
+    /// blocks are not made use of.
+    ///
+    /// The threads are made for this call, and have ended when it returns, whatever comes of it: there is no
+    /// `TaskScheduler`, and nothing goes on behind the caller's back. Where no thread can be made, where there is no
+    /// memory for the crew, with no worker or one, and in a network without such blocks, the calling thread does all of it.
+    ///
+    /// Where the limit stops it, jobs may be out: their messages are in their blocks, and are worked on anew by the next
+    /// call of this or of `settle`.
+    pub fn settle_with<R: Threads + Wait + Sync>(
+        &mut self,
+        rt: &R,
+        alloc: Global,
+        workers: usize,
+        limit: u64,
+    ) -> Result<Settled, NetFault>
+        ensures same_plan { layout_in self.new ≡ layout_in self.old }
+        ensures settled { IfOk result (Settles (layout_in self.old) (works_of W.meaning (layout_in self.old)) limit
+            (parts_of self.old) (parts_of self.new)) }
+        ensures goes_on { GoesOn (layout_in self.old) (works_of W.meaning (layout_in self.old)) limit
+            (parts_of self.old) (parts_of self.new) }
+        ensures lawful { Lawful (run_of W.meaning self.new) }
+        ensures quiet { result ≡ Ok Settled.Quiet → Quiet (run_of W.meaning self.new) }
+        ensures at_rest { result ≡ Ok Settled.Quiet → AtRest (layout_in self.new) (parts_of self.new) }
+        ensures used_up { result ≡ Err Ids → NeedsId (layout_in self.new) (works_of W.meaning (layout_in self.new))
+            (parts_of self.new) }
+        ensures never { result ≢ Err NotEnabled }
+        ensures same_inputs { (run_of W.meaning self.new).trace.inputs ≡ (run_of W.meaning self.old).trace.inputs }
+    {
+        self.engine.settle_with(rt, alloc, workers, limit)
+    }
+
     /// Does this event, if it may happen. One that names a link, block or port which the plan has not is not enabled.
     /// After a refusal the network is as it was.
     pub fn event(
@@ -74,12 +115,69 @@ impl<W: Work> Net<W> {
         ensures moved { OnOk result (parts_of self.new ≡ after (layout_in self.old)
             (works_of W.meaning (layout_in self.old)) (net_event event) (parts_of self.old)) }
         ensures kept { OnErr result (parts_of self.new ≡ parts_of self.old) }
-        ensures why { IfErr result (λ refused. IsWhyNot (layout_in self.old) (works_of W.meaning (layout_in self.old))
-            (parts_of self.old) (net_event event) refused.1) }
+        ensures why { IfErr result (λ refused. IsRefused W.eq (layout_in self.old)
+            (works_of W.meaning (layout_in self.old)) (parts_of self.old) event refused.1) }
         ensures back { IfErr result (λ refused. refused.0 ≡ event) }
         ensures lawful { Lawful (run_of W.meaning self.new) }
     {
-        match self.engine.event(alloc, &event) {
+        match due_of(&event) {
+            Some(due) => self.step(alloc, due, event),
+            None => self.step_job(alloc, event),
+        }
+    }
+
+    /// Does this event, by which a job begins or its result comes back.
+    fn step_job(
+        &mut self,
+        alloc: Global,
+        event: Event<W>,
+    ) -> Result<Stepped<W>, (Event<W>, NetFault)>
+        requires job { IsOfJob event }
+        ensures same_plan { layout_in self.new ≡ layout_in self.old }
+        ensures enabled { OnOk result (MayHappen (layout_in self.old) (works_of W.meaning (layout_in self.old))
+            (net_event event) (parts_of self.old)) }
+        ensures moved { OnOk result (parts_of self.new ≡ after (layout_in self.old)
+            (works_of W.meaning (layout_in self.old)) (net_event event) (parts_of self.old)) }
+        ensures kept { OnErr result (parts_of self.new ≡ parts_of self.old) }
+        ensures why { IfErr result (λ refused. IsRefused W.eq (layout_in self.old)
+            (works_of W.meaning (layout_in self.old)) (parts_of self.old) event refused.1) }
+        ensures back { IfErr result (λ refused. refused.0 ≡ event) }
+        ensures lawful { Lawful (run_of W.meaning self.new) }
+    {
+        match event {
+            Event::Begin(number) => match self.engine.begin_job(alloc, number) {
+                Ok(job) => Ok(Stepped::Began(job)),
+                Err(fault) => Err((Event::Begin(number), fault)),
+            },
+            Event::End(number, done) => match self.engine.end_job(number, done) {
+                Ok(()) => Ok(Stepped::Moved),
+                Err((done, fault)) => Err((Event::End(number, done), fault)),
+            },
+            _ => unreachable!(),
+        }
+    }
+
+    /// Does this event, which is no job's.
+    fn step(
+        &mut self,
+        alloc: Global,
+        due: Due,
+        event: Event<W>,
+    ) -> Result<Stepped<W>, (Event<W>, NetFault)>
+        requires same { net_event event ≡ event_of due }
+        requires driven { IsOfJob event → ⊥ }
+        ensures same_plan { layout_in self.new ≡ layout_in self.old }
+        ensures enabled { OnOk result (MayHappen (layout_in self.old) (works_of W.meaning (layout_in self.old))
+            (event_of due) (parts_of self.old)) }
+        ensures moved { OnOk result (parts_of self.new ≡ after (layout_in self.old)
+            (works_of W.meaning (layout_in self.old)) (event_of due) (parts_of self.old)) }
+        ensures kept { OnErr result (parts_of self.new ≡ parts_of self.old) }
+        ensures why { IfErr result (λ refused. IsWhyNot (layout_in self.old) (works_of W.meaning (layout_in self.old))
+            (parts_of self.old) (event_of due) refused.1) }
+        ensures back { IfErr result (λ refused. refused.0 ≡ event) }
+        ensures lawful { Lawful (run_of W.meaning self.new) }
+    {
+        match self.engine.event(alloc, &due) {
             Ok(()) => Ok(Stepped::Moved),
             Err(fault) => Err((event, fault)),
         }
@@ -154,6 +252,22 @@ impl<W: Work> Net<W> {
         ensures { result.now ≡ (trace_of (run_of W.meaning self.now) block).recorded }
     {
         self.engine.parts.node(block).block().recorded()
+    }
+}
+
+/// The event as a driver finds it; none where a job begins or its result comes back.
+fn due_of<W: Work>(event: &Event<W>) -> Option<Due>
+    ensures same { IfSome result (λ due. net_event event.now ≡ event_of due) }
+    ensures driven { IfSome result (λ due. IsOfJob event.now → ⊥) }
+    ensures job { result ≡ None → IsOfJob event.now }
+{
+    match *event {
+        Event::Begin(_) | Event::End(_, _) => None,
+        Event::Link(id, next) => Some(Due::Link(id, next)),
+        Event::Make(number) => Some(Due::Make(number)),
+        Event::Complete(number, port) => Some(Due::Complete(number, port)),
+        Event::Fault(number) => Some(Due::Fault(number)),
+        Event::Done(number) => Some(Due::Done(number)),
     }
 }
 

@@ -1,20 +1,21 @@
 //! Messages that go over a link in one call.
-ghost use Rattle.std.specs.Prelude.{◌≡◌, ◌≢◌, ◌<◌, ◌≤◌, true, length, IfOk, IfErr, OnErr, Err};
+ghost use Rattle.std.specs.Prelude.{◌≡◌, ◌≢◌, ◌<◌, ◌≤◌, true, false, [], length, IfOk, IfErr, OnErr, Err};
 ghost use Rattle.flow_link.specs.declared.phase.Move.TheVariants.{Offer};
 ghost use Rattle.flow_link.specs.Planned.{layout_of};
 ghost use Rattle.flow_block.specs.Routes.{route_of};
-ghost use Rattle.flow_core.specs.Events.{MayHappen, NetEvent};
+ghost use Rattle.flow_core.specs.Events.{Enabled, MayHappen, NetEvent};
 ghost use Rattle.flow_core.specs.Keeps.{NetKeeps};
+ghost use Rattle.flow_core.specs.State.{node_at};
 ghost use Rattle.flow_moves.specs.Passes.{id_next, may_pass};
-ghost use Rattle.flow_moves.specs.Works.{works_of};
-ghost use Rattle.flow_net.specs.Events.{net_event};
+ghost use Rattle.flow_exec.specs.Works.{works_of};
+ghost use Rattle.flow_net.specs.Dues.{event_of};
 ghost use Rattle.flow_net.specs.Happened.{Happened};
 ghost use Rattle.flow_net.specs.There.{IsDue, NeedsId};
 ghost use Rattle.flow_net.specs.declared.fault.NetFault.TheVariants.{NotEnabled, Ids, Memory};
 
 use crate::agenda::Spot;
+use crate::due::Due;
 use crate::engine::Engine;
-use crate::event::Event;
 use crate::fault::NetFault;
 use flow_link::Move;
 use flow_value::Work;
@@ -22,6 +23,9 @@ use std::alloc::Global;
 
 /// The events of a message that goes over a link in one call: it is offered, wanted, given, opened and taken.
 const PASS: u64 = 5;
+
+/// The events of a message that is worked on at once: the job begins, and its result comes back.
+const WORK: u64 = 2;
 
 impl<W: Work> Engine<W> {
     /// Goes on with the message that moved last, where it can. Answers how many events that took, of at most so many.
@@ -40,7 +44,7 @@ impl<W: Work> Engine<W> {
     {
         match self.agenda.take_next() {
             Some(Spot::Block(number)) if number < self.plan.block_count() => {
-                self.work_on(alloc, number)
+                self.work_on(alloc, number, most)
             }
             Some(Spot::Link(id)) if id < self.plan.link_count() => self.move_on(alloc, id, most),
             _ => Ok(0),
@@ -49,26 +53,56 @@ impl<W: Work> Engine<W> {
 
     /// Has a block work on the message that waits longest, and lists where something may be able to happen after it; or
     /// lists the block, where none may be worked on.
-    fn work_on(&mut self, alloc: Global, number: usize) -> Result<u64, NetFault>
+    fn work_on(&mut self, alloc: Global, number: usize, most: u64) -> Result<u64, NetFault>
         requires kept { ∥ NetKeeps (layout_of self.old.plan) (works_of W.meaning (layout_of self.old.plan))
             self.old.parts ∥₁ }
         requires known { number < length (layout_of self.old.plan).blocks }
+        requires some { 0 < most }
         ensures same_plan { self.new.plan ≡ self.old.plan }
         ensures happened { IfOk result (λ count. Happened (layout_of self.old.plan)
             (works_of W.meaning (layout_of self.old.plan)) count self.old.parts self.new.parts) }
-        ensures within { IfOk result (λ count. count ≤ 1) }
+        ensures within { IfOk result (λ count. count ≤ most) }
         ensures kept { OnErr result (self.new.parts ≡ self.old.parts) }
         ensures used_up { result ≡ Err Ids → NeedsId (layout_of self.old.plan)
             (works_of W.meaning (layout_of self.old.plan)) self.old.parts }
         ensures never { result ≢ Err NotEnabled }
     {
-        if !self.parts.node(number).block().may_make() {
-            self.agenda.list(Spot::Block(number));
-            return Ok(0);
+        let block = self.parts.node(number).block();
+        if block.may_make() {
+            self.make(number)?;
+            self.agenda.list_after_make(&self.parts, number);
+            return Ok(1);
         }
-        self.make(alloc, number)?;
-        self.agenda.list_after_make(&self.parts, number);
-        Ok(1)
+        let may_work = most >= WORK && block.is_idle() && block.may_begin();
+        if may_work && self.work_at_once(alloc, number)? {
+            return Ok(WORK);
+        }
+        self.agenda.list(Spot::Block(number));
+        Ok(0)
+    }
+
+    /// Has a block that works on nothing work on the message that waits longest, and lists where something may be able to
+    /// happen after it: two events. Nothing has happened where a message id is wanting for the result.
+    fn work_at_once(&mut self, alloc: Global, number: usize) -> Result<bool, NetFault>
+        requires kept { ∥ NetKeeps (layout_of self.old.plan) (works_of W.meaning (layout_of self.old.plan))
+            self.old.parts ∥₁ }
+        requires enabled { Enabled (layout_of self.old.plan) self.old.parts (NetEvent.begin number) }
+        requires idle { (node_at self.old.parts number).block.jobs.slots ≡ [] }
+        ensures same_plan { self.new.plan ≡ self.old.plan }
+        ensures worked { IfOk result (λ worked. worked ≡ true → Happened (layout_of self.old.plan)
+            (works_of W.meaning (layout_of self.old.plan)) 2 self.old.parts self.new.parts) }
+        ensures none { IfOk result (λ worked. worked ≡ false → self.new.parts ≡ self.old.parts) }
+        ensures kept { OnErr result (self.new.parts ≡ self.old.parts) }
+        ensures memory { IfErr result (λ fault. fault ≡ Memory) }
+    {
+        match self.work(alloc, number) {
+            Ok(()) => {
+                self.agenda.list_after_make(&self.parts, number);
+                Ok(true)
+            }
+            Err(NetFault::Ids) => Ok(false),
+            Err(_) => Err(NetFault::Memory),
+        }
     }
 
     /// Does what would happen next at a link, as far as so many events.
@@ -94,16 +128,11 @@ impl<W: Work> Engine<W> {
 
     /// Does an event that is due, and with an offer that its target takes at once the four that follow. Answers how many
     /// events those are, of at most so many.
-    pub(crate) fn advance(
-        &mut self,
-        alloc: Global,
-        event: &Event<W>,
-        most: u64,
-    ) -> Result<u64, NetFault>
+    pub(crate) fn advance(&mut self, alloc: Global, event: &Due, most: u64) -> Result<u64, NetFault>
         requires kept { ∥ NetKeeps (layout_of self.old.plan) (works_of W.meaning (layout_of self.old.plan))
             self.old.parts ∥₁ }
         requires due { IsDue (layout_of self.old.plan) (works_of W.meaning (layout_of self.old.plan)) self.old.parts
-            (net_event event.now) }
+            (event_of event.now) }
         requires some { 0 < most }
         ensures same_plan { self.new.plan ≡ self.old.plan }
         ensures happened { IfOk result (λ count. Happened (layout_of self.old.plan)
@@ -112,12 +141,18 @@ impl<W: Work> Engine<W> {
         ensures within { IfOk result (λ count. count ≤ most) }
         ensures kept { OnErr result (self.new.parts ≡ self.old.parts) }
         ensures used_up { result ≡ Err Ids → MayHappen (layout_of self.old.plan)
-            (works_of W.meaning (layout_of self.old.plan)) (net_event event.now) self.old.parts → ⊥ }
+            (works_of W.meaning (layout_of self.old.plan)) (event_of event.now) self.old.parts → ⊥ }
         ensures never { result ≢ Err NotEnabled }
     {
-        if let Event::Link(id, Move::Offer(_)) = *event {
+        if let Due::Link(id, Move::Offer(_)) = *event {
             if most >= PASS && self.may_pass(id) {
                 return self.pass(alloc, id);
+            }
+        }
+        if let Due::Begin(number) = *event {
+            let may_work = most >= WORK && self.parts.node(number).block().is_idle();
+            if may_work && self.work_at_once(alloc, number)? {
+                return Ok(WORK);
             }
         }
         self.go(alloc, event)?;

@@ -1,5 +1,5 @@
 -- Each call of an outlet keeps its law.
-use Rattle.std.proofs.Common.{◌≡◌, ◌≢◌, ℕ, ◌+◌, ◌^◌, ◌<◌, ◌≤◌, ◌==◌, not, zero, suc, Bool, true, false, cond, List, [], ◌∷◌, ◌++◌, length, set, map, Option, Some, None, is_some, unwrap_or, refl, sym, ◌∙◌, ap, subst, inl, inr, arith}
+use Rattle.std.proofs.Common.{◌≡◌, ◌≢◌, ℕ, ◌+◌, ◌-◌, ◌^◌, ◌<◌, ◌≤◌, ◌==◌, not, zero, suc, Bool, true, false, cond, List, [], ◌∷◌, ◌++◌, length, set, map, Option, Some, None, is_some, unwrap_or, refl, sym, ◌∙◌, ap, subst, inl, inr, arith}
 use Rattle.std.specs.Bool.{OnTrue}
 use Rattle.std.specs.Option.{ForSome}
 use Rattle.std.proofs.lemmas.Bool.{cases_eq, OnTrue_at, OnTrue_from, and_parts, not-false}
@@ -20,10 +20,10 @@ use Rattle.flow_link.proofs.ListTests.{never_both}
 use Rattle.flow_outlet.specs.declared.ends.LinkRule.{LinkRule}
 use Rattle.flow_outlet.specs.declared.ends.OutEnd.{OutEnd}
 use Rattle.flow_outlet.specs.End.{id_of, speaks_of, is_out, is_over, is_free, is_waiting, is_cut, is_limit, rejects, end_in, no_end, fresh_end, counted}
-use Rattle.flow_outlet.specs.Outlet.{OutletState, head_of, first_of, rest_of, is_empty, end_at, stage_at, end_of, may_offer, offers, looks, offer_kept, may_give, is_wanted, gives, given_end, is_wish, denies, withdraws, ends_link, changes, puts, lacks_ids, prepares, fresh_outlet}
+use Rattle.flow_outlet.specs.Outlet.{OutletState, head_of, first_of, rest_of, is_empty, end_at, stage_at, end_of, may_offer, offers, looks, offer_kept, may_give, is_wanted, gives, given_end, is_wish, denies, withdraws, ends_link, changes, puts, sets_aside, puts_aside, lacks_ids, lacks_ids_for, prepares, fresh_outlet}
 use Rattle.flow_outlet.specs.Law.{EndLaw, OutletLaw, is_put_off, is_posted, is_refused, admits_head, may_go_past}
 use Rattle.flow_outlet.proofs.LookTells.{look_tells}
-use Rattle.flow_outlet.proofs.OutletFits.{ids_there}
+use Rattle.flow_outlet.proofs.OutletFits.{ids_there, ids_there_for}
 use Rattle.flow_outlet.proofs.OffersInOrder.{offers_in_order}
 use Rattle.flow_outlet.proofs.OneEndChanges.{each_set, one_changes}
 use Rattle.flow_outlet.proofs.StagesTell.{free_is, goes_past_well, id_speaks, kept_mine, kept_other, kept_out, none_true, number_below, number_same, out_speaks, past_stays, speaks_id, waits_for, was_offer, wish_home}
@@ -179,20 +179,46 @@ head_stays : (left values : List Value) (when : When) → admits_head when (firs
 head_stays [] values when e = cc
 head_stays (value ∷ left) values when e = refl
 
-pub puts_keep : (pending : Bool) (stopped : Option Outcome) (o : OutletState) → OutletLaw pending stopped o
-    → (values : List Value) (weight : ℕ) → lacks_ids values o ≡ false → OutletLaw pending stopped (puts values weight o)
-puts_keep pending stopped o law values weight enough =
+-- what is put keeps the law, where the ids of it and of what is set aside fit then
+put_keeps : (pending : Bool) (stopped : Option Outcome) (o : OutletState) → OutletLaw pending stopped o
+    → (values : List Value) (weight spare : ℕ) → o.next + length (o.left ++ values) + spare ≤ 2 ^ 59
+    → OutletLaw pending stopped (record (puts values weight o) { spare = spare })
+put_keeps pending stopped o law values weight spare fit =
     let stays = λ (k : ℕ) (l : k < length o.ends) (e : speaks_of o.next (stage_at o k) ≡ true).
     head_stays o.left values (end_at o k).rule.when (OnTrue_at e (law.each k l).admitted) in
     record {
       begins = law.begins;
-      ids = omega (arith, ids_there values o.left o.next law.ids enough, length-append o.left values);
+      ids = fit;
       each = λ k l. put_each o.left values o.next k (end_at o k) o.offer pending stopped (law.each k l);
       offer_there = law.offer_there;
       offer_out = law.offer_out;
       ready = λ k l e. law.ready k l e ∙ sym (stays k l e);
       in_order = λ j k before l e. rw (stays k l e) (law.in_order j k before l e);
     }
+
+pub puts_keep : (pending : Bool) (stopped : Option Outcome) (o : OutletState) → OutletLaw pending stopped o
+    → (values : List Value) (weight : ℕ) → lacks_ids values o ≡ false → OutletLaw pending stopped (puts values weight o)
+puts_keep pending stopped o law values weight enough =
+    put_keeps pending stopped o law values weight o.spare
+    (omega (arith, ids_there values o.left o.next o.spare law.ids enough, length-append o.left values))
+
+pub puts_aside_keep : (pending : Bool) (stopped : Option Outcome) (o : OutletState) → OutletLaw pending stopped o
+    → (values : List Value) (weight : ℕ) → length values ≤ o.spare → OutletLaw pending stopped (puts_aside values weight o)
+puts_aside_keep pending stopped o law values weight aside =
+    put_keeps pending stopped o law values weight (o.spare - length values)
+    (omega (arith, law.ids, aside, length-append o.left values))
+
+pub sets_aside_keep : (pending : Bool) (stopped : Option Outcome) (o : OutletState) → OutletLaw pending stopped o
+    → (count : ℕ) → lacks_ids_for count o ≡ false → OutletLaw pending stopped (sets_aside count o)
+sets_aside_keep pending stopped o law count enough = record {
+  begins = law.begins;
+  ids = omega (arith, ids_there_for count (o.next + length o.left + o.spare) law.ids enough);
+  each = law.each;
+  offer_there = law.offer_there;
+  offer_out = law.offer_out;
+  ready = law.ready;
+  in_order = law.in_order;
+}
 
 pub prepares_keep : (pending : Bool) (stopped : Option Outcome) (o : OutletState) → OutletLaw pending stopped o
     → OutletLaw pending stopped (prepares o)
@@ -255,10 +281,10 @@ one_more : (max : Option ℕ) (given : ℕ) → HasRoom max given → IsWithin m
 one_more None given room = tt
 one_more (Some max) given room = omega (arith, room)
 
-rest_fits : (left : List Value) (next : ℕ) (when : When) → admits_head when (first_of left) ≡ true
-    → next + length left ≤ 2 ^ 59 → next + 1 + length (rest_of left) ≤ 2 ^ 59
-rest_fits [] next when e fit = cc
-rest_fits (value ∷ left) next when e fit = omega (arith, fit)
+rest_fits : (left : List Value) (next spare : ℕ) (when : When) → admits_head when (first_of left) ≡ true
+    → next + length left + spare ≤ 2 ^ 59 → next + 1 + length (rest_of left) + spare ≤ 2 ^ 59
+rest_fits [] next spare when e fit = cc
+rest_fits (value ∷ left) next spare when e fit = omega (arith, fit)
 
 -- nobody speaks of a later message yet
 later_silent : (next : ℕ) (stage : SourceStage) → ForSome (id_of stage) (λ i. i ≤ next) → speaks_of (next + 1) stage ≡ true → ⊥
@@ -322,7 +348,7 @@ module _ {pending : Bool} {stopped : Option Outcome} (o : OutletState) (law : Ou
   pub gives_keep : HasRoom (end_at o k).rule.max (end_at o k).given → OutletLaw pending stopped (gives k o)
   gives_keep room = record {
     begins = omega (arith, law.begins);
-    ids = rest_fits o.left o.next (end_at o k).rule.when given_admitted law.ids;
+    ids = rest_fits o.left o.next o.spare (end_at o k).rule.when given_admitted law.ids;
     each = each_set (λ j e. EndLaw (o.next + 1) (first_of (rest_of o.left)) None pending stopped j e) o.ends k
         (given_end o.next (end_at o k)) here (given_here room) (λ j l other. given_elsewhere j (end_at o j) other (law.each j l));
     offer_there = λ j e. cc;

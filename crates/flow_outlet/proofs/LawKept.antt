@@ -1,6 +1,6 @@
 -- Each call keeps the outlet's law.
 use Rattle.flow_outlet.specs.Keeps.{CallsKeepLaw, GivesInOrder}
-use Rattle.flow_outlet.proofs.EndsKeepLaw.{given_admitted, given_in_order, gives_keep, looks_keep, offers_keep, puts_keep, prepares_keep, room_keeps, fresh_keeps, denies_keep, withdraws_keep, ends_keep, fault_keeps, stop_keeps}
+use Rattle.flow_outlet.proofs.EndsKeepLaw.{given_admitted, given_in_order, gives_keep, looks_keep, offers_keep, puts_keep, sets_aside_keep, puts_aside_keep, prepares_keep, room_keeps, fresh_keeps, denies_keep, withdraws_keep, ends_keep, fault_keeps, stop_keeps}
 
 pub gives_in_order : GivesInOrder
 gives_in_order = record {
@@ -12,6 +12,8 @@ pub calls_keep_law : CallsKeepLaw
 calls_keep_law = record {
   fresh = fresh_keeps;
   put = puts_keep;
+  set_aside = sets_aside_keep;
+  put_aside = puts_aside_keep;
   prepare = prepares_keep;
   room_back = room_keeps;
   offer = offers_keep;

@@ -13,6 +13,8 @@ given_first (value ∷ left) = append-nil (value ∷ left)
 
 one_call : (call : Call) (o : OutletState) → o.left ++ put_by call ≡ given_by call o ++ (after call o).left
 one_call (Call.put values weight) o = refl
+one_call (Call.set_aside count) o = append-nil o.left
+one_call (Call.put_aside values weight) o = refl
 one_call (Call.give k) o = given_first o.left
 one_call Call.prepare o = append-nil o.left
 one_call (Call.offer k) o = append-nil o.left
@@ -33,6 +35,9 @@ values_kept (call ∷ calls) o =
 one_weight : (call : Call) (o : OutletState)
     → o.room + weight_of o.groups + weight_by call ≡ told_by call o + ((after call o).room + weight_of (after call o).groups)
 one_weight (Call.put values weight) o =
+    omega (arith, room_put (o.next + length o.left) (length values) weight o.room o.groups)
+one_weight (Call.set_aside count) o = omega arith
+one_weight (Call.put_aside values weight) o =
     omega (arith, room_put (o.next + length o.left) (length values) weight o.room o.groups)
 one_weight (Call.give k) o = omega (arith, weight_stays o.next o.groups)
 one_weight Call.prepare o = omega arith

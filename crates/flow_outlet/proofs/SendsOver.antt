@@ -15,7 +15,7 @@ use Rattle.flow_outlet.specs.Order.{IsNextOffer}
 use Rattle.flow_outlet.specs.Outlet.{OutletState, first_of, rest_of, end_at, looks, gives, offer_kept, given_end, groups_after, weight_at, recounted}
 use Rattle.flow_outlet.specs.Sends.{sends, sent_end}
 use Rattle.flow_outlet.proofs.CursorMoves.{count_is}
-use Rattle.flow_outlet.proofs.OutletFits.{weight_stays}
+use Rattle.flow_outlet.proofs.OutletFits.{weight_stays, fewer_groups}
 
 free_not_away : (stage : SourceStage) → is_free stage ≡ true → is_away stage ≡ false
 free_not_away Free e = refl
@@ -51,7 +51,7 @@ same_count : (test : SourceStage → Bool) (ends : List OutEnd) (k : ℕ) (end :
     → recounted count (test (end_in ends k).stage) (test end.stage) ≡ count
 same_count test ends k end count l before after = rw (before, after) refl
 
-module _ {ends : List OutEnd} {left : List Value} {next : ℕ} {parcel : Option Value} {groups : List Group} {room cursor away waiting : ℕ} (fits : Fits ends left next parcel groups room cursor away waiting) (k : ℕ) (l : k < length ends) (free : is_free (end_in ends k).stage ≡ true) (before : OutEnd) (is : before ≡ get_or ends k before) where
+module _ {ends : List OutEnd} {left : List Value} {next : ℕ} {parcel : Option Value} {groups : List Group} {room cursor away waiting spare space slots : ℕ} (fits : Fits ends left next parcel groups room cursor away waiting spare space slots) (k : ℕ) (l : k < length ends) (free : is_free (end_in ends k).stage ≡ true) (before : OutEnd) (is : before ≡ get_or ends k before) where
   was : before ≡ end_in ends k
   was = get_or_read ends k before l is no_end
 
@@ -66,14 +66,16 @@ module _ {ends : List OutEnd} {left : List Value} {next : ℕ} {parcel : Option 
   pub fits_sent : (value : Value) (rest : List Value) → left ≡ value ∷ rest
       → Fits (set ends k (sent_end next before)) rest (next + 1) None (groups_after next groups)
       (room + weight_at next groups)
-      (0 + place_in (next + 1) (first_of rest) (drop 0 (set ends k (sent_end next before)))) away waiting
+      (0 + place_in (next + 1) (first_of rest) (drop 0 (set ends k (sent_end next before)))) away waiting spare space slots
   fits_sent value rest e = record {
     few = omega (arith, fits.few, length-set ends k (sent_end next before));
     cursor_is = omega arith;
     away_is = uncounted is_away away fits.away_is (free_not_away (end_in ends k).stage free) refl;
     waiting_is = uncounted is_waiting waiting fits.waiting_is (free_not_waiting (end_in ends k).stage free) refl;
     ids_begin = omega (arith, fits.ids_begin);
-    ids_fit = let all : next + length (value ∷ rest) ≤ 2 ^ 59 = rw e at fits.ids_fit in omega arith;
+    ids_fit = let all : next + length (value ∷ rest) + spare ≤ 2 ^ 59 = rw e at fits.ids_fit in omega arith;
+    values_fit = let all : length (value ∷ rest) + spare ≤ space = rw e at fits.values_fit in omega arith;
+    groups_fit = omega (arith, fits.groups_fit, fewer_groups next groups);
     room_fits = omega (arith, fits.room_fits, weight_stays next groups);
     parcel_is = λ _ none. cc;
   }
@@ -140,6 +142,7 @@ pub is_sent : (o : OutletState) (k : ℕ) → IsNextOffer o k → (before end : 
       parcel = parcel;
       groups = groups;
       room = o.room + back;
+      spare = o.spare;
     }
     ≡ sends k o
 is_sent o k next before end is counts value rest e parcel none groups kept back weight =

@@ -71,6 +71,8 @@ pub weights_come_in_time : WeightsComeInTime
 weights_come_in_time = record {
   fresh = λ rules first. tt;
   put = put_rises;
+  set_aside = λ o count rising. rising;
+  put_aside = put_rises;
   give = λ o k some rising. give_left o.left o.next o.groups some rising;
   all = λ o rising e. none_then o.left o.next o.groups rising e;
 }

@@ -4,11 +4,13 @@ use Rattle.flow_value.specs.declared.value.Value.{Value}
 use Rattle.flow_link.specs.declared.phase.LinkEnd.{LinkEnd}
 use Rattle.flow_link.specs.declared.phase.Phase.{Phase}
 use Rattle.flow_outlet.specs.Fits.{weight_of}
-use Rattle.flow_outlet.specs.Outlet.{OutletState, head_of, puts, prepares, offers, looks, gives, denies, withdraws, ends_link}
+use Rattle.flow_outlet.specs.Outlet.{OutletState, head_of, puts, sets_aside, puts_aside, prepares, offers, looks, gives, denies, withdraws, ends_link}
 
 -- the calls that change an outlet, at places
 pub data Call : Type 0 where
   put : List Value → ℕ → Call
+  set_aside : ℕ → Call
+  put_aside : List Value → ℕ → Call
   prepare : Call
   offer : ℕ → Call
   look : ℕ → Phase → Call
@@ -20,6 +22,8 @@ pub data Call : Type 0 where
 
 abbrev pub after : Call → OutletState → OutletState
 after (Call.put values weight) o = puts values weight o
+after (Call.set_aside count) o = sets_aside count o
+after (Call.put_aside values weight) o = puts_aside values weight o
 after Call.prepare o = prepares o
 after (Call.offer k) o = offers k o
 after (Call.look k phase) o = looks k phase o
@@ -32,6 +36,7 @@ after Call.room_back o = record o { room = 0 }
 -- what a call puts in, and what it gives out
 abbrev pub put_by : Call → List Value
 put_by (Call.put values weight) = values
+put_by (Call.put_aside values weight) = values
 put_by _ = []
 
 abbrev pub listed : Option Value → List Value
@@ -45,6 +50,7 @@ given_by _ o = []
 -- the weight that a call puts in, and the room that it tells
 abbrev pub weight_by : Call → ℕ
 weight_by (Call.put values weight) = weight
+weight_by (Call.put_aside values weight) = weight
 weight_by _ = 0
 
 abbrev pub told_by : Call → OutletState → ℕ

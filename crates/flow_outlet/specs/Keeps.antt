@@ -9,7 +9,7 @@ use Rattle.flow_link.specs.LinkOk.{HasRoom}
 use Rattle.flow_link.specs.Stage.{source_looks}
 use Rattle.flow_outlet.specs.declared.ends.LinkRule.{LinkRule}
 use Rattle.flow_outlet.specs.End.{is_free, is_waiting, speaks_of}
-use Rattle.flow_outlet.specs.Outlet.{OutletState, head_of, end_at, stage_at, fresh_outlet, lacks_ids, puts, prepares, may_offer, offers, looks, may_give, gives, is_wish, denies, withdraws, end_of, ends_link}
+use Rattle.flow_outlet.specs.Outlet.{OutletState, head_of, end_at, stage_at, fresh_outlet, lacks_ids, lacks_ids_for, puts, sets_aside, puts_aside, prepares, may_offer, offers, looks, may_give, gives, is_wish, denies, withdraws, end_of, ends_link}
 use Rattle.flow_outlet.specs.Law.{OutletLaw, is_put_off, admits_head, may_go_past}
 
 -- a fact of each outlet that keeps its law, at each of its ends
@@ -23,6 +23,11 @@ pub record CallsKeepLaw : Type 0 where
       → OutletLaw pending stopped (fresh_outlet rules first)
   pub put : (pending : Bool) (stopped : Option Outcome) (o : OutletState) → OutletLaw pending stopped o
       → (values : List Value) (weight : ℕ) → lacks_ids values o ≡ false → OutletLaw pending stopped (puts values weight o)
+  pub set_aside : (pending : Bool) (stopped : Option Outcome) (o : OutletState) → OutletLaw pending stopped o
+      → (count : ℕ) → lacks_ids_for count o ≡ false → OutletLaw pending stopped (sets_aside count o)
+  -- what is put aside has its ids already
+  pub put_aside : (pending : Bool) (stopped : Option Outcome) (o : OutletState) → OutletLaw pending stopped o
+      → (values : List Value) (weight : ℕ) → length values ≤ o.spare → OutletLaw pending stopped (puts_aside values weight o)
   pub prepare : (pending : Bool) (stopped : Option Outcome) (o : OutletState) → OutletLaw pending stopped o
       → OutletLaw pending stopped (prepares o)
   pub room_back : (pending : Bool) (stopped : Option Outcome) (o : OutletState) → OutletLaw pending stopped o

@@ -67,7 +67,8 @@ may_go_past head end = rejects end.rule.when head || not end.rule.steady || is_c
 -- what holds of all
 pub record OutletLaw (pending : Bool) (stopped : Option Outcome) (o : OutletState) : Type 0 where
   pub begins : 1 ≤ o.next
-  pub ids : o.next + length o.left ≤ 2 ^ 59
+  -- what is set aside has its ids, too
+  pub ids : o.next + length o.left + o.spare ≤ 2 ^ 59
   pub each : (k : ℕ) → k < length o.ends → EndLaw o.next (head_of o) o.offer pending stopped k (end_at o k)
   -- what is said to be out is out
   pub offer_there : ForSome o.offer (λ k. k < length o.ends)

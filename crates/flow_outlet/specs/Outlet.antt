@@ -30,6 +30,8 @@ pub record OutletState : Type 0 where
   pub groups : List Group
   -- the weights of the results that were wholly given since this was told last
   pub room : ℕ
+  -- for how many more values memory and ids are set aside
+  pub spare : ℕ
 
 abbrev pub first_of : List Value → Option Value
 first_of [] = None
@@ -55,7 +57,7 @@ stage_at o k = (end_at o k).stage
 -- nothing is put, and nothing has gone over a link
 abbrev pub fresh_outlet : List LinkRule → ℕ → OutletState
 fresh_outlet rules first =
-    record { ends = map fresh_end rules; left = []; next = first; offer = None; parcel = None; groups = []; room = 0 }
+    record { ends = map fresh_end rules; left = []; next = first; offer = None; parcel = None; groups = []; room = 0; spare = 0 }
 
 -- a count, where one end counted before and counts now
 abbrev pub recounted : ℕ → Bool → Bool → ℕ
@@ -72,9 +74,13 @@ restages k stage o = changes k stage (end_at o k).declined o
 
 -- What is put
 
--- the values would need an id above the greatest
+-- the values would need an id above the greatest, beyond those that are set aside
 abbrev pub lacks_ids : List Value → OutletState → Bool
-lacks_ids values o = not (is_empty values) && ltb (2 ^ 59) (o.next + length o.left + length values)
+lacks_ids values o = not (is_empty values) && ltb (2 ^ 59) (o.next + length o.left + o.spare + length values)
+
+-- the same, for so many values
+abbrev pub lacks_ids_for : ℕ → OutletState → Bool
+lacks_ids_for count o = not (count == 0) && ltb (2 ^ 59) (o.next + length o.left + o.spare + count)
 
 -- a result with a weight is kept by the id of its last message; where it has no message, its room is free at once
 abbrev pub groups_with : ℕ → ℕ → ℕ → List Group → List Group
@@ -89,6 +95,14 @@ puts values weight o = record o {
   groups = groups_with (o.next + length o.left) (length values) weight o.groups;
   room = room_with (length values) weight o.room;
 }
+
+-- memory and ids are set aside for so many more values
+abbrev pub sets_aside : ℕ → OutletState → OutletState
+sets_aside count o = record o { spare = o.spare + count }
+
+-- the values are put where memory and ids were set aside for them
+abbrev pub puts_aside : List Value → ℕ → OutletState → OutletState
+puts_aside values weight o = record (puts values weight o) { spare = o.spare - length values }
 
 -- What is offered
 
@@ -140,6 +154,7 @@ gives k o = record {
   parcel = None;
   groups = groups_after o.next o.groups;
   room = o.room + weight_at o.next o.groups;
+  spare = o.spare;
 }
 
 -- the target wants the head: it accepted it, or it claims it or wishes for it while no offer is out

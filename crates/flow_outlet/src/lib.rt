@@ -6,6 +6,8 @@
 //! targets names a link, and tells what its target answered or takes. Where a target takes the head at once, one call
 //! sends it: the offer, the gift and the looks in one.
 //!
+//! Where several results go in together or not at all, memory and ids are set aside for all of them first.
+//!
 //! stage of an end     its next move
 //! free                it offers the head in its turn, or ends
 //! offered, crossing   none: it waits for its target

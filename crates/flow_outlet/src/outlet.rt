@@ -2,13 +2,14 @@
 ghost use Rattle.std.specs.Prelude.{◌≡◌, ◌<◌, ◌≤◌, ◌+◌, ◌-◌, ◌^◌, ◌++◌, ◌∷◌, ◌==◌, ◌↔◌, length, true, is_some};
 ghost use Rattle.std.specs.Prelude.{Some, None, Err, IfOk, IfErr, OnOk, OnErr, MatchResult, cond, drop, map, []};
 ghost use Rattle.std.specs.Option.{option_copied, ForSome};
-ghost use Rattle.std.specs.VecDeque.{deque_len, deque_capacity};
+ghost use Rattle.std.specs.VecDeque.{deque_capacity};
 ghost use Rattle.flow_link.specs.LinkOk.{HasRoom};
 ghost use Rattle.flow_outlet.specs.ByLink.{offer_named, offers_next, IsAsked, answered, MayConsume, consumed};
 ghost use Rattle.flow_outlet.specs.ByLink.{consumes, place_of, forgets, tests_asked, tests_consume};
 ghost use Rattle.flow_outlet.specs.End.{count_at, is_away, is_waiting, is_free, is_cut, place_in, fresh_end};
 ghost use Rattle.flow_outlet.specs.Fits.{weight_of};
 ghost use Rattle.flow_outlet.specs.Outlet.{changes, recounted, first_of, is_empty, fresh_outlet, lacks_ids, puts};
+ghost use Rattle.flow_outlet.specs.Outlet.{lacks_ids_for, sets_aside, puts_aside};
 ghost use Rattle.flow_outlet.specs.Outlet.{groups_with, groups_after, weight_at, may_offer, prepares, offers, looks};
 ghost use Rattle.flow_outlet.specs.Outlet.{gives, may_give, is_wish, denies, withdraws, ends_link, out_move, free_move};
 ghost use Rattle.flow_outlet.specs.Outlet.{answers_wish, end_at, stage_at, is_at_rest, only_waits};
@@ -41,10 +42,13 @@ pub struct Outlet {
     // how many ends are under way, and how many of them only wait
     away: usize,
     waiting: usize,
+    // for how many more values memory and ids are set aside
+    spare: usize,
 }
 
 impl Model for Outlet {
     ghost use Rattle.std.specs.Coded.{codes};
+    ghost use Rattle.std.specs.VecDeque.{deque_capacity};
     ghost use Rattle.flow_value.specs.contracts.value.Value as content;
     ghost use Rattle.flow_outlet.specs.Outlet.{OutletState};
     ghost use Rattle.flow_outlet.specs.Fits.{Fits};
@@ -61,10 +65,11 @@ impl Model for Outlet {
       parcel = o.parcel;
       groups = o.groups.items;
       room = o.room;
+      spare = o.spare;
     } };
 
     ghost invariant = { λ o. Fits o.ends.items o.left.items o.next o.parcel o.groups.items o.room o.cursor o.away
-        o.waiting };
+        o.waiting o.spare (deque_capacity o.left) (deque_capacity o.groups) };
 }
 
 impl Outlet {
@@ -93,6 +98,7 @@ impl Outlet {
             cursor,
             away: 0,
             waiting: 0,
+            spare: 0,
         })
     }
 
@@ -114,7 +120,7 @@ impl Outlet {
     pub fn next(&self) -> u64
         ensures value { result ≡ self.now.next }
         ensures begins { 1 ≤ self.now.next }
-        ensures fits { self.now.next + length self.now.left ≤ 2 ^ 59 }
+        ensures fits { self.now.next + length self.now.left + self.now.spare ≤ 2 ^ 59 }
     {
         self.next
     }
@@ -158,10 +164,11 @@ impl Outlet {
         if self.lacks_ids(&values) {
             return Err((values, OutletFault::Ids));
         }
-        if self.left.reserve(values.len()).is_err() || self.groups.reserve(1).is_err() {
-            return Err((values, OutletFault::Memory));
-        }
         let count = count(&values);
+        let (space, slots) = (self.spare + count, self.spare + 1);
+        let Ok(()) = make_room(&mut self.left, &mut self.groups, space, slots) else {
+            return Err((values, OutletFault::Memory));
+        };
         let start = self.next + left_count(&self.left);
         add_group(&mut self.groups, start, count, weight);
         self.room += weight_at_once(count, weight);
@@ -181,12 +188,13 @@ impl Outlet {
         ensures ids { (result ≡ Err (value, Ids)) ↔ (lacks_ids (value ∷ []) self.old ≡ true) }
     {
         let start = self.next + left_count(&self.left);
-        if start > MAX_ID {
+        if start + self.spare as u64 > MAX_ID {
             return Err((value, OutletFault::Ids));
         }
-        if self.left.reserve(1).is_err() || self.groups.reserve(1).is_err() {
+        let more = self.spare + 1;
+        let Ok(()) = make_room(&mut self.left, &mut self.groups, more, more) else {
             return Err((value, OutletFault::Memory));
-        }
+        };
         add_group(&mut self.groups, start, 1, weight);
         let was_empty = is_empty(&self.left);
         self.left.push_back_reserved(value);
@@ -198,8 +206,49 @@ impl Outlet {
     fn lacks_ids(&self, values: &Vec<Value>) -> bool
         ensures { result ≡ lacks_ids values.now.items self.now }
     {
-        let free = MAX_ID + 1 - self.next - self.left.len() as u64;
-        !values.is_empty() && values.len() as u64 > free
+        !values.is_empty() && values.len() as u64 > self.free_ids()
+    }
+
+    // how many ids are neither used nor set aside
+    #[inline]
+    fn free_ids(&self) -> u64
+        ensures { result + (self.now.next + length self.now.left + self.now.spare) ≡ 2 ^ 59 }
+    {
+        MAX_ID + 1 - self.next - self.left.len() as u64 - self.spare as u64
+    }
+
+    /// Sets memory and ids aside for so many values more, which [`Outlet::put_aside`] then takes without fail.
+    pub fn set_aside(&mut self, count: usize) -> Result<(), OutletFault>
+        ensures done { OnOk result (self.new ≡ sets_aside count self.old) }
+        ensures kept { OnErr result (self.new ≡ self.old) }
+        ensures ids { (result ≡ Err Ids) ↔ (lacks_ids_for count self.old ≡ true) }
+    {
+        if count as u64 > self.free_ids() {
+            return Err(OutletFault::Ids);
+        }
+        let spare = self.spare + count;
+        let Ok(()) = make_room(&mut self.left, &mut self.groups, spare, spare) else {
+            return Err(OutletFault::Memory);
+        };
+        self.spare = spare;
+        Ok(())
+    }
+
+    /// Takes the values of one result, as [`Outlet::put`] does, where memory and ids are set aside for them.
+    pub fn put_aside(&mut self, values: Vec<Value>, weight: u32)
+        requires weight { self.old.room + weight_of self.old.groups + weight < 2 ^ 32 }
+        requires aside { length values.items ≤ self.old.spare }
+        ensures { self.new ≡ puts_aside values.items weight self.old }
+    {
+        let count = count(&values);
+        let start = self.next + left_count(&self.left);
+        add_group(&mut self.groups, start, count, weight);
+        self.room += weight_at_once(count, weight);
+        let was_empty = is_empty(&self.left);
+        append(&mut self.left, values);
+        let head = front(&self.left);
+        self.cursor = cursor_with(was_empty, self.cursor, &self.ends, self.next, head);
+        self.spare -= count;
     }
 
     /// The place of the end over which the head is offered next, if it may be offered now.
@@ -543,6 +592,7 @@ fn taken(left: &mut VecDeque<Value>, parcel: &mut Option<Parcel>) -> (Value, Par
     ensures oldest { left.old.items ≡ result.0 ∷ left.new.items }
     ensures same { result.1 ≡ result.0 }
     ensures none { parcel.new ≡ None }
+    ensures capacity { deque_capacity left.new ≡ deque_capacity left.old }
 {
     let (Some(value), Some(parcel)) = (left.pop_front(), parcel.take()) else {
         unreachable!()
@@ -597,9 +647,29 @@ fn is_empty(left: &VecDeque<Value>) -> bool
     left.is_empty()
 }
 
+// memory for so many values more, and so many groups more
+#[inline]
+fn make_room(
+    left: &mut VecDeque<Value>,
+    groups: &mut VecDeque<Group>,
+    space: usize,
+    slots: usize,
+) -> Result<(), AllocError>
+    ensures left { left.new.items ≡ left.old.items }
+    ensures groups { groups.new.items ≡ groups.old.items }
+    ensures space { OnOk result (length left.old.items + space ≤ deque_capacity left.new) }
+    ensures slots { OnOk result (length groups.old.items + slots ≤ deque_capacity groups.new) }
+    ensures no_less { deque_capacity left.old ≤ deque_capacity left.new }
+    ensures no_fewer { deque_capacity groups.old ≤ deque_capacity groups.new }
+{
+    left.reserve(space)?;
+    groups.reserve(slots)
+}
+
 fn append(left: &mut VecDeque<Value>, values: Vec<Value>)
-    requires { deque_len left.old + length values.items ≤ deque_capacity left.old }
-    ensures { left.new.items ≡ left.old.items ++ values.items }
+    requires { length left.old.items + length values.items ≤ deque_capacity left.old }
+    ensures items { left.new.items ≡ left.old.items ++ values.items }
+    ensures capacity { deque_capacity left.old ≤ deque_capacity left.new }
 {
     let mut values = VecDeque::from_vec(values);
     let Ok(()) = left.append(&mut values) else {
@@ -645,9 +715,10 @@ fn cursor_with(
 
 // keeps the weight of a result that has so many messages, from this id on
 fn add_group(groups: &mut VecDeque<Group>, start: u64, count: usize, weight: u32)
-    requires room { deque_len groups.old < deque_capacity groups.old }
+    requires room { 0 < count → length groups.old.items < deque_capacity groups.old }
     requires fits { start + count < 2 ^ 64 }
-    ensures { groups.new.items ≡ groups_with start count weight groups.old.items }
+    ensures groups { groups.new.items ≡ groups_with start count weight groups.old.items }
+    ensures capacity { deque_capacity groups.new ≡ deque_capacity groups.old }
 {
     if count != 0 && weight != 0 {
         let until = start + (count as u64 - 1);
@@ -660,6 +731,7 @@ fn add_group(groups: &mut VecDeque<Group>, start: u64, count: usize, weight: u32
 fn end_group(groups: &mut VecDeque<Group>, id: u64) -> u32
     ensures rest { groups.new.items ≡ groups_after id groups.old.items }
     ensures weight { result ≡ weight_at id groups.old.items }
+    ensures capacity { deque_capacity groups.new ≡ deque_capacity groups.old }
 {
     match groups.front() {
         Some(group) if group.until == id => {

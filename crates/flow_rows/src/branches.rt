@@ -7,9 +7,12 @@ use flow_net::Net;
 use flow_value::{Steps, Text, Value, When};
 use std::alloc::{AllocError, Global};
 use std::process::Abort;
+use std::sync::Wait;
 use std::test::Fail;
+use std::thread::Threads;
 
-/// A block: its name, its kind, with a star where it is an input, its capacity if it has one, and its function.
+/// A block: its name, its kind, with a star where it is an input, and with its lanes after a stroke if it has any, its
+/// capacity if it has one, and its function.
 type Block = (
     &'static str,
     &'static str,
@@ -120,6 +123,36 @@ const CASES: &[Case] = &[
         &["block in done ; block t done ; block out done ; record [0,1,0,1,2]"],
     ),
     (
+        "fault in a lane",
+        &[IN, ("t", "transform/3", None, &["int"]), KEEP],
+        &[("in", "t", "any", None), ("t", "out", "any", None)],
+        "'1 x '3",
+        Ending::Complete,
+        &[
+            r#"left ["3"] ; block t faulted 1 ; held 0 ["x"] ; left [] ; block out faulted 1 ; record [1]"#,
+            r#"left ["3"] ; block t faulted 1 ; held 0 ["x"] ; left [1] ; block out faulted 1 ; record []"#,
+            r#"left [] ; block t faulted 1 ; held 0 ["x","3"] ; left [] ; block out faulted 1 ; record [1]"#,
+            r#"left [] ; block t faulted 1 ; held 0 ["x","3"] ; left [1] ; block out faulted 1 ; record []"#,
+        ],
+    ),
+    (
+        "lanes before a block with room for one message",
+        &[
+            IN,
+            ("t", "transform_many/2", Some(3), &["int", "upto"]),
+            ("u", "transform/16", None, &["add 1"]),
+            ("out", "action", Some(1), &[]),
+        ],
+        &[
+            ("in", "t", "any", None),
+            ("t", "u", "any", None),
+            ("u", "out", "any", None),
+        ],
+        "'3 '0 '1 '2",
+        Ending::Complete,
+        &["block in done ; block t done ; block u done ; block out done ; record [1,2,3,1,1,2]"],
+    ),
+    (
         "two sources of one block",
         &[
             IN,
@@ -207,8 +240,17 @@ fn kind_of(word: &str) -> (BlockKind, bool) {
     }
 }
 
+/// The word of a kind, and its lanes if it has any.
+fn split_lanes(word: &str) -> (&str, Option<u32>) {
+    match word.split_once("/") {
+        Some((kind, lanes)) => (kind, lanes.parse::<u32>().ok()),
+        None => (word, None),
+    }
+}
+
 fn block_of(alloc: Global, block: &Block) -> Result<BlockDef<Steps>, Fail> {
     let (name, word, capacity, work) = *block;
+    let (word, lanes) = split_lanes(word);
     let (kind, input) = kind_of(word);
     let work = match kind {
         BlockKind::Buffer => None,
@@ -221,7 +263,7 @@ fn block_of(alloc: Global, block: &Block) -> Result<BlockDef<Steps>, Fail> {
         output: false,
         capacity,
         work,
-        lanes: None,
+        lanes,
         size: None,
         ports: None,
         greedy: None,
@@ -303,7 +345,7 @@ fn networks_come_to_rest_in_each_order(rt: HostRuntime) -> Result<(), Fail> {
         ] {
             let mut net = network(rt.alloc(), case)?;
             let choices = in_order(rt.alloc(), net.plan(), links_first, backwards)?;
-            let is_due = do_first(&rt, rt.alloc(), &mut net, choices.as_slice())
+            let is_due = do_first(&rt, rt.alloc(), &mut net, choices.as_slice())?
                 && came_to(rt.alloc(), &net, case.5)?.is_some();
             check(&rt, case.0, is_due);
         }
@@ -368,6 +410,7 @@ fn text_of(alloc: Global, case: &Case) -> Result<Vec<u8>, Fail> {
 
 fn add_block(alloc: Global, text: &mut Vec<u8>, block: &Block) -> Result<(), AllocError> {
     let (name, word, capacity, work) = *block;
+    let (word, lanes) = split_lanes(word);
     let kind = word.strip_suffix("*").unwrap_or(word);
     add(
         text,
@@ -377,6 +420,7 @@ fn add_block(alloc: Global, text: &mut Vec<u8>, block: &Block) -> Result<(), All
         add(text, &["input = true\n"])?;
     }
     add_number(alloc, text, "capacity = ", capacity)?;
+    add_number(alloc, text, "lanes = ", lanes)?;
     if kind != "buffer" {
         add(text, &["work = ["])?;
         for step in work {
@@ -421,7 +465,11 @@ fn records_of(alloc: Global, words: &str) -> Result<Vec<u8>, AllocError> {
 }
 
 /// Whether a case that is run as a text comes to one of its lists of lines.
-fn runs_as_text(rt: &impl Abort, alloc: Global, case: &Case) -> Result<bool, Fail> {
+fn runs_as_text(
+    rt: &(impl Abort + Threads + Wait + Sync),
+    alloc: Global,
+    case: &Case,
+) -> Result<bool, Fail> {
     let text = text_of(alloc, case)?;
     let records = records_of(alloc, case.3)?;
     let told = told_by(rt, alloc, text.as_slice(), records.as_slice(), ENOUGH)?;

@@ -9,7 +9,9 @@ use std::alloc::{AllocError, Global};
 use std::io;
 use std::io::{Read, Write};
 use std::process::Abort;
+use std::sync::Wait;
 use std::test::Fail;
+use std::thread::Threads;
 
 /// Gives one byte a call, and fails at the call with this number.
 #[derive(Drop)]
@@ -78,16 +80,20 @@ fn a_reader_that_fails_at_any_call_is_told(rt: HostRuntime) -> Result<(), Fail> 
     Ok(())
 }
 
-fn run_to(alloc: Global, writer: &mut FailingWriter) -> Result<Ran, RunRefusal> {
-    run(alloc, PAIR, TWO, writer, 1, ENOUGH)
+fn run_to(
+    rt: &(impl Threads + Wait + Sync),
+    alloc: Global,
+    writer: &mut FailingWriter,
+) -> Result<Ran, RunRefusal> {
+    run(rt, alloc, PAIR, TWO, writer, 1, ENOUGH)
 }
 
 #[test]
 fn a_writer_that_fails_at_any_call_is_told(rt: HostRuntime) {
     let mut endless = FailingWriter { calls: 1_000 };
-    assert!(rt; run_to(rt.alloc(), &mut endless) == Ok(COMPLETE));
+    assert!(rt; run_to(&rt, rt.alloc(), &mut endless) == Ok(COMPLETE));
     for calls in 0..1_000 - endless.calls.min(1_000) {
-        let answer = run_to(rt.alloc(), &mut FailingWriter { calls });
+        let answer = run_to(&rt, rt.alloc(), &mut FailingWriter { calls });
         let failed = RunRefusal::Text(TextFault::Write);
         assert!(rt; answer == Err(failed), "at call {calls}");
     }
@@ -169,7 +175,7 @@ fn networks_without_memory(rt: HostRuntime) {
 #[test]
 fn runs_without_memory(rt: HostRuntime) {
     let mut written = Vec::new(rt.alloc());
-    match run(rt.alloc(), PAIR, TWO, &mut written, 1, ENOUGH) {
+    match run(&rt, rt.alloc(), PAIR, TWO, &mut written, 1, ENOUGH) {
         Ok(ran) => assert!(rt; ran == COMPLETE && is_report(written.as_slice(), REPORT)),
         Err(RunRefusal::Memory) => assert!(rt; written.is_empty()),
         Err(refusal) => assert!(rt; refusal == RunRefusal::Text(TextFault::Write)),

@@ -1,11 +1,15 @@
 //! What the tests share: runs of texts, networks that are drawn in a line, values that are written as words, and tables
 //! of rows.
+ghost use Rattle.std.specs.Prelude.{◌≤◌};
+
 use flow_run::{run, status, write_refusal};
 use flow_value::{Row, Text, Value};
 use std::alloc::{AllocError, Global};
 use std::io::Read;
 use std::process::Abort;
+use std::sync::Wait;
 use std::test::Fail;
+use std::thread::Threads;
 
 /// More events than any run here has.
 pub(crate) const ENOUGH: u64 = 100_000;
@@ -17,16 +21,30 @@ pub(crate) struct Told {
     pub(crate) text: Vec<u8>,
 }
 
-/// Runs a network over records. Tests that nothing is written before a refusal.
+/// Runs a network over records with two workers.
 pub(crate) fn told_by<R: Read + Drop>(
-    rt: &impl Abort,
+    rt: &(impl Abort + Threads + Wait + Sync),
     alloc: Global,
     network: &[u8],
     records: R,
     limit: u64,
 ) -> Result<Told, Fail> {
+    told_with(rt, alloc, network, records, 2, limit)
+}
+
+/// Runs a network over records. Tests that nothing is written before a refusal.
+pub(crate) fn told_with<R: Read + Drop>(
+    rt: &(impl Abort + Threads + Wait + Sync),
+    alloc: Global,
+    network: &[u8],
+    records: R,
+    workers: u32,
+    limit: u64,
+) -> Result<Told, Fail>
+    requires { (1 ≤ workers) × (workers ≤ 64) }
+{
     let mut text = Vec::new(alloc);
-    let outcome = run(alloc, network, records, &mut text, 2, limit);
+    let outcome = run(rt, alloc, network, records, &mut text, workers, limit);
     if let Err(refusal) = &outcome {
         assert!(rt; text.is_empty());
         write_refusal(refusal, &mut text)?;

@@ -3,6 +3,7 @@ ghost use Rattle.std.specs.Prelude.{◌≡◌, ◌+◌, ◌≤◌, IfOk, OnOk, c
 ghost use Rattle.flow_link.specs.Planned.{layout_of};
 
 use crate::driver::{ENOUGH, chain, check, has_lines, is_report, values_of};
+use flow_exec::{Job, JobResult};
 use flow_link::{Ending, LinkEnd, Mark, Move, Plan};
 use flow_net::{Event, Net, NetFault, Posted, Settled, State, Stepped};
 use flow_text::{TextRefusal, read_plan, write_report};
@@ -155,7 +156,17 @@ pub(crate) fn post_all(
 /// The network that is drawn so, to which these values are posted, which end so.
 fn network(alloc: Global, drawn: &str, words: &str, ending: Ending) -> Result<Net<Steps>, Fail> {
     let text = chain(alloc, drawn)?;
-    let plan = read_plan(alloc, text.as_slice())?;
+    network_of(alloc, text.as_slice(), words, ending)
+}
+
+/// The network of this text, to which these values are posted, which end so.
+pub(crate) fn network_of(
+    alloc: Global,
+    text: &[u8],
+    words: &str,
+    ending: Ending,
+) -> Result<Net<Steps>, Fail> {
+    let plan = read_plan(alloc, text)?;
     let posted = post_all(alloc, &plan, words, ending)?;
     match Net::new(alloc, plan, posted) {
         Ok(net) => Ok(net),
@@ -168,30 +179,69 @@ fn network(alloc: Global, drawn: &str, words: &str, ending: Ending) -> Result<Ne
 pub(crate) enum Asked {
     Link(usize, Move),
     Make(usize),
+    Begin(usize),
+    End(usize),
     Complete(usize, u32),
     Fault(usize),
     Done(usize),
 }
 
+/// Results of jobs that were run and not taken back yet, each with the number of its block.
+pub(crate) type Results = Vec<(usize, JobResult<Steps>)>;
+
 impl Asked {
-    fn event(self) -> Event<Steps> {
-        match self {
+    /// The event, with the first result of the block where one comes back; none where there is no such result.
+    fn event(self, results: &mut Results) -> Option<Event<Steps>> {
+        Some(match self {
             Asked::Link(id, step) => Event::Link(id, step),
             Asked::Make(number) => Event::Make(number),
+            Asked::Begin(number) => Event::Begin(number),
+            Asked::End(number) => {
+                let place = results.iter().position(|held| held.0 == number)?;
+                Event::End(number, results.remove(place).1)
+            }
             Asked::Complete(number, port) => Event::Complete(number, port),
             Asked::Fault(number) => Event::Fault(number),
             Asked::Done(number) => Event::Done(number),
-        }
+        })
     }
 }
 
-/// Asks for this event. Tells whether it is done; where it is not, it has to come back as not enabled.
-fn is_done(rt: &impl Abort, alloc: Global, net: &mut Net<Steps>, asked: Asked) -> bool {
-    match net.event(alloc, asked.event()) {
-        Ok(Stepped::Moved) => true,
-        Err((back, fault)) => {
-            assert!(rt; back == asked.event() && fault == NetFault::NotEnabled);
-            false
+/// What came of a job.
+pub(crate) fn run_job(alloc: Global, job: Job<Steps>) -> Result<JobResult<Steps>, Fail> {
+    match job.run(alloc) {
+        Ok(done) => Ok(done),
+        Err(_) => Err(Fail::new("out of memory")),
+    }
+}
+
+/// Asks for this event. Tells whether it is done; where it is not, it has to come back as not enabled. A job that begins
+/// is run at once, and its result kept.
+pub(crate) fn is_done(
+    rt: &impl Abort,
+    alloc: Global,
+    net: &mut Net<Steps>,
+    results: &mut Results,
+    asked: Asked,
+) -> Result<bool, Fail> {
+    let Some(event) = asked.event(results) else {
+        return Ok(false);
+    };
+    match (net.event(alloc, event), asked) {
+        (Ok(Stepped::Began(job)), Asked::Begin(number)) => {
+            results.push((number, run_job(alloc, job)?))?;
+            Ok(true)
+        }
+        (Ok(stepped), _) => {
+            assert!(rt; matches!(stepped, Stepped::Moved));
+            Ok(true)
+        }
+        (Err((back, fault)), _) => {
+            assert!(rt; fault == NetFault::NotEnabled);
+            if let Event::End(number, done) = back {
+                results.push((number, done))?;
+            }
+            Ok(false)
         }
     }
 }
@@ -279,13 +329,19 @@ fn shuffled(alloc: Global, plan: &Plan<Steps>, chance: &mut Chance) -> Result<Ve
 }
 
 /// Does the first of these that may happen, and tells whether there is one.
-fn do_one(rt: &impl Abort, alloc: Global, net: &mut Net<Steps>, choices: &[Asked]) -> bool {
+fn do_one(
+    rt: &impl Abort,
+    alloc: Global,
+    net: &mut Net<Steps>,
+    results: &mut Results,
+    choices: &[Asked],
+) -> Result<bool, Fail> {
     for asked in choices {
-        if is_done(rt, alloc, net, *asked) {
-            return true;
+        if is_done(rt, alloc, net, results, *asked)? {
+            return Ok(true);
         }
     }
-    false
+    Ok(false)
 }
 
 /// Does events until none may happen, and tells whether the network is quiet then, and was not before. With an even
@@ -298,6 +354,7 @@ pub(crate) fn wander(
 ) -> Result<bool, Fail> {
     let mut chance = Chance { state: seed };
     let choices = shuffled(alloc, net.plan(), &mut chance)?;
+    let mut results = Vec::new(alloc);
     let always_first = seed % 2 == 0;
     for _ in 0..ENOUGH {
         let begin = if always_first {
@@ -307,7 +364,8 @@ pub(crate) fn wander(
         };
         let (later, first) = choices.split_at(begin);
         let quiet = net.is_quiet();
-        let moved = do_one(rt, alloc, net, first) || do_one(rt, alloc, net, later);
+        let moved = do_one(rt, alloc, net, &mut results, first)?
+            || do_one(rt, alloc, net, &mut results, later)?;
         if quiet || !moved {
             return Ok(quiet && !moved);
         }
@@ -356,9 +414,11 @@ fn block_choices(alloc: Global, plan: &Plan<Steps>) -> Result<Vec<Asked>, Fail> 
     Ok(choices)
 }
 
-fn steps_of(number: usize) -> [Asked; 4] {
+fn steps_of(number: usize) -> [Asked; 6] {
     [
         Asked::Make(number),
+        Asked::Begin(number),
+        Asked::End(number),
         Asked::Complete(number, 0),
         Asked::Fault(number),
         Asked::Done(number),
@@ -371,13 +431,14 @@ pub(crate) fn do_first(
     alloc: Global,
     net: &mut Net<Steps>,
     choices: &[Asked],
-) -> bool {
+) -> Result<bool, Fail> {
+    let mut results = Vec::new(alloc);
     for _ in 0..ENOUGH {
-        if !do_one(rt, alloc, net, choices) {
-            return net.is_quiet();
+        if !do_one(rt, alloc, net, &mut results, choices)? {
+            return Ok(net.is_quiet());
         }
     }
-    false
+    Ok(false)
 }
 
 /// Does events until none may happen, and tells whether the network is quiet then.
@@ -392,7 +453,7 @@ pub(crate) fn came_to(
     lists: &[&str],
 ) -> Result<Option<usize>, TextRefusal> {
     let mut report = Vec::new(alloc);
-    write_report(net, Settled::Quiet, &mut report)?;
+    write_report(alloc, net, Settled::Quiet, &mut report)?;
     for (place, lines) in lists.iter().enumerate() {
         if has_lines(report.as_slice(), lines) {
             return Ok(Some(place));
@@ -447,13 +508,13 @@ fn networks_settle_in_one_of_their_ends(rt: HostRuntime) -> Result<(), Fail> {
     Ok(())
 }
 
-// Each event of a chain counts: 48 moves, 9 makes, 3 completions and 3 ends.
+// Each event of a chain counts: 48 moves, 3 makes, 6 jobs that begin, 6 results, 3 completions and 3 ends.
 #[test]
 fn settle_in_two_parts(rt: HostRuntime) -> Result<(), Fail> {
     let alloc = rt.alloc();
-    for limit in 0..64 {
+    for limit in 0..70 {
         let mut net = network(alloc, THREE, "'1 '2 '3", Ending::Complete)?;
-        let is_last = limit == 63;
+        let is_last = limit == 69;
         let first = if is_last {
             Settled::Quiet
         } else {
@@ -477,11 +538,14 @@ const UNTOUCHED: &[&str] = &[
 fn what_may_not_happen_changes_nothing(rt: HostRuntime) -> Result<(), Fail> {
     let alloc = rt.alloc();
     let mut net = network(alloc, PAIR, "'1", Ending::Complete)?;
+    let mut results = Vec::new(alloc);
     let first = header(1)?;
     let mut place = 0u8;
     for asked in [
         Asked::Done(0),
         Asked::Make(0),
+        Asked::Begin(0),
+        Asked::Begin(1),
         Asked::Complete(0, 0),
         Asked::Complete(0, 1),
         Asked::Fault(1),
@@ -493,25 +557,28 @@ fn what_may_not_happen_changes_nothing(rt: HostRuntime) -> Result<(), Fail> {
         Asked::Link(1, Move::End(LinkEnd::Complete)),
         Asked::Link(2, Move::Want),
         Asked::Make(2),
+        Asked::Begin(2),
         Asked::Complete(2, 0),
         Asked::Fault(2),
         Asked::Done(2),
     ] {
         place = place.wrapping_add(1);
-        assert!(rt; !is_done(&rt, alloc, &mut net, asked), "event {place}");
+        let is_done = is_done(&rt, alloc, &mut net, &mut results, asked)?;
+        assert!(rt; !is_done, "event {place}");
     }
     assert!(rt; !net.is_quiet());
     let mut report = Vec::new(alloc);
-    write_report(&net, Settled::Stopped, &mut report)?;
+    write_report(alloc, &net, Settled::Stopped, &mut report)?;
     assert!(rt; is_report(report.as_slice(), UNTOUCHED));
     Ok(())
 }
 
-// The way of one text from the input to its end, with all that the first block does.
+// The way of one text from the input to its end, with all that the blocks do.
 #[test]
 fn what_may_happen_is_done_once(rt: HostRuntime) -> Result<(), Fail> {
     let alloc = rt.alloc();
     let mut net = network(alloc, PAIR, "'1", Ending::Complete)?;
+    let mut results = Vec::new(alloc);
     let first = header(1)?;
     let mut place = 0u8;
     for asked in [
@@ -528,14 +595,48 @@ fn what_may_happen_is_done_once(rt: HostRuntime) -> Result<(), Fail> {
         Asked::Link(0, Move::Give),
         Asked::Link(0, Move::Open),
         Asked::Link(0, Move::Close),
+        Asked::Begin(1),
+        Asked::End(1),
         Asked::Done(0),
     ] {
         place = place.wrapping_add(1);
-        assert!(rt; is_done(&rt, alloc, &mut net, asked), "event {place}");
-        assert!(rt; !is_done(&rt, alloc, &mut net, asked), "event {place}");
+        let is_done_once = is_done(&rt, alloc, &mut net, &mut results, asked)?
+            && !is_done(&rt, alloc, &mut net, &mut results, asked)?;
+        assert!(rt; is_done_once, "event {place}");
     }
-    let end = r#"block in done ; left [] ; block out open ; held 0 ["1"] ; record []"#;
+    let end = r#"block in done ; left [] ; block out open ; held 0 [] ; record ["1"]"#;
     assert!(rt; came_to(alloc, &net, &[end])?.is_some());
+    Ok(())
+}
+
+// The result of a job is kept; the network works on the message itself, and does not take the result any more.
+#[test]
+fn kept_result(rt: HostRuntime) -> Result<(), Fail> {
+    let alloc = rt.alloc();
+    let mut net = network(alloc, THREE, "'1 '2 '3", Ending::Complete)?;
+    let mut results = Vec::new(alloc);
+    let first = header(1)?;
+    for asked in [
+        Asked::Link(2, Move::Offer(first)),
+        Asked::Link(2, Move::Want),
+        Asked::Link(2, Move::Give),
+        Asked::Link(2, Move::Open),
+        Asked::Link(2, Move::Close),
+        Asked::Make(0),
+        Asked::Link(0, Move::Offer(first)),
+        Asked::Link(0, Move::Want),
+        Asked::Link(0, Move::Give),
+        Asked::Link(0, Move::Open),
+        Asked::Link(0, Move::Close),
+        Asked::Begin(1),
+    ] {
+        assert!(rt; is_done(&rt, alloc, &mut net, &mut results, asked)?);
+    }
+    assert!(rt; results.len() == 1);
+    assert!(rt; settles(alloc, &mut net));
+    assert!(rt; came_to(alloc, &net, &["block out done ; record [1,2,3]"])?.is_some());
+    assert!(rt; !is_done(&rt, alloc, &mut net, &mut results, Asked::End(1))?);
+    assert!(rt; results.len() == 1);
     Ok(())
 }
 

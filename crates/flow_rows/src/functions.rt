@@ -2,7 +2,9 @@
 use crate::driver::{ENOUGH, Told, cells, chain, check, has_lines, told_by};
 use std::alloc::Global;
 use std::process::Abort;
+use std::sync::Wait;
 use std::test::Fail;
+use std::thread::Threads;
 
 /// In each line a function, a text that it is applied to, as a record has it, and what is due: the line of an action's
 /// record, or that of a fault.
@@ -76,7 +78,12 @@ const TRANSFORMS: &str = r#"
 "#;
 
 /// The network that is drawn so, over one text.
-fn told_of(rt: &impl Abort, alloc: Global, drawn: &str, given: &str) -> Result<Told, Fail> {
+fn told_of(
+    rt: &(impl Abort + Threads + Wait + Sync),
+    alloc: Global,
+    drawn: &str,
+    given: &str,
+) -> Result<Told, Fail> {
     let network = chain(alloc, drawn)?;
     let records = ["in,", given].concat(alloc)?;
     told_by(rt, alloc, network.as_slice(), records.as_bytes(), ENOUGH)
@@ -85,7 +92,7 @@ fn told_of(rt: &impl Abort, alloc: Global, drawn: &str, given: &str) -> Result<T
 /// Runs an input and a block with the function of each row over the row's text, and tests that what is due comes of it.
 /// The block is drawn as this kind, and others may follow it.
 fn check_rows(
-    rt: &(impl Abort + Print),
+    rt: &(impl Abort + Print + Threads + Wait + Sync),
     alloc: Global,
     table: &str,
     kind: &str,

@@ -17,6 +17,8 @@ mod functions;
 #[cfg(test)]
 mod intake;
 #[cfg(test)]
+mod lanes;
+#[cfg(test)]
 mod links;
 #[cfg(test)]
 mod outlet;

@@ -4,7 +4,9 @@ use std::alloc::{AllocError, Global};
 use std::io;
 use std::io::Write;
 use std::process::Abort;
+use std::sync::Wait;
 use std::test::Fail;
+use std::thread::Threads;
 
 /// A whole text, and the line that it is refused with.
 const WHOLE: &[(&[u8], &str)] = &[
@@ -38,7 +40,6 @@ const TEXTS: &str = r#"
 2 UnknownKey top | block = [] ; Format = 1
 2 UnknownKey top | block = [] ; "" = 1
 2 UnknownKey block 0 | block = [{name = "a", kind = "buffer", capasity = 1}]
-2 UnknownKey block 0 | block = [{lanes = 1}]
 2 UnknownKey block 0 | block = [{size = 1}]
 2 UnknownKey block 0 | block = [{ports = 1}]
 2 UnknownKey block 0 | block = [{greedy = true}]
@@ -84,6 +85,7 @@ const TEXTS: &str = r#"
 4 WrongType block 0 | block = [{name = "a", kind = "buffer", capacity = 1.0}]
 4 WrongType block 0 | block = [{name = "a", kind = "buffer", capacity = -1}]
 4 WrongType block 0 | block = [{name = "a", kind = "buffer", capacity = 4294967296}]
+4 WrongType block 0 | block = [{name = "a", kind = "action", work = [], lanes = 4294967296}]
 4 WrongType link 0 | block = [] ; link = [{from = "a", to = "b", when = 2}]
 4 WrongType link 0 | block = [] ; link = [{from = "a", to = "b", when = ["even"]}]
 4 WrongType link 0 | block = [] ; link = [{from = "a", to = "b", max = true}]
@@ -105,6 +107,9 @@ const TEXTS: &str = r#"
 8 Plan 6 BadOption block 0 | block = [{name = "a", kind = "buffer", capacity = 0}]
 8 Plan 6 BadOption block 0 | block = [{name = "a", kind = "buffer", capacity = 2147483648}]
 8 Plan 6 BadOption block 0 | block = [{name = "a", kind = "buffer", capacity = 4294967295}]
+8 Plan 6 BadOption block 0 | block = [{name = "a", kind = "buffer", lanes = 1}]
+8 Plan 6 BadOption block 0 | block = [{name = "a", kind = "action", work = [], lanes = 0}]
+8 Plan 6 BadOption block 0 | block = [{name = "a", kind = "action", work = [], lanes = 17}]
 # Links that are in no plan.
 8 Plan 6 BadOption link 0 | block = [{name = "a", kind = "buffer"}] ; link = [{from = "a", to = "a", max = 0}]
 8 Plan 6 BadOption link 0 | block = [{name = "a", kind = "buffer"}] ; link = [{from = "a", to = "a", max = 2147483648}]
@@ -214,7 +219,12 @@ const READ: &[(&[u8], &str, &[&str])] = &[
 ];
 
 // Tests that a network is refused with this line.
-fn refuses(rt: &(impl Abort + Print), alloc: Global, text: &[u8], line: &str) -> Result<(), Fail> {
+fn refuses(
+    rt: &(impl Abort + Print + Threads + Wait + Sync),
+    alloc: Global,
+    text: &[u8],
+    line: &str,
+) -> Result<(), Fail> {
     let told = told_by(rt, alloc, text, &b""[..], ENOUGH)?;
     check(
         rt,
@@ -244,7 +254,7 @@ fn written(alloc: Global, lines: &str) -> Result<Vec<u8>, AllocError> {
 
 /// Tests each row of a table, in which the line of a refusal stands before what makes a text.
 fn check_rows(
-    rt: &(impl Abort + Print),
+    rt: &(impl Abort + Print + Threads + Wait + Sync),
     alloc: Global,
     table: &str,
     has_links: bool,

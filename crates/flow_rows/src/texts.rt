@@ -172,8 +172,8 @@ const UNTOUCHED: &[&str] = &[
     "block out open ; port 0 [] ; held 0 [] ; record [] ; stopped",
 ];
 
-/// 48 moves over the three links, 9 Make, 3 Complete and 3 Done.
-const PARSED_BY: u64 = 63;
+/// 48 moves over the three links, 3 Make, 6 Begin, 6 End, 3 Complete and 3 Done.
+const PARSED_BY: u64 = 69;
 
 /// Whether this is what is due of parse three after so many events.
 fn is_parsed(told: &Told, limit: u64) -> bool {

@@ -11,7 +11,7 @@ use Rattle.flow_link.specs.Layout.{Layout}
 use Rattle.flow_link.specs.Trace.{InputTrace}
 use Rattle.flow_link.specs.declared.trace.Ending.{Ending}
 use Rattle.flow_core.specs.State.{NetState}
-use Rattle.flow_moves.specs.Works.{works_of}
+use Rattle.flow_exec.specs.Works.{works_of}
 use Rattle.flow_net.specs.Net.{run_with}
 use Rattle.flow_net.specs.Posted.{input_of}
 use Rattle.flow_net.specs.Settles.{Settles, GoesOn}

@@ -9,7 +9,7 @@ use Rattle.flow_link.specs.Layout.{Layout}
 use Rattle.flow_link.specs.Trace.{Run}
 use Rattle.flow_link.specs.declared.trace.Ending.TheVariants.{Complete}
 use Rattle.flow_core.specs.State.{NetState, fresh_net}
-use Rattle.flow_moves.specs.Works.{works_of}
+use Rattle.flow_exec.specs.Works.{works_of}
 use Rattle.flow_net.specs.Net.{run_with}
 use Rattle.flow_net.specs.Settles.{Settles, GoesOn}
 use Rattle.flow_net.specs.There.{NeedsId}

@@ -12,12 +12,16 @@ use flow_text::{is_complete, read_plan, read_records, write_report};
 use flow_value::Steps;
 use std::alloc::Global;
 use std::io::{Read, Write};
+use std::sync::Wait;
+use std::thread::Threads;
 
 /// Reads a network, runs it over the records until it is quiet or `limit` events are done, and writes its report.
 ///
-/// The writer should gather what is written, since the report comes in many small pieces. One thread does the work for
-/// now.
-pub fn run<R: Read + Drop, W: Write>(
+/// The writer should gather what is written, since the report comes in many small pieces. The thread that calls it
+/// drives the network; with more workers than one, as many threads less one work beside it for blocks with several
+/// lanes, and end with the call.
+pub fn run<C: Threads + Wait + Sync, R: Read + Drop, W: Write>(
+    rt: &C,
     alloc: Global,
     text: &[u8],
     reader: R,
@@ -32,11 +36,11 @@ pub fn run<R: Read + Drop, W: Write>(
     ensures left { IfErr result (λ refusal. IsLeft refusal (W.contents writer.old) (W.contents writer.new)) }
 {
     let mut net = begin(alloc, text, reader)?;
-    let settled = match net.settle(alloc, limit) {
+    let settled = match net.settle_with(rt, alloc, workers as usize, limit) {
         Ok(settled) => settled,
         Err(fault) => return Err(refusal_of_net(fault)),
     };
-    write_report(&net, settled, writer)?;
+    write_report(alloc, &net, settled, writer)?;
     let complete = is_complete(&net);
     Ok(Ran { settled, complete })
 }
@@ -54,7 +58,7 @@ fn begin<R: Read + Drop>(alloc: Global, text: &[u8], reader: R) -> Result<Net<St
     }
 }
 
-/// Why a network did not settle; `settle`, whose fault this is, asks for no event that may not happen.
+/// Why a network did not settle; `settle_with`, whose fault this is, asks for no event that may not happen.
 fn refusal_of_net(fault: NetFault) -> RunRefusal
     requires { fault ≢ NetFault.NotEnabled }
     ensures { IsToldAs fault result }

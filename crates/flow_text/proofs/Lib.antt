@@ -1,10 +1,13 @@
 pub mod AllGoneThrough
 pub mod FirstInPass
 pub mod KeyTestsTell
+pub mod ListsGrow
 pub mod NoPlanFor
+pub mod PickedYields
 pub mod PrintedGrows
 pub mod RecordsPost
 pub mod ReportGrows
+pub mod SortedGiven
 pub mod TablesRead
 pub mod TablesSound
 pub mod WritesAddUp

@@ -1,6 +1,6 @@
--- How a printed list grows by the values of one more mark.
-use Rattle.std.proofs.Common.{◌≡◌, ◌<◌, ◌≤◌, ◌+◌, ◌-◌, zero-add, ℕ, suc, zero, map, cond, count_by, List, [], ◌∷◌, ◌++◌, length, take, get_or, refl, ap, sym, ◌∙◌, arith, append_assoc, length-append, Option, Bool, true, false, subst}
-use Rattle.std.proofs.lemmas.List.{append-nil, take_more, map-append, length-take, get_or-append-add, get_or_default}
+-- How a report grows by one more line, and which links are those of inputs and exits.
+use Rattle.std.proofs.Common.{◌≡◌, ◌<◌, ◌≤◌, ◌+◌, ◌-◌, zero-add, ℕ, suc, zero, map, cond, count_by, List, [], ◌∷◌, ◌++◌, length, take, get_or, refl, ap, sym, ◌∙◌, arith, append_assoc, length-append, Option, Bool, true, false}
+use Rattle.std.proofs.lemmas.List.{append-nil, map-append, length-take, get_or-append-add, get_or_default}
 use Rattle.std.proofs.Math.ListN.{get_or-append}
 use Rattle.std.proofs.lemmas.List.Sums.{sum_by-append, sum_by-cons, sum_by-take-le}
 use Rattle.std.proofs.Math.Seq.{take-length}
@@ -8,49 +8,14 @@ use Rattle.std.proofs.lemmas.List.Elements.{filter-append}
 use Rattle.std.specs.List.{filter, concat}
 use Rattle.std.specs.Io.KnownBytes.{Appends}
 use Rattle.flow_link.proofs.ListTests.{below_more}
-use Rattle.flow_value.specs.declared.value.Value.{Value}
-use Rattle.flow_link.specs.declared.trace.Mark.{Mark}
-use Rattle.flow_link.specs.Lists.{is_empty, below}
+use Rattle.flow_link.specs.Lists.{below}
 use Rattle.flow_link.specs.declared.draft.BlockDef.{BlockDef}
 use Rattle.flow_link.specs.Layout.{input_link as the_input_link, input_links, IsLaidOut, between_of, exit_link as the_exit_link, exit_links, outer_links}
 use Rattle.flow_link.specs.declared.plan.Link.{Link}
 use Rattle.flow_link.specs.Plan.{block_in, link_in, no_block, no_link}
 use Rattle.flow_text.specs.Report.{is_input, is_output}
-use Rattle.flow_link.specs.Trace.{took_where, gave_where}
-use Rattle.flow_link.proofs.JournalsGrow.{took_more, gave_more}
-use Rattle.flow_text.specs.Printed.{value_text, comma_unless, opened}
-use Rattle.flow_text.proofs.PrintedGrows.{appends-both, opened-more}
-
--- a list with a value behind it has values
-pub not-empty : (values more : List Value) (v : Value) → more ≡ values ++ v ∷ [] → false ≡ is_empty more
-not-empty [] more v is = rw is refl
-not-empty (_ ∷ values) more v is = rw is refl
-
-pub opened-next : (values more : List Value) (v : Value) (first : Bool) (old mid new : Option (List ℕ)) → more ≡ values ++ v ∷ [] → first ≡ is_empty values
-    → Appends old mid (opened values) → Appends mid new (comma_unless first ++ value_text v) → Appends old new (opened more)
-opened-next values more v first old mid new is start before last =
-    let P : Bool → Type 0 = λ b. Appends mid new (comma_unless b ++ value_text v) in
-    let next : P (is_empty values) = subst P start last in
-    rw (is, opened-more values v) (appends-both old mid new _ _ before next)
-
--- the items of a list one by one
-pub take-next : {A : Type 0} (xs : List A) (at : ℕ) (x : A) → at < length xs → x ≡ get_or xs at x → take (at + 1) xs ≡ take at xs ++ x ∷ []
-take-next xs at x within is = take_more xs at x within ∙ ap (λ last. take at xs ++ last ∷ []) (sym is)
-
-module _ (journal : List Mark) (at : ℕ) (mark : Mark) (within : at < length journal) (is : mark ≡ get_or journal at mark) where
-  pub taken-next : (test : ℕ → ℕ → Bool) → took_where test (take (at + 1) journal) ≡ took_where test (take at journal) ++ took_where test (mark ∷ [])
-  taken-next test = ap (took_where test) (take-next journal at mark within is) ∙ took_more test (take at journal) mark
-
-  pub given-next : (test : ℕ → Bool) → gave_where test (take (at + 1) journal) ≡ gave_where test (take at journal) ++ gave_where test (mark ∷ [])
-  given-next test = ap (gave_where test) (take-next journal at mark within is) ∙ gave_more test (take at journal) mark
-
--- nothing more
-pub none-more : (values more last : List Value) → more ≡ values ++ last → [] ≡ last → values ≡ more
-none-more values more last is none = sym (append-nil values) ∙ ap (λ rest. values ++ rest) none ∙ sym is
-
--- one value more
-pub one-more : (values more last : List Value) (v : Value) → more ≡ values ++ last → v ∷ [] ≡ last → more ≡ values ++ v ∷ []
-one-more values more last v is one = is ∙ ap (λ rest. values ++ rest) (sym one)
+use Rattle.flow_text.proofs.ListsGrow.{take-next}
+use Rattle.flow_text.proofs.PrintedGrows.{appends-both}
 
 -- one more line
 concat-more : (lines : List (List ℕ)) (line : List ℕ) → concat (lines ++ line ∷ []) ≡ concat lines ++ line

@@ -28,7 +28,7 @@ optional name form = record { name = name; form = form; required = false }
 abbrev pub rules_of : Part → List Rule
 rules_of Top = required (codes "format") Integer ∷ required (codes "block") Tables ∷ optional (codes "link") Tables ∷ []
 rules_of Block = required (codes "name") Text ∷ required (codes "kind") Kind ∷ optional (codes "input") Boolean ∷ optional (codes "capacity") Count
-    ∷ optional (codes "work") Texts ∷ []
+    ∷ optional (codes "work") Texts ∷ optional (codes "lanes") Count ∷ []
 rules_of Link = required (codes "from") Text ∷ required (codes "to") Text ∷ optional (codes "when") Text ∷ optional (codes "max") Count
     ∷ optional (codes "propagate") Boolean ∷ []
 

@@ -1,8 +1,8 @@
 pub mod Built
 pub mod Complete
 pub mod FaultText
+pub mod Given
 pub mod Keys
-pub mod Listed
 pub mod Passes
 pub mod Plan
 pub mod Printed

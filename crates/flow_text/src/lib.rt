@@ -3,6 +3,8 @@
 
 mod complete;
 mod fault;
+mod given;
+mod list_line;
 mod network;
 mod page;
 mod piece;

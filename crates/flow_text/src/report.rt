@@ -1,129 +1,34 @@
 //! Prints what a run left behind: the lines of a report, one for each part of a block.
 ghost use Rattle.std.specs.Prelude.{◌≡◌, ◌+◌, ◌-◌, true, false, ◌∷◌, ◌++◌, [], length, drop, take, count_by, ◌<◌, ◌≤◌};
 ghost use Rattle.std.specs.Prelude.{if◌then◌else◌, IfErr, OnOk};
-ghost use Rattle.std.specs.Option.{option_copied, option_to_list};
-ghost use Rattle.std.specs.Fmt.{decimal};
 ghost use Rattle.std.specs.Io.KnownBytes.{Appends};
 ghost use Rattle.flow_text.specs.Written.{StaysInFront};
 ghost use Rattle.flow_link.specs.Layout.{input_link};
 ghost use Rattle.flow_link.specs.Plan.{begins_at, port_count};
-ghost use Rattle.flow_link.specs.Trace.{took_at, took_over, gave_over, block_of, link_of, held_at, left_at, waits_over};
-ghost use Rattle.flow_text.specs.Printed.{list_text};
+ghost use Rattle.flow_link.specs.Trace.{took_over, block_of, link_of, waits_over};
 ghost use Rattle.flow_text.specs.Report.{state_word, block_line, input_line, port_line, held_line, link_line};
 ghost use Rattle.flow_text.specs.Report.{exit_line, settled_line, last_line, is_input, is_output, between_count};
 ghost use Rattle.flow_text.specs.Report.{input_link_number, exit_link_number, input_part, exit_part, last_part};
 ghost use Rattle.flow_text.specs.Report.{all_ports, all_links, block_report, report, run_in};
-ghost use Rattle.flow_text.specs.Report.{labelled, label_text};
-ghost use Rattle.flow_text.specs.Listed.{listed};
+ghost use Rattle.flow_text.specs.Given.{lists_of, given_lists};
 
 use crate::fault::{TextFault, TextRefusal};
-use crate::page::{Page, gather_bytes, write_page};
+use crate::given::sort_given;
+use crate::list_line::{
+    write_given_line, write_number, write_parts_line, write_sorted_line, write_taken_line,
+};
 use crate::piece::write_bytes;
 use crate::seen::{block_at, block_count, held_at, left_at, link_at, link_count};
-use crate::value_text::gather_item;
 use flow_link::{BlockDef, BlockKind, Link, LinkSource, Mark};
 use flow_net::{Net, Settled, State};
 use flow_value::{Steps, Value};
-use itoa::Buffer;
+use std::alloc::Global;
 use std::io;
 use std::io::Write;
 
-/// The values that a line lists.
-#[derive(Clone, Copy)]
-enum Listed<'a> {
-    /// Those that were taken at this port.
-    Taken(&'a [Mark], u32),
-    /// Those that were given over this link.
-    Given(&'a [Mark], usize),
-    /// Those of two parts.
-    Parts(&'a [Value], &'a [Value]),
-}
-
-// The value that this mark took at this port.
-fn taken_at(mark: &Mark, port: u32) -> Option<&Value>
-    ensures { option_to_list (option_copied result) ≡ took_at port (mark.now ∷ []) }
-{
-    match mark {
-        Mark::Took(at, _, value) if *at == port => Some(value),
-        _ => None,
-    }
-}
-
-// The value that this mark gave over this link.
-fn given_over(mark: &Mark, link: usize) -> Option<&Value>
-    ensures { option_to_list (option_copied result) ≡ gave_over link (mark.now ∷ []) }
-{
-    match mark {
-        Mark::Gave(over, value) if *over == link => Some(value),
-        _ => None,
-    }
-}
-
-fn write_taken<W: Write>(writer: &mut W, journal: &[Mark], port: u32) -> io::Result<()>
-    ensures written { OnOk result (Appends (W.contents writer.old) (W.contents writer.new)
-        (list_text (took_at port journal.now))) }
-    ensures kept { StaysInFront (W.contents writer.old) (W.contents writer.new) }
-{
-    let mut page = Page::new();
-    gather_bytes(writer, &mut page, b"[")?;
-    let mut is_first = true;
-    for mark in journal {
-        match taken_at(mark, port) {
-            Some(value) => {
-                gather_item(writer, &mut page, is_first, value)?;
-                is_first = false;
-            }
-            None => {}
-        }
-    }
-    gather_bytes(writer, &mut page, b"]")?;
-    write_page(writer, &mut page)?;
-    Ok(())
-}
-
-fn write_given<W: Write>(writer: &mut W, journal: &[Mark], link: usize) -> io::Result<()>
-    ensures written { OnOk result (Appends (W.contents writer.old) (W.contents writer.new)
-        (list_text (gave_over link journal.now))) }
-    ensures kept { StaysInFront (W.contents writer.old) (W.contents writer.new) }
-{
-    let mut page = Page::new();
-    gather_bytes(writer, &mut page, b"[")?;
-    let mut is_first = true;
-    for mark in journal {
-        match given_over(mark, link) {
-            Some(value) => {
-                gather_item(writer, &mut page, is_first, value)?;
-                is_first = false;
-            }
-            None => {}
-        }
-    }
-    gather_bytes(writer, &mut page, b"]")?;
-    write_page(writer, &mut page)?;
-    Ok(())
-}
-
-// The values of two parts, as one list.
-fn write_parts<W: Write>(writer: &mut W, front: &[Value], back: &[Value]) -> io::Result<()>
-    ensures written { OnOk result (Appends (W.contents writer.old) (W.contents writer.new)
-        (list_text (front.now ++ back.now))) }
-    ensures kept { StaysInFront (W.contents writer.old) (W.contents writer.new) }
-{
-    let mut page = Page::new();
-    gather_bytes(writer, &mut page, b"[")?;
-    let mut is_first = true;
-    'front: for value in front {
-        gather_item(writer, &mut page, is_first, value)?;
-        is_first = false;
-    }
-    'back: for value in back {
-        gather_item(writer, &mut page, is_first, value)?;
-        is_first = false;
-    }
-    gather_bytes(writer, &mut page, b"]")?;
-    write_page(writer, &mut page)?;
-    Ok(())
-}
+/// So many links of a block are each read from its journal: what it gave is sorted only for more. To sort costs about as
+/// much as six walks through the journal.
+const FEW_LINKS: usize = 8;
 
 // How many values the journal took over this link.
 fn count_taken(journal: &[Mark], link: usize) -> usize
@@ -145,13 +50,6 @@ fn is_taken_over(mark: &Mark, link: usize) -> bool
         Mark::Took(_, over, _) => *over == link,
         _ => false,
     }
-}
-
-fn write_number<W: Write>(writer: &mut W, number: u64) -> io::Result<()>
-    ensures written { OnOk result (Appends (W.contents writer.old) (W.contents writer.new) (decimal number)) }
-    ensures kept { StaysInFront (W.contents writer.old) (W.contents writer.new) }
-{
-    write_bytes(writer, Buffer::new().format(number).as_bytes())
 }
 
 fn write_state<W: Write>(writer: &mut W, state: State) -> io::Result<()>
@@ -182,49 +80,6 @@ fn write_block_line<W: Write>(writer: &mut W, name: &str, state: State) -> io::R
     write_bytes(writer, b"\n")
 }
 
-fn write_list<W: Write>(writer: &mut W, values: Listed) -> io::Result<()>
-    ensures written { OnOk result (Appends (W.contents writer.old) (W.contents writer.new)
-        (list_text (listed values.entry))) }
-    ensures kept { StaysInFront (W.contents writer.old) (W.contents writer.new) }
-{
-    match values {
-        Listed::Taken(journal, port) => write_taken(writer, journal, port),
-        Listed::Given(journal, link) => write_given(writer, journal, link),
-        Listed::Parts(front, back) => write_parts(writer, front, back),
-    }
-}
-
-fn write_label<W: Write>(writer: &mut W, label: &[u8], number: Option<u64>) -> io::Result<()>
-    ensures written { OnOk result (Appends (W.contents writer.old) (W.contents writer.new)
-        (label_text label.now number)) }
-    ensures kept { StaysInFront (W.contents writer.old) (W.contents writer.new) }
-{
-    match number {
-        Some(number) => {
-            write_bytes(writer, label)?;
-            write_number(writer, number)
-        }
-        None => write_bytes(writer, label),
-    }
-}
-
-// Writes a line that ends with a list.
-fn write_line<W: Write>(
-    writer: &mut W,
-    label: &[u8],
-    number: Option<u64>,
-    values: Listed,
-) -> io::Result<()>
-    ensures written { OnOk result (Appends (W.contents writer.old) (W.contents writer.new)
-        (labelled (label_text label.now number) (listed values.entry))) }
-    ensures kept { StaysInFront (W.contents writer.old) (W.contents writer.new) }
-{
-    write_label(writer, label, number)?;
-    write_bytes(writer, b" ")?;
-    write_list(writer, values)?;
-    write_bytes(writer, b"\n")
-}
-
 // Those of the posted values that were not taken, of which there are so many that were.
 fn not_taken(posted: &[Value], taken: usize) -> &[Value]
     ensures { result.now ≡ drop taken posted.now }
@@ -237,7 +92,7 @@ fn write_input_line<W: Write>(writer: &mut W, waits: &[Value]) -> io::Result<()>
     ensures written { OnOk result (Appends (W.contents writer.old) (W.contents writer.new) (input_line waits.now)) }
     ensures kept { StaysInFront (W.contents writer.old) (W.contents writer.new) }
 {
-    write_line(writer, b"input", None, Listed::Parts(waits, &[]))
+    write_parts_line(writer, b"input", None, waits, &[])
 }
 
 /// Writes the line of what was taken at a port.
@@ -246,12 +101,7 @@ fn write_port_line<W: Write>(writer: &mut W, port: u32, journal: &[Mark]) -> io:
         (port_line port journal.now)) }
     ensures kept { StaysInFront (W.contents writer.old) (W.contents writer.new) }
 {
-    write_line(
-        writer,
-        b"port ",
-        Some(u64::from(port)),
-        Listed::Taken(journal, port),
-    )
+    write_taken_line(writer, b"port ", Some(u64::from(port)), journal, port)
 }
 
 /// Writes the line of what a port holds, given in two parts.
@@ -265,26 +115,25 @@ fn write_held_line<W: Write>(
         (held_line port (front.now ++ back.now))) }
     ensures kept { StaysInFront (W.contents writer.old) (W.contents writer.new) }
 {
-    write_line(
-        writer,
-        b"held ",
-        Some(u64::from(port)),
-        Listed::Parts(front, back),
-    )
+    write_parts_line(writer, b"held ", Some(u64::from(port)), front, back)
 }
 
-/// Writes the line of what was given over a link.
-fn write_link_line<W: Write>(writer: &mut W, link: usize, journal: &[Mark]) -> io::Result<()>
+/// Writes the line of what was given over a link: that of its list, where the journal is sorted that far.
+fn write_link_line<W: Write>(
+    writer: &mut W,
+    link: usize,
+    journal: &[Mark],
+    lists: &[Vec<&Value>],
+) -> io::Result<()>
+    requires { lists_of lists.now ≡ given_lists (length lists.now) journal.now }
     ensures written { OnOk result (Appends (W.contents writer.old) (W.contents writer.new)
         (link_line link journal.now)) }
     ensures kept { StaysInFront (W.contents writer.old) (W.contents writer.new) }
 {
-    write_line(
-        writer,
-        b"link ",
-        Some(link as u64),
-        Listed::Given(journal, link),
-    )
+    if link < lists.len() {
+        return write_sorted_line(writer, b"link ", Some(link as u64), lists[link].as_slice());
+    }
+    write_given_line(writer, b"link ", Some(link as u64), journal, link)
 }
 
 /// Writes the line of what was given over an exit.
@@ -293,7 +142,7 @@ fn write_exit_line<W: Write>(writer: &mut W, link: usize, journal: &[Mark]) -> i
         (exit_line link journal.now)) }
     ensures kept { StaysInFront (W.contents writer.old) (W.contents writer.new) }
 {
-    write_line(writer, b"exit", None, Listed::Given(journal, link))
+    write_given_line(writer, b"exit", None, journal, link)
 }
 
 /// Writes the line of the results that an action keeps.
@@ -302,7 +151,7 @@ fn write_record_line<W: Write>(writer: &mut W, recorded: &[Value]) -> io::Result
         (last_line true recorded.now [])) }
     ensures kept { StaysInFront (W.contents writer.old) (W.contents writer.new) }
 {
-    write_line(writer, b"record", None, Listed::Parts(recorded, &[]))
+    write_parts_line(writer, b"record", None, recorded, &[])
 }
 
 /// Writes the line of the outputs that weren't given, in two parts.
@@ -311,7 +160,7 @@ fn write_left_line<W: Write>(writer: &mut W, front: &[Value], back: &[Value]) ->
         (last_line false [] (front.now ++ back.now))) }
     ensures kept { StaysInFront (W.contents writer.old) (W.contents writer.new) }
 {
-    write_line(writer, b"left", None, Listed::Parts(front, back))
+    write_parts_line(writer, b"left", None, front, back)
 }
 
 /// Writes the last line.
@@ -418,15 +267,46 @@ fn is_from(link: Link, block: usize) -> bool
     }
 }
 
-fn write_links<W: Write>(writer: &mut W, net: &Net<Steps>, block: usize) -> io::Result<()>
+// Sorts what a block gave once it has a line for a few links, so that its journal is walked through once for all other
+// lines. Where memory is out, it is walked through for each.
+fn sort_for_many<'a>(
+    alloc: Global,
+    lists: &mut Vec<Vec<&'a Value>>,
+    lines: usize,
+    journal: &'a [Mark],
+    links: usize,
+)
+    requires { lists_of lists.now.items ≡ given_lists (length lists.now.items) journal.now }
+    ensures { lists_of lists.new.items ≡ given_lists (length lists.new.items) journal.now }
+{
+    if lines == FEW_LINKS {
+        match sort_given(alloc, journal, links) {
+            Ok(sorted) => *lists = sorted,
+            Err(_) => {}
+        }
+    }
+}
+
+fn write_links<W: Write>(
+    alloc: Global,
+    writer: &mut W,
+    net: &Net<Steps>,
+    block: usize,
+) -> io::Result<()>
     requires { block < length (run_in net.now).layout.blocks }
     ensures written { OnOk result (Appends (W.contents writer.old) (W.contents writer.new)
         (all_links (run_in net.now) block)) }
     ensures kept { StaysInFront (W.contents writer.old) (W.contents writer.new) }
 {
-    for id in 0..links_between(net, link_count(net)) {
+    let journal = net.journal(block);
+    let links = links_between(net, link_count(net));
+    let mut lists = Vec::new(alloc);
+    let mut lines: usize = 0;
+    for id in 0..links {
         if is_from(link_at(net, id), block) {
-            write_link_line(writer, id, net.journal(block))?;
+            sort_for_many(alloc, &mut lists, lines, journal, links);
+            write_link_line(writer, id, journal, lists.as_slice())?;
+            lines = lines.saturating_add(1);
         }
     }
     Ok(())
@@ -481,7 +361,12 @@ fn write_last<W: Write>(writer: &mut W, net: &Net<Steps>, block: usize) -> io::R
     }
 }
 
-fn write_block<W: Write>(writer: &mut W, net: &Net<Steps>, block: usize) -> io::Result<()>
+fn write_block<W: Write>(
+    alloc: Global,
+    writer: &mut W,
+    net: &Net<Steps>,
+    block: usize,
+) -> io::Result<()>
     requires { block < length (run_in net.now).layout.blocks }
     ensures written { OnOk result (Appends (W.contents writer.old) (W.contents writer.new)
         (block_report (run_in net.now) block)) }
@@ -490,25 +375,34 @@ fn write_block<W: Write>(writer: &mut W, net: &Net<Steps>, block: usize) -> io::
     write_block_line(writer, block_at(net, block).name.as_str(), net.state(block))?;
     write_input(writer, net, block)?;
     write_ports(writer, net, block)?;
-    write_links(writer, net, block)?;
+    write_links(alloc, writer, net, block)?;
     write_exit(writer, net, block)?;
     write_last(writer, net, block)
 }
 
 /// Writes the report of a network that stopped so.
-fn write_lines<W: Write>(writer: &mut W, net: &Net<Steps>, settled: Settled) -> io::Result<()>
+fn write_lines<W: Write>(
+    alloc: Global,
+    writer: &mut W,
+    net: &Net<Steps>,
+    settled: Settled,
+) -> io::Result<()>
     ensures written { OnOk result (Appends (W.contents writer.old) (W.contents writer.new)
         (report (run_in net.now) settled)) }
     ensures kept { StaysInFront (W.contents writer.old) (W.contents writer.new) }
 {
     for block in 0..block_count(net) {
-        write_block(writer, net, block)?;
+        write_block(alloc, writer, net, block)?;
     }
     write_settled_line(writer, settled)
 }
 
 /// Writes the report of a network that stopped so, in many small pieces: the writer should gather them.
+///
+/// The memory is for what a block with many links gave, sorted by link. Where there is none, the report is the same, and
+/// takes longer.
 pub fn write_report<W: Write>(
+    alloc: Global,
     net: &Net<Steps>,
     settled: Settled,
     writer: &mut W,
@@ -518,7 +412,7 @@ pub fn write_report<W: Write>(
     ensures refused { IfErr result (λ refusal. refusal ≡ TextRefusal.Fault TextFault.Write) }
     ensures kept { StaysInFront (W.contents writer.old) (W.contents writer.new) }
 {
-    match write_lines(writer, net, settled) {
+    match write_lines(alloc, writer, net, settled) {
         Ok(()) => Ok(()),
         Err(_) => Err(TextRefusal::Fault(TextFault::Write)),
     }

@@ -69,7 +69,7 @@ fn block(alloc: Global, table: &Table, place: TextPlace) -> Result<BlockDef<Step
         output: false,
         capacity: count(table, "capacity"),
         work,
-        lanes: None,
+        lanes: count(table, "lanes"),
         size: None,
         ports: None,
         greedy: None,

@@ -97,6 +97,11 @@ const BLOCK: &[Key] = &[
         form: Form::Texts,
         is_required: false,
     },
+    Key {
+        name: "lanes",
+        form: Form::Count,
+        is_required: false,
+    },
 ];
 
 const LINK: &[Key] = &[

@@ -10,7 +10,9 @@ use Rattle.flow_moves.proofs.fresh.node_of.Goals as goal
 pub new-requires-in-Ok : goal.new-requires-in-Ok
 new-requires-in-Ok g c =
     let layout = layout_of c.args.plan.now in
-    let kind = c.block.result.now.kind in
+    let kind = c.block-def.result.now.kind in
+    let lanes = c.unwrap_or-lanes.result in
     let rules = c.in_ok-rules.rules.items in
-    no_mark_due layout c.args.number kind (below (port_count (block_in layout.blocks c.args.number))) rules c.in-Ok.block
-    (c.in-Ok.ensures ∙ ap (λ (ports : List PortState). fresh_block kind ports rules) c.in_ok-ports.ensures)
+    no_mark_due layout c.args.number kind lanes (below (port_count (block_in layout.blocks c.args.number))) rules
+    c.in-Ok.block
+    (c.in-Ok.ensures ∙ ap (λ (ports : List PortState). fresh_block kind lanes ports rules) c.in_ok-ports.ensures)

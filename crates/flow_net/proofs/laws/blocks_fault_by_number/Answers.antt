@@ -1,5 +1,5 @@
 use Rattle.flow_core.proofs.NetworksInOrder.{all_blocks_fault_by_number}
-use Rattle.flow_moves.specs.Works.{works_of}
+use Rattle.flow_exec.specs.Works.{works_of}
 use Rattle.flow_net.proofs.WorksNumbered.{works_fault_by_number}
 use Rattle.flow_net.proofs.laws.blocks_fault_by_number.Goals as goal
 

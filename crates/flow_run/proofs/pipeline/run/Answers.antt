@@ -6,7 +6,7 @@ use Rattle.flow_run.proofs.pipeline.run.Goals as goal
 
 pub returns-clause-reported : goal.returns-clause-reported
 returns-clause-reported g c =
-    let net = c.settle.new.self in
+    let net = c.settle_with.new.self in
     let same_plan = c.in-Ok.ensures.same_plan in
     let begins = begins_as same_plan c.in_ok-net.ensures.begins in
     record {
@@ -24,7 +24,7 @@ returns-clause-reported g c =
 
 pub returns-in-Err-clause-refused : goal.returns-in-Err-clause-refused
 returns-in-Err-clause-refused g c =
-    let net = c.settle.new.self in
+    let net = c.settle_with.new.self in
     let same_plan = c.in-Err.ensures.same_plan in
     no_end c.args.text.now (g.R.Read.remaining c.args.reader) c.args.limit c.in-Err.fault c.refusal_of_net.result
     c.refusal_of_net.ensures
@@ -40,7 +40,7 @@ returns-in-Err-clause-refused g c =
 pub returns-in_err-write_report-clause-refused : goal.returns-in_err-write_report-clause-refused
 returns-in_err-write_report-clause-refused g c =
     let p = err_from_is_err_and c.from_residual-in_err-write_report.result c.from_residual-in_err-write_report.ensures.1 in
-    let net = c.settle.new.self in
+    let net = c.settle_with.new.self in
     let same_plan = c.in-Ok.ensures.same_plan in
     rw (p.1, p.2)
     (no_report c.args.text.now (g.R.Read.remaining c.args.reader) c.args.limit c.in_err-write_report.field-0.0 c.in_err-write_report.ensures.refused

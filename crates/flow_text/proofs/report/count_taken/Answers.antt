@@ -1,6 +1,6 @@
 use Rattle.std.proofs.Common.{◌==◌, ◌∙◌, length, take, ap, arith, length-append}
 use Rattle.flow_link.specs.Trace.{took_over}
-use Rattle.flow_text.proofs.ReportGrows.{taken-next}
+use Rattle.flow_text.proofs.ListsGrow.{taken-next}
 use Rattle.flow_text.proofs.report.count_taken.Goals as goal
 use Rattle.flow_text.proofs.report.count_taken.Goals.{then-is_taken_over, else-is_taken_over}
 

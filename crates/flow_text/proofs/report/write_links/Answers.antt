@@ -13,10 +13,11 @@ loop-id-preserved g c =
     let test : ℕ → Bool = λ id. begins_at c.args.block (link_of run id).source in
     let here : c.is_from.result ≡ test c.loop-id.id = c.is_from.ensures ∙ ap (λ (link : Link). begins_at c.args.block link.source) (c.link_at.ensures no_link) in
     elim c.if-is_from.branch [
-      | then-is_from+in_ok-write_link_line w ↦ rw w.writer-is (record {
+      | then-is_from+in_ok-write_link_line w ↦ rw (w.writer-is, w.lists-is) (record {
         written = lines-more_if test (λ id. link_line id (marks_of run c.args.block)) c.loop-id.id _ _ _ (sym here ∙ w.if-is_from.true) c.loop-id.invariant.written
-            (rw w.journal.ensures at w.in_ok-write_link_line.ensures.written);
+            (rw c.journal-journal.ensures at w.in_ok-write_link_line.ensures.written);
+        sorted = w.sort_for_many.ensures;
         kept = λ front begins. w.in_ok-write_link_line.ensures.kept front (c.loop-id.invariant.kept front begins);
       })
-      | else-is_from w ↦ rw (w.writer-is, lines-same test c.loop-id.id (sym here ∙ w.if-is_from.false)) c.loop-id.invariant
+      | else-is_from w ↦ rw (w.writer-is, w.lists-is, lines-same test c.loop-id.id (sym here ∙ w.if-is_from.false)) c.loop-id.invariant
     ]

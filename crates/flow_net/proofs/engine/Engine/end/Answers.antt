@@ -4,9 +4,9 @@ use Rattle.flow_block.specs.Node.{NodeState}
 use Rattle.flow_block.specs.Peeks.{next_fault}
 use Rattle.flow_block.specs.Planned.{block_makes}
 use Rattle.flow_core.specs.Events.{after}
-use Rattle.flow_moves.specs.Works.{works_of}
-use Rattle.flow_net.specs.declared.event.Event.{Event}
-use Rattle.flow_net.specs.Events.{net_event}
+use Rattle.flow_exec.specs.Works.{works_of}
+use Rattle.flow_net.specs.declared.due.Due.{Due}
+use Rattle.flow_net.specs.Dues.{event_of}
 use Rattle.flow_net.proofs.EventsDone.{faulted_is_after}
 use Rattle.flow_net.proofs.engine.Engine.end.Goals as goal
 
@@ -14,7 +14,7 @@ pub returns-in_ok-complete-in-Complete-clause-done : goal.returns-in_ok-complete
 returns-in_ok-complete-in-Complete-clause-done g c =
     let layout = layout_of c.args.self.now.plan in
     let meaning = works_of g.W.Work.meaning layout in
-    subst (λ (e : Event _). c.complete.new.self ≡ after layout meaning (net_event e) c.args.self.now.parts) (sym c.in-Complete.is)
+    subst (λ (e : Due). c.complete.new.self ≡ after layout meaning (event_of e) c.args.self.now.parts) (sym c.in-Complete.is)
     (c.in_ok-complete-in-Complete.ensures.done (block_makes layout meaning c.in-Complete.number))
 
 pub returns-in_ok-fault-in-Fault-clause-done : goal.returns-in_ok-fault-in-Fault-clause-done
@@ -24,7 +24,7 @@ returns-in_ok-fault-in-Fault-clause-done g c =
     let old = c.args.self.now.parts in
     let block_is = c.block.ensures ∙ ap (λ (node : NodeState). node.block) c.node.ensures in
     let would = ap next_fault (sym block_is) ∙ sym c.next_fault.ensures ∙ c.in-Some.is in
-    subst (λ (e : Event _). c.fault.new.self ≡ after layout meaning (net_event e) old) (sym c.in-Fault.is)
+    subst (λ (e : Due). c.fault.new.self ≡ after layout meaning (event_of e) old) (sym c.in-Fault.is)
     (faulted_is_after layout meaning old c.fault.new.self c.in-Fault.number c.in-Some.fault would
     (c.in_ok-fault-in-Fault.ensures.done (block_makes layout meaning c.in-Fault.number)))
 
@@ -32,5 +32,5 @@ pub returns-in_ok-finish-in-Done-clause-done : goal.returns-in_ok-finish-in-Done
 returns-in_ok-finish-in-Done-clause-done g c =
     let layout = layout_of c.args.self.now.plan in
     let meaning = works_of g.W.Work.meaning layout in
-    subst (λ (e : Event _). c.finish.new.self ≡ after layout meaning (net_event e) c.args.self.now.parts) (sym c.in-Done.is)
+    subst (λ (e : Due). c.finish.new.self ≡ after layout meaning (event_of e) c.args.self.now.parts) (sym c.in-Done.is)
     (c.in_ok-finish-in-Done.ensures.done (block_makes layout meaning c.in-Done.number))

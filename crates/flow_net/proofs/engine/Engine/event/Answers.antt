@@ -1,6 +1,6 @@
 use Rattle.flow_link.specs.Planned.{layout_of}
-use Rattle.flow_moves.specs.Works.{works_of}
-use Rattle.flow_net.specs.Events.{net_event}
+use Rattle.flow_exec.specs.Works.{works_of}
+use Rattle.flow_net.specs.Dues.{event_of}
 use Rattle.flow_net.proofs.EventsCount.{one_event_at_most}
 use Rattle.flow_net.proofs.engine.Engine.event.Goals as goal
 
@@ -8,5 +8,5 @@ pub returns-then-branch-clause-goes_on : goal.returns-then-branch-clause-goes_on
 returns-then-branch-clause-goes_on g c =
     let old = c.args.self.now in
     let layout = layout_of old.plan in
-    one_event_at_most layout (works_of g.W.Work.meaning layout) c.go.result (net_event c.args.event.now) old.parts
+    one_event_at_most layout (works_of g.W.Work.meaning layout) c.go.result (event_of c.args.event.now) old.parts
     c.go.new.self.parts c.go.ensures.may c.go.ensures.done c.go.ensures.kept

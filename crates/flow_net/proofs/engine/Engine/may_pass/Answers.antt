@@ -2,7 +2,7 @@ use Rattle.std.proofs.Common.{sym, subst}
 use Rattle.flow_link.specs.Planned.{layout_of}
 use Rattle.flow_block.specs.declared.planned.Route.{Route}
 use Rattle.flow_moves.specs.Ready.{IsThere}
-use Rattle.flow_moves.specs.Works.{works_of}
+use Rattle.flow_exec.specs.Works.{works_of}
 use Rattle.flow_moves.proofs.MerelyKept.{links_there}
 use Rattle.flow_moves.proofs.PlansRun.{plan_runs}
 use Rattle.flow_net.proofs.engine.Engine.may_pass.Goals as goal

@@ -4,7 +4,7 @@ use Rattle.flow_link.specs.Phase.{phase_after}
 use Rattle.flow_link.specs.Planned.{layout_of}
 use Rattle.flow_block.specs.declared.planned.Route.{Route}
 use Rattle.flow_moves.specs.Ready.{IsThere, IsReady}
-use Rattle.flow_moves.specs.Works.{works_of}
+use Rattle.flow_exec.specs.Works.{works_of}
 use Rattle.flow_moves.proofs.MerelyKept.{links_there, moves_ready}
 use Rattle.flow_moves.proofs.PlansRun.{plan_runs}
 use Rattle.flow_net.proofs.EventsDone.{moved_is_after}

@@ -5,7 +5,7 @@ use Rattle.flow_block.specs.declared.planned.Route.{Route}
 use Rattle.flow_block.specs.Planned.{block_makes}
 use Rattle.flow_moves.specs.Passes.{id_next, may_pass, offered_along, passed_along}
 use Rattle.flow_moves.specs.Ready.{IsThere, SourceIsReady}
-use Rattle.flow_moves.specs.Works.{works_of}
+use Rattle.flow_exec.specs.Works.{works_of}
 use Rattle.flow_moves.proofs.MerelyKept.{links_there, moves_ready}
 use Rattle.flow_moves.proofs.PlansRun.{plan_runs}
 use Rattle.flow_net.proofs.FindersTell.{route_there, route_at}

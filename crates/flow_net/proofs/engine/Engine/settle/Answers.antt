@@ -1,6 +1,6 @@
 use Rattle.std.proofs.Common.{refl, ◌∙◌}
 use Rattle.flow_link.specs.Planned.{layout_of}
-use Rattle.flow_moves.specs.Works.{works_of}
+use Rattle.flow_exec.specs.Works.{works_of}
 use Rattle.flow_net.proofs.EventsCount.{none_happened, rounds_more}
 use Rattle.flow_net.proofs.engine.Engine.settle.Goals as goal
 

@@ -1,7 +1,7 @@
 use Rattle.std.proofs.Common.{◌≡◌, ◌≤◌, ◌-◌}
 use Rattle.flow_link.specs.Planned.{layout_of}
 use Rattle.flow_core.specs.Keeps.{NetKeeps}
-use Rattle.flow_moves.specs.Works.{works_of}
+use Rattle.flow_exec.specs.Works.{works_of}
 use Rattle.flow_net.specs.Happened.{Happened}
 use Rattle.flow_net.proofs.engine.Engine.settle.Given as goal
 

@@ -1,7 +1,7 @@
 use Rattle.flow_core.proofs.StillRests.{at_rest_merely}
 use Rattle.flow_moves.proofs.MerelyKept.{quiet_merely}
 use Rattle.flow_moves.proofs.PlansRun.{plan_runs}
-use Rattle.flow_moves.specs.Works.{works_of}
+use Rattle.flow_exec.specs.Works.{works_of}
 use Rattle.flow_net.specs.Net.{layout_in, parts_of}
 use Rattle.flow_net.proofs.net.Net.is_quiet.Goals as goal
 

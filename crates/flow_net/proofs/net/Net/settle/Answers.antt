@@ -1,5 +1,5 @@
 use Rattle.flow_link.specs.Planned.{layout_of}
-use Rattle.flow_moves.specs.Works.{works_of}
+use Rattle.flow_exec.specs.Works.{works_of}
 use Rattle.flow_moves.proofs.PlansRun.{plan_runs}
 use Rattle.flow_net.proofs.KeptOn.{kept_by_plan, lawful_by_plan, quiet_by_plan, rests_by_plan, posted_on, still_if_settled}
 use Rattle.flow_net.proofs.net.Net.settle.Goals as goal

@@ -38,6 +38,8 @@ invariant_of-self c =
       c.end_group.ensures.rest,
       c.end_group.ensures.weight,
       c.taken-head.ensures.none,
+      c.taken-head.ensures.capacity,
+      c.end_group.ensures.capacity,
       c.gave.ensures,
     )
     (fits_given c.self.invariant c.args.place here _ c.index.ensures _ _ c.taken-head.ensures.oldest)

@@ -14,4 +14,4 @@ invariant_of-result c =
       c.new-2.ensures.items,
       c.id.ensures.value,
       c.id-2.ensures.value,
-    ) (fits_fresh c.args.rules.items c.args.first few c.id.ensures.low c.id.ensures.high)
+    ) (fits_fresh c.args.rules.items c.args.first _ _ few c.id.ensures.low c.id.ensures.high)

@@ -18,6 +18,8 @@ invariant_of-self c =
       c.end_group.ensures.rest,
       c.end_group.ensures.weight,
       c.taken-head.ensures.none,
+      c.taken-head.ensures.capacity,
+      c.end_group.ensures.capacity,
       c.note_sent.ensures,
     )
     (fits_sent c.self.invariant c.args.place next.there next.free _ c.index_mut.ensures.value

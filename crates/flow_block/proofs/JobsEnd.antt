@@ -1,0 +1,330 @@
+-- A job that ends keeps its node in order. Where its result is the next one, the block makes its outputs of that message and of those
+-- behind it whose results are there, one after another, as if nothing had come back of them before.
+use Rattle.std.proofs.Common.{◌≡◌, ℕ, ◌+◌, ◌≤◌, ◌^◌, leb, Bool, true, false, List, [], ◌∷◌, ◌++◌, length, drop, set, get_or, map, Option, Some, None, is_none, Result, Ok, Err, refl, ap, sym, subst, ◌∙◌, arith, length-append}
+use Rattle.std.proofs.lemmas.Bool.{and_parts, ltb-false, le-ltb}
+use Rattle.std.proofs.lemmas.List.{length-map, length-set}
+use Rattle.flow_value.specs.declared.value.Value.{Value}
+use Rattle.flow_link.specs.declared.draft.BlockKind.{BlockKind}
+use Rattle.flow_link.specs.declared.draft.BlockKind.TheVariants.{Buffer, Action}
+use Rattle.flow_link.specs.declared.trace.Mark.{Mark}
+use Rattle.flow_link.specs.Layout.{Layout}
+use Rattle.flow_link.specs.Lists.{every}
+use Rattle.flow_link.specs.Plan.{has_work}
+use Rattle.flow_link.proofs.ListTests.{never_both}
+use Rattle.flow_intake.specs.Port.{PortState, end_in}
+use Rattle.flow_intake.specs.Calls.{first_of, takes_next, gives_room, port_fails}
+use Rattle.flow_outlet.specs.End.{end_in as out_end}
+use Rattle.flow_outlet.specs.Outlet.{OutletState, lacks_ids, puts}
+use Rattle.flow_block.specs.Block.{BlockState, port_at, unit_weight, with_jobs, job_message, held_by, put_by_kind, values_of_result, put_of, fails, keeps_results, yields, makes_of, makes, yields_all, yields_where, put_where}
+use Rattle.flow_block.specs.Jobs.{Slot, JobsState, no_slot, place_of, is_out, is_front_back, brings, comes_out, AreOf}
+use Rattle.flow_block.specs.JobsEnd.{JobsEndWell, MayEndJob, EndsWell, ViewsStay, after_job, job_result}
+use Rattle.flow_block.specs.Node.{NodeState, NodeCall, with_block, view_of_in, view_of_out}
+use Rattle.flow_block.specs.NodeKeeps.{NodesKept, MayMake}
+use Rattle.flow_block.specs.NodeLaw.{NodeLaw}
+use Rattle.flow_block.specs.Planned.{block_makes}
+use Rattle.flow_block.proofs.EndsHold.{jobs_change as ends_stay}
+use Rattle.flow_block.proofs.JobsHold.{back_at, makes_by_work, held_next}
+use Rattle.flow_block.proofs.KindsBuilt.{has_one_port}
+use Rattle.flow_block.proofs.LoadHolds.{jobs_change as load_stays}
+use Rattle.flow_block.proofs.MakesHold.{jobs_change as makes_stay}
+use Rattle.flow_block.proofs.NodesKept.{nodes_kept}
+use Rattle.flow_block.proofs.PortsChange.{kept_at_all}
+use Rattle.flow_block.proofs.ShapeHolds.{exits_move as shape_stays}
+use Rattle.flow_block.proofs.TestsTell.{none_is}
+use Rattle.flow_block.proofs.ViewsMove.{EndsStay, keeping_stays, yielding_stays}
+
+-- Other slots, and slots of which nothing has come back
+
+abbrev pub with_slots : List Slot → BlockState → BlockState
+with_slots slots block = with_jobs (λ jobs. record jobs { slots = slots }) block
+
+abbrev blank : List Slot → List Slot
+blank slots = map (λ (slot : Slot). None) slots
+
+blank_out : (slots : List Slot) → every is_none (blank slots) ≡ true
+blank_out [] = refl
+blank_out (slot ∷ slots) = blank_out slots
+
+blank_front : (slots : List Slot) → is_front_back (blank slots) ≡ false
+blank_front [] = refl
+blank_front (slot ∷ slots) = refl
+
+blank_of : (result : Value → Result (List Value) ℕ) (held : List Value) (slots : List Slot) → AreOf result held slots
+    → AreOf result held (blank slots)
+blank_of result held [] are = tt
+blank_of result [] (slot ∷ slots) are = absurd are
+blank_of result (value ∷ held) (slot ∷ slots) are = (tt, blank_of result held slots are.1)
+
+blank_none : (slots : List Slot) → slots ≡ [] → blank slots ≡ []
+blank_none slots none = ap blank none
+
+-- What a block with a function makes is the same whatever its slots are
+
+pub keeps_slots : (kind : BlockKind) (values : List Value) (slots : List Slot) (block : BlockState) → has_work kind ≡ true
+    → keeps_results kind values (with_slots slots block) ≡ with_slots (drop 1 slots) (keeps_results kind values block)
+keeps_slots Action values slots block works = refl
+keeps_slots Buffer values slots block works = absurd (cc)
+keeps_slots _ [] slots block works = refl
+keeps_slots _ (value ∷ values) slots block works = refl
+
+-- it goes on as it did
+pub record Goes (block new : BlockState) : Type 0 where
+  pub kind : new.kind ≡ block.kind
+  pub stopped : new.stopped ≡ block.stopped
+  pub fault : new.fault ≡ block.fault
+
+pub keeps_goes : (kind : BlockKind) (values : List Value) (block : BlockState) → Goes block (keeps_results kind values block)
+keeps_goes Action values block = record { kind = refl; stopped = refl; fault = refl }
+keeps_goes _ [] block = record { kind = refl; stopped = refl; fault = refl }
+keeps_goes _ (value ∷ values) block = record { kind = refl; stopped = refl; fault = refl }
+
+-- Ids for all that comes out are ids for what comes out first, and for the rest behind it
+
+lacks_front : (values more : List Value) (o : OutletState) → lacks_ids (values ++ more) o ≡ false
+    → lacks_ids values o ≡ false
+lacks_front [] more o has = refl
+lacks_front (value ∷ values) more o has =
+    let fits = ltb-false (2 ^ 59) (o.next + length o.left + o.spare + length (value ∷ values ++ more)) has in
+    le-ltb (2 ^ 59) (o.next + length o.left + o.spare + length (value ∷ values))
+    (omega (arith, fits, length-append (value ∷ values) more))
+
+lacks_rest : (values more : List Value) (weight : ℕ) (o : OutletState) → lacks_ids (values ++ more) o ≡ false
+    → lacks_ids more (puts values weight o) ≡ false
+lacks_rest values [] weight o has = refl
+lacks_rest [] (next ∷ more) weight o has =
+    let fits = ltb-false (2 ^ 59) (o.next + length o.left + o.spare + length (next ∷ more)) has in
+    le-ltb (2 ^ 59) (o.next + length (o.left ++ []) + o.spare + length (next ∷ more))
+    (omega (arith, fits, length-append o.left []))
+lacks_rest (value ∷ values) (next ∷ more) weight o has =
+    let fits = ltb-false (2 ^ 59) (o.next + length o.left + o.spare + length (value ∷ values ++ next ∷ more)) has in
+    le-ltb (2 ^ 59) (o.next + length (o.left ++ value ∷ values) + o.spare + length (next ∷ more))
+    (omega (arith, fits, length-append o.left (value ∷ values), length-append (value ∷ values) (next ∷ more)))
+
+pub put_nothing : (kind : BlockKind) → put_by_kind kind [] ≡ []
+put_nothing Action = refl
+put_nothing _ = refl
+
+ids_first : (kind : BlockKind) (values more : List Value) (o : OutletState)
+    → lacks_ids (put_by_kind kind (values ++ more)) o ≡ false → lacks_ids (put_by_kind kind values) o ≡ false
+ids_first Action values more o has = refl
+ids_first _ values more o has = lacks_front values more o has
+
+ids_rest : (kind : BlockKind) (values more : List Value) (block : BlockState)
+    → lacks_ids (put_by_kind kind (values ++ more)) block.exits ≡ false
+    → lacks_ids (put_by_kind kind more) (keeps_results kind values block).exits ≡ false
+ids_rest Action values more block has = refl
+ids_rest _ [] more block has = has
+ids_rest _ (value ∷ values) more block has =
+    lacks_rest (value ∷ values) more (unit_weight (port_at 0 block).capacity) block.exits has
+
+-- only a block with a function works on anything
+pub none_out : (ticket : ℕ) (jobs : JobsState) → jobs.slots ≡ [] → is_out ticket jobs ≡ true → ⊥
+none_out ticket jobs none out =
+    let both = and_parts (leb jobs.first ticket) (is_none (get_or jobs.slots (place_of ticket jobs) no_slot)) out in
+    let never : is_none no_slot ≡ true =
+    subst (λ (slots : List Slot). is_none (get_or slots (place_of ticket jobs) no_slot) ≡ true) none both.1 in
+    absurd (cc)
+
+-- No end of a link moves
+
+stays_then : (block mid new : BlockState) → length mid.ports ≡ length block.ports → EndsStay block mid
+    → EndsStay mid new → EndsStay block new
+stays_then block mid new same first then = record {
+  ins = λ p small. then.ins p (omega (arith, same, small)) ∙ first.ins p small;
+  outs = then.outs ∙ first.outs;
+}
+
+pub ports_stay : (kind : BlockKind) (values : List Value) (block : BlockState)
+    → length (keeps_results kind values block).ports ≡ length block.ports
+ports_stay Action values block = length-set block.ports 0 _
+ports_stay _ [] block = length-set block.ports 0 _
+ports_stay _ (value ∷ values) block = length-set block.ports 0 _
+
+all_stay : (slots : List Slot) (block : BlockState) → EndsStay block (yields_all slots block)
+all_stay [] block = record { ins = λ p small. refl; outs = refl }
+all_stay (None ∷ slots) block = record { ins = λ p small. refl; outs = refl }
+all_stay (Some (Err number) ∷ slots) block = yielding_stays (Err number) block
+all_stay (Some (Ok values) ∷ slots) block =
+    let mid = keeps_results block.kind values block in
+    stays_then block mid (yields_all slots mid) (ports_stay block.kind values block)
+    (keeping_stays block.kind values block) (all_stay slots mid)
+
+where_stays : (well : Bool) (block : BlockState) → EndsStay block (yields_where well block)
+where_stays true block = all_stay block.jobs.slots block
+where_stays false block = record { ins = λ p small. refl; outs = refl }
+
+views_stay : (node : NodeState) (block : BlockState) → EndsStay node.block block
+    → ViewsStay node (with_block block node)
+views_stay node block stay = record {
+  ins = λ p k small near. ap (λ ends. view_of_in node.journal (end_in k ends)) (stay.ins p small);
+  outs = λ k near. ap (λ ends. view_of_out node.journal (out_end ends k)) stay.outs;
+}
+
+-- what it holds then
+pub held_then : (kind : BlockKind) (values : List Value) (block : BlockState) (value : Value) (rest : List Value)
+    → length block.ports ≡ 1 → held_by block ≡ value ∷ rest → held_by (keeps_results kind values block) ≡ rest
+held_then Action values block value rest one first =
+    held_next block (λ port. gives_room 1 (takes_next port)) value rest one first (λ port. refl)
+held_then _ [] block value rest one first =
+    held_next block (λ port. gives_room 1 (takes_next port)) value rest one first (λ port. refl)
+held_then _ (made ∷ values) block value rest one first = held_next block takes_next value rest one first (λ port. refl)
+
+module _ {W : Type 0} (kept : NodesKept W) (layout : Layout W) (meaning : ℕ → Value → Result (List Value) ℕ) (b : ℕ) where
+  abbrev result : Value → Result (List Value) ℕ
+  result = block_makes layout meaning b
+
+  abbrev InOrder : BlockState → List Mark → Type 0
+  InOrder block journal = NodeLaw layout meaning b (record { block = block; journal = journal })
+
+  -- other slots, of which the law of jobs holds
+  slots_stand : (block : BlockState) (journal : List Mark) (slots : List Slot) → InOrder block journal
+      → length slots ≤ block.jobs.lanes → (has_work block.kind ≡ false → slots ≡ [])
+      → AreOf result (held_by block) slots → (block.fault ≡ None → is_front_back slots ≡ false)
+      → InOrder (with_slots slots block) journal
+  slots_stand block journal slots law within only_works results drained =
+      let change : JobsState → JobsState = λ jobs. record jobs { slots = slots } in
+      let new = with_jobs change block in
+      record {
+        shape = shape_stays layout meaning b block new refl refl refl law.shape;
+        ports = law.ports;
+        exits = record { law = law.exits.law; none_kept = law.exits.none_kept };
+        gave = law.gave;
+        makes = makes_stay layout meaning b (record { block = block; journal = journal }) law.makes change;
+        jobs = record {
+          lanes_are = law.jobs.lanes_are;
+          some_lane = law.jobs.some_lane;
+          within = within;
+          only_works = only_works;
+          results = results;
+          drained = drained;
+          counted = law.jobs.counted;
+        };
+        load = load_stays layout meaning b block journal change law.load;
+        marks = law.marks;
+        ends = ends_stay layout meaning b block journal law.ends change;
+      }
+
+  -- it makes what came back of the message that it holds first
+  makes_so : (block : BlockState) (made : Result (List Value) ℕ) (value : Value) (rest : List Value)
+      → has_work block.kind ≡ true → held_by block ≡ value ∷ rest → result value ≡ made
+      → makes result block ≡ yields made block
+  makes_so block made value rest works held is =
+      ap (λ (first : Option Value). makes_of result first block) (ap first_of held)
+      ∙ ap (λ (r : Result (List Value) ℕ). yields r block) (sym (makes_by_work result block.kind value works) ∙ is)
+
+  made_next : (block : BlockState) (journal : List Mark) (made : Result (List Value) ℕ) (value : Value)
+      (rest : List Value) (slots : List Slot)
+      → has_work block.kind ≡ true → block.stopped ≡ None → block.fault ≡ None
+      → held_by block ≡ value ∷ rest → result value ≡ made
+      → lacks_ids (put_by_kind block.kind (values_of_result made)) block.exits ≡ false
+      → InOrder (with_slots (blank slots) block) journal
+      → InOrder (yields made (with_slots (blank slots) block)) journal
+  made_next block journal made value rest slots works going well held is ids law =
+      let old = with_slots (blank slots) block in
+      let node : NodeState = record { block = old; journal = journal } in
+      let may : MayMake result node = record {
+        waits = rw (going, well, held) refl;
+        all_out = blank_out slots;
+        ids = ap (λ (first : Option Value). lacks_ids (put_of block.kind result first) block.exits) (ap first_of held)
+            ∙ ap (λ (r : Result (List Value) ℕ). lacks_ids (put_by_kind block.kind (values_of_result r)) block.exits)
+            (sym (makes_by_work result block.kind value works) ∙ is)
+            ∙ ids;
+      } in
+      subst (λ (new : BlockState). InOrder new journal) (makes_so old made value rest works held is)
+      (kept layout meaning b node NodeCall.make law may)
+
+  -- all that is there comes out in order
+  out_keeps : (slots : List Slot) (block : BlockState) (journal : List Mark) (held : List Value)
+      → held_by block ≡ held → has_work block.kind ≡ true → block.stopped ≡ None → block.fault ≡ None
+      → AreOf result held slots
+      → lacks_ids (put_by_kind block.kind (comes_out slots)) block.exits ≡ false
+      → InOrder (with_slots (blank slots) block) journal
+      → InOrder (yields_all slots (with_slots slots block)) journal
+  out_keeps [] block journal held same works going well are ids law = law
+  out_keeps (None ∷ slots) block journal held same works going well are ids law =
+      slots_stand (with_slots (blank (None ∷ slots)) block) journal (None ∷ slots) law
+      (subst (λ (n : ℕ). n ≤ block.jobs.lanes) (length-map (None ∷ slots) (λ (slot : Slot). None)) law.jobs.within)
+      (λ idle. absurd (never_both (has_work block.kind) works idle))
+      (subst (λ (vs : List Value). AreOf result vs (None ∷ slots)) (sym same) are)
+      (λ none. refl)
+  out_keeps (Some made ∷ slots) block journal [] same works going well are ids law = absurd are
+  out_keeps (Some (Err number) ∷ slots) block journal (value ∷ rest) same works going well are ids law =
+      let all = Some (Err number) ∷ slots in
+      let none = ap (λ (vs : List Value). lacks_ids vs block.exits) (put_nothing block.kind) in
+      let failed =
+      made_next block journal (Err number) value rest all works going well same are.0 none law in
+      let held = kept_at_all (λ (port : PortState). port.waiting) port_fails block.ports 0 (λ port. refl) in
+      slots_stand (fails number (with_slots (blank all) block)) journal all failed
+      (subst (λ (n : ℕ). n ≤ block.jobs.lanes) (length-map all (λ (slot : Slot). None)) law.jobs.within)
+      (λ idle. absurd (never_both (has_work block.kind) works idle))
+      (subst (λ (vs : List Value). AreOf result vs all) (sym (held ∙ same)) are)
+      (λ none_stands. absurd (cc))
+  out_keeps (Some (Ok values) ∷ slots) block journal (value ∷ rest) same works going well are ids law =
+      let all = Some (Ok values) ∷ slots in
+      let kind = block.kind in
+      let new = keeps_results kind values block in
+      let goes = keeps_goes kind values block in
+      let made =
+      made_next block journal (Ok values) value rest all works going well same are.0
+      (ids_first kind values (comes_out slots) block.exits ids) law in
+      let mid : InOrder (with_slots (blank slots) new) journal =
+      subst (λ (block : BlockState). InOrder block journal) (keeps_slots kind values (blank all) block works) made in
+      let one = has_one_port layout meaning b (with_slots (blank all) block) law.shape in
+      subst (λ (block : BlockState). InOrder (yields_all slots block) journal) (sym (keeps_slots kind values all block works))
+      (out_keeps slots new journal rest (held_then kind values block value rest one same)
+      (ap has_work goes.kind ∙ works) (goes.stopped ∙ going) (goes.fault ∙ well) are.1
+      (ap (λ (kind : BlockKind). lacks_ids (put_by_kind kind (comes_out slots)) new.exits) goes.kind
+      ∙ ids_rest kind values (comes_out slots) block ids)
+      mid)
+
+  -- nothing comes out behind a fault of its own
+  where_keeps : (block : BlockState) (journal : List Mark) (slots : List Slot) (well : Bool)
+      → is_none block.fault ≡ well → has_work block.kind ≡ true → block.stopped ≡ None
+      → length slots ≤ block.jobs.lanes → AreOf result (held_by block) slots
+      → lacks_ids (put_where well block.kind slots) block.exits ≡ false
+      → InOrder block journal → InOrder (yields_where well (with_slots slots block)) journal
+  where_keeps block journal slots true well works going within are ids law =
+      out_keeps slots block journal (held_by block) refl works going (none_is block.fault well) are ids
+      (slots_stand block journal (blank slots) law
+      (subst (λ (n : ℕ). n ≤ block.jobs.lanes) (sym (length-map slots (λ (slot : Slot). None))) within)
+      (λ idle. absurd (never_both (has_work block.kind) works idle))
+      (blank_of result (held_by block) slots are)
+      (λ none. blank_front slots))
+  where_keeps block journal slots false fails works going within are ids law =
+      slots_stand block journal slots law within
+      (λ idle. absurd (never_both (has_work block.kind) works idle)) are
+      (λ none. absurd (never_both (is_none block.fault) (ap is_none none) fails))
+
+  -- the result of a message comes back
+  end_keeps : (node : NodeState) (ticket : ℕ) → NodeLaw layout meaning b node → MayEndJob result ticket node
+      → (works : Bool) → has_work node.block.kind ≡ works
+      → NodeLaw layout meaning b (after_job result ticket node)
+  end_keeps node ticket law may false idle =
+      let out = (and_parts (is_none node.block.stopped) (is_out ticket node.block.jobs) may.out).1 in
+      absurd (none_out ticket node.block.jobs (law.jobs.only_works idle) out)
+  end_keeps node ticket law may true works =
+      let block = node.block in
+      let made = job_result result ticket block in
+      let k = place_of ticket block.jobs in
+      let both = and_parts (is_none block.stopped) (is_out ticket block.jobs) may.out in
+      where_keeps block node.journal (set block.jobs.slots k (Some made)) (is_none block.fault) refl works
+      (none_is block.stopped both.0)
+      (subst (λ (n : ℕ). n ≤ block.jobs.lanes) (sym (length-set block.jobs.slots k (Some made))) law.jobs.within)
+      (back_at result (held_by block) block.jobs.slots k made
+      (λ small. makes_by_work result block.kind (job_message ticket block) works) law.jobs.results)
+      may.ids law
+
+  pub job_ends_well : (node : NodeState) (ticket : ℕ) → NodeLaw layout meaning b node → MayEndJob result ticket node
+      → EndsWell layout meaning b ticket node
+  job_ends_well node ticket law may =
+      let block = node.block in
+      let made = job_result result ticket block in
+      let back = with_jobs (brings ticket made) block in
+      let stay = where_stays (is_none block.fault) back in
+      record {
+        law = end_keeps node ticket law may (has_work node.block.kind) refl;
+        views = views_stay node (yields_where (is_none block.fault) back) (record { ins = stay.ins; outs = stay.outs });
+      }
+
+pub jobs_end_well : (W : Type 0) → JobsEndWell W
+jobs_end_well W layout meaning b node ticket law may = job_ends_well (nodes_kept W) layout meaning b node ticket law may

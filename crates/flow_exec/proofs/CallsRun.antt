@@ -1,0 +1,56 @@
+-- What holds of each execution block stays so when it faults and when it gives a message: what waits at its port stays.
+use Rattle.std.proofs.Common.{◌≡◌, ℕ, Bool, true, false, cond, List, length, map, is_some, refl, ap, sym, subst, ◌∙◌, arith}
+use Rattle.std.proofs.lemmas.List.{length-map}
+use Rattle.flow_value.specs.declared.value.Value.{Value}
+use Rattle.flow_link.specs.declared.trace.Outcome.TheVariants.{Faulted}
+use Rattle.flow_intake.specs.Port.{PortState}
+use Rattle.flow_intake.specs.Calls.{gives_room, port_closes}
+use Rattle.flow_outlet.specs.ByLink.{consumes}
+use Rattle.flow_block.specs.Block.{BlockState, held_by, stops_by}
+use Rattle.flow_block.specs.Traits.{outcome_of, faults, may_take, gives_over}
+use Rattle.flow_block.proofs.PortsChange.{kept_at_all}
+use Rattle.flow_exec.specs.Execution.{Runs}
+
+-- other ports, at which the same waits
+ports_run : (change : PortState → PortState) (block new : BlockState)
+    → ((port : PortState) → (change port).waiting ≡ port.waiting)
+    → new.ports ≡ map change block.ports → new.kind ≡ block.kind → new.jobs ≡ block.jobs → new.fault ≡ block.fault
+    → Runs block → Runs new
+ports_run change block new same ports kind jobs fault runs =
+    let held : length (held_by (record block { ports = map change block.ports })) ≡ length (held_by block) =
+    ap (λ (vs : List Value). length vs) (kept_at_all (λ (port : PortState). port.waiting) change block.ports 0 same) in
+    let moved : Runs (record block { ports = map change block.ports }) = record {
+      one_port = length-map block.ports change ∙ runs.one_port;
+      works = runs.works;
+      within = runs.within;
+      held = omega (arith, runs.held, held);
+      drained = runs.drained;
+    } in
+    rw (ports, kind, jobs, fault) record {
+      one_port = moved.one_port;
+      works = moved.works;
+      within = moved.within;
+      held = moved.held;
+      drained = moved.drained;
+    }
+
+fault_where : (number : ℕ) (ended : Bool) (block : BlockState) → Runs block
+    → Runs (cond ended block (stops_by (Faulted number) block))
+fault_where number true block runs = runs
+fault_where number false block runs =
+    ports_run port_closes block (stops_by (Faulted number) block) (λ port. refl) refl refl refl refl runs
+
+pub fault_runs : (number : ℕ) (old new : BlockState) → new ≡ faults number old → Runs old → Runs new
+fault_runs number old new is runs = subst Runs (sym is) (fault_where number (is_some (outcome_of old)) old runs)
+
+give_where : (link header : ℕ) (there : Bool) (block : BlockState) → Runs block
+    → Runs (cond there (gives_over link header block) block)
+give_where link header true block runs =
+    ports_run (gives_room (consumes link header block.exits).room) block (gives_over link header block) (λ port. refl)
+    refl refl refl refl runs
+give_where link header false block runs = runs
+
+pub give_runs : (link header : ℕ) (old new : BlockState)
+    → new ≡ cond (may_take link header old.exits) (gives_over link header old) old → Runs old → Runs new
+give_runs link header old new is runs =
+    subst Runs (sym is) (give_where link header (may_take link header old.exits) old runs)

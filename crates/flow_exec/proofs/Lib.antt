@@ -1,0 +1,4 @@
+pub mod CallsRun
+pub mod ExecutionRuns
+pub mod OnlyResult
+pub mod OwnResult

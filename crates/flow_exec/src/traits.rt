@@ -1,0 +1,106 @@
+//! An execution block by the calls that all blocks have in common: they are those of its block, and leave its work as it
+//! is. It makes nothing by itself, since it has a function.
+use crate::execution::Execution;
+use flow_link::{
+    Completing, DataflowBlock, LinkId, MakeFault, Outcome, SourceBlock, TargetBlock, Wish,
+    WishAnswer,
+};
+use flow_value::{MessageHeader, MessageStatus, Parcel};
+use std::alloc::{AllocError, Global};
+
+/// Microsoft: `IDataflowBlock.Completion`.
+impl<W> Completing for Execution<W> {
+    ghost use Rattle.std.specs.Prelude.{◌≡◌};
+    ghost use Rattle.flow_block.specs.Traits.{outcome_of};
+
+    ghost outcome = { λ execution. outcome_of execution.block };
+
+    ghost learns = { λ old new. new ≡ old };
+
+    fn completion(&mut self) -> Option<Outcome> {
+        self.block.completion()
+    }
+}
+
+/// Microsoft: `IDataflowBlock`.
+impl<W> DataflowBlock for Execution<W> {
+    ghost use Rattle.flow_block.specs.Traits.{MayCompletePort, MayFault};
+    ghost use Rattle.flow_exec.specs.Calls.{Acts};
+
+    ghost may_complete = { λ execution. MayCompletePort execution.block };
+
+    ghost may_fault = { λ execution. MayFault execution.block };
+
+    ghost acts = { Acts };
+
+    fn complete(&mut self, port: u32) {
+        DataflowBlock::complete(&mut self.block, port);
+    }
+
+    fn fault(&mut self, number: u32) {
+        DataflowBlock::fault(&mut self.block, number);
+    }
+
+    fn make(&mut self, alloc: Global) -> Result<bool, MakeFault> {
+        self.block.make(alloc)
+    }
+}
+
+/// Microsoft: `ISourceBlock<TOutput>`.
+impl<W> SourceBlock for Execution<W> {
+    ghost use Rattle.flow_block.specs.Traits.{source_over, is_busy, busy_rests};
+    ghost use Rattle.flow_exec.specs.Calls.{Gives};
+
+    ghost source_stage = { λ execution. source_over execution.block.exits };
+
+    ghost is_busy = { λ execution. is_busy execution.block.exits };
+
+    ghost gives = { Gives };
+
+    fn next_offer(&mut self, alloc: Global) -> Result<Option<(LinkId, MessageHeader)>, AllocError> {
+        SourceBlock::next_offer(&mut self.block, alloc)
+    }
+
+    fn note_answer(&mut self, link: LinkId, header: MessageHeader, status: MessageStatus) {
+        self.block.note_answer(link, header, status);
+    }
+
+    fn consume_message(&mut self, link: LinkId, header: MessageHeader) -> Option<Parcel> {
+        self.block.consume_message(link, header)
+    }
+
+    ghost rests = { λ execution nothing. busy_rests execution.block.exits execution.block.exits.offer nothing };
+}
+
+/// Microsoft: `ITargetBlock<TInput>`.
+impl<W> TargetBlock for Execution<W> {
+    ghost use Rattle.flow_block.specs.Traits.{target_over};
+    ghost use Rattle.flow_exec.specs.Calls.{Takes};
+
+    ghost target_stage = { λ execution. target_over execution.block.ports };
+
+    ghost takes = { Takes };
+
+    fn offer_message(
+        &mut self,
+        alloc: Global,
+        origin: LinkId,
+        header: MessageHeader,
+        may_postpone: bool,
+    ) -> Result<MessageStatus, AllocError> {
+        self.block
+            .offer_message(alloc, origin, header, may_postpone)
+    }
+
+    fn hand_over(&mut self, origin: LinkId, header: MessageHeader, parcel: Parcel) {
+        self.block.hand_over(origin, header, parcel);
+    }
+
+    fn next_wish(&mut self) -> Wish {
+        self.block.next_wish()
+    }
+
+    fn note_wish(&mut self, origin: LinkId, answer: WishAnswer) {
+        self.block.note_wish(origin, answer);
+    }
+}

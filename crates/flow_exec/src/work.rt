@@ -1,0 +1,33 @@
+//! What a work makes of a message.
+ghost use Rattle.std.specs.Prelude.{◌≡◌, IfOk, option_map};
+ghost use Rattle.flow_exec.specs.Works.{results_by};
+
+use flow_block::Answer;
+use flow_link::BlockKind;
+use flow_value::{Value, Work};
+use std::alloc::{AllocError, Global};
+
+/// What a block of this kind makes of a message by its work: its results, or the number of its fault. Without a work it
+/// is the message itself.
+pub fn answer_of<W: Work>(
+    alloc: Global,
+    kind: BlockKind,
+    work: Option<&W>,
+    message: &Value,
+) -> Result<Answer, AllocError>
+    ensures { IfOk result (λ answer. answer ≡
+        results_by (option_map (λ work. work.now) work.entry) kind W.meaning message.now) }
+{
+    let Some(work) = work else {
+        let mut values = Vec::with_capacity(alloc, 1)?;
+        values.push_reserved(message.copy(alloc)?);
+        return Ok(Answer::shaped(kind, values));
+    };
+    match work.run(alloc, message) {
+        Ok(values) => Ok(Answer::shaped(kind, values)),
+        Err(fault) => match fault.number() {
+            Some(number) => Ok(Answer::fault(number)),
+            None => Err(AllocError),
+        },
+    }
+}

@@ -1,0 +1,9 @@
+use Rattle.flow_link.specs.Planned.{layout_of}
+use Rattle.flow_block.specs.Planned.{block_makes}
+use Rattle.flow_exec.specs.Works.{works_of}
+use Rattle.flow_net.proofs.engine.Engine.begin.Goals as goal
+
+pub returns-clause-done : goal.returns-clause-done
+returns-clause-done g c =
+    let layout = layout_of c.args.self.now.plan in
+    c.in_ok-begin.ensures.done (block_makes layout (works_of g.W.Work.meaning layout) c.args.number)

@@ -1,0 +1,21 @@
+//! An event that a network does next, as its driver finds it.
+use flow_link::Move;
+
+/// One thing that may happen at a link or at a block, by their numbers.
+#[derive(Clone, Copy)]
+pub(crate) enum Due {
+    /// An end of this link makes a move.
+    Link(usize, Move),
+    /// This block hands on the next message that it holds.
+    Make(usize),
+    /// This block works on one more of the messages that it holds.
+    Begin(usize),
+    /// The result of the job with this ticket comes back to this block.
+    End(usize, u64),
+    /// This port of this block takes nothing any more.
+    Complete(usize, u32),
+    /// This block ends by a fault.
+    Fault(usize),
+    /// This block has given all, and ends.
+    Done(usize),
+}

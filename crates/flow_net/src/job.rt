@@ -1,0 +1,183 @@
+//! Jobs that a caller runs: they begin in the network, and their results come back to it.
+ghost use Rattle.std.specs.Prelude.{◌≡◌, ◌≢◌, ◌↔◌, ◌+◌, ◌<◌, true, length, IsTrue, IfOk, IfErr, OnOk, OnErr};
+ghost use Rattle.flow_link.specs.Planned.{layout_of};
+ghost use Rattle.flow_link.specs.Plan.{block_in};
+ghost use Rattle.flow_block.specs.Block.{job_message};
+ghost use Rattle.flow_block.specs.Peeks.{may_end};
+ghost use Rattle.flow_exec.specs.Execution.{SameWork};
+ghost use Rattle.flow_exec.specs.Jobs.{work_in, kind_in, message_in, ticket_in};
+ghost use Rattle.flow_exec.specs.Results.{job_in};
+ghost use Rattle.flow_exec.specs.Works.{works_of};
+ghost use Rattle.flow_core.specs.Events.{Enabled, MayHappen, NetEvent, after};
+ghost use Rattle.flow_core.specs.Keeps.{NetKeeps};
+ghost use Rattle.flow_core.specs.State.{node_at};
+ghost use Rattle.flow_net.specs.OwnJobs.{IsOwnJob};
+ghost use Rattle.flow_net.specs.There.{IsWhyNot};
+ghost use Rattle.flow_net.specs.declared.fault.NetFault.TheVariants.{NotEnabled, Ids, Memory};
+
+use crate::due::Due;
+use crate::engine::Engine;
+use crate::fault::NetFault;
+use flow_exec::{Job, JobResult};
+use flow_value::Work;
+use std::alloc::{AllocError, Global};
+use std::sync::Arc;
+
+impl<W: Work> Engine<W> {
+    /// Begins a job of a block, if it may.
+    pub(crate) fn begin_job(&mut self, alloc: Global, number: usize) -> Result<Job<W>, NetFault>
+        requires kept { ∥ NetKeeps (layout_of self.old.plan) (works_of W.meaning (layout_of self.old.plan))
+            self.old.parts ∥₁ }
+        ensures same_plan { self.new.plan ≡ self.old.plan }
+        ensures may { OnOk result (MayHappen (layout_of self.old.plan) (works_of W.meaning (layout_of self.old.plan))
+            (NetEvent.begin number) self.old.parts) }
+        ensures done { OnOk result (self.new.parts ≡ after (layout_of self.old.plan)
+            (works_of W.meaning (layout_of self.old.plan)) (NetEvent.begin number) self.old.parts) }
+        ensures kept { OnErr result (self.new.parts ≡ self.old.parts) }
+        ensures why { IfErr result (IsWhyNot (layout_of self.old.plan) (works_of W.meaning (layout_of self.old.plan))
+            self.old.parts (NetEvent.begin number)) }
+    {
+        if !self.is_due(&Due::Begin(number))? {
+            return Err(NetFault::NotEnabled);
+        }
+        let work = self.copy_of_work(alloc, number)?;
+        self.begin_with(alloc, number, work)
+    }
+
+    /// A copy of a block's work, to be shared.
+    fn copy_of_work(
+        &self,
+        alloc: Global,
+        number: usize,
+    ) -> Result<Option<Arc<W, Global>>, AllocError>
+        requires known { number < length (layout_of self.now.plan).blocks }
+    {
+        match self.plan.block(number).work {
+            Some(ref work) => Ok(Some(Arc::new(alloc, work.copy(alloc)?)?)),
+            None => Ok(None),
+        }
+    }
+
+    /// Begins a job of a block that may begin one, with a share of the block's work.
+    pub(crate) fn begin_with(
+        &mut self,
+        alloc: Global,
+        number: usize,
+        work: Option<Arc<W, Global>>,
+    ) -> Result<Job<W>, NetFault>
+        requires kept { ∥ NetKeeps (layout_of self.old.plan) (works_of W.meaning (layout_of self.old.plan))
+            self.old.parts ∥₁ }
+        requires enabled { Enabled (layout_of self.old.plan) self.old.parts (NetEvent.begin number) }
+        ensures same_plan { self.new.plan ≡ self.old.plan }
+        ensures may { OnOk result (MayHappen (layout_of self.old.plan) (works_of W.meaning (layout_of self.old.plan))
+            (NetEvent.begin number) self.old.parts) }
+        ensures done { OnOk result (self.new.parts ≡ after (layout_of self.old.plan)
+            (works_of W.meaning (layout_of self.old.plan)) (NetEvent.begin number) self.old.parts) }
+        ensures kept { OnErr result (self.new.parts ≡ self.old.parts) }
+        ensures why { IfErr result (IsWhyNot (layout_of self.old.plan) (works_of W.meaning (layout_of self.old.plan))
+            self.old.parts (NetEvent.begin number)) }
+    {
+        let job = self.job_of(alloc, number, work)?;
+        self.go(alloc, &Due::Begin(number))?;
+        Ok(job)
+    }
+
+    /// The job that a block would begin next, with this share of the block's work.
+    fn job_of(
+        &self,
+        alloc: Global,
+        number: usize,
+        work: Option<Arc<W, Global>>,
+    ) -> Result<Job<W>, AllocError>
+        requires kept { ∥ NetKeeps (layout_of self.now.plan) (works_of W.meaning (layout_of self.now.plan))
+            self.now.parts ∥₁ }
+        requires enabled { Enabled (layout_of self.now.plan) self.now.parts (NetEvent.begin number) }
+        ensures ticket { IfOk result (λ job. ticket_in job ≡ (node_at self.now.parts number).block.jobs.first +
+            length (node_at self.now.parts number).block.jobs.slots) }
+        ensures kind { IfOk result (λ job. kind_in job ≡ (node_at self.now.parts number).block.kind) }
+    {
+        let block = self.parts.node(number).block();
+        if !block.has_ticket() {
+            return Err(AllocError);
+        }
+        let message = block.begun_message().copy(alloc)?;
+        Ok(Job::new(work, block.kind(), message, block.next_ticket()))
+    }
+
+    /// Takes the result of a job back, if it is that of a job which is out.
+    pub(crate) fn end_job(
+        &mut self,
+        number: usize,
+        done: JobResult<W>,
+    ) -> Result<(), (JobResult<W>, NetFault)>
+        requires kept { ∥ NetKeeps (layout_of self.old.plan) (works_of W.meaning (layout_of self.old.plan))
+            self.old.parts ∥₁ }
+        ensures same_plan { self.new.plan ≡ self.old.plan }
+        ensures may { OnOk result (MayHappen (layout_of self.old.plan) (works_of W.meaning (layout_of self.old.plan))
+            (NetEvent.end_job number (ticket_in (job_in done))) self.old.parts) }
+        ensures done { OnOk result (self.new.parts ≡ after (layout_of self.old.plan)
+            (works_of W.meaning (layout_of self.old.plan)) (NetEvent.end_job number (ticket_in (job_in done)))
+            self.old.parts) }
+        ensures kept { OnErr result (self.new.parts ≡ self.old.parts) }
+        ensures back { IfErr result (λ refused. refused.0 ≡ done) }
+        ensures strange { IfErr result (λ refused. refused.1 ≡ NotEnabled →
+            IsOwnJob W.eq (layout_of self.old.plan) self.old.parts number (job_in done) → ⊥) }
+        ensures enabled { IfErr result (λ refused. refused.1 ≢ NotEnabled → Enabled (layout_of self.old.plan)
+            self.old.parts (NetEvent.end_job number (ticket_in (job_in done)))) }
+        ensures used_up { IfErr result (λ refused. refused.1 ≡ Ids → MayHappen (layout_of self.old.plan)
+            (works_of W.meaning (layout_of self.old.plan)) (NetEvent.end_job number (ticket_in (job_in done)))
+            self.old.parts → ⊥) }
+    {
+        if !self.is_own_job(number, done.job()) {
+            return Err((done, NetFault::NotEnabled));
+        }
+        let (job, answer) = done.into_parts();
+        let ticket = job.ticket();
+        match self.parts.end_job(number, ticket, answer) {
+            Ok(()) => {
+                self.agenda.list_after_make(&self.parts, number);
+                Ok(())
+            }
+            Err((answer, fault)) => Err((JobResult::new(job, answer), NetFault::from(fault))),
+        }
+    }
+
+    /// Whether this job of a block is out: its message is the one of that ticket, and its work is the block's.
+    fn is_own_job(&self, number: usize, job: &Job<W>) -> bool
+        requires kept { ∥ NetKeeps (layout_of self.now.plan) (works_of W.meaning (layout_of self.now.plan))
+            self.now.parts ∥₁ }
+        ensures { IsTrue result ↔ IsOwnJob W.eq (layout_of self.now.plan) self.now.parts number job.now }
+    {
+        number < self.plan.block_count() && self.is_out(number, job) && self.has_work(number, job)
+    }
+
+    /// Whether this job is of a message of a block on which that works.
+    fn is_out(&self, number: usize, job: &Job<W>) -> bool
+        requires kept { ∥ NetKeeps (layout_of self.now.plan) (works_of W.meaning (layout_of self.now.plan))
+            self.now.parts ∥₁ }
+        requires known { number < length (layout_of self.now.plan).blocks }
+        ensures out { IsTrue result → may_end (ticket_in job.now) (node_at self.now.parts number).block ≡ true }
+        ensures kind { IsTrue result → kind_in job.now ≡ (node_at self.now.parts number).block.kind }
+        ensures message { IsTrue result → message_in job.now ≡
+            job_message (ticket_in job.now) (node_at self.now.parts number).block }
+        ensures only { IsOwnJob W.eq (layout_of self.now.plan) self.now.parts number job.now → IsTrue result }
+    {
+        let block = self.parts.node(number).block();
+        block.may_end(job.ticket())
+            && block.kind() == job.kind()
+            && block.job_message(job.ticket()) == job.message()
+    }
+
+    /// Whether this job's work is that of a block.
+    fn has_work(&self, number: usize, job: &Job<W>) -> bool
+        requires known { number < length (layout_of self.now.plan).blocks }
+        ensures { IsTrue result ↔ SameWork W.eq (block_in (layout_of self.now.plan).blocks number).work
+            (work_in job.now) }
+    {
+        match (&self.plan.block(number).work, job.work()) {
+            (Some(its), Some(given)) => its == given,
+            (None, None) => true,
+            _ => false,
+        }
+    }
+}
