@@ -271,11 +271,14 @@ impl Agenda {
 
 /// Whether a block that has made or given something would do more by itself: each that is built has one port.
 fn has_work(block: &Block) -> bool {
-    block.may_make()
-        || (block.port_count() > 0 && block.may_begin())
-        || block.next_end().is_some()
+    if block.port_count() == 0 {
+        return false;
+    }
+    let holds = !block.waiting(0).is_empty();
+    (holds && (block.may_make() || block.may_begin()))
+        || (!block.is_idle() && block.next_end().is_some())
         || (block.is_pending() && block.next_fault().is_some())
-        || (block.port_count() > 0 && block.has_ended(0) && block.may_finish())
+        || (block.has_ended(0) && block.may_finish())
 }
 
 /// Sets the mark at this place; false where there is no such place, or it was so already.

@@ -17,7 +17,10 @@ use flow_link::{BlockDef, Plan};
 use flow_value::Work;
 use std::alloc::{AllocError, Global};
 use std::sync::{Arc, Wait};
-use std::thread::{Threads, join};
+use std::thread::{Threads, join, yield_now};
+
+/// How often a thread looks for a message before it sleeps until one comes: for about a millisecond.
+const LOOKS: u32 = 2_000;
 
 /// A job, with the number of its block.
 #[derive(Drop)]
@@ -161,7 +164,7 @@ impl<W: Work> Desk<W> {
         self.out = self.out.saturating_sub(1);
         match self.queue.try_recv(rt) {
             Ok(task) => Some(report_of(alloc, task)),
-            Err(_) => self.reports.recv(rt).ok(),
+            Err(_) => next_of(rt, &self.reports),
         }
     }
 }
@@ -205,11 +208,24 @@ fn work<W: Work, R: Wait>(
     reports: &Sender<Report<W>>,
 ) {
     for _ in rt.forever() {
-        let Ok(task) = queue.recv(rt) else {
+        let Some(task) = next_of(rt, queue) else {
             return;
         };
         if reports.send(rt, report_of(alloc, task)).is_err() {
             return;
         }
     }
+}
+
+/// The next message of a channel. A thread that sleeps takes long to wake, so this one looks for a while first.
+fn next_of<T: Drop, R: Wait>(rt: &R, channel: &Receiver<T>) -> Option<T> {
+    for _ in 0..LOOKS {
+        if !channel.is_empty() {
+            if let Ok(message) = channel.try_recv(rt) {
+                return Some(message);
+            }
+        }
+        yield_now();
+    }
+    channel.recv(rt).ok()
 }
