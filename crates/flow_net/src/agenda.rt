@@ -132,11 +132,16 @@ impl Agenda {
         }
     }
 
-    /// Lists where something may be able to happen after a block has worked on a message: what it gives goes on.
+    /// Lists where something may be able to happen after a block has worked on a message. What it gives goes on, and then
+    /// the block is listed as the giver.
     pub(crate) fn list_after_make(&mut self, parts: &Parts, number: usize) {
         if let Some(node) = parts.find_node(number) {
-            self.list_waiting(node.block());
-            self.list_block(node.block(), number);
+            let block = node.block();
+            self.list_waiting(block);
+            match link_to_offer(block) {
+                Some(id) => self.make_next(Spot::Link(id)),
+                None => self.list_inward(block, number),
+            }
         }
     }
 
@@ -165,14 +170,19 @@ impl Agenda {
 
     /// Lists a block that would do something by itself, and the links over which it would consume or offer next.
     fn list_block(&mut self, block: &Block, number: usize) {
+        self.list_inward(block, number);
+        if let Some(id) = link_to_offer(block) {
+            self.make_next(Spot::Link(id));
+        }
+    }
+
+    /// Lists a block that would do something by itself, and the link over which it would consume next.
+    fn list_inward(&mut self, block: &Block, number: usize) {
         if has_work(block) {
             self.list(Spot::Block(number));
         }
         if let Some(id) = link_to_consume(block) {
             self.list(Spot::Link(id));
-        }
-        if let Some(id) = link_to_offer(block) {
-            self.make_next(Spot::Link(id));
         }
     }
 
