@@ -34,13 +34,6 @@ named-texts names name =
     let same = prefix-texts (λ other. bytes_eq other name) names in
     rw (same, ← length-map names (λ (other : Bor (List ℕ)). other.now)) refl
 
--- a record like the last one goes where it went
-pub named-last : (names : List (List ℕ)) (last : ℕ) (name : List ℕ) → IsFirstOf names last → last < length names
-    → true ≡ bytes_eq (get_or names last []) name → Some last ≡ input_named names name
-named-last names last name first within same =
-    let equal : get_or names last [] ≡ name = (bytes_eq-Decides _ _).0 (sym same) in
-    sym (first within) ∙ ap (input_named names) equal
-
 -- a block's name, if it is an input
 input_names-append : {W : Type 0} (front back : List (BlockDef W)) → input_names (front ++ back) ≡ input_names front ++ input_names back
 input_names-append [] back = refl
@@ -54,13 +47,6 @@ input_names-more blocks at block within is =
     ap input_names (take_more blocks at block within ∙ ap (λ last. take at blocks ++ last ∷ []) (sym is))
     ∙ input_names-append (take at blocks) (block ∷ [])
     ∙ ap (λ names. input_names (take at blocks) ++ names) (append-nil _)
-
--- the same, of references
-pub named-last_text : (names : List (Bor (List ℕ))) (last : ℕ) (name : List ℕ) (d : Bor (List ℕ)) → IsFirstOf (texts_of names) last → last < length names
-    → true ≡ bytes_eq (get_or names last d).now name → Some last ≡ input_named (texts_of names) name
-named-last_text names last name d first within same =
-    let there : get_or (texts_of names) last [] ≡ (get_or names last d).now = get_or-map (λ (other : Bor (List ℕ)). other.now) names last d [] within in
-    named-last (texts_of names) last name first (rw (length-map names (λ (other : Bor (List ℕ)). other.now)) within) (same ∙ ap (λ text. bytes_eq text name) (sym there))
 
 -- a field that there is
 pub field-at : (fields : List (List ℕ)) (i : ℕ) → i < length fields → field_at fields i ≡ Some (get_or fields i [])

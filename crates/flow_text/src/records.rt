@@ -41,16 +41,10 @@ fn push_name<'p>(names: &mut Vec<&'p str>, block: &'p BlockDef<Steps>) -> Result
     Ok(())
 }
 
-// The number of the input with this name; the one of the last record is tried first.
-fn find_input(names: &[&str], name: &str, last: usize) -> Option<usize>
-    requires { IsFirstOf (texts_of names.now) last }
+// The number of the input with this name.
+fn find_input(names: &[&str], name: &str) -> Option<usize>
     ensures { result ≡ input_named (texts_of names.now) name.now }
 {
-    if last < names.len() {
-        if names[last] == name {
-            return Some(last);
-        }
-    }
     name_place(names, name)
 }
 
@@ -74,7 +68,23 @@ fn text_field(row: &ByteRecord, place: usize) -> Option<&str>
     }
 }
 
-// The input and the text of a record, or why it can't be posted.
+// Whether a record names this input, as the one before it did: then that its name is UTF-8 need not be seen again.
+fn has_name(row: &ByteRecord, names: &[&str], input: usize) -> bool
+    requires { 0 < length (fields_of row.now) }
+    ensures there { result ≡ true → input < length names.now }
+    ensures named { result ≡ true → get_or (texts_of names.now) input [] ≡ get_or (fields_of row.now) 0 [] }
+    ensures utf8 { result ≡ true → IsUtf8 (get_or (fields_of row.now) 0 []) }
+{
+    if input >= names.len() {
+        return false;
+    }
+    match row.get(0) {
+        Some(field) => names[input].as_bytes() == field,
+        None => false,
+    }
+}
+
+// The input and the text of a record, or why it can't be posted. The input of the last record is tried first.
 fn read_fields<'r>(
     names: &[&str],
     last: usize,
@@ -88,13 +98,16 @@ fn read_fields<'r>(
     if row.len() != 2 {
         return Err(TextFault::Csv(number));
     }
-    let Some(name) = text_field(row, 0) else {
-        return Err(TextFault::NotUtf8(number));
-    };
     let Some(text) = text_field(row, 1) else {
         return Err(TextFault::NotUtf8(number));
     };
-    match find_input(names, name, last) {
+    if has_name(row, names, last) {
+        return Ok((last, text));
+    }
+    let Some(name) = text_field(row, 0) else {
+        return Err(TextFault::NotUtf8(number));
+    };
+    match find_input(names, name) {
         Some(input) => Ok((input, text)),
         None => Err(TextFault::UnknownInput(number)),
     }
