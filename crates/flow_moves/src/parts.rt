@@ -117,6 +117,7 @@ impl Parts {
     }
 
     /// What the source's end of a link would do next; an input that has no id left for its next value does nothing.
+    #[inline(always)]
     pub fn next_of_source(&self, route: &Route) -> Option<Move>
         requires { SourceIsThere self.now route.now.source route.now.source_place }
         ensures next { lacks_id self.now route.now.source route.now.source_place ≡ false →

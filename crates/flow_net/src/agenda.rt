@@ -134,6 +134,7 @@ impl Agenda {
 
     /// Lists where something may be able to happen after a block has worked on a message. What it gives goes on, and then
     /// the block is listed as the giver.
+    #[inline(always)]
     pub(crate) fn list_after_make(&mut self, parts: &Parts, number: usize) {
         if let Some(node) = parts.find_node(number) {
             let block = node.block();
@@ -177,6 +178,7 @@ impl Agenda {
     }
 
     /// Lists a block that would do something by itself, and the link over which it would consume next.
+    #[inline(always)]
     fn list_inward(&mut self, block: &Block, number: usize) {
         if has_work(block) {
             self.list(Spot::Block(number));
