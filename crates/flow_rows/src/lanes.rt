@@ -144,6 +144,11 @@ fn is_taken(alloc: Global, net: &mut Net<Steps>, done: JobResult<Steps>) -> bool
     net.event(alloc, Event::End(1, done)).is_ok()
 }
 
+/// Whether the second block has these values to give.
+fn has_left(net: &Net<Steps>, values: &[Value]) -> bool {
+    net.plan().block_count() > 1 && net.left(1).iter().eq(values.iter())
+}
+
 /// A chain whose transform works on two messages at once and has three, and nothing done of them.
 fn three_messages(rt: &impl Abort, alloc: Global) -> Result<Net<Steps>, Fail> {
     let text = text_with_lanes(alloc, "2", r#"["int"]"#)?;
@@ -162,9 +167,9 @@ fn tickets_return_out_of_order(rt: HostRuntime) -> Result<(), Fail> {
     let third = net.event(alloc, Event::Begin(1));
     assert!(rt; matches!(third, Err((Event::Begin(1), NetFault::NotEnabled))));
     assert!(rt; is_taken(alloc, &mut net, second));
-    assert!(rt; net.left(1).is_empty());
+    assert!(rt; has_left(&net, &[]));
     assert!(rt; is_taken(alloc, &mut net, first));
-    assert!(rt; net.left(1).iter().eq([Value::Int(1), Value::Int(2)].iter()));
+    assert!(rt; has_left(&net, &[Value::Int(1), Value::Int(2)]));
 
     // The same ticket comes from an equal network: it was taken already.
     let mut equal = three_messages(&rt, alloc)?;
