@@ -1,0 +1,6 @@
+pub mod CountsOfEnds
+pub mod SpreadFits
+pub mod NextOffer
+pub mod StagesTell
+pub mod LawKept
+pub mod EndsKeepLaw

@@ -1,0 +1,6 @@
+pub mod ByLink
+pub mod End
+pub mod Fits
+pub mod Keeps
+pub mod Law
+pub mod Spread
