@@ -69,7 +69,7 @@ first_of_four : (a b c d : Bool) → a ≡ true → (a || b || c || d) ≡ true
 first_of_four true b c d e = refl
 first_of_four false b c d e = cc
 
-ended_cut : (link : OutEnd) → ((how : LinkEnd) → link.stage ≡ Ended how → end_of link None ≡ Some how)
+pub ended_cut : (link : OutEnd) → ((how : LinkEnd) → link.stage ≡ Ended how → end_of link None ≡ Some how)
     → (stage : SourceStage) → stage ≡ link.stage → is_over stage ≡ true → is_refused stage ≡ false → is_cut link ≡ true
 ended_cut link ended (Ended how) same over kept = cut_then (is_cut link) None how (ended how (sym same)) refl
 ended_cut link ended Refused same over kept = cc
@@ -84,7 +84,7 @@ ended_cut link ended (Reserved _) same over kept = cc
 ended_cut link ended (Claimed _) same over kept = cc
 ended_cut link ended Crossing same over kept = cc
 
-forgot_end : (stage : SourceStage) (how : LinkEnd) → forgotten_stage stage ≡ Ended how → stage ≡ Ended how
+pub forgot_end : (stage : SourceStage) (how : LinkEnd) → forgotten_stage stage ≡ Ended how → stage ≡ Ended how
 forgot_end (Waiting _) how e = cc
 forgot_end stage how e = e
 
@@ -126,7 +126,7 @@ puts_each {id} {once} end value old free =
 
 -- Other calls
 
-open_parts : (some owes free given_up : Bool) → (some && (owes && free && not given_up)) ≡ true
+pub open_parts : (some owes free given_up : Bool) → (some && (owes && free && not given_up)) ≡ true
     → (some ≡ true) × (owes ≡ true) × (free ≡ true) × (given_up ≡ false)
 open_parts true true true false e = (refl, refl, refl, refl)
 open_parts true true true true e = cc

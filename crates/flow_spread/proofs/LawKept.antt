@@ -63,7 +63,7 @@ pub record IsFree (s : SpreadState) : Type 0 where
   pub none_busy : count_of is_busy_at s.ends ≡ 0
   pub once_none : s.once ≡ true → s.element ≡ None
 
-is_none : (element : Option Value) → is_some element ≡ false → element ≡ None
+pub is_none : (element : Option Value) → is_some element ≡ false → element ≡ None
 is_none None e = refl
 is_none (Some value) e = cc
 
@@ -110,7 +110,7 @@ puts_keep first pending s law value free fit =
 
 -- A new spread
 
-each_fresh : (rules : List LinkRule) (P : CopyEnd → Type 0) → ((rule : LinkRule) → P (fresh_end rule))
+pub each_fresh : (rules : List LinkRule) (P : CopyEnd → Type 0) → ((rule : LinkRule) → P (fresh_end rule))
     → (k : ℕ) → k < length (map fresh_end rules) → P (end_in (map fresh_end rules) k)
 each_fresh [] P f k l = absurd (omega arith)
 each_fresh (rule ∷ rules) P f zero l = f rule
@@ -139,7 +139,7 @@ none_where true element some e = refl
 none_where false None some e = cc
 none_where false (Some value) some e = cc
 
-admits_some : (when : When) (element : Option Value) → admits_head when element ≡ true → is_some element ≡ true
+pub admits_some : (when : When) (element : Option Value) → admits_head when element ≡ true → is_some element ≡ true
 admits_some when None e = cc
 admits_some when (Some value) e = refl
 

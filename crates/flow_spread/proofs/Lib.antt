@@ -4,3 +4,5 @@ pub mod NextOffer
 pub mod StagesTell
 pub mod LawKept
 pub mod EndsKeepLaw
+pub mod CarriedValues
+pub mod LinksCopied

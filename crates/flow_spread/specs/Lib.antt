@@ -1,4 +1,5 @@
 pub mod ByLink
+pub mod Copied
 pub mod End
 pub mod Fits
 pub mod Keeps

@@ -1,4 +1,5 @@
 //! Laws about copies. Each stands on a function that does nothing: whoever calls it has the whole law.
+ghost use Rattle.flow_spread.specs.Copied.{EachLinkHasItsCopies};
 ghost use Rattle.flow_spread.specs.Keeps.{CallsKeepLaw, LawTells};
 
 /// Each call keeps the law of a spread. By that law what is given over a link is the element, admitted and given there
@@ -7,4 +8,12 @@ ghost use Rattle.flow_spread.specs.Keeps.{CallsKeepLaw, LawTells};
 pub fn calls_keep_the_law()
     ensures keeps { CallsKeepLaw }
     ensures tells { LawTells }
+{}
+
+/// Over any calls that may be made, each link is given some of the elements that were put, each once at most and in
+/// their order, and none that it still owes. A link whose target takes each message at once lacks none that its predicate
+/// admits, up to its limit, but for the newest while it owes that, and for those behind a refusal.
+#[tactic(auto, using(crate::proofs::LinksCopied::each_link_has))]
+pub fn each_link_has_its_copies()
+    ensures { EachLinkHasItsCopies }
 {}

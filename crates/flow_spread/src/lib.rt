@@ -8,6 +8,6 @@ mod share;
 mod spread;
 
 pub use end::CopyEnd;
-pub use laws::calls_keep_the_law;
+pub use laws::{calls_keep_the_law, each_link_has_its_copies};
 pub use share::Share;
 pub use spread::Spread;
