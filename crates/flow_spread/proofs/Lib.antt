@@ -6,3 +6,4 @@ pub mod LawKept
 pub mod EndsKeepLaw
 pub mod CarriedValues
 pub mod LinksCopied
+pub mod MovesAllowed

@@ -4,4 +4,5 @@ pub mod End
 pub mod Fits
 pub mod Keeps
 pub mod Law
+pub mod Moves
 pub mod Spread

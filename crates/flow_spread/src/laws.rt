@@ -1,6 +1,7 @@
 //! Laws about copies. Each stands on a function that does nothing: whoever calls it has the whole law.
 ghost use Rattle.flow_spread.specs.Copied.{EachLinkHasItsCopies};
 ghost use Rattle.flow_spread.specs.Keeps.{CallsKeepLaw, LawTells};
+ghost use Rattle.flow_spread.specs.Moves.{MovesAreAllowed, OffersInOrder};
 
 /// Each call keeps the law of a spread. By that law what is given over a link is the element, admitted and given there
 /// for the first time; what is left stays when links end; and a block that is done has nothing left.
@@ -16,4 +17,17 @@ pub fn calls_keep_the_law()
 #[tactic(auto, using(crate::proofs::LinksCopied::each_link_has))]
 pub fn each_link_has_its_copies()
     ensures { EachLinkHasItsCopies }
+{}
+
+/// What an end does next by itself, by the law of a spread, is what the call of that move requires.
+#[tactic(auto, using(crate::proofs::MovesAllowed::moves_are_allowed))]
+pub fn next_moves_are_allowed()
+    ensures { MovesAreAllowed }
+{}
+
+/// The element is offered next over the first link that still has to be asked for it, and nowhere only where there is
+/// none.
+#[tactic(auto, using(crate::proofs::NextOffer::offers_in_order))]
+pub fn offers_go_in_order()
+    ensures { OffersInOrder }
 {}
