@@ -1,5 +1,5 @@
 -- Parts of lists, and what a link carries of one element more.
-use Rattle.std.proofs.Common.{◌≡◌, ℕ, ◌<◌, zero, suc, cond, Bool, true, false, List, [], ◌∷◌, ◌++◌, length, take, filter, Option, Some, None, refl, sym, ◌∙◌, ap, arith, append_assoc}
+use Rattle.std.proofs.Common.{◌≡◌, ℕ, ◌<◌, zero, suc, cond, Bool, true, false, List, [], ◌∷◌, ◌++◌, length, take, filter, Option, Some, None, refl, sym, ◌∙◌, ap, arith, append_assoc, is_some}
 use Rattle.std.specs.Option.{ForSome}
 use Rattle.std.proofs.lemmas.Bool.Decides.{nat_tests}
 use Rattle.std.proofs.lemmas.List.{append-nil, length-append}
@@ -9,6 +9,7 @@ use Rattle.flow_value.specs.declared.value.Value.{Value}
 use Rattle.flow_link.specs.Copies.{up_to}
 use Rattle.flow_link.specs.LinkOk.{HasRoom}
 use Rattle.flow_outlet.specs.End.{is_limit}
+use Rattle.flow_outlet.specs.Outlet.{first_of}
 use Rattle.flow_outlet.specs.declared.ends.LinkRule.{LinkRule}
 use Rattle.flow_spread.specs.Copied.{pick, IsPartOf, IsFrontOf, carried}
 
@@ -127,3 +128,58 @@ front_more rule given elements more front =
 
 pub front_same : (given whole : List Value) → given ≡ whole → IsFrontOf given whole
 front_same given whole e = record { rest = []; is = append-nil given ∙ e }
+
+-- The first that is carried
+
+first_front : (front whole : List Value) → IsFrontOf front whole → is_some (first_of front) ≡ true → first_of whole ≡ first_of front
+first_front [] whole of some = cc
+first_front (v ∷ front) whole of some = sym (ap first_of of.is)
+
+-- where one is carried, it stays the first
+pub first_more : (rule : LinkRule) (elements more : List Value) → is_some (first_of (carried rule elements)) ≡ true
+    → first_of (carried rule (elements ++ more)) ≡ first_of (carried rule elements)
+first_more rule elements more some =
+    first_front (carried rule elements) (carried rule (elements ++ more))
+    (front_more rule (carried rule elements) elements more (front_same (carried rule elements) (carried rule elements) refl)) some
+
+pub first_dropped : (rule : LinkRule) (older given more : List Value) (owes : Bool)
+    → first_of given ≡ first_of (carried rule (older ++ cond owes [] more)) → is_some (first_of given) ≡ true
+    → first_of given ≡ first_of (carried rule (older ++ more))
+first_dropped rule older given more false e some = e
+first_dropped rule older given more true e some =
+    let same : first_of given ≡ first_of (carried rule older) = e ∙ ap (λ (vs : List Value). first_of (carried rule vs)) (append-nil older) in
+    same ∙ sym (first_more rule older more (sym (ap is_some same) ∙ some))
+
+none_first : (values : List Value) → first_of values ≡ None → values ≡ []
+none_first [] e = refl
+none_first (v ∷ values) e = cc
+
+first_room : (max : Option ℕ) (count : ℕ) (values : List Value) (value : Value) → HasRoom max count → up_to max values ≡ []
+    → first_of (up_to max (values ++ value ∷ [])) ≡ Some value
+first_room None count values value room e = rw e refl
+first_room (Some zero) count values value room e = absurd (omega (arith, room))
+first_room (Some (suc m)) count [] value room e = refl
+first_room (Some (suc m)) count (v ∷ values) value room e = cc
+
+-- where none was carried, the next is the first
+pub first_is : (rule : LinkRule) (count : ℕ) (elements : List Value) (value : Value) → admits rule.when value ≡ true
+    → HasRoom rule.max count → first_of (carried rule elements) ≡ None → first_of (carried rule (elements ++ value ∷ [])) ≡ Some value
+first_is rule count elements value e room none =
+    ap (λ (vs : List Value). first_of (up_to rule.max vs)) (filter_with rule elements value true e)
+    ∙ first_room rule.max count (filter (admits rule.when) elements) value room (none_first (carried rule elements) none)
+
+none_of_none : (max : Option ℕ) (count : ℕ) (values : List Value) → is_limit max count ≡ true → ForSome max (λ _. count ≡ zero)
+    → up_to max values ≡ []
+none_of_none None count values full counted = cc
+none_of_none (Some m) count values full counted =
+    let zero_is : m ≡ 0 = (let none : count ≡ 0 = counted m refl in grind (arith, nat_tests)) in
+    rw zero_is refl
+
+-- a link that has carried its limit has its first
+pub first_cut : (rule : LinkRule) (count : ℕ) (given elements more : List Value) → is_limit rule.max count ≡ true
+    → ForSome rule.max (λ _. count ≡ length given) → first_of given ≡ first_of (carried rule elements)
+    → first_of given ≡ first_of (carried rule (elements ++ more))
+first_cut rule count [] elements more full counted e =
+    sym (ap first_of (none_of_none rule.max count (filter (admits rule.when) (elements ++ more)) full counted))
+first_cut rule count (v ∷ given) elements more full counted e =
+    e ∙ sym (first_more rule elements more (sym (ap is_some e)))

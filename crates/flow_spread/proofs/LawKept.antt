@@ -1,6 +1,6 @@
 -- Each call keeps the law of a spread.
-use Rattle.std.proofs.Common.{◌≡◌, ℕ, ◌+◌, ◌-◌, ◌^◌, ◌<◌, ◌≤◌, ◌==◌, ◌&&◌, not, zero, suc, Bool, true, false, cond, List, [], ◌∷◌, length, set, map, Option, Some, None, is_some, refl, ap, inl, inr, arith}
-use Rattle.std.proofs.lemmas.Bool.{cases_eq, OnTrue_at, and_parts}
+use Rattle.std.proofs.Common.{◌≡◌, ℕ, ◌+◌, ◌-◌, ◌^◌, ◌<◌, ◌≤◌, ◌==◌, ◌&&◌, not, zero, suc, Bool, true, false, cond, List, [], ◌∷◌, length, set, map, Option, Some, None, is_some, refl, ap, inl, inr, arith, ◌∙◌}
+use Rattle.std.proofs.lemmas.Bool.{cases_eq, OnTrue_at, OnTrue_from, and_parts}
 use Rattle.std.proofs.lemmas.Bool.Decides.{nat_tests}
 use Rattle.std.proofs.lemmas.List.{length-set, length-map, get_or-set_same, get_or-set_other}
 use Rattle.flow_value.specs.declared.value.Value.{Value}
@@ -8,15 +8,24 @@ use Rattle.flow_value.specs.declared.when.When.{When}
 use Rattle.flow_link.specs.declared.trace.Outcome.{Outcome}
 use Rattle.flow_link.specs.declared.trace.Outcome.TheVariants.{Done}
 use Rattle.flow_outlet.specs.declared.ends.LinkRule.{LinkRule}
-use Rattle.flow_outlet.specs.Law.{admits_head}
+use Rattle.flow_outlet.specs.ByLink.{is_taken}
+use Rattle.flow_outlet.specs.Outlet.{given_end}
+use Rattle.flow_link.specs.declared.stage.SourceStage.{SourceStage}
+use Rattle.flow_link.specs.declared.stage.SourceStage.TheVariants.{Free, Crossing}
+use Rattle.flow_outlet.specs.Law.{is_put_off, admits_head}
+use Rattle.flow_link.specs.declared.phase.Phase.{Phase}
+use Rattle.flow_link.specs.declared.phase.Phase.TheVariants.{Idle, Wanted}
+use Rattle.flow_link.specs.Stage.{source_looks}
+use Rattle.std.specs.Bool.{OnTrue}
+use Rattle.flow_spread.specs.ByLink.{is_there, gives_home, place_of}
 use Rattle.flow_spread.specs.declared.end.CopyEnd.{CopyEnd}
-use Rattle.flow_spread.specs.End.{end_in, no_end, fresh_end, takes_up, count_of, owes_it, is_away_at, is_busy_at}
-use Rattle.flow_spread.specs.Spread.{SpreadState, end_at, link_at, changes, fresh_spread, is_spread_free, is_at_rest, puts, left_of, may_give}
-use Rattle.flow_spread.specs.Law.{SpreadLaw, CopyEndLaw, speaks}
+use Rattle.flow_spread.specs.End.{end_in, no_end, fresh_end, moved, is_answer, takes_up, count_of, owes_it, is_away_at, is_busy_at}
+use Rattle.flow_spread.specs.Spread.{SpreadState, end_at, link_at, stage_at, changes, fresh_spread, is_spread_free, is_at_rest, puts, left_of, looks, gives, may_give, is_wanted}
+use Rattle.flow_spread.specs.Law.{SpreadLaw, CopyEndLaw, MayPutOff, speaks}
 use Rattle.flow_spread.specs.Keeps.{CallsKeepLaw, IsGivenWell, LawTells}
 use Rattle.flow_spread.proofs.CountsOfEnds.{none_there, count_same}
 use Rattle.flow_spread.proofs.EndsKeepLaw.{puts_each, prepares_each, looks_each, gives_each, holds_each, withdraws_each, ends_each, offers_each, answers_each, faults_each, stops_each, fresh_each}
-use Rattle.flow_spread.proofs.StagesTell.{never_so, or_first, or_second, wanted_is}
+use Rattle.flow_spread.proofs.StagesTell.{never_so, or_first, or_second, wanted_is, taken_is}
 
 -- here and elsewhere is everywhere
 pub each_set : (P : CopyEnd → Type 0) (ends : List CopyEnd) (k : ℕ) (end : CopyEnd) → k < length ends → P end
@@ -167,6 +176,57 @@ stops_keep first pending outcome s law rest done = all_change s law
     (none_there is_away_at s.ends k l (is_zero (count_of is_away_at s.ends) rest))
     (λ e. none_left_owes s law (done e) k l))
 
+looks_keep : {first : ℕ} {pending : Bool} {stopped : Option Outcome} (s : SpreadState) → SpreadLaw first pending stopped s → (k : ℕ)
+    → k < length s.ends → (phase : Phase) → OnTrue (is_put_off (source_looks (stage_at s k) phase)) (MayPutOff (link_at s k))
+    → SpreadLaw first pending stopped (looks k phase s)
+looks_keep s law k here phase off = one_changes s law k here _ (looks_each (end_at s k) (law.each k here) phase off)
+
+gives_keep : {first : ℕ} {pending : Bool} {stopped : Option Outcome} (s : SpreadState) → SpreadLaw first pending stopped s → (k : ℕ)
+    → k < length s.ends → may_give k s ≡ true → SpreadLaw first pending stopped (gives k s)
+gives_keep s law k here wanted = one_changes s law k here _ (gives_each (end_at s k) (law.each k here) wanted)
+
+look_stage : (s : SpreadState) (k : ℕ) (phase : Phase) → k < length s.ends
+    → stage_at (looks k phase s) k ≡ source_looks (stage_at s k) phase
+look_stage s k phase here =
+    let stage = source_looks (stage_at s k) phase in
+    ap (λ (end : CopyEnd). end.link.stage)
+    (get_or-set_same s.ends k (moved (record (link_at s k) { stage = stage }) ((end_at s k).owes && not (is_answer s.once stage)) (end_at s k)) no_end here)
+
+give_stage : (s : SpreadState) (k : ℕ) → k < length s.ends → stage_at (gives k s) k ≡ Crossing
+give_stage s k here =
+    ap (λ (end : CopyEnd). end.link.stage)
+    (get_or-set_same s.ends k (moved (given_end s.id (link_at s k)) false (end_at s k)) no_end here)
+
+look_count : (s : SpreadState) (k : ℕ) (phase : Phase) → length (looks k phase s).ends ≡ length s.ends
+look_count s k phase = length-set s.ends k _
+
+give_count : (s : SpreadState) (k : ℕ) → length (gives k s).ends ≡ length s.ends
+give_count s k = length-set s.ends k _
+
+-- the source finds the message wanted, gives it, and finds it home
+home_keeps : {first : ℕ} {pending : Bool} {stopped : Option Outcome} (s : SpreadState) → SpreadLaw first pending stopped s → (k header : ℕ)
+    → k < length s.ends → is_taken s.id false (stage_at s k) ≡ true → SpreadLaw first pending stopped (gives_home k header s)
+home_keeps s law k header here taken =
+    let is = taken_is s.id header (stage_at s k) taken in
+    let seen = looks k (Wanted header) s in
+    let seen_law = looks_keep s law k here (Wanted header)
+    (OnTrue_from (is_put_off (source_looks (stage_at s k) (Wanted header))) _ (λ o. OnTrue_at (is.off o) (law.each k here).put_off)) in
+    let there : k < length seen.ends = rw (look_count s k (Wanted header)) here in
+    let wanted : may_give k seen ≡ true = ap (is_wanted s.id) (look_stage s k (Wanted header) here) ∙ is.wanted in
+    let gave = gives k seen in
+    let gave_law = gives_keep seen seen_law k there wanted in
+    let still : k < length gave.ends = rw (give_count seen k) there in
+    let free : source_looks (stage_at gave k) Idle ≡ Free = ap (λ (stage : SourceStage). source_looks stage Idle) (give_stage seen k there) in
+    looks_keep gave gave_law k still Idle
+    (OnTrue_from (is_put_off (source_looks (stage_at gave k) Idle)) _ (λ o. never_so (is_put_off (source_looks (stage_at gave k) Idle)) o (ap is_put_off free)))
+
+consumed_or_not : {first : ℕ} {pending : Bool} {stopped : Option Outcome} (s : SpreadState) → SpreadLaw first pending stopped s
+    → (k header : ℕ) → k < length s.ends → (there : Bool) → is_there k header s ≡ there
+    → SpreadLaw first pending stopped (cond there (gives_home k header s) s)
+consumed_or_not s law k header here true e =
+    home_keeps s law k header here (and_parts (header == s.id) (is_taken s.id false (stage_at s k)) e).1
+consumed_or_not s law k header here false e = law
+
 pub calls_keep_law : CallsKeepLaw
 calls_keep_law = record {
   fresh = fresh_keeps;
@@ -181,6 +241,8 @@ calls_keep_law = record {
   ends = λ first pending stopped s law k here how free by. one_changes s law k here _ (ends_each (end_at s k) (law.each k here) how free by);
   answer = λ first stopped s law k header here answer is late.
       one_changes s law k here _ (answers_each (end_at s k) (law.each k here) header is answer late);
+  consume = λ first pending stopped s law link header here.
+      consumed_or_not s law (place_of link s.ends) header here (is_there (place_of link s.ends) header s) refl;
   fault = λ first stopped s law. all_change s law (λ k l. faults_each (end_at s k) (law.each k l));
   stop = stops_keep;
 }
@@ -205,5 +267,7 @@ law_tells = record {
   given = λ first pending stopped s law k here may. given_well s law k here may;
   left_stays = λ first pending stopped s law k here how.
       ap (λ (n : ℕ). cond (n == 0) None s.element) (count_same owes_it s.ends k _ here refl);
+  served_once = λ first pending stopped s law k here once none admits.
+      rw (none_left_owes s law none k here) at (law.each k here).once_owes once admits;
   done = λ first pending s law. rw (count_none s.ends (λ k l. (law.each k l).served refl)) refl;
 }

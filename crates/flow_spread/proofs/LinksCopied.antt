@@ -1,5 +1,5 @@
 -- Over any calls that may be made, each link has its copies.
-use Rattle.std.proofs.Common.{◌≡◌, ◌≢◌, ℕ, ◌+◌, ◌-◌, ◌^◌, ◌<◌, ◌≤◌, ◌==◌, ◌&&◌, ◌||◌, not, zero, suc, cond, Bool, true, false, List, [], ◌∷◌, ◌++◌, length, map, Option, Some, None, is_some, refl, sym, ◌∙◌, ap, subst, inl, inr, arith, append_assoc}
+use Rattle.std.proofs.Common.{◌≡◌, ◌≢◌, ℕ, ◌+◌, ◌-◌, ◌^◌, ◌<◌, ◌≤◌, ◌==◌, ◌&&◌, ◌||◌, not, zero, suc, cond, Bool, true, false, List, [], ◌∷◌, ◌++◌, length, map, Option, Some, None, is_some, refl, sym, ◌∙◌, ap, subst, inl, inr, arith, append_assoc, ◌⊎◌}
 use Rattle.std.specs.Bool.{OnTrue}
 use Rattle.std.specs.Option.{ForSome}
 use Rattle.std.proofs.lemmas.Bool.{cases_eq, OnTrue_at, false_from_ne_true}
@@ -15,9 +15,10 @@ use Rattle.flow_link.specs.declared.phase.Phase.{Phase}
 use Rattle.flow_link.specs.declared.stage.SourceStage.{SourceStage}
 use Rattle.flow_link.specs.declared.stage.SourceStage.TheVariants.{Free, Out, Waiting, AskedBy, Reserved, Crossing, Refused, Ended}
 use Rattle.flow_link.specs.declared.trace.Outcome.{Outcome}
+use Rattle.flow_link.specs.LinkOk.{HasRoom}
 use Rattle.flow_link.specs.Stage.{source_looks}
 use Rattle.flow_outlet.specs.ByLink.{forgotten_stage, answer_stage}
-use Rattle.flow_outlet.specs.Outlet.{given_end}
+use Rattle.flow_outlet.specs.Outlet.{first_of, given_end}
 use Rattle.flow_outlet.specs.End.{is_free, is_out, is_over, is_cut, is_waiting, counted}
 use Rattle.flow_outlet.specs.History.{listed}
 use Rattle.flow_outlet.specs.KeepsByLink.{settles_it}
@@ -31,7 +32,7 @@ use Rattle.flow_spread.specs.Copied.{Call, Course, after, IsAllowed, after_all, 
 use Rattle.flow_spread.specs.End.{no_end, fresh_end, moved, is_answer, takes_up}
 use Rattle.flow_spread.specs.Law.{SpreadLaw, CopyEndLaw, MayPutOff, speaks, concerns_it}
 use Rattle.flow_spread.specs.Spread.{SpreadState, end_at, link_at, stage_at, changes, fresh_spread, is_spread_free, puts, may_offer, offers, looks, is_wanted, gives, is_asked_by, asked_id, holds, withdraws, ends_link}
-use Rattle.flow_spread.proofs.CarriedValues.{part_with, part_without, no_part, carried_skips, carried_cut, carried_adds, front_more, front_same}
+use Rattle.flow_spread.proofs.CarriedValues.{part_with, part_without, no_part, carried_skips, carried_cut, carried_adds, front_more, front_same, first_dropped, first_is, first_cut}
 use Rattle.flow_spread.proofs.CountsOfEnds.{none_there}
 use Rattle.flow_spread.proofs.EndsKeepLaw.{ended_cut, open_parts}
 use Rattle.flow_spread.specs.End.{owes_it}
@@ -46,22 +47,38 @@ pub record HadSoFar (older given : List Value) (element : Option Value) (id : �
   pub counted : ForSome rule.max (λ _. count ≡ length given)
   pub all : rule.steady ≡ true → is_refused stage ≡ false → given ≡ carried rule (older ++ cond owes [] (listed element))
   pub front : rule.steady ≡ true → IsFrontOf given (carried rule (older ++ listed element))
+  pub some : 1 ≤ last → is_some (first_of given) ≡ true
+  pub first : rule.sole ≡ true → is_refused stage ≡ false
+      → first_of given ≡ first_of (carried rule (older ++ cond owes [] (listed element)))
 
 abbrev pub HadBy : List Value → List Value → Option Value → ℕ → CopyEnd → Type 0
 HadBy older given element id end =
     HadSoFar older given element id end.link.rule end.link.given end.link.last end.link.stage end.owes
 
+-- what a link owes stays, or it was given something before
+abbrev pub OwesOrHad : ℕ → Bool → Bool → Type 0
+OwesOrHad last owes owes' = (owes' ≡ owes) ⊎ ((owes' ≡ false) × (1 ≤ last))
+
 -- nothing was given, and what a steady link owes stays
 moved_had : {older given : List Value} {element : Option Value} {id : ℕ} {rule : LinkRule} {count last : ℕ} {stage : SourceStage} {owes : Bool}
     → HadSoFar older given element id rule count last stage owes → (stage' : SourceStage) (owes' : Bool)
     → (rule.steady ≡ true → is_refused stage' ≡ false → (is_refused stage ≡ false) × (owes' ≡ owes))
+    → (rule.sole ≡ true → is_refused stage' ≡ false → (is_refused stage ≡ false) × OwesOrHad last owes owes')
     → HadSoFar older given element id rule count last stage' owes'
-moved_had had stage' owes' same = record {
+moved_had {older} {given} {element} {rule = rule} {owes = owes} had stage' owes' same alone = record {
   part = had.part;
   before = had.before;
   counted = had.counted;
   all = λ steady taking. let is = same steady taking in rw is.1 (had.all steady is.0);
   front = had.front;
+  some = had.some;
+  first = λ sole taking.
+      let is = alone sole taking in
+      let was = had.first sole is.0 in
+      elim (is.1) [
+        | inl stays ↦ rw stays was
+        | inr late ↦ rw (late.0) (first_dropped rule older given (listed element) owes was (had.some late.1))
+      ];
 }
 
 -- the end at a place, where one end changes
@@ -89,6 +106,22 @@ owes_same true false e = refl
 owes_same false answers e = refl
 owes_same true true e = cc
 
+answers_put_off : (once : Bool) (stage : SourceStage) → is_refused stage ≡ false → is_answer once stage ≡ true → is_put_off stage ≡ true
+answers_put_off once Refused r a = cc
+answers_put_off once (Waiting _) r a = refl
+answers_put_off once (AskedBy _) r a = refl
+answers_put_off once stage r a = cc
+
+owes_or_late : {last : ℕ} (owes answers : Bool) → (answers ≡ true → 1 ≤ last) → OwesOrHad last owes (owes && not answers)
+owes_or_late true false late = inl refl
+owes_or_late false answers late = inl refl
+owes_or_late true true late = inr (refl, late refl)
+
+once_or_late : {last : ℕ} (owes once : Bool) → 1 ≤ last → OwesOrHad last owes (owes && once)
+once_or_late true true late = inl refl
+once_or_late false once late = inl refl
+once_or_late true false late = inr (refl, late)
+
 -- What is given
 
 is_kept : (rule : LinkRule) (value : Value) (element : Option Value) → element ≡ Some value → admits_head rule.when element ≡ true
@@ -103,12 +136,26 @@ one_counted (Some max) count given value e = λ m is.
     let before : count ≡ length given = e max refl in
     omega (arith, length-append given (value ∷ []))
 
+some_more : (given : List Value) (value : Value) → is_some (first_of (given ++ value ∷ [])) ≡ true
+some_more [] value = refl
+some_more (v ∷ given) value = refl
+
+first_given : (rule : LinkRule) (count : ℕ) (older given : List Value) (value : Value) (owes : Bool) → admits rule.when value ≡ true
+    → HasRoom rule.max count → first_of given ≡ first_of (carried rule (older ++ cond owes [] (value ∷ [])))
+    → (first_of given ≡ None → owes ≡ true)
+    → first_of (given ++ value ∷ []) ≡ first_of (carried rule (older ++ value ∷ []))
+first_given rule count older (v ∷ given) value owes admitted room e late = first_dropped rule older (v ∷ given) (value ∷ []) owes e refl
+first_given rule count older [] value true admitted room e late =
+    sym (first_is rule count older value admitted room (sym (e ∙ ap (λ (vs : List Value). first_of (carried rule vs)) (append-nil older))))
+first_given rule count older [] value false admitted room e late = let no : false ≡ true = late refl in cc
+
 given_had : {older given : List Value} {element : Option Value} {id : ℕ} {once pending : Bool} {stopped : Option Outcome} (end : CopyEnd) (value : Value)
     → element ≡ Some value → CopyEndLaw element id once pending stopped end → speaks end.link.stage ≡ true
     → (is_out end.link.stage || is_put_off end.link.stage) ≡ true → is_refused end.link.stage ≡ false
     → HadBy older given element id end
     → HadSoFar older (given ++ value ∷ []) (Some value) id end.link.rule (counted end.link.rule.max end.link.given) id Crossing false
 given_had {older} {given} {element} {id} end value is law spoken out_or_off taking had =
+    let mine : HadBy older given (Some value) id end = subst (λ (el : Option Value). HadBy older given el id end) is had in
     let rule = end.link.rule in
     let concerned : concerns_it end ≡ true = or_first (speaks end.link.stage) end.owes spoken in
     let admitted : admits rule.when value ≡ true = is_kept rule value element is (OnTrue_at concerned law.admitted) in
@@ -130,6 +177,15 @@ given_had {older} {given} {element} {id} end value is law spoken out_or_off taki
       counted = one_counted rule.max end.link.given given value had.counted;
       all = λ steady _. all steady;
       front = λ steady. front_same _ _ (all steady);
+      some = λ _. some_more given value;
+      first = λ sole _. first_given rule end.link.given older given value end.owes admitted room (mine.first sole taking)
+          (λ none. or_either (is_out end.link.stage) (is_put_off end.link.stage)
+          (λ out. OnTrue_at out law.owed)
+          (λ off.
+          let well : MayPutOff end.link = OnTrue_at off law.put_off in
+          let given_before : is_some (first_of given) ≡ true = had.some (well.late sole) in
+          never_so (is_some (first_of given)) given_before (ap is_some none))
+          out_or_off);
     }
 
 -- A new element
@@ -161,6 +217,12 @@ put_all : (rule : LinkRule) (count : ℕ) (given all : List Value) (value : Valu
 put_all rule count given all value true e counts f = e ∙ ap (carried rule) (sym (append-nil all))
 put_all rule count given all value false e counts f = e ∙ sym (f refl)
 
+put_first : (rule : LinkRule) (given all : List Value) (value : Value) (due : Bool) → first_of given ≡ first_of (carried rule all)
+    → (due ≡ false → first_of given ≡ first_of (carried rule (all ++ value ∷ [])))
+    → first_of given ≡ first_of (carried rule (all ++ cond due [] (value ∷ [])))
+put_first rule given all value true e f = e ∙ ap (λ (vs : List Value). first_of (carried rule vs)) (sym (append-nil all))
+put_first rule given all value false e f = f refl
+
 put_had : {older given : List Value} {element : Option Value} {id : ℕ} {once pending : Bool} (end : CopyEnd) (value : Value)
     → CopyEndLaw element id once pending None end → end.owes ≡ false → HadBy older given element id end
     → HadBy (older ++ listed element) given (Some value) (id + 1) (takes_up value end)
@@ -182,6 +244,15 @@ put_had {older} {given} {element} {id} end value law owes had =
           (closed_or_turned_away (is_over stage) (is_cut end.link) (admits rule.when value) none
           (λ over. ended_cut end.link law.ended stage (over_before end.link.stage over) over taking)));
       front = λ steady. front_more rule given all (value ∷ []) (had.front steady);
+      some = had.some;
+      first = λ sole taking.
+          let before : first_of given ≡ first_of (carried rule all) = rw owes at (had.first sole (refused_before end.link.stage taking)) in
+          put_first rule given all value (takes_up value end).owes before
+          (λ none. or_either (is_cut end.link) (not (admits rule.when value))
+          (λ cut. first_cut rule end.link.given given all (value ∷ []) cut had.counted before)
+          (λ away. before ∙ ap first_of (sym (carried_skips rule all value (not_is (admits rule.when value) away))))
+          (closed_or_turned_away (is_over stage) (is_cut end.link) (admits rule.when value) none
+          (λ over. ended_cut end.link law.ended stage (over_before end.link.stage over) over taking)));
     }
 
 -- One call
@@ -241,9 +312,11 @@ module _ {first : ℕ} {pending : Bool} {stopped : Option Outcome} (s : SpreadSt
   move_had : (end : CopyEnd) → HadSoFar older (given ++ []) s.element s.id (link_at s j).rule (link_at s j).given (link_at s j).last end.link.stage end.owes
       ≡ HadBy older (given ++ []) s.element s.id end
       → ((link_at s j).rule.steady ≡ true → is_refused end.link.stage ≡ false → (is_refused (stage_at s j) ≡ false) × (end.owes ≡ (end_at s j).owes))
+      → ((link_at s j).rule.sole ≡ true → is_refused end.link.stage ≡ false
+      → (is_refused (stage_at s j) ≡ false) × OwesOrHad (link_at s j).last (end_at s j).owes end.owes)
       → HadBy older (given ++ []) s.element s.id (end_at (changes j end s) k)
-  move_had end alike same = at_change (λ (e : CopyEnd). HadBy older (given ++ []) s.element s.id e) s j k end here (with_none had)
-      (λ at_j. subst (λ (P : Type 0). P) alike (moved_had (at_end at_j) end.link.stage end.owes same))
+  move_had end alike same alone = at_change (λ (e : CopyEnd). HadBy older (given ++ []) s.element s.id e) s j k end here (with_none had)
+      (λ at_j. subst (λ (P : Type 0). P) alike (moved_had (at_end at_j) end.link.stage end.owes same alone))
 
   off_steady : {Q : Type 0} → is_put_off (stage_at s j) ≡ true → (link_at s j).rule.steady ≡ true → Q
   off_steady off steady = let well : MayPutOff (link_at s j) = OnTrue_at off (law.each j here).put_off in
@@ -278,6 +351,7 @@ module _ {first : ℕ} {pending : Bool} {stopped : Option Outcome} (s : SpreadSt
       let parts = open_parts (is_some s.element) (end_at s j).owes (is_free (stage_at s j)) ((link_at s j).declined == s.id) may in
       move_had (moved (record (link_at s j) { stage = Out s.id }) (end_at s j).owes (end_at s j)) refl
       (λ steady taking. (ap is_refused (free_is (stage_at s j) parts.2), refl))
+      (λ sole taking. (ap is_refused (free_is (stage_at s j) parts.2), inl refl))
 
   look_had : (phase : Phase) → OnTrue (is_put_off (source_looks (stage_at s j) phase)) (MayPutOff (link_at s j))
       → HadBy older (given ++ []) s.element s.id (end_at (looks j phase s) k)
@@ -291,21 +365,29 @@ module _ {first : ℕ} {pending : Bool} {stopped : Option Outcome} (s : SpreadSt
         not_back (is_refused (stage_at s j)) (is_refused stage) (look_tells (stage_at s j) phase).refused taking,
         owes_same end.owes (is_answer s.once stage) (answers_off s.once stage taking off),
       ))
+      (λ sole taking. (
+        not_back (is_refused (stage_at s j)) (is_refused stage) (look_tells (stage_at s j) phase).refused taking,
+        owes_or_late end.owes (is_answer s.once stage) (λ answers.
+            let may : MayPutOff (link_at s j) = OnTrue_at (answers_put_off s.once stage taking answers) well in may.late sole),
+      ))
 
   hold_had : is_asked_by (stage_at s j) ≡ true → HadBy older (given ++ []) s.element s.id (end_at (holds j s) k)
   hold_had asked =
       move_had (moved (record (link_at s j) { stage = Reserved (asked_id (stage_at s j)) }) (end_at s j).owes (end_at s j)) refl
       (λ steady taking. off_steady (ap is_put_off (asks_for (stage_at s j) asked).is) steady)
+      (λ sole taking. (ap is_refused (asks_for (stage_at s j) asked).is, inl refl))
 
   withdraw_had : is_waiting (stage_at s j) ≡ true → HadBy older (given ++ []) s.element s.id (end_at (withdraws j s) k)
   withdraw_had wait =
       move_had (moved (record (link_at s j) { declined = asked_id (stage_at s j); stage = Free }) (end_at s j).owes (end_at s j)) refl
       (λ steady taking. off_steady (ap is_put_off (waits_for (stage_at s j) wait).is) steady)
+      (λ sole taking. (ap is_refused (waits_for (stage_at s j) wait).is, inl refl))
 
   end_had : (how : LinkEnd) → is_free (stage_at s j) ≡ true → HadBy older (given ++ []) s.element s.id (end_at (ends_link j how s) k)
   end_had how free =
       move_had (moved (record (link_at s j) { stage = Ended how }) (end_at s j).owes (end_at s j)) refl
       (λ steady taking. (ap is_refused (free_is (stage_at s j) free), refl))
+      (λ sole taking. (ap is_refused (free_is (stage_at s j) free), inl refl))
 
   answer_same : (header : ℕ) (answer : MessageStatus) → stage_at s j ≡ Out header → (settles_it answer ≡ false → MayPutOff (link_at s j))
       → (link_at s j).rule.steady ≡ true → is_refused (answer_stage answer header) ≡ false
@@ -319,11 +401,23 @@ module _ {first : ℕ} {pending : Bool} {stopped : Option Outcome} (s : SpreadSt
   answer_same header status.NotAvailable is late steady taking =
       let may : MayPutOff (link_at s j) = late refl in never_so (link_at s j).rule.steady steady may.unsteady
 
+  answer_alone : (header : ℕ) (answer : MessageStatus) → stage_at s j ≡ Out header → (settles_it answer ≡ false → MayPutOff (link_at s j))
+      → (link_at s j).rule.sole ≡ true → is_refused (answer_stage answer header) ≡ false
+      → (is_refused (stage_at s j) ≡ false) × OwesOrHad (link_at s j).last (end_at s j).owes (still_owes answer s.once (end_at s j).owes)
+  answer_alone header status.Accepted is late sole taking = (ap is_refused is, inl refl)
+  answer_alone header status.DecliningPermanently is late sole taking = cc
+  answer_alone header status.Declined is late sole taking =
+      let may : MayPutOff (link_at s j) = late refl in (ap is_refused is, once_or_late (end_at s j).owes s.once (may.late sole))
+  answer_alone header status.Postponed is late sole taking =
+      let may : MayPutOff (link_at s j) = late refl in (ap is_refused is, once_or_late (end_at s j).owes s.once (may.late sole))
+  answer_alone header status.NotAvailable is late sole taking =
+      let may : MayPutOff (link_at s j) = late refl in (ap is_refused is, once_or_late (end_at s j).owes s.once (may.late sole))
+
   answer_had : (header : ℕ) (answer : MessageStatus) → stage_at s j ≡ Out header → (settles_it answer ≡ false → MayPutOff (link_at s j))
       → HadBy older (given ++ []) s.element s.id (end_at (answered answer header j s) k)
   answer_had header answer is late =
       move_had (moved (answered_link answer header (link_at s j)) (still_owes answer s.once (end_at s j).owes) (end_at s j)) refl
-      (answer_same header answer is late)
+      (answer_same header answer is late) (answer_alone header answer is late)
 
 put_step : {first : ℕ} {pending : Bool} (s : SpreadState) → SpreadLaw first pending None s → is_spread_free s ≡ true → (value : Value)
     → (k : ℕ) → k < length s.ends → {older given : List Value} → HadBy older given s.element s.id (end_at s k)
@@ -418,6 +512,8 @@ fresh_had rule id = record {
   counted = λ m e. refl;
   all = λ steady taking. none_up_to rule.max;
   front = λ steady. front_same [] (up_to rule.max []) (none_up_to rule.max);
+  some = λ l. absurd (omega (arith, l));
+  first = λ sole taking. ap first_of (none_up_to rule.max);
 }
 
 has_copies : (first : ℕ) (elements given : List Value) (k : ℕ) (c : Course) → Known first elements given k c
@@ -431,6 +527,7 @@ has_copies first elements given k c known =
       part = subst (λ (whole : List Value). IsPartOf given whole) known.newest known.had.part;
       owed = λ owes. known.had.before (OnTrue_at (or_second (speaks (stage_at s k)) (end_at s k).owes owes) law.fresh);
       all = known.had.all;
+      first = known.had.first;
       front = λ steady. subst (λ (whole : List Value). IsFrontOf given (carried (link_at s k).rule whole)) known.newest (known.had.front steady);
     }
 

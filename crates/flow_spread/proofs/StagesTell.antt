@@ -1,12 +1,13 @@
 -- What a stage tells of the element: whether it speaks of it, whether its link may owe, and what a look leaves of that.
 use Rattle.std.proofs.Common.{◌≡◌, ℕ, ◌<◌, ◌==◌, ◌||◌, ◌&&◌, Bool, true, false, Option, Some, None, is_some, refl, arith}
+use Rattle.std.proofs.lemmas.Bool.{and_parts}
 use Rattle.std.proofs.lemmas.Bool.Decides.{nat_tests}
 use Rattle.flow_link.specs.declared.phase.Phase.{Phase}
 use Rattle.flow_link.specs.declared.phase.Phase.TheVariants.{Idle, Postponed, Wanted, Asked, Refused as refused_phase}
 use Rattle.flow_link.specs.declared.stage.SourceStage.{SourceStage}
 use Rattle.flow_link.specs.declared.stage.SourceStage.TheVariants.{Free, Posted, Out, Waiting, Accepted, Wished, AskedBy, Reserved, Claimed, Crossing, Refused, Ended}
 use Rattle.flow_link.specs.Stage.{source_looks}
-use Rattle.flow_outlet.specs.ByLink.{forgotten_stage}
+use Rattle.flow_outlet.specs.ByLink.{forgotten_stage, is_taken}
 use Rattle.flow_outlet.specs.End.{id_of, is_out, is_away, is_over}
 use Rattle.flow_outlet.specs.Law.{is_put_off, is_posted, is_refused}
 use Rattle.flow_spread.specs.End.{is_busy, is_answer}
@@ -135,6 +136,25 @@ wanted_is id (Reserved _) e = cc
 wanted_is id Crossing e = cc
 wanted_is id Refused e = cc
 wanted_is id (Ended _) e = cc
+
+-- what a target takes is wanted, once the source looks
+pub record IsTaken (id header : ℕ) (stage : SourceStage) : Type 0 where
+  pub wanted : is_wanted id (source_looks stage (Wanted header)) ≡ true
+  pub off : is_put_off (source_looks stage (Wanted header)) ≡ true → is_put_off stage ≡ true
+
+pub taken_is : (id header : ℕ) (stage : SourceStage) → is_taken id false stage ≡ true → IsTaken id header stage
+taken_is id header (Accepted i) e = record { wanted = e; off = λ o. cc }
+taken_is id header (Waiting i) e = record { wanted = (and_parts (i == id) true e).0; off = λ o. refl }
+taken_is id header (Wished i) e = record { wanted = (and_parts (i == id) true e).0; off = λ o. refl }
+taken_is id header Free e = cc
+taken_is id header (Posted _) e = cc
+taken_is id header (Out _) e = cc
+taken_is id header (AskedBy _) e = cc
+taken_is id header (Reserved _) e = cc
+taken_is id header (Claimed _) e = cc
+taken_is id header Crossing e = cc
+taken_is id header Refused e = cc
+taken_is id header (Ended _) e = cc
 
 pub record Asks (stage : SourceStage) : Type 0 where
   pub id : ℕ

@@ -15,7 +15,7 @@ use Rattle.flow_outlet.specs.End.{is_free, is_waiting}
 use Rattle.flow_outlet.specs.History.{listed}
 use Rattle.flow_outlet.specs.KeepsByLink.{settles_it}
 use Rattle.flow_outlet.specs.Law.{is_put_off, is_refused}
-use Rattle.flow_outlet.specs.Outlet.{end_of}
+use Rattle.flow_outlet.specs.Outlet.{end_of, first_of}
 use Rattle.flow_outlet.specs.declared.ends.LinkRule.{LinkRule}
 use Rattle.flow_spread.specs.ByLink.{answered}
 use Rattle.flow_spread.specs.Law.{MayPutOff}
@@ -137,6 +137,9 @@ pub record LinkHas (given elements : List Value) (k : ℕ) (s : SpreadState) : T
   -- after its target refused
   pub all : (link_at s k).rule.steady ≡ true → is_refused (stage_at s k) ≡ false
       → given ≡ carried (link_at s k).rule (older ++ cond (end_at s k).owes [] (listed s.element))
+  -- a link alone into its target has the first of the elements that it may carry, with the same exceptions
+  pub first : (link_at s k).rule.sole ≡ true → is_refused (stage_at s k) ≡ false
+      → first_of given ≡ first_of (carried (link_at s k).rule (older ++ cond (end_at s k).owes [] (listed s.element)))
   pub front : (link_at s k).rule.steady ≡ true → IsFrontOf given (carried (link_at s k).rule elements)
 
 abbrev pub fresh_course : Bool → Bool → List LinkRule → ℕ → Course

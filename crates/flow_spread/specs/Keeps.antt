@@ -1,5 +1,5 @@
 -- Each call keeps the law of a spread, and what the law says of each gift and of what is left.
-use Rattle.std.specs.Prelude.{◌≡◌, ℕ, ◌+◌, ◌^◌, ◌<◌, ◌≤◌, Bool, true, false, List, length, Option, Some, None, is_some}
+use Rattle.std.specs.Prelude.{◌≡◌, ℕ, ◌+◌, ◌^◌, ◌<◌, ◌≤◌, ◌==◌, ◌||◌, Bool, true, false, List, length, Option, Some, None, is_some}
 use Rattle.std.specs.Bool.{OnTrue}
 use Rattle.flow_value.specs.declared.value.Value.{Value}
 use Rattle.flow_value.specs.declared.message.MessageStatus.{MessageStatus}
@@ -10,12 +10,12 @@ use Rattle.flow_link.specs.declared.trace.Outcome.{Outcome}
 use Rattle.flow_link.specs.declared.trace.Outcome.TheVariants.{Done}
 use Rattle.flow_link.specs.LinkOk.{HasRoom}
 use Rattle.flow_link.specs.Stage.{source_looks}
-use Rattle.flow_outlet.specs.End.{is_free, is_waiting}
+use Rattle.flow_outlet.specs.End.{is_cut, is_free, is_waiting}
 use Rattle.flow_outlet.specs.KeepsByLink.{settles_it}
-use Rattle.flow_outlet.specs.Law.{is_put_off, admits_head}
+use Rattle.flow_outlet.specs.Law.{is_put_off, is_refused, admits_head}
 use Rattle.flow_outlet.specs.Outlet.{end_of}
 use Rattle.flow_outlet.specs.declared.ends.LinkRule.{LinkRule}
-use Rattle.flow_spread.specs.ByLink.{answered}
+use Rattle.flow_spread.specs.ByLink.{answered, consumes, place_of}
 use Rattle.flow_spread.specs.Spread.{SpreadState, end_at, link_at, stage_at, fresh_spread, is_spread_free, is_at_rest, puts, left_of, prepares, may_offer, offers, looks, may_give, gives, is_asked_by, holds, withdraws, ends_link}
 use Rattle.flow_spread.specs.Law.{SpreadLaw, MayPutOff}
 
@@ -51,6 +51,9 @@ pub record CallsKeepLaw : Type 0 where
   pub answer : (first : ℕ) (stopped : Option Outcome) (s : SpreadState) → SpreadLaw first true stopped s → (k header : ℕ)
       → k < length s.ends → (answer : MessageStatus) → stage_at s k ≡ Out header
       → (settles_it answer ≡ false → MayPutOff (link_at s k)) → SpreadLaw first true stopped (answered answer header k s)
+  -- a message that is consumed by the name of its link, or is there no more
+  pub consume : (first : ℕ) (pending : Bool) (stopped : Option Outcome) (s : SpreadState) → SpreadLaw first pending stopped s
+      → (link header : ℕ) → place_of link s.ends < length s.ends → SpreadLaw first pending stopped (consumes link header s)
   -- the block comes to fault, and stops: with nothing under way, and done only where nothing is left
   pub fault : (first : ℕ) (stopped : Option Outcome) (s : SpreadState) → SpreadLaw first false stopped s
       → SpreadLaw first true stopped s
@@ -70,5 +73,10 @@ pub record LawTells : Type 0 where
   pub given : AtEachEnd λ first pending stopped s k. may_give k s ≡ true → IsGivenWell s k
   -- that a link ends changes nothing of what is left
   pub left_stays : AtEachEnd λ first pending stopped s k. (how : LinkEnd) → left_of (ends_link k how s) ≡ left_of s
+  -- where nothing is left of what a block took that takes once, each link that admits it was given it, refused, or has
+  -- carried its limit
+  pub served_once : AtEachEnd λ first pending stopped s k.
+      s.once ≡ true → left_of s ≡ None → admits_head (link_at s k).rule.when s.element ≡ true
+      → ((link_at s k).last == s.id || is_refused (stage_at s k) || is_cut (link_at s k)) ≡ true
   -- a block that is done has nothing left
   pub done : (first : ℕ) (pending : Bool) (s : SpreadState) → SpreadLaw first pending (Some Done) s → left_of s ≡ None
