@@ -4,7 +4,8 @@ ghost use Rattle.flow_spread.specs.Keeps.{CallsKeepLaw, LawTells};
 ghost use Rattle.flow_spread.specs.Moves.{MovesAreAllowed, OffersInOrder};
 
 /// Each call keeps the law of a spread. By that law what is given over a link is the element, admitted and given there
-/// for the first time; what is left stays when links end; and a block that is done has nothing left.
+/// for the first time; what is left stays when links end; a block that is done has nothing left; and one that takes once
+/// has nothing left only where each link that admits the element was given it, refused, or has carried its limit.
 #[tactic(auto, using(crate::proofs::LawKept::calls_keep_law, crate::proofs::LawKept::law_tells))]
 pub fn calls_keep_the_law()
     ensures keeps { CallsKeepLaw }
@@ -13,7 +14,8 @@ pub fn calls_keep_the_law()
 
 /// Over any calls that may be made, each link is given some of the elements that were put, each once at most and in
 /// their order, and none that it still owes. A link whose target takes each message at once lacks none that its predicate
-/// admits, up to its limit, but for the newest while it owes that, and for those behind a refusal.
+/// admits, up to its limit, but for the newest while it owes that, and for those behind a refusal. A link alone into its
+/// target has the first of them, with the same exceptions.
 #[tactic(auto, using(crate::proofs::LinksCopied::each_link_has))]
 pub fn each_link_has_its_copies()
     ensures { EachLinkHasItsCopies }
