@@ -192,7 +192,7 @@ impl OutEnd {
     }
 
     /// The end after it gave the message with this id.
-    pub(crate) fn gave(self, id: u64) -> OutEnd
+    pub fn gave(self, id: u64) -> OutEnd
         requires { HasRoom self.rule.max self.given }
         ensures { result ≡ given_end id self }
     {
@@ -222,7 +222,7 @@ impl OutEnd {
     }
 
     /// The stage after the target answered the offer of this message, and what is then not offered again.
-    pub(crate) fn answered(
+    pub fn answered(
         &self,
         header: MessageHeader,
         status: MessageStatus,
@@ -242,7 +242,7 @@ impl OutEnd {
     }
 
     /// The end after it forgot that an offer was postponed.
-    fn forgotten(self) -> OutEnd
+    pub fn forgotten(self) -> OutEnd
         ensures { result ≡ forgotten self }
     {
         match self.stage {

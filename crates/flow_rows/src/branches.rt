@@ -2,7 +2,9 @@
 //! messages or so many: as drafts to which values are posted, in several orders of events, and as texts with records.
 use crate::driver::{ENOUGH, add, check, has_lines, told_by};
 use crate::events::{came_to, do_first, in_order, post_all, settles, wander};
-use flow_link::{BlockDef, BlockKind, Draft, Ending, LinkDef, plan_check};
+use flow_link::{
+    BlockDef, BlockKind, Draft, Ending, LinkDef, Place, PlanFault, PlanRefusal, plan_check,
+};
 use flow_net::Net;
 use flow_value::{Steps, Text, Value, When};
 use std::alloc::{AllocError, Global};
@@ -11,8 +13,8 @@ use std::sync::Wait;
 use std::test::Fail;
 use std::thread::Threads;
 
-/// A block: its name, its kind, with a star where it is an input, and with its lanes after a stroke if it has any, its
-/// capacity if it has one, and its function.
+/// A block: its name, its kind, with a star where it is an input, and with its lanes, or the size of a batch, after a
+/// stroke if it has any, its capacity if it has one, and its function.
 type Block = (
     &'static str,
     &'static str,
@@ -121,6 +123,52 @@ const CASES: &[Case] = &[
         "'2 '0 '3",
         Ending::Complete,
         &["block in done ; block t done ; block out done ; record [0,1,0,1,2]"],
+    ),
+    (
+        "batch remainder",
+        &[IN, PARSE, ("b", "batch/3", None, &[]), KEEP],
+        &[
+            ("in", "t", "any", None),
+            ("t", "b", "any", None),
+            ("b", "out", "any", None),
+        ],
+        "'1 '2 '3 '4 '5 '6 '7",
+        Ending::Complete,
+        &[
+            "block in done ; block t done ; block b done ; held 0 [] ; block out done ; record [[1,2,3],[4,5,6],[7]]",
+        ],
+    ),
+    (
+        "batch with room for one row",
+        &[
+            IN,
+            PARSE,
+            ("b", "batch/2", Some(2), &[]),
+            ("out", "action", Some(1), &["sum"]),
+        ],
+        &[
+            ("in", "t", "any", None),
+            ("t", "b", "any", None),
+            ("b", "out", "any", None),
+        ],
+        "'1 '2 '3 '4 '5",
+        Ending::Complete,
+        &["block in done ; block t done ; block b done ; block out done ; record [3,7,5]"],
+    ),
+    (
+        "a fault behind a batch that is not full",
+        &[IN, PARSE, ("b", "batch/2", None, &[]), KEEP],
+        &[
+            ("in", "t", "any", None),
+            ("t", "b", "any", None),
+            ("b", "out", "any", None),
+        ],
+        "'1 x",
+        Ending::Complete,
+        &[
+            r#"block t faulted 1 ; held 0 ["x"] ; left [] ; block b faulted 1 ; held 0 [1] ; left [] ; block out faulted 1 ; record []"#,
+            r#"block t faulted 1 ; held 0 ["x"] ; left [1] ; block b faulted 1 ; held 0 [] ; left [] ; block out faulted 1 ; record []"#,
+        ],
     ),
     (
         "fault in a lane",
@@ -236,25 +284,30 @@ fn kind_of(word: &str) -> (BlockKind, bool) {
         "buffer" => (BlockKind::Buffer, false),
         "transform" => (BlockKind::Transform, false),
         "transform_many" => (BlockKind::TransformMany, false),
+        "batch" => (BlockKind::Batch, false),
         _ => (BlockKind::Action, false),
     }
 }
 
-/// The word of a kind, and its lanes if it has any.
-fn split_lanes(word: &str) -> (&str, Option<u32>) {
+/// The word of a kind, and its lanes or its size if it has any.
+fn split_count(word: &str) -> (&str, Option<u32>) {
     match word.split_once("/") {
-        Some((kind, lanes)) => (kind, lanes.parse::<u32>().ok()),
+        Some((kind, count)) => (kind, count.parse::<u32>().ok()),
         None => (word, None),
     }
 }
 
 fn block_of(alloc: Global, block: &Block) -> Result<BlockDef<Steps>, Fail> {
     let (name, word, capacity, work) = *block;
-    let (word, lanes) = split_lanes(word);
+    let (word, count) = split_count(word);
     let (kind, input) = kind_of(word);
     let work = match kind {
-        BlockKind::Buffer => None,
+        BlockKind::Buffer | BlockKind::Batch => None,
         _ => Some(Steps::read(alloc, work)?),
+    };
+    let (lanes, size) = match kind {
+        BlockKind::Batch => (None, count),
+        _ => (count, None),
     };
     Ok(BlockDef {
         name: Text::from_str(alloc, name)?,
@@ -264,7 +317,7 @@ fn block_of(alloc: Global, block: &Block) -> Result<BlockDef<Steps>, Fail> {
         capacity,
         work,
         lanes,
-        size: None,
+        size,
         ports: None,
         greedy: None,
     })
@@ -305,6 +358,34 @@ fn network(alloc: Global, case: &Case) -> Result<Net<Steps>, Fail> {
         Ok(net) => Ok(net),
         Err(_) => Err(Fail::new("out of memory")),
     }
+}
+
+/// A batch whose rows have no message, and one with less room than a row has; and the fault of the draft.
+const SMALL: &[(Block, PlanFault)] = &[
+    (
+        ("b", "batch/0", None, &[]),
+        PlanFault::BadOption(Place::Block(2)),
+    ),
+    (
+        ("b", "batch/3", Some(2), &[]),
+        PlanFault::CapacityBelowSize(2),
+    ),
+];
+
+#[test]
+fn small_batches_are_refused(rt: HostRuntime) -> Result<(), Fail> {
+    for (batch, fault) in SMALL {
+        let mut blocks = Vec::new(rt.alloc());
+        for block in [&IN, &PARSE, batch, &KEEP] {
+            blocks.push(block_of(rt.alloc(), block)?)?;
+        }
+        let links = Vec::new(rt.alloc());
+        let Err((_back, refusal)) = plan_check(rt.alloc(), Draft { blocks, links }) else {
+            panic!(&rt; "a plan");
+        };
+        assert!(rt; refusal == PlanRefusal::Fault(*fault));
+    }
+    Ok(())
 }
 
 #[test]
@@ -410,7 +491,7 @@ fn text_of(alloc: Global, case: &Case) -> Result<Vec<u8>, Fail> {
 
 fn add_block(alloc: Global, text: &mut Vec<u8>, block: &Block) -> Result<(), AllocError> {
     let (name, word, capacity, work) = *block;
-    let (word, lanes) = split_lanes(word);
+    let (word, count) = split_count(word);
     let kind = word.strip_suffix("*").unwrap_or(word);
     add(
         text,
@@ -420,7 +501,10 @@ fn add_block(alloc: Global, text: &mut Vec<u8>, block: &Block) -> Result<(), All
         add(text, &["input = true\n"])?;
     }
     add_number(alloc, text, "capacity = ", capacity)?;
-    add_number(alloc, text, "lanes = ", lanes)?;
+    if kind == "batch" {
+        return add_number(alloc, text, "size = ", count);
+    }
+    add_number(alloc, text, "lanes = ", count)?;
     if kind != "buffer" {
         add(text, &["work = ["])?;
         for step in work {

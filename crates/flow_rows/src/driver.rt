@@ -68,8 +68,8 @@ pub(crate) fn add(text: &mut Vec<u8>, parts: &[&str]) -> Result<(), AllocError> 
     Ok(())
 }
 
-/// The text of a chain that is drawn as `in buffer => t transform ["int"] -> out action []`: the first block is an
-/// input, and a link drawn by `=>` propagates.
+/// The text of a chain that is drawn as `in buffer => t transform ["int"] -> b batch/3`: the first block is an input, a
+/// link drawn by `=>` propagates, and the size of a batch stands after a stroke.
 pub(crate) fn chain(alloc: Global, drawn: &str) -> Result<Vec<u8>, Fail> {
     let mut text = Vec::new(alloc);
     add(&mut text, &["format = 1\n"])?;
@@ -96,6 +96,7 @@ fn add_block(
     is_input: bool,
 ) -> Result<(), AllocError> {
     let (kind, work) = others.split_once(" ").unwrap_or((others, ""));
+    let (kind, size) = kind.split_once("/").unwrap_or((kind, ""));
     let input = if is_input { "true" } else { "false" };
     let parts = [
         "[[block]]\nname = \"",
@@ -109,6 +110,9 @@ fn add_block(
     add(text, &parts)?;
     if !work.is_empty() {
         add(text, &["work = ", work, "\n"])?;
+    }
+    if !size.is_empty() {
+        add(text, &["size = ", size, "\n"])?;
     }
     Ok(())
 }
