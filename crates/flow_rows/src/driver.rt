@@ -68,8 +68,8 @@ pub(crate) fn add(text: &mut Vec<u8>, parts: &[&str]) -> Result<(), AllocError> 
     Ok(())
 }
 
-/// The text of a chain that is drawn as `in buffer => t transform ["int"] -> b batch/3`: the first block is an input, a
-/// link drawn by `=>` propagates, and the size of a batch stands after a stroke.
+/// The text of a chain that is drawn as `in buffer => t transform/4 ["int"] -> b batch/3`: the first block is an input, a
+/// link drawn by `=>` propagates, and the lanes of a block or the size of a batch stand after a stroke.
 pub(crate) fn chain(alloc: Global, drawn: &str) -> Result<Vec<u8>, Fail> {
     let mut text = Vec::new(alloc);
     add(&mut text, &["format = 1\n"])?;
@@ -96,7 +96,7 @@ fn add_block(
     is_input: bool,
 ) -> Result<(), AllocError> {
     let (kind, work) = others.split_once(" ").unwrap_or((others, ""));
-    let (kind, size) = kind.split_once("/").unwrap_or((kind, ""));
+    let (kind, count) = kind.split_once("/").unwrap_or((kind, ""));
     let input = if is_input { "true" } else { "false" };
     let parts = [
         "[[block]]\nname = \"",
@@ -111,8 +111,13 @@ fn add_block(
     if !work.is_empty() {
         add(text, &["work = ", work, "\n"])?;
     }
-    if !size.is_empty() {
-        add(text, &["size = ", size, "\n"])?;
+    if !count.is_empty() {
+        let key = if kind == "batch" {
+            "size = "
+        } else {
+            "lanes = "
+        };
+        add(text, &[key, count, "\n"])?;
     }
     Ok(())
 }
