@@ -257,7 +257,7 @@ const CASES: &[Case] = &[
 ];
 
 /// Two chains with room for one message each, which share what one input gives.
-const SHARED: Case = (
+const SHARED: &Case = &(
     "one source, two bounded chains",
     &[
         IN,
@@ -276,6 +276,15 @@ const SHARED: Case = (
     Ending::Complete,
     &["block in done ; block b done ; block x done ; block c done ; block y done"],
 );
+
+/// The cases. A table is read here alone, since each function that names it would be proved with all of it.
+fn cases() -> &'static [Case] {
+    CASES
+}
+
+fn shared() -> &'static Case {
+    SHARED
+}
 
 /// The kind of a block by its word, and whether it is an input.
 fn kind_of(word: &str) -> (BlockKind, bool) {
@@ -390,7 +399,7 @@ fn small_batches_are_refused(rt: HostRuntime) -> Result<(), Fail> {
 
 #[test]
 fn drafts_settle(rt: HostRuntime) -> Result<(), Fail> {
-    for case in CASES {
+    for case in cases() {
         let mut net = network(rt.alloc(), case)?;
         check(&rt, case.0, settles(rt.alloc(), &mut net));
         check(&rt, case.0, came_to(rt.alloc(), &net, case.5)?.is_some());
@@ -403,7 +412,7 @@ const SEEDS: u64 = 6;
 
 #[test]
 fn seeded_schedules_come_to_the_same(rt: HostRuntime) -> Result<(), Fail> {
-    for case in CASES {
+    for case in cases() {
         for seed in 0..SEEDS {
             let mut net = network(rt.alloc(), case)?;
             let is_due = wander(&rt, rt.alloc(), &mut net, seed)?
@@ -417,7 +426,7 @@ fn seeded_schedules_come_to_the_same(rt: HostRuntime) -> Result<(), Fail> {
 // Links first, blocks first, and backwards.
 #[test]
 fn networks_come_to_rest_in_each_order(rt: HostRuntime) -> Result<(), Fail> {
-    for case in CASES {
+    for case in cases() {
         for (links_first, backwards) in [
             (true, false),
             (false, false),
@@ -468,9 +477,10 @@ fn share_twenty(alloc: Global, first: &[Value], second: &[Value]) -> Result<bool
 
 #[test]
 fn two_chains_share_what_one_source_gives(rt: HostRuntime) -> Result<(), Fail> {
-    let mut net = network(rt.alloc(), &SHARED)?;
+    let shared = shared();
+    let mut net = network(rt.alloc(), shared)?;
     assert!(rt; settles(rt.alloc(), &mut net));
-    assert!(rt; came_to(rt.alloc(), &net, SHARED.5)?.is_some());
+    assert!(rt; came_to(rt.alloc(), &net, shared.5)?.is_some());
     assert!(rt; net.plan().block_count() == 5);
     assert!(rt; share_twenty(rt.alloc(), net.record(2), net.record(4))?);
     Ok(())
@@ -567,8 +577,9 @@ fn runs_as_text(
 
 #[test]
 fn texts_of_them_run(rt: HostRuntime) -> Result<(), Fail> {
-    check(&rt, SHARED.0, runs_as_text(&rt, rt.alloc(), &SHARED)?);
-    for case in CASES {
+    let shared = shared();
+    check(&rt, shared.0, runs_as_text(&rt, rt.alloc(), shared)?);
+    for case in cases() {
         if case.4 == Ending::Complete {
             check(&rt, case.0, runs_as_text(&rt, rt.alloc(), case)?);
         }

@@ -2,10 +2,10 @@
 //! of rows.
 ghost use Rattle.std.specs.Prelude.{◌≤◌};
 
-use flow_run::{run, status, write_refusal};
+use flow_run::{Ran, RunRefusal, run, status, write_refusal};
 use flow_value::{Row, Text, Value};
 use std::alloc::{AllocError, Global};
-use std::io::Read;
+use std::io::{Read, Write};
 use std::process::Abort;
 use std::sync::Wait;
 use std::test::Fail;
@@ -44,13 +44,37 @@ pub(crate) fn told_with<R: Read + Drop>(
     requires { (1 ≤ workers) × (workers ≤ 64) }
 {
     let mut text = Vec::new(alloc);
-    let outcome = run(rt, alloc, network, records, &mut text, workers, limit);
-    if let Err(refusal) = &outcome {
+    let outcome = ran(rt, alloc, network, records, &mut text, workers, limit);
+    tell(rt, &outcome, text)
+}
+
+/// Runs a network over records. What `run` promises is not for the tests, which look at what comes of it.
+pub(crate) fn ran<R: Read + Drop, W: Write>(
+    rt: &(impl Threads + Wait + Sync),
+    alloc: Global,
+    network: &[u8],
+    records: R,
+    text: &mut W,
+    workers: u32,
+    limit: u64,
+) -> Result<Ran, RunRefusal>
+    requires { (1 ≤ workers) × (workers ≤ 64) }
+{
+    run(rt, alloc, network, records, text, workers, limit)
+}
+
+/// What a run told that came to this, and wrote this text.
+fn tell(
+    rt: &impl Abort,
+    outcome: &Result<Ran, RunRefusal>,
+    mut text: Vec<u8>,
+) -> Result<Told, Fail> {
+    if let Err(refusal) = outcome {
         assert!(rt; text.is_empty());
         write_refusal(refusal, &mut text)?;
     }
     Ok(Told {
-        status: status(&outcome),
+        status: status(outcome),
         text,
     })
 }
