@@ -222,11 +222,7 @@ impl OutEnd {
     }
 
     /// The stage after the target answered the offer of this message, and what is then not offered again.
-    pub fn answered(
-        &self,
-        header: MessageHeader,
-        status: MessageStatus,
-    ) -> (SourceStage, u64)
+    pub fn answered(&self, header: MessageHeader, status: MessageStatus) -> (SourceStage, u64)
         ensures stage { result.0 ≡ answer_stage status header }
         ensures declined { result.1 ≡ answer_declined status header self.now.declined }
     {
