@@ -1,0 +1,2 @@
+pub mod TuplesKeep
+pub mod TuplesSay

@@ -1,0 +1,2 @@
+pub mod Tuple
+pub mod Tuples

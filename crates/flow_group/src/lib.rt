@@ -1,0 +1,17 @@
+//! What a block with several ports makes of the messages that wait there.
+//!
+//! kind           what it makes a row of             when
+//! join           the first message of each port     a message waits at each port
+//! batched join   the messages that came in first,   so many came in, or some did and all ports have completed
+//!                whatever their ports
+//!
+//! Each row is copied first, and then its messages are taken off their ports, all together: between these two steps a
+//! block may put the row where it goes, and nothing has changed where that fails. The room of the messages comes back when
+//! the row is given, which is the block's to tell.
+#![tactic(auto)]
+
+mod laws;
+mod tuple;
+
+pub use laws::{no_tuple_is_torn, tuples_are_kept, tuples_tell};
+pub use tuple::{copy_tuple, has_tuple, is_join_complete, make_tuple, take_tuple};
