@@ -1,2 +1,6 @@
+pub mod GroupsCount
+pub mod GroupsCut
+pub mod GroupsKeep
+pub mod GroupsTaken
 pub mod TuplesKeep
 pub mod TuplesSay

@@ -1,2 +1,4 @@
+pub mod Group
+pub mod Groups
 pub mod Tuple
 pub mod Tuples

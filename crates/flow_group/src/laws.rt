@@ -1,4 +1,5 @@
 //! Laws about rows of several ports. Each stands on a function that does nothing: whoever calls it has the whole law.
+ghost use Rattle.flow_group.specs.Groups.{GroupsKept, GroupsTell, GroupsAreCutInOrder};
 ghost use Rattle.flow_group.specs.Tuples.{TuplesKept, TuplesTell, NoTupleIsTorn};
 
 /// What a join takes at its ports, and each tuple that it makes, keeps the law of tuples: each message stands in one
@@ -19,4 +20,25 @@ pub fn tuples_tell()
 #[tactic(auto, using(crate::proofs::TuplesKeep::no_tuple_torn))]
 pub fn no_tuple_is_torn()
     ensures { NoTupleIsTorn }
+{}
+
+/// What a batched join takes at its ports, each group that it makes, and the completion of its ports, keeps the law of
+/// groups: what came in is cut, in that order, into groups of one size and what is held, and only the last group is
+/// shorter, once all ports are completed.
+#[tactic(auto, using(crate::proofs::GroupsKeep::groups_kept))]
+pub fn groups_are_kept()
+    ensures { GroupsKept }
+{}
+
+/// By that law the rows of the groups have each port's messages in order, and as many arrivals of each port are noted as
+/// messages wait there.
+#[tactic(auto, using(crate::proofs::GroupsCut::groups_tell))]
+pub fn groups_tell()
+    ensures { GroupsTell }
+{}
+
+/// Over any calls that may be made the messages are cut into groups in the order in which they came in.
+#[tactic(auto, using(crate::proofs::GroupsCut::groups_cut))]
+pub fn groups_are_cut_in_order()
+    ensures { GroupsAreCutInOrder }
 {}

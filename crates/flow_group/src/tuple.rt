@@ -32,8 +32,8 @@ fn has_run_dry(ports: &[Intake]) -> bool
         .any(|port| port.has_ended() && port.waiting().is_empty())
 }
 
-/// Whether each of these ports is completed.
-pub(crate) fn all_ended(ports: &[Intake]) -> bool
+/// Whether each of these ports is completed: then a batched join is complete.
+pub fn all_ended(ports: &[Intake]) -> bool
     ensures { result ≡ all_ended ports.now }
 {
     ports.iter().all(|port| port.has_ended())
