@@ -1,12 +1,11 @@
 -- Arrivals by their ports, and how many a group has.
-use Rattle.std.proofs.Common.{◌≡◌, ℕ, zero, suc, ◌+◌, ◌<◌, ◌≤◌, ◌==◌, ltb, cond, Bool, true, false, ◌&&◌, List, [], ◌∷◌, ◌++◌, length, get_or, map, take, drop, pos, refl, ap, sym, ◌∙◌, subst, arith, append-nil, append_assoc, length-append}
-use Rattle.std.proofs.lemmas.Bool.{and_from, and_parts, eqb-true, eqb-false, ne_eqb, ltb-true, cases_eq}
+use Rattle.std.proofs.Common.{◌≡◌, ℕ, zero, suc, ◌+◌, ◌<◌, ◌≤◌, ◌==◌, ltb, cond, Bool, true, false, List, [], ◌∷◌, ◌++◌, length, get_or, map, take, drop, refl, ap, sym, ◌∙◌, arith, append-nil, append_assoc, length-append}
+use Rattle.std.proofs.lemmas.Bool.{and_from, and_parts, eqb-true, eqb-false, ne_eqb, ltb-true}
 use Rattle.std.proofs.lemmas.List.{take_at, drop_at, take-append-drop}
-use Rattle.flow_value.specs.View.{items_from, values_of, values_of-items_from}
+use Rattle.flow_value.specs.View.{values_of-items_from}
 use Rattle.flow_value.specs.declared.value.Value.{Value}
-use Rattle.flow_value.specs.declared.value.Value.TheVariants.{Int, Row}
 use Rattle.flow_link.specs.Lists.{every, below, numbers_from, concat}
-use Rattle.flow_link.specs.Making.{Arrival, arrived_at, all_items, items_of, rows_weight}
+use Rattle.flow_link.specs.Making.{Arrival, arrived_at, all_items, rows_weight}
 use Rattle.flow_group.specs.Group.{came_at, row_of}
 use Rattle.flow_group.specs.Groups.{group_row}
 

@@ -1,21 +1,20 @@
 -- What the law of groups says, and that it holds over any calls that may be made.
-use Rattle.std.proofs.Common.{◌≡◌, ℕ, zero, suc, ◌+◌, ◌<◌, ◌==◌, ltb, cond, not, Bool, true, false, ◌&&◌, List, [], ◌∷◌, ◌++◌, length, get_or, set, map, take, drop, None, pos, refl, ap, sym, ◌∙◌, subst, arith, append-nil, append_assoc, eq-eqb}
-use Rattle.std.specs.List.{list_all}
-use Rattle.std.proofs.lemmas.Bool.{and_from, and_parts}
+use Rattle.std.proofs.Common.{◌≡◌, ℕ, zero, suc, ◌<◌, ◌==◌, ltb, Bool, true, false, ◌&&◌, List, [], ◌∷◌, ◌++◌, length, get_or, set, map, take, drop, None, pos, refl, ap, sym, ◌∙◌, subst, arith, append-nil, append_assoc, eq-eqb}
+use Rattle.std.proofs.lemmas.Bool.{and_from}
 use Rattle.std.proofs.lemmas.List.{length-map, length-set, get_or-set_same, take_at, drop_at}
-use Rattle.flow_value.specs.View.{items_from, values_of, values_of-items_from}
+use Rattle.flow_value.specs.View.{values_of-items_from}
 use Rattle.flow_value.specs.declared.value.Value.{Value}
 use Rattle.flow_value.specs.declared.value.Value.TheVariants.{Int}
 use Rattle.flow_link.specs.Lists.{every, below, numbers_from, concat, same_values}
 use Rattle.flow_link.specs.Making.{Arrival, arrived_at, all_items, column, items_of, is_row, is_any_row, is_group, are_cut, rows_weight}
-use Rattle.flow_link.proofs.ListTests.{every_below, length_numbers, same_values_where}
+use Rattle.flow_link.proofs.ListTests.{every_below, same_values_where}
 use Rattle.flow_intake.specs.Port.{EndState, PortState, fresh_port}
 use Rattle.flow_intake.specs.PortLaw.{has_ended}
 use Rattle.flow_intake.specs.Calls.{takes}
-use Rattle.flow_group.specs.Group.{came_at, row_of, group_of, takes_from, takes_group}
+use Rattle.flow_group.specs.Group.{came_at, row_of, takes_from}
 use Rattle.flow_group.specs.Groups.{GroupsLaw, GroupsTell, GroupsSay, GroupsAreCutInOrder, Call, Course, IsAllowed, AllAllowed, after, after_all, group_row, arrival_at, came_by, came_in, fresh_course}
 use Rattle.flow_group.specs.Tuple.{held_at, all_ended}
-use Rattle.flow_group.specs.Tuples.{SameHeld, only_at}
+use Rattle.flow_group.specs.Tuples.{only_at}
 use Rattle.flow_group.proofs.GroupsCount.{every_parts, at_number, arrived_append, counted, weight_of_group}
 use Rattle.flow_group.proofs.GroupsKeep.{groups_kept, make_keeps, same_keeps}
 use Rattle.flow_group.proofs.TuplesKeep.{held_by_take}

@@ -1,9 +1,9 @@
 -- Each call keeps the law of groups.
-use Rattle.std.proofs.Common.{◌≡◌, ℕ, zero, suc, ◌+◌, ◌<◌, ◌≤◌, ◌==◌, ltb, leb, cond, not, Bool, true, false, ◌&&◌, ◌||◌, List, [], ◌∷◌, ◌++◌, length, get_or, map, take, drop, min, refl, ap, sym, ◌∙◌, subst, arith, append_assoc, eq-eqb}
+use Rattle.std.proofs.Common.{◌≡◌, ℕ, zero, suc, ◌+◌, ◌<◌, ◌≤◌, ltb, leb, not, Bool, true, false, ◌&&◌, ◌||◌, List, [], ◌∷◌, ◌++◌, length, map, take, drop, min, refl, ap, sym, ◌∙◌, subst, arith, append_assoc, eq-eqb}
 use Rattle.std.proofs.lemmas.Bool.{and_from, and_parts, or_left, or_right, lt-ltb, le-leb, leb-true, leb-false}
 use Rattle.std.proofs.lemmas.List.{length-map, map-append, take-map, drop-map, drop_all, length-take, take-append-drop}
 use Rattle.flow_value.specs.declared.value.Value.{Value}
-use Rattle.flow_link.specs.Lists.{every, is_empty, below, numbers_from, concat}
+use Rattle.flow_link.specs.Lists.{every, is_empty, numbers_from, concat}
 use Rattle.flow_link.specs.Making.{Arrival, arrived_at, are_groups, rows_weight}
 use Rattle.flow_link.proofs.OneMoreMark.{every_more}
 use Rattle.flow_intake.specs.Port.{PortState}

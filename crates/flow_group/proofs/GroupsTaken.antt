@@ -1,5 +1,5 @@
 -- The messages of the next group, copied and taken off one by one.
-use Rattle.std.proofs.Common.{◌≡◌, ℕ, zero, suc, ◌+◌, ◌<◌, ◌==◌, cond, Bool, List, [], ◌∷◌, ◌++◌, length, set, get_or, take, drop, min, refl, ap, sym, ◌∙◌, subst, arith, append_assoc}
+use Rattle.std.proofs.Common.{◌≡◌, ℕ, zero, suc, ◌+◌, ◌<◌, ◌==◌, cond, List, [], ◌∷◌, ◌++◌, length, set, get_or, take, drop, min, refl, ap, sym, ◌∙◌, arith, append_assoc}
 use Rattle.std.proofs.Math.Seq.{drop-nil}
 use Rattle.std.proofs.lemmas.List.{take_min, drop_min, drop_more, take_more, take_more_set, drop-set-lt}
 use Rattle.flow_value.specs.declared.value.Value.{Value}

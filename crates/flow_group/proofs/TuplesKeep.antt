@@ -1,17 +1,17 @@
 -- Each call keeps the law of tuples, and so do any calls that may be made.
-use Rattle.std.proofs.Common.{◌≡◌, ℕ, zero, suc, ◌+◌, ◌<◌, ◌==◌, cond, not, Bool, true, false, ◌&&◌, List, [], ◌∷◌, ◌++◌, length, get_or, set, map, drop, None, pos, refl, ap, sym, ◌∙◌, subst, arith, append-nil, append_assoc, eq-eqb}
+use Rattle.std.proofs.Common.{◌≡◌, ℕ, zero, suc, ◌<◌, ◌==◌, cond, not, Bool, true, false, List, [], ◌∷◌, ◌++◌, length, get_or, set, map, drop, None, pos, refl, ap, sym, ◌∙◌, subst, arith, append-nil, append_assoc, eq-eqb}
 use Rattle.std.proofs.lemmas.Bool.{and_parts, eqb-true, eqb-false}
 use Rattle.std.proofs.lemmas.List.{length-map, map-append, length-set, get_or-set_same, get_or-set_other}
 use Rattle.flow_value.specs.View.{items_from, values_of, values_of-items_from}
 use Rattle.flow_value.specs.declared.value.Value.{Value}
-use Rattle.flow_value.specs.declared.value.Value.TheVariants.{Int, Row}
-use Rattle.flow_link.specs.Lists.{every, is_empty}
+use Rattle.flow_value.specs.declared.value.Value.TheVariants.{Int}
+use Rattle.flow_link.specs.Lists.{is_empty}
 use Rattle.flow_link.specs.Making.{is_row, column, items_of}
 use Rattle.flow_link.proofs.OneMoreMark.{every_more}
 use Rattle.flow_intake.specs.Port.{EndState, PortState, fresh_port}
 use Rattle.flow_intake.specs.Calls.{takes, takes_next}
 use Rattle.flow_group.specs.Tuple.{held_at, has_first, has_tuple, first_at, tuple_of, takes_tuple}
-use Rattle.flow_group.specs.Tuples.{TuplesLaw, TuplesKept, NoTupleIsTorn, Call, Course, SameHeld, IsAllowed, AllAllowed, after, after_all, only_at, taken_by, taken_in}
+use Rattle.flow_group.specs.Tuples.{TuplesLaw, TuplesKept, NoTupleIsTorn, Call, Course, IsAllowed, AllAllowed, after, after_all, only_at, taken_by, taken_in}
 
 none : Value
 none = Int (pos 0)

@@ -1,12 +1,13 @@
 -- What the law of tuples says of each port, and of each tuple.
-use Rattle.std.proofs.Common.{◌≡◌, ℕ, zero, suc, ◌+◌, ◌<◌, ◌≤◌, ◌==◌, Bool, true, List, [], ◌∷◌, ◌++◌, length, get_or, map, drop, pos, refl, ap, sym, ◌∙◌, subst, arith, length-append}
+use Rattle.std.proofs.Common.{◌≡◌, ℕ, zero, suc, ◌+◌, ◌<◌, true, List, [], ◌∷◌, ◌++◌, length, get_or, map, drop, pos, refl, ap, sym, ◌∙◌, arith, length-append}
 use Rattle.std.proofs.lemmas.Bool.{and_parts, eqb-true}
-use Rattle.std.proofs.lemmas.List.{length-map, drop_at, get_or_append_left, same_lists}
+use Rattle.std.proofs.lemmas.List.{length-map, drop_at, get_or_append_left}
 use Rattle.flow_value.specs.View.{items_from, values_of, items_from-values_of}
 use Rattle.flow_value.specs.declared.value.Value.{Value}
 use Rattle.flow_value.specs.declared.value.Value.TheVariants.{Int, Text, Row}
-use Rattle.flow_link.specs.Lists.{every, below, numbers_from}
+use Rattle.flow_link.specs.Lists.{every, below, numbers_from, same_values}
 use Rattle.flow_link.specs.Making.{is_row, column, items_of}
+use Rattle.flow_link.proofs.ListTests.{every_below, same_values_where}
 use Rattle.flow_group.specs.Tuples.{TuplesLaw, TuplesTell, PortInTuples}
 
 -- the values at one place, by the number of their tuple
@@ -69,5 +70,11 @@ tuple_is count took tuples held law i l =
     ∙ sym (get_or_append_left (column p tuples) (held p) (Int (pos 0)) i front)
     ∙ ap (λ (values : List Value). get_or values i (Int (pos 0))) (sym (law.in_order p there)))
 
+makes_tuples : (count : ℕ) (took : ℕ → List Value) (tuples : List Value) (held : ℕ → List Value) → TuplesLaw count took tuples held
+    → every (λ p. same_values (took p) (column p tuples ++ held p)) (below count) ≡ true
+makes_tuples count took tuples held law =
+    every_below (λ p. same_values (took p) (column p tuples ++ held p)) count
+    (λ p l. same_values_where (took p) (column p tuples ++ held p) (law.in_order p l))
+
 pub tuples_tell : TuplesTell
-tuples_tell = record { each = port_in_tuples; tuple = tuple_is }
+tuples_tell = record { each = port_in_tuples; tuple = tuple_is; makes = makes_tuples }

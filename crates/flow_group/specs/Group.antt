@@ -1,11 +1,10 @@
 -- A group of a batched join: the messages that came in first, whatever their ports.
-use Rattle.std.specs.Prelude.{ℕ, zero, suc, ◌+◌, ◌==◌, leb, cond, Bool, ◌&&◌, ◌||◌, not, List, [], ◌∷◌, length, take, drop}
+use Rattle.std.specs.Prelude.{ℕ, suc, ◌+◌, ◌==◌, leb, cond, Bool, ◌&&◌, ◌||◌, not, List, [], ◌∷◌, length, take, drop}
 use Rattle.flow_value.specs.View.{items_from}
 use Rattle.flow_value.specs.declared.value.Value.{Value}
 use Rattle.flow_value.specs.declared.value.Value.TheVariants.{Row}
 use Rattle.flow_link.specs.Lists.{is_empty}
 use Rattle.flow_intake.specs.Port.{PortState}
-use Rattle.flow_group.specs.Tuple.{all_ended}
 
 -- the order in which messages came in
 pub record ArrivalsState : Type 0 where

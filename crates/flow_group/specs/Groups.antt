@@ -1,6 +1,6 @@
 -- What a batched join makes of what it takes, over any calls: its messages are cut into groups in the order in which they
 -- came in, and each group is a row of rows, one for each port.
-use Rattle.std.specs.Prelude.{◌≡◌, ℕ, ◌+◌, ◌<◌, ◌==◌, ltb, cond, Bool, true, false, ◌&&◌, ◌||◌, List, [], ◌∷◌, ◌++◌, length, get_or, set, map, drop, None}
+use Rattle.std.specs.Prelude.{◌≡◌, ℕ, ◌<◌, ◌==◌, ltb, Bool, true, false, ◌&&◌, ◌||◌, List, [], ◌∷◌, ◌++◌, length, get_or, set, map, drop, None}
 use Rattle.flow_value.specs.declared.value.Value.{Value}
 use Rattle.flow_link.specs.Lists.{every, is_empty, below, concat}
 use Rattle.flow_link.specs.Making.{Arrival, arrived_at, all_items, column, are_groups, are_cut, rows_weight}

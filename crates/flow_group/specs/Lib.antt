@@ -1,4 +1,5 @@
 pub mod Group
 pub mod Groups
+pub mod Taken
 pub mod Tuple
 pub mod Tuples

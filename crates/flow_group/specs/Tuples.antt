@@ -1,10 +1,10 @@
 -- What a join makes of what it takes, over any calls: each message stands in one tuple, at its port's place and in order, or
 -- is held.
-use Rattle.std.specs.Prelude.{◌≡◌, ℕ, ◌+◌, ◌<◌, ◌==◌, cond, Bool, true, List, [], ◌∷◌, ◌++◌, length, get_or, set, map, drop, None, pos}
+use Rattle.std.specs.Prelude.{◌≡◌, ℕ, ◌+◌, ◌<◌, ◌==◌, cond, true, List, [], ◌∷◌, ◌++◌, length, get_or, set, map, drop, None, pos}
 use Rattle.flow_value.specs.View.{items_from}
 use Rattle.flow_value.specs.declared.value.Value.{Value}
 use Rattle.flow_value.specs.declared.value.Value.TheVariants.{Int, Row}
-use Rattle.flow_link.specs.Lists.{every, below}
+use Rattle.flow_link.specs.Lists.{every, below, same_values}
 use Rattle.flow_link.specs.Making.{is_row, column}
 use Rattle.flow_intake.specs.Port.{EndState, PortState, fresh_port}
 use Rattle.flow_intake.specs.Calls.{takes}
@@ -51,6 +51,9 @@ pub record TuplesTell : Type 0 where
   pub tuple : (count : ℕ) (took : ℕ → List Value) (tuples : List Value) (held : ℕ → List Value) → TuplesLaw count took tuples held
       → (i : ℕ) → i < length tuples
       → get_or tuples i (Int (pos 0)) ≡ Row (items_from (map (λ p. get_or (took p) i (Int (pos 0))) (below count)))
+  -- what each port took is what the tuples have of it and what it holds, as a run's law tests it
+  pub makes : (count : ℕ) (took : ℕ → List Value) (tuples : List Value) (held : ℕ → List Value) → TuplesLaw count took tuples held
+      → every (λ p. same_values (took p) (column p tuples ++ held p)) (below count) ≡ true
 
 -- Over any calls
 

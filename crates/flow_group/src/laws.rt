@@ -1,5 +1,6 @@
 //! Laws about rows of several ports. Each stands on a function that does nothing: whoever calls it has the whole law.
 ghost use Rattle.flow_group.specs.Groups.{GroupsKept, GroupsTell, GroupsAreCutInOrder};
+ghost use Rattle.flow_group.specs.Taken.{PortsTaken, NothingMore};
 ghost use Rattle.flow_group.specs.Tuples.{TuplesKept, TuplesTell, NoTupleIsTorn};
 
 /// What a join takes at its ports, and each tuple that it makes, keeps the law of tuples: each message stands in one
@@ -41,4 +42,17 @@ pub fn groups_tell()
 #[tactic(auto, using(crate::proofs::GroupsCut::groups_cut))]
 pub fn groups_are_cut_in_order()
     ensures { GroupsAreCutInOrder }
+{}
+
+/// A tuple takes the first message of each port, and a group those of its arrivals, and nothing else changes at the ports.
+#[tactic(auto, using(crate::proofs::PortsTaken::ports_taken))]
+pub fn ports_give_what_is_taken()
+    ensures { PortsTaken }
+{}
+
+/// A join that has no tuple has a port that holds nothing. A batched join that has no next group holds fewer messages
+/// than a group has, and none where all ports are completed.
+#[tactic(auto, using(crate::proofs::PortsTaken::nothing_more))]
+pub fn nothing_more_is_made()
+    ensures { NothingMore }
 {}
