@@ -1,5 +1,7 @@
 //! Laws about rows of several ports. Each stands on a function that does nothing: whoever calls it has the whole law.
+ghost use Rattle.flow_group.specs.Examples.{GroupExamples};
 ghost use Rattle.flow_group.specs.Groups.{GroupsKept, GroupsTell, GroupsAreCutInOrder};
+ghost use Rattle.flow_group.specs.Journal.{JournalsTell};
 ghost use Rattle.flow_group.specs.Taken.{PortsTaken, NothingMore};
 ghost use Rattle.flow_group.specs.Tuples.{TuplesKept, TuplesTell, NoTupleIsTorn};
 
@@ -55,4 +57,17 @@ pub fn ports_give_what_is_taken()
 #[tactic(auto, using(crate::proofs::PortsTaken::nothing_more))]
 pub fn nothing_more_is_made()
     ensures { NothingMore }
+{}
+
+/// What came in at a port, by a journal, is what was taken there, and one more Took mark adds its message to both.
+#[tactic(auto, using(crate::proofs::JournalsTell::journals_tell))]
+pub fn journals_tell_arrivals()
+    ensures { JournalsTell }
+{}
+
+/// There are tuples and groups of a few messages as one expects them. The laws refuse a tuple whose ports are exchanged or
+/// of which one is ahead, a message that is lost, a group cut at the wrong arrival, and one that is short too soon.
+#[tactic(auto, using(crate::proofs::ExamplesHold::group_examples))]
+pub fn groups_in_order_and_not()
+    ensures { GroupExamples }
 {}
