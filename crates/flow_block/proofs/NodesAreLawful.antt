@@ -42,7 +42,7 @@ use Rattle.flow_block.specs.Node.{NodeState, in_view}
 use Rattle.flow_block.specs.NodeLaw.{NodeLaw, MakesAs, RowsLaw, is_whole, RefusesFor as RefusesBy, refuses_over, run_seen_by, is_fault_seen}
 use Rattle.flow_block.specs.NodeSeen.{IsNodeOf, NodesAreLawful}
 use Rattle.flow_block.specs.Planned.{out_place, in_place, block_makes}
-use Rattle.flow_block.proofs.CopiesIdle.{left_is_shared, view_is_shared}
+use Rattle.flow_block.proofs.CopiesIdle.{left_is_shared}
 use Rattle.flow_block.proofs.EndsTell.{ended_complete, ended_fault, ended_plain, used_up_told, ended_stage, refused_told, spoken_is_out, refusal_told, coming_told, completion_told, fault_told}
 use Rattle.flow_block.proofs.JournalTells.{stopped_tells, every_mark, complete_own, done_outcome, done_marked, fault_marked, passed_by}
 use Rattle.flow_block.proofs.KindsBuilt.{by_kind, planned_built}
@@ -304,7 +304,7 @@ module _ {W : Type 0} (run : Run W) (ends : ℕ → Ends) (b : ℕ) (node : Node
       → (ends l).source.stage ≡ source_stage_of (end_from l).stage
   seen_out l small begins =
       ap (λ (view : views.SourceView Value). view.stage)
-      (is.sources l small begins ∙ view_is_shared run.layout run.meaning b node law (place_of l))
+      (is.sources l small begins)
 
   refused_seen : (l : ℕ) → l < length run.layout.links → (link_of run l).source ≡ Block b
       → refuses_over node.block.exits.ends l ≡ true → is_refused_stage (ends l).source.stage ≡ true
@@ -375,7 +375,7 @@ module _ {W : Type 0} (run : Run W) (ends : ℕ → Ends) (b : ℕ) (node : Node
 
   source_keeps : (l : ℕ) → l < length run.layout.links → (link_of run l).source ≡ Block b → SourceKeeps run ends l b
   source_keeps l small begins =
-      let view = is.sources l small begins ∙ view_is_shared run.layout run.meaning b node law (place_of l) in
+      let view = is.sources l small begins in
       let has = from_has l small begins in
       let end = end_from l in
       let mine = law.gave.each (place_of l) has.there in

@@ -30,7 +30,6 @@ use Rattle.flow_block.specs.NodeRests.{HasNothingToDo, NoneReserve, NodesAreStil
 use Rattle.flow_block.specs.NodeSeen.{IsNodeOf}
 use Rattle.flow_block.specs.Peeks.{is_held_up}
 use Rattle.flow_block.specs.Planned.{out_place, in_place}
-use Rattle.flow_block.proofs.CopiesIdle.{view_is_shared}
 use Rattle.flow_block.proofs.PlacesOfLinks.{end_in_of, end_out_is, end_out_of, there_at_source}
 use Rattle.flow_block.proofs.TestsTell.{some_is}
 
@@ -99,7 +98,7 @@ module _ {W : Type 0} (run : Run W) (ends : ℕ → Ends) (b : ℕ) (node : Node
 
   source_is : (l : ℕ) → l < length run.layout.links → (link_of run l).source ≡ Block b
       → (ends l).source.stage ≡ source_stage_of (stage_at exits (place l))
-  source_is l small from = ap (λ (view : SourceView Value). view.stage) (part.sources l small from ∙ view_is_shared run.layout run.meaning b node law (out_place run.layout b l))
+  source_is l small from = ap (λ (view : SourceView Value). view.stage) (part.sources l small from)
 
   target_is : (l p : ℕ) → l < length run.layout.links → (link_of run l).target ≡ Port b p
       → (ends l).target.stage ≡ target_stage_of (port_stage (in_place run.layout b p l) (port_at p node.block))
