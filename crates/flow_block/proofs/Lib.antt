@@ -7,8 +7,6 @@ pub mod FaultsSeen
 pub mod FreshNodes
 pub mod GaveHolds
 pub mod GoingOn
-pub mod GroupsOfRows
-pub mod GroupsTaken
 pub mod InputsAreParts
 pub mod InputsInOrder
 pub mod JobsBack
@@ -22,7 +20,6 @@ pub mod JournalTells
 pub mod KindsBuilt
 pub mod LoadHolds
 pub mod MakesHold
-pub mod MakingGoesOn
 pub mod MarksFit
 pub mod MarksHold
 pub mod MovesOut
@@ -42,7 +39,6 @@ pub mod PortEnds
 pub mod PortsChange
 pub mod PortsHold
 pub mod RoomFits
-pub mod RowsHold
 pub mod ShapeHolds
 pub mod SourceStands
 pub mod StandsInOrder

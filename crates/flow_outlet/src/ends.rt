@@ -192,7 +192,7 @@ impl OutEnd {
     }
 
     /// The end after it gave the message with this id.
-    pub fn gave(self, id: u64) -> OutEnd
+    pub(crate) fn gave(self, id: u64) -> OutEnd
         requires { HasRoom self.rule.max self.given }
         ensures { result ≡ given_end id self }
     {
@@ -222,7 +222,11 @@ impl OutEnd {
     }
 
     /// The stage after the target answered the offer of this message, and what is then not offered again.
-    pub fn answered(&self, header: MessageHeader, status: MessageStatus) -> (SourceStage, u64)
+    pub(crate) fn answered(
+        &self,
+        header: MessageHeader,
+        status: MessageStatus,
+    ) -> (SourceStage, u64)
         ensures stage { result.0 ≡ answer_stage status header }
         ensures declined { result.1 ≡ answer_declined status header self.now.declined }
     {
@@ -238,7 +242,7 @@ impl OutEnd {
     }
 
     /// The end after it forgot that an offer was postponed.
-    pub fn forgotten(self) -> OutEnd
+    fn forgotten(self) -> OutEnd
         ensures { result ≡ forgotten self }
     {
         match self.stage {

@@ -25,8 +25,6 @@ mod outlet;
 #[cfg(test)]
 mod refused;
 #[cfg(test)]
-mod scripts;
-#[cfg(test)]
 mod texts;
 #[cfg(test)]
 mod values;

@@ -102,11 +102,6 @@ const BLOCK: &[Key] = &[
         form: Form::Count,
         is_required: false,
     },
-    Key {
-        name: "size",
-        form: Form::Count,
-        is_required: false,
-    },
 ];
 
 const LINK: &[Key] = &[
@@ -159,7 +154,6 @@ pub(super) fn kind_of(word: &str) -> Option<BlockKind>
         "action" => Some(BlockKind::Action),
         "transform" => Some(BlockKind::Transform),
         "transform_many" => Some(BlockKind::TransformMany),
-        "batch" => Some(BlockKind::Batch),
         _ => None,
     }
 }
