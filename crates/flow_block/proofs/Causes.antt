@@ -29,7 +29,7 @@ use Rattle.flow_block.specs.Block.{port_at}
 use Rattle.flow_block.specs.Causes.{MayRefuse, FaultsItself, FaultsInTime, OffersBefore, NextMovesHaveCauses}
 use Rattle.flow_block.specs.Node.{NodeState}
 use Rattle.flow_block.specs.NodeLaw.{NodeLaw}
-use Rattle.flow_block.specs.Peeks.{could_stop, nothing_comes, holds_nothing, fault_at_ports, fault_cause, is_held_up}
+use Rattle.flow_block.specs.Peeks.{is_worked_off, could_stop, nothing_comes, fault_at_ports, fault_cause, is_held_up}
 
 -- a move that an answer is
 answer_refuses : (answer : MessageStatus) → move_of answer ≡ Some move.Refuse → answer ≡ status.DecliningPermanently
@@ -170,8 +170,8 @@ module _ {W : Type 0} (layout : Layout W) (meaning : ℕ → Value → Result (L
   refuses_for p here (Some OwnFault) is there = inr (own_cause node.block.fault refl (law.ends.own_fault p here is))
 
   -- a fault that could be next
-  caused : (fault seen : Option ℕ) (nothing : Bool) (number : ℕ) → node.block.fault ≡ fault → holds_nothing node.block.ports ≡ nothing
-      → first_some fault (cond nothing seen None) ≡ Some number → FaultsItself layout meaning b node number ⊎ (holds_nothing node.block.ports ≡ true)
+  caused : (fault seen : Option ℕ) (nothing : Bool) (number : ℕ) → node.block.fault ≡ fault → is_worked_off node.block ≡ nothing
+      → first_some fault (cond nothing seen None) ≡ Some number → FaultsItself layout meaning b node number ⊎ (is_worked_off node.block ≡ true)
   caused (Some own) seen nothing number is held e =
       let same : own ≡ number = cc in
       inl (law.makes.fault_is number (is ∙ ap Some same))
@@ -183,7 +183,7 @@ module _ {W : Type 0} (layout : Layout W) (meaning : ℕ → Value → Result (L
   in_time true true number stops rests e = record {
     none_comes = (and_parts (is_none node.block.stopped) (nothing_comes node.block.ports) stops).1;
     none_away = rests;
-    cause = caused node.block.fault (fault_at_ports node.block.ports) (holds_nothing node.block.ports) number refl refl e;
+    cause = caused node.block.fault (fault_at_ports node.block.ports) (is_worked_off node.block) number refl refl e;
   }
   in_time true false number stops rests e = absurd (cc)
   in_time false rests number stops is e = absurd (cc)

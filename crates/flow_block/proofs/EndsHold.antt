@@ -1,6 +1,6 @@
 -- Each call keeps what a node says of how it ends.
-use Rattle.std.proofs.Common.{◌≡◌, ℕ, ◌<◌, ◌==◌, ◌⊎◌, true, false, List, [], ◌∷◌, ◌++◌, length, set, map, Option, Some, None, is_some, Result, Ok, Err, refl, ap, sym, ◌∙◌, inl, inr, ⊎_elim, arith, eq-eqb, eqb-true}
-use Rattle.std.proofs.lemmas.Bool.{ne_eqb}
+use Rattle.std.proofs.Common.{◌≡◌, ℕ, ◌<◌, leb, ltb, ◌==◌, ◌⊎◌, cond, not, ◌&&◌, ◌||◌, Bool, true, false, List, [], ◌∷◌, ◌++◌, length, set, map, Option, Some, None, is_some, Result, Ok, Err, refl, ap, sym, ◌∙◌, inl, inr, ⊎_elim, arith, eq-eqb, eqb-true, subst}
+use Rattle.std.proofs.lemmas.Bool.{ne_eqb, and_from, or_left, or_right, leb-false, lt-ltb}
 use Rattle.std.proofs.lemmas.List.{length-map, length-set}
 use Rattle.flow_value.specs.declared.value.Value.{Value}
 use Rattle.flow_link.specs.declared.draft.BlockKind.{BlockKind}
@@ -22,24 +22,25 @@ use Rattle.flow_intake.specs.PortLaw.{has_ended as has_port_ended}
 use Rattle.flow_intake.specs.Calls.{message_of, is_offered, is_posted, is_postponed, is_arrived, may_be_refused, first_of, refused_by, wants, turns_down, postpones, refuses, consumes, opens, closes, looks as port_looks, takes_next, gives_room, port_closes, port_fails}
 use Rattle.flow_intake.proofs.CountsOfEnds.{hand_comes}
 use Rattle.flow_outlet.specs.Outlet.{OutletState, is_empty, head_of, gives, prepares, offers, denies, withdraws, ends_link, looks as exit_looks, is_at_rest, end_at, stage_at}
-use Rattle.flow_block.specs.Block.{BlockState, port_in, port_at, with_port, with_jobs, held_by, made_of, fails, puts_out, yields, keeps_results, makes_of, gives_out, stops_by}
+use Rattle.flow_block.specs.Block.{BlockState, port_in, port_at, with_port, with_jobs, held_by, made_of, fails, puts_out, yields, keeps_results, makes_of, is_batch, takes_group, makes_row, gives_out, stops_by}
 use Rattle.flow_block.specs.Jobs.{JobsState, begins, works_off}
 use Rattle.flow_block.specs.Node.{NodeState, NodeCall, takes_in, gives_from, in_link_at, out_link_at}
 use Rattle.flow_block.specs.NodeKeeps.{EndsKept, MayCall, InAt, MayGive, MayCompletePort, after_call}
-use Rattle.flow_block.specs.NodeLaw.{NodeLaw, EndsLaw, is_fault_seen, stops_at, outcome_in}
-use Rattle.flow_block.specs.Peeks.{fault_at_ports, holds_nothing, next_fault, may_finish}
+use Rattle.flow_block.specs.NodeLaw.{NodeLaw, ShapeLaw, EndsLaw, has_made_all, is_fault_seen, stops_at, outcome_in}
+use Rattle.flow_block.specs.Peeks.{fault_at_ports, holds_nothing, has_group, is_worked_off, next_fault, may_finish}
 use Rattle.flow_block.specs.Planned.{block_makes}
 use Rattle.flow_block.proofs.FaultsSeen.{sees_at, seen_at_ports, cause_tells}
 use Rattle.flow_block.proofs.GoingOn.{open_goes_on, away_goes_on, rest_stays, wanted_away, wish_away, waiting_away, look_stays_home, may_work_tells, may_complete_tells, may_fault_tells, may_finish_tells}
 use Rattle.flow_block.proofs.JournalTells.{goes_on, not_faulted_so, outcome_more, ended_no_more, complete_where, ended_by_complete, ended_by_fault, ended_by_done}
+use Rattle.flow_block.proofs.KindsBuilt.{has_one_port, makes_by}
 use Rattle.flow_block.proofs.PortEnds.{PortEnds, StageGoes, end_moves, port_closed, port_failed, unseen_goes, refuses_so, look_goes}
-use Rattle.flow_block.proofs.PortsChange.{each_after_one, each_after_all}
+use Rattle.flow_block.proofs.PortsChange.{kept_at_one, kept_at_all, each_after_one, each_after_all}
 use Rattle.flow_block.proofs.TestsTell.{every_tells, some_last, some_set, every_set, some_map, every_map, none_left}
 
 -- The block
 
-record BlockEnds (ports : List PortState) (exits : OutletState) (fault : Option ℕ) (stopped : Option Outcome)
-    (journal : List Mark) : Type 0 where
+record BlockEnds (made_all : Bool) (ports : List PortState) (exits : OutletState) (fault : Option ℕ)
+    (stopped : Option Outcome) (journal : List Mark) : Type 0 where
   stopped_is : stopped ≡ outcome_in journal
   at_rest : is_some stopped ≡ true → is_at_rest exits ≡ true
   done_empty : stopped ≡ Some outcome.Done → (holds_nothing ports ≡ true) × (exits.left ≡ [])
@@ -47,13 +48,31 @@ record BlockEnds (ports : List PortState) (exits : OutletState) (fault : Option 
   fault_cause : (number : ℕ) → has_fault number journal ≡ true
       → (fault ≡ Some number) ⊎ (some (λ (port : PortState). sees_at number port) ports ≡ true)
   faulted_by : (number : ℕ) → stopped ≡ Some (outcome.Faulted number)
-      → (fault ≡ Some number) ⊎ ((fault ≡ None) × (holds_nothing ports ≡ true))
+      → (fault ≡ Some number) ⊎ ((fault ≡ None) × (made_all ≡ true))
+
+made_all_same : (block after : BlockState) (journal later : List Mark) → after.kind ≡ block.kind → after.size ≡ block.size
+    → held_by after ≡ held_by block → holds_nothing after.ports ≡ holds_nothing block.ports
+    → has_complete 0 later ≡ has_complete 0 journal → has_made_all after later ≡ has_made_all block journal
+made_all_same block after journal later kind size held holds complete = rw (kind, size, held, holds, complete) refl
+
+-- a batch that has no group left to make
+pub no_group_left : (held : List Value) (size : ℕ) (enough ended complete : Bool) → 0 < size → leb size (length held) ≡ enough
+    → (ended ≡ false → complete ≡ false) → not (not (is_empty held) && (enough || ended)) ≡ true
+    → (ltb (length held) size && (not complete || is_empty held)) ≡ true
+no_group_left [] size enough ended complete some here unended none =
+    and_from (ltb 0 size) (not complete || true) (lt-ltb 0 size some) (or_right (not complete) true refl)
+no_group_left (value ∷ held) size true ended complete some here unended none = absurd (cc)
+no_group_left (value ∷ held) size false true complete some here unended none = absurd (cc)
+no_group_left (value ∷ held) size false false complete some here unended none =
+    let short = leb-false size (length (value ∷ held)) here in
+    and_from (ltb (length (value ∷ held)) size) (not complete || false) (lt-ltb (length (value ∷ held)) size (omega (arith, short)))
+    (or_left (not complete) false (ap not (unended refl)))
 
 -- one that goes on has no end to account for
-going_ends : (ports : List PortState) (exits : OutletState) (fault : Option ℕ) (stopped : Option Outcome)
+going_ends : (made_all : Bool) (ports : List PortState) (exits : OutletState) (fault : Option ℕ) (stopped : Option Outcome)
     (journal : List Mark)
-    → stopped ≡ None → outcome_in journal ≡ None → BlockEnds ports exits fault stopped journal
-going_ends ports exits fault stopped journal none going = record {
+    → stopped ≡ None → outcome_in journal ≡ None → BlockEnds made_all ports exits fault stopped journal
+going_ends made_all ports exits fault stopped journal none going = record {
   stopped_is = none ∙ sym going;
   at_rest = λ is. let never : false ≡ true = ap is_some (sym none) ∙ is in absurd (cc);
   done_empty = λ is. let never = sym none ∙ is in absurd (cc);
@@ -63,12 +82,12 @@ going_ends ports exits fault stopped journal none going = record {
 }
 
 -- its exits change
-exits_move : (ports : List PortState) (exits after : OutletState) (fault : Option ℕ) (stopped : Option Outcome)
+exits_move : (made_all : Bool) (ports : List PortState) (exits after : OutletState) (fault : Option ℕ) (stopped : Option Outcome)
     (journal : List Mark)
-    → BlockEnds ports exits fault stopped journal → after.left ≡ exits.left
+    → BlockEnds made_all ports exits fault stopped journal → after.left ≡ exits.left
     → (is_at_rest exits ≡ true → is_at_rest after ≡ true)
-    → BlockEnds ports after fault stopped journal
-exits_move ports exits after fault stopped journal law left rest = record {
+    → BlockEnds made_all ports after fault stopped journal
+exits_move made_all ports exits after fault stopped journal law left rest = record {
   stopped_is = law.stopped_is;
   at_rest = λ is. rest (law.at_rest is);
   done_empty = λ is. let empty = law.done_empty is in (empty.0, left ∙ empty.1);
@@ -78,12 +97,12 @@ exits_move ports exits after fault stopped journal law left rest = record {
 }
 
 -- one port changes, and holds what it held
-port_moves : (ports : List PortState) (exits : OutletState) (fault : Option ℕ) (stopped : Option Outcome)
+port_moves : (made_all : Bool) (ports : List PortState) (exits : OutletState) (fault : Option ℕ) (stopped : Option Outcome)
     (journal : List Mark) (p : ℕ) (port : PortState)
-    → BlockEnds ports exits fault stopped journal → port.waiting ≡ (port_in ports p).waiting
+    → BlockEnds made_all ports exits fault stopped journal → port.waiting ≡ (port_in ports p).waiting
     → ((number : ℕ) → sees_at number (port_in ports p) ≡ true → sees_at number port ≡ true)
-    → BlockEnds (set ports p port) exits fault stopped journal
-port_moves ports exits fault stopped journal p port law waiting seen =
+    → BlockEnds made_all (set ports p port) exits fault stopped journal
+port_moves made_all ports exits fault stopped journal p port law waiting seen =
     let holds =
     every_set (λ (q : PortState). is_empty q.waiting) ports p port (fresh_port None) (ap is_empty waiting) in
     record {
@@ -96,8 +115,7 @@ port_moves ports exits fault stopped journal p port law waiting seen =
           (λ there. inr
           (some_set (λ (q : PortState). sees_at number q) ports p port (fresh_port None) (seen number) there))
           (law.fault_cause number is);
-      faulted_by =
-          λ number is. ⊎_elim (λ own. inl own) (λ none. inr (none.0, holds ∙ none.1)) (law.faulted_by number is);
+      faulted_by = law.faulted_by;
     }
 
 module _ {W : Type 0} (layout : Layout W) (meaning : ℕ → Value → Result (List Value) ℕ) (b : ℕ) where
@@ -120,7 +138,7 @@ module _ {W : Type 0} (layout : Layout W) (meaning : ℕ → Value → Result (L
   }
 
   whole : (block : BlockState) (journal : List Mark) → Ends block journal
-      → BlockEnds block.ports block.exits block.fault block.stopped journal
+      → BlockEnds (has_made_all block journal) block.ports block.exits block.fault block.stopped journal
   whole block journal law = record {
     stopped_is = law.stopped_is;
     at_rest = law.at_rest;
@@ -132,7 +150,8 @@ module _ {W : Type 0} (layout : Layout W) (meaning : ℕ → Value → Result (L
 
   both : (block : BlockState) (journal : List Mark)
       → ((p : ℕ) → p < length block.ports → PortEndsBy block.fault journal p (port_in block.ports p))
-      → BlockEnds block.ports block.exits block.fault block.stopped journal → Ends block journal
+      → BlockEnds (has_made_all block journal) block.ports block.exits block.fault block.stopped journal
+      → Ends block journal
   both block journal ports law = record {
     stopped_is = law.stopped_is;
     ended_is = λ p small. (ports p small).ended_is;
@@ -157,15 +176,19 @@ module _ {W : Type 0} (layout : Layout W) (meaning : ℕ → Value → Result (L
       → Ends (record block { ports = set block.ports p port }) journal
   moves_in block journal law p k port end small refusing ends waiting goes =
       let old = port_at p block in
+      let holds = every_set (λ (q : PortState). is_empty q.waiting) block.ports p port (fresh_port None) (ap is_empty waiting) in
+      let held = kept_at_one (λ (q : PortState). q.waiting) block.ports p 0 port waiting in
+      let made = made_all_same block (record block { ports = set block.ports p port }) journal journal refl refl held holds refl in
       both (record block { ports = set block.ports p port }) journal
       (each_after_one (PortEndsBy block.fault journal) block.ports p port
       (λ there. rw (refusing, ends)
       (end_moves block.fault (has_ended p journal) (has_complete p journal) old.refusing old.ends k end
       (each_port block journal law p small) goes))
       (λ q there other. each_port block journal law q there))
-      (port_moves block.ports block.exits block.fault block.stopped journal p port (whole block journal law) waiting
+      (subst (λ (all : Bool). BlockEnds all (set block.ports p port) block.exits block.fault block.stopped journal) (sym made)
+      (port_moves (has_made_all block journal) block.ports block.exits block.fault block.stopped journal p port (whole block journal law) waiting
       (λ number is. rw ends
-      (some_set (λ (e : EndState). is_fault_seen number e) old.ends k end (fresh_end 0) (goes.fault_kept number) is)))
+      (some_set (λ (e : EndState). is_fault_seen number e) old.ends k end (fresh_end 0) (goes.fault_kept number) is))))
 
   -- its exits change
   exits_go : (block : BlockState) (journal : List Mark) → Ends block journal → (exits : OutletState)
@@ -173,14 +196,14 @@ module _ {W : Type 0} (layout : Layout W) (meaning : ℕ → Value → Result (L
       → (is_at_rest block.exits ≡ true → is_at_rest exits ≡ true) → Ends (record block { exits = exits }) journal
   exits_go block journal law exits left rest =
       both (record block { exits = exits }) journal (each_port block journal law)
-      (exits_move block.ports block.exits exits block.fault block.stopped journal (whole block journal law) left rest)
+      (exits_move (has_made_all block journal) block.ports block.exits exits block.fault block.stopped journal (whole block journal law) left rest)
 
   exits_going : (block : BlockState) (journal : List Mark) → Ends block journal → (exits : OutletState)
       → block.stopped ≡ None
       → Ends (record block { exits = exits }) journal
   exits_going block journal law exits none =
       both (record block { exits = exits }) journal (each_port block journal law)
-      (going_ends block.ports exits block.fault block.stopped journal none (sym law.stopped_is ∙ none))
+      (going_ends _ block.ports exits block.fault block.stopped journal none (sym law.stopped_is ∙ none))
 
   -- a mark that ends nothing
   record EndsNothing (mark : Mark) : Type 0 where
@@ -225,7 +248,7 @@ module _ {W : Type 0} (layout : Layout W) (meaning : ℕ → Value → Result (L
       (each_port block node.journal law.ends p at.port) goes))
       (λ q there other. port_marked block.fault node.journal mark nothing q (port_in block.ports q)
       (each_port block node.journal law.ends q there)))
-      (going_ends (set block.ports p port) block.exits block.fault block.stopped (node.journal ++ mark ∷ []) none
+      (going_ends _ (set block.ports p port) block.exits block.fault block.stopped (node.journal ++ mark ∷ []) none
       (going_marked node.journal mark nothing going))
 
   given_out : (node : NodeState) → NodeLaw layout meaning b node → (k : ℕ) (value : Option Value) → MayGive k node
@@ -242,7 +265,7 @@ module _ {W : Type 0} (layout : Layout W) (meaning : ℕ → Value → Result (L
       (each_after_all (PortEndsBy block.fault (node.journal ++ mark ∷ [])) change block.ports
       (λ q there. port_marked block.fault node.journal mark nothing q (change (port_in block.ports q))
       (each_port block node.journal law.ends q there)))
-      (going_ends (map change block.ports) (gives_out k block).exits block.fault block.stopped
+      (going_ends _ (map change block.ports) (gives_out k block).exits block.fault block.stopped
       (node.journal ++ mark ∷ []) none
       (going_marked node.journal mark nothing (sym law.ends.stopped_is ∙ none)))
 
@@ -257,7 +280,7 @@ module _ {W : Type 0} (layout : Layout W) (meaning : ℕ → Value → Result (L
       (each_after_one (PortEndsBy block.fault journal) block.ports 0 (change (port_at 0 block))
       (λ there. rw (refusing, ends) (each_port block journal law 0 there))
       (λ q there other. each_port block journal law q there))
-      (going_ends (set block.ports 0 (change (port_at 0 block))) exits block.fault block.stopped journal none
+      (going_ends _ (set block.ports 0 (change (port_at 0 block))) exits block.fault block.stopped journal none
       (sym law.stopped_is ∙ none))
 
   kept_as : (kind : BlockKind) (values : List Value) (block : BlockState) (journal : List Mark) → Ends block journal
@@ -288,7 +311,7 @@ module _ {W : Type 0} (layout : Layout W) (meaning : ℕ → Value → Result (L
       (each_after_all (PortEndsBy (Some number) journal) port_fails block.ports
       (λ q there. port_failed block.fault number (has_ended q journal) (has_complete q journal)
       (port_in block.ports q).refusing (port_in block.ports q).ends (each_port block journal law q there)))
-      (going_ends (map port_fails block.ports) block.exits (Some number) block.stopped journal none
+      (going_ends _ (map port_fails block.ports) block.exits (Some number) block.stopped journal none
       (sym law.stopped_is ∙ none))
 
   made_next : (first : Option Value) (block : BlockState) (journal : List Mark) → Ends block journal
@@ -318,7 +341,7 @@ module _ {W : Type 0} (layout : Layout W) (meaning : ℕ → Value → Result (L
       (λ q small other. other_marked block.fault node.journal p q (port_in block.ports q)
       (ne_eqb p q (λ same. other (sym same)))
       (each_port block node.journal law.ends q small)))
-      (going_ends (set block.ports p (port_closes old)) block.exits block.fault block.stopped later
+      (going_ends _ (set block.ports p (port_closes old)) block.exits block.fault block.stopped later
       (law.ends.stopped_is ∙ going)
       (outcome_more node.journal mark going))
     where
@@ -343,18 +366,35 @@ module _ {W : Type 0} (layout : Layout W) (meaning : ℕ → Value → Result (L
       (each_port block journal law q small) (ended q)
       (λ is. law.complete_cause q small (sym (complete q) ∙ is)))
 
-  faulted : (block : BlockState) (journal : List Mark) → Ends block journal → (number : ℕ)
-      → next_fault block ≡ Some number
+  -- it could make nothing more, and stops
+  made_all_by : (block : BlockState) (journal later : List Mark) → ShapeLaw layout meaning b block → Ends block journal
+      → (how : Outcome) → has_complete 0 later ≡ has_complete 0 journal → (batch : Bool) → is_batch block.kind ≡ batch
+      → cond batch (not (has_group block)) (holds_nothing block.ports) ≡ true
+      → has_made_all (stops_by how block) later ≡ true
+  made_all_by block journal later shape law how same true is done =
+      let one = has_one_port layout meaning b block shape in
+      let there : 0 < length block.ports = omega (arith, one) in
+      let held = kept_at_all (λ (port : PortState). port.waiting) port_closes block.ports 0 (λ port. refl) in
+      let left =
+      no_group_left (held_by block) block.size (leb block.size (length (held_by block)))
+      (has_port_ended (port_at 0 block).refusing) (has_complete 0 journal) (shape.some_size is) refl
+      (λ unended. (open_goes_on layout meaning b block journal law 0 there unended).1) done in
+      rw (is, held, same) left
+  made_all_by block journal later shape law how same false is done =
+      let holds = every_map (λ (q : PortState). is_empty q.waiting) port_closes block.ports (λ q. refl) in
+      rw is (holds ∙ done)
+
+  faulted : (block : BlockState) (journal : List Mark) → ShapeLaw layout meaning b block → Ends block journal
+      → (number : ℕ) → next_fault block ≡ Some number
       → Ends (stops_by (outcome.Faulted number) block) (journal ++ Fault number ∷ [])
-  faulted block journal law number may =
+  faulted block journal shape law number may =
       let tests = may_fault_tells block number may in
       let none = tests.going in
       let going = sym law.stopped_is ∙ none in
       let mark = Fault number in
       let later = journal ++ mark ∷ [] in
-      let cause = cause_tells block.fault (holds_nothing block.ports) (fault_at_ports block.ports) number tests.cause in
+      let cause = cause_tells block.fault (is_worked_off block) (fault_at_ports block.ports) number tests.cause in
       let closed = map port_closes block.ports in
-      let holds = every_map (λ (q : PortState). is_empty q.waiting) port_closes block.ports (λ q. refl) in
       both (stops_by (outcome.Faulted number) block) later
       (ports_close block journal later law
       (λ q. ended_by_fault q later (some_last is_any_fault_mark journal mark refl))
@@ -379,7 +419,11 @@ module _ {W : Type 0} (layout : Layout W) (meaning : ℕ → Value → Result (L
             (some_of_more (is_fault_mark other) journal mark is);
         faulted_by = λ other is.
             let same : number ≡ other = cc in
-            ⊎_elim (λ own. inl (own ∙ ap Some same)) (λ seen. inr (seen.none, holds ∙ seen.empty)) cause;
+            ⊎_elim (λ own. inl (own ∙ ap Some same)) (λ seen. inr (
+              seen.none,
+              made_all_by block journal later shape law (outcome.Faulted number)
+                  (some_no_more (is_complete_mark 0) journal mark refl) (is_batch block.kind) refl seen.empty,
+            )) cause;
       })
 
   finished : (block : BlockState) (journal : List Mark) → Ends block journal → may_finish block ≡ true
@@ -509,10 +553,14 @@ module _ {W : Type 0} (layout : Layout W) (meaning : ℕ → Value → Result (L
       (look_stays_home end.stage phase))
   after_each node NodeCall.begin law may = jobs_change node.block node.journal law.ends begins
   after_each node NodeCall.make law may =
-      made_next (first_of (held_by node.block)) node.block node.journal law.ends
-      (may_work_tells node.block may.waits).going
+      let block = node.block in
+      let going = (may_work_tells block may.waits).going in
+      makes_by (λ new. Ends new node.journal) (block_makes layout meaning b) block
+      (λ batch. works_on block node.journal law.ends (takes_group block.size) (makes_row block).exits block.jobs
+      block.recorded refl refl going)
+      (λ other. made_next (first_of (held_by block)) block node.journal law.ends going)
   after_each node (NodeCall.complete p) law may = completed node law p may
-  after_each node (NodeCall.fault number) law may = faulted node.block node.journal law.ends number may
+  after_each node (NodeCall.fault number) law may = faulted node.block node.journal law.shape law.ends number may
   after_each node NodeCall.finish law may = finished node.block node.journal law.ends may
 
 pub ends_kept : (W : Type 0) → EndsKept W

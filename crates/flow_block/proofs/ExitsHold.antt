@@ -1,5 +1,5 @@
 -- Each call keeps a block's exits in order.
-use Rattle.std.proofs.Common.{◌≡◌, ℕ, ◌<◌, Bool, true, false, ◌||◌, List, [], ◌∷◌, length, set, map, Option, Some, None, is_some, Result, Ok, Err, refl, ap, sym, ◌∙◌, subst}
+use Rattle.std.proofs.Common.{◌≡◌, ℕ, ◌<◌, cond, Bool, true, false, ◌||◌, List, [], ◌∷◌, length, set, map, Option, Some, None, is_some, Result, Ok, Err, refl, ap, sym, ◌∙◌, subst}
 use Rattle.std.specs.Option.{ForSome}
 use Rattle.flow_value.specs.declared.value.Value.{Value}
 use Rattle.flow_link.specs.declared.draft.BlockKind.{BlockKind}
@@ -24,7 +24,7 @@ use Rattle.flow_outlet.specs.Outlet.{OutletState, head_of, end_at, stage_at, is_
 use Rattle.flow_outlet.proofs.LawKept.{calls_keep_law}
 use Rattle.flow_outlet.proofs.OffersInOrder.{offers_in_order}
 use Rattle.flow_outlet.proofs.OneEndChanges.{each_set}
-use Rattle.flow_block.specs.Block.{BlockState, port_at, unit_weight, made_of, keeps_results, yields, makes_of, put_by_kind, put_of, values_of_result, gives_out, stops_by, held_by}
+use Rattle.flow_block.specs.Block.{BlockState, port_at, unit_weight, made_of, keeps_results, yields, makes_of, put_by_kind, put_of, values_of_result, row_of, next_group, group_weight, takes_group, makes_row, is_batch, gives_out, stops_by, held_by}
 use Rattle.flow_block.specs.Node.{NodeState, NodeCall, hand_at, takes_in, gives_from}
 use Rattle.flow_block.specs.NodeLaw.{ExitsLaw, is_kept}
 use Rattle.flow_block.specs.NodeKeeps.{MayCall, after_call, ExitsKept}
@@ -33,6 +33,7 @@ use Rattle.flow_block.specs.Planned.{block_makes}
 use Rattle.flow_block.proofs.EndsTell.{none_kept_by_looks}
 use Rattle.flow_block.proofs.FaultsSeen.{StaysSeen, stays_at_ends, stays_at_ports, seen_over_ports, seen_by_looks, unseen_where}
 use Rattle.flow_block.proofs.GoingOn.{may_fault_tells, may_finish_tells}
+use Rattle.flow_block.proofs.KindsBuilt.{makes_by}
 
 -- The law of the exits
 
@@ -149,6 +150,16 @@ module _ {W : Type 0} (layout : Layout W) (meaning : ℕ → Value → Result (L
     make_keeps result None fit = law
     make_keeps result (Some value) fit = result_keeps (made_of block.kind result value) fit
 
+    row_keeps : lacks_ids (row_of (next_group block) ∷ []) block.exits ≡ false → ExitsLaw layout meaning b (makes_row block)
+    row_keeps fit = record {
+      law = calls_keep_law.put
+          (is_pending (record block { ports = set block.ports 0 (takes_group block.size (port_at 0 block)) }))
+          block.stopped block.exits
+          (port_stays 0 (takes_group block.size (port_at 0 block)) refl).law (row_of (next_group block) ∷ [])
+          (group_weight (port_at 0 block).capacity (length (next_group block))) fit;
+      none_kept = law.none_kept;
+    }
+
     give_keeps : (k : ℕ) → k < length block.exits.ends → may_give k block.exits ≡ true
         → ExitsLaw layout meaning b (gives_out k block)
     give_keeps k here may =
@@ -230,7 +241,14 @@ module _ {W : Type 0} (layout : Layout W) (meaning : ℕ → Value → Result (L
       (calls_keep_law.look (is_pending node.block) node.block.stopped o law.law k may.place phase may.put_off)
   exits_keep node NodeCall.begin law may = record { law = law.law; none_kept = law.none_kept }
   exits_keep node NodeCall.make law may =
-      make_keeps node.block law (block_makes layout meaning b) (first_of (held_by node.block)) may.ids
+      let block = node.block in
+      let result = block_makes layout meaning b in
+      let fits : (batch : Bool) → is_batch block.kind ≡ batch
+      → lacks_ids (cond batch (row_of (next_group block) ∷ []) (put_of block.kind result (first_of (held_by block)))) block.exits ≡ false =
+      λ batch is. ap (λ (kind : Bool). lacks_ids (cond kind (row_of (next_group block) ∷ []) (put_of block.kind result (first_of (held_by block)))) block.exits) (sym is) ∙ may.ids in
+      makes_by (ExitsLaw layout meaning b) result block
+      (λ batch. row_keeps block law (fits true batch))
+      (λ other. make_keeps block law result (first_of (held_by block)) (fits false other))
   exits_keep node (NodeCall.complete p) law may = port_stays node.block law p (port_closes (port_at p node.block)) refl
   exits_keep node (NodeCall.fault number) law may =
       stops_keep node.block law (outcome.Faulted number) (may_fault_tells node.block number may).going

@@ -1,9 +1,10 @@
 -- A node in which nothing has happened is in order.
-use Rattle.std.proofs.Common.{◌≡◌, ℕ, zero, suc, ◌+◌, ◌<◌, true, false, List, [], ◌∷◌, length, map, Option, Some, None, is_some, Result, refl, ap, sym, ◌∙◌, subst, arith}
+use Rattle.std.proofs.Common.{◌≡◌, ℕ, zero, suc, ◌+◌, ◌<◌, true, false, List, [], ◌∷◌, length, map, Option, Some, None, is_some, Result, refl, ap, sym, ◌∙◌, subst, arith, ◌&&◌}
+use Rattle.std.proofs.lemmas.Bool.{or_right}
 use Rattle.std.proofs.lemmas.List.{length-map}
 use Rattle.flow_value.specs.declared.value.Value.{Value}
 use Rattle.flow_link.specs.declared.draft.BlockKind.{BlockKind}
-use Rattle.flow_link.specs.declared.draft.BlockKind.TheVariants.{Buffer, Action, Transform, TransformMany}
+use Rattle.flow_link.specs.declared.draft.BlockKind.TheVariants.{Buffer, Action, Transform, TransformMany, Batch}
 use Rattle.flow_link.specs.declared.stage.Refusal.TheVariants.{OwnFault}
 use Rattle.flow_link.specs.declared.stage.TargetStage.TheVariants.{Refused}
 use Rattle.flow_link.specs.Facts.{facts_in}
@@ -19,9 +20,10 @@ use Rattle.flow_outlet.specs.declared.ends.LinkRule.{LinkRule}
 use Rattle.flow_outlet.specs.declared.ends.OutEnd.{OutEnd}
 use Rattle.flow_outlet.specs.End.{fresh_end as fresh_out, end_in as out_in}
 use Rattle.flow_outlet.proofs.LawKept.{calls_keep_law}
-use Rattle.flow_block.specs.Block.{port_in}
+use Rattle.flow_outlet.specs.Outlet.{is_empty}
+use Rattle.flow_block.specs.Block.{port_in, held_by}
 use Rattle.flow_block.specs.Fresh.{FreshInOrder}
-use Rattle.flow_block.specs.NodeLaw.{is_kept, MakesAs, WeighsAs, PortAsPlanned, GaveOver, weighed, partly_weighed}
+use Rattle.flow_block.specs.NodeLaw.{is_kept, MakesAs, WeighsAs, PortAsPlanned, GaveOver, weighed, rows_weighed, partly_weighed}
 use Rattle.flow_block.specs.Peeks.{is_pending}
 use Rattle.flow_block.specs.Planned.{block_makes, links_to, links_from, rule_of, port_of_plan, fresh_node}
 use Rattle.flow_block.proofs.EndsTell.{none_come}
@@ -56,6 +58,10 @@ nothing_weighed : (capacity : Option ℕ) (next : ℕ) → [] ≡ weighed capaci
 nothing_weighed None next = refl
 nothing_weighed (Some c) next = refl
 
+no_rows_weighed : (capacity : Option ℕ) (next : ℕ) → [] ≡ rows_weighed capacity next []
+no_rows_weighed None next = refl
+no_rows_weighed (Some c) next = refl
+
 nothing_partly_given : (capacity : Option ℕ) → [] ≡ partly_weighed capacity 0 []
 nothing_partly_given None = refl
 nothing_partly_given (Some c) = refl
@@ -65,6 +71,7 @@ nothing_made result Buffer = refl
 nothing_made result Action = (record { done = []; results = []; taken_is = refl; worked = refl; all = refl }, refl)
 nothing_made result Transform = record { done = []; results = []; taken_is = refl; worked = refl; all = refl }
 nothing_made result TransformMany = record { done = []; results = []; taken_is = refl; worked = refl; all = refl }
+nothing_made result Batch = refl
 nothing_made result _ = tt
 
 weighs_nothing : (result : Value → Result (List Value) ℕ) (kind : BlockKind) (capacity : Option ℕ) (next : ℕ)
@@ -73,6 +80,7 @@ weighs_nothing result TransformMany capacity next = record {
   works = record { done = []; results = []; taken_is = refl; worked = refl; all = refl };
   groups_are = nothing_partly_given capacity;
 }
+weighs_nothing result Batch capacity next = no_rows_weighed capacity next
 weighs_nothing result _ capacity next = nothing_weighed capacity next
 
 module _ {W : Type 0} (layout : Layout W) (b : ℕ) where
@@ -132,7 +140,7 @@ module _ {W : Type 0} (layout : Layout W) (b : ℕ) where
   }
 
 pub fresh_in_order : (W : Type 0) → FreshInOrder W
-fresh_in_order W layout meaning b built lane =
+fresh_in_order W layout meaning b built lane size =
     let node = fresh_node layout b in
     let rules = map (rule_of layout) (links_from layout b) in
     let block = block_in layout.blocks b in
@@ -140,6 +148,8 @@ fresh_in_order W layout meaning b built lane =
       shape = record {
         built = built;
         kind_is = refl;
+        size_is = refl;
+        some_size = size;
         port_count_is = count_is layout b;
         ports = each_port layout b (PortAsPlanned layout meaning b)
             (λ p. record { links = links_kept (links_to layout b p); capacity = refl; never_reserves = refl });
@@ -162,6 +172,7 @@ fresh_in_order W layout meaning b built lane =
             (nothing_made (block_makes layout meaning b) block.kind);
         fault_is = λ number e. absurd (cc);
       };
+      rows = λ batch. record { groups = refl; whole_before = refl; whole = or_right (false && is_empty (held_by node.block)) true refl };
       jobs = record {
         lanes_are = refl;
         some_lane = lane;

@@ -40,6 +40,7 @@ use Rattle.flow_block.specs.NodeKeeps.{MayCall, after_call, GaveKept}
 use Rattle.flow_block.specs.Planned.{is_out_of, rule_of, out_place, block_makes}
 use Rattle.flow_block.proofs.EndsTell.{used_up_told}
 use Rattle.flow_block.proofs.JournalTells.{gave_same, gave_here, passed_by}
+use Rattle.flow_block.proofs.KindsBuilt.{makes_by}
 use Rattle.flow_block.proofs.PlacesOfLinks.{end_out_of, source_there, links_out_differ, earlier_out}
 use Rattle.flow_block.proofs.TestsTell.{some_where, some_set}
 
@@ -331,7 +332,9 @@ module _ {W : Type 0} (layout : Layout W) (meaning : ℕ → Value → Result (L
       end_moves o node.journal k _ _ _ _ may.place (look_tells (stage_at o k) phase).refused law.gave
   gave_keep node NodeCall.begin law may = law.gave
   gave_keep node NodeCall.make law may =
-      make_keeps node.block node.journal (block_makes layout meaning b) (first_of (held_by node.block)) law.gave
+      makes_by (λ new. GaveLaw layout meaning b new.exits node.journal) (block_makes layout meaning b) node.block
+      (λ batch. record { each = law.gave.each; next_is = law.gave.next_is; in_order = law.gave.in_order })
+      (λ other. make_keeps node.block node.journal (block_makes layout meaning b) (first_of (held_by node.block)) law.gave)
   gave_keep node (NodeCall.complete p) law may =
       quiet_mark node.block.exits node.journal (Complete p) (λ test. refl) (λ all. refl) law.gave
   gave_keep node (NodeCall.fault number) law may =

@@ -17,8 +17,8 @@ use Rattle.flow_intake.specs.Ended.{has_seen_completion}
 use Rattle.flow_outlet.specs.declared.ends.OutEnd.{OutEnd}
 use Rattle.flow_outlet.specs.End.{is_away, is_waiting, count_at, end_in}
 use Rattle.flow_outlet.specs.Outlet.{is_empty, is_wanted, is_wish, is_at_rest, stage_at}
-use Rattle.flow_block.specs.Block.{BlockState, port_at, held_by}
-use Rattle.flow_block.specs.Peeks.{could_stop, may_work, may_begin, may_make, may_complete, next_fault, may_finish, fault_cause, nothing_comes, all_ended, holds_nothing}
+use Rattle.flow_block.specs.Block.{BlockState, port_at, held_by, is_batch}
+use Rattle.flow_block.specs.Peeks.{could_stop, has_group, has_next, may_work, may_begin, may_make, may_complete, next_fault, may_finish, fault_cause, nothing_comes, all_ended, holds_nothing}
 use Rattle.flow_block.specs.NodeLaw.{EndsLaw, outcome_in}
 use Rattle.flow_block.proofs.JournalTells.{open_tells}
 use Rattle.flow_block.proofs.TestsTell.{none_is, none_unless}
@@ -85,12 +85,22 @@ could_tells block e =
 pub record MayMake (block : BlockState) : Type 0 where
   pub going : block.stopped ≡ None
   pub no_fault : block.fault ≡ None
+  -- a batch has a row to make
+  pub group : is_batch block.kind ≡ true → has_group block ≡ true
+
+next_of_batch : (batch : Bool) (group some : Bool) → cond batch group some ≡ true → batch ≡ true → group ≡ true
+next_of_batch true group some e is = e
+next_of_batch false group some e is = absurd (cc)
 
 pub may_work_tells : (block : BlockState) → may_work block ≡ true → MayMake block
 may_work_tells block e =
-    let outer = and_parts (is_none block.stopped && is_none block.fault) (not (is_empty (held_by block))) e in
+    let outer = and_parts (is_none block.stopped && is_none block.fault) (has_next block) e in
     let inner = and_parts (is_none block.stopped) (is_none block.fault) outer.0 in
-    record { going = none_is block.stopped inner.0; no_fault = none_is block.fault inner.1 }
+    record {
+      going = none_is block.stopped inner.0;
+      no_fault = none_is block.fault inner.1;
+      group = next_of_batch (is_batch block.kind) (has_group block) (not (is_empty (held_by block))) outer.1;
+    }
 
 pub may_begin_tells : (block : BlockState) → may_begin block ≡ true → MayMake block
 may_begin_tells block e =

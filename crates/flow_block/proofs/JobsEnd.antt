@@ -1,6 +1,6 @@
 -- A job that ends keeps its node in order. Where its result is the next one, the block makes its outputs of that message and of those
 -- behind it whose results are there, one after another, as if nothing had come back of them before.
-use Rattle.std.proofs.Common.{◌≡◌, ℕ, ◌+◌, ◌≤◌, ◌^◌, leb, Bool, true, false, List, [], ◌∷◌, ◌++◌, length, drop, set, get_or, map, Option, Some, None, is_none, Result, Ok, Err, refl, ap, sym, subst, ◌∙◌, arith, length-append}
+use Rattle.std.proofs.Common.{◌≡◌, ℕ, ◌+◌, ◌≤◌, ◌^◌, leb, cond, Bool, true, false, List, [], ◌∷◌, ◌++◌, length, drop, set, get_or, map, Option, Some, None, is_none, Result, Ok, Err, refl, ap, sym, subst, ◌∙◌, arith, length-append}
 use Rattle.std.proofs.lemmas.Bool.{and_parts, ltb-false, le-ltb}
 use Rattle.std.proofs.lemmas.List.{length-map, length-set}
 use Rattle.flow_value.specs.declared.value.Value.{Value}
@@ -15,7 +15,7 @@ use Rattle.flow_intake.specs.Port.{PortState, end_in}
 use Rattle.flow_intake.specs.Calls.{first_of, takes_next, gives_room, port_fails}
 use Rattle.flow_outlet.specs.End.{end_in as out_end}
 use Rattle.flow_outlet.specs.Outlet.{OutletState, lacks_ids, puts}
-use Rattle.flow_block.specs.Block.{BlockState, port_at, unit_weight, with_jobs, job_message, held_by, put_by_kind, values_of_result, put_of, fails, keeps_results, yields, makes_of, makes, yields_all, yields_where, put_where}
+use Rattle.flow_block.specs.Block.{BlockState, port_at, unit_weight, with_jobs, job_message, held_by, put_by_kind, values_of_result, put_of, fails, keeps_results, yields, makes_of, row_of, next_group, makes_row, makes, yields_all, yields_where, put_where}
 use Rattle.flow_block.specs.Jobs.{Slot, JobsState, no_slot, place_of, is_out, is_front_back, brings, comes_out, AreOf}
 use Rattle.flow_block.specs.JobsEnd.{JobsEndWell, MayEndJob, EndsWell, ViewsStay, after_job, job_result}
 use Rattle.flow_block.specs.Node.{NodeState, NodeCall, with_block, view_of_in, view_of_out}
@@ -24,7 +24,7 @@ use Rattle.flow_block.specs.NodeLaw.{NodeLaw}
 use Rattle.flow_block.specs.Planned.{block_makes}
 use Rattle.flow_block.proofs.EndsHold.{jobs_change as ends_stay}
 use Rattle.flow_block.proofs.JobsHold.{back_at, makes_by_work, held_next}
-use Rattle.flow_block.proofs.KindsBuilt.{has_one_port}
+use Rattle.flow_block.proofs.KindsBuilt.{has_one_port, works_alone}
 use Rattle.flow_block.proofs.LoadHolds.{jobs_change as load_stays}
 use Rattle.flow_block.proofs.MakesHold.{jobs_change as makes_stay}
 use Rattle.flow_block.proofs.NodesKept.{nodes_kept}
@@ -185,11 +185,12 @@ module _ {W : Type 0} (kept : NodesKept W) (layout : Layout W) (meaning : ℕ �
       let change : JobsState → JobsState = λ jobs. record jobs { slots = slots } in
       let new = with_jobs change block in
       record {
-        shape = shape_stays layout meaning b block new refl refl refl law.shape;
+        shape = shape_stays layout meaning b block new refl refl refl refl law.shape;
         ports = law.ports;
         exits = record { law = law.exits.law; none_kept = law.exits.none_kept };
         gave = law.gave;
         makes = makes_stay layout meaning b (record { block = block; journal = journal }) law.makes change;
+        rows = law.rows;
         jobs = record {
           lanes_are = law.jobs.lanes_are;
           some_lane = law.jobs.some_lane;
@@ -209,7 +210,9 @@ module _ {W : Type 0} (kept : NodesKept W) (layout : Layout W) (meaning : ℕ �
       → has_work block.kind ≡ true → held_by block ≡ value ∷ rest → result value ≡ made
       → makes result block ≡ yields made block
   makes_so block made value rest works held is =
-      ap (λ (first : Option Value). makes_of result first block) (ap first_of held)
+      ap (λ (batch : Bool). cond batch (makes_row block) (makes_of result (first_of (held_by block)) block))
+      (works_alone block.kind works)
+      ∙ ap (λ (first : Option Value). makes_of result first block) (ap first_of held)
       ∙ ap (λ (r : Result (List Value) ℕ). yields r block) (sym (makes_by_work result block.kind value works) ∙ is)
 
   made_next : (block : BlockState) (journal : List Mark) (made : Result (List Value) ℕ) (value : Value)
@@ -223,9 +226,11 @@ module _ {W : Type 0} (kept : NodesKept W) (layout : Layout W) (meaning : ℕ �
       let old = with_slots (blank slots) block in
       let node : NodeState = record { block = old; journal = journal } in
       let may : MayMake result node = record {
-        waits = rw (going, well, held) refl;
+        waits = rw (going, well, works_alone block.kind works, held) refl;
         all_out = blank_out slots;
-        ids = ap (λ (first : Option Value). lacks_ids (put_of block.kind result first) block.exits) (ap first_of held)
+        ids = ap (λ (batch : Bool). lacks_ids (cond batch (row_of (next_group old) ∷ []) (put_of block.kind result (first_of (held_by block)))) block.exits)
+            (works_alone block.kind works)
+            ∙ ap (λ (first : Option Value). lacks_ids (put_of block.kind result first) block.exits) (ap first_of held)
             ∙ ap (λ (r : Result (List Value) ℕ). lacks_ids (put_by_kind block.kind (values_of_result r)) block.exits)
             (sym (makes_by_work result block.kind value works) ∙ is)
             ∙ ids;

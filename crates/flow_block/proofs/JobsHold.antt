@@ -22,14 +22,14 @@ use Rattle.flow_link.proofs.OneMoreMark.{took_no_more, took_by_took, took_by_gav
 use Rattle.flow_intake.specs.Port.{PortState, fresh_port, hand_in}
 use Rattle.flow_intake.specs.Calls.{first_of, wants, turns_down, postpones, refuses, consumes, opens, closes, looks as port_looks, takes_next, gives_room, port_closes, port_fails}
 use Rattle.flow_outlet.specs.Outlet.{OutletState, head_of, gives}
-use Rattle.flow_block.specs.Block.{BlockState, port_at, with_port, begins, held_by, made_of, yields, keeps_results, makes_of, stops_by}
+use Rattle.flow_block.specs.Block.{BlockState, port_at, with_port, begins, held_by, made_of, yields, keeps_results, makes_of, is_batch, makes_row, stops_by}
 use Rattle.flow_block.specs.Jobs.{Slot, is_front_back, AreOf}
 use Rattle.flow_block.specs.Node.{NodeState, NodeCall, takes_in, gives_from, in_link_at, out_link_at}
 use Rattle.flow_block.specs.NodeKeeps.{JobsKept, MayCall, after_call}
 use Rattle.flow_block.specs.NodeLaw.{NodeLaw, JobsLaw}
 use Rattle.flow_block.specs.Peeks.{may_work, may_begin}
 use Rattle.flow_block.specs.Planned.{block_makes}
-use Rattle.flow_block.proofs.KindsBuilt.{has_one_port}
+use Rattle.flow_block.proofs.KindsBuilt.{has_one_port, batch_idle, makes_by}
 use Rattle.flow_block.proofs.PortsChange.{kept_at_one, kept_at_all}
 
 -- The results of the messages that are held first
@@ -242,33 +242,35 @@ module _ {W : Type 0} (layout : Layout W) (meaning : ℕ → Value → Result (L
   results_kept : (kind : BlockKind) (values : List Value) (block : BlockState) (journal : List Mark) (value : Value)
       (rest : List Value)
       → block.kind ≡ kind → length block.ports ≡ 1 → held_by block ≡ value ∷ rest
-      → is_built_kind kind ≡ true → (works : Bool) → has_work kind ≡ works → every is_none block.jobs.slots ≡ true
+      → is_built_kind kind ≡ true → is_batch kind ≡ false → (works : Bool) → has_work kind ≡ works
+      → every is_none block.jobs.slots ≡ true
       → Jobs block journal → Jobs (keeps_results kind values block) journal
-  results_kept Action values block journal value rest same one first built works is out law =
+  results_kept Action values block journal value rest same one first built other works is out law =
       worked_off block (keeps_results Action values block) journal value rest refl refl first
       (held_next block (λ port. gives_room 1 (takes_next port)) value rest one first (λ port. refl))
       (ap has_work same) out law
-  results_kept Buffer [] block journal value rest same one first built works is out law =
+  results_kept Buffer [] block journal value rest same one first built other works is out law =
       handed_on block (keeps_results Buffer [] block) journal refl refl (ap has_work same) law
-  results_kept Buffer (made ∷ values) block journal value rest same one first built works is out law =
+  results_kept Buffer (made ∷ values) block journal value rest same one first built other works is out law =
       handed_on block (keeps_results Buffer (made ∷ values) block) journal refl refl (ap has_work same) law
-  results_kept kind [] block journal value rest same one first built true is out law =
+  results_kept kind [] block journal value rest same one first built other true is out law =
       worked_off block (keeps_results kind [] block) journal value rest refl refl first
       (held_next block (λ port. gives_room 1 (takes_next port)) value rest one first (λ port. refl))
       (ap has_work same ∙ is) out law
-  results_kept kind (made ∷ values) block journal value rest same one first built true is out law =
+  results_kept kind (made ∷ values) block journal value rest same one first built other true is out law =
       worked_off block (keeps_results kind (made ∷ values) block) journal value rest refl refl first
       (held_next block takes_next value rest one first (λ port. refl))
       (ap has_work same ∙ is) out law
-  results_kept kind values block journal value rest same one first built false is out law = absurd (cc)
+  results_kept kind values block journal value rest same one first built other false is out law = absurd (cc)
 
   yielded : (block : BlockState) (journal : List Mark) (value : Value) (rest : List Value)
       (made : Result (List Value) ℕ)
-      → length block.ports ≡ 1 → is_built_kind block.kind ≡ true → held_by block ≡ value ∷ rest
+      → length block.ports ≡ 1 → is_built_kind block.kind ≡ true → is_batch block.kind ≡ false
+      → held_by block ≡ value ∷ rest
       → every is_none block.jobs.slots ≡ true → Jobs block journal → Jobs (yields made block) journal
-  yielded block journal value rest (Ok values) one built first out law =
-      results_kept block.kind values block journal value rest refl one first built (has_work block.kind) refl out law
-  yielded block journal value rest (Err number) one built first out law =
+  yielded block journal value rest (Ok values) one built other first out law =
+      results_kept block.kind values block journal value rest refl one first built other (has_work block.kind) refl out law
+  yielded block journal value rest (Err number) one built other first out law =
       let held = kept_at_all (λ port. port.waiting) port_fails block.ports 0 (λ port. refl) in
       record {
         lanes_are = law.lanes_are;
@@ -281,11 +283,12 @@ module _ {W : Type 0} (layout : Layout W) (meaning : ℕ → Value → Result (L
       }
 
   made_next : (block : BlockState) (journal : List Mark) (held : List Value) → held_by block ≡ held
-      → length block.ports ≡ 1 → is_built_kind block.kind ≡ true → every is_none block.jobs.slots ≡ true → Jobs block journal
+      → length block.ports ≡ 1 → is_built_kind block.kind ≡ true → is_batch block.kind ≡ false
+      → every is_none block.jobs.slots ≡ true → Jobs block journal
       → Jobs (makes_of (block_makes layout meaning b) (first_of held) block) journal
-  made_next block journal [] is one built out law = law
-  made_next block journal (value ∷ rest) is one built out law =
-      yielded block journal value rest (made_of block.kind (block_makes layout meaning b) value) one built is out law
+  made_next block journal [] is one built other out law = law
+  made_next block journal (value ∷ rest) is one built other out law =
+      yielded block journal value rest (made_of block.kind (block_makes layout meaning b) value) one built other is out law
 
   after_each : (node : NodeState) (call : NodeCall) → NodeLaw layout meaning b node → MayCall layout meaning b call node
       → Jobs (after_call layout meaning b call node).block (after_call layout meaning b call node).journal
@@ -300,8 +303,10 @@ module _ {W : Type 0} (layout : Layout W) (meaning : ℕ → Value → Result (L
   after_each node (NodeCall.look_in p k phase) law may = port_stays node law.jobs p (port_looks k phase) refl
   after_each node NodeCall.begin law may = begun node law.jobs may
   after_each node NodeCall.make law may =
-      made_next node.block node.journal (held_by node.block) refl
-      (has_one_port layout meaning b node.block law.shape) law.shape.built may.all_out law.jobs
+      makes_by (λ new. Jobs new node.journal) (block_makes layout meaning b) node.block
+      (λ batch. handed_on node.block (makes_row node.block) node.journal refl refl (batch_idle node.block.kind batch) law.jobs)
+      (λ other. made_next node.block node.journal (held_by node.block) refl
+      (has_one_port layout meaning b node.block law.shape) law.shape.built other may.all_out law.jobs)
   after_each node (NodeCall.complete p) law may =
       stays node.block (with_port p port_closes node.block) node.journal (node.journal ++ Complete p ∷ []) law.jobs
       refl refl (kept_at_one (λ port. port.waiting) node.block.ports p 0 (port_closes (port_at p node.block)) refl)

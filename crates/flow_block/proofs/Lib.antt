@@ -7,6 +7,8 @@ pub mod FaultsSeen
 pub mod FreshNodes
 pub mod GaveHolds
 pub mod GoingOn
+pub mod GroupsOfRows
+pub mod GroupsTaken
 pub mod InputsAreParts
 pub mod InputsInOrder
 pub mod JobsBack
@@ -20,6 +22,7 @@ pub mod JournalTells
 pub mod KindsBuilt
 pub mod LoadHolds
 pub mod MakesHold
+pub mod MakingGoesOn
 pub mod MarksFit
 pub mod MarksHold
 pub mod MovesOut
@@ -39,6 +42,7 @@ pub mod PortEnds
 pub mod PortsChange
 pub mod PortsHold
 pub mod RoomFits
+pub mod RowsHold
 pub mod ShapeHolds
 pub mod SourceStands
 pub mod StandsInOrder

@@ -1,33 +1,39 @@
 -- Each call keeps what a block counts of its places: one is taken by each message that it holds or has not wholly given.
-use Rattle.std.proofs.Common.{◌≡◌, ℕ, ◌+◌, ◌-◌, ◌<◌, ◌==◌, ◌||◌, cond, Bool, true, false, List, [], ◌∷◌, ◌++◌, length, map, set, drop, Option, Some, None, is_some, Result, Ok, Err, refl, ap, sym, ◌∙◌, subst, append-nil, arith, ne_eqb, length-append}
-use Rattle.std.proofs.lemmas.List.{get_or-set_same}
+use Rattle.std.proofs.Common.{◌≡◌, ℕ, ◌+◌, ◌<◌, leb, ◌==◌, cond, Bool, true, false, List, [], ◌∷◌, ◌++◌, length, map, set, drop, Option, Some, None, is_some, Result, Ok, Err, refl, ap, sym, ◌∙◌, subst, append-nil, arith, ne_eqb, length-append}
+use Rattle.std.proofs.lemmas.List.{get_or-set_same, take-append-drop}
+use Rattle.flow_value.specs.View.{values_of-items_from}
 use Rattle.flow_value.specs.declared.value.Value.{Value}
 use Rattle.flow_link.specs.declared.draft.BlockKind.{BlockKind}
-use Rattle.flow_link.specs.declared.draft.BlockKind.TheVariants.{Buffer, Action, Transform, TransformMany}
+use Rattle.flow_link.specs.declared.draft.BlockKind.TheVariants.{Buffer, Action, Transform, TransformMany, Batch}
 use Rattle.flow_link.specs.declared.trace.Mark.{Mark}
 use Rattle.flow_link.specs.declared.trace.Mark.TheVariants.{Complete, Fault, Done}
 use Rattle.flow_link.specs.declared.trace.Outcome.{Outcome}
 use Rattle.flow_link.specs.declared.trace.Outcome.TheVariants as outcome
 use Rattle.flow_link.specs.JournalGrows.{taken_by_mark, given_by_mark}
 use Rattle.flow_link.specs.Layout.{Layout}
-use Rattle.flow_link.specs.Making.{result_of}
+use Rattle.flow_link.specs.Making.{result_of, row_weight}
 use Rattle.flow_link.specs.Plan.{block_in}
 use Rattle.flow_link.specs.Trace.{took, gave}
 use Rattle.flow_link.specs.NotBuilt.{is_built_kind}
 use Rattle.flow_link.proofs.OneMoreMark.{took_no_more, gave_no_more, took_by_took, gave_by_took, took_by_gave, gave_by_gave}
 use Rattle.flow_intake.specs.Port.{PortState, fresh_port}
 use Rattle.flow_intake.specs.Calls.{first_of, one_more, wants, turns_down, postpones, refuses, consumes, opens, closes, looks as port_looks, takes_next, gives_room, port_closes, port_fails}
+use Rattle.flow_intake.specs.PortLaw.{has_ended as has_port_ended}
 use Rattle.flow_outlet.specs.declared.group.Group.{Group}
+use Rattle.flow_outlet.specs.Fits.{weight_of}
 use Rattle.flow_outlet.specs.Outlet.{OutletState, head_of, groups_with, groups_after, room_with, gives, prepares, offers, denies, withdraws, ends_link, looks as exit_looks}
-use Rattle.flow_block.specs.Block.{BlockState, port_in, port_at, with_port, with_jobs, held_by, unit_weight, made_of, puts_out, fails, yields, keeps_results, makes_of, stops_by}
+use Rattle.flow_outlet.proofs.OutletFits.{weight_stays, room_put}
+use Rattle.flow_block.specs.Block.{BlockState, port_in, port_at, with_port, with_jobs, held_by, unit_weight, made_of, puts_out, fails, yields, keeps_results, makes_of, is_batch, row_of, next_group, group_weight, takes_group, makes_row, stops_by}
 use Rattle.flow_block.specs.Jobs.{JobsState, begins, works_off}
 use Rattle.flow_block.specs.Node.{NodeState, NodeCall, hand_at, in_link_at, out_link_at, takes_in, gives_from}
-use Rattle.flow_block.specs.NodeLaw.{NodeLaw, ShapeLaw, LoadLaw, WeighsAs}
+use Rattle.flow_block.specs.NodeLaw.{NodeLaw, ShapeLaw, LoadLaw, WeighsAs, rows_weighed}
 use Rattle.flow_block.specs.NodeKeeps.{MayCall, after_call, LoadKept}
 use Rattle.flow_block.specs.Planned.{block_makes}
-use Rattle.flow_block.proofs.KindsBuilt.{has_one_port}
+use Rattle.flow_block.proofs.GroupsOfRows.{group_there, group_tells}
+use Rattle.flow_block.proofs.GoingOn.{may_work_tells}
+use Rattle.flow_block.proofs.KindsBuilt.{has_one_port, makes_by}
 use Rattle.flow_block.proofs.PortsChange.{kept_at_one, kept_at_all, each_after_one, each_after_all}
-use Rattle.flow_block.proofs.WeightsOfResults.{is_many, weight_back, weighs_taken, weighs_given, weighs_many, weighs_one}
+use Rattle.flow_block.proofs.WeightsOfResults.{is_many, weighs_taken, weighs_given, weighs_many, weighs_one, rows_put}
 
 abbrev is_action : BlockKind → Bool
 is_action Action = true
@@ -43,35 +49,42 @@ transformed_is_one (Ok (value ∷ next ∷ more)) values e = absurd (cc)
 
 made_by_kind : (kind : BlockKind) (raw : Value → Result (List Value) ℕ) (value : Value) (values : List Value)
     → is_built_kind kind ≡ true → made_of kind (λ v. result_of kind (raw v)) value ≡ Ok values
-    → is_action kind ≡ false → is_many kind ≡ false → length values ≡ 1
-made_by_kind Buffer raw value values built e other single = let same : values ≡ value ∷ [] = cc in rw same refl
-made_by_kind Action raw value values built e other single = absurd (cc)
-made_by_kind Transform raw value values built e other single = transformed_is_one (raw value) values e
-made_by_kind TransformMany raw value values built e other single = absurd (cc)
-made_by_kind kind raw value values built e other single = absurd (cc)
+    → is_action kind ≡ false → is_many kind ≡ false → is_batch kind ≡ false → length values ≡ 1
+made_by_kind Buffer raw value values built e other single alone = let same : values ≡ value ∷ [] = cc in rw same refl
+made_by_kind Action raw value values built e other single alone = absurd (cc)
+made_by_kind Transform raw value values built e other single alone = transformed_is_one (raw value) values e
+made_by_kind TransformMany raw value values built e other single alone = absurd (cc)
+made_by_kind kind raw value values built e other single alone = absurd (cc)
 
 made_is_one : (kind planned : BlockKind) (raw : Value → Result (List Value) ℕ) (value : Value) (values : List Value)
     → kind ≡ planned → is_built_kind kind ≡ true → made_of kind (λ v. result_of planned (raw v)) value ≡ Ok values
-    → is_action kind ≡ false → is_many kind ≡ false → length values ≡ 1
-made_is_one kind planned raw value values same built e other single =
+    → is_action kind ≡ false → is_many kind ≡ false → is_batch kind ≡ false → length values ≡ 1
+made_is_one kind planned raw value values same built e other single alone =
     made_by_kind kind raw value values built
     (subst (λ (other : BlockKind). made_of kind (λ v. result_of other (raw v)) value ≡ Ok values) (sym same) e)
-    other single
+    other single alone
 
--- a result that is there takes a place
-one_group : (capacity : Option ℕ) (next count : ℕ) (groups : List Group) → is_some capacity ≡ true → 0 < count
-    → length (groups_with next count (unit_weight capacity) groups) ≡ length groups + 1
-one_group None next count groups there some = absurd (cc)
-one_group (Some c) next count groups there some =
-    let last : Group = record { until = next + (count - 1); weight = 1 } in
-    let more : (count == 0) ≡ false = ne_eqb count 0 (λ e. omega arith) in
-    ap (λ (test : Bool). length (cond (test || false) groups (groups ++ last ∷ []))) more
-    ∙ length-append groups (last ∷ [])
-
+-- the room of a result that is there does not come back at once
 none_back : (count weight room : ℕ) → 0 < count → room ≡ 0 → room_with count weight room ≡ 0
 none_back count weight room some none =
     let more : (count == 0) ≡ false = ne_eqb count 0 (λ e. omega arith) in
     ap (λ (test : Bool). room + cond test weight 0) more ∙ omega arith
+
+-- a result that is there takes the places of its weight
+more_weight : (next count weight : ℕ) (groups : List Group) → 0 < count
+    → weight_of (groups_with next count weight groups) ≡ weight_of groups + weight
+more_weight next count weight groups some =
+    let put = room_put next count weight 0 groups in
+    let none = none_back count weight 0 some refl in
+    omega (arith, put, none)
+
+one_place : (capacity : Option ℕ) → is_some capacity ≡ true → unit_weight capacity ≡ 1
+one_place None there = absurd (cc)
+one_place (Some c) there = refl
+
+many_places : (capacity : Option ℕ) (count : ℕ) → is_some capacity ≡ true → group_weight capacity count ≡ count
+many_places None count there = absurd (cc)
+many_places (Some c) count there = refl
 
 -- an outlet has the same left to give
 record IsLeftSo (before after : OutletState) : Type 0 where
@@ -135,7 +148,7 @@ module _ {W : Type 0} (layout : Layout W) (meaning : ℕ → Value → Result (L
   stays : (before after : BlockState) (journal later : List Mark) → LoadLaw layout meaning b before journal
       → after.kind ≡ before.kind → held_by after ≡ held_by before → IsLeftSo before.exits after.exits
       → took later ≡ took journal → gave later ≡ gave journal
-      → Counted (length before.exits.groups) after.ports
+      → Counted (weight_of before.exits.groups) after.ports
       → LoadLaw layout meaning b after later
   stays before after journal later law kind held exits taken given counts = record {
     groups = rw (kind, taken, held, given, exits.left, exits.next, exits.groups) law.groups;
@@ -168,7 +181,7 @@ module _ {W : Type 0} (layout : Layout W) (meaning : ℕ → Value → Result (L
       let port = change (port_at p block) in
       stays block (with_port p change block) journal later law refl
       (kept_at_one (λ q. q.waiting) block.ports p 0 port waiting) (left_so block.exits) taken given
-      (one_as_before (is_some limit) (length block.exits.groups) block.ports p port load waiting law.load)
+      (one_as_before (is_some limit) (weight_of block.exits.groups) block.ports p port load waiting law.load)
 
   -- all ports change, and hold as much as before
   all_move : (block after : BlockState) (journal later : List Mark) (change : PortState → PortState)
@@ -181,9 +194,9 @@ module _ {W : Type 0} (layout : Layout W) (meaning : ℕ → Value → Result (L
       (ap (λ (ports : List PortState). (port_in ports 0).waiting) ports
       ∙ kept_at_all (λ q. q.waiting) change block.ports 0 waiting)
       (subst (IsLeftSo block.exits) (sym exits) (left_so block.exits)) taken given
-      (rw ports (each_as_before (is_some limit) (length block.exits.groups) block.ports change
+      (rw ports (each_as_before (is_some limit) (weight_of block.exits.groups) block.ports change
       (λ port old there. load port ∙ old there
-      ∙ ap (λ (vs : List Value). length vs + length block.exits.groups) (sym (waiting port))) law.load))
+      ∙ ap (λ (vs : List Value). length vs + weight_of block.exits.groups) (sym (waiting port))) law.load))
 
   -- what it makes of a message
 
@@ -227,7 +240,7 @@ module _ {W : Type 0} (layout : Layout W) (meaning : ℕ → Value → Result (L
             (subst (λ (left : List Value). weighs kind (took journal) (drop 1 (held_by block)) (gave journal) left
             block.exits.next block.exits.groups) (append-nil block.exits.left) put);
         no_room = law.no_room;
-        load = done_counts value block (length block.exits.groups) first law.load;
+        load = done_counts value block (weight_of block.exits.groups) first law.load;
       }
   put_keeps kind (made ∷ values) value block journal same first shape law put =
       let port = port_at 0 block in
@@ -237,13 +250,14 @@ module _ {W : Type 0} (layout : Layout W) (meaning : ℕ → Value → Result (L
       record {
         groups = rw (same, held_next block takes_next alone refl, capacity) put;
         no_room = none_back (length (made ∷ values)) (unit_weight port.capacity) block.exits.room (omega arith) law.no_room;
-        load = each_after_one (Loads (length (puts_out (made ∷ values) block).exits.groups)) block.ports 0 (takes_next port)
+        load = each_after_one (Loads (weight_of (puts_out (made ∷ values) block).exits.groups)) block.ports 0 (takes_next port)
             (λ below there.
             let all = law.load 0 below there in
             let goes = one_goes port.waiting value first in
-            let more = one_group port.capacity (block.exits.next + length block.exits.left) (length (made ∷ values))
-            block.exits.groups (ap is_some capacity ∙ there) (omega arith) in
-            omega arith)
+            let more = more_weight (block.exits.next + length block.exits.left) (length (made ∷ values))
+            (unit_weight port.capacity) block.exits.groups (omega arith) in
+            let one = one_place port.capacity (ap is_some capacity ∙ there) in
+            omega (arith, all, goes, more, one))
             (λ q there other. absurd (other (omega arith)));
       }
 
@@ -253,13 +267,13 @@ module _ {W : Type 0} (layout : Layout W) (meaning : ℕ → Value → Result (L
 
   -- a block that makes one value of a message weighs it
   weighs_put : (kind : BlockKind) (values : List Value) (block : BlockState) (journal : List Mark) → block.kind ≡ kind
-      → is_many kind ≡ false → length values ≡ 1 → LoadLaw layout meaning b block journal
+      → is_many kind ≡ false → is_batch kind ≡ false → length values ≡ 1 → LoadLaw layout meaning b block journal
       → weighs kind (took journal) (drop 1 (held_by block)) (gave journal) (block.exits.left ++ values)
       block.exits.next (put_groups values block)
-  weighs_put kind values block journal same other one law =
+  weighs_put kind values block journal same other single one law =
       let exits = block.exits in
       weighs_one (block_makes layout meaning b) kind limit (took journal) (held_by block) (drop 1 (held_by block))
-      (gave journal) exits.left exits.next exits.groups values other one
+      (gave journal) exits.left exits.next exits.groups values other single one
       (subst (λ (k : BlockKind). weighs k (took journal) (held_by block) (gave journal) exits.left exits.next
       exits.groups) same law.groups)
 
@@ -267,15 +281,15 @@ module _ {W : Type 0} (layout : Layout W) (meaning : ℕ → Value → Result (L
       → block.kind ≡ kind → first_of (held_by block) ≡ Some value → block.exits.next ≡ 1 + length (gave journal)
       → ShapeLaw layout meaning b block → LoadLaw layout meaning b block journal
       → made_of kind (block_makes layout meaning b) value ≡ Ok values
-      → (is_action kind ≡ false → is_many kind ≡ false → length values ≡ 1)
+      → is_batch kind ≡ false → (is_action kind ≡ false → is_many kind ≡ false → length values ≡ 1)
       → LoadLaw layout meaning b (keeps_results kind values block) journal
-  results_kept Action values value block journal same first next shape law made single = record {
+  results_kept Action values value block journal same first next shape law made other single = record {
     groups = rw same (subst (λ (kind : BlockKind). weighs kind (took journal) (held_by block) (gave journal)
         block.exits.left block.exits.next block.exits.groups) same law.groups);
     no_room = law.no_room;
-    load = done_counts value block (length block.exits.groups) first law.load;
+    load = done_counts value block (weight_of block.exits.groups) first law.load;
   }
-  results_kept TransformMany values value block journal same first next shape law made single =
+  results_kept TransformMany values value block journal same first next shape law made other single =
       let exits = block.exits in
       jobs_change (puts_out values block) journal works_off
       (put_keeps TransformMany values value block journal same first shape law
@@ -285,35 +299,71 @@ module _ {W : Type 0} (layout : Layout W) (meaning : ℕ → Value → Result (L
       exits.groups) (held_first (held_by block) value first)
       (subst (λ (kind : BlockKind). weighs kind (took journal) (held_by block) (gave journal) exits.left exits.next
       exits.groups) same law.groups))))
-  results_kept Buffer values value block journal same first next shape law made single =
+  results_kept Buffer values value block journal same first next shape law made other single =
       put_keeps Buffer values value block journal same first shape law
-      (weighs_put Buffer values block journal same refl (single refl refl) law)
-  results_kept kind values value block journal same first next shape law made single =
+      (weighs_put Buffer values block journal same refl refl (single refl refl) law)
+  results_kept Batch values value block journal same first next shape law made other single = absurd (cc)
+  results_kept kind values value block journal same first next shape law made other single =
       jobs_change (puts_out values block) journal works_off
       (put_keeps kind values value block journal same first shape law
-      (weighs_put kind values block journal same refl (single refl refl) law))
+      (weighs_put kind values block journal same refl refl (single refl refl) law))
 
   yield_keeps : (result : Result (List Value) ℕ) (value : Value) (block : BlockState) (journal : List Mark)
       → first_of (held_by block) ≡ Some value → block.exits.next ≡ 1 + length (gave journal)
       → ShapeLaw layout meaning b block → LoadLaw layout meaning b block journal
-      → made_of block.kind (block_makes layout meaning b) value ≡ result
+      → is_batch block.kind ≡ false → made_of block.kind (block_makes layout meaning b) value ≡ result
       → LoadLaw layout meaning b (yields result block) journal
-  yield_keeps (Ok values) value block journal first next shape law made =
-      results_kept block.kind values value block journal refl first next shape law made
-      (λ other. made_is_one block.kind (block_in layout.blocks b).kind (meaning b) value values shape.kind_is
-      shape.built made other)
-  yield_keeps (Err number) value block journal first next shape law made =
+  yield_keeps (Ok values) value block journal first next shape law other made =
+      results_kept block.kind values value block journal refl first next shape law made other
+      (λ acts single. made_is_one block.kind (block_in layout.blocks b).kind (meaning b) value values shape.kind_is
+      shape.built made acts single other)
+  yield_keeps (Err number) value block journal first next shape law other made =
       all_move block (fails number block) journal journal port_fails refl refl refl (λ port. refl) (λ port. refl)
       refl refl law
 
   make_keeps : (held : Option Value) (block : BlockState) (journal : List Mark) → first_of (held_by block) ≡ held
       → block.exits.next ≡ 1 + length (gave journal)
-      → ShapeLaw layout meaning b block → LoadLaw layout meaning b block journal
+      → ShapeLaw layout meaning b block → LoadLaw layout meaning b block journal → is_batch block.kind ≡ false
       → LoadLaw layout meaning b (makes_of (block_makes layout meaning b) held block) journal
-  make_keeps None block journal first next shape law = law
-  make_keeps (Some value) block journal first next shape law =
+  make_keeps None block journal first next shape law other = law
+  make_keeps (Some value) block journal first next shape law other =
       yield_keeps (made_of block.kind (block_makes layout meaning b) value) value block journal first next shape law
-      refl
+      other refl
+
+  -- a row is made of messages that it holds
+  row_keeps : (block : BlockState) (journal : List Mark) (kind : BlockKind) → block.kind ≡ kind → is_batch kind ≡ true
+      → 0 < length (next_group block)
+      → ShapeLaw layout meaning b block → LoadLaw layout meaning b block journal
+      → LoadLaw layout meaning b (makes_row block) journal
+  row_keeps block journal Batch same batch some shape law =
+      let port = port_at 0 block in
+      let exits = block.exits in
+      let group = next_group block in
+      let count = length group in
+      let row = row_of group in
+      let alone = has_one_port layout meaning b block shape in
+      let below : 0 < length block.ports = omega (arith, alone) in
+      let capacity : port.capacity ≡ limit = (shape.ports 0 below).capacity in
+      let weighs_row : row_weight row ≡ count = ap (λ (vs : List Value). length vs) (values_of-items_from group) in
+      let kept : exits.groups ≡ rows_weighed limit exits.next exits.left =
+      subst (λ (k : BlockKind). weighs k (took journal) (held_by block) (gave journal) exits.left exits.next exits.groups)
+      same law.groups in
+      record {
+        groups = rw (same, capacity)
+            (ap (λ (groups : List Group). groups_with (exits.next + length exits.left) 1 (group_weight limit count) groups) kept
+            ∙ rows_put limit exits.next count exits.left row weighs_row some);
+        no_room = none_back 1 (group_weight port.capacity count) exits.room (omega arith) law.no_room;
+        load = each_after_one (Loads (weight_of (makes_row block).exits.groups)) block.ports 0 (takes_group block.size port)
+            (λ at there.
+            let all = law.load 0 at there in
+            let parts = length-append group (drop block.size port.waiting) in
+            let whole = ap (λ (vs : List Value). length vs) (take-append-drop block.size port.waiting) in
+            let more = more_weight (exits.next + length exits.left) 1 (group_weight port.capacity count) exits.groups (omega arith) in
+            let places = many_places port.capacity count (ap is_some capacity ∙ there) in
+            omega (arith, all, parts, whole, more, places))
+            (λ q there other. absurd (other (omega (arith, alone, there))));
+      }
+  row_keeps block journal _ same batch some shape law = absurd (cc)
 
   take_keeps : (p k : ℕ) (hand : Option Value) (node : NodeState) → p < length node.block.ports
       → ShapeLaw layout meaning b node.block → LoadLaw layout meaning b node.block node.journal
@@ -336,9 +386,9 @@ module _ {W : Type 0} (layout : Layout W) (meaning : ℕ → Value → Result (L
             (weighs_taken (block_makes layout meaning b) block.kind limit (took node.journal) (held_by block)
             (gave node.journal) exits.left exits.next exits.groups value law.groups);
         no_room = law.no_room;
-        load = each_after_one (Loads (length exits.groups)) block.ports p (closes k value port)
+        load = each_after_one (Loads (weight_of exits.groups)) block.ports p (closes k value port)
             (λ below there.
-            one_taken limit port.capacity port.load (length exits.groups) port.waiting value
+            one_taken limit port.capacity port.load (weight_of exits.groups) port.waiting value
             (shape.ports p below).capacity there (law.load p below there))
             (λ q there other. law.load q there);
       }
@@ -355,18 +405,17 @@ module _ {W : Type 0} (layout : Layout W) (meaning : ℕ → Value → Result (L
       let held = kept_at_all (λ port. port.waiting) change block.ports 0 (λ port. refl) in
       let taken = took_by_gave node.journal (out_link_at k node) value in
       let given = gave_by_gave node.journal (out_link_at k node) value in
-      let back = weight_back (block_makes layout meaning b) block.kind limit (took node.journal) (held_by block)
-      (gave node.journal) exits.left exits.next exits.groups law.groups in
+      let back = weight_stays exits.next exits.groups in
       record {
         groups = rw (held, taken, given)
             (weighs_given (block_makes layout meaning b) block.kind limit (took node.journal) (held_by block)
             (gave node.journal) exits.left exits.next exits.groups value next head law.groups);
         no_room = refl;
-        load = each_after_all (Loads (length (groups_after exits.next exits.groups))) change block.ports
+        load = each_after_all (Loads (weight_of (groups_after exits.next exits.groups))) change block.ports
             (λ q below there.
             let all = law.load q below there in
             let none = law.no_room in
-            omega arith);
+            omega (arith, all, none, back));
       }
 
   stop_keeps : (node : NodeState) (how : Outcome) (mark : Mark)
@@ -411,7 +460,14 @@ module _ {W : Type 0} (layout : Layout W) (meaning : ℕ → Value → Result (L
   call_keeps node NodeCall.begin law may =
       jobs_change node.block node.journal begins law.load
   call_keeps node NodeCall.make law may =
-      make_keeps (first_of (held_by node.block)) node.block node.journal refl law.gave.next_is law.shape law.load
+      let block = node.block in
+      makes_by (λ new. LoadLaw layout meaning b new node.journal) (block_makes layout meaning b) block
+      (λ batch.
+      let group = group_tells (held_by block) (leb block.size (length (held_by block)))
+      (has_port_ended (port_at 0 block).refusing) ((may_work_tells block may.waits).group batch) in
+      row_keeps block node.journal block.kind refl batch
+      (group_there block.size (held_by block) (law.shape.some_size batch) group.0) law.shape law.load)
+      (λ other. make_keeps (first_of (held_by block)) block node.journal refl law.gave.next_is law.shape law.load other)
   call_keeps node (NodeCall.complete p) law may =
       one_moves node.block node.journal (node.journal ++ Complete p ∷ []) p port_closes refl refl
       (took_no_more node.journal (Complete p) refl) (gave_no_more node.journal (Complete p) refl) law.load

@@ -1,15 +1,17 @@
 -- Each call keeps what a block makes of what it took.
-use Rattle.std.proofs.Common.{◌≡◌, ℕ, ◌<◌, true, List, [], ◌∷◌, ◌++◌, length, drop, Option, Some, None, Result, Ok, Err, refl, ap, sym, ◌∙◌, subst, append-nil, append_assoc, arith}
-use Rattle.std.proofs.lemmas.List.{get_or-set_same}
+use Rattle.std.proofs.Common.{◌≡◌, ℕ, ◌<◌, true, false, List, [], ◌∷◌, ◌++◌, length, take, drop, Option, Some, None, Result, Ok, Err, refl, ap, sym, ◌∙◌, subst, append-nil, append_assoc, arith}
+use Rattle.std.proofs.lemmas.List.{get_or-set_same, take-append-drop}
+use Rattle.flow_value.specs.View.{items_from, values_of, values_of-items_from}
 use Rattle.flow_value.specs.declared.value.Value.{Value}
 use Rattle.flow_link.specs.declared.draft.BlockKind.{BlockKind}
-use Rattle.flow_link.specs.declared.draft.BlockKind.TheVariants.{Buffer, Action, Transform, TransformMany}
+use Rattle.flow_link.specs.declared.draft.BlockKind.TheVariants.{Buffer, Action, Transform, TransformMany, Batch}
 use Rattle.flow_link.specs.declared.trace.Mark.{Mark}
 use Rattle.flow_link.specs.declared.trace.Mark.TheVariants.{Complete, Fault, Done}
 use Rattle.flow_link.specs.declared.trace.Outcome.{Outcome}
 use Rattle.flow_link.specs.declared.trace.Outcome.TheVariants as outcome
 use Rattle.flow_link.specs.JournalGrows.{taken_by_mark, given_by_mark}
 use Rattle.flow_link.specs.Layout.{Layout}
+use Rattle.flow_link.specs.Making.{all_items, items_of}
 use Rattle.flow_link.specs.Plan.{has_work}
 use Rattle.flow_link.specs.Trace.{took, gave}
 use Rattle.flow_link.specs.Worked.{WorkedInto}
@@ -19,14 +21,14 @@ use Rattle.flow_link.proofs.OneMoreWorked.{worked_more}
 use Rattle.flow_intake.specs.Port.{PortState, fresh_port, hand_in}
 use Rattle.flow_intake.specs.Calls.{first_of, wants, turns_down, postpones, refuses, consumes, opens, closes, looks as port_looks, takes_next, gives_room, port_closes, port_fails}
 use Rattle.flow_outlet.specs.Outlet.{OutletState, first_of as first_left, rest_of, head_of, gives, prepares, offers, denies, withdraws, ends_link, looks as exit_looks}
-use Rattle.flow_block.specs.Block.{BlockState, port_at, with_port, with_jobs, held_by, made_of, puts_out, put_by_kind, yields, keeps_results, makes_of, stops_by}
+use Rattle.flow_block.specs.Block.{BlockState, port_at, with_port, with_jobs, held_by, made_of, puts_out, put_by_kind, yields, keeps_results, makes_of, is_batch, row_of, takes_group, makes_row, stops_by}
 use Rattle.flow_block.specs.Jobs.{JobsState, begins, works_off}
 use Rattle.flow_block.specs.Node.{NodeState, NodeCall, takes_in, gives_from, in_link_at, out_link_at}
 use Rattle.flow_block.specs.NodeKeeps.{MakesKept, MayCall, after_call}
 use Rattle.flow_block.specs.NodeLaw.{NodeLaw, MakesLaw, MakesAs, FaultsOn}
 use Rattle.flow_block.specs.Planned.{block_makes}
 use Rattle.flow_block.proofs.GoingOn.{may_work_tells}
-use Rattle.flow_block.proofs.KindsBuilt.{has_one_port}
+use Rattle.flow_block.proofs.KindsBuilt.{has_one_port, makes_by}
 use Rattle.flow_block.proofs.PortsChange.{kept_at_one, kept_at_all}
 
 -- What is taken, given and made
@@ -53,6 +55,8 @@ takes_as result Transform taken held given left recorded value is =
     worked_held result taken held (given ++ left) value is
 takes_as result TransformMany taken held given left recorded value is =
     worked_held result taken held (given ++ left) value is
+takes_as result Batch taken held given left recorded value is =
+    ap (λ (vs : List Value). vs ++ value ∷ []) is ∙ append_assoc (all_items (given ++ left)) held (value ∷ [])
 takes_as result kind taken held given left recorded value is = tt
 
 gives_as : (result : Value → Result (List Value) ℕ) (kind : BlockKind) (taken held given left recorded : List Value)
@@ -73,6 +77,10 @@ gives_as result TransformMany taken held given (head ∷ rest) recorded value fi
     let same : head ≡ value = cc in
     subst (λ (vs : List Value). WorkedInto result taken held vs)
     (ap (λ (v : Value). given ++ v ∷ rest) same ∙ sym (append_assoc given (value ∷ []) rest)) is
+gives_as result Batch taken held given (head ∷ rest) recorded value first is =
+    let same : head ≡ value = cc in
+    is ∙ ap (λ (rows : List Value). all_items rows ++ held)
+    (ap (λ (v : Value). given ++ v ∷ rest) same ∙ sym (append_assoc given (value ∷ []) rest))
 gives_as result kind taken held given (head ∷ rest) recorded value first is = tt
 
 abbrev recorded_by_kind : BlockKind → List Value → List Value
@@ -81,22 +89,41 @@ recorded_by_kind _ values = []
 
 makes_as : (result : Value → Result (List Value) ℕ) (kind : BlockKind)
     (taken rest given left recorded values : List Value) (value : Value)
-    → made_of kind result value ≡ Ok values → MakesAs result kind taken (value ∷ rest) given left recorded
+    → is_batch kind ≡ false → made_of kind result value ≡ Ok values → MakesAs result kind taken (value ∷ rest) given left recorded
     → MakesAs result kind taken rest given (left ++ put_by_kind kind values) (recorded ++ recorded_by_kind kind values)
-makes_as result Buffer taken rest given left recorded values value made is =
+makes_as result Buffer taken rest given left recorded values value other made is =
     let same : values ≡ value ∷ [] = cc in
     is ∙ sym (append_assoc (given ++ left) (value ∷ []) rest)
     ∙ ap (λ (vs : List Value). vs ++ rest) (append_assoc given left (value ∷ []))
     ∙ ap (λ (vs : List Value). (given ++ (left ++ vs)) ++ rest) (sym same)
-makes_as result Action taken rest given left recorded values value made is =
+makes_as result Action taken rest given left recorded values value other made is =
     (worked_more result taken value rest recorded values made is.0, append-nil left ∙ is.1)
-makes_as result Transform taken rest given left recorded values value made is =
+makes_as result Transform taken rest given left recorded values value other made is =
     subst (λ (vs : List Value). WorkedInto result taken rest vs) (append_assoc given left values)
     (worked_more result taken value rest (given ++ left) values made is)
-makes_as result TransformMany taken rest given left recorded values value made is =
+makes_as result TransformMany taken rest given left recorded values value other made is =
     subst (λ (vs : List Value). WorkedInto result taken rest vs) (append_assoc given left values)
     (worked_more result taken value rest (given ++ left) values made is)
-makes_as result kind taken rest given left recorded values value made is = tt
+makes_as result Batch taken rest given left recorded values value other made is = absurd (cc)
+makes_as result kind taken rest given left recorded values value other made is = tt
+
+-- the messages of rows, with one row more
+items_more : (rows : List Value) (values : List Value) → all_items (rows ++ row_of values ∷ []) ≡ all_items rows ++ values
+items_more [] values = append-nil (values_of (items_from values)) ∙ values_of-items_from values
+items_more (row ∷ rows) values =
+    ap (λ (vs : List Value). items_of row ++ vs) (items_more rows values)
+    ∙ sym (append_assoc (items_of row) (all_items rows) values)
+
+row_as : (size : ℕ) (taken held given left : List Value) → taken ≡ all_items (given ++ left) ++ held
+    → taken ≡ all_items (given ++ (left ++ row_of (take size held) ∷ [])) ++ drop size held
+row_as size taken held given left is =
+    let group = take size held in
+    let rest = drop size held in
+    is ∙ ap (λ (vs : List Value). all_items (given ++ left) ++ vs) (sym (take-append-drop size held))
+    ∙ sym (append_assoc (all_items (given ++ left)) group rest)
+    ∙ ap (λ (vs : List Value). vs ++ rest)
+    (sym (items_more (given ++ left) group)
+    ∙ ap all_items (append_assoc given left (row_of group ∷ [])))
 
 -- The fault of its own function
 
@@ -117,12 +144,13 @@ record Fails (result : Value → Result (List Value) ℕ) (kind : BlockKind) (va
   fails : result value ≡ Err number
 
 fails_so : (result : Value → Result (List Value) ℕ) (kind : BlockKind) (value : Value) (number : ℕ)
-    → is_built_kind kind ≡ true → made_of kind result value ≡ Err number → Fails result kind value number
-fails_so result Buffer value number built made = absurd (cc)
-fails_so result Action value number built made = record { works = refl; fails = made }
-fails_so result Transform value number built made = record { works = refl; fails = made }
-fails_so result TransformMany value number built made = record { works = refl; fails = made }
-fails_so result kind value number built made = absurd (cc)
+    → is_built_kind kind ≡ true → is_batch kind ≡ false → made_of kind result value ≡ Err number
+    → Fails result kind value number
+fails_so result Buffer value number built other made = absurd (cc)
+fails_so result Action value number built other made = record { works = refl; fails = made }
+fails_so result Transform value number built other made = record { works = refl; fails = made }
+fails_so result TransformMany value number built other made = record { works = refl; fails = made }
+fails_so result kind value number built other made = absurd (cc)
 
 module _ {W : Type 0} (layout : Layout W) (meaning : ℕ → Value → Result (List Value) ℕ) (b : ℕ) where
   -- what the law reads is as it was
@@ -220,15 +248,15 @@ module _ {W : Type 0} (layout : Layout W) (meaning : ℕ → Value → Result (L
       ∙ changes (port_at 0 block) ∙ ap (λ (vs : List Value). drop 1 vs) first
 
   made_more : (kind : BlockKind) (block : BlockState) (journal : List Mark) (value : Value) (rest values : List Value)
-      → block.kind ≡ kind
+      → block.kind ≡ kind → is_batch kind ≡ false
       → held_by block ≡ value ∷ rest → made_of kind (block_makes layout meaning b) value ≡ Ok values
       → MakesLaw layout meaning b block journal
       → MakesAs (block_makes layout meaning b) kind (took journal) rest (gave journal)
       (block.exits.left ++ put_by_kind kind values) (block.recorded ++ recorded_by_kind kind values)
-  made_more kind block journal value rest values same first made law =
+  made_more kind block journal value rest values same other first made law =
       let left = block.exits.left in
       let result = block_makes layout meaning b in
-      makes_as result kind (took journal) rest (gave journal) left block.recorded values value made
+      makes_as result kind (took journal) rest (gave journal) left block.recorded values value other made
       (subst (λ (k : BlockKind). MakesAs result k (took journal) (value ∷ rest) (gave journal) left block.recorded) same
       (subst (λ (held : List Value). MakesAs result block.kind (took journal) held (gave journal) left block.recorded)
       first law.makes))
@@ -253,59 +281,78 @@ module _ {W : Type 0} (layout : Layout W) (meaning : ℕ → Value → Result (L
 
   kept_as : (kind : BlockKind) (block : BlockState) (journal : List Mark) (value : Value) (rest values : List Value)
       → block.kind ≡ kind
-      → is_built_kind kind ≡ true → length block.ports ≡ 1 → block.fault ≡ None → held_by block ≡ value ∷ rest
+      → is_built_kind kind ≡ true → is_batch kind ≡ false → length block.ports ≡ 1 → block.fault ≡ None
+      → held_by block ≡ value ∷ rest
       → made_of kind (block_makes layout meaning b) value ≡ Ok values → MakesLaw layout meaning b block journal
       → MakesLaw layout meaning b (keeps_results kind values block) journal
-  kept_as Action block journal value rest values same built one none first made law =
+  kept_as Action block journal value rest values same built other one none first made law =
       let held = held_next block (λ port. gives_room 1 (takes_next port)) value rest one first (λ port. refl) in
-      let made_so = made_more Action block journal value rest values same first made law in
+      let made_so = made_more Action block journal value rest values same other first made law in
       record {
         makes = rw (same, held) (made_so.0, sym (append-nil block.exits.left) ∙ made_so.1);
         fault_is = λ number is. absurd (let never : None ≡ Some number = sym none ∙ is in cc);
       }
-  kept_as Buffer block journal value rest values same built one none first made law =
+  kept_as Buffer block journal value rest values same built other one none first made law =
       put_so Buffer values block journal value rest same one none first
-      (made_more Buffer block journal value rest values same first made law)
-  kept_as Transform block journal value rest values same built one none first made law =
+      (made_more Buffer block journal value rest values same other first made law)
+  kept_as Transform block journal value rest values same built other one none first made law =
       jobs_change (record { block = puts_out values block; journal = journal })
       (put_so Transform values block journal value rest same one none first
-      (made_more Transform block journal value rest values same first made law)) works_off
-  kept_as TransformMany block journal value rest values same built one none first made law =
+      (made_more Transform block journal value rest values same other first made law)) works_off
+  kept_as TransformMany block journal value rest values same built other one none first made law =
       jobs_change (record { block = puts_out values block; journal = journal })
       (put_so TransformMany values block journal value rest same one none first
-      (made_more TransformMany block journal value rest values same first made law)) works_off
-  kept_as kind block journal value rest values same built one none first made law = absurd (cc)
+      (made_more TransformMany block journal value rest values same other first made law)) works_off
+  kept_as kind block journal value rest values same built other one none first made law = absurd (cc)
 
   yielded : (block : BlockState) (journal : List Mark) (value : Value) (rest : List Value)
       (made : Result (List Value) ℕ)
       → length block.ports ≡ 1 → block.fault ≡ None → held_by block ≡ value ∷ rest
-      → is_built_kind block.kind ≡ true
+      → is_built_kind block.kind ≡ true → is_batch block.kind ≡ false
       → made_of block.kind (block_makes layout meaning b) value ≡ made → MakesLaw layout meaning b block journal
       → MakesLaw layout meaning b (yields made block) journal
-  yielded block journal value rest (Ok values) one none first built is law =
-      kept_as block.kind block journal value rest values refl built one none first is law
-  yielded block journal value rest (Err number) one none first built is law =
+  yielded block journal value rest (Ok values) one none first built other is law =
+      kept_as block.kind block journal value rest values refl built other one none first is law
+  yielded block journal value rest (Err number) one none first built other is law =
       let held = kept_at_all (λ port. port.waiting) port_fails block.ports 0 (λ port. refl) in
-      let faults = fails_so (block_makes layout meaning b) block.kind value number built is in
+      let faults = fails_so (block_makes layout meaning b) block.kind value number built other is in
       record {
         makes = rw held law.makes;
-        fault_is = λ other same. record {
+        fault_is = λ next same. record {
           works = faults.works;
           message = value;
           rest = rest;
           held_is = held ∙ first;
-          fails = faults.fails ∙ ap Err (let numbers : number ≡ other = cc in numbers);
+          fails = faults.fails ∙ ap Err (let numbers : number ≡ next = cc in numbers);
         };
       }
 
   made_next : (block : BlockState) (journal : List Mark) (held : List Value) → held_by block ≡ held
-      → length block.ports ≡ 1 → block.fault ≡ None → is_built_kind block.kind ≡ true
+      → length block.ports ≡ 1 → block.fault ≡ None → is_built_kind block.kind ≡ true → is_batch block.kind ≡ false
       → MakesLaw layout meaning b block journal
       → MakesLaw layout meaning b (makes_of (block_makes layout meaning b) (first_of held) block) journal
-  made_next block journal [] is one none built law = law
-  made_next block journal (value ∷ rest) is one none built law =
+  made_next block journal [] is one none built other law = law
+  made_next block journal (value ∷ rest) is one none built other law =
       let made = made_of block.kind (block_makes layout meaning b) value in
-      yielded block journal value rest made one none is built refl law
+      yielded block journal value rest made one none is built other refl law
+
+  -- it makes a row
+  row_made : (block : BlockState) (journal : List Mark) → length block.ports ≡ 1 → block.fault ≡ None
+      → (kind : BlockKind) → block.kind ≡ kind → is_batch kind ≡ true → MakesLaw layout meaning b block journal
+      → MakesLaw layout meaning b (makes_row block) journal
+  row_made block journal one none Batch same batch law =
+      let held : held_by (makes_row block) ≡ drop block.size (held_by block) =
+      ap (λ (port : PortState). port.waiting)
+      (get_or-set_same block.ports 0 (takes_group block.size (port_at 0 block)) (fresh_port None) (omega (arith, one))) in
+      let old : MakesAs (block_makes layout meaning b) Batch (took journal) (held_by block) (gave journal) block.exits.left
+      block.recorded =
+      subst (λ (kind : BlockKind). MakesAs (block_makes layout meaning b) kind (took journal) (held_by block)
+      (gave journal) block.exits.left block.recorded) same law.makes in
+      record {
+        makes = rw (same, held) (row_as block.size (took journal) (held_by block) (gave journal) block.exits.left old);
+        fault_is = λ number is. absurd (let never : None ≡ Some number = sym none ∙ is in cc);
+      }
+  row_made block journal one none _ same batch law = absurd (cc)
 
   after_each : (node : NodeState) (call : NodeCall) → NodeLaw layout meaning b node → MayCall layout meaning b call node
       → MakesLaw layout meaning b (after_call layout meaning b call node).block
@@ -324,7 +371,9 @@ module _ {W : Type 0} (layout : Layout W) (meaning : ℕ → Value → Result (L
       let block = node.block in
       let none = (may_work_tells block may.waits).no_fault in
       let one = has_one_port layout meaning b block law.shape in
-      made_next block node.journal (held_by block) refl one none law.shape.built law.makes
+      makes_by (λ new. MakesLaw layout meaning b new node.journal) (block_makes layout meaning b) block
+      (λ batch. row_made block node.journal one none block.kind refl batch law.makes)
+      (λ other. made_next block node.journal (held_by block) refl one none law.shape.built other law.makes)
   after_each node (NodeCall.complete p) law may =
       stays node.block (with_port p port_closes node.block) node.journal (node.journal ++ Complete p ∷ []) law.makes
       refl (kept_at_one (λ port. port.waiting) node.block.ports p 0 (port_closes (port_at p node.block)) refl)

@@ -37,7 +37,7 @@ use Rattle.flow_block.specs.NextMoves.{NextMovesMay, MayMoveIn, MayMoveOut, next
 use Rattle.flow_block.specs.Node.{NodeState}
 use Rattle.flow_block.specs.NodeKeeps.{InAt, IsOpen, MayPostpone}
 use Rattle.flow_block.specs.NodeLaw.{NodeLaw}
-use Rattle.flow_block.specs.Peeks.{is_held_up, could_stop, fault_cause, fault_at_ports, holds_nothing, is_pending}
+use Rattle.flow_block.specs.Peeks.{is_held_up, could_stop, fault_cause, fault_at_ports, is_worked_off, is_pending}
 use Rattle.flow_block.proofs.EndsTell.{none_come}
 use Rattle.flow_block.proofs.FaultsSeen.{cause_pending}
 use Rattle.flow_block.proofs.PlacesOfLinks.{end_in_is, count_in, few_enter}
@@ -335,7 +335,7 @@ only_own o k stopped up _ = refl
 held_up_pending : (block : BlockState) → is_held_up block ≡ true → is_pending block ≡ true
 held_up_pending block e =
     let parts = and_parts (could_stop block && only_waits block.exits) (is_some (fault_cause block)) e in
-    cause_pending block.fault (fault_at_ports block.ports) (holds_nothing block.ports) parts.1
+    cause_pending block.fault (fault_at_ports block.ports) (is_worked_off block) parts.1
 
 module _ {W : Type 0} (layout : Layout W) (meaning : ℕ → Value
     → Result (List Value) ℕ) (b : ℕ) (node : NodeState) (law : NodeLaw layout meaning b node) (k : ℕ)

@@ -1,11 +1,11 @@
 -- A node in order keeps what each block of a lawful run keeps.
-use Rattle.std.proofs.Common.{◌≡◌, ℕ, ◌+◌, ◌==◌, ◌<◌, ltb, Bool, true, false, not, ◌&&◌, ◌||◌, is_some, List, [], ◌∷◌, ◌++◌, length, Option, Some, None, refl, ap, sym, subst, ◌∙◌, arith, ⊎_elim, eq-eqb, eqb-true, ltb-true, le-leb}
+use Rattle.std.proofs.Common.{◌≡◌, ℕ, ◌+◌, ◌==◌, ◌<◌, ltb, Bool, true, false, not, ◌&&◌, ◌||◌, is_some, List, [], ◌∷◌, ◌++◌, length, Option, Some, None, refl, ap, ap₂, sym, subst, ◌∙◌, arith, ⊎_elim, eq-eqb, eqb-true, ltb-true, le-leb}
 use Rattle.std.proofs.lemmas.Bool.{OnTrue_at, and_from, and_parts, or_left, or_right}
 use Rattle.std.proofs.Math.Bool.{or_comm}
 use Rattle.flow_value.specs.When.{admits}
 use Rattle.flow_value.specs.declared.value.Value.{Value}
 use Rattle.flow_link.specs.declared.draft.BlockKind.{BlockKind}
-use Rattle.flow_link.specs.declared.draft.BlockKind.TheVariants.{Buffer, Action, Transform, TransformMany}
+use Rattle.flow_link.specs.declared.draft.BlockKind.TheVariants.{Buffer, Action, Transform, TransformMany, Batch}
 use Rattle.flow_link.specs.declared.phase.LinkEnd.{LinkEnd}
 use Rattle.flow_link.specs.declared.phase.LinkEnd.TheVariants as link_end
 use Rattle.flow_link.specs.declared.plan.LinkSource.TheVariants.{Block}
@@ -19,8 +19,8 @@ use Rattle.flow_link.specs.Copies.{copies_as}
 use Rattle.flow_link.specs.Endings.{own_fault, is_number, is_complete, has_nothing, stops, completes_once}
 use Rattle.flow_link.specs.Law.{is_own_mark, has_own_marks, has_room_for, takes_level, is_passed, gives_in_order, keeps_link_order}
 use Rattle.flow_link.specs.LinkOk.{IsWithin}
-use Rattle.flow_link.specs.Lists.{every, some, below, is_empty}
-use Rattle.flow_link.specs.Making.{outputs, load}
+use Rattle.flow_link.specs.Lists.{every, some, below, is_empty, same_values}
+use Rattle.flow_link.specs.Making.{outputs, load, group_size, all_items, are_groups, row_weight, before_complete, whole_until}
 use Rattle.flow_link.specs.Plan.{begins_at, ends_at, ends_at_port, is_one_taker, is_reserving, reserves_by_kind, is_steady, port_count}
 use Rattle.flow_link.specs.Stage.{source_stage_of, target_stage_of, refusal_of}
 use Rattle.flow_link.specs.Trace.{BlockTrace, Run, took, gave, gave_over, took_over, has_complete, has_fault, has_ended, is_done, is_faulted, is_used_up, is_cut, block_of, link_of, link_numbers, trace_of, marks_of, held_at, left_at, ports_of, given_by}
@@ -28,7 +28,7 @@ use Rattle.flow_link.specs.Views as views
 use Rattle.flow_link.specs.Worked.{WorkedInto}
 use Rattle.flow_link.specs.NotBuilt.{is_built_kind}
 use Rattle.flow_link.proofs.RoundsOfWalks.{some_here_below}
-use Rattle.flow_link.proofs.ListTests.{or_not, every_below, every_weaker_below, length_numbers, or_others}
+use Rattle.flow_link.proofs.ListTests.{or_not, every_below, every_weaker_below, length_numbers, or_others, same_values_where}
 use Rattle.flow_intake.specs.Port.{EndState, PortState, end_in, fresh_end, fresh_port, coming as coming_at, is_coming as is_coming_at}
 use Rattle.flow_intake.specs.PortLaw.{has_ended as has_port_ended}
 use Rattle.flow_intake.specs.Ended.{is_completion}
@@ -37,9 +37,9 @@ use Rattle.flow_outlet.specs.declared.ends.OutEnd.{OutEnd}
 use Rattle.flow_outlet.specs.End.{no_end, is_cut as is_end_cut}
 use Rattle.flow_outlet.specs.Law.{is_refused}
 use Rattle.flow_outlet.specs.Outlet.{end_at, end_of}
-use Rattle.flow_block.specs.Block.{port_at, held_by}
+use Rattle.flow_block.specs.Block.{port_at, held_by, is_batch}
 use Rattle.flow_block.specs.Node.{NodeState, in_view}
-use Rattle.flow_block.specs.NodeLaw.{NodeLaw, MakesAs, RefusesFor as RefusesBy, refuses_over, run_seen_by, is_fault_seen}
+use Rattle.flow_block.specs.NodeLaw.{NodeLaw, MakesAs, RowsLaw, is_whole, RefusesFor as RefusesBy, refuses_over, run_seen_by, is_fault_seen}
 use Rattle.flow_block.specs.NodeSeen.{IsNodeOf, NodesAreLawful}
 use Rattle.flow_block.specs.Planned.{out_place, in_place, block_makes}
 use Rattle.flow_block.proofs.EndsTell.{ended_complete, ended_fault, ended_plain, used_up_told, ended_stage, refused_told, spoken_is_out, refusal_told, coming_told, completion_told, fault_told}
@@ -48,6 +48,17 @@ use Rattle.flow_block.proofs.KindsBuilt.{by_kind, planned_built}
 use Rattle.flow_block.proofs.NodesSeen.{held_is, none_held, own_fault_is, complete_is, load_is}
 use Rattle.flow_block.proofs.PlacesOfLinks.{IsEndIn, HasEndOut, end_in_is, end_in_of, end_out_is, end_out_of, count_of_links, there_at_port, there_at_block, source_there}
 use Rattle.flow_block.proofs.TestsTell.{some_tells}
+
+-- what is left of rows that are all whole is whole
+every_behind : (test : Value → Bool) (front rest : List Value) → every test (front ++ rest) ≡ true → every test rest ≡ true
+every_behind test [] rest all = all
+every_behind test (first ∷ front) rest all =
+    every_behind test front rest (and_parts (test first) (every test (front ++ rest)) all).1
+
+left_whole : (complete none : Bool) (test : Value → Bool) (given left : List Value)
+    → ((complete && none) || every test (given ++ left)) ≡ true → (complete || every test left) ≡ true
+left_whole true none test given left e = refl
+left_whole false none test given left e = every_behind test given left e
 
 -- one of three
 or_one : (a b c : Bool) → a ≡ true → a || b || c ≡ true
@@ -136,24 +147,53 @@ module _ {W : Type 0} (run : Run W) (ends : ℕ → Ends) (b : ℕ) (node : Node
   outputs_are : gave node.journal ++ node.block.exits.left ≡ outputs run b
   outputs_are = sym (ap (λ (t : BlockTrace). gave t.journal ++ t.left) is.trace)
 
-  makes_by : (kind : BlockKind) → is_built_kind kind ≡ true → MakesAsKind kind → NodeMakes run ends b kind
-  makes_by Buffer built makes =
+  makes_by : (kind : BlockKind) → is_built_kind kind ≡ true
+      → (is_batch kind ≡ true → RowsLaw node.block.size node.journal (held_by node.block) node.block.exits.left)
+      → MakesAsKind kind → NodeMakes run ends b kind
+  makes_by Buffer built rows makes =
       ap took marks_are ∙ makes ∙ ap (λ (made : List Value). made ++ held_by node.block) outputs_are
       ∙ ap (λ (held : List Value). outputs run b ++ held) (sym (held_is run ends b node law is 0))
-  makes_by Action built makes = record {
+  makes_by Action built rows makes = record {
     works = works_so node.block.recorded (trace_of run b).recorded
         (sym (ap (λ (t : BlockTrace). t.recorded) is.trace)) makes.0;
     none_left = left_is ∙ makes.1;
   }
-  makes_by Transform built makes =
+  makes_by Transform built rows makes =
       works_so (gave node.journal ++ node.block.exits.left) (outputs run b) outputs_are makes
-  makes_by TransformMany built makes =
+  makes_by TransformMany built rows makes =
       works_so (gave node.journal ++ node.block.exits.left) (outputs run b) outputs_are makes
-  makes_by _ built makes = absurd (cc)
+  makes_by Batch built rows makes =
+      let size : node.block.size ≡ group_size run b = law.shape.size_is in
+      let law_of = rows refl in
+      let outs = outputs run b in
+      let taken = took (marks_of run b) in
+      let all = all_items outs ++ held_at run b 0 in
+      let same : taken ≡ all =
+      ap took marks_are ∙ makes ∙ ap (λ (made : List Value). all_items made ++ held_by node.block) outputs_are
+      ∙ ap (λ (held : List Value). all_items outs ++ held) (sym (held_is run ends b node law is 0)) in
+      let groups : are_groups row_weight (group_size run b) outs ≡ true =
+      ap₂ (λ (n : ℕ) (made : List Value). are_groups row_weight n made) (sym size) (sym outputs_are) ∙ law_of.groups in
+      let before : every (is_whole (group_size run b)) (gave (before_complete 0 (marks_of run b))) ≡ true =
+      ap₂ (λ (n : ℕ) (marks : List Mark). every (is_whole n) (gave (before_complete 0 marks))) (sym size) marks_are
+      ∙ law_of.whole_before in
+      let left : (has_complete 0 (marks_of run b) || every (is_whole (group_size run b)) (left_at run b)) ≡ true =
+      ap₂ (λ (n : ℕ) (marks : List Mark). has_complete 0 marks || every (is_whole n) (left_at run b)) (sym size) marks_are
+      ∙ ap (λ (made : List Value). has_complete 0 node.journal || every (is_whole node.block.size) made) left_is
+      ∙ left_whole (has_complete 0 node.journal) (is_empty (held_by node.block)) (is_whole node.block.size)
+      (gave node.journal) node.block.exits.left law_of.whole in
+      and_from (same_values taken all && are_groups row_weight (group_size run b) outs)
+      (whole_until row_weight (group_size run b) (marks_of run b) (left_at run b) 0)
+      (and_from (same_values taken all) (are_groups row_weight (group_size run b) outs)
+      (same_values_where taken all same) groups)
+      (and_from (every (is_whole (group_size run b)) (gave (before_complete 0 (marks_of run b))))
+      (has_complete 0 (marks_of run b) || every (is_whole (group_size run b)) (left_at run b)) before left)
+  makes_by _ built rows makes = absurd (cc)
 
   makes_so : NodeMakes run ends b (block_of run b).kind
   makes_so =
-      makes_by (block_of run b).kind plain (subst MakesAsKind law.shape.kind_is law.makes.makes)
+      makes_by (block_of run b).kind plain
+      (λ batch. law.rows (ap is_batch law.shape.kind_is ∙ batch))
+      (subst MakesAsKind law.shape.kind_is law.makes.makes)
 
   -- what its ends of the links into it know
   seen_stage : (p k : ℕ) → p < length node.block.ports → k < length (ends_of p)
@@ -193,11 +233,11 @@ module _ {W : Type 0} (run : Run W) (ends : ℕ → Ends) (b : ℕ) (node : Node
   level_so : takes_level run b ≡ true
   level_so =
       or_left (not (is_reserving (block_of run b))) _
-      (by_kind (λ kind. not (reserves_by_kind kind (block_of run b).greedy) ≡ true) refl refl refl refl
+      (by_kind (λ kind. not (reserves_by_kind kind (block_of run b).greedy) ≡ true) refl refl refl refl refl
       (block_of run b).kind plain)
 
   copies_so : copies_as (as_seen run ends) b (block_of run b).kind ≡ true
-  copies_so = by_kind (λ kind. copies_as (as_seen run ends) b kind ≡ true) refl refl refl refl (block_of run b).kind plain
+  copies_so = by_kind (λ kind. copies_as (as_seen run ends) b kind ≡ true) refl refl refl refl refl (block_of run b).kind plain
 
   -- how it ends
   done_so : is_done (marks_of run b) ≡ true → (is_complete run b && has_nothing run b) ≡ true

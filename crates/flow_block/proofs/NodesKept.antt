@@ -8,6 +8,7 @@ use Rattle.flow_block.proofs.LoadHolds.{load_kept}
 use Rattle.flow_block.proofs.MakesHold.{makes_kept}
 use Rattle.flow_block.proofs.MarksHold.{marks_kept}
 use Rattle.flow_block.proofs.PortsHold.{ports_kept}
+use Rattle.flow_block.proofs.RowsHold.{rows_kept}
 use Rattle.flow_block.proofs.ShapeHolds.{shape_kept}
 
 pub nodes_kept : (W : Type 0) → NodesKept W
@@ -17,6 +18,7 @@ nodes_kept W layout meaning b node call law may = record {
   exits = exits_kept W layout meaning b node call law may;
   gave = gave_kept W layout meaning b node call law may;
   makes = makes_kept W layout meaning b node call law may;
+  rows = rows_kept W layout meaning b node call law may;
   jobs = jobs_kept W layout meaning b node call law may;
   load = load_kept W layout meaning b node call law may;
   marks = marks_kept W layout meaning b node call law may;

@@ -1,8 +1,9 @@
 -- A node that has nothing to do rests when its links do.
-use Rattle.std.proofs.Common.{◌≡◌, ℕ, ◌+◌, ◌<◌, ◌≤◌, Bool, true, false, not, ◌==◌, ◌&&◌, ◌||◌, List, [], ◌∷◌, length, is_some, Option, Some, None, refl, ap, ap₂, sym, subst, ◌∙◌, ⊎_elim, arith, eq-eqb}
-use Rattle.std.proofs.lemmas.Bool.{or_cases, ltb-false, and_parts, or_left, or_right, false_from_ne_true}
+use Rattle.std.proofs.Common.{◌≡◌, ℕ, ◌+◌, ◌<◌, ◌≤◌, Bool, true, false, not, ltb, leb, ◌==◌, ◌&&◌, ◌||◌, cond, List, [], ◌∷◌, length, map, sum, is_some, Option, Some, None, refl, ap, ap₂, sym, subst, ◌∙◌, ⊎_elim, arith, eq-eqb}
+use Rattle.std.proofs.lemmas.Bool.{or_cases, ltb-false, lt-ltb, and_from, and_parts, or_left, or_right, false_from_ne_true}
 use Rattle.flow_value.specs.declared.value.Value.{Value}
 use Rattle.flow_link.specs.declared.draft.BlockKind.{BlockKind}
+use Rattle.flow_link.specs.declared.draft.BlockKind.TheVariants.{Buffer, Action, Transform, TransformMany, Batch}
 use Rattle.flow_link.specs.declared.plan.LinkSource.TheVariants.{Block}
 use Rattle.flow_link.specs.declared.plan.LinkTarget.TheVariants.{Port}
 use Rattle.flow_link.specs.declared.stage.SourceStage.TheVariants as source
@@ -13,10 +14,10 @@ use Rattle.flow_link.specs.Composes.{Ends, is_done_with}
 use Rattle.flow_link.specs.Endings.{is_complete, has_nothing}
 use Rattle.flow_link.specs.Facts.{facts_in}
 use Rattle.flow_link.specs.LinkOk.{IsWithin}
-use Rattle.flow_link.specs.Lists.{every, is_empty as is_none_left}
-use Rattle.flow_link.specs.Making.{load}
-use Rattle.flow_link.specs.Plan.{port_count, is_broadcast, is_reserving}
-use Rattle.flow_link.specs.Quiet.{first_of as first_left, has_this_fault, faulted_by_itself, rests, rests_as, is_done_if_can, head_as, head_from, admits_head, is_full_with}
+use Rattle.flow_link.specs.Lists.{every, below, is_empty as is_none_left}
+use Rattle.flow_link.specs.Making.{load, group_size}
+use Rattle.flow_link.specs.Plan.{port_count, ports_by_kind, is_broadcast, is_reserving}
+use Rattle.flow_link.specs.Quiet.{first_of as first_left, has_this_fault, faulted_by_itself, rests, rests_as, held_in_all, holds_nothing as run_holds_nothing, all_completed, has_no_group, is_done_if_can, head_as, head_from, admits_head, is_full_with}
 use Rattle.flow_link.specs.RestsByParts.{OutletRests, KindRests, NodeRests, is_over as is_view_over, is_postponed as is_view_postponed, has_seen_end, has_to_wait, lacks_an_offer}
 use Rattle.flow_link.specs.Stage.{source_stage_of, target_stage_of}
 use Rattle.flow_link.specs.Trace.{BlockTrace, Run, gave_over, given_by, given_over, took_at, has_complete, has_fault, has_ended, is_faulted, is_done, is_used_up, is_cut as is_run_cut, block_of, link_of, marks_of, held_at, left_at, ports_of}
@@ -31,22 +32,36 @@ use Rattle.flow_outlet.specs.Law.{admits_head as admits}
 use Rattle.flow_outlet.specs.Outlet.{OutletState, first_of, is_empty, head_of, end_at, stage_at, end_of}
 use Rattle.flow_outlet.specs.declared.ends.LinkRule.{LinkRule}
 use Rattle.flow_outlet.proofs.StagesTell.{waits_for}
-use Rattle.flow_block.specs.Block.{BlockState, port_at}
+use Rattle.flow_block.specs.Block.{BlockState, port_at, held_by, is_batch}
 use Rattle.flow_block.specs.Node.{NodeState}
-use Rattle.flow_block.specs.NodeLaw.{NodeLaw, outcome_in}
+use Rattle.flow_block.specs.NodeLaw.{NodeLaw, has_made_all, outcome_in}
 use Rattle.flow_block.specs.NodeRests.{HasNothingToDo, EndsRest, NodesRest}
 use Rattle.flow_block.specs.NodeSeen.{IsNodeOf}
-use Rattle.flow_block.specs.Peeks.{holds_nothing, all_ended}
+use Rattle.flow_block.specs.Peeks.{holds_nothing, has_group, all_ended}
 use Rattle.flow_block.specs.Planned.{rule_of, out_place, in_place}
 use Rattle.flow_block.proofs.EndsAtRest.{over_unless, not_cut, not_stopped, no_room_where}
+use Rattle.flow_block.proofs.EndsHold.{no_group_left}
 use Rattle.flow_block.proofs.EndsTell.{limit_is, no_room_left, free_back, postponed_back, end_back}
 use Rattle.flow_block.proofs.FaultsSeen.{not_seen_at_ends, not_seen_at_ports}
+use Rattle.flow_block.proofs.GoingOn.{open_goes_on}
 use Rattle.flow_block.proofs.JournalTells.{stopped_tells, fault_marked, faulted_marked, none_stopped, stopped_ends, ended_by_complete}
-use Rattle.flow_block.proofs.KindsBuilt.{by_kind, planned_built}
-use Rattle.flow_block.proofs.NodesSeen.{none_held, own_fault_is, complete_is, load_is}
-use Rattle.flow_block.proofs.NothingToDo.{held_none, none_seen, no_coming, free_at, waiting_goes, not_admitted, not_finished, left_where}
+use Rattle.flow_block.proofs.KindsBuilt.{by_kind, planned_built, has_one_port}
+use Rattle.flow_block.proofs.NodesSeen.{held_is, none_held, own_fault_is, complete_is, load_is}
+use Rattle.flow_block.proofs.NothingToDo.{worked_off, none_seen, no_coming, free_at, waiting_goes, not_admitted, not_finished, left_where}
 use Rattle.flow_block.proofs.PlacesOfLinks.{end_in_of, end_out_of}
-use Rattle.flow_block.proofs.TestsTell.{every_where, some_where}
+use Rattle.flow_block.proofs.TestsTell.{every_tells, every_where, some_where}
+
+none_same : (values : List Value) → (is_none_left values && true) ≡ is_empty values
+none_same [] = refl
+none_same (value ∷ values) = refl
+
+and_true : (b : Bool) → (b && true) ≡ b
+and_true true = refl
+and_true false = refl
+
+nothing_in : (values : List Value) → is_empty values ≡ true → values ≡ []
+nothing_in [] e = refl
+nothing_in (value ∷ values) e = absurd (cc)
 
 ended_already : (ended none seen : Bool) → none ≡ true → seen ≡ true → (not ended && none && seen) ≡ false
     → ended ≡ true
@@ -92,18 +107,91 @@ module _ {W : Type 0} (run : Run W) (ends : ℕ → Ends) (b : ℕ) (node : Node
   of_marks : (P : List Mark → Type 0) → P node.journal → P (marks_of run b)
   of_marks P holds = subst P (sym marks_are) holds
 
-  rests_where : holds_nothing own.ports ≡ true → rests run b ≡ true
+  -- one port
+  ports_are : ports_of run b ≡ 0 ∷ []
+  ports_are =
+      by_kind (λ k. below (ports_by_kind k (block_of run b).ports) ≡ 0 ∷ []) refl refl refl refl refl kind built
+
+  held_count : held_in_all run b ≡ length (held_by own)
+  held_count =
+      ap (λ (ps : List ℕ). sum (map (λ p. length (held_at run b p)) ps)) ports_are
+      ∙ ap (λ (held : List Value). 0 + length held) (held_is run ends b node law part 0) ∙ omega arith
+
+  held_as : every (λ p. is_none_left (held_at run b p)) (ports_of run b) ≡ is_empty (held_by own)
+  held_as =
+      ap (λ (ps : List ℕ). every (λ p. is_none_left (held_at run b p)) ps) ports_are
+      ∙ ap (λ (held : List Value). is_none_left held && true) (held_is run ends b node law part 0)
+      ∙ none_same (held_by own)
+
+  completed_as : all_completed run b ≡ has_complete 0 node.journal
+  completed_as =
+      ap (λ (ps : List ℕ). every (λ p. has_complete p (marks_of run b)) ps) ports_are
+      ∙ ap (λ (marks : List Mark). has_complete 0 marks && true) marks_are
+      ∙ and_true (has_complete 0 node.journal)
+
+  -- a batch has no row to make
+  no_group_where : (ltb (length (held_by own)) own.size && (not (has_complete 0 node.journal) || is_empty (held_by own))) ≡ true
+      → has_no_group run b ≡ true
+  no_group_where none =
+      let both = and_parts (ltb (length (held_by own)) own.size)
+      (not (has_complete 0 node.journal) || is_empty (held_by own)) none in
+      and_from (ltb (held_in_all run b) (group_size run b)) (not (all_completed run b) || run_holds_nothing run b)
+      (ap₂ ltb held_count (sym law.shape.size_is) ∙ both.0)
+      (ap₂ (λ (complete none : Bool). not complete || none) completed_as held_as ∙ both.1)
+
+  -- a block of its kind that could make nothing more rests
+  rests_by : (k : BlockKind) → is_built_kind k ≡ true
+      → cond (is_batch k) (ltb (length (held_by own)) own.size && (not (has_complete 0 node.journal) || is_empty (held_by own)))
+      (holds_nothing own.ports) ≡ true
+      → rests_as run k b ≡ true
+  rests_by Batch there none = no_group_where none
+  rests_by Buffer there none = none_held run ends b node law part none
+  rests_by Action there none = none_held run ends b node law part none
+  rests_by Transform there none = none_held run ends b node law part none
+  rests_by TransformMany there none = none_held run ends b node law part none
+  rests_by _ there none = absurd (cc)
+
+  rests_where : has_made_all own node.journal ≡ true → rests run b ≡ true
   rests_where none =
-      let empty = none_held run ends b node law part none in
       or_right (faulted_by_itself run b) (rests_as run kind b)
-      (by_kind (λ k. rests_as run k b ≡ true) empty empty empty empty kind built)
+      (rests_by kind built
+      (ap (λ (k : BlockKind). cond (is_batch k) (ltb (length (held_by own)) own.size
+      && (not (has_complete 0 node.journal) || is_empty (held_by own))) (holds_nothing own.ports)) (sym law.shape.kind_is)
+      ∙ none))
+
+  -- it holds nothing
+  nothing_held_where : holds_nothing own.ports ≡ true → (batch : Bool) → is_batch own.kind ≡ batch
+      → has_made_all own node.journal ≡ true
+  nothing_held_where none true is =
+      let there : 0 < length own.ports = omega (arith, has_one_port run.layout run.meaning b own law.shape) in
+      let empty : is_empty (held_by own) ≡ true =
+      every_tells (λ (port : PortState). is_empty port.waiting) own.ports (fresh_port None) 0 none there in
+      let held = nothing_in (held_by own) empty in
+      let some = law.shape.some_size is in
+      rw is (and_from (ltb (length (held_by own)) own.size) (not (has_complete 0 node.journal) || is_empty (held_by own))
+      (ap (λ (vs : List Value). ltb (length vs) own.size) held ∙ lt-ltb 0 own.size some)
+      (or_right (not (has_complete 0 node.journal)) (is_empty (held_by own)) empty))
+  nothing_held_where none false is = rw is none
+
+  -- it could make nothing more, and goes on
+  made_all_where : own.stopped ≡ None → (batch : Bool) → is_batch own.kind ≡ batch
+      → cond batch (not (has_group own)) (holds_nothing own.ports) ≡ true → has_made_all own node.journal ≡ true
+  made_all_where going true is done =
+      let there : 0 < length own.ports = omega (arith, has_one_port run.layout run.meaning b own law.shape) in
+      let left =
+      no_group_left (held_by own) own.size (leb own.size (length (held_by own)))
+      (has_port_ended (port_at 0 own).refusing) (has_complete 0 node.journal) (law.shape.some_size is) refl
+      (λ unended. (open_goes_on run.layout run.meaning b own node.journal law.ends 0 there unended).1) done in
+      rw is left
+  made_all_where going false is done = rw is done
 
   marked : (how : Outcome) → own.stopped ≡ Some how → outcome_in node.journal ≡ Some how
   marked how e = sym law.ends.stopped_is ∙ e
 
   worked_where : (stopped : Option Outcome) → own.stopped ≡ stopped → rests run b ≡ true
-  worked_where None e = rests_where (held_none run.layout run.meaning b node law nothing rest e)
-  worked_where (Some Done) e = rests_where (law.ends.done_empty e).0
+  worked_where None e =
+      rests_where (made_all_where e (is_batch own.kind) refl (worked_off run.layout run.meaning b node law nothing rest e))
+  worked_where (Some Done) e = rests_where (nothing_held_where (law.ends.done_empty e).0 (is_batch own.kind) refl)
   worked_where (Some (Faulted n)) e =
       ⊎_elim
       (λ fault.
@@ -147,7 +235,7 @@ module _ {W : Type 0} (run : Run W) (ends : ℕ → Ends) (b : ℕ) (node : Node
     served =
         or_left (not (is_broadcast kind) || is_faulted (marks_of run b)) (is_none_left (left_at run b))
         (or_left (not (is_broadcast kind)) (is_faulted (marks_of run b))
-        (by_kind (λ k. not (is_broadcast k) ≡ true) refl refl refl refl kind built));
+        (by_kind (λ k. not (is_broadcast k) ≡ true) refl refl refl refl refl kind built));
   }
 
   -- Its links out
@@ -226,7 +314,7 @@ module _ {W : Type 0} (run : Run W) (ends : ℕ → Ends) (b : ℕ) (node : Node
       by_kind
           (λ k. admits_head run l (head_as run b l false k) ≡ true
           → admits_head run l (first_left (left_at run b)) ≡ true)
-          (λ same. same) (λ same. same) (λ same. same) (λ same. same) kind built e,
+          (λ same. same) (λ same. same) (λ same. same) (λ same. same) (λ same. same) kind built e,
     )
 
     -- the predicate of the end is that of the link

@@ -7,21 +7,22 @@ use Rattle.flow_link.specs.declared.trace.Mark.{Mark}
 use Rattle.flow_link.specs.Composes.{Ends}
 use Rattle.flow_link.specs.Endings.{first_fault, fault_by_kind, fault_of, own_fault, is_complete, is_complete_as}
 use Rattle.flow_link.specs.Lists.{every, is_empty}
-use Rattle.flow_link.specs.Making.{results_of, block_result, worked, part_left, load, load_as}
+use Rattle.flow_link.specs.Making.{results_of, block_result, worked, part_left, load, load_as, all_items}
 use Rattle.flow_link.specs.Plan.{has_work, port_count}
 use Rattle.flow_link.specs.Trace.{BlockTrace, Run, took, gave, has_complete, partly_left, block_of, marks_of, held_at, left_at, ports_of}
 use Rattle.flow_link.proofs.ListTests.{every_below, front_without}
 use Rattle.flow_intake.specs.Port.{PortState, fresh_port}
+use Rattle.flow_outlet.specs.Fits.{weight_of}
 use Rattle.flow_outlet.specs.Outlet.{is_empty as has_none}
 use Rattle.flow_block.specs.Block.{port_at, held_by}
 use Rattle.flow_block.specs.Node.{NodeState}
-use Rattle.flow_block.specs.NodeLaw.{NodeLaw, WeighsAs, PartlyGiven, weighed}
+use Rattle.flow_block.specs.NodeLaw.{NodeLaw, WeighsAs, PartlyGiven, weighed, rows_weighed}
 use Rattle.flow_block.specs.NodeSeen.{IsNodeOf}
 use Rattle.flow_block.specs.Peeks.{holds_nothing}
 use Rattle.flow_block.specs.Planned.{block_makes}
 use Rattle.flow_block.proofs.KindsBuilt.{by_kind, planned_built}
 use Rattle.flow_block.proofs.TestsTell.{every_tells, none_left}
-use Rattle.flow_block.proofs.WeightsOfResults.{count_weighed, count_partial}
+use Rattle.flow_block.proofs.WeightsOfResults.{weight_weighed, weight_rows, weight_partial}
 
 module _ {W : Type 0} (run : Run W) (ends : ℕ → Ends) (b : ℕ) (node : NodeState)
     (law : NodeLaw run.layout run.meaning b node) (part : IsNodeOf run ends b node) where
@@ -49,32 +50,44 @@ module _ {W : Type 0} (run : Run W) (ends : ℕ → Ends) (b : ℕ) (node : Node
   pub complete_is : is_complete run b ≡ every (λ p. has_complete p (marks_of run b)) (ports_of run b)
   complete_is =
       by_kind (λ kind. is_complete_as run kind b ≡ every (λ p. has_complete p (marks_of run b)) (ports_of run b))
-      refl refl refl refl (block_of run b).kind (planned_built run.layout run.meaning b node.block law.shape)
+      refl refl refl refl refl (block_of run b).kind (planned_built run.layout run.meaning b node.block law.shape)
 
   -- how a block of this kind has its messages counted
   abbrev LoadIs : ℕ → BlockKind → Type 0
   LoadIs p kind =
       WeighsAs (block_makes run.layout run.meaning b) kind (block_of run b).capacity (took node.journal)
       (held_by node.block) (gave node.journal) node.block.exits.left node.block.exits.next node.block.exits.groups
-      → load_as run b kind p ≡ length (port_at p node.block).waiting + length node.block.exits.groups
+      → load_as run b kind p ≡ length (port_at p node.block).waiting + weight_of node.block.exits.groups
 
   -- what it has left is of one message each
   load_of_left : (p : ℕ) → is_some (block_of run b).capacity ≡ true
       → node.block.exits.groups ≡ weighed (block_of run b).capacity node.block.exits.next node.block.exits.left
       → length (held_at run b p) + length (left_at run b)
-      ≡ length (port_at p node.block).waiting + length node.block.exits.groups
+      ≡ length (port_at p node.block).waiting + weight_of node.block.exits.groups
   load_of_left p limited weighs =
       ap₂ (λ (held left : List Value). length held + length left) (held_is p)
       (ap (λ (t : BlockTrace). t.left) part.trace)
       ∙ ap (λ (n : ℕ). length (port_at p node.block).waiting + n)
-      (sym (ap length weighs
-      ∙ count_weighed (block_of run b).capacity node.block.exits.next node.block.exits.left limited))
+      (sym (ap weight_of weighs
+      ∙ weight_weighed (block_of run b).capacity node.block.exits.next node.block.exits.left limited))
+
+  -- the messages of the rows that it has left
+  load_of_rows : (p : ℕ) → is_some (block_of run b).capacity ≡ true
+      → node.block.exits.groups ≡ rows_weighed (block_of run b).capacity node.block.exits.next node.block.exits.left
+      → length (held_at run b p) + length (all_items (left_at run b))
+      ≡ length (port_at p node.block).waiting + weight_of node.block.exits.groups
+  load_of_rows p limited weighs =
+      ap₂ (λ (held left : List Value). length held + length (all_items left)) (held_is p)
+      (ap (λ (t : BlockTrace). t.left) part.trace)
+      ∙ ap (λ (n : ℕ). length (port_at p node.block).waiting + n)
+      (sym (ap weight_of weighs
+      ∙ weight_rows (block_of run b).capacity node.block.exits.next node.block.exits.left limited))
 
   -- the messages whose results are not wholly given
   part_left_is : is_some (block_of run b).capacity ≡ true
       → (partial : PartlyGiven (block_makes run.layout run.meaning b) (block_of run b).capacity (took node.journal)
       (held_by node.block) (gave node.journal) node.block.exits.left node.block.exits.groups)
-      → part_left run b (results_of (block_result run b) (worked run b)) ≡ length node.block.exits.groups
+      → part_left run b (results_of (block_result run b) (worked run b)) ≡ weight_of node.block.exits.groups
   part_left_is limited partial =
       let works = partial.works in
       let front : worked run b ≡ works.done =
@@ -86,14 +99,15 @@ module _ {W : Type 0} (run : Run W) (ends : ℕ → Ends) (b : ℕ) (node : Node
       ∙ ap (part_left run b) works.worked
       ∙ ap (λ (marks : List Mark). partly_left (length (gave marks)) works.results)
       (ap (λ (t : BlockTrace). t.journal) part.trace)
-      ∙ sym (ap length partial.groups_are
-      ∙ count_partial (block_of run b).capacity (length (gave node.journal)) works.results limited)
+      ∙ sym (ap weight_of partial.groups_are
+      ∙ weight_partial (block_of run b).capacity (length (gave node.journal)) works.results limited)
 
   pub load_is : (p : ℕ) → is_some (block_of run b).capacity ≡ true
-      → load run b p ≡ length (port_at p node.block).waiting + length node.block.exits.groups
+      → load run b p ≡ length (port_at p node.block).waiting + weight_of node.block.exits.groups
   load_is p limited =
       by_kind (LoadIs p) (load_of_left p limited) (load_of_left p limited) (load_of_left p limited)
       (λ partial. ap₂ (λ (held : List Value) (left : ℕ). length held + left) (held_is p) (part_left_is limited partial))
+      (load_of_rows p limited)
       (block_of run b).kind (planned_built run.layout run.meaning b node.block law.shape)
       (subst (λ (kind : BlockKind). WeighsAs (block_makes run.layout run.meaning b) kind (block_of run b).capacity
       (took node.journal) (held_by node.block) (gave node.journal) node.block.exits.left node.block.exits.next

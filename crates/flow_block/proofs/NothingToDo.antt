@@ -1,13 +1,15 @@
 -- What a node that has nothing to do knows of itself, where its ends rest.
-use Rattle.std.proofs.Common.{◌≡◌, ℕ, ◌<◌, Bool, true, false, cond, not, ◌==◌, ◌&&◌, ◌||◌, List, [], ◌∷◌, length, is_some, is_none, Option, Some, None, Result, refl, ap, ap₂, sym, subst, ◌∙◌, arith, eq-eqb}
-use Rattle.std.proofs.lemmas.Bool.{OnTrue_at, or_from, or_parts, and_from, false_from_ne_true}
+use Rattle.std.proofs.Common.{◌≡◌, ℕ, ◌<◌, leb, Bool, true, false, cond, not, ◌==◌, ◌&&◌, ◌||◌, List, [], ◌∷◌, length, is_some, is_none, Option, Some, None, Result, refl, ap, ap₂, sym, subst, ◌∙◌, arith, eq-eqb}
+use Rattle.std.proofs.lemmas.Bool.{OnTrue_at, or_from, or_right, or_parts, and_from, false_from_ne_true}
 use Rattle.flow_value.specs.declared.value.Value.{Value}
 use Rattle.flow_value.specs.declared.when.When.{When}
 use Rattle.flow_link.specs.declared.stage.SourceStage.{SourceStage}
 use Rattle.flow_link.specs.declared.stage.SourceStage.TheVariants as source
 use Rattle.flow_link.specs.Layout.{Layout}
+use Rattle.flow_link.specs.Plan.{has_work}
 use Rattle.flow_link.proofs.ListTests.{never_both}
 use Rattle.flow_intake.specs.Port.{PortState, fresh_port, stage_at as port_stage, coming}
+use Rattle.flow_intake.specs.PortLaw.{has_ended as has_port_ended}
 use Rattle.flow_outlet.specs.End.{is_over, is_out, is_waiting, is_cut, is_closed, speaks_of, rejects}
 use Rattle.flow_outlet.specs.Law.{admits_head as admits}
 use Rattle.flow_outlet.specs.Order.{StopsAt}
@@ -16,18 +18,18 @@ use Rattle.flow_outlet.specs.declared.ends.OutEnd.{OutEnd}
 use Rattle.flow_outlet.proofs.OffersInOrder.{offers_in_order}
 use Rattle.flow_outlet.proofs.StagesTell.{free_is, at_itself}
 use Rattle.flow_outlet.proofs.TestsTell.{three_all}
-use Rattle.flow_block.specs.Block.{BlockState, port_at, held_by}
+use Rattle.flow_block.specs.Block.{BlockState, port_at, held_by, is_batch}
 use Rattle.flow_block.specs.Node.{NodeState}
 use Rattle.flow_block.specs.NodeLaw.{NodeLaw}
 use Rattle.flow_block.specs.NodeRests.{HasNothingToDo, EndsRest}
-use Rattle.flow_block.specs.Peeks.{fault_at_ports, holds_nothing, nothing_comes, all_ended, is_pending, fault_cause, could_stop, next_fault, is_held_up, may_finish}
+use Rattle.flow_block.specs.Peeks.{fault_at_ports, holds_nothing, has_group, has_next, is_worked_off, may_work, may_make, nothing_comes, all_ended, is_pending, fault_cause, could_stop, next_fault, is_held_up, may_finish}
 use Rattle.flow_block.proofs.EndsAtRest.{not_out, must_wait, away_waits, none_away, waiting_stays, free_stays, not_cut, not_coming}
 use Rattle.flow_block.proofs.EndsTell.{none_come}
 use Rattle.flow_block.proofs.FaultsSeen.{first_none}
 use Rattle.flow_block.proofs.GoingOn.{away_goes_on, waiting_away}
 use Rattle.flow_block.proofs.JobsRest.{holds_none}
-use Rattle.flow_block.proofs.KindsBuilt.{has_one_port}
-use Rattle.flow_block.proofs.TestsTell.{every_where}
+use Rattle.flow_block.proofs.KindsBuilt.{has_one_port, batch_idle}
+use Rattle.flow_block.proofs.TestsTell.{every_tells, every_where}
 
 offer_none : (offer : Option ℕ) → ((j : ℕ) → offer ≡ Some j → ⊥) → offer ≡ None
 offer_none None h = refl
@@ -54,6 +56,12 @@ not_rejected when (Some value) e = ap not e
 
 closed_unless : (end : OutEnd) → end.stage ≡ source.Free → is_cut end ≡ false → is_closed end ≡ false
 closed_unless end free cut = ap₂ (λ (over cut : Bool). over || cut) (ap is_over free) cut
+
+none_in_group : (held : List Value) (enough ended : Bool) → ended ≡ true
+    → (not (is_empty held) && (enough || ended)) ≡ false → is_empty held ≡ true
+none_in_group [] enough ended is none = refl
+none_in_group (value ∷ held) enough ended is none =
+    never_both (enough || ended) (or_right enough ended is) none
 
 -- What the node knows of itself
 
@@ -111,22 +119,58 @@ module _ {W : Type 0} (layout : Layout W) (meaning : ℕ → Value → Result (L
   no_own_fault : block.stopped ≡ None → block.fault ≡ None
   no_own_fault going = (first_none block.fault _ (no_cause going)).0
 
-  no_held : block.stopped ≡ None → held_by block ≡ []
-  no_held going =
+  no_held : block.stopped ≡ None → is_batch block.kind ≡ false → held_by block ≡ []
+  no_held going other =
       let well = no_own_fault going in
-      holds_none block going well law.jobs.some_lane (law.jobs.drained well) nothing.makes nothing.begins nothing.ends
+      holds_none block going well other law.jobs.some_lane (law.jobs.drained well) nothing.makes nothing.begins nothing.ends
 
-  pub held_none : block.stopped ≡ None → holds_nothing block.ports ≡ true
-  held_none going =
+  all_held : is_empty (held_by block) ≡ true → holds_nothing block.ports ≡ true
+  all_held none =
       every_where (λ (port : PortState). is_empty port.waiting) block.ports (fresh_port None) (λ p small.
       let first : 0 ≡ p = omega (arith, has_one_port layout meaning b block law.shape) in
-      subst (λ (q : ℕ). is_empty (port_at q block).waiting ≡ true) first
-      (ap is_empty (no_held going)))
+      subst (λ (q : ℕ). is_empty (port_at q block).waiting ≡ true) first none)
+
+  -- a batch has no row to make
+  no_group : block.stopped ≡ None → is_batch block.kind ≡ true → has_group block ≡ false
+  no_group going batch =
+      false_from_ne_true (has_group block) (λ group.
+      never_both (may_make block)
+      (and_from (may_work block) (not (has_work block.kind))
+      (and_from (is_none block.stopped && is_none block.fault) (has_next block)
+      (and_from (is_none block.stopped) (is_none block.fault) (ap is_none going) (ap is_none (no_own_fault going)))
+      (ap (λ (is : Bool). cond is (has_group block) (not (is_empty (held_by block)))) batch ∙ group))
+      (ap not (batch_idle block.kind batch)))
+      nothing.makes)
+
+  -- it has worked off what it holds
+  worked_off_by : block.stopped ≡ None → (batch : Bool) → is_batch block.kind ≡ batch
+      → cond batch (not (has_group block)) (holds_nothing block.ports) ≡ true
+  worked_off_by going true is = ap not (no_group going is)
+  worked_off_by going false is = all_held (ap is_empty (no_held going is))
+
+  pub worked_off : block.stopped ≡ None → is_worked_off block ≡ true
+  worked_off going = worked_off_by going (is_batch block.kind) refl
+
+  ended_first : all_ended block.ports ≡ true → has_port_ended (port_at 0 block).refusing ≡ true
+  ended_first ended =
+      every_tells (λ (port : PortState). has_port_ended port.refusing) block.ports (fresh_port None) 0 ended
+      (omega (arith, has_one_port layout meaning b block law.shape))
+
+  -- where its ports have completed, it holds nothing
+  held_by_none : block.stopped ≡ None → all_ended block.ports ≡ true → (batch : Bool) → is_batch block.kind ≡ batch
+      → holds_nothing block.ports ≡ true
+  held_by_none going ended true is =
+      all_held (none_in_group (held_by block) (leb block.size (length (held_by block)))
+      (has_port_ended (port_at 0 block).refusing) (ended_first ended) (no_group going is))
+  held_by_none going ended false is = all_held (ap is_empty (no_held going is))
+
+  held_none : block.stopped ≡ None → all_ended block.ports ≡ true → holds_nothing block.ports ≡ true
+  held_none going ended = held_by_none going ended (is_batch block.kind) refl
 
   pub none_seen : block.stopped ≡ None → fault_at_ports block.ports ≡ None
   none_seen going =
-      ap (λ (none : Bool). cond none (fault_at_ports block.ports) None) (sym (held_none going))
-      ∙ (first_none block.fault (cond (holds_nothing block.ports) (fault_at_ports block.ports) None) (no_cause going)).1
+      ap (λ (none : Bool). cond none (fault_at_ports block.ports) None) (sym (worked_off going))
+      ∙ (first_none block.fault (cond (is_worked_off block) (fault_at_ports block.ports) None) (no_cause going)).1
 
   not_pending : block.stopped ≡ None → is_pending block ≡ false
   not_pending going = ap₂ (λ (own seen : Option ℕ). is_some own || is_some seen) (no_own_fault going) (none_seen going)
@@ -190,5 +234,5 @@ module _ {W : Type 0} (layout : Layout W) (meaning : ℕ → Value → Result (L
       never_both (may_finish block)
       (all_five (could_stop block) (all_ended block.ports) (holds_nothing block.ports) (is_empty exits.left)
       (is_at_rest exits)
-      (could going) ended (held_none going) left at_rest)
+      (could going) ended (held_none going ended) left at_rest)
       nothing.finishes

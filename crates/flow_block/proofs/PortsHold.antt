@@ -1,5 +1,6 @@
 -- Each call keeps a block's ports in order.
 use Rattle.std.proofs.Common.{◌≡◌, ◌≢◌, ℕ, ◌+◌, ◌-◌, ◌<◌, ◌≤◌, ◌==◌, cond, Bool, true, List, [], ◌∷◌, ◌++◌, length, map, set, drop, Option, Some, None, is_some, Result, Ok, Err, refl, ap, sym, ◌∙◌, subst, arith, ne_eqb, eq-eqb, eqb-true, length-append}
+use Rattle.std.proofs.lemmas.List.{length-drop}
 use Rattle.flow_value.specs.declared.value.Value.{Value}
 use Rattle.flow_link.specs.declared.draft.BlockKind.{BlockKind}
 use Rattle.flow_link.specs.declared.draft.BlockKind.TheVariants.{Action}
@@ -9,14 +10,16 @@ use Rattle.flow_link.specs.Facts.{facts_in}
 use Rattle.flow_link.specs.JournalGrows.{taken_by_mark}
 use Rattle.flow_link.specs.Layout.{Layout}
 use Rattle.flow_link.specs.Plan.{block_in}
-use Rattle.flow_link.specs.Trace.{took, took_at, gave}
+use Rattle.flow_link.specs.Trace.{took_at}
 use Rattle.flow_link.specs.Views.{LinkFacts}
 use Rattle.flow_intake.specs.Port.{PortState, coming, is_hand, fresh_port}
 use Rattle.flow_intake.specs.PortLaw.{PortLaw}
 use Rattle.flow_intake.specs.Calls.{first_of, wants, turns_down, postpones, refuses, consumes, opens, closes, looks, takes_next, gives_room, port_closes, port_fails}
 use Rattle.flow_intake.proofs.CallsKeepOrder.{moves_keep}
+use Rattle.flow_outlet.specs.Fits.{weight_of}
 use Rattle.flow_outlet.specs.Outlet.{head_of, weight_at, gives}
-use Rattle.flow_block.specs.Block.{BlockState, port_in, held_by, made_of, yields, keeps_results, makes_of}
+use Rattle.flow_outlet.proofs.OutletFits.{weight_stays}
+use Rattle.flow_block.specs.Block.{BlockState, port_in, held_by, made_of, yields, keeps_results, makes_of, takes_group}
 use Rattle.flow_block.specs.Node.{NodeState, NodeCall, hand_at, in_link_at, out_link_at, takes_in, gives_from}
 use Rattle.flow_block.specs.NodeLaw.{NodeLaw, ShapeLaw, PortsLaw, LoadLaw}
 use Rattle.flow_block.specs.NodeKeeps.{InAt, MayCall, after_call, PortsKept}
@@ -24,9 +27,9 @@ use Rattle.flow_block.specs.Peeks.{nothing_comes}
 use Rattle.flow_block.specs.Planned.{block_makes}
 use Rattle.flow_block.proofs.GoingOn.{may_complete_tells, may_fault_tells, may_finish_tells}
 use Rattle.flow_block.proofs.JournalTells.{took_same, took_here}
+use Rattle.flow_block.proofs.KindsBuilt.{makes_by}
 use Rattle.flow_block.proofs.PortsChange.{each_after_one, each_after_all}
 use Rattle.flow_block.proofs.TestsTell.{every_tells}
-use Rattle.flow_block.proofs.WeightsOfResults.{weight_back}
 
 -- how many messages a port took, when the journal has one more mark
 took_as_many : (q : ℕ) (journal : List Mark) (mark : Mark) → taken_by_mark (λ port link. port == q) mark ≡ []
@@ -130,6 +133,21 @@ module _ {W : Type 0} (layout : Layout W) (meaning : ℕ → Value → Result (L
   make_keeps (Some value) block journal first law =
       yield_keeps (made_of block.kind (block_makes layout meaning b) value) value block journal first law
 
+  -- it makes a row
+  row_keeps : (count : ℕ) (block : BlockState) (journal : List Mark) → PortsLaw layout meaning b block journal
+      → AreInOrder journal (set block.ports 0 (takes_group count (port_in block.ports 0)))
+  row_keeps count block journal law =
+      let port = port_in block.ports 0 in
+      one_port block.ports journal 0 (takes_group count port) law
+      (λ old. record {
+        each = old.each;
+        distinct = old.distinct;
+        known = old.known;
+        room = old.room;
+        took = old.took;
+        waits = λ there. let enough = old.waits there in rw (length-drop count port.waiting) (omega (arith, enough));
+      })
+
   take_keeps : (p k : ℕ) (hand : Option Value) (node : NodeState) → InAt is_hand p k node
       → PortsLaw layout meaning b node.block node.journal
       → PortsLaw layout meaning b (takes_in p k hand node).block (takes_in p k hand node).journal
@@ -151,10 +169,9 @@ module _ {W : Type 0} (layout : Layout W) (meaning : ℕ → Value → Result (L
       let load : LoadLaw layout meaning b node.block node.journal = law.load in
       let shape : ShapeLaw layout meaning b node.block = law.shape in
       let capacity = (block_in layout.blocks b).capacity in
-      let back = weight_back (block_makes layout meaning b) node.block.kind capacity (took node.journal)
-      (held_by node.block) (gave node.journal) exits.left exits.next exits.groups load.groups in
+      let back = weight_stays exits.next exits.groups in
       let none = load.no_room in
-      let count : exits.room + weight_at exits.next exits.groups ≤ length exits.groups = omega arith in
+      let count : exits.room + weight_at exits.next exits.groups ≤ weight_of exits.groups = omega (arith, back, none) in
       let mark = Gave (out_link_at k node) value in
       each_port node.block.ports node.journal (node.journal ++ mark ∷ []) (gives_room (gives k exits).room) law.ports
       (λ q. took_as_many q node.journal mark refl)
@@ -162,7 +179,7 @@ module _ {W : Type 0} (layout : Layout W) (meaning : ℕ → Value → Result (L
       let port = port_in node.block.ports q in
       moves_keep.give_room facts (taken node.journal q) port old (gives k exits).room
       (rw (shape.ports q below).capacity
-      (given_fits capacity (gives k exits).room port.load (length port.waiting) (length exits.groups) count
+      (given_fits capacity (gives k exits).room port.load (length port.waiting) (weight_of exits.groups) count
       (load.load q below))))
 
   -- it stops
@@ -216,7 +233,9 @@ module _ {W : Type 0} (layout : Layout W) (meaning : ℕ → Value → Result (L
   call_keeps node (NodeCall.look_out k phase) law may = law.ports
   call_keeps node NodeCall.begin law may = law.ports
   call_keeps node NodeCall.make law may =
-      make_keeps (first_of (held_by node.block)) node.block node.journal refl law.ports
+      makes_by (λ new. PortsLaw layout meaning b new node.journal) (block_makes layout meaning b) node.block
+      (λ batch. row_keeps node.block.size node.block node.journal law.ports)
+      (λ other. make_keeps (first_of (held_by node.block)) node.block node.journal refl law.ports)
   call_keeps node (NodeCall.complete p) law may =
       let port = port_in node.block.ports p in
       let none = (may_complete_tells p node.block may.completes).none_comes in

@@ -1,7 +1,7 @@
 -- Room that is to come back stays room that the ports gave out, whatever a block does.
-use Rattle.std.proofs.Common.{◌≡◌, ℕ, zero, suc, ◌+◌, ◌-◌, ◌<◌, ◌≤◌, ◌^◌, true, cond, List, [], ◌∷◌, ◌++◌, length, set, get_or, take, drop, map, Option, Some, None, is_some, refl, arith, subst, sym}
+use Rattle.std.proofs.Common.{◌≡◌, ℕ, zero, suc, ◌+◌, ◌-◌, ◌<◌, ◌≤◌, ◌^◌, true, cond, List, [], ◌∷◌, ◌++◌, length, set, get_or, take, drop, map, Option, Some, None, is_some, refl, ap, arith, subst, sym}
 use Rattle.std.proofs.lemmas.Bool.{and_parts}
-use Rattle.std.proofs.lemmas.List.{length-append, get_or_read}
+use Rattle.std.proofs.lemmas.List.{length-append, get_or_read, take-append-drop}
 use Rattle.flow_value.specs.declared.value.Value.{Value}
 use Rattle.flow_intake.specs.Port.{PortState, fresh_port}
 use Rattle.flow_intake.specs.Calls.{one_more, closes, gives_room, takes_next, port_closes, port_fails}
@@ -9,7 +9,7 @@ use Rattle.flow_outlet.specs.Fits.{weight_of}
 use Rattle.flow_outlet.specs.Outlet.{OutletState, is_empty, fresh_outlet, puts, gives, groups_after}
 use Rattle.flow_outlet.specs.declared.ends.LinkRule.{LinkRule}
 use Rattle.flow_outlet.proofs.OutletFits.{weight_stays, room_put}
-use Rattle.flow_block.specs.Block.{port_in, unit_weight}
+use Rattle.flow_block.specs.Block.{port_in, unit_weight, group_weight, takes_group}
 use Rattle.flow_block.specs.BlockFits.{GaveOut, AllGaveOut, BlockFits, weight_out}
 use Rattle.flow_block.specs.Peeks.{holds_nothing}
 
@@ -160,6 +160,59 @@ fits_put_out {ports} {exits} fits seen old seen_is old_is one waits small values
     record {
       room = subst (λ weight. AllGaveOut weight (set ports 0 (takes_next first))) (sym weights) (only_one (weight_out exits + unit_weight first.capacity) ports (takes_next first) one out);
       few = omega (arith, weights, weight_fits first.capacity first.waiting (weight_out exits) first.load waits was few fits.few);
+    }
+    )
+
+-- A row of the messages that wait longest is put
+
+group_fits : (capacity : Option ℕ) (size : ℕ) (waiting : List Value) (weight load : ℕ)
+    → cond (is_some capacity) (length waiting + weight) 0 ≤ load → cond (is_some capacity) load 0 < 2 ^ 32 → weight < 2 ^ 32
+    → weight + group_weight capacity (length (take size waiting)) < 2 ^ 32
+group_fits None size waiting weight load out small few = omega arith
+group_fits (Some room) size waiting weight load out small few =
+    let parts = length-append (take size waiting) (drop size waiting) in
+    let whole = ap (λ (vs : List Value). length vs) (take-append-drop size waiting) in
+    omega (arith, parts, whole, out, small)
+
+group_on : (capacity : Option ℕ) (size : ℕ) (waiting : List Value) (weight load : ℕ)
+    → cond (is_some capacity) (length waiting + weight) 0 ≤ load
+    → cond (is_some capacity) (length (drop size waiting) + (weight + group_weight capacity (length (take size waiting)))) 0 ≤ load
+group_on None size waiting weight load out = omega arith
+group_on (Some room) size waiting weight load out =
+    let parts = length-append (take size waiting) (drop size waiting) in
+    let whole = ap (λ (vs : List Value). length vs) (take-append-drop size waiting) in
+    omega (arith, parts, whole, out)
+
+-- there is room for the weight of the row
+pub row_fits : {ports : List PortState} {exits : OutletState} → BlockFits ports exits → (port : PortState)
+    → port ≡ get_or ports 0 port → length ports ≡ 1 → cond (is_some port.capacity) port.load 0 < 2 ^ 32 → (size : ℕ)
+    → exits.room + weight_of exits.groups + group_weight port.capacity (length (take size port.waiting)) < 2 ^ 32
+row_fits {ports} {exits} fits port is one small size =
+    let l : 0 < length ports = omega (arith, one) in
+    let first = get_or_read ports 0 port l is (fresh_port None) in
+    let was = subst (λ port. GaveOut (weight_out exits) port) (sym first) (out_there (weight_out exits) ports 0 l fits.room) in
+    group_fits port.capacity size port.waiting (weight_out exits) port.load was small fits.few
+
+pub fits_row : {ports : List PortState} {exits : OutletState} → BlockFits ports exits → (seen old : PortState)
+    → seen ≡ get_or ports 0 seen → old ≡ get_or ports 0 old → length ports ≡ 1
+    → cond (is_some seen.capacity) seen.load 0 < 2 ^ 32 → (size : ℕ) (row : Value)
+    → BlockFits (set ports 0 (takes_group size old))
+    (puts (row ∷ []) (group_weight seen.capacity (length (take size seen.waiting))) exits)
+fits_row {ports} {exits} fits seen old seen_is old_is one small size row =
+    let l : 0 < length ports = omega (arith, one) in
+    let port = port_in ports 0 in
+    let seen_first : seen ≡ port = get_or_read ports 0 seen l seen_is (fresh_port None) in
+    let old_first : old ≡ port = get_or_read ports 0 old l old_is (fresh_port None) in
+    let few : cond (is_some port.capacity) port.load 0 < 2 ^ 32 = rw seen_first at small in
+    let was = out_there (weight_out exits) ports 0 l fits.room in
+    let more = group_weight port.capacity (length (take size port.waiting)) in
+    let weights = room_put (exits.next + length exits.left) 1 more exits.room exits.groups in
+    let out = group_on port.capacity size port.waiting (weight_out exits) port.load was in
+    rw (seen_first, old_first) (
+    record {
+      room = subst (λ weight. AllGaveOut weight (set ports 0 (takes_group size port))) (sym weights)
+          (only_one (weight_out exits + more) ports (takes_group size port) one out);
+      few = omega (arith, weights, group_fits port.capacity size port.waiting (weight_out exits) port.load was few fits.few);
     }
     )
 

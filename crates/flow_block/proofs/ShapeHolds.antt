@@ -13,11 +13,12 @@ use Rattle.flow_intake.specs.Calls.{first_of, put_hand, wants, turns_down, postp
 use Rattle.flow_outlet.specs.declared.ends.OutEnd.{OutEnd}
 use Rattle.flow_outlet.specs.End.{end_in, no_end}
 use Rattle.flow_outlet.specs.Outlet.{head_of, gives}
-use Rattle.flow_block.specs.Block.{BlockState, port_in, held_by, made_of, yields, keeps_results, makes_of}
+use Rattle.flow_block.specs.Block.{BlockState, port_in, held_by, made_of, yields, keeps_results, makes_of, takes_group}
 use Rattle.flow_block.specs.Node.{NodeState, NodeCall, hand_at, takes_in, gives_from}
 use Rattle.flow_block.specs.NodeLaw.{ShapeLaw, PortAsPlanned}
 use Rattle.flow_block.specs.NodeKeeps.{after_call, ShapeKept}
 use Rattle.flow_block.specs.Planned.{block_makes}
+use Rattle.flow_block.proofs.KindsBuilt.{makes_by}
 use Rattle.flow_block.proofs.PortsChange.{each_after_one, each_after_all}
 
 -- what the plan says of a port stays
@@ -61,6 +62,9 @@ takes_next_same port = record { links = refl; capacity = refl; reserves = refl }
 gives_room_same : (count : ℕ) (port : PortState) → SamePort port (gives_room count port)
 gives_room_same count port = record { links = refl; capacity = refl; reserves = refl }
 
+takes_group_same : (count : ℕ) (port : PortState) → SamePort port (takes_group count port)
+takes_group_same count port = record { links = refl; capacity = refl; reserves = refl }
+
 done_same : (port : PortState) → SamePort port (gives_room 1 (takes_next port))
 done_same port = record { links = refl; capacity = refl; reserves = refl }
 
@@ -89,12 +93,14 @@ module _ {W : Type 0} (layout : Layout W) (meaning : ℕ → Value → Result (L
   -- a block that differs in one port, in each port, or in its exits' ends, or in what no plan speaks of
   one_port : (before after : BlockState) (p : ℕ) (change : PortState → PortState)
       → ((port : PortState) → SamePort port (change port))
-      → after.kind ≡ before.kind → after.ports ≡ set before.ports p (change (port_in before.ports p))
+      → after.kind ≡ before.kind → after.size ≡ before.size → after.ports ≡ set before.ports p (change (port_in before.ports p))
       → after.exits.ends ≡ before.exits.ends
       → ShapeLaw layout meaning b before → ShapeLaw layout meaning b after
-  one_port before after p change same kind ports ends law = record {
+  one_port before after p change same kind size ports ends law = record {
     built = rw kind law.built;
     kind_is = kind ∙ law.kind_is;
+    size_is = size ∙ law.size_is;
+    some_size = rw (kind, size) law.some_size;
     port_count_is = rw (ports, length-set before.ports p (change (port_in before.ports p))) law.port_count_is;
     ports =
         let port = port_in before.ports p in
@@ -106,12 +112,14 @@ module _ {W : Type 0} (layout : Layout W) (meaning : ℕ → Value → Result (L
 
   each_port : (before after : BlockState) (change : PortState → PortState)
       → ((port : PortState) → SamePort port (change port))
-      → after.kind ≡ before.kind → after.ports ≡ map change before.ports
+      → after.kind ≡ before.kind → after.size ≡ before.size → after.ports ≡ map change before.ports
       → map (λ (end : OutEnd). end.rule) after.exits.ends ≡ map (λ (end : OutEnd). end.rule) before.exits.ends
       → ShapeLaw layout meaning b before → ShapeLaw layout meaning b after
-  each_port before after change same kind ports rules law = record {
+  each_port before after change same kind size ports rules law = record {
     built = rw kind law.built;
     kind_is = kind ∙ law.kind_is;
+    size_is = size ∙ law.size_is;
+    some_size = rw (kind, size) law.some_size;
     port_count_is = rw (ports, length-map before.ports change) law.port_count_is;
     ports =
         rw ports (each_after_all IsPlanned change before.ports
@@ -121,12 +129,14 @@ module _ {W : Type 0} (layout : Layout W) (meaning : ℕ → Value → Result (L
     rules = rules ∙ law.rules;
   }
 
-  pub exits_move : (before after : BlockState) → after.kind ≡ before.kind → after.ports ≡ before.ports
+  pub exits_move : (before after : BlockState) → after.kind ≡ before.kind → after.size ≡ before.size → after.ports ≡ before.ports
       → map (λ (end : OutEnd). end.rule) after.exits.ends ≡ map (λ (end : OutEnd). end.rule) before.exits.ends
       → ShapeLaw layout meaning b before → ShapeLaw layout meaning b after
-  exits_move before after kind ports rules law = record {
+  exits_move before after kind size ports rules law = record {
     built = rw kind law.built;
     kind_is = kind ∙ law.kind_is;
+    size_is = size ∙ law.size_is;
+    some_size = rw (kind, size) law.some_size;
     port_count_is = rw ports law.port_count_is;
     ports = rw ports law.ports;
     rules = rules ∙ law.rules;
@@ -136,17 +146,17 @@ module _ {W : Type 0} (layout : Layout W) (meaning : ℕ → Value → Result (L
   results_kept : (kind : BlockKind) (values : List Value) (block : BlockState) → ShapeLaw layout meaning b block
       → ShapeLaw layout meaning b (keeps_results kind values block)
   results_kept Action values block law =
-      one_port block _ 0 (λ port. gives_room 1 (takes_next port)) done_same refl refl refl law
+      one_port block _ 0 (λ port. gives_room 1 (takes_next port)) done_same refl refl refl refl law
   results_kept kind [] block law =
-      one_port block _ 0 (λ port. gives_room 1 (takes_next port)) done_same refl refl refl law
+      one_port block _ 0 (λ port. gives_room 1 (takes_next port)) done_same refl refl refl refl law
   results_kept kind (value ∷ values) block law =
-      one_port block _ 0 takes_next takes_next_same refl refl refl law
+      one_port block _ 0 takes_next takes_next_same refl refl refl refl law
 
   yield_keeps : (result : Result (List Value) ℕ) (block : BlockState) → ShapeLaw layout meaning b block
       → ShapeLaw layout meaning b (yields result block)
   yield_keeps (Ok values) block law = results_kept block.kind values block law
   yield_keeps (Err number) block law =
-      each_port block _ port_fails port_fails_same refl refl refl law
+      each_port block _ port_fails port_fails_same refl refl refl refl law
 
   make_keeps : (held : Option Value) (block : BlockState) → ShapeLaw layout meaning b block
       → ShapeLaw layout meaning b (makes_of (block_makes layout meaning b) held block)
@@ -157,49 +167,52 @@ module _ {W : Type 0} (layout : Layout W) (meaning : ℕ → Value → Result (L
       → ShapeLaw layout meaning b (takes_in p k hand node).block
   take_keeps p k None node law = law
   take_keeps p k (Some value) node law =
-      one_port node.block _ p (closes k value) (closes_same k value) refl refl refl law
+      one_port node.block _ p (closes k value) (closes_same k value) refl refl refl refl law
 
   give_keeps : (k : ℕ) (head : Option Value) (node : NodeState) → ShapeLaw layout meaning b node.block
       → ShapeLaw layout meaning b (gives_from k head node).block
   give_keeps k None node law = law
   give_keeps k (Some value) node law =
       each_port node.block _ (gives_room (gives k node.block.exits).room)
-      (gives_room_same (gives k node.block.exits).room) refl refl
+      (gives_room_same (gives k node.block.exits).room) refl refl refl
       (rules_stay node.block.exits.ends k _ refl) law
 
   call_keeps : (node : NodeState) (call : NodeCall) → ShapeLaw layout meaning b node.block
       → ShapeLaw layout meaning b (after_call layout meaning b call node).block
-  call_keeps node (NodeCall.want p k) law = one_port node.block _ p (wants k) (wants_same k) refl refl refl law
+  call_keeps node (NodeCall.want p k) law = one_port node.block _ p (wants k) (wants_same k) refl refl refl refl law
   call_keeps node (NodeCall.turn_down p k) law =
-      one_port node.block _ p (turns_down k) (turns_down_same k) refl refl refl law
+      one_port node.block _ p (turns_down k) (turns_down_same k) refl refl refl refl law
   call_keeps node (NodeCall.postpone p k) law =
-      one_port node.block _ p (postpones k) (postpones_same k) refl refl refl law
-  call_keeps node (NodeCall.refuse p k) law = one_port node.block _ p (refuses k) (refuses_same k) refl refl refl law
-  call_keeps node (NodeCall.consume p k) law = one_port node.block _ p (consumes k) (consumes_same k) refl refl refl law
+      one_port node.block _ p (postpones k) (postpones_same k) refl refl refl refl law
+  call_keeps node (NodeCall.refuse p k) law = one_port node.block _ p (refuses k) (refuses_same k) refl refl refl refl law
+  call_keeps node (NodeCall.consume p k) law = one_port node.block _ p (consumes k) (consumes_same k) refl refl refl refl law
   call_keeps node (NodeCall.open_with p k value) law =
-      one_port node.block _ p (opens k value) (opens_same k value) refl refl refl law
+      one_port node.block _ p (opens k value) (opens_same k value) refl refl refl refl law
   call_keeps node (NodeCall.close p k) law = take_keeps p k (hand_at p k node) node law
   call_keeps node (NodeCall.offer k) law =
-      exits_move node.block _ refl refl (rules_stay node.block.exits.ends k _ refl) law
+      exits_move node.block _ refl refl refl (rules_stay node.block.exits.ends k _ refl) law
   call_keeps node (NodeCall.give k) law = give_keeps k (head_of node.block.exits) node law
   call_keeps node (NodeCall.deny k) law =
-      exits_move node.block _ refl refl (rules_stay node.block.exits.ends k _ refl) law
+      exits_move node.block _ refl refl refl (rules_stay node.block.exits.ends k _ refl) law
   call_keeps node (NodeCall.withdraw k) law =
-      exits_move node.block _ refl refl (rules_stay node.block.exits.ends k _ refl) law
+      exits_move node.block _ refl refl refl (rules_stay node.block.exits.ends k _ refl) law
   call_keeps node (NodeCall.end_link k how) law =
-      exits_move node.block _ refl refl (rules_stay node.block.exits.ends k _ refl) law
+      exits_move node.block _ refl refl refl (rules_stay node.block.exits.ends k _ refl) law
   call_keeps node (NodeCall.look_in p k phase) law =
-      one_port node.block _ p (looks k phase) (looks_same k phase) refl refl refl law
+      one_port node.block _ p (looks k phase) (looks_same k phase) refl refl refl refl law
   call_keeps node (NodeCall.look_out k phase) law =
-      exits_move node.block _ refl refl (rules_stay node.block.exits.ends k _ refl) law
-  call_keeps node NodeCall.begin law = exits_move node.block _ refl refl refl law
-  call_keeps node NodeCall.make law = make_keeps (first_of (held_by node.block)) node.block law
+      exits_move node.block _ refl refl refl (rules_stay node.block.exits.ends k _ refl) law
+  call_keeps node NodeCall.begin law = exits_move node.block _ refl refl refl refl law
+  call_keeps node NodeCall.make law =
+      makes_by (ShapeLaw layout meaning b) (block_makes layout meaning b) node.block
+      (λ batch. one_port node.block _ 0 (takes_group node.block.size) (takes_group_same node.block.size) refl refl refl refl law)
+      (λ other. make_keeps (first_of (held_by node.block)) node.block law)
   call_keeps node (NodeCall.complete p) law =
-      one_port node.block _ p port_closes port_closes_same refl refl refl law
+      one_port node.block _ p port_closes port_closes_same refl refl refl refl law
   call_keeps node (NodeCall.fault number) law =
-      each_port node.block _ port_closes port_closes_same refl refl refl law
+      each_port node.block _ port_closes port_closes_same refl refl refl refl law
   call_keeps node NodeCall.finish law =
-      each_port node.block _ port_closes port_closes_same refl refl refl law
+      each_port node.block _ port_closes port_closes_same refl refl refl refl law
 
 pub shape_kept : (W : Type 0) → ShapeKept W
 shape_kept W layout meaning b node call law may = call_keeps layout meaning b node call law.shape

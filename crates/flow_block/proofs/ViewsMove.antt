@@ -27,7 +27,7 @@ use Rattle.flow_outlet.specs.Law.{admits_head}
 use Rattle.flow_outlet.specs.Outlet.{OutletState, head_of, end_at, stage_at, gives, given_end, offers, prepares, denies, withdraws, ends_link, looks as exit_looks}
 use Rattle.flow_outlet.proofs.LawKept.{gives_in_order}
 use Rattle.flow_outlet.proofs.OffersInOrder.{offers_in_order}
-use Rattle.flow_block.specs.Block.{BlockState, port_at, with_port, with_jobs, begins, made_of, keeps_results, yields, makes_of, held_by, stops_by}
+use Rattle.flow_block.specs.Block.{BlockState, port_at, with_port, with_jobs, begins, made_of, keeps_results, yields, makes_of, makes, makes_row, takes_group, held_by, stops_by}
 use Rattle.flow_block.specs.Jobs.{JobsState, begins as one_more}
 use Rattle.flow_block.specs.Node.{NodeState, NodeCall, with_block, with_exits, marks, hand_at, in_link_at, out_link_at, takes_in, gives_from, view_of_in, view_of_out, in_view, out_view}
 use Rattle.flow_block.specs.NodeKeeps.{after_call}
@@ -36,6 +36,7 @@ use Rattle.flow_block.specs.Peeks.{is_pending}
 use Rattle.flow_block.specs.Planned.{block_makes}
 use Rattle.flow_block.specs.ViewsMove.{message_at, IsAboutIn, IsAboutOut, OthersStay, ViewsMove, CallsMoveViews}
 use Rattle.flow_block.proofs.JournalTells.{took_same, gave_same, took_here, gave_here}
+use Rattle.flow_block.proofs.KindsBuilt.{makes_by}
 use Rattle.flow_block.proofs.PlacesOfLinks.{links_in_differ, links_out_differ}
 use Rattle.flow_block.proofs.PortsChange.{kept_at_one, port_of_map, end_there, end_elsewhere}
 use Rattle.flow_block.proofs.TestsTell.{some_is}
@@ -230,10 +231,22 @@ yielding_stays (Err number) block =
       outs = refl;
     }
 
-making_stays : (result : Value → Result (List Value) ℕ) (message : Option Value) (block : BlockState)
+first_stays : (result : Value → Result (List Value) ℕ) (message : Option Value) (block : BlockState)
     → EndsStay block (makes_of result message block)
-making_stays result None block = record { ins = λ p below. refl; outs = refl }
-making_stays result (Some value) block = yielding_stays (made_of block.kind result value) block
+first_stays result None block = record { ins = λ p below. refl; outs = refl }
+first_stays result (Some value) block = yielding_stays (made_of block.kind result value) block
+
+row_stays : (block : BlockState) → EndsStay block (makes_row block)
+row_stays block = record {
+  ins = λ p below.
+      kept_at_one (λ (port : PortState). port.ends) block.ports 0 p (takes_group block.size (port_at 0 block)) refl;
+  outs = refl;
+}
+
+making_stays : (result : Value → Result (List Value) ℕ) (block : BlockState) → EndsStay block (makes result block)
+making_stays result block =
+    makes_by (EndsStay block) result block (λ batch. row_stays block)
+    (λ other. first_stays result (first_of (held_by block)) block)
 
 jobs_stay : (block : BlockState) (change : JobsState → JobsState) → EndsStay block (with_jobs change block)
 jobs_stay block change = record { ins = λ p below. refl; outs = refl }
@@ -377,7 +390,7 @@ calls_move_views W layout meaning b node NodeCall.begin law may =
     record { moved = tt; others = others_stay NodeCall.begin node (after_call layout meaning b NodeCall.begin node) none }
 calls_move_views W layout meaning b node NodeCall.make law may =
     let new = after_call layout meaning b NodeCall.make node in
-    let stay = making_stays (block_makes layout meaning b) (first_of (held_by node.block)) node.block in
+    let stay = making_stays (block_makes layout meaning b) node.block in
     let none = none_moves node new.block stay in
     record { moved = tt; others = others_stay NodeCall.make node new none }
 calls_move_views W layout meaning b node (NodeCall.complete p) law may =

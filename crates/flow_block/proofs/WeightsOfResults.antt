@@ -1,16 +1,18 @@
 -- Which weights are kept for results that are not wholly given, when there is one more result, and when one more value is given.
-use Rattle.std.proofs.Common.{◌≡◌, ℕ, ◌+◌, ◌-◌, ◌==◌, ◌≤◌, ltb, cond, Bool, true, false, List, [], ◌∷◌, ◌++◌, length, ◌||◌, Option, Some, None, is_some, Result, Ok, refl, ap, sym, ◌∙◌, arith, eq-eqb, ne_eqb, length-append, append_assoc}
+use Rattle.std.proofs.Common.{◌≡◌, ℕ, ◌+◌, ◌-◌, ◌==◌, ◌≤◌, ltb, cond, Bool, true, false, List, [], ◌∷◌, ◌++◌, length, ◌||◌, Option, Some, None, is_some, Result, Ok, refl, ap, ap₂, sym, ◌∙◌, ◌<◌, arith, eq-eqb, ne_eqb, length-append, append_assoc}
 use Rattle.std.proofs.lemmas.Bool.{ltb-true, ltb-false, lt-ltb}
 use Rattle.flow_value.specs.declared.value.Value.{Value}
 use Rattle.flow_link.specs.Lists.{concat}
+use Rattle.flow_link.specs.Making.{items_of, all_items, row_weight}
 use Rattle.flow_link.specs.Trace.{partly_left}
 use Rattle.flow_link.specs.declared.draft.BlockKind.{BlockKind}
-use Rattle.flow_link.specs.declared.draft.BlockKind.TheVariants.{TransformMany}
+use Rattle.flow_link.specs.declared.draft.BlockKind.TheVariants.{TransformMany, Batch}
 use Rattle.flow_link.proofs.OneMoreWorked.{results_more, concat_more}
 use Rattle.flow_outlet.specs.declared.group.Group.{Group}
-use Rattle.flow_outlet.specs.Outlet.{first_of, rest_of, groups_with, groups_after, weight_at}
-use Rattle.flow_block.specs.Block.{unit_weight}
-use Rattle.flow_block.specs.NodeLaw.{WeighsAs, weighed, partly, partly_weighed}
+use Rattle.flow_outlet.specs.Fits.{weight_of}
+use Rattle.flow_outlet.specs.Outlet.{first_of, rest_of, groups_with, groups_after}
+use Rattle.flow_block.specs.Block.{unit_weight, group_weight, is_batch}
+use Rattle.flow_block.specs.NodeLaw.{WeighsAs, weighed, rows_weighed, partly, partly_weighed}
 
 -- Results of one value
 
@@ -44,11 +46,55 @@ groups_given (Some c) next (value ∷ left) =
     ap (λ (b : Bool). cond b (weighed (Some c) (next + 1) left) (weighed (Some c) next (value ∷ left)))
     (eq-eqb next next refl)
 
-pub count_weighed : (capacity : Option ℕ) (next : ℕ) (left : List Value) → is_some capacity ≡ true
-    → length (weighed capacity next left) ≡ length left
-count_weighed None next left there = absurd (cc)
-count_weighed (Some c) next [] there = refl
-count_weighed (Some c) next (value ∷ left) there = omega (arith, count_weighed (Some c) (next + 1) left refl)
+pub weight_weighed : (capacity : Option ℕ) (next : ℕ) (left : List Value) → is_some capacity ≡ true
+    → weight_of (weighed capacity next left) ≡ length left
+weight_weighed None next left there = absurd (cc)
+weight_weighed (Some c) next [] there = refl
+weight_weighed (Some c) next (value ∷ left) there = omega (arith, weight_weighed (Some c) (next + 1) left refl)
+
+-- Rows
+
+rows_more : (capacity next : ℕ) (left : List Value) (row : Value)
+    → rows_weighed (Some capacity) next (left ++ row ∷ [])
+    ≡ rows_weighed (Some capacity) next left ++ record { until = next + length left; weight = row_weight row } ∷ []
+rows_more capacity next [] row = ap (λ (n : ℕ). record { until = n; weight = row_weight row } ∷ []) (omega arith)
+rows_more capacity next (first ∷ left) row =
+    let last : next + 1 + length left ≡ next + length (first ∷ left) = omega arith in
+    ap (λ (groups : List Group). record { until = next; weight = row_weight first } ∷ groups)
+    (rows_more capacity (next + 1) left row
+    ∙ ap (λ (n : ℕ). rows_weighed (Some capacity) (next + 1) left ++ record { until = n; weight = row_weight row } ∷ [])
+    last)
+
+-- a row that is not empty is put, with the weight of its messages
+pub rows_put : (capacity : Option ℕ) (next count : ℕ) (left : List Value) (row : Value) → row_weight row ≡ count → 0 < count
+    → groups_with (next + length left) 1 (group_weight capacity count) (rows_weighed capacity next left)
+    ≡ rows_weighed capacity next (left ++ row ∷ [])
+rows_put None next count left row weighs some = refl
+rows_put (Some c) next count left row weighs some =
+    let heavy : (count == 0) ≡ false = ne_eqb count 0 (λ e. omega (arith, some, e)) in
+    let last : next + length left + 0 ≡ next + length left = omega arith in
+    ap (λ (none : Bool). cond none (rows_weighed (Some c) next left) (rows_weighed (Some c) next left
+    ++ record { until = next + length left + 0; weight = count } ∷ [])) heavy
+    ∙ ap₂ (λ (until weight : ℕ). rows_weighed (Some c) next left ++ record { until = until; weight = weight } ∷ [])
+    last (sym weighs)
+    ∙ sym (rows_more c next left row)
+
+rows_given : (capacity : Option ℕ) (next : ℕ) (left : List Value)
+    → groups_after next (rows_weighed capacity next left) ≡ rows_weighed capacity (next + 1) (rest_of left)
+rows_given None next left = refl
+rows_given (Some c) next [] = refl
+rows_given (Some c) next (row ∷ left) =
+    ap (λ (b : Bool). cond b (rows_weighed (Some c) (next + 1) left) (rows_weighed (Some c) next (row ∷ left)))
+    (eq-eqb next next refl)
+
+pub weight_rows : (capacity : Option ℕ) (next : ℕ) (left : List Value) → is_some capacity ≡ true
+    → weight_of (rows_weighed capacity next left) ≡ length (all_items left)
+weight_rows None next left there = absurd (cc)
+weight_rows (Some c) next [] there = refl
+weight_rows (Some c) next (row ∷ left) there =
+    let rest = weight_rows (Some c) (next + 1) left refl in
+    let sizes = length-append (items_of row) (all_items left) in
+    omega (arith, rest, sizes)
 
 -- Results of any number of values
 
@@ -134,71 +180,26 @@ partly_given first given (result ∷ results) =
     (partly_given (first + length result) (given - length result) results)
     (ltb given (length result)) (ltb (given + 1) (length result)) refl refl
 
-count_first : (here : Bool) (until : ℕ) (groups : List Group) (count : ℕ) → length groups ≡ count
-    → length (cond here (record { until = until; weight = 1 } ∷ []) [] ++ groups) ≡ cond here 1 0 + count
-count_first true until groups count e = omega arith
-count_first false until groups count e = omega arith
+weight_first : (here : Bool) (until : ℕ) (groups : List Group) (count : ℕ) → weight_of groups ≡ count
+    → weight_of (cond here (record { until = until; weight = 1 } ∷ []) [] ++ groups) ≡ cond here 1 0 + count
+weight_first true until groups count e = omega arith
+weight_first false until groups count e = omega arith
 
-count_partly : (first given : ℕ) (results : List (List Value))
-    → length (partly first given results) ≡ partly_left given results
-count_partly first given [] = refl
-count_partly first given (result ∷ results) =
-    count_first (ltb given (length result)) (first + (length result - 1))
+weight_partly : (first given : ℕ) (results : List (List Value))
+    → weight_of (partly first given results) ≡ partly_left given results
+weight_partly first given [] = refl
+weight_partly first given (result ∷ results) =
+    weight_first (ltb given (length result)) (first + (length result - 1))
     (partly (first + length result) (given - length result) results)
     (partly_left (given - length result) results)
-    (count_partly (first + length result) (given - length result) results)
+    (weight_partly (first + length result) (given - length result) results)
 
-pub count_partial : (capacity : Option ℕ) (given : ℕ) (results : List (List Value)) → is_some capacity ≡ true
-    → length (partly_weighed capacity given results) ≡ partly_left given results
-count_partial None given results there = absurd (cc)
-count_partial (Some c) given results there = count_partly 1 given results
-
--- what is wholly given has its weight, and is one less
-one_back : (here : Bool) (group : Group) (groups : List Group) → group.weight ≡ 1
-    → cond here group.weight 0 + length (cond here groups (group ∷ groups)) ≡ length (group ∷ groups)
-one_back true group groups one = omega arith
-one_back false group groups one = omega arith
-
-first_back : (next : ℕ) (here : Bool) (until : ℕ) (groups : List Group)
-    → weight_at next groups + length (groups_after next groups) ≡ length groups
-    → weight_at next (cond here (record { until = until; weight = 1 } ∷ []) [] ++ groups)
-    + length (groups_after next (cond here (record { until = until; weight = 1 } ∷ []) [] ++ groups))
-    ≡ length (cond here (record { until = until; weight = 1 } ∷ []) [] ++ groups)
-first_back next true until groups later = one_back (until == next) (record { until = until; weight = 1 }) groups refl
-first_back next false until groups later = later
-
-back_weighed : (capacity : Option ℕ) (next from : ℕ) (left : List Value)
-    → weight_at next (weighed capacity from left) + length (groups_after next (weighed capacity from left))
-    ≡ length (weighed capacity from left)
-back_weighed None next from left = refl
-back_weighed (Some c) next from [] = refl
-back_weighed (Some c) next from (value ∷ left) =
-    one_back (from == next) (record { until = from; weight = 1 }) (weighed (Some c) (from + 1) left) refl
-
-partly_back : (next first given : ℕ) (results : List (List Value))
-    → weight_at next (partly first given results) + length (groups_after next (partly first given results))
-    ≡ length (partly first given results)
-partly_back next first given [] = refl
-partly_back next first given (result ∷ results) =
-    first_back next (ltb given (length result)) (first + (length result - 1))
-    (partly (first + length result) (given - length result) results)
-    (partly_back next (first + length result) (given - length result) results)
-
-back_by : (capacity : Option ℕ) (next given : ℕ) (results : List (List Value))
-    → weight_at next (partly_weighed capacity given results) + length (groups_after next (partly_weighed capacity given results))
-    ≡ length (partly_weighed capacity given results)
-back_by None next given results = refl
-back_by (Some c) next given results = partly_back next 1 given results
+pub weight_partial : (capacity : Option ℕ) (given : ℕ) (results : List (List Value)) → is_some capacity ≡ true
+    → weight_of (partly_weighed capacity given results) ≡ partly_left given results
+weight_partial None given results there = absurd (cc)
+weight_partial (Some c) given results there = weight_partly 1 given results
 
 -- For each kind
-
-pub weight_back : (result : Value → Result (List Value) ℕ) (kind : BlockKind) (capacity : Option ℕ)
-    (taken held given left : List Value) (next : ℕ) (groups : List Group)
-    → WeighsAs result kind capacity taken held given left next groups
-    → weight_at next groups + length (groups_after next groups) ≡ length groups
-weight_back result TransformMany capacity taken held given left next groups is =
-    rw is.groups_are (back_by capacity next (length given) is.works.results)
-weight_back result _ capacity taken held given left next groups is = rw is (back_weighed capacity next next left)
 
 -- a message is taken
 pub weighs_taken : (result : Value → Result (List Value) ℕ) (kind : BlockKind) (capacity : Option ℕ)
@@ -251,6 +252,8 @@ weighs_given result TransformMany capacity taken held given left next groups val
   };
   groups_are = rw is.groups_are (given_by capacity next given value is.works.results follows);
 }
+weighs_given result Batch capacity taken held given left next groups value follows head is =
+    rw is (rows_given capacity next left)
 weighs_given result _ capacity taken held given left next groups value follows head is =
     rw is (groups_given capacity next left)
 
@@ -298,10 +301,11 @@ is_many _ = false
 
 pub weighs_one : (result : Value → Result (List Value) ℕ) (kind : BlockKind) (capacity : Option ℕ)
     (taken held rest given left : List Value) (next : ℕ) (groups : List Group) (made : List Value)
-    → is_many kind ≡ false → length made ≡ 1
+    → is_many kind ≡ false → is_batch kind ≡ false → length made ≡ 1
     → WeighsAs result kind capacity taken held given left next groups
     → WeighsAs result kind capacity taken rest given (left ++ made) next
     (groups_with (next + length left) (length made) (unit_weight capacity) groups)
-weighs_one result TransformMany capacity taken held rest given left next groups made other one is = absurd (cc)
-weighs_one result _ capacity taken held rest given left next groups made other one is =
+weighs_one result TransformMany capacity taken held rest given left next groups made other single one is = absurd (cc)
+weighs_one result Batch capacity taken held rest given left next groups made other single one is = absurd (cc)
+weighs_one result _ capacity taken held rest given left next groups made other single one is =
     rw is (groups_put capacity next left made one)

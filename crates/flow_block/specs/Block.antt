@@ -1,10 +1,11 @@
 -- A block as plain data, and what its calls make of it: each block takes messages at its ports, makes something of them, and
 -- gives that over its exits.
-use Rattle.std.specs.Prelude.{ℕ, Bool, true, false, List, [], ◌∷◌, ◌++◌, get_or, set, map, Option, Some, None, is_none, Result, Ok, Err, pos}
+use Rattle.std.specs.Prelude.{ℕ, Bool, true, false, cond, List, [], ◌∷◌, ◌++◌, length, get_or, set, map, take, drop, Option, Some, None, is_none, Result, Ok, Err, pos}
+use Rattle.flow_value.specs.View.{items_from}
 use Rattle.flow_value.specs.declared.value.Value.{Value}
-use Rattle.flow_value.specs.declared.value.Value.TheVariants.{Int}
+use Rattle.flow_value.specs.declared.value.Value.TheVariants.{Int, Row}
 use Rattle.flow_link.specs.declared.draft.BlockKind.{BlockKind}
-use Rattle.flow_link.specs.declared.draft.BlockKind.TheVariants.{Buffer, Action}
+use Rattle.flow_link.specs.declared.draft.BlockKind.TheVariants.{Buffer, Action, Batch}
 use Rattle.flow_link.specs.declared.trace.Outcome.{Outcome}
 use Rattle.flow_intake.specs.Port.{PortState, fresh_port}
 use Rattle.flow_intake.specs.Calls.{first_of, takes_next, gives_room, port_closes, port_fails}
@@ -13,6 +14,8 @@ use Rattle.flow_block.specs.Jobs.{JobsState, Slot, begins as one_more, brings, w
 
 pub record BlockState : Type 0 where
   pub kind : BlockKind
+  -- how many messages a batch makes a row of
+  pub size : ℕ
   pub ports : List PortState
   pub exits : OutletState
   -- what it works on
@@ -80,9 +83,36 @@ abbrev pub makes_of : (Value → Result (List Value) ℕ) → Option Value → B
 makes_of result None block = block
 makes_of result (Some value) block = yields (made_of block.kind result value) block
 
--- it makes what it makes of the message that it holds first
+-- a batch makes rows of its messages
+abbrev pub is_batch : BlockKind → Bool
+is_batch Batch = true
+is_batch _ = false
+
+abbrev pub row_of : List Value → Value
+row_of values = Row (items_from values)
+
+-- the messages of its next row: as many as a row has, or all that there are
+abbrev pub next_group : BlockState → List Value
+next_group block = take block.size (held_by block)
+
+-- a row counts for each of its messages, where there is a capacity
+abbrev pub group_weight : Option ℕ → ℕ → ℕ
+group_weight None count = 0
+group_weight (Some _) count = count
+
+abbrev pub takes_group : ℕ → PortState → PortState
+takes_group count port = record port { waiting = drop count port.waiting }
+
+-- the row is there to be given, and the room of its messages comes back when it is
+abbrev pub makes_row : BlockState → BlockState
+makes_row block =
+    record (with_port 0 (takes_group block.size) block) {
+      exits = puts (row_of (next_group block) ∷ []) (group_weight (port_at 0 block).capacity (length (next_group block))) block.exits;
+    }
+
+-- it makes what it makes of the message that it holds first; a batch makes its next row
 abbrev pub makes : (Value → Result (List Value) ℕ) → BlockState → BlockState
-makes result block = makes_of result (first_of (held_by block)) block
+makes result block = cond (is_batch block.kind) (makes_row block) (makes_of result (first_of (held_by block)) block)
 
 -- what it would put into its exits by that
 abbrev pub put_by_kind : BlockKind → List Value → List Value
@@ -98,7 +128,7 @@ put_of kind result None = []
 put_of kind result (Some value) = put_by_kind kind (values_of_result (made_of kind result value))
 
 abbrev pub put_next : (Value → Result (List Value) ℕ) → BlockState → List Value
-put_next result block = put_of block.kind result (first_of (held_by block))
+put_next result block = cond (is_batch block.kind) (row_of (next_group block) ∷ []) (put_of block.kind result (first_of (held_by block)))
 
 -- Its jobs
 

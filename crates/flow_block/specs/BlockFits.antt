@@ -8,10 +8,12 @@ use Rattle.flow_outlet.specs.declared.ends.LinkRule.{LinkRule}
 use Rattle.flow_block.specs.Block.{BlockState}
 use Rattle.flow_block.specs.Jobs.{fresh_jobs}
 
--- a block with these ports and so many lanes, which made nothing yet; messages are counted from 1 on
-abbrev pub fresh_block : BlockKind → ℕ → List PortState → List LinkRule → BlockState
-fresh_block kind lanes ports rules = record {
+-- a block with these ports and so many lanes, and with rows of this size if it is a batch, which made nothing yet; messages are
+-- counted from 1 on
+abbrev pub fresh_block : BlockKind → (lanes size : ℕ) → List PortState → List LinkRule → BlockState
+fresh_block kind lanes size ports rules = record {
   kind = kind;
+  size = size;
   ports = ports;
   exits = fresh_outlet rules 1;
   jobs = fresh_jobs lanes;

@@ -13,7 +13,7 @@ use Rattle.flow_block.specs.Block.{port_at, held_by}
 use Rattle.flow_block.specs.NextMoves.{next_in, next_out}
 use Rattle.flow_block.specs.Node.{NodeState}
 use Rattle.flow_block.specs.NodeLaw.{NodeLaw, FaultsOn}
-use Rattle.flow_block.specs.Peeks.{next_fault, nothing_comes, holds_nothing}
+use Rattle.flow_block.specs.Peeks.{next_fault, nothing_comes, is_worked_off}
 use Rattle.flow_block.specs.Planned.{block_makes}
 
 module _ {W : Type 0} (layout : Layout W) (meaning : ℕ → Value → Result (List Value) ℕ) (b : ℕ) (node : NodeState) where
@@ -25,11 +25,12 @@ module _ {W : Type 0} (layout : Layout W) (meaning : ℕ → Value → Result (L
   abbrev pub MayRefuse : ℕ → Type 0
   MayRefuse p = (has_ended p node.journal ≡ true) ⊎ ((number : ℕ) × FaultsItself number)
 
-  -- it faults when nothing is on its way into it or out of it, and by a fault that it has seen only when it holds nothing
+  -- it faults when nothing is on its way into it or out of it, and by a fault that it has seen only when it could make nothing
+  -- more of what it took
   pub record FaultsInTime (number : ℕ) : Type 0 where
     pub none_comes : nothing_comes node.block.ports ≡ true
     pub none_away : is_at_rest node.block.exits ≡ true
-    pub cause : FaultsItself number ⊎ (holds_nothing node.block.ports ≡ true)
+    pub cause : FaultsItself number ⊎ (is_worked_off node.block ≡ true)
 
   -- the head is offered, or something is still under way, over this link or an earlier one that the head does not go past
   pub record OffersBefore (k : ℕ) : Type 0 where

@@ -20,7 +20,7 @@ use Rattle.flow_outlet.specs.Law.{is_put_off}
 use Rattle.flow_outlet.specs.Outlet.{end_at, stage_at, may_offer, may_give, is_wish, end_of, lacks_ids}
 use Rattle.flow_block.specs.Block.{port_at, put_next}
 use Rattle.flow_block.specs.Node.{NodeState, NodeCall, in_link_at, after}
-use Rattle.flow_block.specs.NodeLaw.{NodeLaw, ShapeLaw, PortsLaw, ExitsLaw, GaveLaw, MakesLaw, JobsLaw, LoadLaw, MarksLaw, EndsLaw}
+use Rattle.flow_block.specs.NodeLaw.{NodeLaw, ShapeLaw, PortsLaw, ExitsLaw, GaveLaw, MakesLaw, KeepsRows, JobsLaw, LoadLaw, MarksLaw, EndsLaw}
 use Rattle.flow_block.specs.Peeks.{is_pending, may_work, may_begin, may_complete, next_fault, may_finish}
 use Rattle.flow_block.specs.Planned.{block_makes}
 
@@ -129,6 +129,9 @@ module _ (W : Type 0) where
 
   abbrev pub MakesKept : Type 0
   MakesKept = AtEachBlock (λ layout meaning b node. MakesLaw layout meaning b node.block node.journal)
+
+  abbrev pub RowsKept : Type 0
+  RowsKept = AtEachBlock (λ layout meaning b node. KeepsRows node.block node.journal)
 
   abbrev pub JobsKept : Type 0
   JobsKept = AtEachBlock (λ layout meaning b node. JobsLaw layout meaning b node.block node.journal)

@@ -1,9 +1,9 @@
 -- When a node is in order: its own data say so, whatever the other ends of its links do.
-use Rattle.std.specs.Prelude.{◌≡◌, ℕ, ◌+◌, ◌-◌, ◌==◌, ◌<◌, ◌≤◌, ltb, ◌⊎◌, Bool, true, false, cond, ◌&&◌, List, [], ◌∷◌, ◌++◌, length, map, Option, Some, None, is_some, Result, Err}
+use Rattle.std.specs.Prelude.{◌≡◌, ℕ, ◌+◌, ◌-◌, ◌==◌, ◌<◌, ◌≤◌, ltb, ◌⊎◌, Bool, true, false, cond, not, ◌&&◌, ◌||◌, List, [], ◌∷◌, ◌++◌, length, map, Option, Some, None, is_some, Result, Err}
 use Rattle.flow_value.specs.When.{admits}
 use Rattle.flow_value.specs.declared.value.Value.{Value}
 use Rattle.flow_link.specs.declared.draft.BlockKind.{BlockKind}
-use Rattle.flow_link.specs.declared.draft.BlockKind.TheVariants.{Buffer, Action, Transform, TransformMany}
+use Rattle.flow_link.specs.declared.draft.BlockKind.TheVariants.{Buffer, Action, Transform, TransformMany, Batch}
 use Rattle.flow_link.specs.declared.stage.Refusal.{Refusal}
 use Rattle.flow_link.specs.declared.stage.Refusal.TheVariants.{PortEnded, OwnFault}
 use Rattle.flow_link.specs.declared.stage.SourceStage.{SourceStage}
@@ -18,6 +18,7 @@ use Rattle.flow_link.specs.Facts.{facts_in}
 use Rattle.flow_link.specs.Law.{is_own_mark, gives_in_order}
 use Rattle.flow_link.specs.Layout.{Layout}
 use Rattle.flow_link.specs.Lists.{every, some, below}
+use Rattle.flow_link.specs.Making.{all_items, are_groups, row_weight, before_complete}
 use Rattle.flow_link.specs.Plan.{block_in, port_count, has_work}
 use Rattle.flow_link.specs.Trace.{Run, took, took_at, gave, gave_over, has_complete, has_fault, has_ended, is_done}
 use Rattle.flow_link.specs.Worked.{WorkedInto}
@@ -26,14 +27,15 @@ use Rattle.flow_intake.specs.Port.{EndState, PortState, stage_at as port_stage}
 use Rattle.flow_intake.specs.PortLaw.{PortLaw, has_ended as has_port_ended}
 use Rattle.flow_intake.specs.Ended.{has_seen_completion, fault_seen}
 use Rattle.flow_outlet.specs.Law.{OutletLaw, is_refused}
-use Rattle.flow_outlet.specs.Outlet.{OutletState, end_at, stage_at, is_at_rest}
+use Rattle.flow_outlet.specs.Fits.{weight_of}
+use Rattle.flow_outlet.specs.Outlet.{OutletState, end_at, stage_at, is_at_rest, is_empty}
 use Rattle.flow_outlet.specs.declared.ends.OutEnd.{OutEnd}
 use Rattle.flow_outlet.specs.declared.group.Group.{Group}
-use Rattle.flow_block.specs.Block.{BlockState, port_at, held_by}
+use Rattle.flow_block.specs.Block.{BlockState, port_at, held_by, is_batch}
 use Rattle.flow_block.specs.Jobs.{AreOf, is_front_back}
 use Rattle.flow_block.specs.Node.{NodeState}
 use Rattle.flow_block.specs.Peeks.{is_pending, holds_nothing}
-use Rattle.flow_block.specs.Planned.{lanes_of, links_to, links_from, rule_of, block_makes}
+use Rattle.flow_block.specs.Planned.{lanes_of, size_of, links_to, links_from, rule_of, block_makes}
 
 -- the source knows that this link is refused
 abbrev pub refuses_over : List OutEnd → ℕ → Bool
@@ -82,9 +84,17 @@ pub record PartlyGiven (result : Value → Result (List Value) ℕ) (capacity : 
   pub works : WorkedInto result taken held (given ++ left)
   pub groups_are : groups ≡ partly_weighed capacity (length given) works.results
 
+-- each row that is left has the weight of its messages, by its id
+abbrev pub rows_weighed : Option ℕ → ℕ → List Value → List Group
+rows_weighed None next left = []
+rows_weighed (Some capacity) next [] = []
+rows_weighed (Some capacity) next (row ∷ left) =
+    record { until = next; weight = row_weight row } ∷ rows_weighed (Some capacity) (next + 1) left
+
 -- which weights a block of this kind keeps for what it has left: one for each message that is not wholly given
 abbrev pub WeighsAs : (Value → Result (List Value) ℕ) → BlockKind → Option ℕ → (taken held given left : List Value) → ℕ → List Group → Type 0
 WeighsAs result TransformMany capacity taken held given left next groups = PartlyGiven result capacity taken held given left groups
+WeighsAs result Batch capacity taken held given left next groups = groups ≡ rows_weighed capacity next left
 WeighsAs result kind capacity taken held given left next groups = groups ≡ weighed capacity next left
 
 -- a message that is held first and on which the block's own function faults so
@@ -95,13 +105,36 @@ pub record FaultsOn (result : Value → Result (List Value) ℕ) (kind : BlockKi
   pub held_is : held ≡ message ∷ rest
   pub fails : result message ≡ Err number
 
--- what a block of this kind makes of what it took
+-- what a block of this kind makes of what it took; how many messages each row of a batch has is a law of its own
 abbrev pub MakesAs : (Value → Result (List Value) ℕ) → BlockKind → (taken held given left recorded : List Value) → Type 0
 MakesAs result Buffer taken held given left recorded = taken ≡ (given ++ left) ++ held
 MakesAs result Action taken held given left recorded = WorkedInto result taken held recorded × (left ≡ [])
 MakesAs result Transform taken held given left recorded = WorkedInto result taken held (given ++ left)
 MakesAs result TransformMany taken held given left recorded = WorkedInto result taken held (given ++ left)
+MakesAs result Batch taken held given left recorded = taken ≡ all_items (given ++ left) ++ held
 MakesAs result kind taken held given left recorded = Unit {0}
+
+-- a row has as many messages as a row of this size has
+abbrev pub is_whole : ℕ → Value → Bool
+is_whole size row = row_weight row == size
+
+-- which rows a batch has made: none is empty or too great, and none was short while its port was open. Where it holds
+-- something, or its port is open, all are whole
+pub record RowsLaw (size : ℕ) (journal : List Mark) (held left : List Value) : Type 0 where
+  pub groups : are_groups row_weight size (gave journal ++ left) ≡ true
+  pub whole_before : every (is_whole size) (gave (before_complete 0 journal)) ≡ true
+  pub whole : ((has_complete 0 journal && is_empty held) || every (is_whole size) (gave journal ++ left)) ≡ true
+
+abbrev pub KeepsRows : BlockState → List Mark → Type 0
+KeepsRows block journal = is_batch block.kind ≡ true → RowsLaw block.size journal (held_by block) block.exits.left
+
+-- it could make nothing more of what it held when it stopped: a batch held less than a row, and nothing if its port had
+-- completed before
+abbrev pub has_made_all : BlockState → List Mark → Bool
+has_made_all block journal =
+    cond (is_batch block.kind)
+    (ltb (length (held_by block)) block.size && (not (has_complete 0 journal) || is_empty (held_by block)))
+    (holds_nothing block.ports)
 
 -- the end has seen this fault
 abbrev pub is_fault_seen : ℕ → EndState → Bool
@@ -128,6 +161,8 @@ module _ {W : Type 0} (layout : Layout W) (meaning : ℕ → Value → Result (L
   pub record ShapeLaw (block : BlockState) : Type 0 where
     pub built : is_built_kind block.kind ≡ true
     pub kind_is : block.kind ≡ (block_in layout.blocks b).kind
+    pub size_is : block.size ≡ size_of layout b
+    pub some_size : is_batch block.kind ≡ true → 0 < block.size
     pub port_count_is : length block.ports ≡ port_count (block_in layout.blocks b)
     pub ports : (p : ℕ) → p < length block.ports → PortAsPlanned p (port_at p block)
     pub rules : map (λ (end : OutEnd). end.rule) block.exits.ends ≡ map (rule_of layout) (links_from layout b)
@@ -177,7 +212,7 @@ module _ {W : Type 0} (layout : Layout W) (meaning : ℕ → Value → Result (L
         (held_by block) (gave journal) block.exits.left block.exits.next block.exits.groups
     pub no_room : block.exits.room ≡ 0
     pub load : (p : ℕ) → p < length block.ports → is_some (block_in layout.blocks b).capacity ≡ true
-        → (port_at p block).load ≡ length (port_at p block).waiting + length block.exits.groups
+        → (port_at p block).load ≡ length (port_at p block).waiting + weight_of block.exits.groups
 
   -- its marks are of its own links and ports, and nothing follows an end
   pub record MarksLaw (journal : List Mark) : Type 0 where
@@ -203,9 +238,9 @@ module _ {W : Type 0} (layout : Layout W) (meaning : ℕ → Value → Result (L
     pub complete_cause : (p : ℕ) → p < length block.ports → has_complete p journal ≡ true → has_seen_completion (port_at p block).ends ≡ true
     pub fault_cause : (number : ℕ) → has_fault number journal ≡ true
         → (block.fault ≡ Some number) ⊎ (some (λ (port : PortState). some (λ (end : EndState). is_fault_seen number end) port.ends) block.ports ≡ true)
-    -- a fault that came over a link stops it only when it holds nothing
+    -- a fault that came over a link stops it only when it could make nothing more
     pub faulted_by : (number : ℕ) → block.stopped ≡ Some (Faulted number)
-        → (block.fault ≡ Some number) ⊎ ((block.fault ≡ None) × (holds_nothing block.ports ≡ true))
+        → (block.fault ≡ Some number) ⊎ ((block.fault ≡ None) × (has_made_all block journal ≡ true))
 
   pub record NodeLaw (node : NodeState) : Type 0 where
     pub shape : ShapeLaw node.block
@@ -213,6 +248,7 @@ module _ {W : Type 0} (layout : Layout W) (meaning : ℕ → Value → Result (L
     pub exits : ExitsLaw node.block
     pub gave : GaveLaw node.block.exits node.journal
     pub makes : MakesLaw node.block node.journal
+    pub rows : KeepsRows node.block node.journal
     pub jobs : JobsLaw node.block node.journal
     pub load : LoadLaw node.block node.journal
     pub marks : MarksLaw node.journal

@@ -1,12 +1,12 @@
 -- What a block could do next by itself, told by its own data alone.
-use Rattle.std.specs.Prelude.{ℕ, ◌==◌, ltb, Bool, not, ◌&&◌, ◌||◌, cond, List, [], ◌∷◌, length, Option, None, is_some, is_none}
+use Rattle.std.specs.Prelude.{ℕ, ◌==◌, leb, ltb, Bool, not, ◌&&◌, ◌||◌, cond, List, [], ◌∷◌, length, Option, None, is_some, is_none}
 use Rattle.flow_link.specs.Lists.{every}
 use Rattle.flow_link.specs.Plan.{has_work}
 use Rattle.flow_intake.specs.Port.{PortState, coming}
 use Rattle.flow_intake.specs.Ended.{first_some, has_seen_completion, fault_at_ends}
 use Rattle.flow_intake.specs.PortLaw.{has_ended}
 use Rattle.flow_outlet.specs.Outlet.{is_empty, is_at_rest, only_waits}
-use Rattle.flow_block.specs.Block.{BlockState, port_at, held_by}
+use Rattle.flow_block.specs.Block.{BlockState, port_at, held_by, is_batch}
 use Rattle.flow_block.specs.Jobs.{is_out}
 
 abbrev pub fault_at_ports : List PortState → Option ℕ
@@ -26,11 +26,24 @@ all_ended ports = every (λ (port : PortState). has_ended port.refusing) ports
 abbrev pub is_pending : BlockState → Bool
 is_pending block = is_some block.fault || is_some (fault_at_ports block.ports)
 
--- it goes on, and holds a message
-abbrev pub may_work : BlockState → Bool
-may_work block = is_none block.stopped && is_none block.fault && not (is_empty (held_by block))
+-- a batch holds what it makes a row of: as many messages as a row has, or the rest when its port has completed
+abbrev pub has_group : BlockState → Bool
+has_group block =
+    not (is_empty (held_by block)) && (leb block.size (length (held_by block)) || has_ended (port_at 0 block).refusing)
 
--- it may hand on the message that it holds first: a block without a function makes its outputs at once
+-- it holds what it could make something of
+abbrev pub has_next : BlockState → Bool
+has_next block = cond (is_batch block.kind) (has_group block) (not (is_empty (held_by block)))
+
+-- it could make nothing more of what it holds
+abbrev pub is_worked_off : BlockState → Bool
+is_worked_off block = cond (is_batch block.kind) (not (has_group block)) (holds_nothing block.ports)
+
+-- it goes on, and holds what it could make something of
+abbrev pub may_work : BlockState → Bool
+may_work block = is_none block.stopped && is_none block.fault && has_next block
+
+-- it may make its next outputs: a block without a function makes them at once
 abbrev pub may_make : BlockState → Bool
 may_make block = may_work block && not (has_work block.kind)
 
@@ -49,9 +62,9 @@ abbrev pub may_complete : ℕ → BlockState → Bool
 may_complete p block =
     not (has_ended (port_at p block).refusing) && coming (port_at p block) == 0 && has_seen_completion (port_at p block).ends
 
--- the fault by which it would stop: its own, or one that it has seen, once all that it took is worked on
+-- the fault by which it would stop: its own, or one that it has seen, once it could make nothing more of what it took
 abbrev pub fault_cause : BlockState → Option ℕ
-fault_cause block = first_some block.fault (cond (holds_nothing block.ports) (fault_at_ports block.ports) None)
+fault_cause block = first_some block.fault (cond (is_worked_off block) (fault_at_ports block.ports) None)
 
 -- it has not stopped, and no message is on its way into it
 abbrev pub could_stop : BlockState → Bool

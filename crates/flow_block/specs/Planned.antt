@@ -58,10 +58,15 @@ module _ {W : Type 0} (layout : Layout W) where
   abbrev pub lanes_of : ℕ → ℕ
   lanes_of b = unwrap_or (block_in layout.blocks b).lanes 1
 
+  -- how many messages a batch makes a row of
+  abbrev pub size_of : ℕ → ℕ
+  size_of b = unwrap_or (block_in layout.blocks b).size 0
+
   abbrev pub fresh_node : ℕ → NodeState
   fresh_node b = record {
     block = record {
       kind = (block_in layout.blocks b).kind;
+      size = size_of b;
       ports = map (port_of_plan b) (below (port_count (block_in layout.blocks b)));
       exits = fresh_outlet (map rule_of (links_from b)) 1;
       jobs = fresh_jobs (lanes_of b);

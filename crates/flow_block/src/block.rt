@@ -26,6 +26,8 @@ use std::marker::Model;
 #[derive(Drop)]
 pub struct Block {
     pub(crate) kind: BlockKind,
+    /// How many messages a batch makes a row of.
+    pub(crate) size: u32,
     pub(crate) ports: Vec<Intake>,
     pub(crate) exits: Outlet,
     pub(crate) jobs: Jobs,
@@ -48,6 +50,7 @@ impl Model for Block {
 
     ghost view = { λ b. record {
       kind = b.kind;
+      size = b.size;
       ports = b.ports.items;
       exits = b.exits;
       jobs = b.jobs;
@@ -60,17 +63,19 @@ impl Model for Block {
 }
 
 impl Block {
-    /// A block of this kind with so many lanes, with these ports, at which nothing waits, and with these links out of it.
-    /// Its messages are counted from 1 on. Where there is no memory for it, its parts come back.
+    /// A block of this kind with so many lanes, and with rows of so many messages if it is a batch, with these ports, at
+    /// which nothing waits, and with these links out of it. Its messages are counted from 1 on. Where there is no memory
+    /// for it, its parts come back.
     pub fn new(
         alloc: Global,
         kind: BlockKind,
         lanes: usize,
+        size: u32,
         ports: Vec<Intake>,
         rules: Vec<LinkRule>,
     ) -> Result<Block, (Vec<Intake>, Vec<LinkRule>)>
         requires { holds_nothing ports.items ≡ true }
-        ensures { MatchResult result (λ block. block ≡ fresh_block kind lanes ports.items rules.items)
+        ensures { MatchResult result (λ block. block ≡ fresh_block kind lanes size ports.items rules.items)
             (λ back. (back.0 ≡ ports) × (back.1 ≡ rules)) }
     {
         let Some(first) = MessageHeader::new(1) else {
@@ -79,6 +84,7 @@ impl Block {
         match Outlet::new(alloc, rules, first) {
             Ok(exits) => Ok(Block {
                 kind,
+                size,
                 ports,
                 exits,
                 jobs: Jobs::new(alloc, lanes),

@@ -1,12 +1,13 @@
 //! Blocks as plain values: what a block takes, makes and gives, with its own side of each link.
 //!
 //! A [`Block`] has ports, at which messages wait, and exits, over which it gives what it made. It works on the message
-//! that waits longest:
+//! that waits longest, and a batch on those that make a row:
 //!
 //! call        kind of block    what becomes of the message
 //! `hand_on`   buffer           it is there to be given
 //! `put_out`   both transforms  its results are there to be given
 //! `record`    action           its results are kept
+//! `make_row`  batch            a row of it and those behind it is there to be given
 //! `fail`      all with work    it stays, and the ports take no more
 //! `begin`     all with work    it stays, and is worked on beside others
 //! `end_job`   all with work    its results come out in its turn, or its fault stands

@@ -3,7 +3,7 @@
 //! Room for the mark of a message is set aside with the room for the message, so that the calls that move it take no
 //! memory.
 ghost use Rattle.std.specs.Prelude.{◌≡◌, ◌<◌, ◌≤◌, ◌+◌, ◌^◌, [], true, length, is_some, take, Some, None, Err, OnOk, OnErr};
-ghost use Rattle.std.specs.Prelude.{◌↔◌, false, IfErr, vec_len, vec_capacity};
+ghost use Rattle.std.specs.Prelude.{◌↔◌, ◌∷◌, false, IfErr, vec_len, vec_capacity};
 ghost use Rattle.flow_link.specs.LinkOk.{HasRoom};
 ghost use Rattle.flow_link.specs.Plan.{has_work};
 ghost use Rattle.flow_link.specs.declared.trace.Mark.TheVariants.{Complete, Fault, Done};
@@ -17,7 +17,7 @@ ghost use Rattle.flow_outlet.specs.Outlet.{end_at, stage_at, may_offer, may_give
 ghost use Rattle.flow_outlet.specs.Outlet.{withdraws, ends_link, looks, head_of, lacks_ids};
 ghost use Rattle.flow_outlet.specs.declared.fault.OutletFault.TheVariants.{Ids};
 ghost use Rattle.flow_block.specs.Block.{port_at, with_port, with_jobs, begins, held_by, records, puts_out, ends_job};
-ghost use Rattle.flow_block.specs.Block.{put_by_job, fails, stops_by};
+ghost use Rattle.flow_block.specs.Block.{put_by_job, row_of, next_group, makes_row, fails, stops_by};
 ghost use Rattle.flow_block.specs.Jobs.{has_ticket, works_off, is_out, is_front_back, faults_at_once};
 ghost use Rattle.flow_block.specs.JournalFits.{marks_due};
 ghost use Rattle.flow_block.specs.Node.{with_block, with_exits, marks, takes_in, gives_from, hand_at};
@@ -271,6 +271,20 @@ impl Node {
     {
         self.block.hand_on()?;
         Ok(())
+    }
+
+    /// Makes a row of the messages that wait longest: as many as a row has, or all where there are fewer. Where message ids
+    /// are used up or there is no memory for the row, nothing has changed.
+    pub fn make_row(&mut self, alloc: Global) -> Result<(), OutletFault>
+        requires alone { length self.old.block.ports ≡ 1 }
+        ensures done { OnOk result (self.new ≡ with_block (makes_row self.old.block) self.old) }
+        ensures kept { OnErr result (self.new ≡ self.old) }
+        ensures enough { OnOk result
+            (lacks_ids (row_of (next_group self.old.block) ∷ []) self.old.block.exits ≡ false) }
+        ensures ids { result ≡ Err Ids →
+            lacks_ids (row_of (next_group self.old.block) ∷ []) self.old.block.exits ≡ true }
+    {
+        self.block.make_row(alloc)
     }
 
     /// Has these results of the message that waits longest to give. Where message ids are used up or there is no memory

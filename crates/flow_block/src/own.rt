@@ -1,17 +1,20 @@
 //! What a block does by itself: it works on the message that waits longest, and it ends.
-ghost use Rattle.std.specs.Prelude.{◌≡◌, ◌<◌, ◌↔◌, true, [], length, take, Err, OnOk, OnErr, IfErr};
+ghost use Rattle.std.specs.Prelude.{◌≡◌, ◌<◌, ◌↔◌, true, false, [], ◌∷◌, length, take, Err, OnOk, OnErr, IfErr};
 ghost use Rattle.flow_intake.specs.Calls.{gives_room, port_closes, takes_next};
 ghost use Rattle.flow_outlet.specs.Outlet.{lacks_ids};
 ghost use Rattle.flow_outlet.specs.declared.fault.OutletFault.TheVariants.{Ids};
 ghost use Rattle.flow_block.specs.Block.{with_port, with_jobs, begins, held_by, records, puts_out, fails, stops_by};
+ghost use Rattle.flow_block.specs.Block.{row_of, next_group, makes_row};
 ghost use Rattle.flow_block.specs.Jobs.{has_ticket, works_off};
 
 use crate::block::Block;
-use crate::ports::{close_ports, fail_ports, hand_first, unit_weight};
+use crate::ports::{
+    close_ports, copy_group, fail_ports, group_weight, hand_first, put_group, unit_weight,
+};
 use flow_link::Outcome;
 use flow_outlet::OutletFault;
-use flow_value::Value;
-use std::alloc::AllocError;
+use flow_value::{Row, Value};
+use std::alloc::{AllocError, Global};
 
 // What it makes of the message that waits longest.
 impl Block {
@@ -25,6 +28,27 @@ impl Block {
     {
         let weight = unit_weight(&self.ports[0]);
         hand_first(&mut self.ports[0], &mut self.exits, weight)?;
+        Ok(())
+    }
+
+    /// Makes a row of the messages that it holds first: as many as a row has, or all where there are fewer. Where message
+    /// ids are used up or there is no memory for the row, nothing has changed.
+    pub fn make_row(&mut self, alloc: Global) -> Result<(), OutletFault>
+        requires alone { length self.old.ports ≡ 1 }
+        ensures done { OnOk result (self.new ≡ makes_row self.old) }
+        ensures kept { OnErr result (self.new ≡ self.old) }
+        ensures enough { OnOk result (lacks_ids (row_of (next_group self.old) ∷ []) self.old.exits ≡ false) }
+        ensures ids { result ≡ Err Ids → lacks_ids (row_of (next_group self.old) ∷ []) self.old.exits ≡ true }
+    {
+        let Ok(values) = copy_group(alloc, &self.ports[0], self.size) else {
+            return Err(OutletFault::Memory);
+        };
+        let Ok(row) = Row::new(alloc, values) else {
+            return Err(OutletFault::Memory);
+        };
+        let weight = group_weight(&self.ports[0], self.size);
+        let row = Value::Row(row);
+        put_group(&mut self.ports[0], &mut self.exits, row, self.size, weight)?;
         Ok(())
     }
 

@@ -7,23 +7,61 @@ ghost use Rattle.flow_intake.specs.PortLaw.{has_ended};
 ghost use Rattle.flow_link.specs.Plan.{has_work};
 ghost use Rattle.flow_outlet.specs.End.{is_waiting};
 ghost use Rattle.flow_outlet.specs.Outlet.{out_move, stage_at, is_empty};
-ghost use Rattle.flow_block.specs.Block.{port_at, port_in};
+ghost use Rattle.flow_block.specs.Block.{port_at, port_in, is_batch};
 ghost use Rattle.flow_block.specs.Peeks.{may_work, may_make, may_begin, may_end, may_complete, next_fault, is_held_up, may_finish, could_stop};
-ghost use Rattle.flow_block.specs.Peeks.{fault_cause, fault_at_ports, is_pending};
+ghost use Rattle.flow_block.specs.Peeks.{fault_cause, fault_at_ports, is_pending, has_group, has_next, is_worked_off};
 
 use crate::block::Block;
 use flow_intake::Intake;
 use flow_link::{BlockKind, Move};
 
 impl Block {
-    /// Whether it goes on, and holds a message.
+    /// Whether it goes on, and holds what it could make something of.
     fn may_work(&self) -> bool
         ensures { result ≡ may_work self.now }
     {
-        self.stopped.is_none() && self.fault.is_none() && holds_first(&self.ports)
+        self.stopped.is_none() && self.fault.is_none() && self.has_next()
     }
 
-    /// Whether it would hand on the message that it holds first: it has no function.
+    /// Whether it holds what it could make something of.
+    fn has_next(&self) -> bool
+        ensures { result ≡ has_next self.now }
+    {
+        if is_batch(self.kind) {
+            self.has_group()
+        } else {
+            holds_first(&self.ports)
+        }
+    }
+
+    /// Whether a batch holds what it makes a row of: as many messages as a row has, or the rest when its port has
+    /// completed.
+    fn has_group(&self) -> bool
+        ensures { result ≡ has_group self.now }
+    {
+        match self.ports.first() {
+            Some(port) => {
+                !port.waiting().is_empty()
+                    && (self.size as usize <= port.waiting().len() || port.has_ended())
+            }
+            None => false,
+        }
+    }
+
+    /// Whether it could make nothing more of what it holds.
+    #[tactic(auto, using(flow_link::proofs::FirstInOrder::all_is_every))]
+    fn is_worked_off(&self) -> bool
+        ensures { result ≡ is_worked_off self.now }
+    {
+        if is_batch(self.kind) {
+            !self.has_group()
+        } else {
+            holds_nothing(&self.ports)
+        }
+    }
+
+    /// Whether it would make its next outputs: it has no function, and hands on the message that it holds first, or makes
+    /// a row of those that it holds.
     pub fn may_make(&self) -> bool
         ensures { result ≡ may_make self.now }
     {
@@ -140,14 +178,14 @@ impl Block {
         self.stopped.is_none() && nothing_comes(&self.ports)
     }
 
-    /// The fault by which it would stop: its own, or one that it has seen, once all that it took is worked on.
-    #[tactic(auto, using(flow_link::proofs::FirstInOrder::all_is_every))]
+    /// The fault by which it would stop: its own, or one that it has seen, once it could make nothing more of what it
+    /// took.
     fn fault_cause(&self) -> Option<u32>
         ensures { result ≡ fault_cause self.now }
     {
         match self.fault {
             Some(number) => Some(number),
-            None if holds_nothing(&self.ports) => fault_at_ports(&self.ports),
+            None if self.is_worked_off() => fault_at_ports(&self.ports),
             None => None,
         }
     }
@@ -161,6 +199,13 @@ fn has_work(kind: BlockKind) -> bool
         kind,
         BlockKind::Action | BlockKind::Transform | BlockKind::TransformMany
     )
+}
+
+/// Whether blocks of this kind make rows of their messages.
+fn is_batch(kind: BlockKind) -> bool
+    ensures { result ≡ is_batch kind }
+{
+    kind == BlockKind::Batch
 }
 
 /// Whether a message waits at the first port.

@@ -1,16 +1,17 @@
 //! What becomes of all ports of a block.
-ghost use Rattle.std.specs.Prelude.{◌≡◌, ◌<◌, ◌+◌, ◌^◌, ◌↔◌, true, length, cond, map, take, is_some, Err, OnOk, OnErr};
+ghost use Rattle.std.specs.Prelude.{◌≡◌, ◌<◌, ◌+◌, ◌^◌, ◌↔◌, true, false, [], ◌∷◌, length, cond, map, take, is_some, Err, OnOk, OnErr, IfOk};
 ghost use Rattle.flow_intake.specs.Calls.{takes_next, gives_room, port_closes, port_fails};
 ghost use Rattle.flow_outlet.specs.Fits.{weight_of};
 ghost use Rattle.flow_outlet.specs.Outlet.{puts, lacks_ids};
 ghost use Rattle.flow_outlet.specs.declared.fault.OutletFault.TheVariants.{Ids};
-ghost use Rattle.flow_block.specs.Block.{unit_weight};
+ghost use Rattle.flow_block.specs.Block.{unit_weight, group_weight, takes_group};
 ghost use Rattle.flow_block.specs.BlockFits.{AllGaveOut};
 ghost use Rattle.flow_block.specs.JournalFits.{ports_due};
 
 use flow_intake::Intake;
 use flow_outlet::{Outlet, OutletFault};
 use flow_value::Value;
+use std::alloc::{AllocError, Global};
 
 /// The weight of a result of a message that came through this port.
 pub(crate) fn unit_weight(port: &Intake) -> u32
@@ -59,6 +60,75 @@ pub(crate) fn hand_first(
             let _zero = port.swap_first(value);
             Err(fault)
         }
+    }
+}
+
+/// How many of the messages that wait at a port make a row of this size, or the rest of one.
+fn group_count(port: &Intake, size: u32) -> usize
+    ensures { result ≡ length (take size port.now.waiting) }
+{
+    port.waiting().len().min(size as usize)
+}
+
+/// The weight of a row of the messages that wait longest at this port.
+pub(crate) fn group_weight(port: &Intake, size: u32) -> u32
+    ensures weight { result ≡ group_weight port.now.capacity (length (take size port.now.waiting)) }
+    ensures small { cond (is_some port.now.capacity) port.now.load 0 < 2 ^ 32 }
+{
+    match port.capacity() {
+        Some(_) => group_count(port, size) as u32,
+        None => 0,
+    }
+}
+
+/// Copies of the messages that wait longest at a port: as many as a row of this size has, or all where there are fewer.
+/// The messages stay, so that nothing is lost where the row is not taken.
+#[tactic(auto, using(crate::proofs::GroupsTaken::take_count))]
+pub(crate) fn copy_group(alloc: Global, port: &Intake, size: u32) -> Result<Vec<Value>, AllocError>
+    ensures { IfOk result (λ values. values.items ≡ take size port.now.waiting) }
+{
+    let waiting = port.waiting();
+    let count = group_count(port, size);
+    let mut values = Vec::with_capacity(alloc, count)?;
+    for place in 0..count {
+        values.push(waiting[place].copy(alloc)?)?;
+    }
+    Ok(values)
+}
+
+/// Puts a row of the messages that wait longest to the exits, with this weight, and takes these messages off; they stay
+/// where the exits do not take it.
+pub(crate) fn put_group(
+    port: &mut Intake,
+    exits: &mut Outlet,
+    row: Value,
+    size: u32,
+    weight: u32,
+) -> Result<(), OutletFault>
+    requires fits { exits.old.room + weight_of exits.old.groups + weight < 2 ^ 32 }
+    ensures taken { OnOk result (port.new ≡ takes_group size port.old) }
+    ensures there { OnOk result (exits.new ≡ puts (row ∷ []) weight exits.old) }
+    ensures stays { OnErr result (port.new ≡ port.old) }
+    ensures kept { OnErr result (exits.new ≡ exits.old) }
+    ensures enough { OnOk result (lacks_ids (row ∷ []) exits.old ≡ false) }
+    ensures ids { result ≡ Err Ids → lacks_ids (row ∷ []) exits.old ≡ true }
+{
+    match exits.put_one(row, weight) {
+        Ok(()) => {
+            drop_group(port, size);
+            Ok(())
+        }
+        Err((_, fault)) => Err(fault),
+    }
+}
+
+/// Takes the messages that wait longest off a port: as many as a row of this size has, or all where there are fewer.
+#[tactic(auto, using(crate::proofs::GroupsTaken::drop_next, crate::proofs::GroupsTaken::drop_count))]
+fn drop_group(port: &mut Intake, size: u32)
+    ensures { port.new ≡ takes_group size port.old }
+{
+    for _taken in 0..group_count(port, size) {
+        let _value = port.take_next();
     }
 }
 

@@ -1,9 +1,11 @@
 -- A network in which nothing has happened is in order.
-use Rattle.std.proofs.Common.{◌≡◌, ℕ, zero, suc, ◌<◌, leb, true, ◌&&◌, unwrap_or, Option, Some, List, [], ◌∷◌, length, get_or, map, None, refl, ap, sym, subst, ◌∙◌, arith}
+use Rattle.std.proofs.Common.{◌≡◌, ℕ, zero, suc, ◌<◌, leb, Bool, true, false, ◌&&◌, unwrap_or, Option, Some, is_some, List, [], ◌∷◌, length, get_or, map, None, refl, ap, sym, subst, ◌∙◌, arith}
 use Rattle.std.proofs.lemmas.List.{get_or-map, get_or-replicate, length-map, length-replicate}
 use Rattle.std.proofs.lemmas.Bool.{and_parts, leb-true}
 use Rattle.flow_value.specs.declared.value.Value.{Value}
 use Rattle.flow_link.specs.declared.draft.BlockDef.{BlockDef}
+use Rattle.flow_link.specs.declared.draft.BlockKind.{BlockKind}
+use Rattle.flow_link.specs.declared.draft.BlockKind.TheVariants.{Batch}
 use Rattle.flow_link.specs.declared.plan.LinkSource.{LinkSource}
 use Rattle.flow_link.specs.declared.plan.LinkSource.TheVariants.{Block, Input}
 use Rattle.flow_link.specs.declared.plan.LinkTarget.{LinkTarget}
@@ -13,12 +15,13 @@ use Rattle.flow_link.specs.Layout.{Layout}
 use Rattle.flow_link.specs.Lists.{below}
 use Rattle.flow_link.specs.LooksKeep.{fresh_source, fresh_target}
 use Rattle.flow_link.specs.Plan.{block_in, link_in, port_count}
-use Rattle.flow_link.specs.PlanFaults.{is_name, is_in, keys_fit, ranges_fit, options_fit}
+use Rattle.flow_link.specs.PlanFaults.{is_name, is_in, allows, input_rule, output_rule, capacity_rule, work_rule, lanes_rule, size_rule, ports_rule, greedy_rule, keys_fit, ranges_fit, options_fit}
 use Rattle.flow_link.specs.Trace.{InputTrace, nothing_posted}
 use Rattle.flow_link.proofs.ListTests.{length_numbers}
 use Rattle.flow_link.proofs.LooksKeepOrder.{looks_keep}
 use Rattle.flow_intake.specs.Port.{fresh_end as fresh_in, end_in as in_at, fresh_port}
 use Rattle.flow_outlet.specs.End.{fresh_end, no_end}
+use Rattle.flow_block.specs.Block.{is_batch}
 use Rattle.flow_block.specs.Fresh.{FreshInOrder}
 use Rattle.flow_block.specs.Input.{fresh_input, no_input, input_view}
 use Rattle.flow_block.specs.InputKeeps.{InputLaw, InputsKeep}
@@ -45,6 +48,39 @@ some_lane block fit =
     let outer = and_parts (capacity && lanes && size) (is_in 2 3 block.ports) ranges in
     let inner = and_parts (capacity && lanes) size outer.0 in
     lane_between block.lanes (and_parts capacity lanes inner.0).1
+
+-- and a batch rows of some size
+some_between : (size : Option ℕ) → is_some size ≡ true → is_in 1 4096 size ≡ true → 0 < unwrap_or size 0
+some_between None there e = absurd (cc)
+some_between (Some n) there e = let low = leb-true 1 n (and_parts (leb 1 n) (leb n 4096) e).0 in omega (arith, low)
+
+size_required : (kind : BlockKind) (there : Bool) → is_batch kind ≡ true → allows (size_rule kind) there ≡ true → there ≡ true
+size_required Batch true batch e = refl
+size_required Batch false batch e = absurd (cc)
+size_required _ there batch e = absurd (cc)
+
+some_size : {W : Type 0} (block : BlockDef W) → options_fit block ≡ true → is_batch block.kind ≡ true
+    → 0 < unwrap_or block.size 0
+some_size block fit batch =
+    let both = and_parts (is_name block.name && keys_fit block) (ranges_fit block) fit in
+    let keys = (and_parts (is_name block.name) (keys_fit block) both.0).1 in
+    let capacity = is_in 1 2147483647 block.capacity in
+    let lanes = is_in 1 16 block.lanes in
+    let size = is_in 1 4096 block.size in
+    let outer = and_parts (capacity && lanes && size) (is_in 2 3 block.ports) both.1 in
+    let front =
+    allows (input_rule block.kind) block.input
+    && allows (output_rule block.kind) block.output
+    && allows (capacity_rule block.kind) (is_some block.capacity)
+    && allows (work_rule block.kind) (is_some block.work)
+    && allows (lanes_rule block.kind) (is_some block.lanes) in
+    let sized = allows (size_rule block.kind) (is_some block.size) in
+    let ported = allows (ports_rule block.kind) (is_some block.ports) in
+    let greedy = allows (greedy_rule block.kind) (is_some block.greedy) in
+    let all = and_parts (front && sized && ported) greedy keys in
+    let most = and_parts (front && sized) ported all.0 in
+    some_between block.size (size_required block.kind (is_some block.size) batch (and_parts front sized most.0).1)
+    (and_parts (capacity && lanes) size outer.0).1
 
 -- what is made of a number stands at that number's place
 mapped_at : {A : Type 0} (f : ℕ → A) (count k : ℕ) (none : A) → k < count → get_or (map f (below count)) k none ≡ f k
@@ -108,7 +144,8 @@ fresh_keeps blocks inputs layout meaning runs posted count = record {
       subst (NodeLaw layout meaning b)
       (sym (mapped_at (fresh_node layout) (length layout.blocks) b no_node here))
       (blocks layout meaning b (runs.built b here)
-      (some_lane (block_in layout.blocks b) (runs.well_formed.options b here)));
+      (some_lane (block_in layout.blocks b) (runs.well_formed.options b here))
+      (some_size (block_in layout.blocks b) (runs.well_formed.options b here)));
   inputs = λ b here is.
       holds_mapped InputLaw fresh_input posted (input_place layout b) no_input
       (inputs.fresh nothing_posted) inputs.fresh;

@@ -1,7 +1,7 @@
 -- No link of a network that runs reserves: each leads into a block that is built, which takes freely.
 use Rattle.std.proofs.Common.{◌≡◌, ℕ, ◌<◌, Bool, true, false, length, Option, refl}
 use Rattle.flow_link.specs.declared.draft.BlockKind.{BlockKind}
-use Rattle.flow_link.specs.declared.draft.BlockKind.TheVariants.{Buffer, Action, Transform, TransformMany}
+use Rattle.flow_link.specs.declared.draft.BlockKind.TheVariants.{Buffer, Action, Transform, TransformMany, Batch}
 use Rattle.flow_link.specs.declared.plan.LinkTarget.{LinkTarget}
 use Rattle.flow_link.specs.declared.plan.LinkTarget.TheVariants.{Port, Exit}
 use Rattle.flow_link.specs.Facts.{facts_in, reserves_in}
@@ -16,6 +16,7 @@ built_takes_freely Buffer greedy e = refl
 built_takes_freely Action greedy e = refl
 built_takes_freely Transform greedy e = refl
 built_takes_freely TransformMany greedy e = refl
+built_takes_freely Batch greedy e = refl
 built_takes_freely _ greedy e = absurd (cc)
 
 module _ {W : Type 0} (layout : Layout W) (run : IsRun layout) (l : ℕ) (there : l < length layout.links) where

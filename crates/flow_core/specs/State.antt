@@ -36,7 +36,7 @@ fresh_line = record { phase = Idle; slot = None }
 
 abbrev pub no_node : NodeState
 no_node = record {
-  block = fresh_block Buffer 1 [] [];
+  block = fresh_block Buffer 1 0 [] [];
   journal = [];
 }
 

@@ -50,7 +50,7 @@ fault_of outlet.Memory = Memory
 
 module _ {W : Type 0} where
   abbrev pub fresh_execution : BlockKind → ℕ → Option W → List PortState → List LinkRule → ExecutionState W
-  fresh_execution kind lanes work ports rules = record { block = fresh_block kind lanes ports rules; work = work }
+  fresh_execution kind lanes work ports rules = record { block = fresh_block kind lanes 0 ports rules; work = work }
 
   abbrev pub with_block : (BlockState → BlockState) → ExecutionState W → ExecutionState W
   with_block change execution = record execution { block = change execution.block }

@@ -70,7 +70,7 @@ impl<W> Execution<W> {
             rules.items)
             (λ back. back ≡ (work, ports, rules)) }
     {
-        match Block::new(alloc, kind, lanes, ports, rules) {
+        match Block::new(alloc, kind, lanes, 0, ports, rules) {
             Ok(block) => Ok(Execution { block, work }),
             Err((ports, rules)) => Err((work, ports, rules)),
         }

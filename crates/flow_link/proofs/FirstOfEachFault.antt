@@ -8,7 +8,7 @@ use Rattle.std.proofs.lemmas.List.Folds.{find-append}
 use Rattle.flow_link.specs.declared.draft.BlockDef.{BlockDef}
 use Rattle.flow_link.specs.declared.draft.LinkDef.{LinkDef}
 use Rattle.flow_link.specs.declared.draft.BlockKind.{BlockKind}
-use Rattle.flow_link.specs.declared.draft.BlockKind.TheVariants.{Batch, Join}
+use Rattle.flow_link.specs.declared.draft.BlockKind.TheVariants.{Join}
 use Rattle.flow_link.specs.declared.plan.Link.{Link}
 use Rattle.flow_link.specs.declared.plan.PlanFault.{PlanFault}
 use Rattle.flow_link.specs.declared.plan.PlanFault.TheVariants.{Limit, DuplicateName, UnknownBlock, Port, NoOutput, BadOption, CapacityBelowSize, SharedSource, Cycle}
@@ -64,6 +64,12 @@ module _ {W : Type 0} (blocks : List (BlockDef W)) where
   bad_link_by_position links = position_is_first (λ link. not (is_in 1 2147483647 link.max))
       (λ l. stands_now blocks links (BadOption (at_link l))) links
       (λ l d low. ap (λ x. not (is_in 1 2147483647 x.max)) (named_link_at links l d low))
+
+  pub small_batch_by_position : (links : List LinkDef)
+      → first_at blocks links CapacityBelowSize (length blocks) ≡ position (λ block. holds_no_group block.kind block.capacity block.size) blocks
+  small_batch_by_position links = position_is_first (λ block. holds_no_group block.kind block.capacity block.size)
+      (λ b. stands_now blocks links (CapacityBelowSize b)) blocks
+      (λ b d low. ap (λ block. holds_no_group block.kind block.capacity block.size) (get_or_default blocks b _ d low))
 
   -- a block's name is looked for among those before it
   pub repeats_at : (b : ℕ) (block : BlockDef W) (name : List ℕ) (found : Option ℕ) → b < length blocks
@@ -131,11 +137,7 @@ module _ {W : Type 0} where
   unfolding is_bad_block
   built_kind_of block good = kind_of_built (not (options_fit block)) (is_built_kind block.kind) (not block.output) good
 
--- what is built has no groups, and does not reserve
-built_holds : (kind : BlockKind) (capacity size : Option ℕ) → is_built_kind kind ≡ true → holds_no_group kind capacity size ≡ false
-built_holds Batch capacity size e = cc
-built_holds _ capacity size e = refl
-
+-- what is built does not reserve
 built_takes : (kind : BlockKind) (greedy : Option Bool) → is_built_kind kind ≡ true → reserves_by_kind kind greedy ≡ false
 built_takes Join greedy e = cc
 built_takes _ greedy e = refl
@@ -187,15 +189,15 @@ none_image image None e = refl
 none_image image (Some a) e = cc
 
 -- groups of which some are found nothing in
-with_none : {A : Type 0} (a e o c s y : Option A) → c ≡ None → s ≡ None
-    → option_or a (option_or e (option_or o (option_or c (option_or s y)))) ≡ option_or a (option_or e (option_or o y))
-with_none a e o c s y ec es = rw (ec, es) refl
+with_none : {A : Type 0} (a e o c s y : Option A) → s ≡ None
+    → option_or a (option_or e (option_or o (option_or c (option_or s y)))) ≡ option_or a (option_or e (option_or o (option_or c y)))
+with_none a e o c s y es = rw es refl
 
 with_some : {A : Type 0} (a e : Option A) (f : A) (x y : Option A)
     → option_or a (option_or e (option_or (Some f) x)) ≡ option_or a (option_or e (option_or (Some f) y))
 with_some a e f x y = refl
 
--- where every option is as its kind has it and is built, no block has a group or reserves
+-- where every option is as its kind has it and is built, no block reserves
 module _ {W : Type 0} (blocks : List (BlockDef W)) (links : List LinkDef) where
   pub good_blocks : find (stands_now blocks links) (option_faults blocks links) ≡ None
       → (k : ℕ) → k < length blocks → is_built_kind (block_in blocks k).kind ≡ true
@@ -209,13 +211,12 @@ module _ {W : Type 0} (blocks : List (BlockDef W)) (links : List LinkDef) where
       let zeroth : 0 + k ≡ k = omega arith in
       built_kind_of (block_in blocks k) (ap (λ j. is_bad_block (block_in blocks j)) (sym zeroth) ∙ fails_from (λ b. test (bad b)) 0 (length blocks) k low none)
 
-  pub no_small_batch : find (stands_now blocks links) (option_faults blocks links) ≡ None
-      → find (stands_now blocks links) (map CapacityBelowSize (below (length blocks))) ≡ None
-  no_small_batch e =
-      let test = stands_now blocks links in
-      find_of_images test CapacityBelowSize (below (length blocks))
-      ∙ ap (option_map CapacityBelowSize) (none_below (λ b. test (CapacityBelowSize b)) (length blocks)
-      (λ k low. built_holds (block_in blocks k).kind (block_in blocks k).capacity (block_in blocks k).size (good_blocks e k low)))
+  -- the first batch that has no room for a group
+  first_small_batch : (small : Option ℕ) → position (λ block. holds_no_group block.kind block.capacity block.size) blocks ≡ small
+      → find (stands_now blocks links) (map CapacityBelowSize (below (length blocks))) ≡ option_map CapacityBelowSize small
+  first_small_batch small es =
+      find_of_images (stands_now blocks links) CapacityBelowSize (below (length blocks))
+      ∙ ap (option_map CapacityBelowSize) (small_batch_by_position blocks links ∙ es)
 
   pub no_shared_source : find (stands_now blocks links) (option_faults blocks links) ≡ None
       → find (stands_now blocks links) (map SharedSource (below (length blocks))) ≡ None
@@ -226,29 +227,33 @@ module _ {W : Type 0} (blocks : List (BlockDef W)) (links : List LinkDef) where
       (λ k low. rw (built_takes (block_in blocks k).kind (block_in blocks k).greedy (good_blocks e k low)) refl))
 
   -- the first fault, from the first of each group
-  pub first_fault_of : (names ends options : Option PlanFault) (cycle : Bool)
+  pub first_fault_of : (names ends options : Option PlanFault) (small : Option ℕ) (cycle : Bool)
       → find (stands_now blocks links) (name_faults blocks links) ≡ names
       → find (stands_now blocks links) (end_faults blocks links) ≡ ends
       → find (stands_now blocks links) (option_faults blocks links) ≡ options
+      → position (λ block. holds_no_group block.kind block.capacity block.size) blocks ≡ small
       → stands_now blocks links Cycle ≡ cycle
-      → first_fault_now blocks links ≡ option_or names (option_or ends (option_or options (cond cycle (Some Cycle) None)))
-  first_fault_of names ends options cycle en ee eo ec =
+      → first_fault_now blocks links
+      ≡ option_or names (option_or ends (option_or options (option_or (option_map CapacityBelowSize small) (cond cycle (Some Cycle) None))))
+  first_fault_of names ends options small cycle en ee eo es ec =
       let test = stands_now blocks links in
       let b = below (length blocks) in
       let l = below (length links) in
       let c = find test (map CapacityBelowSize b) in
       let s = find test (map SharedSource b) in
       let y = find test (Cycle ∷ []) in
-      let ey : y ≡ cond cycle (Some Cycle) None = ap (λ v. cond v (Some Cycle) None) ec in
+      let last = option_or (option_map CapacityBelowSize small) (cond cycle (Some Cycle) None) in
+      let ey : option_or c y ≡ last =
+      ap (λ v. option_or v y) (first_small_batch small es) ∙ ap (λ v. option_or (option_map CapacityBelowSize small) (cond v (Some Cycle) None)) ec in
       let groups : first_fault_now blocks links ≡ option_or (find test (name_faults blocks links)) (option_or (find test (end_faults blocks links)) (option_or (find test (option_faults blocks links)) (option_or c (option_or s y)))) =
       first_of_groups test (name_faults blocks links) (map Port l) (map NoOutput l) (map (λ k. BadOption (Block k)) b) (map (λ k. BadOption (at_link k)) l)
       (map CapacityBelowSize b) (map SharedSource b) (Cycle ∷ []) in
       let rest : (o : Option PlanFault) → find test (option_faults blocks links) ≡ o
-      → option_or names (option_or ends (option_or o (option_or c (option_or s y)))) ≡ option_or names (option_or ends (option_or o (cond cycle (Some Cycle) None))) =
+      → option_or names (option_or ends (option_or o (option_or c (option_or s y)))) ≡ option_or names (option_or ends (option_or o last)) =
       λ o. elim o as (λ v. find test (option_faults blocks links) ≡ v
-      → option_or names (option_or ends (option_or v (option_or c (option_or s y)))) ≡ option_or names (option_or ends (option_or v (cond cycle (Some Cycle) None)))) [
-        | None ↦ λ e. with_none names ends None c s y (no_small_batch e) (no_shared_source e) ∙ ap (λ v. option_or names (option_or ends (option_or None v))) ey
-        | Some f ↦ λ e. with_some names ends f (option_or c (option_or s y)) (cond cycle (Some Cycle) None)
+      → option_or names (option_or ends (option_or v (option_or c (option_or s y)))) ≡ option_or names (option_or ends (option_or v last))) [
+        | None ↦ λ e. with_none names ends None c s y (no_shared_source e) ∙ ap (λ v. option_or names (option_or ends (option_or None v))) ey
+        | Some f ↦ λ e. with_some names ends f (option_or c (option_or s y)) last
       ] in
       groups
       ∙ ap (λ v. option_or v (option_or (find test (end_faults blocks links)) (option_or (find test (option_faults blocks links)) (option_or c (option_or s y))))) en
@@ -269,7 +274,7 @@ module _ {W : Type 0} (blocks : List (BlockDef W)) (links : List LinkDef) where
   known_where_none e =
       let test = stands_now blocks links in
       let names : find test (name_faults blocks links) ≡ None =
-      none_front _ _ (sym (first_fault_of _ _ _ _ refl refl refl refl) ∙ e) in
+      none_front _ _ (sym (first_fault_of _ _ _ _ _ refl refl refl refl refl) ∙ e) in
       let rest : find test (map DuplicateName (below (length blocks)) ++ map UnknownBlock (below (length links))) ≡ None =
       none_behind (test Limit) Limit (find test (map DuplicateName (below (length blocks)) ++ map UnknownBlock (below (length links)))) names in
       let unknown : find test (map UnknownBlock (below (length links))) ≡ None =

@@ -66,16 +66,16 @@ module _ {W : Type 0} where
 
 module _ {W : Type 0} (blocks : List (BlockDef W)) (links : List LinkDef) (fine : first_fault_now blocks links ≡ None) where
   no_end_fault : find (stands_now blocks links) (end_faults blocks links) ≡ None
-  no_end_fault = none_front _ _ (none_back _ _ (sym (first_fault_of blocks links _ _ _ _ refl refl refl refl) ∙ fine))
+  no_end_fault = none_front _ _ (none_back _ _ (sym (first_fault_of blocks links _ _ _ _ _ refl refl refl refl refl) ∙ fine))
 
   no_option_fault : find (stands_now blocks links) (option_faults blocks links) ≡ None
-  no_option_fault = none_front _ _ (none_back _ _ (none_back _ _ (sym (first_fault_of blocks links _ _ _ _ refl refl refl refl) ∙ fine)))
+  no_option_fault = none_front _ _ (none_back _ _ (none_back _ _ (sym (first_fault_of blocks links _ _ _ _ _ refl refl refl refl refl) ∙ fine)))
 
   no_unknown : find (stands_now blocks links) (map UnknownBlock (below (length links))) ≡ None
   no_unknown =
       let test = stands_now blocks links in
       let names : find test (name_faults blocks links) ≡ None =
-      none_front _ _ (sym (first_fault_of blocks links _ _ _ _ refl refl refl refl) ∙ fine) in
+      none_front _ _ (sym (first_fault_of blocks links _ _ _ _ _ refl refl refl refl refl) ∙ fine) in
       let rest : find test (map DuplicateName (below (length blocks)) ++ map UnknownBlock (below (length links))) ≡ None =
       none_behind (test Limit) Limit (find test (map DuplicateName (below (length blocks)) ++ map UnknownBlock (below (length links)))) names in
       none_back _ _ (sym (find-append test (map DuplicateName (below (length blocks))) (map UnknownBlock (below (length links)))) ∙ rest)

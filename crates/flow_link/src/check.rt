@@ -1,21 +1,20 @@
 //! What makes a draft a plan: the faults in their order, a function each.
 //!
-//! Two of the nine cannot come first yet: CapacityBelowSize is of a batch and SharedSource of a join, and neither kind
-//! is built.
+//! One of the nine cannot come first yet: SharedSource is of a join, and that kind is not built.
 ghost use Rattle.std.specs.Prelude.{◌≡◌, ◌<◌, [], length, ◌||◌, not, find, position, IfOk, IfErr, IfSome, OnOk, None};
 ghost use Rattle.std.specs.Prelude.{is_none};
 ghost use Rattle.flow_link.specs.declared.plan.PlanFault.TheVariants.{Limit, DuplicateName};
 ghost use Rattle.flow_link.specs.Plan.{block_named, named_link, planned_links};
 ghost use Rattle.flow_link.specs.Planned.{layout_of};
 ghost use Rattle.flow_link.specs.Refusal.{IsWhy};
-ghost use Rattle.flow_link.specs.PlanFaults.{gives_nothing, lacks_port, lacks_output, is_in, first_plan_fault};
+ghost use Rattle.flow_link.specs.PlanFaults.{gives_nothing, holds_no_group, lacks_port, lacks_output, is_in, first_plan_fault};
 ghost use Rattle.flow_link.specs.NotBuilt.{first_fault_now, stands_now, first_at, name_faults, end_faults};
 ghost use Rattle.flow_link.specs.NotBuilt.{option_faults, is_bad_block};
 
 use crate::cycle::{MOST_BLOCKS, has_cycle};
 use crate::draft::{BlockDef, BlockKind, Draft, LinkDef};
 use crate::layout::{NO_LINK, name_links, planned_links};
-use crate::options::{is_built_block, max_fits, options_fit, port_count};
+use crate::options::{holds_no_group, is_built_block, max_fits, options_fit, port_count};
 use crate::plan::{Place, Plan, PlanFault};
 use std::alloc::Global;
 use thiserror::Error;
@@ -68,6 +67,9 @@ fn first_fault<W>(blocks: &[BlockDef<W>], links: &[LinkDef]) -> Option<PlanFault
     }
     if let Some(fault) = fault_of_options(blocks, links) {
         return Some(fault);
+    }
+    if let Some(block) = first_small_batch(blocks) {
+        return Some(PlanFault::CapacityBelowSize(block));
     }
     let mut room = [NO_LINK; MOST_LINKS];
     name_links(blocks, links, &mut room);
@@ -167,6 +169,12 @@ fn first_bad_link(links: &[LinkDef]) -> Option<usize>
     ensures { result ≡ position (λ link. not (is_in 1 2147483647 link.max)) links.now }
 {
     links.iter().position(|link| !max_fits(link.max))
+}
+
+fn first_small_batch<W>(blocks: &[BlockDef<W>]) -> Option<usize>
+    ensures { result ≡ position (λ block. holds_no_group block.kind block.capacity block.size) blocks.now }
+{
+    blocks.iter().position(|block| holds_no_group(block.kind, block.capacity, block.size))
 }
 
 /// The number of the block with this name.

@@ -4,7 +4,7 @@ ghost use Rattle.std.specs.List.{list_all};
 ghost use Rattle.flow_link.specs.Plan.{ports_by_kind};
 ghost use Rattle.flow_link.specs.PlanFaults.{is_between, is_name, is_name_byte, is_in, allows, input_rule, output_rule};
 ghost use Rattle.flow_link.specs.PlanFaults.{capacity_rule, work_rule, lanes_rule, size_rule, ports_rule, greedy_rule};
-ghost use Rattle.flow_link.specs.PlanFaults.{keys_fit, ranges_fit, options_fit};
+ghost use Rattle.flow_link.specs.PlanFaults.{keys_fit, ranges_fit, options_fit, holds_no_group};
 ghost use Rattle.flow_link.specs.NotBuilt.{is_built_kind, is_built_block};
 
 use crate::draft::{BlockDef, BlockKind};
@@ -42,6 +42,16 @@ pub fn max_fits(max: Option<u32>) -> bool
     is_in(1, MOST_MESSAGES, max)
 }
 
+/// Whether a batch has a capacity that is less than one of its groups.
+pub fn holds_no_group(kind: BlockKind, capacity: Option<u32>, size: Option<u32>) -> bool
+    ensures { result ≡ holds_no_group kind capacity size }
+{
+    match (kind, capacity, size) {
+        (BlockKind::Batch, Some(capacity), Some(size)) => capacity < size,
+        _ => false,
+    }
+}
+
 /// How many ports a block of this kind has.
 pub fn port_count(kind: BlockKind, ports: Option<u32>) -> u32
     ensures { result ≡ ports_by_kind kind ports }
@@ -57,7 +67,11 @@ fn is_built_kind(kind: BlockKind) -> bool
 {
     matches!(
         kind,
-        BlockKind::Buffer | BlockKind::Action | BlockKind::Transform | BlockKind::TransformMany
+        BlockKind::Buffer
+            | BlockKind::Action
+            | BlockKind::Transform
+            | BlockKind::TransformMany
+            | BlockKind::Batch
     )
 }
 

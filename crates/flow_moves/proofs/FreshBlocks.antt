@@ -18,6 +18,6 @@ module _ {W : Type 0} (layout : Layout W) (b : ℕ) where
   none_due [] = refl
   none_due (p ∷ ports) = omega (arith, none_owed (links_to layout b p), none_due ports)
 
-  pub no_mark_due : (kind : BlockKind) (lanes : ℕ) (ports : List ℕ) (rules : List LinkRule) (block : BlockState)
-      → block ≡ fresh_block kind lanes (map (port_of_plan layout b) ports) rules → marks_due block ≡ 0
-  no_mark_due kind lanes ports rules block is = ap marks_due is ∙ omega (arith, none_due ports)
+  pub no_mark_due : (kind : BlockKind) (lanes size : ℕ) (ports : List ℕ) (rules : List LinkRule) (block : BlockState)
+      → block ≡ fresh_block kind lanes size (map (port_of_plan layout b) ports) rules → marks_due block ≡ 0
+  no_mark_due kind lanes size ports rules block is = ap marks_due is ∙ omega (arith, none_due ports)

@@ -34,7 +34,8 @@ fn node_of<W>(alloc: Global, plan: &Plan<W>, number: usize) -> Result<Node, Allo
     let rules = rules_from(alloc, plan, number)?;
     let def = plan.block(number);
     let lanes = def.lanes.unwrap_or(1) as usize;
-    match Block::new(alloc, def.kind, lanes, ports, rules) {
+    let size = def.size.unwrap_or(0);
+    match Block::new(alloc, def.kind, lanes, size, ports, rules) {
         Ok(block) => Ok(Node::new(alloc, block)),
         Err(_) => Err(AllocError),
     }

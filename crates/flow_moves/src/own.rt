@@ -26,9 +26,9 @@ use flow_value::{Value, Work};
 use std::alloc::{AllocError, Global};
 
 impl Parts {
-    /// A block without a function hands on the message that waits longest. Where message ids are used up or memory is
-    /// out, nothing has changed.
-    pub fn make(&mut self, block: usize) -> Result<(), OutletFault>
+    /// A block without a function makes its next outputs: it hands on the message that waits longest, or makes a row of
+    /// those that wait. Where message ids are used up or memory is out, nothing has changed.
+    pub fn make(&mut self, alloc: Global, block: usize) -> Result<(), OutletFault>
         requires there { block < length self.old.nodes }
         requires alone { length (node_at self.old block).block.ports ≡ 1 }
         requires waits { may_make (node_at self.old block).block ≡ true }
@@ -41,7 +41,7 @@ impl Parts {
         ensures used_up { result ≡ Err Ids → (result : Value → Result (List Value) ℕ) → lacks_ids (put_next result
             (node_at self.old block).block) (node_at self.old block).block.exits ≡ true }
     {
-        self.nodes[block].hand_on()
+        make(&mut self.nodes[block], alloc)
     }
 
     /// A block works on one more of the messages that it holds. Where memory is out, or tickets are used up, nothing has
@@ -168,6 +168,25 @@ impl Parts {
         ensures kept { OnErr result (self.new ≡ self.old) }
     {
         self.nodes[block].finish()
+    }
+}
+
+/// A block without a function makes its next outputs. Where message ids are used up or memory is out, nothing has changed.
+fn make(node: &mut Node, alloc: Global) -> Result<(), OutletFault>
+    requires alone { length node.old.block.ports ≡ 1 }
+    requires waits { may_make node.old.block ≡ true }
+    requires built { is_built_kind node.old.block.kind ≡ true }
+    ensures done { OnOk result ((result : Value → Result (List Value) ℕ) →
+        node.new ≡ after result NodeCall.make node.old) }
+    ensures ids { OnOk result ((result : Value → Result (List Value) ℕ) →
+        lacks_ids (put_next result node.old.block) node.old.block.exits ≡ false) }
+    ensures kept { OnErr result (node.new ≡ node.old) }
+    ensures used_up { result ≡ Err Ids → (result : Value → Result (List Value) ℕ) →
+        lacks_ids (put_next result node.old.block) node.old.block.exits ≡ true }
+{
+    match node.block().kind() {
+        BlockKind::Batch => node.make_row(alloc),
+        _ => node.hand_on(),
     }
 }
 

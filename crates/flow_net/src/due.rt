@@ -6,7 +6,7 @@ use flow_link::Move;
 pub(crate) enum Due {
     /// An end of this link makes a move.
     Link(usize, Move),
-    /// This block hands on the next message that it holds.
+    /// This block, which has no function, makes its next outputs.
     Make(usize),
     /// This block works on one more of the messages that it holds.
     Begin(usize),

@@ -56,8 +56,8 @@ impl<W: Work> Engine<W> {
         Ok(())
     }
 
-    /// Does an event that is due: a block hands on the message that waits longest.
-    pub(crate) fn make(&mut self, number: usize) -> Result<(), NetFault>
+    /// Does an event that is due: a block without a function makes its next outputs.
+    pub(crate) fn make(&mut self, alloc: Global, number: usize) -> Result<(), NetFault>
         requires kept { ∥ NetKeeps (layout_of self.old.plan) (works_of W.meaning (layout_of self.old.plan))
             self.old.parts ∥₁ }
         requires enabled { Enabled (layout_of self.old.plan) self.old.parts (NetEvent.make number) }
@@ -71,7 +71,7 @@ impl<W: Work> Engine<W> {
             (works_of W.meaning (layout_of self.old.plan)) (NetEvent.make number) self.old.parts → ⊥ }
         ensures never { result ≢ Err NotEnabled }
     {
-        self.parts.make(number)?;
+        self.parts.make(alloc, number)?;
         Ok(())
     }
 
@@ -171,7 +171,7 @@ impl<W: Work> Engine<W> {
     {
         match *event {
             Due::Link(id, ref next) => self.move_link(alloc, id, next),
-            Due::Make(number) => self.make(number),
+            Due::Make(number) => self.make(alloc, number),
             Due::Begin(number) => self.begin(number),
             Due::End(number, ticket) => self.finish_job(alloc, number, ticket),
             _ => self.end(event),

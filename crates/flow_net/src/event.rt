@@ -8,7 +8,7 @@ use flow_value::Work;
 pub enum Event<W: Work> {
     /// An end of this link makes a move.
     Link(usize, Move),
-    /// This block, which has no function, hands on the next message that it holds.
+    /// This block, which has no function, makes its next outputs: a buffer hands a message on, and a batch makes a row.
     Make(usize),
     /// This block works on one more of the messages that it holds.
     Begin(usize),

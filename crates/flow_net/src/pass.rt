@@ -69,7 +69,7 @@ impl<W: Work> Engine<W> {
     {
         let block = self.parts.node(number).block();
         if block.may_make() {
-            self.make(number)?;
+            self.make(alloc, number)?;
             self.agenda.list_after_make(&self.parts, number);
             return Ok(1);
         }

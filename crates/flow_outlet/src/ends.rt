@@ -192,7 +192,7 @@ impl OutEnd {
     }
 
     /// The end after it gave the message with this id.
-    pub(crate) fn gave(self, id: u64) -> OutEnd
+    pub fn gave(self, id: u64) -> OutEnd
         requires { HasRoom self.rule.max self.given }
         ensures { result ≡ given_end id self }
     {
@@ -222,11 +222,7 @@ impl OutEnd {
     }
 
     /// The stage after the target answered the offer of this message, and what is then not offered again.
-    pub(crate) fn answered(
-        &self,
-        header: MessageHeader,
-        status: MessageStatus,
-    ) -> (SourceStage, u64)
+    pub fn answered(&self, header: MessageHeader, status: MessageStatus) -> (SourceStage, u64)
         ensures stage { result.0 ≡ answer_stage status header }
         ensures declined { result.1 ≡ answer_declined status header self.now.declined }
     {
@@ -242,7 +238,7 @@ impl OutEnd {
     }
 
     /// The end after it forgot that an offer was postponed.
-    fn forgotten(self) -> OutEnd
+    pub fn forgotten(self) -> OutEnd
         ensures { result ≡ forgotten self }
     {
         match self.stage {

@@ -17,7 +17,7 @@ use std::test::Fail;
 /// A block of this kind with one lane, with room for so many messages, or for any number, and with one link out of it,
 /// number 7.
 fn block(alloc: Global, kind: BlockKind, capacity: Option<u32>) -> Result<Block, Fail>
-    ensures { IfOk result (λ block. block ≡ fresh_block kind 1 (fresh_port capacity ∷ [])
+    ensures { IfOk result (λ block. block ≡ fresh_block kind 1 0 (fresh_port capacity ∷ [])
         (record { id = 7; when = Any; max = None; passes = true; steady = false; sole = false } ∷ [])) }
 {
     let mut ports = Vec::new(alloc);
@@ -31,7 +31,7 @@ fn block(alloc: Global, kind: BlockKind, capacity: Option<u32>) -> Result<Block,
         steady: false,
         sole: false,
     })?;
-    Block::new(alloc, kind, 1, ports, rules).map_err(|_| Fail::from("out of memory"))
+    Block::new(alloc, kind, 1, 0, ports, rules).map_err(|_| Fail::from("out of memory"))
 }
 
 fn parcel(alloc: Global, number: i64) -> Result<Parcel, Fail> {

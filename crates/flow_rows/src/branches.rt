@@ -2,7 +2,9 @@
 //! messages or so many: as drafts to which values are posted, in several orders of events, and as texts with records.
 use crate::driver::{ENOUGH, add, check, has_lines, told_by};
 use crate::events::{came_to, do_first, in_order, post_all, settles, wander};
-use flow_link::{BlockDef, BlockKind, Draft, Ending, LinkDef, plan_check};
+use flow_link::{
+    BlockDef, BlockKind, Draft, Ending, LinkDef, Place, PlanFault, PlanRefusal, plan_check,
+};
 use flow_net::Net;
 use flow_value::{Steps, Text, Value, When};
 use std::alloc::{AllocError, Global};
@@ -11,8 +13,8 @@ use std::sync::Wait;
 use std::test::Fail;
 use std::thread::Threads;
 
-/// A block: its name, its kind, with a star where it is an input, and with its lanes after a stroke if it has any, its
-/// capacity if it has one, and its function.
+/// A block: its name, its kind, with a star where it is an input, and with its lanes, or the size of a batch, after a
+/// stroke if it has any, its capacity if it has one, and its function.
 type Block = (
     &'static str,
     &'static str,
@@ -123,6 +125,56 @@ const CASES: &[Case] = &[
         &["block in done ; block t done ; block out done ; record [0,1,0,1,2]"],
     ),
     (
+        "batch remainder",
+        &[IN, PARSE, ("b", "batch/3", None, &[]), KEEP],
+        &[
+            ("in", "t", "any", None),
+            ("t", "b", "any", None),
+            ("b", "out", "any", None),
+        ],
+        "'1 '2 '3 '4 '5 '6 '7",
+        Ending::Complete,
+        &[
+            "block in done ; block t done ; block b done ; held 0 [] ; block out done ; record [[1,2,3],[4,5,6],[7]]",
+        ],
+    ),
+    (
+        "batch with room for one row",
+        &[
+            IN,
+            PARSE,
+            ("b", "batch/2", Some(2), &[]),
+            ("out", "action", Some(1), &["sum"]),
+        ],
+        &[
+            ("in", "t", "any", None),
+            ("t", "b", "any", None),
+            ("b", "out", "any", None),
+        ],
+        "'1 '2 '3 '4 '5",
+        Ending::Complete,
+        &["block in done ; block t done ; block b done ; block out done ; record [3,7,5]"],
+    ),
+    (
+        "a fault behind a batch that is not full",
+        &[IN, PARSE, ("b", "batch/2", None, &[]), KEEP],
+        &[
+            ("in", "t", "any", None),
+            ("t", "b", "any", None),
+            ("b", "out", "any", None),
+        ],
+        "'1 x",
+        Ending::Complete,
+        &[
+            r#"block t faulted 1 ; held 0 ["x"] ; left [] ; block b faulted 1 ; held 0 [1] ; left [] ; block out faulted 1 ; record []"#,
+            r#"block t faulted 1 ; held 0 ["x"] ; left [1] ; block b faulted 1 ; held 0 [] ; left [] ; block out faulted 1 ; record []"#,
+        ],
+    ),
+];
+
+/// More cases. The proof of a longer table is beyond the prover's steps.
+const MORE_CASES: &[Case] = &[
+    (
         "fault in a lane",
         &[IN, ("t", "transform/3", None, &["int"]), KEEP],
         &[("in", "t", "any", None), ("t", "out", "any", None)],
@@ -209,7 +261,7 @@ const CASES: &[Case] = &[
 ];
 
 /// Two chains with room for one message each, which share what one input gives.
-const SHARED: Case = (
+const SHARED: &Case = &(
     "one source, two bounded chains",
     &[
         IN,
@@ -229,6 +281,23 @@ const SHARED: Case = (
     &["block in done ; block b done ; block x done ; block c done ; block y done"],
 );
 
+/// The cases. A table is read here alone, since each function that names it would be proved with all of it.
+fn cases() -> &'static [Case] {
+    CASES
+}
+
+fn more_cases() -> &'static [Case] {
+    MORE_CASES
+}
+
+fn tables() -> [&'static [Case]; 2] {
+    [cases(), more_cases()]
+}
+
+fn shared() -> &'static Case {
+    SHARED
+}
+
 /// The kind of a block by its word, and whether it is an input.
 fn kind_of(word: &str) -> (BlockKind, bool) {
     match word {
@@ -236,25 +305,30 @@ fn kind_of(word: &str) -> (BlockKind, bool) {
         "buffer" => (BlockKind::Buffer, false),
         "transform" => (BlockKind::Transform, false),
         "transform_many" => (BlockKind::TransformMany, false),
+        "batch" => (BlockKind::Batch, false),
         _ => (BlockKind::Action, false),
     }
 }
 
-/// The word of a kind, and its lanes if it has any.
-fn split_lanes(word: &str) -> (&str, Option<u32>) {
+/// The word of a kind, and its lanes or its size if it has any.
+fn split_count(word: &str) -> (&str, Option<u32>) {
     match word.split_once("/") {
-        Some((kind, lanes)) => (kind, lanes.parse::<u32>().ok()),
+        Some((kind, count)) => (kind, count.parse::<u32>().ok()),
         None => (word, None),
     }
 }
 
 fn block_of(alloc: Global, block: &Block) -> Result<BlockDef<Steps>, Fail> {
     let (name, word, capacity, work) = *block;
-    let (word, lanes) = split_lanes(word);
+    let (word, count) = split_count(word);
     let (kind, input) = kind_of(word);
     let work = match kind {
-        BlockKind::Buffer => None,
+        BlockKind::Buffer | BlockKind::Batch => None,
         _ => Some(Steps::read(alloc, work)?),
+    };
+    let (lanes, size) = match kind {
+        BlockKind::Batch => (None, count),
+        _ => (count, None),
     };
     Ok(BlockDef {
         name: Text::from_str(alloc, name)?,
@@ -264,7 +338,7 @@ fn block_of(alloc: Global, block: &Block) -> Result<BlockDef<Steps>, Fail> {
         capacity,
         work,
         lanes,
-        size: None,
+        size,
         ports: None,
         greedy: None,
     })
@@ -307,12 +381,42 @@ fn network(alloc: Global, case: &Case) -> Result<Net<Steps>, Fail> {
     }
 }
 
+/// A batch whose rows have no message, and one with less room than a row has; and the fault of the draft.
+const SMALL: &[(Block, PlanFault)] = &[
+    (
+        ("b", "batch/0", None, &[]),
+        PlanFault::BadOption(Place::Block(2)),
+    ),
+    (
+        ("b", "batch/3", Some(2), &[]),
+        PlanFault::CapacityBelowSize(2),
+    ),
+];
+
+#[test]
+fn small_batches_are_refused(rt: HostRuntime) -> Result<(), Fail> {
+    for (batch, fault) in SMALL {
+        let mut blocks = Vec::new(rt.alloc());
+        for block in [&IN, &PARSE, batch, &KEEP] {
+            blocks.push(block_of(rt.alloc(), block)?)?;
+        }
+        let links = Vec::new(rt.alloc());
+        let Err((_back, refusal)) = plan_check(rt.alloc(), Draft { blocks, links }) else {
+            panic!(&rt; "a plan");
+        };
+        assert!(rt; refusal == PlanRefusal::Fault(*fault));
+    }
+    Ok(())
+}
+
 #[test]
 fn drafts_settle(rt: HostRuntime) -> Result<(), Fail> {
-    for case in CASES {
-        let mut net = network(rt.alloc(), case)?;
-        check(&rt, case.0, settles(rt.alloc(), &mut net));
-        check(&rt, case.0, came_to(rt.alloc(), &net, case.5)?.is_some());
+    for table in tables() {
+        for case in table {
+            let mut net = network(rt.alloc(), case)?;
+            check(&rt, case.0, settles(rt.alloc(), &mut net));
+            check(&rt, case.0, came_to(rt.alloc(), &net, case.5)?.is_some());
+        }
     }
     Ok(())
 }
@@ -322,12 +426,14 @@ const SEEDS: u64 = 6;
 
 #[test]
 fn seeded_schedules_come_to_the_same(rt: HostRuntime) -> Result<(), Fail> {
-    for case in CASES {
-        for seed in 0..SEEDS {
-            let mut net = network(rt.alloc(), case)?;
-            let is_due = wander(&rt, rt.alloc(), &mut net, seed)?
-                && came_to(rt.alloc(), &net, case.5)?.is_some();
-            check(&rt, case.0, is_due);
+    for table in tables() {
+        for case in table {
+            for seed in 0..SEEDS {
+                let mut net = network(rt.alloc(), case)?;
+                let is_due = wander(&rt, rt.alloc(), &mut net, seed)?
+                    && came_to(rt.alloc(), &net, case.5)?.is_some();
+                check(&rt, case.0, is_due);
+            }
         }
     }
     Ok(())
@@ -336,18 +442,20 @@ fn seeded_schedules_come_to_the_same(rt: HostRuntime) -> Result<(), Fail> {
 // Links first, blocks first, and backwards.
 #[test]
 fn networks_come_to_rest_in_each_order(rt: HostRuntime) -> Result<(), Fail> {
-    for case in CASES {
-        for (links_first, backwards) in [
-            (true, false),
-            (false, false),
-            (true, true),
-            (false, true),
-        ] {
-            let mut net = network(rt.alloc(), case)?;
-            let choices = in_order(rt.alloc(), net.plan(), links_first, backwards)?;
-            let is_due = do_first(&rt, rt.alloc(), &mut net, choices.as_slice())?
-                && came_to(rt.alloc(), &net, case.5)?.is_some();
-            check(&rt, case.0, is_due);
+    for table in tables() {
+        for case in table {
+            for (links_first, backwards) in [
+                (true, false),
+                (false, false),
+                (true, true),
+                (false, true),
+            ] {
+                let mut net = network(rt.alloc(), case)?;
+                let choices = in_order(rt.alloc(), net.plan(), links_first, backwards)?;
+                let is_due = do_first(&rt, rt.alloc(), &mut net, choices.as_slice())?
+                    && came_to(rt.alloc(), &net, case.5)?.is_some();
+                check(&rt, case.0, is_due);
+            }
         }
     }
     Ok(())
@@ -387,9 +495,10 @@ fn share_twenty(alloc: Global, first: &[Value], second: &[Value]) -> Result<bool
 
 #[test]
 fn two_chains_share_what_one_source_gives(rt: HostRuntime) -> Result<(), Fail> {
-    let mut net = network(rt.alloc(), &SHARED)?;
+    let shared = shared();
+    let mut net = network(rt.alloc(), shared)?;
     assert!(rt; settles(rt.alloc(), &mut net));
-    assert!(rt; came_to(rt.alloc(), &net, SHARED.5)?.is_some());
+    assert!(rt; came_to(rt.alloc(), &net, shared.5)?.is_some());
     assert!(rt; net.plan().block_count() == 5);
     assert!(rt; share_twenty(rt.alloc(), net.record(2), net.record(4))?);
     Ok(())
@@ -410,7 +519,7 @@ fn text_of(alloc: Global, case: &Case) -> Result<Vec<u8>, Fail> {
 
 fn add_block(alloc: Global, text: &mut Vec<u8>, block: &Block) -> Result<(), AllocError> {
     let (name, word, capacity, work) = *block;
-    let (word, lanes) = split_lanes(word);
+    let (word, count) = split_count(word);
     let kind = word.strip_suffix("*").unwrap_or(word);
     add(
         text,
@@ -420,7 +529,10 @@ fn add_block(alloc: Global, text: &mut Vec<u8>, block: &Block) -> Result<(), All
         add(text, &["input = true\n"])?;
     }
     add_number(alloc, text, "capacity = ", capacity)?;
-    add_number(alloc, text, "lanes = ", lanes)?;
+    if kind == "batch" {
+        return add_number(alloc, text, "size = ", count);
+    }
+    add_number(alloc, text, "lanes = ", count)?;
     if kind != "buffer" {
         add(text, &["work = ["])?;
         for step in work {
@@ -483,10 +595,13 @@ fn runs_as_text(
 
 #[test]
 fn texts_of_them_run(rt: HostRuntime) -> Result<(), Fail> {
-    check(&rt, SHARED.0, runs_as_text(&rt, rt.alloc(), &SHARED)?);
-    for case in CASES {
-        if case.4 == Ending::Complete {
-            check(&rt, case.0, runs_as_text(&rt, rt.alloc(), case)?);
+    let shared = shared();
+    check(&rt, shared.0, runs_as_text(&rt, rt.alloc(), shared)?);
+    for table in tables() {
+        for case in table {
+            if case.4 == Ending::Complete {
+                check(&rt, case.0, runs_as_text(&rt, rt.alloc(), case)?);
+            }
         }
     }
     Ok(())

@@ -1,8 +1,8 @@
 //! Readers and writers that fail, and memory that runs out.
-use crate::driver::{ENOUGH, is_refusal, is_report, row_of, told_by, values_of};
+use crate::driver::{ENOUGH, is_refusal, is_report, ran, row_of, told_by, values_of};
 use flow_link::PlanFault;
 use flow_net::Settled;
-use flow_run::{Ran, RunRefusal, run, write_refusal};
+use flow_run::{Ran, RunRefusal, write_refusal};
 use flow_text::{TextFault, TextRefusal, read_plan};
 use flow_value::{Parcel, Steps, StepsError, Value, Work, WorkFault};
 use std::alloc::{AllocError, Global};
@@ -85,7 +85,7 @@ fn run_to(
     alloc: Global,
     writer: &mut FailingWriter,
 ) -> Result<Ran, RunRefusal> {
-    run(rt, alloc, PAIR, TWO, writer, 1, ENOUGH)
+    ran(rt, alloc, PAIR, TWO, writer, 1, ENOUGH)
 }
 
 #[test]
@@ -175,7 +175,7 @@ fn networks_without_memory(rt: HostRuntime) {
 #[test]
 fn runs_without_memory(rt: HostRuntime) {
     let mut written = Vec::new(rt.alloc());
-    match run(&rt, rt.alloc(), PAIR, TWO, &mut written, 1, ENOUGH) {
+    match ran(&rt, rt.alloc(), PAIR, TWO, &mut written, 1, ENOUGH) {
         Ok(ran) => assert!(rt; ran == COMPLETE && is_report(written.as_slice(), REPORT)),
         Err(RunRefusal::Memory) => assert!(rt; written.is_empty()),
         Err(refusal) => assert!(rt; refusal == RunRefusal::Text(TextFault::Write)),

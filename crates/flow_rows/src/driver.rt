@@ -2,10 +2,10 @@
 //! of rows.
 ghost use Rattle.std.specs.Prelude.{◌≤◌};
 
-use flow_run::{run, status, write_refusal};
+use flow_run::{Ran, RunRefusal, run, status, write_refusal};
 use flow_value::{Row, Text, Value};
 use std::alloc::{AllocError, Global};
-use std::io::Read;
+use std::io::{Read, Write};
 use std::process::Abort;
 use std::sync::Wait;
 use std::test::Fail;
@@ -44,13 +44,37 @@ pub(crate) fn told_with<R: Read + Drop>(
     requires { (1 ≤ workers) × (workers ≤ 64) }
 {
     let mut text = Vec::new(alloc);
-    let outcome = run(rt, alloc, network, records, &mut text, workers, limit);
-    if let Err(refusal) = &outcome {
+    let outcome = ran(rt, alloc, network, records, &mut text, workers, limit);
+    tell(rt, &outcome, text)
+}
+
+/// Runs a network over records. What `run` promises is not for the tests, which look at what comes of it.
+pub(crate) fn ran<R: Read + Drop, W: Write>(
+    rt: &(impl Threads + Wait + Sync),
+    alloc: Global,
+    network: &[u8],
+    records: R,
+    text: &mut W,
+    workers: u32,
+    limit: u64,
+) -> Result<Ran, RunRefusal>
+    requires { (1 ≤ workers) × (workers ≤ 64) }
+{
+    run(rt, alloc, network, records, text, workers, limit)
+}
+
+/// What a run told that came to this, and wrote this text.
+fn tell(
+    rt: &impl Abort,
+    outcome: &Result<Ran, RunRefusal>,
+    mut text: Vec<u8>,
+) -> Result<Told, Fail> {
+    if let Err(refusal) = outcome {
         assert!(rt; text.is_empty());
         write_refusal(refusal, &mut text)?;
     }
     Ok(Told {
-        status: status(&outcome),
+        status: status(outcome),
         text,
     })
 }
@@ -68,8 +92,8 @@ pub(crate) fn add(text: &mut Vec<u8>, parts: &[&str]) -> Result<(), AllocError> 
     Ok(())
 }
 
-/// The text of a chain that is drawn as `in buffer => t transform ["int"] -> out action []`: the first block is an
-/// input, and a link drawn by `=>` propagates.
+/// The text of a chain that is drawn as `in buffer => t transform/4 ["int"] -> b batch/3`: the first block is an input, a
+/// link drawn by `=>` propagates, and the lanes of a block or the size of a batch stand after a stroke.
 pub(crate) fn chain(alloc: Global, drawn: &str) -> Result<Vec<u8>, Fail> {
     let mut text = Vec::new(alloc);
     add(&mut text, &["format = 1\n"])?;
@@ -96,6 +120,7 @@ fn add_block(
     is_input: bool,
 ) -> Result<(), AllocError> {
     let (kind, work) = others.split_once(" ").unwrap_or((others, ""));
+    let (kind, count) = kind.split_once("/").unwrap_or((kind, ""));
     let input = if is_input { "true" } else { "false" };
     let parts = [
         "[[block]]\nname = \"",
@@ -109,6 +134,14 @@ fn add_block(
     add(text, &parts)?;
     if !work.is_empty() {
         add(text, &["work = ", work, "\n"])?;
+    }
+    if !count.is_empty() {
+        let key = if kind == "batch" {
+            "size = "
+        } else {
+            "lanes = "
+        };
+        add(text, &[key, count, "\n"])?;
     }
     Ok(())
 }

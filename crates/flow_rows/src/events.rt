@@ -2,7 +2,7 @@
 ghost use Rattle.std.specs.Prelude.{◌≡◌, ◌+◌, ◌≤◌, IfOk, OnOk, cond, count_by, length};
 ghost use Rattle.flow_link.specs.Planned.{layout_of};
 
-use crate::driver::{ENOUGH, chain, check, has_lines, is_report, values_of};
+use crate::driver::{ENOUGH, chain, check, has_lines, values_of};
 use flow_exec::{Job, JobResult};
 use flow_link::{Ending, LinkEnd, Mark, Move, Plan};
 use flow_net::{Event, Net, NetFault, Posted, Settled, State, Stepped};
@@ -12,9 +12,9 @@ use std::alloc::{AllocError, Global};
 use std::process::Abort;
 use std::test::Fail;
 
-const PAIR: &str = "in buffer => out action []";
+pub(crate) const PAIR: &str = "in buffer => out action []";
 
-const THREE: &str = r#"in buffer => t transform ["int"] => out action []"#;
+pub(crate) const THREE: &str = r#"in buffer => t transform ["int"] => out action []"#;
 
 /// What a network comes to: its name, the network, drawn, the values that are posted, how they end, and lines of the
 /// report. Where there are several lists of lines, each schedule comes to one of them, and each comes of some schedule.
@@ -119,6 +119,11 @@ const CASES: &[Case] = &[
     ),
 ];
 
+/// The cases. A table is read here alone, since each function that names it would be proved with all of it.
+fn cases() -> &'static [Case] {
+    CASES
+}
+
 /// Posts these values and their ending, if there is an input for them.
 fn post_to(
     alloc: Global,
@@ -154,19 +159,14 @@ pub(crate) fn post_all(
 }
 
 /// The network that is drawn so, to which these values are posted, which end so.
-fn network(alloc: Global, drawn: &str, words: &str, ending: Ending) -> Result<Net<Steps>, Fail> {
-    let text = chain(alloc, drawn)?;
-    network_of(alloc, text.as_slice(), words, ending)
-}
-
-/// The network of this text, to which these values are posted, which end so.
-pub(crate) fn network_of(
+pub(crate) fn network(
     alloc: Global,
-    text: &[u8],
+    drawn: &str,
     words: &str,
     ending: Ending,
 ) -> Result<Net<Steps>, Fail> {
-    let plan = read_plan(alloc, text)?;
+    let text = chain(alloc, drawn)?;
+    let plan = read_plan(alloc, text.as_slice())?;
     let posted = post_all(alloc, &plan, words, ending)?;
     match Net::new(alloc, plan, posted) {
         Ok(net) => Ok(net),
@@ -180,7 +180,8 @@ pub(crate) enum Asked {
     Link(usize, Move),
     Make(usize),
     Begin(usize),
-    End(usize),
+    /// That a result of the block comes back: the one with this ticket, or the first.
+    End(usize, Option<u64>),
     Complete(usize, u32),
     Fault(usize),
     Done(usize),
@@ -189,15 +190,25 @@ pub(crate) enum Asked {
 /// Results of jobs that were run and not taken back yet, each with the number of its block.
 pub(crate) type Results = Vec<(usize, JobResult<Steps>)>;
 
+/// Whether this is a result of the block, and has the ticket that is asked for.
+fn is_result(held: &(usize, JobResult<Steps>), number: usize, ticket: Option<u64>) -> bool {
+    match ticket {
+        Some(ticket) => held.0 == number && held.1.job().ticket() == ticket,
+        None => held.0 == number,
+    }
+}
+
 impl Asked {
-    /// The event, with the first result of the block where one comes back; none where there is no such result.
+    /// The event, with a result of the block where one comes back; none where there is no such result.
     fn event(self, results: &mut Results) -> Option<Event<Steps>> {
         Some(match self {
             Asked::Link(id, step) => Event::Link(id, step),
             Asked::Make(number) => Event::Make(number),
             Asked::Begin(number) => Event::Begin(number),
-            Asked::End(number) => {
-                let place = results.iter().position(|held| held.0 == number)?;
+            Asked::End(number, ticket) => {
+                let place = results
+                    .iter()
+                    .position(|held| is_result(held, number, ticket))?;
                 Event::End(number, results.remove(place).1)
             }
             Asked::Complete(number, port) => Event::Complete(number, port),
@@ -418,7 +429,7 @@ fn steps_of(number: usize) -> [Asked; 6] {
     [
         Asked::Make(number),
         Asked::Begin(number),
-        Asked::End(number),
+        Asked::End(number, None),
         Asked::Complete(number, 0),
         Asked::Fault(number),
         Asked::Done(number),
@@ -483,7 +494,7 @@ const SEEDS: u64 = 48;
 
 #[test]
 fn seeded_schedules_agree(rt: HostRuntime) -> Result<(), Fail> {
-    for case in CASES {
+    for case in cases() {
         let name = case.0;
         let mut ends = Vec::new(rt.alloc());
         for seed in 0..SEEDS {
@@ -500,7 +511,7 @@ fn seeded_schedules_agree(rt: HostRuntime) -> Result<(), Fail> {
 
 #[test]
 fn networks_settle_in_one_of_their_ends(rt: HostRuntime) -> Result<(), Fail> {
-    for (name, drawn, words, ending, lists) in CASES {
+    for (name, drawn, words, ending, lists) in cases() {
         let mut net = network(rt.alloc(), drawn, words, *ending)?;
         check(&rt, name, settles(rt.alloc(), &mut net));
         check(&rt, name, came_to(rt.alloc(), &net, lists)?.is_some());
@@ -526,117 +537,6 @@ fn settle_in_two_parts(rt: HostRuntime) -> Result<(), Fail> {
             && came_to(alloc, &net, &["block out done ; record [1,2,3]"])?.is_some();
         assert!(rt; is_due, "{limit}");
     }
-    Ok(())
-}
-
-const UNTOUCHED: &[&str] = &[
-    r#"block in open ; input ["1"] ; port 0 [] ; held 0 [] ; link 0 [] ; left []"#,
-    "block out open ; port 0 [] ; held 0 [] ; record [] ; stopped",
-];
-
-#[test]
-fn what_may_not_happen_changes_nothing(rt: HostRuntime) -> Result<(), Fail> {
-    let alloc = rt.alloc();
-    let mut net = network(alloc, PAIR, "'1", Ending::Complete)?;
-    let mut results = Vec::new(alloc);
-    let first = header(1)?;
-    let mut place = 0u8;
-    for asked in [
-        Asked::Done(0),
-        Asked::Make(0),
-        Asked::Begin(0),
-        Asked::Begin(1),
-        Asked::Complete(0, 0),
-        Asked::Complete(0, 1),
-        Asked::Fault(1),
-        Asked::Link(0, Move::Offer(first)),
-        Asked::Link(1, Move::Offer(header(2)?)),
-        Asked::Link(1, Move::Want),
-        Asked::Link(1, Move::Give),
-        Asked::Link(1, Move::Post(first)),
-        Asked::Link(1, Move::End(LinkEnd::Complete)),
-        Asked::Link(2, Move::Want),
-        Asked::Make(2),
-        Asked::Begin(2),
-        Asked::Complete(2, 0),
-        Asked::Fault(2),
-        Asked::Done(2),
-    ] {
-        place = place.wrapping_add(1);
-        let is_done = is_done(&rt, alloc, &mut net, &mut results, asked)?;
-        assert!(rt; !is_done, "event {place}");
-    }
-    assert!(rt; !net.is_quiet());
-    let mut report = Vec::new(alloc);
-    write_report(alloc, &net, Settled::Stopped, &mut report)?;
-    assert!(rt; is_report(report.as_slice(), UNTOUCHED));
-    Ok(())
-}
-
-// The way of one text from the input to its end, with all that the blocks do.
-#[test]
-fn what_may_happen_is_done_once(rt: HostRuntime) -> Result<(), Fail> {
-    let alloc = rt.alloc();
-    let mut net = network(alloc, PAIR, "'1", Ending::Complete)?;
-    let mut results = Vec::new(alloc);
-    let first = header(1)?;
-    let mut place = 0u8;
-    for asked in [
-        Asked::Link(1, Move::Offer(first)),
-        Asked::Link(1, Move::Want),
-        Asked::Link(1, Move::Give),
-        Asked::Link(1, Move::Open),
-        Asked::Link(1, Move::Close),
-        Asked::Make(0),
-        Asked::Link(1, Move::End(LinkEnd::Complete)),
-        Asked::Complete(0, 0),
-        Asked::Link(0, Move::Offer(first)),
-        Asked::Link(0, Move::Want),
-        Asked::Link(0, Move::Give),
-        Asked::Link(0, Move::Open),
-        Asked::Link(0, Move::Close),
-        Asked::Begin(1),
-        Asked::End(1),
-        Asked::Done(0),
-    ] {
-        place = place.wrapping_add(1);
-        let is_done_once = is_done(&rt, alloc, &mut net, &mut results, asked)?
-            && !is_done(&rt, alloc, &mut net, &mut results, asked)?;
-        assert!(rt; is_done_once, "event {place}");
-    }
-    let end = r#"block in done ; left [] ; block out open ; held 0 [] ; record ["1"]"#;
-    assert!(rt; came_to(alloc, &net, &[end])?.is_some());
-    Ok(())
-}
-
-// The result of a job is kept; the network works on the message itself, and does not take the result any more.
-#[test]
-fn kept_result(rt: HostRuntime) -> Result<(), Fail> {
-    let alloc = rt.alloc();
-    let mut net = network(alloc, THREE, "'1 '2 '3", Ending::Complete)?;
-    let mut results = Vec::new(alloc);
-    let first = header(1)?;
-    for asked in [
-        Asked::Link(2, Move::Offer(first)),
-        Asked::Link(2, Move::Want),
-        Asked::Link(2, Move::Give),
-        Asked::Link(2, Move::Open),
-        Asked::Link(2, Move::Close),
-        Asked::Make(0),
-        Asked::Link(0, Move::Offer(first)),
-        Asked::Link(0, Move::Want),
-        Asked::Link(0, Move::Give),
-        Asked::Link(0, Move::Open),
-        Asked::Link(0, Move::Close),
-        Asked::Begin(1),
-    ] {
-        assert!(rt; is_done(&rt, alloc, &mut net, &mut results, asked)?);
-    }
-    assert!(rt; results.len() == 1);
-    assert!(rt; settles(alloc, &mut net));
-    assert!(rt; came_to(alloc, &net, &["block out done ; record [1,2,3]"])?.is_some());
-    assert!(rt; !is_done(&rt, alloc, &mut net, &mut results, Asked::End(1))?);
-    assert!(rt; results.len() == 1);
     Ok(())
 }
 

@@ -25,6 +25,8 @@ mod outlet;
 #[cfg(test)]
 mod refused;
 #[cfg(test)]
+mod scripts;
+#[cfg(test)]
 mod texts;
 #[cfg(test)]
 mod values;

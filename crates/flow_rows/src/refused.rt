@@ -40,7 +40,7 @@ const TEXTS: &str = r#"
 2 UnknownKey top | block = [] ; Format = 1
 2 UnknownKey top | block = [] ; "" = 1
 2 UnknownKey block 0 | block = [{name = "a", kind = "buffer", capasity = 1}]
-2 UnknownKey block 0 | block = [{size = 1}]
+2 UnknownKey block 0 | block = [{sise = 1}]
 2 UnknownKey block 0 | block = [{ports = 1}]
 2 UnknownKey block 0 | block = [{greedy = true}]
 2 UnknownKey block 0 | block = [{output = true}]
@@ -71,7 +71,6 @@ const TEXTS: &str = r#"
 # Kinds that are not built yet.
 4 WrongType block 0 | block = [{name = "a", kind = "broadcast"}]
 4 WrongType block 0 | block = [{name = "a", kind = "write_once"}]
-4 WrongType block 1 | block = [{name = "a", kind = "buffer"}, {name = "b", kind = "batch"}]
 4 WrongType block 0 | block = [{name = "a", kind = "join"}]
 4 WrongType block 0 | block = [{name = "a", kind = "batched_join"}]
 4 WrongType block 0 | block = [{name = "a", kind = "buffer", input = "true"}]
@@ -86,6 +85,8 @@ const TEXTS: &str = r#"
 4 WrongType block 0 | block = [{name = "a", kind = "buffer", capacity = -1}]
 4 WrongType block 0 | block = [{name = "a", kind = "buffer", capacity = 4294967296}]
 4 WrongType block 0 | block = [{name = "a", kind = "action", work = [], lanes = 4294967296}]
+4 WrongType block 0 | block = [{name = "a", kind = "batch", size = "1"}]
+4 WrongType block 0 | block = [{name = "a", kind = "batch", size = -1}]
 4 WrongType link 0 | block = [] ; link = [{from = "a", to = "b", when = 2}]
 4 WrongType link 0 | block = [] ; link = [{from = "a", to = "b", when = ["even"]}]
 4 WrongType link 0 | block = [] ; link = [{from = "a", to = "b", max = true}]
@@ -110,6 +111,16 @@ const TEXTS: &str = r#"
 8 Plan 6 BadOption block 0 | block = [{name = "a", kind = "buffer", lanes = 1}]
 8 Plan 6 BadOption block 0 | block = [{name = "a", kind = "action", work = [], lanes = 0}]
 8 Plan 6 BadOption block 0 | block = [{name = "a", kind = "action", work = [], lanes = 17}]
+# Batches without a size, with a size out of range, and with less room than one.
+8 Plan 6 BadOption block 0 | block = [{name = "a", kind = "batch"}]
+8 Plan 6 BadOption block 0 | block = [{name = "a", kind = "batch", size = 4097}]
+8 Plan 6 BadOption block 0 | block = [{name = "a", kind = "batch", size = 1, work = []}]
+8 Plan 6 BadOption block 0 | block = [{name = "a", kind = "batch", size = 1, lanes = 1}]
+8 Plan 6 BadOption block 0 | block = [{name = "a", kind = "buffer", size = 1}]
+8 Plan 6 BadOption block 0 | block = [{name = "a", kind = "transform_many", work = [], size = 1}]
+8 Plan 6 BadOption block 2 | block = [{name = "in", kind = "buffer", input = true}, {name = "t", kind = "transform", work = ["int"]}, {name = "b", kind = "batch", size = 0}, {name = "out", kind = "action", work = []}]
+8 Plan 7 CapacityBelowSize block 2 | block = [{name = "in", kind = "buffer", input = true}, {name = "t", kind = "transform", work = ["int"]}, {name = "b", kind = "batch", size = 3, capacity = 2}, {name = "out", kind = "action", work = []}]
+8 Plan 6 BadOption block 1 | block = [{name = "a", kind = "batch", size = 3, capacity = 2}, {name = "b", kind = "batch"}]
 # Links that are in no plan.
 8 Plan 6 BadOption link 0 | block = [{name = "a", kind = "buffer"}] ; link = [{from = "a", to = "a", max = 0}]
 8 Plan 6 BadOption link 0 | block = [{name = "a", kind = "buffer"}] ; link = [{from = "a", to = "a", max = 2147483648}]

@@ -1,5 +1,5 @@
 //! Whole runs: a network and records, and all that is written of them.
-use crate::driver::{ENOUGH, Told, chain, check, is_refusal, is_report, told_by};
+use crate::driver::{ENOUGH, Told, chain, check, is_refusal, is_report, told_by, told_with};
 use flow_link::{Place, PlanFault};
 use flow_run::{RunRefusal, split_input, status, write_refusal};
 use flow_text::{TextFault, TextPlace};
@@ -44,6 +44,8 @@ propagate = true
 "#;
 
 const THREE: &[u8] = b"in,1\nin,2\nin,3\n";
+
+const SEVEN: &[u8] = b"in,1\nin,2\nin,3\nin,4\nin,5\nin,6\nin,7\n";
 
 const RUNS: &[Case] = &[
     (
@@ -125,6 +127,52 @@ const RUNS: &[Case] = &[
         ],
     ),
     (
+        "batch remainder",
+        r#"in buffer => t transform ["int"] => b batch/3 => out action []"#,
+        SEVEN,
+        ENOUGH,
+        0,
+        &[
+            r#"block in done ; input [] ; port 0 ["1","2","3","4","5","6","7"] ; held 0 []"#,
+            r#"link 0 ["1","2","3","4","5","6","7"] ; left []"#,
+            r#"block t done ; port 0 ["1","2","3","4","5","6","7"] ; held 0 []"#,
+            "link 1 [1,2,3,4,5,6,7] ; left []",
+            "block b done ; port 0 [1,2,3,4,5,6,7] ; held 0 [] ; link 2 [[1,2,3],[4,5,6],[7]] ; left []",
+            "block out done ; port 0 [[1,2,3],[4,5,6],[7]] ; held 0 [] ; record [[1,2,3],[4,5,6],[7]] ; quiet",
+        ],
+    ),
+    (
+        "the rest of an open batch",
+        r#"in buffer -> b batch/3 => out action []"#,
+        SEVEN,
+        ENOUGH,
+        1,
+        &[
+            r#"block in done ; input [] ; port 0 ["1","2","3","4","5","6","7"] ; held 0 []"#,
+            r#"link 0 ["1","2","3","4","5","6","7"] ; left []"#,
+            r#"block b open ; port 0 ["1","2","3","4","5","6","7"] ; held 0 ["7"]"#,
+            r#"link 1 [["1","2","3"],["4","5","6"]] ; left []"#,
+            r#"block out open ; port 0 [["1","2","3"],["4","5","6"]] ; held 0 []"#,
+            r#"record [["1","2","3"],["4","5","6"]] ; quiet"#,
+        ],
+    ),
+    (
+        "rows of rows",
+        r#"in buffer => b batch/2 => c batch/2 => out action ["len"]"#,
+        SEVEN,
+        ENOUGH,
+        0,
+        &[
+            r#"block in done ; input [] ; port 0 ["1","2","3","4","5","6","7"] ; held 0 []"#,
+            r#"link 0 ["1","2","3","4","5","6","7"] ; left []"#,
+            r#"block b done ; port 0 ["1","2","3","4","5","6","7"] ; held 0 []"#,
+            r#"link 1 [["1","2"],["3","4"],["5","6"],["7"]] ; left []"#,
+            r#"block c done ; port 0 [["1","2"],["3","4"],["5","6"],["7"]] ; held 0 []"#,
+            r#"link 2 [[["1","2"],["3","4"]],[["5","6"],["7"]]] ; left []"#,
+            r#"block out done ; port 0 [[["1","2"],["3","4"]],[["5","6"],["7"]]] ; held 0 [] ; record [2,2] ; quiet"#,
+        ],
+    ),
+    (
         "upto flattens",
         r#"in buffer => t transform_many ["int", "upto"] => out action []"#,
         b"in,2\nin,0\nin,3\n",
@@ -157,6 +205,17 @@ fn runs_are_reported(rt: HostRuntime) -> Result<(), Fail> {
             told.status == *status && is_report(told.text.as_slice(), due),
         );
     }
+    Ok(())
+}
+
+#[test]
+fn rows_are_the_same_with_three_workers(rt: HostRuntime) -> Result<(), Fail> {
+    let drawn = r#"in buffer => t transform ["int"] => b batch/3 => out action []"#;
+    let network = chain(rt.alloc(), drawn)?;
+    let two = told_by(&rt, rt.alloc(), network.as_slice(), SEVEN, ENOUGH)?;
+    let three = told_with(&rt, rt.alloc(), network.as_slice(), SEVEN, 3, ENOUGH)?;
+    assert!(rt; two.status == 0 && three.status == 0);
+    assert!(rt; two.text == three.text);
     Ok(())
 }
 

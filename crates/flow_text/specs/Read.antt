@@ -72,7 +72,7 @@ pub record IsBlock (ms : Members) (block : BlockDef Steps) : Type 0 where
   pub capacity : block.capacity ≡ count_at (codes "capacity") ms
   pub work : IsWork ms block.work
   pub lanes : block.lanes ≡ count_at (codes "lanes") ms
-  pub size : block.size ≡ None
+  pub size : block.size ≡ count_at (codes "size") ms
   pub ports : block.ports ≡ None
   pub greedy : block.greedy ≡ None
 

@@ -70,7 +70,7 @@ fn block(alloc: Global, table: &Table, place: TextPlace) -> Result<BlockDef<Step
         capacity: count(table, "capacity"),
         work,
         lanes: count(table, "lanes"),
-        size: None,
+        size: count(table, "size"),
         ports: None,
         greedy: None,
     })

@@ -102,6 +102,11 @@ const BLOCK: &[Key] = &[
         form: Form::Count,
         is_required: false,
     },
+    Key {
+        name: "size",
+        form: Form::Count,
+        is_required: false,
+    },
 ];
 
 const LINK: &[Key] = &[
@@ -154,6 +159,7 @@ pub(super) fn kind_of(word: &str) -> Option<BlockKind>
         "action" => Some(BlockKind::Action),
         "transform" => Some(BlockKind::Transform),
         "transform_many" => Some(BlockKind::TransformMany),
+        "batch" => Some(BlockKind::Batch),
         _ => None,
     }
 }

@@ -12,7 +12,8 @@ new-requires-in-Ok g c =
     let layout = layout_of c.args.plan.now in
     let kind = c.block-def.result.now.kind in
     let lanes = c.unwrap_or-lanes.result in
+    let size = c.unwrap_or-size.result in
     let rules = c.in_ok-rules.rules.items in
-    no_mark_due layout c.args.number kind lanes (below (port_count (block_in layout.blocks c.args.number))) rules
+    no_mark_due layout c.args.number kind lanes size (below (port_count (block_in layout.blocks c.args.number))) rules
     c.in-Ok.block
-    (c.in-Ok.ensures ∙ ap (λ (ports : List PortState). fresh_block kind lanes ports rules) c.in_ok-ports.ensures)
+    (c.in-Ok.ensures ∙ ap (λ (ports : List PortState). fresh_block kind lanes size ports rules) c.in_ok-ports.ensures)

@@ -18,6 +18,7 @@ returns-clause-done c =
     let has = not_true (lacks_ids_for count c.self.inside.exits) (λ lacks. let failed = c.in_default.ensures.ids.1 lacks in cc) in
     let inside : BlockState = record {
       kind = c.self.inside.kind;
+      size = c.self.inside.size;
       ports = c.self.inside.ports.items;
       exits = c.self.inside.exits;
       jobs = c.self.inside.jobs;

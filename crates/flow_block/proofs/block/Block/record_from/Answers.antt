@@ -22,6 +22,7 @@ returns-clause-done c =
     let there : 0 < length c.self.inside.ports.items = omega arith in
     let back : BlockState = record {
       kind = c.self.inside.kind;
+      size = c.self.inside.size;
       ports = c.self.inside.ports.items;
       exits = c.self.inside.exits;
       jobs = brings c.args.ticket c.args.answer c.self.inside.jobs;
