@@ -9,42 +9,47 @@ use std::alloc::{AllocError, Global};
 use std::process::Abort;
 use std::test::Fail;
 
-/// A port, a capacity and a predicate.
-type Options = (Option<u32>, Option<u32>, Option<When>);
+/// The kind of the source, a port, a capacity and a predicate.
+type Options = (BlockKind, Option<u32>, Option<u32>, Option<When>);
 
-/// What is wrong, options of a link from a buffer to another and of both buffers, and the fault of the draft.
+/// What is wrong, options of a link from a block to a buffer and of both blocks, and the fault of the draft.
 const WRONG: &[(&str, Options, PlanFault)] = &[
     (
         "a port that there is not",
-        (Some(1), None, None),
+        (BlockKind::Buffer, Some(1), None, None),
         PlanFault::Port(0),
     ),
     (
         "the port comes first",
-        (Some(1), Some(0), None),
+        (BlockKind::Action, Some(1), Some(0), None),
         PlanFault::Port(0),
     ),
     (
+        "an action gives nothing",
+        (BlockKind::Action, None, Some(0), None),
+        PlanFault::NoOutput(0),
+    ),
+    (
         "no room",
-        (None, Some(0), None),
+        (BlockKind::Buffer, None, Some(0), None),
         PlanFault::BadOption(Place::Block(0)),
     ),
     (
         "too much room",
-        (None, Some(2_147_483_648), None),
+        (BlockKind::Buffer, None, Some(2_147_483_648), None),
         PlanFault::BadOption(Place::Block(0)),
     ),
 ];
 
-/// Two buffers, of which the first is an input and linked to the second.
+/// A block and a buffer, of which the first is an input and linked to the second.
 fn draft(alloc: Global, options: &Options) -> Result<Draft<Steps>, AllocError> {
-    let (port, capacity, when) = *options;
+    let (source, port, capacity, when) = *options;
     let mut blocks = Vec::new(alloc);
-    for name in ["a", "b"] {
+    for (name, kind, input) in [("a", source, true), ("b", BlockKind::Buffer, false)] {
         blocks.push(BlockDef {
             name: Text::from_str(alloc, name)?,
-            kind: BlockKind::Buffer,
-            input: name == "a",
+            kind,
+            input,
             output: false,
             capacity,
             work: None,
@@ -78,9 +83,30 @@ fn a_refused_draft_comes_back(rt: HostRuntime) -> Result<(), Fail> {
     Ok(())
 }
 
+/// So many buffers that all have one name.
+fn namesakes(alloc: Global, count: u32) -> Result<Draft<Steps>, AllocError> {
+    let mut blocks = Vec::new(alloc);
+    for _ in 0..count {
+        blocks.push(BlockDef::new(Text::from_str(alloc, "a")?, BlockKind::Buffer))?;
+    }
+    let links = Vec::new(alloc);
+    Ok(Draft { blocks, links })
+}
+
+#[test]
+fn too_many_blocks_come_before_their_names(rt: HostRuntime) -> Result<(), Fail> {
+    for (count, fault) in [(257, PlanFault::Limit), (256, PlanFault::DuplicateName(1))] {
+        let Err((_back, refusal)) = plan_check(rt.alloc(), namesakes(rt.alloc(), count)?) else {
+            panic!(&rt; "{count}");
+        };
+        assert!(rt; refusal == PlanRefusal::Fault(fault), "{count}");
+    }
+    Ok(())
+}
+
 #[test]
 fn links_of_inputs_follow_those_of_the_draft(rt: HostRuntime) -> Result<(), Fail> {
-    let draft = draft(rt.alloc(), &(Some(0), None, None))?;
+    let draft = draft(rt.alloc(), &(BlockKind::Buffer, Some(0), None, None))?;
     let Ok(plan) = plan_check(rt.alloc(), draft) else {
         panic!(&rt; "nothing is wrong with the draft");
     };
