@@ -19,4 +19,6 @@ pub mod Peeks
 pub mod Planned
 pub mod Routes
 pub mod Traits
+pub mod Tuples
+pub mod TuplesKeep
 pub mod ViewsMove
