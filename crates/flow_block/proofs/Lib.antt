@@ -50,6 +50,7 @@ pub mod TargetStands
 pub mod TestsTell
 pub mod TupleMade
 pub mod TuplesFit
+pub mod TuplesSeen
 pub mod TuplesStand
 pub mod ViewsMove
 pub mod WeightsOfResults
