@@ -22,6 +22,7 @@
 
 mod answer;
 mod block;
+mod group_laws;
 mod input;
 mod jobs;
 mod laws;
@@ -38,6 +39,7 @@ mod tuples;
 mod work;
 
 pub use block::Block;
+pub use group_laws::calls_keep_groups;
 pub use input::Input;
 pub use jobs::Answer;
 pub use laws::{
