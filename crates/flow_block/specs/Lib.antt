@@ -3,6 +3,7 @@ pub mod BlockFits
 pub mod Causes
 pub mod Fresh
 pub mod GroupsKeep
+pub mod GroupsSeen
 pub mod Input
 pub mod InputKeeps
 pub mod Jobs
