@@ -2,6 +2,7 @@ pub mod Block
 pub mod BlockFits
 pub mod Causes
 pub mod Fresh
+pub mod FreshGroups
 pub mod GroupsKeep
 pub mod GroupsSeen
 pub mod Input
