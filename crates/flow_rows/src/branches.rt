@@ -290,10 +290,6 @@ fn more_cases() -> &'static [Case] {
     MORE_CASES
 }
 
-fn tables() -> [&'static [Case]; 2] {
-    [cases(), more_cases()]
-}
-
 fn shared() -> &'static Case {
     SHARED
 }
@@ -409,56 +405,65 @@ fn small_batches_are_refused(rt: HostRuntime) -> Result<(), Fail> {
     Ok(())
 }
 
-#[test]
-fn drafts_settle(rt: HostRuntime) -> Result<(), Fail> {
-    for table in tables() {
-        for case in table {
-            let mut net = network(rt.alloc(), case)?;
-            check(&rt, case.0, settles(rt.alloc(), &mut net));
-            check(&rt, case.0, came_to(rt.alloc(), &net, case.5)?.is_some());
-        }
+fn settle_each(rt: &(impl Abort + Print), alloc: Global, table: &[Case]) -> Result<(), Fail> {
+    for case in table {
+        let mut net = network(alloc, case)?;
+        check(rt, case.0, settles(alloc, &mut net));
+        check(rt, case.0, came_to(alloc, &net, case.5)?.is_some());
     }
     Ok(())
+}
+
+#[test]
+fn drafts_settle(rt: HostRuntime) -> Result<(), Fail> {
+    settle_each(&rt, rt.alloc(), cases())?;
+    settle_each(&rt, rt.alloc(), more_cases())
 }
 
 /// How many schedules each network is driven by.
 const SEEDS: u64 = 6;
 
-#[test]
-fn seeded_schedules_come_to_the_same(rt: HostRuntime) -> Result<(), Fail> {
-    for table in tables() {
-        for case in table {
-            for seed in 0..SEEDS {
-                let mut net = network(rt.alloc(), case)?;
-                let is_due = wander(&rt, rt.alloc(), &mut net, seed)?
-                    && came_to(rt.alloc(), &net, case.5)?.is_some();
-                check(&rt, case.0, is_due);
-            }
+fn wander_each(rt: &(impl Abort + Print), alloc: Global, table: &[Case]) -> Result<(), Fail> {
+    for case in table {
+        for seed in 0..SEEDS {
+            let mut net = network(alloc, case)?;
+            let is_due = wander(rt, alloc, &mut net, seed)?
+                && came_to(alloc, &net, case.5)?.is_some();
+            check(rt, case.0, is_due);
         }
     }
     Ok(())
 }
 
-// Links first, blocks first, and backwards.
 #[test]
-fn networks_come_to_rest_in_each_order(rt: HostRuntime) -> Result<(), Fail> {
-    for table in tables() {
-        for case in table {
-            for (links_first, backwards) in [
-                (true, false),
-                (false, false),
-                (true, true),
-                (false, true),
-            ] {
-                let mut net = network(rt.alloc(), case)?;
-                let choices = in_order(rt.alloc(), net.plan(), links_first, backwards)?;
-                let is_due = do_first(&rt, rt.alloc(), &mut net, choices.as_slice())?
-                    && came_to(rt.alloc(), &net, case.5)?.is_some();
-                check(&rt, case.0, is_due);
-            }
+fn seeded_schedules_come_to_the_same(rt: HostRuntime) -> Result<(), Fail> {
+    wander_each(&rt, rt.alloc(), cases())?;
+    wander_each(&rt, rt.alloc(), more_cases())
+}
+
+// Links first, blocks first, and backwards.
+fn order_each(rt: &(impl Abort + Print), alloc: Global, table: &[Case]) -> Result<(), Fail> {
+    for case in table {
+        for (links_first, backwards) in [
+            (true, false),
+            (false, false),
+            (true, true),
+            (false, true),
+        ] {
+            let mut net = network(alloc, case)?;
+            let choices = in_order(alloc, net.plan(), links_first, backwards)?;
+            let is_due = do_first(rt, alloc, &mut net, choices.as_slice())?
+                && came_to(alloc, &net, case.5)?.is_some();
+            check(rt, case.0, is_due);
         }
     }
     Ok(())
+}
+
+#[test]
+fn networks_come_to_rest_in_each_order(rt: HostRuntime) -> Result<(), Fail> {
+    order_each(&rt, rt.alloc(), cases())?;
+    order_each(&rt, rt.alloc(), more_cases())
 }
 
 fn is_text(value: Option<&Value>, text: &str) -> bool {
@@ -593,16 +598,23 @@ fn runs_as_text(
     Ok(false)
 }
 
+fn run_each(
+    rt: &(impl Abort + Print + Threads + Wait + Sync),
+    alloc: Global,
+    table: &[Case],
+) -> Result<(), Fail> {
+    for case in table {
+        if case.4 == Ending::Complete {
+            check(rt, case.0, runs_as_text(rt, alloc, case)?);
+        }
+    }
+    Ok(())
+}
+
 #[test]
 fn texts_of_them_run(rt: HostRuntime) -> Result<(), Fail> {
     let shared = shared();
     check(&rt, shared.0, runs_as_text(&rt, rt.alloc(), shared)?);
-    for table in tables() {
-        for case in table {
-            if case.4 == Ending::Complete {
-                check(&rt, case.0, runs_as_text(&rt, rt.alloc(), case)?);
-            }
-        }
-    }
-    Ok(())
+    run_each(&rt, rt.alloc(), cases())?;
+    run_each(&rt, rt.alloc(), more_cases())
 }
