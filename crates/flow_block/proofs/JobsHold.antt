@@ -22,6 +22,9 @@ use Rattle.flow_link.proofs.OneMoreMark.{took_no_more, took_by_took, took_by_gav
 use Rattle.flow_intake.specs.Port.{PortState, fresh_port, hand_in}
 use Rattle.flow_intake.specs.Calls.{first_of, wants, turns_down, postpones, refuses, consumes, opens, closes, looks as port_looks, takes_next, gives_room, port_closes, port_fails}
 use Rattle.flow_outlet.specs.Outlet.{OutletState, head_of, gives}
+use Rattle.flow_link.specs.Plan.{is_broadcast}
+use Rattle.flow_block.specs.Copies.{copy_place}
+use Rattle.flow_block.proofs.CopiesIdle.{no_copy_at, none_broadcast}
 use Rattle.flow_block.specs.Block.{BlockState, port_at, with_port, begins, held_by, made_of, yields, keeps_results, makes_of, is_batch, makes_row, stops_by}
 use Rattle.flow_block.specs.Jobs.{Slot, is_front_back, AreOf}
 use Rattle.flow_block.specs.Node.{NodeState, NodeCall, takes_in, gives_from, in_link_at, out_link_at}
@@ -301,11 +304,13 @@ module _ {W : Type 0} (layout : Layout W) (meaning : ℕ → Value → Result (L
   after_each node (NodeCall.close p k) law may = taken_in node law p k (hand_in k (port_at p node.block).ends) may.port
   after_each node (NodeCall.give k) law may = given_out node law.jobs k (head_of node.block.exits)
   after_each node (NodeCall.look_in p k phase) law may = port_stays node law.jobs p (port_looks k phase) refl
+  after_each node (NodeCall.copy call) law may = absurd (no_copy_at layout meaning b node law (copy_place call) may.place)
   after_each node NodeCall.begin law may = begun node law.jobs may
   after_each node NodeCall.make law may =
       makes_by (λ new. Jobs new node.journal) (block_makes layout meaning b) node.block
       (λ batch. handed_on node.block (makes_row node.block) node.journal refl refl (batch_idle node.block.kind batch) law.jobs)
-      (λ other. made_next node.block node.journal (held_by node.block) refl
+      (λ broadcast. never_both (is_broadcast node.block.kind) broadcast (none_broadcast node.block.kind law.shape.built))
+      (λ other single. made_next node.block node.journal (held_by node.block) refl
       (has_one_port layout meaning b node.block law.shape) law.shape.built other may.all_out law.jobs)
   after_each node (NodeCall.complete p) law may =
       stays node.block (with_port p port_closes node.block) node.journal (node.journal ++ Complete p ∷ []) law.jobs

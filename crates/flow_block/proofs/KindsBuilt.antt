@@ -4,10 +4,10 @@ use Rattle.flow_value.specs.declared.value.Value.{Value}
 use Rattle.flow_link.specs.declared.draft.BlockKind.{BlockKind}
 use Rattle.flow_link.specs.declared.draft.BlockKind.TheVariants.{Buffer, Action, Transform, TransformMany, Batch}
 use Rattle.flow_link.specs.Layout.{Layout}
-use Rattle.flow_link.specs.Plan.{block_in, ports_by_kind, has_work}
+use Rattle.flow_link.specs.Plan.{block_in, ports_by_kind, has_work, is_broadcast}
 use Rattle.flow_link.specs.NotBuilt.{is_built_kind}
 use Rattle.flow_intake.specs.Calls.{first_of}
-use Rattle.flow_block.specs.Block.{BlockState, held_by, is_batch, made_of, makes_row, keeps_results, yields, makes_of, makes}
+use Rattle.flow_block.specs.Block.{BlockState, held_by, is_batch, made_of, makes_row, keeps_results, yields, copies_next, makes_of, makes_other, makes}
 use Rattle.flow_block.specs.NodeLaw.{ShapeLaw}
 
 -- what holds of buffers, actions, both transforms and batches holds of each kind that is built
@@ -37,10 +37,19 @@ made_as P row other false of_row of_other = of_other refl
 
 pub makes_by : (P : BlockState → Type 0) (result : Value → Result (List Value) ℕ) (block : BlockState)
     → (is_batch block.kind ≡ true → P (makes_row block))
-    → (is_batch block.kind ≡ false → P (makes_of result (first_of (held_by block)) block))
+    → (is_broadcast block.kind ≡ true → P (copies_next (first_of (held_by block)) block))
+    → (is_batch block.kind ≡ false → is_broadcast block.kind ≡ false → P (makes_of result (first_of (held_by block)) block))
     → P (makes result block)
-makes_by P result block of_row of_other =
-    made_as P (makes_row block) (makes_of result (first_of (held_by block)) block) (is_batch block.kind) of_row of_other
+makes_by P result block of_row of_copy of_other =
+    let made = makes_of result (first_of (held_by block)) block in
+    made_as P (makes_row block) (makes_other result block) (is_batch block.kind) of_row
+    (λ single. made_as P (copies_next (first_of (held_by block)) block) made (is_broadcast block.kind) of_copy (of_other single))
+
+pub works_shared : (kind : BlockKind) → has_work kind ≡ true → is_broadcast kind ≡ false
+works_shared Action e = refl
+works_shared Transform e = refl
+works_shared TransformMany e = refl
+works_shared _ e = absurd (cc)
 
 -- it stays of its kind
 keeps_kind : (kind : BlockKind) (values : List Value) (block : BlockState)

@@ -1,4 +1,7 @@
 pub mod Causes
+pub mod CopiesFit
+pub mod CopiesHold
+pub mod CopiesIdle
 pub mod EndsAtRest
 pub mod EndsHold
 pub mod EndsTell

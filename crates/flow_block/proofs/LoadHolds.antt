@@ -23,6 +23,10 @@ use Rattle.flow_outlet.specs.declared.group.Group.{Group}
 use Rattle.flow_outlet.specs.Fits.{weight_of}
 use Rattle.flow_outlet.specs.Outlet.{OutletState, head_of, groups_with, groups_after, room_with, gives, prepares, offers, denies, withdraws, ends_link, looks as exit_looks}
 use Rattle.flow_outlet.proofs.OutletFits.{weight_stays, room_put}
+use Rattle.flow_link.proofs.ListTests.{never_both}
+use Rattle.flow_link.specs.Plan.{is_broadcast}
+use Rattle.flow_block.specs.Copies.{copy_place}
+use Rattle.flow_block.proofs.CopiesIdle.{no_copy_at, none_broadcast}
 use Rattle.flow_block.specs.Block.{BlockState, port_in, port_at, with_port, with_jobs, held_by, unit_weight, made_of, puts_out, fails, yields, keeps_results, makes_of, is_batch, row_of, next_group, group_weight, takes_group, makes_row, stops_by}
 use Rattle.flow_block.specs.Jobs.{JobsState, begins, works_off}
 use Rattle.flow_block.specs.Node.{NodeState, NodeCall, hand_at, in_link_at, out_link_at, takes_in, gives_from}
@@ -457,6 +461,7 @@ module _ {W : Type 0} (layout : Layout W) (meaning : ℕ → Value → Result (L
       one_moves node.block node.journal node.journal p (port_looks k phase) refl refl refl refl law.load
   call_keeps node (NodeCall.look_out k phase) law may =
       exits_move node (exit_looks k phase node.block.exits) refl refl refl refl law.load
+  call_keeps node (NodeCall.copy call) law may = absurd (no_copy_at layout meaning b node law (copy_place call) may.place)
   call_keeps node NodeCall.begin law may =
       jobs_change node.block node.journal begins law.load
   call_keeps node NodeCall.make law may =
@@ -467,7 +472,8 @@ module _ {W : Type 0} (layout : Layout W) (meaning : ℕ → Value → Result (L
       (has_port_ended (port_at 0 block).refusing) ((may_work_tells block may.waits).group batch) in
       row_keeps block node.journal block.kind refl batch
       (group_there block.size (held_by block) (law.shape.some_size batch) group.0) law.shape law.load)
-      (λ other. make_keeps (first_of (held_by block)) block node.journal refl law.gave.next_is law.shape law.load other)
+      (λ broadcast. never_both (is_broadcast block.kind) broadcast (none_broadcast block.kind law.shape.built))
+      (λ other single. make_keeps (first_of (held_by block)) block node.journal refl law.gave.next_is law.shape law.load other)
   call_keeps node (NodeCall.complete p) law may =
       one_moves node.block node.journal (node.journal ++ Complete p ∷ []) p port_closes refl refl
       (took_no_more node.journal (Complete p) refl) (gave_no_more node.journal (Complete p) refl) law.load

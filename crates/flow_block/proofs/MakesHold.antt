@@ -21,6 +21,10 @@ use Rattle.flow_link.proofs.OneMoreWorked.{worked_more}
 use Rattle.flow_intake.specs.Port.{PortState, fresh_port, hand_in}
 use Rattle.flow_intake.specs.Calls.{first_of, wants, turns_down, postpones, refuses, consumes, opens, closes, looks as port_looks, takes_next, gives_room, port_closes, port_fails}
 use Rattle.flow_outlet.specs.Outlet.{OutletState, first_of as first_left, rest_of, head_of, gives, prepares, offers, denies, withdraws, ends_link, looks as exit_looks}
+use Rattle.flow_link.proofs.ListTests.{never_both}
+use Rattle.flow_link.specs.Plan.{is_broadcast}
+use Rattle.flow_block.specs.Copies.{copy_place}
+use Rattle.flow_block.proofs.CopiesIdle.{no_copy_at, none_broadcast}
 use Rattle.flow_block.specs.Block.{BlockState, port_at, with_port, with_jobs, held_by, made_of, puts_out, put_by_kind, yields, keeps_results, makes_of, is_batch, row_of, takes_group, makes_row, stops_by}
 use Rattle.flow_block.specs.Jobs.{JobsState, begins, works_off}
 use Rattle.flow_block.specs.Node.{NodeState, NodeCall, takes_in, gives_from, in_link_at, out_link_at}
@@ -366,6 +370,7 @@ module _ {W : Type 0} (layout : Layout W) (meaning : ℕ → Value → Result (L
   after_each node (NodeCall.close p k) law may = taken_in node law p k (hand_in k (port_at p node.block).ends) may.port
   after_each node (NodeCall.give k) law may = given_out node law.makes k (head_of node.block.exits) refl
   after_each node (NodeCall.look_in p k phase) law may = port_stays node law.makes p (port_looks k phase) refl
+  after_each node (NodeCall.copy call) law may = absurd (no_copy_at layout meaning b node law (copy_place call) may.place)
   after_each node NodeCall.begin law may = jobs_change node law.makes begins
   after_each node NodeCall.make law may =
       let block = node.block in
@@ -373,7 +378,8 @@ module _ {W : Type 0} (layout : Layout W) (meaning : ℕ → Value → Result (L
       let one = has_one_port layout meaning b block law.shape in
       makes_by (λ new. MakesLaw layout meaning b new node.journal) (block_makes layout meaning b) block
       (λ batch. row_made block node.journal one none block.kind refl batch law.makes)
-      (λ other. made_next block node.journal (held_by block) refl one none law.shape.built other law.makes)
+      (λ broadcast. never_both (is_broadcast block.kind) broadcast (none_broadcast block.kind law.shape.built))
+      (λ other single. made_next block node.journal (held_by block) refl one none law.shape.built other law.makes)
   after_each node (NodeCall.complete p) law may =
       stays node.block (with_port p port_closes node.block) node.journal (node.journal ++ Complete p ∷ []) law.makes
       refl (kept_at_one (λ port. port.waiting) node.block.ports p 0 (port_closes (port_at p node.block)) refl)

@@ -8,7 +8,7 @@ use Rattle.flow_link.proofs.ListTests.{never_both}
 use Rattle.flow_intake.specs.Port.{PortState, fresh_port}
 use Rattle.flow_outlet.specs.Outlet.{is_empty}
 use Rattle.flow_block.specs.Block.{BlockState, held_by, is_batch}
-use Rattle.flow_block.specs.Peeks.{has_group, has_next, may_work, may_make, may_finish}
+use Rattle.flow_block.specs.Peeks.{may_copy, has_group, has_next, may_work, may_make, may_finish}
 use Rattle.flow_block.specs.Traits.{is_buffer, makes_itself, ended_where, outcome_of}
 use Rattle.flow_block.proofs.GoingOn.{may_finish_tells}
 use Rattle.flow_block.proofs.TestsTell.{every_tells, none_is}
@@ -27,8 +27,9 @@ making_goes_on block e =
     let going = none_is block.stopped (and_parts (is_none block.stopped) (is_none block.fault) works.0).0 in
     let some : is_empty (held_by block) ≡ false =
     not-true (is_empty (held_by block))
-    (ap (λ (batch : Bool). cond batch (has_group block) (not (is_empty (held_by block)))) (sym (buffer_alone block.kind inner.0))
-    ∙ works.1) in
+    (and_parts (not (is_empty (held_by block))) (may_copy block)
+    (ap (λ (batch : Bool). cond batch (has_group block) (not (is_empty (held_by block)) && may_copy block)) (sym (buffer_alone block.kind inner.0))
+    ∙ works.1)).0 in
     let unfinished : may_finish block ≡ false =
     false_from_ne_true (may_finish block) (λ finishes.
     never_both (is_empty (held_by block))

@@ -42,6 +42,7 @@ use Rattle.flow_block.specs.Node.{NodeState, in_view}
 use Rattle.flow_block.specs.NodeLaw.{NodeLaw, MakesAs, RowsLaw, is_whole, RefusesFor as RefusesBy, refuses_over, run_seen_by, is_fault_seen}
 use Rattle.flow_block.specs.NodeSeen.{IsNodeOf, NodesAreLawful}
 use Rattle.flow_block.specs.Planned.{out_place, in_place, block_makes}
+use Rattle.flow_block.proofs.CopiesIdle.{left_is_shared}
 use Rattle.flow_block.proofs.EndsTell.{ended_complete, ended_fault, ended_plain, used_up_told, ended_stage, refused_told, spoken_is_out, refusal_told, coming_told, completion_told, fault_told}
 use Rattle.flow_block.proofs.JournalTells.{stopped_tells, every_mark, complete_own, done_outcome, done_marked, fault_marked, passed_by}
 use Rattle.flow_block.proofs.KindsBuilt.{by_kind, planned_built}
@@ -119,7 +120,7 @@ module _ {W : Type 0} (run : Run W) (ends : ℕ → Ends) (b : ℕ) (node : Node
   marks_are = ap (λ (t : BlockTrace). t.journal) is.trace
 
   left_is : left_at run b ≡ node.block.exits.left
-  left_is = ap (λ (t : BlockTrace). t.left) is.trace
+  left_is = ap (λ (t : BlockTrace). t.left) is.trace ∙ left_is_shared run.layout run.meaning b node law
 
   -- what is shown of the journal holds of the marks
   of_marks : (P : List Mark → Type 0) → P node.journal → P (marks_of run b)
@@ -145,7 +146,8 @@ module _ {W : Type 0} (run : Run W) (ends : ℕ → Ends) (b : ℕ) (node : Node
   }
 
   outputs_are : gave node.journal ++ node.block.exits.left ≡ outputs run b
-  outputs_are = sym (ap (λ (t : BlockTrace). gave t.journal ++ t.left) is.trace)
+  outputs_are = sym (ap (λ (t : BlockTrace). gave t.journal ++ t.left) is.trace
+      ∙ ap (λ (left : List Value). gave node.journal ++ left) (left_is_shared run.layout run.meaning b node law))
 
   makes_by : (kind : BlockKind) → is_built_kind kind ≡ true
       → (is_batch kind ≡ true → RowsLaw node.block.size node.journal (held_by node.block) node.block.exits.left)
@@ -300,7 +302,9 @@ module _ {W : Type 0} (run : Run W) (ends : ℕ → Ends) (b : ℕ) (node : Node
   -- its ends of the links out of it
   seen_out : (l : ℕ) → l < length run.layout.links → (link_of run l).source ≡ Block b
       → (ends l).source.stage ≡ source_stage_of (end_from l).stage
-  seen_out l small begins = ap (λ (view : views.SourceView Value). view.stage) (is.sources l small begins)
+  seen_out l small begins =
+      ap (λ (view : views.SourceView Value). view.stage)
+      (is.sources l small begins)
 
   refused_seen : (l : ℕ) → l < length run.layout.links → (link_of run l).source ≡ Block b
       → refuses_over node.block.exits.ends l ≡ true → is_refused_stage (ends l).source.stage ≡ true

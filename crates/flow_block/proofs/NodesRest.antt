@@ -39,6 +39,7 @@ use Rattle.flow_block.specs.NodeRests.{HasNothingToDo, EndsRest, NodesRest}
 use Rattle.flow_block.specs.NodeSeen.{IsNodeOf}
 use Rattle.flow_block.specs.Peeks.{holds_nothing, has_group, all_ended}
 use Rattle.flow_block.specs.Planned.{rule_of, out_place, in_place}
+use Rattle.flow_block.proofs.CopiesIdle.{left_is_shared}
 use Rattle.flow_block.proofs.EndsAtRest.{over_unless, not_cut, not_stopped, no_room_where}
 use Rattle.flow_block.proofs.EndsHold.{no_group_left}
 use Rattle.flow_block.proofs.EndsTell.{limit_is, no_room_left, free_back, postponed_back, end_back}
@@ -102,7 +103,7 @@ module _ {W : Type 0} (run : Run W) (ends : ℕ → Ends) (b : ℕ) (node : Node
   marks_are = ap (λ (t : BlockTrace). t.journal) part.trace
 
   left_is : left_at run b ≡ outs.left
-  left_is = ap (λ (t : BlockTrace). t.left) part.trace
+  left_is = ap (λ (t : BlockTrace). t.left) part.trace ∙ left_is_shared run.layout run.meaning b node law
 
   of_marks : (P : List Mark → Type 0) → P node.journal → P (marks_of run b)
   of_marks P holds = subst P (sym marks_are) holds
@@ -248,7 +249,9 @@ module _ {W : Type 0} (run : Run W) (ends : ℕ → Ends) (b : ℕ) (node : Node
     rule_is = (end_out_of run.layout run.meaning b own law.shape l small from).rule_is
 
     source_is : (ends l).source.stage ≡ source_stage_of (stage_at outs (place l))
-    source_is = ap (λ (view : SourceView Value). view.stage) (part.sources l small from)
+    source_is =
+        ap (λ (view : SourceView Value). view.stage)
+        (part.sources l small from)
 
     cut_here : is_run_cut run l ≡ true → is_cut (end_at outs (place l)) ≡ true
     cut_here e =

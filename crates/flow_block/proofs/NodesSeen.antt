@@ -20,6 +20,7 @@ use Rattle.flow_block.specs.NodeLaw.{NodeLaw, WeighsAs, PartlyGiven, weighed, ro
 use Rattle.flow_block.specs.NodeSeen.{IsNodeOf}
 use Rattle.flow_block.specs.Peeks.{holds_nothing}
 use Rattle.flow_block.specs.Planned.{block_makes}
+use Rattle.flow_block.proofs.CopiesIdle.{left_is_shared}
 use Rattle.flow_block.proofs.KindsBuilt.{by_kind, planned_built}
 use Rattle.flow_block.proofs.TestsTell.{every_tells, none_left}
 use Rattle.flow_block.proofs.WeightsOfResults.{weight_weighed, weight_rows, weight_partial}
@@ -66,7 +67,7 @@ module _ {W : Type 0} (run : Run W) (ends : ℕ → Ends) (b : ℕ) (node : Node
       ≡ length (port_at p node.block).waiting + weight_of node.block.exits.groups
   load_of_left p limited weighs =
       ap₂ (λ (held left : List Value). length held + length left) (held_is p)
-      (ap (λ (t : BlockTrace). t.left) part.trace)
+      (ap (λ (t : BlockTrace). t.left) part.trace ∙ left_is_shared run.layout run.meaning b node law)
       ∙ ap (λ (n : ℕ). length (port_at p node.block).waiting + n)
       (sym (ap weight_of weighs
       ∙ weight_weighed (block_of run b).capacity node.block.exits.next node.block.exits.left limited))
@@ -78,7 +79,7 @@ module _ {W : Type 0} (run : Run W) (ends : ℕ → Ends) (b : ℕ) (node : Node
       ≡ length (port_at p node.block).waiting + weight_of node.block.exits.groups
   load_of_rows p limited weighs =
       ap₂ (λ (held left : List Value). length held + length (all_items left)) (held_is p)
-      (ap (λ (t : BlockTrace). t.left) part.trace)
+      (ap (λ (t : BlockTrace). t.left) part.trace ∙ left_is_shared run.layout run.meaning b node law)
       ∙ ap (λ (n : ℕ). length (port_at p node.block).waiting + n)
       (sym (ap weight_of weighs
       ∙ weight_rows (block_of run b).capacity node.block.exits.next node.block.exits.left limited))

@@ -22,7 +22,10 @@ use Rattle.flow_block.specs.Block.{BlockState, port_at, held_by, is_batch}
 use Rattle.flow_block.specs.Node.{NodeState}
 use Rattle.flow_block.specs.NodeLaw.{NodeLaw}
 use Rattle.flow_block.specs.NodeRests.{HasNothingToDo, EndsRest}
-use Rattle.flow_block.specs.Peeks.{fault_at_ports, holds_nothing, has_group, has_next, is_worked_off, may_work, may_make, nothing_comes, all_ended, is_pending, fault_cause, could_stop, next_fault, is_held_up, may_finish}
+use Rattle.flow_spread.specs.Spread.{is_at_rest as is_spread_at_rest}
+use Rattle.flow_block.specs.Copies.{copies_left}
+use Rattle.flow_block.proofs.CopiesIdle.{copies_rest, copies_freely, none_copied}
+use Rattle.flow_block.specs.Peeks.{is_out_at_rest, is_copied_out, may_copy, fault_at_ports, holds_nothing, has_group, has_next, is_worked_off, may_work, may_make, nothing_comes, all_ended, is_pending, fault_cause, could_stop, next_fault, is_held_up, may_finish}
 use Rattle.flow_block.proofs.EndsAtRest.{not_out, must_wait, away_waits, none_away, waiting_stays, free_stays, not_cut, not_coming}
 use Rattle.flow_block.proofs.EndsTell.{none_come}
 use Rattle.flow_block.proofs.FaultsSeen.{first_none}
@@ -110,7 +113,8 @@ module _ {W : Type 0} (layout : Layout W) (meaning : ℕ → Value → Result (L
       (λ waits. never_both (is_held_up block) held_up (waiting_tells k small waits).0)) in
       let found : next_fault block ≡ fault_cause block =
       ap (λ (stops : Bool). cond stops (fault_cause block) None)
-      (and_from (could_stop block) (is_at_rest exits) (could going) at_rest) in
+      (and_from (could_stop block) (is_out_at_rest block) (could going)
+      (and_from (is_at_rest exits) (is_spread_at_rest block.copies) at_rest (copies_rest layout meaning b node law))) in
       sym found ∙ nothing.faults
 
   no_cause : block.stopped ≡ None → fault_cause block ≡ None
@@ -122,7 +126,7 @@ module _ {W : Type 0} (layout : Layout W) (meaning : ℕ → Value → Result (L
   no_held : block.stopped ≡ None → is_batch block.kind ≡ false → held_by block ≡ []
   no_held going other =
       let well = no_own_fault going in
-      holds_none block going well other law.jobs.some_lane (law.jobs.drained well) nothing.makes nothing.begins nothing.ends
+      holds_none block going well other (copies_freely layout meaning b node law) law.jobs.some_lane (law.jobs.drained well) nothing.makes nothing.begins nothing.ends
 
   all_held : is_empty (held_by block) ≡ true → holds_nothing block.ports ≡ true
   all_held none =
@@ -138,7 +142,7 @@ module _ {W : Type 0} (layout : Layout W) (meaning : ℕ → Value → Result (L
       (and_from (may_work block) (not (has_work block.kind))
       (and_from (is_none block.stopped && is_none block.fault) (has_next block)
       (and_from (is_none block.stopped) (is_none block.fault) (ap is_none going) (ap is_none (no_own_fault going)))
-      (ap (λ (is : Bool). cond is (has_group block) (not (is_empty (held_by block)))) batch ∙ group))
+      (ap (λ (is : Bool). cond is (has_group block) (not (is_empty (held_by block)) && may_copy block)) batch ∙ group))
       (ap not (batch_idle block.kind batch)))
       nothing.makes)
 
@@ -232,7 +236,11 @@ module _ {W : Type 0} (layout : Layout W) (meaning : ℕ → Value → Result (L
       false_from_ne_true (is_waiting (stage_at exits k))
       (λ waits. never_both (is_empty exits.left) left (waiting_left k small waits))) in
       never_both (may_finish block)
+      (and_from (could_stop block && all_ended block.ports && holds_nothing block.ports && is_empty exits.left && is_at_rest exits)
+      (is_copied_out block.copies)
       (all_five (could_stop block) (all_ended block.ports) (holds_nothing block.ports) (is_empty exits.left)
       (is_at_rest exits)
       (could going) ended (held_none going ended) left at_rest)
+      (and_from (copies_left block.copies == 0) (is_spread_at_rest block.copies)
+      (ap (λ (left : ℕ). left == 0) (none_copied layout meaning b node law)) (copies_rest layout meaning b node law)))
       nothing.finishes

@@ -20,6 +20,9 @@ use Rattle.flow_intake.specs.PortLaw.{has_ended as has_port_ended}
 use Rattle.flow_intake.specs.Calls.{first_of, wants, turns_down, postpones, refuses, consumes, opens, closes, looks as port_looks, gives_room, port_closes}
 use Rattle.flow_intake.proofs.CountsOfEnds.{hand_comes}
 use Rattle.flow_outlet.specs.Outlet.{OutletState, first_of as first_left, rest_of, is_empty, head_of, gives, prepares, offers, denies, withdraws, ends_link, looks as exit_looks}
+use Rattle.flow_link.specs.Plan.{is_broadcast}
+use Rattle.flow_block.specs.Copies.{copy_place}
+use Rattle.flow_block.proofs.CopiesIdle.{no_copy_at, none_broadcast}
 use Rattle.flow_block.specs.Block.{BlockState, port_at, with_port, held_by, is_batch, row_of, next_group, makes_row, stops_by}
 use Rattle.flow_block.specs.Node.{NodeState, NodeCall, takes_in, gives_from, in_link_at, out_link_at}
 use Rattle.flow_block.specs.NodeKeeps.{RowsKept, MayCall, MayCompletePort, InAt, after_call}
@@ -220,11 +223,13 @@ module _ {W : Type 0} (layout : Layout W) (meaning : ℕ → Value → Result (L
   after_each node (NodeCall.close p k) law may = taken_in node law p k (hand_in k (port_at p node.block).ends) may
   after_each node (NodeCall.give k) law may = given_out node law.rows k (head_of node.block.exits) refl
   after_each node (NodeCall.look_in p k phase) law may = port_stays node law.rows p (port_looks k phase) refl
+  after_each node (NodeCall.copy call) law may = absurd (no_copy_at layout meaning b node law (copy_place call) may.place)
   after_each node NodeCall.begin law may = law.rows
   after_each node NodeCall.make law may =
       makes_by (λ new. KeepsRows new node.journal) (block_makes layout meaning b) node.block
       (λ batch. let tells = may_work_tells node.block may.waits in row_made node law tells.going (tells.group batch))
-      (λ other batch. never_both (is_batch node.block.kind)
+      (λ broadcast. never_both (is_broadcast node.block.kind) broadcast (none_broadcast node.block.kind law.shape.built))
+      (λ other single batch. never_both (is_batch node.block.kind)
       (ap is_batch (sym (made_kind (block_makes layout meaning b) (first_of (held_by node.block)) node.block)) ∙ batch) other)
   after_each node (NodeCall.complete p) law may = completed node law p may
   after_each node (NodeCall.fault number) law may =

@@ -19,7 +19,7 @@ use Rattle.flow_link.specs.Law.{is_own_mark, gives_in_order}
 use Rattle.flow_link.specs.Layout.{Layout}
 use Rattle.flow_link.specs.Lists.{every, some, below}
 use Rattle.flow_link.specs.Making.{all_items, are_groups, row_weight, before_complete}
-use Rattle.flow_link.specs.Plan.{block_in, port_count, has_work}
+use Rattle.flow_link.specs.Plan.{block_in, port_count, has_work, is_one_taker}
 use Rattle.flow_link.specs.Trace.{Run, took, took_at, gave, gave_over, has_complete, has_fault, has_ended, is_done}
 use Rattle.flow_link.specs.Worked.{WorkedInto}
 use Rattle.flow_link.specs.NotBuilt.{is_built_kind}
@@ -31,6 +31,7 @@ use Rattle.flow_outlet.specs.Fits.{weight_of}
 use Rattle.flow_outlet.specs.Outlet.{OutletState, end_at, stage_at, is_at_rest, is_empty}
 use Rattle.flow_outlet.specs.declared.ends.OutEnd.{OutEnd}
 use Rattle.flow_outlet.specs.declared.group.Group.{Group}
+use Rattle.flow_spread.specs.Spread.{fresh_spread}
 use Rattle.flow_block.specs.Block.{BlockState, port_at, held_by, is_batch}
 use Rattle.flow_block.specs.Jobs.{AreOf, is_front_back}
 use Rattle.flow_block.specs.Node.{NodeState}
@@ -177,6 +178,10 @@ module _ {W : Type 0} (layout : Layout W) (meaning : ℕ → Value → Result (L
     pub law : OutletLaw (is_pending block) block.stopped block.exits
     pub none_kept : (k : ℕ) → k < length block.exits.ends → is_kept (stage_at block.exits k) ≡ false
 
+  -- a block that shares its messages out copies none
+  pub record CopiesLaw (block : BlockState) (journal : List Mark) : Type 0 where
+    pub idle : is_one_taker block.kind ≡ true → block.copies ≡ fresh_spread false [] 1
+
   -- what an end gave, as the marks tell it
   pub record GaveOver (journal : List Mark) (end : OutEnd) : Type 0 where
     pub admitted : every (admits end.rule.when) (gave_over end.rule.id journal) ≡ true
@@ -246,6 +251,7 @@ module _ {W : Type 0} (layout : Layout W) (meaning : ℕ → Value → Result (L
     pub shape : ShapeLaw node.block
     pub ports : PortsLaw node.block node.journal
     pub exits : ExitsLaw node.block
+    pub copies : CopiesLaw node.block node.journal
     pub gave : GaveLaw node.block.exits node.journal
     pub makes : MakesLaw node.block node.journal
     pub rows : KeepsRows node.block node.journal

@@ -8,6 +8,7 @@
 //! `put_out`   both transforms  its results are there to be given
 //! `record`    action           its results are kept
 //! `make_row`  batch            a row of it and those behind it is there to be given
+//! `copy_next` broadcast        each link is given a copy of it
 //! `fail`      all with work    it stays, and the ports take no more
 //! `begin`     all with work    it stays, and is worked on beside others
 //! `end_job`   all with work    its results come out in its turn, or its fault stands
@@ -21,6 +22,8 @@
 
 mod answer;
 mod block;
+mod copies;
+mod copying;
 mod input;
 mod jobs;
 mod laws;

@@ -21,6 +21,7 @@ use Rattle.flow_link.proofs.ListTests.{length_numbers}
 use Rattle.flow_link.proofs.LooksKeepOrder.{looks_keep}
 use Rattle.flow_intake.specs.Port.{fresh_end as fresh_in, end_in as in_at, fresh_port}
 use Rattle.flow_outlet.specs.End.{fresh_end, no_end}
+use Rattle.flow_block.specs.Copies.{shared_rules}
 use Rattle.flow_block.specs.Block.{is_batch}
 use Rattle.flow_block.specs.Fresh.{FreshInOrder}
 use Rattle.flow_block.specs.Input.{fresh_input, no_input, input_view}
@@ -99,7 +100,8 @@ module _ {W : Type 0} (layout : Layout W) where
   -- each end of a fresh node is fresh
   out_fresh : (k b : ℕ) → out_view k (fresh_node layout b) ≡ fresh_source
   out_fresh k b =
-      holds_mapped (λ end. view_of_out [] end ≡ fresh_source) fresh_end (map (rule_of layout) (links_from layout b)) k
+      holds_mapped (λ end. view_of_out [] end ≡ fresh_source) fresh_end
+      (shared_rules (block_in layout.blocks b).kind (map (rule_of layout) (links_from layout b))) k
       no_end refl (λ rule. refl)
 
   in_fresh : (p k b : ℕ) → in_view p k (fresh_node layout b) ≡ fresh_target

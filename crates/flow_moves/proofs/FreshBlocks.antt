@@ -4,8 +4,11 @@ use Rattle.flow_link.specs.declared.draft.BlockKind.{BlockKind}
 use Rattle.flow_link.specs.Layout.{Layout}
 use Rattle.flow_intake.specs.Port.{count_at, is_owed, fresh_end}
 use Rattle.flow_outlet.specs.declared.ends.LinkRule.{LinkRule}
+use Rattle.flow_spread.specs.End.{is_busy_at, is_waiting_at}
+use Rattle.flow_spread.proofs.CountsOfEnds.{none_counts}
 use Rattle.flow_block.specs.Block.{BlockState}
 use Rattle.flow_block.specs.BlockFits.{fresh_block}
+use Rattle.flow_block.specs.Copies.{copied_rules}
 use Rattle.flow_block.specs.JournalFits.{ports_due, marks_due}
 use Rattle.flow_block.specs.Planned.{port_of_plan, links_to}
 
@@ -20,4 +23,7 @@ module _ {W : Type 0} (layout : Layout W) (b : ℕ) where
 
   pub no_mark_due : (kind : BlockKind) (lanes size : ℕ) (ports : List ℕ) (rules : List LinkRule) (block : BlockState)
       → block ≡ fresh_block kind lanes size (map (port_of_plan layout b) ports) rules → marks_due block ≡ 0
-  no_mark_due kind lanes size ports rules block is = ap marks_due is ∙ omega (arith, none_due ports)
+  no_mark_due kind lanes size ports rules block is =
+      let busy = none_counts is_busy_at (copied_rules kind rules) (λ rule. refl) in
+      let waiting = none_counts is_waiting_at (copied_rules kind rules) (λ rule. refl) in
+      ap marks_due is ∙ omega (arith, none_due ports, busy, waiting)
