@@ -112,7 +112,7 @@ none_refused : (test : SourceStage → Bool) → test source.Refused ≡ false �
 none_refused test refused_not source.Refused after e refused = never_both (test source.Refused) e refused_not
 none_refused test refused_not _ after e refused = cc
 
-count_more : (max : Option ℕ) (given : ℕ) (values : List Value) (value : Value)
+pub count_more : (max : Option ℕ) (given : ℕ) (values : List Value) (value : Value)
     → (is_some max ≡ true → given ≡ length values) → is_some max ≡ true
     → counted max given ≡ length (values ++ value ∷ [])
 count_more None given values value is e = cc

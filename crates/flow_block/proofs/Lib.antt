@@ -1,7 +1,9 @@
 pub mod Causes
+pub mod CopierHolds
 pub mod CopiesFit
 pub mod CopiesHold
 pub mod CopiesIdle
+pub mod CourseMore
 pub mod EndsAtRest
 pub mod EndsHold
 pub mod EndsTell

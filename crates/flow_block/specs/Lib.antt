@@ -1,6 +1,7 @@
 pub mod Block
 pub mod BlockFits
 pub mod Causes
+pub mod Copier
 pub mod Copies
 pub mod Fresh
 pub mod Input

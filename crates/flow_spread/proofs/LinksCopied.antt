@@ -266,7 +266,7 @@ faulted : (first : ℕ) (pending : Bool) (stopped : Option Outcome) (s : SpreadS
 faulted first true stopped s law = law
 faulted first false stopped s law = calls_keep_law.fault first stopped s law
 
-law_after : (first : ℕ) (call : Call) (c : Course) → IsAllowed call c → SpreadLaw first c.pending c.stopped c.spread
+pub law_after : (first : ℕ) (call : Call) (c : Course) → IsAllowed call c → SpreadLaw first c.pending c.stopped c.spread
     → SpreadLaw first (after call c).pending (after call c).stopped (after call c).spread
 law_after first (Call.put value) c may law =
     rw may.0 (calls_keep_law.put first c.pending c.spread (rw may.0 at law) value may.1 may.2)
