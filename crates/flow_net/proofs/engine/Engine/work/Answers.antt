@@ -7,7 +7,7 @@ use Rattle.flow_net.proofs.EventsDone.{worked_so}
 use Rattle.flow_net.proofs.engine.Engine.work.Goals as goal
 
 pub work-requires-clause-alone : goal.work-requires-clause-alone
-work-requires-clause-alone g c =
+work-requires-clause-alone g c κs within =
     let old = c.args.self.now in
     let layout = layout_of old.plan in
     let meaning = works_of g.W.Work.meaning layout in
