@@ -1,27 +1,24 @@
 -- Each call keeps a block in order that copies: what it does is one of its calls more, or none.
-use Rattle.std.proofs.Common.{◌≡◌, ◌≢◌, ◌⊎◌, ℕ, ◌+◌, ◌-◌, ◌^◌, ◌<◌, ◌≤◌, ◌==◌, ◌||◌, ◌&&◌, not, Bool, true, false, cond, List, [], ◌∷◌, ◌++◌, length, get_or, set, map, drop, Option, Some, None, is_some, refl, ap, sym, ◌∙◌, subst, inl, inr, arith, append-nil, append_assoc, length-append, ne_eqb, eq-eqb}
+use Rattle.std.proofs.Common.{◌≡◌, ◌≢◌, ℕ, ◌+◌, ◌-◌, ◌^◌, ◌<◌, ◌==◌, ◌||◌, ◌&&◌, Bool, true, false, cond, List, [], ◌∷◌, ◌++◌, length, get_or, set, map, drop, Option, Some, None, is_some, refl, ap, sym, ◌∙◌, subst, inl, inr, arith, append-nil, append_assoc, ne_eqb}
 use Rattle.std.proofs.lemmas.Bool.{cases_eq}
 use Rattle.std.proofs.lemmas.List.{length-set, length-map, get_or-set_same, get_or-set_other}
 use Rattle.std.proofs.lemmas.List as lists
 use Rattle.std.proofs.Math.ListN.{get_or-map}
 use Rattle.std.proofs.Math.Seq.{map-set_same}
-use Rattle.std.specs.Bool.{OnTrue}
 use Rattle.flow_value.specs.When.{admits}
 use Rattle.flow_value.specs.declared.value.Value.{Value}
 use Rattle.flow_value.specs.declared.when.When.{When}
-use Rattle.flow_link.specs.declared.draft.BlockKind.{BlockKind}
 use Rattle.flow_link.specs.declared.phase.LinkEnd.{LinkEnd}
 use Rattle.flow_link.specs.declared.phase.Phase.{Phase}
 use Rattle.flow_link.specs.declared.stage.SourceStage.{SourceStage}
 use Rattle.flow_link.specs.declared.stage.SourceStage.TheVariants.{Out}
 use Rattle.flow_link.specs.declared.trace.Mark.{Mark}
-use Rattle.flow_link.specs.declared.trace.Mark.TheVariants.{Took, Gave}
+use Rattle.flow_link.specs.declared.trace.Mark.TheVariants.{Gave}
 use Rattle.flow_link.specs.declared.trace.Outcome.{Outcome}
 use Rattle.flow_link.specs.declared.trace.Outcome.TheVariants as outcome
 use Rattle.flow_link.specs.JournalGrows.{given_by_mark, taken_by_mark}
 use Rattle.flow_link.specs.Layout.{Layout}
-use Rattle.flow_link.specs.Lists.{every, below}
-use Rattle.flow_link.specs.Plan.{link_in, is_broadcast, is_write_once}
+use Rattle.flow_link.specs.Plan.{is_write_once}
 use Rattle.flow_link.specs.Trace.{took, gave_over}
 use Rattle.flow_link.proofs.ListTests.{or_weaker, never_both}
 use Rattle.flow_link.proofs.OneMoreMark.{every_more}
@@ -43,14 +40,15 @@ use Rattle.flow_spread.proofs.LawKept.{calls_keep_law, law_tells}
 use Rattle.flow_block.specs.Block.{BlockState, port_in, held_by, with_copies, copies_next, copies_it, stops_by}
 use Rattle.flow_block.specs.Copier.{Copier, CopiedOver, copier_start, course_of}
 use Rattle.flow_block.specs.Copies.{CopyCall, after_copy, copies_left}
-use Rattle.flow_block.specs.Node.{NodeState, marks_copy, marks_copied}
+use Rattle.flow_block.specs.Jobs.{JobsState}
+use Rattle.flow_block.specs.Node.{marks_copy, marks_copied}
 use Rattle.flow_block.specs.NodeKeeps.{MayCopy}
 use Rattle.flow_block.specs.Peeks.{is_pending, fault_at_ports}
 use Rattle.flow_block.specs.Planned.{is_out_of, links_from, rule_of, out_place}
 use Rattle.flow_block.proofs.CourseMore.{after_more, allowed_more, put_more, given_more, law_then}
 use Rattle.flow_block.proofs.FaultsSeen.{StaysSeen, stays_at_ports, seen_over_ports}
 use Rattle.flow_block.proofs.GaveHolds.{count_more}
-use Rattle.flow_block.proofs.JournalTells.{took_same, gave_same, took_here, gave_here}
+use Rattle.flow_block.proofs.JournalTells.{took_same, gave_same, gave_here}
 use Rattle.flow_block.proofs.PlacesOfNumbers.{stands_below}
 use Rattle.flow_block.proofs.PortsChange.{kept_at_one, kept_at_all}
 use Rattle.flow_outlet.proofs.StagesTell.{number_same}
@@ -90,7 +88,7 @@ admits_it : (when : When) (element : Option Value) (value : Value) → element �
     → admits when value ≡ true
 admits_it when element value is e = rw is at e
 
-none_left : (copies : SpreadState) → copies_left copies ≡ 0 → left_of copies ≡ None
+pub none_left : (copies : SpreadState) → copies_left copies ≡ 0 → left_of copies ≡ None
 none_left copies e = by_test (count_of owes_it copies.ends == 0) e
   where
     by_test : (nobody : Bool) → ◌≡◌ {A = ℕ} (cond nobody 0 1) 0 → cond nobody None copies.element ≡ None
@@ -121,7 +119,7 @@ module _ {W : Type 0} (layout : Layout W) (b : ℕ) where
         (is_some (fault_at_ports ports)) (λ e. e) stays
 
     -- only its ports change, where these messages came in
-    ports_change : (ports : List PortState) (later : List Mark) (added : List Value)
+    pub ports_change : (ports : List PortState) (later : List Mark) (added : List Value)
         → StaysSeen (fault_at_ports block.ports) (fault_at_ports ports)
         → (port_in ports 0).waiting ≡ held_by block ++ added → took later ≡ took journal ++ added
         → ((l : ℕ) → gave_over l later ≡ gave_over l journal)
@@ -142,12 +140,39 @@ module _ {W : Type 0} (layout : Layout W) (b : ℕ) where
     }
 
     -- one port changes, at which the same messages wait
-    port_changes : (p : ℕ) (port : PortState) → StaysSeen (fault_at_ends (port_in block.ports p).ends) (fault_at_ends port.ends)
+    pub port_changes : (p : ℕ) (port : PortState) → StaysSeen (fault_at_ends (port_in block.ports p).ends) (fault_at_ends port.ends)
         → port.waiting ≡ (port_in block.ports p).waiting → Copier layout b (record block { ports = set block.ports p port }) journal
     port_changes p port stays waits =
         ports_change (set block.ports p port) journal [] (stays_at_ports block.ports p port stays)
         (kept_at_one (λ (q : PortState). q.waiting) block.ports p 0 port waits ∙ sym (append-nil (held_by block)))
         (sym (append-nil (took journal))) (λ l. refl)
+
+    -- what it works on changes
+    pub jobs_change : (jobs : JobsState) → Copier layout b (record block { jobs = jobs }) journal
+    jobs_change jobs = record {
+      idle_exits = c.idle_exits;
+      rules = c.rules;
+      calls = c.calls;
+      allowed = c.allowed;
+      pending = c.pending;
+      faults = c.faults;
+      leads_here = c.leads_here;
+      took_is = c.took_is;
+      gave_is = c.gave_is;
+      each = c.each;
+    }
+
+    -- a port completes, and its mark tells of no message
+    pub complete_keeps : (p : ℕ) (mark : Mark) → taken_by_mark (λ port link. true) mark ≡ []
+        → ((test : ℕ → Bool) → given_by_mark test mark ≡ [])
+        → Copier layout b (record block { ports = set block.ports p (port_closes (port_in block.ports p)) }) (journal ++ mark ∷ [])
+    complete_keeps p mark takes gives =
+        let port = port_in block.ports p in
+        ports_change (set block.ports p (port_closes port)) (journal ++ mark ∷ []) []
+        (stays_at_ports block.ports p (port_closes port) (λ e. e))
+        (kept_at_one (λ (q : PortState). q.waiting) block.ports p 0 (port_closes port) refl ∙ sym (append-nil (held_by block)))
+        (took_same (λ port link. true) journal mark takes ∙ sym (append-nil (took journal)))
+        (λ l. gave_same (λ n. n == l) journal mark (gives (λ n. n == l)))
 
     -- The calls at its links
 
@@ -375,7 +400,7 @@ module _ {W : Type 0} (layout : Layout W) (b : ℕ) where
 
     -- What it does by itself
 
-    put_keeps : (first : Option Value) → first_of (held_by block) ≡ first → length block.ports ≡ 1 → block.stopped ≡ None
+    pub put_keeps : (first : Option Value) → first_of (held_by block) ≡ first → length block.ports ≡ 1 → block.stopped ≡ None
         → is_spread_free block.copies ≡ true → block.copies.id + 1 < 2 ^ 59 → Copier layout b (copies_next first block) journal
     put_keeps None is alone going free ids = c
     put_keeps (Some value) is alone going free ids =
@@ -397,7 +422,7 @@ module _ {W : Type 0} (layout : Layout W) (b : ℕ) where
         (λ j there. subst (λ (end : CopyEnd). CopiedOver journal end.link) (sym (link_is j there))
         (copied_on j there (forgotten_stage (stage_at copies j)) (link_at copies j).declined))
 
-    stop_keeps : (how : Outcome) (mark : Mark) → taken_by_mark (λ port link. true) mark ≡ []
+    pub stop_keeps : (how : Outcome) (mark : Mark) → taken_by_mark (λ port link. true) mark ≡ []
         → ((test : ℕ → Bool) → given_by_mark test mark ≡ []) → block.stopped ≡ None → is_at_rest block.copies ≡ true
         → (how ≡ outcome.Done → left_of block.copies ≡ None)
         → Copier layout b (stops_by how block) (journal ++ mark ∷ [])

@@ -14,7 +14,7 @@ use Rattle.flow_link.specs.Lists.{numbers_from, below}
 use Rattle.flow_link.specs.NotBuilt.{is_built_kind}
 use Rattle.flow_link.specs.Plan.{block_in, port_count, is_one_taker}
 use Rattle.flow_link.specs.Trace.{has_ended}
-use Rattle.flow_link.proofs.ListTests.{length_numbers}
+use Rattle.flow_link.proofs.ListTests.{length_numbers, never_both}
 use Rattle.flow_intake.specs.Port.{EndState, PortState, fresh_end, end_in, stage_at as port_stage, is_coming}
 use Rattle.flow_intake.specs.PortLaw.{InLaw, PortLaw, has_ended as has_port_ended}
 use Rattle.flow_outlet.specs.declared.ends.LinkRule.{LinkRule}
@@ -179,7 +179,10 @@ fresh_sharing W layout meaning b built lane size =
         law = calls_keep_law.fresh (is_pending node.block) None rules 1 (omega arith) (omega arith);
         none_kept = out_ends_fresh rules (λ (end : OutEnd). is_kept end.stage ≡ false) (λ rule. refl);
       };
-      copies = record { idle = λ shares. refl };
+      copies = record {
+        idle = λ shares. refl;
+        copier = λ copying. never_both (is_one_taker block.kind) (shares_out block.kind built) copying;
+      };
       gave = record {
         each = out_ends_fresh rules (GaveOver layout meaning b [])
             (λ rule. record { admitted = refl; counted = λ some. refl });

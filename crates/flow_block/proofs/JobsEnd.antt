@@ -24,6 +24,7 @@ use Rattle.flow_block.specs.NodeLaw.{NodeLaw}
 use Rattle.flow_block.specs.Planned.{block_makes}
 use Rattle.flow_block.proofs.EndsHold.{jobs_change as ends_stay}
 use Rattle.flow_block.proofs.JobsHold.{back_at, makes_by_work, held_next}
+use Rattle.flow_block.proofs.CopierHolds.{jobs_change}
 use Rattle.flow_block.proofs.KindsBuilt.{has_one_port, works_alone, works_shared}
 use Rattle.flow_block.proofs.LoadHolds.{jobs_change as load_stays}
 use Rattle.flow_block.proofs.MakesHold.{jobs_change as makes_stay}
@@ -196,7 +197,10 @@ module _ {W : Type 0} (kept : NodesKept W) (layout : Layout W) (meaning : ℕ �
         shape = shape_stays layout meaning b block new refl refl refl refl law.shape;
         ports = law.ports;
         exits = record { law = law.exits.law; none_kept = law.exits.none_kept };
-        copies = record { idle = law.copies.idle };
+        copies = record {
+          idle = law.copies.idle;
+          copier = λ copying. jobs_change layout b block journal (law.copies.copier copying) (change block.jobs);
+        };
         gave = law.gave;
         makes = makes_stay layout meaning b (record { block = block; journal = journal }) law.makes change;
         rows = law.rows;

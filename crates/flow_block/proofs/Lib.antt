@@ -1,5 +1,6 @@
 pub mod Causes
 pub mod CopierHolds
+pub mod CopierKept
 pub mod CopiesFit
 pub mod CopiesHold
 pub mod CopiesIdle

@@ -33,6 +33,7 @@ use Rattle.flow_outlet.specs.declared.ends.OutEnd.{OutEnd}
 use Rattle.flow_outlet.specs.declared.group.Group.{Group}
 use Rattle.flow_spread.specs.Spread.{fresh_spread}
 use Rattle.flow_block.specs.Block.{BlockState, port_at, held_by, is_batch}
+use Rattle.flow_block.specs.Copier.{Copier}
 use Rattle.flow_block.specs.Jobs.{AreOf, is_front_back}
 use Rattle.flow_block.specs.Node.{NodeState}
 use Rattle.flow_block.specs.Peeks.{is_pending, holds_nothing}
@@ -178,9 +179,10 @@ module _ {W : Type 0} (layout : Layout W) (meaning : ℕ → Value → Result (L
     pub law : OutletLaw (is_pending block) block.stopped block.exits
     pub none_kept : (k : ℕ) → k < length block.exits.ends → is_kept (stage_at block.exits k) ≡ false
 
-  -- a block that shares its messages out copies none
+  -- a block that shares its messages out copies none, and one that copies gives each of its links what it put
   pub record CopiesLaw (block : BlockState) (journal : List Mark) : Type 0 where
     pub idle : is_one_taker block.kind ≡ true → block.copies ≡ fresh_spread false [] 1
+    pub copier : is_one_taker block.kind ≡ false → Copier layout b block journal
 
   -- what an end gave, as the marks tell it
   pub record GaveOver (journal : List Mark) (end : OutEnd) : Type 0 where
