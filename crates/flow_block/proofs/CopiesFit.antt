@@ -1,23 +1,23 @@
 -- What each call at a link over which copies go makes of the room that the element takes, and of the number of marks that may follow.
-use Rattle.std.proofs.Common.{rules, ◌≡◌, ◌≢◌, ℕ, ◌+◌, ◌-◌, ◌<◌, ◌≤◌, ◌==◌, Bool, true, false, cond, not, ◌&&◌, List, length, set, map, Option, Some, None, refl, ap, inl, inr, arith, eq-eqb, ne_eqb, sym, ◌∙◌}
+use Rattle.std.proofs.Common.{rules, ◌≡◌, ℕ, ◌+◌, ◌-◌, ◌<◌, ◌≤◌, ◌==◌, Bool, true, false, cond, ◌&&◌, length, set, Option, Some, None, refl, inl, inr, arith, eq-eqb, ne_eqb}
 use Rattle.std.proofs.lemmas.Bool.{cases_eq}
-use Rattle.std.proofs.lemmas.List.{length-set, get_or-set_same}
+use Rattle.std.proofs.lemmas.List.{length-set}
 use Rattle.flow_value.specs.declared.value.Value.{Value}
 use Rattle.flow_link.specs.declared.phase.LinkEnd.{LinkEnd}
 use Rattle.flow_link.specs.declared.phase.Phase.{Phase}
 use Rattle.flow_link.specs.declared.stage.SourceStage.{SourceStage}
-use Rattle.flow_link.specs.declared.stage.SourceStage.TheVariants.{Free, Out, Waiting, Accepted, Wished, AskedBy, Reserved, Claimed}
+use Rattle.flow_link.specs.declared.stage.SourceStage.TheVariants.{Out, Accepted, Wished, AskedBy, Claimed}
 use Rattle.flow_link.specs.Stage.{source_looks}
 use Rattle.flow_intake.specs.Port.{PortState}
-use Rattle.flow_intake.specs.Calls.{first_of, gives_room, takes_next}
-use Rattle.flow_outlet.specs.End.{is_free, is_waiting}
+use Rattle.flow_intake.specs.Calls.{gives_room, takes_next}
+use Rattle.flow_outlet.specs.End.{is_waiting}
 use Rattle.flow_spread.specs.declared.end.CopyEnd.{CopyEnd}
-use Rattle.flow_spread.specs.End.{end_in, no_end, count_of, owes_it, is_busy, is_busy_at, is_waiting_at, is_open, moved}
-use Rattle.flow_spread.specs.Spread.{SpreadState, end_at, link_at, stage_at, changes, puts, prepares, may_offer, offers, looks, may_give, is_wanted, gives, is_asked_by, holds, withdraws, ends_link}
+use Rattle.flow_spread.specs.End.{count_of, owes_it, is_busy, is_busy_at, is_waiting_at, moved}
+use Rattle.flow_spread.specs.Spread.{SpreadState, end_at, link_at, stage_at, changes, puts, prepares, offers, looks, may_give, is_wanted, gives, is_asked_by, holds, withdraws, ends_link}
 use Rattle.flow_spread.proofs.CountsOfEnds.{count_after_set, busy_taken_up, waiting_taken_up}
-use Rattle.flow_block.specs.Block.{BlockState, with_copies, copies_it, copies_next, port_in}
+use Rattle.flow_block.specs.Block.{BlockState, with_copies, copies_next}
 use Rattle.flow_block.specs.Copies.{copies_left}
-use Rattle.flow_block.specs.JournalFits.{copies_due, marks_due, port_due, ports_due}
+use Rattle.flow_block.specs.JournalFits.{copies_due, marks_due}
 use Rattle.flow_block.proofs.MarksFit.{due_map, first_kept}
 
 -- The room of the element

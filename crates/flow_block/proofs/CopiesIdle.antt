@@ -1,16 +1,13 @@
 -- A block that shares its messages out copies none: no link is there over which copies could go.
-use Rattle.std.proofs.Common.{◌≡◌, ℕ, ◌<◌, ◌==◌, cond, Bool, true, false, not, ◌||◌, List, [], length, Result, refl, ap, ◌∙◌, arith, sym, subst}
+use Rattle.std.proofs.Common.{◌≡◌, ℕ, ◌<◌, true, false, List, [], length, Result, refl, ap, arith}
 use Rattle.flow_value.specs.declared.value.Value.{Value}
 use Rattle.flow_link.specs.declared.draft.BlockKind.{BlockKind}
-use Rattle.flow_link.specs.declared.draft.BlockKind.TheVariants.{Buffer, Action, Transform, TransformMany, Batch}
-use Rattle.flow_link.specs.declared.trace.Mark.{Mark}
 use Rattle.flow_link.specs.Layout.{Layout}
 use Rattle.flow_link.specs.NotBuilt.{is_built_kind}
 use Rattle.flow_link.specs.Plan.{is_one_taker, is_broadcast}
 use Rattle.flow_spread.specs.Spread.{SpreadState, fresh_spread, is_at_rest}
 use Rattle.flow_block.specs.Copies.{copies_left}
 use Rattle.flow_block.specs.Node.{NodeState, left_in, out_view, source_view}
-use Rattle.flow_block.specs.NodeKeeps.{MayCopy}
 use Rattle.flow_block.specs.NodeLaw.{NodeLaw}
 use Rattle.flow_block.specs.Peeks.{may_copy}
 use Rattle.flow_block.proofs.KindsBuilt.{by_kind}

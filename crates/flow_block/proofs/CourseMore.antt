@@ -1,8 +1,7 @@
 -- One more call behind a list of calls.
-use Rattle.std.proofs.Common.{◌≡◌, ℕ, List, [], ◌∷◌, ◌++◌, Option, refl, ap, sym, ◌∙◌, append_assoc}
-use Rattle.std.proofs.lemmas.List.{append-nil}
+use Rattle.std.proofs.Common.{◌≡◌, ℕ, List, [], ◌∷◌, ◌++◌, refl, ap, sym, ◌∙◌, append_assoc}
 use Rattle.flow_value.specs.declared.value.Value.{Value}
-use Rattle.flow_spread.specs.Copied.{Call, Course, after, after_all, IsAllowed, AllAllowed, put_by, put_in, given_by, given_in}
+use Rattle.flow_spread.specs.Copied.{Call, Course, after, after_all, AllAllowed, put_by, put_in, given_by, given_in}
 use Rattle.flow_spread.specs.Law.{SpreadLaw}
 use Rattle.flow_spread.proofs.LinksCopied.{law_after}
 

@@ -10,8 +10,7 @@ use Rattle.flow_outlet.specs.Outlet.{OutletState, is_empty, fresh_outlet, puts, 
 use Rattle.flow_outlet.specs.declared.ends.LinkRule.{LinkRule}
 use Rattle.flow_outlet.proofs.OutletFits.{weight_stays, room_put}
 use Rattle.flow_link.specs.declared.draft.BlockKind.{BlockKind}
-use Rattle.flow_spread.specs.Spread.{SpreadState}
-use Rattle.flow_spread.specs.End.{count_of, owes_it}
+use Rattle.flow_spread.specs.End.{owes_it}
 use Rattle.flow_spread.proofs.CountsOfEnds.{none_counts}
 use Rattle.flow_block.specs.Copies.{shared_rules, copied_rules, fresh_copies, copies_left}
 use Rattle.flow_block.specs.Block.{port_in, unit_weight, group_weight, takes_group}

@@ -1,9 +1,9 @@
 -- What a block that copies does with its element, as plain data: the weight of the element, and the calls at its links.
-use Rattle.std.specs.Prelude.{ℕ, ◌==◌, cond, Bool, true, not, ◌&&◌, ◌||◌, List, [], ◌∷◌, Option, Some, None}
+use Rattle.std.specs.Prelude.{ℕ, ◌==◌, cond, Bool, ◌&&◌, List, []}
 use Rattle.flow_link.specs.declared.draft.BlockKind.{BlockKind}
 use Rattle.flow_link.specs.declared.phase.LinkEnd.{LinkEnd}
 use Rattle.flow_link.specs.declared.phase.Phase.{Phase}
-use Rattle.flow_link.specs.Plan.{is_broadcast, is_write_once, is_one_taker}
+use Rattle.flow_link.specs.Plan.{is_write_once, is_one_taker}
 use Rattle.flow_outlet.specs.declared.ends.LinkRule.{LinkRule}
 use Rattle.flow_spread.specs.End.{count_of, owes_it, is_waiting_at}
 use Rattle.flow_spread.specs.Spread.{SpreadState, fresh_spread, is_spread_free, prepares, offers, looks, gives, holds, withdraws, ends_link}

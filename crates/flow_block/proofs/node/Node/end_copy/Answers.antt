@@ -1,5 +1,4 @@
-use Rattle.std.proofs.Common.{◌≡◌, true, ◌<◌, length, subst, sym, arith}
-use Rattle.flow_spread.specs.Spread.{may_give, is_asked_by, stage_at}
+use Rattle.std.proofs.Common.{◌<◌, length, subst, sym, arith}
 use Rattle.flow_block.specs.Node.{NodeState}
 use Rattle.flow_block.proofs.CopiesFit.{due_end_copy}
 use Rattle.flow_block.proofs.node.Node.end_copy.Goals as goal

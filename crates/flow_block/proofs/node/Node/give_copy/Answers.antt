@@ -1,5 +1,5 @@
 use Rattle.std.proofs.Common.{◌≡◌, true, ◌<◌, length, subst, sym, arith}
-use Rattle.flow_spread.specs.Spread.{may_give, is_asked_by, stage_at}
+use Rattle.flow_spread.specs.Spread.{may_give}
 use Rattle.flow_block.specs.Node.{NodeState}
 use Rattle.flow_block.proofs.CopiesFit.{due_give_copy}
 use Rattle.flow_block.proofs.node.Node.give_copy.Goals as goal
