@@ -287,6 +287,17 @@ module _ {W : Type 0} (layout : Layout W) (meaning : ℕ → Value → Result (L
       (going_ends _ (set block.ports 0 (change (port_at 0 block))) exits block.fault block.stopped journal none
       (sym law.stopped_is ∙ none))
 
+  -- it works on a message of each port
+  pub works_on_each : (block : BlockState) (journal : List Mark) → Ends block journal
+      → (change : PortState → PortState) (exits : OutletState) → ((port : PortState) → (change port).refusing ≡ port.refusing)
+      → ((port : PortState) → (change port).ends ≡ port.ends) → block.stopped ≡ None
+      → Ends (record block { ports = map change block.ports; exits = exits }) journal
+  works_on_each block journal law change exits refusing ends none =
+      both (record block { ports = map change block.ports; exits = exits }) journal
+      (each_after_all (PortEndsBy block.fault journal) change block.ports
+      (λ q there. rw (refusing (port_in block.ports q), ends (port_in block.ports q)) (each_port block journal law q there)))
+      (going_ends _ (map change block.ports) exits block.fault block.stopped journal none (sym law.stopped_is ∙ none))
+
   kept_as : (kind : BlockKind) (values : List Value) (block : BlockState) (journal : List Mark) → Ends block journal
       → block.stopped ≡ None
       → Ends (keeps_results kind values block) journal

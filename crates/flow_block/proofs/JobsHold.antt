@@ -230,7 +230,7 @@ module _ {W : Type 0} (layout : Layout W) (meaning : ℕ → Value → Result (L
             rw (held, jobs) (omega (arith, before, one));
       }
 
-  handed_on : (block after : BlockState) (journal : List Mark) → after.kind ≡ block.kind → after.jobs ≡ block.jobs
+  pub handed_on : (block after : BlockState) (journal : List Mark) → after.kind ≡ block.kind → after.jobs ≡ block.jobs
       → has_work block.kind ≡ false → Jobs block journal → Jobs after journal
   handed_on block after journal kind jobs idle law = record {
     lanes_are = rw jobs law.lanes_are;

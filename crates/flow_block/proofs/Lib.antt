@@ -54,5 +54,8 @@ pub mod SourceStands
 pub mod StandsInOrder
 pub mod TargetStands
 pub mod TestsTell
+pub mod TupleMade
+pub mod TuplesFit
+pub mod TuplesStand
 pub mod ViewsMove
 pub mod WeightsOfResults

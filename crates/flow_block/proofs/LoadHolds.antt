@@ -69,20 +69,20 @@ made_is_one kind planned raw value values same built e other single alone =
     other single alone
 
 -- the room of a result that is there does not come back at once
-none_back : (count weight room : ℕ) → 0 < count → room ≡ 0 → room_with count weight room ≡ 0
+pub none_back : (count weight room : ℕ) → 0 < count → room ≡ 0 → room_with count weight room ≡ 0
 none_back count weight room some none =
     let more : (count == 0) ≡ false = ne_eqb count 0 (λ e. omega arith) in
     ap (λ (test : Bool). room + cond test weight 0) more ∙ omega arith
 
 -- a result that is there takes the places of its weight
-more_weight : (next count weight : ℕ) (groups : List Group) → 0 < count
+pub more_weight : (next count weight : ℕ) (groups : List Group) → 0 < count
     → weight_of (groups_with next count weight groups) ≡ weight_of groups + weight
 more_weight next count weight groups some =
     let put = room_put next count weight 0 groups in
     let none = none_back count weight 0 some refl in
     omega (arith, put, none)
 
-one_place : (capacity : Option ℕ) → is_some capacity ≡ true → unit_weight capacity ≡ 1
+pub one_place : (capacity : Option ℕ) → is_some capacity ≡ true → unit_weight capacity ≡ 1
 one_place None there = absurd (cc)
 one_place (Some c) there = refl
 

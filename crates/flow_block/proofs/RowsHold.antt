@@ -51,7 +51,7 @@ no_more_held : (held : List Value) (value : Value) → is_empty (held ++ value �
 no_more_held [] value = refl
 no_more_held (first ∷ held) value = refl
 
-given_on : (given left : List Value) (value : Value) → first_left left ≡ Some value
+pub given_on : (given left : List Value) (value : Value) → first_left left ≡ Some value
     → (given ++ value ∷ []) ++ rest_of left ≡ given ++ left
 given_on given [] value head = absurd (cc)
 given_on given (first ∷ left) value head =

@@ -21,4 +21,6 @@ pub mod Peeks
 pub mod Planned
 pub mod Routes
 pub mod Traits
+pub mod Tuples
+pub mod TuplesKeep
 pub mod ViewsMove
