@@ -23,4 +23,5 @@ pub mod Routes
 pub mod Traits
 pub mod Tuples
 pub mod TuplesKeep
+pub mod TuplesSeen
 pub mod ViewsMove
