@@ -4,6 +4,7 @@ pub mod Causes
 pub mod Copier
 pub mod Copies
 pub mod Fresh
+pub mod GroupsKeep
 pub mod Input
 pub mod InputKeeps
 pub mod Jobs

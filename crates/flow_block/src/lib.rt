@@ -25,6 +25,7 @@ mod answer;
 mod block;
 mod copies;
 mod copying;
+mod group_laws;
 mod input;
 mod jobs;
 mod laws;
@@ -41,6 +42,7 @@ mod tuples;
 mod work;
 
 pub use block::Block;
+pub use group_laws::calls_keep_groups;
 pub use input::Input;
 pub use jobs::Answer;
 pub use laws::{

@@ -120,12 +120,12 @@ all_ended_taken first order [] = refl
 all_ended_taken first order (port ∷ ports) =
     ap (λ (ended : Bool). has_ended port.refusing && ended) (all_ended_taken (suc first) order ports)
 
-as_many_taken : (first : ℕ) (order : List ℕ) (ports : List PortState) → length (takes_from first order ports) ≡ length ports
+pub as_many_taken : (first : ℕ) (order : List ℕ) (ports : List PortState) → length (takes_from first order ports) ≡ length ports
 as_many_taken first order [] = refl
 as_many_taken first order (port ∷ ports) = ap suc (as_many_taken (suc first) order ports)
 
 -- ports are completed, and stay so
-ended_later : (count size : ℕ) (ended later : Bool) (came : List Arrival) (rows : List Value) (order : List ℕ) (held : ℕ → List Value)
+pub ended_later : (count size : ℕ) (ended later : Bool) (came : List Arrival) (rows : List Value) (order : List ℕ) (held : ℕ → List Value)
     → GroupsLaw count size ended came rows order held → (ended ≡ true → later ≡ true) → GroupsLaw count size later came rows order held
 ended_later count size true true came rows order held law stays = law
 ended_later count size true false came rows order held law stays = let never : false ≡ true = stays refl in absurd (cc)
