@@ -39,7 +39,7 @@ complete_on count journal mark all =
     every_weaker_below (λ q. has_complete q journal) (λ q. has_complete q (journal ++ mark ∷ [])) count
     (λ q small is. some_before (is_complete_mark q) journal mark is) all
 
-one_unfinished : (count : ℕ) (journal : List Mark) (p : ℕ) → p < count → has_complete p journal ≡ false
+pub one_unfinished : (count : ℕ) (journal : List Mark) (p : ℕ) → p < count → has_complete p journal ≡ false
     → are_complete count journal ≡ false
 one_unfinished count journal p there unfinished =
     false_from_ne_true (are_complete count journal) (λ all.

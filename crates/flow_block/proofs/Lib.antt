@@ -14,6 +14,7 @@ pub mod FreshNodes
 pub mod GaveHolds
 pub mod GoingOn
 pub mod GroupsOfRows
+pub mod GroupsSeen
 pub mod GroupsStand
 pub mod GroupsTaken
 pub mod InputsAreParts

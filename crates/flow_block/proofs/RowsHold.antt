@@ -35,11 +35,11 @@ use Rattle.flow_block.proofs.JournalTells.{complete_where}
 use Rattle.flow_block.proofs.KindsBuilt.{has_one_port, made_kind, makes_by}
 use Rattle.flow_block.proofs.PortsChange.{kept_at_one, kept_at_all}
 
-other_side : (a b : Bool) → a ≡ false → (a || b) ≡ true → b ≡ true
+pub other_side : (a b : Bool) → a ≡ false → (a || b) ≡ true → b ≡ true
 other_side true b none e = absurd (cc)
 other_side false b none e = e
 
-not_both_so : (a b : Bool) → a ≡ false → (a && b) ≡ false
+pub not_both_so : (a b : Bool) → a ≡ false → (a && b) ≡ false
 not_both_so true b e = absurd (cc)
 not_both_so false b e = refl
 
@@ -58,7 +58,7 @@ given_on given (first ∷ left) value head =
     let same : value ≡ first = cc in
     append_assoc given (value ∷ []) left ∙ ap (λ (v : Value). given ++ v ∷ left) same
 
-given_back : (left : List Value) (value : Value) → first_left left ≡ Some value → left ≡ value ∷ rest_of left
+pub given_back : (left : List Value) (value : Value) → first_left left ≡ Some value → left ≡ value ∷ rest_of left
 given_back [] value head = absurd (cc)
 given_back (first ∷ left) value head = let same : first ≡ value = cc in ap (λ (v : Value). v ∷ left) same
 

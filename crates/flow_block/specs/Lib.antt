@@ -5,6 +5,7 @@ pub mod Copier
 pub mod Copies
 pub mod Fresh
 pub mod GroupsKeep
+pub mod GroupsSeen
 pub mod Input
 pub mod InputKeeps
 pub mod Jobs

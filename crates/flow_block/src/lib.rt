@@ -42,7 +42,7 @@ mod tuples;
 mod work;
 
 pub use block::Block;
-pub use group_laws::calls_keep_groups;
+pub use group_laws::{batched_joins_are_parts, calls_keep_groups, calls_keep_groups_whole};
 pub use input::Input;
 pub use jobs::Answer;
 pub use laws::{
