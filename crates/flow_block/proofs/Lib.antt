@@ -10,6 +10,7 @@ pub mod EndsHold
 pub mod EndsTell
 pub mod ExitsHold
 pub mod FaultsSeen
+pub mod FreshGroups
 pub mod FreshNodes
 pub mod GaveHolds
 pub mod GoingOn

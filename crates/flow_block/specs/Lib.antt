@@ -4,6 +4,7 @@ pub mod Causes
 pub mod Copier
 pub mod Copies
 pub mod Fresh
+pub mod FreshGroups
 pub mod GroupsKeep
 pub mod GroupsSeen
 pub mod Input

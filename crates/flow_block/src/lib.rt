@@ -42,7 +42,10 @@ mod tuples;
 mod work;
 
 pub use block::Block;
-pub use group_laws::{batched_joins_are_parts, calls_keep_groups, calls_keep_groups_whole};
+pub use group_laws::{
+    batched_joins_are_parts, calls_keep_groups, calls_keep_groups_whole,
+    fresh_blocks_have_made_nothing,
+};
 pub use input::Input;
 pub use jobs::Answer;
 pub use laws::{
