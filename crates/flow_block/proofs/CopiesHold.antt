@@ -5,7 +5,7 @@ use Rattle.flow_link.specs.declared.draft.BlockKind.{BlockKind}
 use Rattle.flow_link.specs.declared.draft.BlockKind.TheVariants.{Broadcast, WriteOnce, Action}
 use Rattle.flow_link.specs.Plan.{is_broadcast, is_one_taker}
 use Rattle.flow_link.specs.Layout.{Layout}
-use Rattle.flow_link.specs.NotBuilt.{is_built_kind}
+use Rattle.flow_block.specs.Kinds.{is_kept_kind}
 use Rattle.flow_link.proofs.ListTests.{never_both}
 use Rattle.flow_intake.specs.Calls.{first_of}
 use Rattle.flow_outlet.specs.Outlet.{head_of}
@@ -76,7 +76,7 @@ module _ {W : Type 0} (layout : Layout W) (meaning : ℕ → Value → Result (L
       ap is_one_taker (before.kind_is ∙ sym after.kind_is) ∙ copying
 
   -- the kinds that are built and copy put each message over the last one
-  copies_over : (kind : BlockKind) → is_built_kind kind ≡ true → is_one_taker kind ≡ false → is_broadcast kind ≡ true
+  copies_over : (kind : BlockKind) → is_kept_kind kind ≡ true → is_one_taker kind ≡ false → is_broadcast kind ≡ true
   copies_over Broadcast built copying = refl
   copies_over WriteOnce built copying = absurd (cc)
   copies_over _ built copying = absurd (cc)

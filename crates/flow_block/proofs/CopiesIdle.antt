@@ -3,7 +3,7 @@ use Rattle.std.proofs.Common.{◌≡◌, ℕ, ◌<◌, true, false, List, [], le
 use Rattle.flow_value.specs.declared.value.Value.{Value}
 use Rattle.flow_link.specs.declared.draft.BlockKind.{BlockKind}
 use Rattle.flow_link.specs.Layout.{Layout}
-use Rattle.flow_link.specs.NotBuilt.{is_built_kind}
+use Rattle.flow_block.specs.Kinds.{is_kept_kind}
 use Rattle.flow_link.specs.Plan.{is_one_taker, is_broadcast}
 use Rattle.flow_spread.specs.Spread.{SpreadState, fresh_spread, is_at_rest}
 use Rattle.flow_block.specs.Copies.{copies_left}
@@ -12,10 +12,10 @@ use Rattle.flow_block.specs.NodeLaw.{NodeLaw}
 use Rattle.flow_block.specs.Peeks.{may_copy}
 use Rattle.flow_block.proofs.KindsBuilt.{by_kind}
 
-pub none_broadcast : (kind : BlockKind) → is_built_kind kind ≡ true → is_broadcast kind ≡ false
+pub none_broadcast : (kind : BlockKind) → is_kept_kind kind ≡ true → is_broadcast kind ≡ false
 none_broadcast kind built = by_kind (λ k. is_broadcast k ≡ false) refl refl refl refl refl kind built
 
-pub shares_out : (kind : BlockKind) → is_built_kind kind ≡ true → is_one_taker kind ≡ true
+pub shares_out : (kind : BlockKind) → is_kept_kind kind ≡ true → is_one_taker kind ≡ true
 shares_out kind built = by_kind (λ k. is_one_taker k ≡ true) refl refl refl refl refl kind built
 
 module _ {W : Type 0} (layout : Layout W) (meaning : ℕ → Value → Result (List Value) ℕ) (b : ℕ) (node : NodeState)

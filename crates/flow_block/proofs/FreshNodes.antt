@@ -11,7 +11,7 @@ use Rattle.flow_link.specs.Facts.{facts_in}
 use Rattle.flow_link.specs.Layout.{Layout}
 use Rattle.flow_link.specs.LinkOk.{IsWithin}
 use Rattle.flow_link.specs.Lists.{numbers_from, below}
-use Rattle.flow_link.specs.NotBuilt.{is_built_kind}
+use Rattle.flow_block.specs.Kinds.{is_kept_kind}
 use Rattle.flow_link.specs.Plan.{block_in, port_count, is_one_taker}
 use Rattle.flow_link.specs.Trace.{has_ended}
 use Rattle.flow_link.proofs.ListTests.{length_numbers, never_both}
@@ -156,7 +156,7 @@ fresh_with layout b exits copies =
     let node = fresh_node layout b in record node { block = record node.block { exits = exits; copies = copies } }
 
 fresh_sharing : (W : Type 0) (layout : Layout W) (meaning : ℕ → Value → Result (List Value) ℕ) (b : ℕ)
-    → is_built_kind (block_in layout.blocks b).kind ≡ true
+    → is_kept_kind (block_in layout.blocks b).kind ≡ true
     → 0 < lanes_of layout b → (is_batch (block_in layout.blocks b).kind ≡ true → 0 < size_of layout b)
     → NodeLaw layout meaning b (fresh_with layout b (fresh_outlet (map (rule_of layout) (links_from layout b)) 1) (fresh_spread false [] 1))
 fresh_sharing W layout meaning b built lane size =

@@ -20,13 +20,14 @@ use Rattle.flow_group.specs.Tuple.{held_at as waits_at}
 use Rattle.flow_group.proofs.GroupsCut.{groups_tell}
 use Rattle.flow_group.proofs.GroupsKeep.{groups_kept}
 use Rattle.flow_block.specs.Block.{port_at}
-use Rattle.flow_block.specs.GroupsKeep.{are_complete, KeepsGroups, after_at_batched}
+use Rattle.flow_block.specs.GroupsKeep.{are_complete, KeepsGroups, MayCallBatched, after_at_batched}
 use Rattle.flow_block.specs.GroupsSeen.{WholeBefore, WholeStand, BatchedJoinsAreParts}
 use Rattle.flow_block.specs.Node.{NodeState, NodeCall, takes_in, gives_from, in_link_at, out_link_at}
 use Rattle.flow_block.specs.Planned.{block_makes}
 use Rattle.flow_block.specs.TuplesSeen.{IsPortsOf}
 use Rattle.flow_block.proofs.GroupsOfRows.{none_before, passes_before, every_of}
 use Rattle.flow_block.proofs.GroupsStand.{one_unfinished}
+use Rattle.flow_block.proofs.TuplesSeen.{left_shared}
 use Rattle.flow_block.proofs.RowsHold.{other_side, not_both_so, given_back}
 
 -- Each call
@@ -60,35 +61,37 @@ module _ (size : ℕ) where
 
 module _ {W : Type 0} (layout : Layout W) (meaning : ℕ → Value → Result (List Value) ℕ) (b size weight : ℕ) (order : List ℕ) where
   whole_after : (node : NodeState) (call : NodeCall) → KeepsGroups size order node.block node.journal
+      → MayCallBatched layout meaning b size order call node
       → WholeBefore (length node.block.ports) size node.journal
       → WholeBefore (length node.block.ports) size
       (after_at_batched size weight (block_makes layout meaning b) order call node).journal
-  whole_after node (NodeCall.want p k) groups law = law
-  whole_after node (NodeCall.turn_down p k) groups law = law
-  whole_after node (NodeCall.postpone p k) groups law = law
-  whole_after node (NodeCall.refuse p k) groups law = law
-  whole_after node (NodeCall.consume p k) groups law = law
-  whole_after node (NodeCall.open_with p k value) groups law = law
-  whole_after node (NodeCall.close p k) groups law =
+  whole_after node (NodeCall.want p k) groups may law = law
+  whole_after node (NodeCall.turn_down p k) groups may law = law
+  whole_after node (NodeCall.postpone p k) groups may law = law
+  whole_after node (NodeCall.refuse p k) groups may law = law
+  whole_after node (NodeCall.consume p k) groups may law = law
+  whole_after node (NodeCall.open_with p k value) groups may law = law
+  whole_after node (NodeCall.close p k) groups may law =
       taken_in size node (length node.block.ports) p k (hand_in k (port_at p node.block).ends) law
-  whole_after node (NodeCall.offer k) groups law = law
-  whole_after node (NodeCall.give k) groups law = given_out size order node k (head_of node.block.exits) refl groups law
-  whole_after node (NodeCall.deny k) groups law = law
-  whole_after node (NodeCall.withdraw k) groups law = law
-  whole_after node (NodeCall.end_link k how) groups law = law
-  whole_after node (NodeCall.look_in p k phase) groups law = law
-  whole_after node (NodeCall.look_out k phase) groups law = law
-  whole_after node NodeCall.begin groups law = law
-  whole_after node NodeCall.make groups law = law
-  whole_after node (NodeCall.complete p) groups law =
+  whole_after node (NodeCall.offer k) groups may law = law
+  whole_after node (NodeCall.give k) groups may law = given_out size order node k (head_of node.block.exits) refl groups law
+  whole_after node (NodeCall.deny k) groups may law = law
+  whole_after node (NodeCall.withdraw k) groups may law = law
+  whole_after node (NodeCall.end_link k how) groups may law = law
+  whole_after node (NodeCall.look_in p k phase) groups may law = law
+  whole_after node (NodeCall.look_out k phase) groups may law = law
+  whole_after node (NodeCall.copy call) groups may law = absurd may
+  whole_after node NodeCall.begin groups may law = law
+  whole_after node NodeCall.make groups may law = law
+  whole_after node (NodeCall.complete p) groups may law =
       none_given size (length node.block.ports) node.journal (Complete p) refl law
-  whole_after node (NodeCall.fault number) groups law =
+  whole_after node (NodeCall.fault number) groups may law =
       none_given size (length node.block.ports) node.journal (Fault number) refl law
-  whole_after node NodeCall.finish groups law = none_given size (length node.block.ports) node.journal Done refl law
+  whole_after node NodeCall.finish groups may law = none_given size (length node.block.ports) node.journal Done refl law
 
 pub whole_stand : (W : Type 0) → WholeStand W
 whole_stand W layout meaning b size weight order node call groups may law =
-    whole_after layout meaning b size weight order node call groups law
+    whole_after layout meaning b size weight order node call groups may law
 
 -- What a run tells
 
@@ -112,14 +115,14 @@ module _ {W : Type 0} (run : Run W) (b : ℕ) (node : NodeState) (part : IsPorts
   marks_are = ap (λ (t : BlockTrace). t.journal) part.trace
 
   left_is : left_at run b ≡ node.block.exits.left
-  left_is = ap (λ (t : BlockTrace). t.left) part.trace
+  left_is = ap (λ (t : BlockTrace). t.left) part.trace ∙ left_shared node.block part.shares
 
   held_is : (p : ℕ) → held_at run b p ≡ waits_at ports p
   held_is p =
       ap (λ (t : BlockTrace). get_or t.held p []) part.trace ∙ get_or-map (λ (port : PortState). port.waiting) ports p (fresh_port None)
 
   outputs_are : gave node.journal ++ node.block.exits.left ≡ outputs run b
-  outputs_are = sym (ap (λ (t : BlockTrace). gave t.journal ++ t.left) part.trace)
+  outputs_are = sym (ap₂ (λ (marks : List Mark) (left : List Value). gave marks ++ left) marks_are left_is)
 
   numbers_are : ports_of run b ≡ below (length ports)
   numbers_are = ap below (sym part.count)

@@ -192,6 +192,7 @@ module _ {W : Type 0} (layout : Layout W) (meaning : ℕ → Value → Result (L
   after_each node (NodeCall.end_link k how) law may = exits_stay size some order node law (ends_link k how node.block.exits) refl
   after_each node (NodeCall.look_in p k phase) law may = port_stays size some order node law p (port_looks k phase) refl
   after_each node (NodeCall.look_out k phase) law may = exits_stay size some order node law (exit_looks k phase node.block.exits) refl
+  after_each node (NodeCall.copy call) law may = absurd may
   after_each node NodeCall.begin law may = law
   after_each node NodeCall.make law may = group_made size some order weight node law may
   after_each node (NodeCall.complete p) law may =

@@ -16,7 +16,7 @@ use Rattle.flow_link.specs.Layout.{Layout}
 use Rattle.flow_link.specs.Lists.{every}
 use Rattle.flow_link.specs.Plan.{has_work}
 use Rattle.flow_link.specs.Trace.{took}
-use Rattle.flow_link.specs.NotBuilt.{is_built_kind}
+use Rattle.flow_block.specs.Kinds.{is_kept_kind}
 use Rattle.flow_link.proofs.ListTests.{never_both}
 use Rattle.flow_link.proofs.OneMoreMark.{took_no_more, took_by_took, took_by_gave}
 use Rattle.flow_intake.specs.Port.{PortState, fresh_port, hand_in}
@@ -245,7 +245,7 @@ module _ {W : Type 0} (layout : Layout W) (meaning : ℕ → Value → Result (L
   results_kept : (kind : BlockKind) (values : List Value) (block : BlockState) (journal : List Mark) (value : Value)
       (rest : List Value)
       → block.kind ≡ kind → length block.ports ≡ 1 → held_by block ≡ value ∷ rest
-      → is_built_kind kind ≡ true → is_batch kind ≡ false → (works : Bool) → has_work kind ≡ works
+      → is_kept_kind kind ≡ true → is_batch kind ≡ false → (works : Bool) → has_work kind ≡ works
       → every is_none block.jobs.slots ≡ true
       → Jobs block journal → Jobs (keeps_results kind values block) journal
   results_kept Action values block journal value rest same one first built other works is out law =
@@ -268,7 +268,7 @@ module _ {W : Type 0} (layout : Layout W) (meaning : ℕ → Value → Result (L
 
   yielded : (block : BlockState) (journal : List Mark) (value : Value) (rest : List Value)
       (made : Result (List Value) ℕ)
-      → length block.ports ≡ 1 → is_built_kind block.kind ≡ true → is_batch block.kind ≡ false
+      → length block.ports ≡ 1 → is_kept_kind block.kind ≡ true → is_batch block.kind ≡ false
       → held_by block ≡ value ∷ rest
       → every is_none block.jobs.slots ≡ true → Jobs block journal → Jobs (yields made block) journal
   yielded block journal value rest (Ok values) one built other first out law =
@@ -286,7 +286,7 @@ module _ {W : Type 0} (layout : Layout W) (meaning : ℕ → Value → Result (L
       }
 
   made_next : (block : BlockState) (journal : List Mark) (held : List Value) → held_by block ≡ held
-      → length block.ports ≡ 1 → is_built_kind block.kind ≡ true → is_batch block.kind ≡ false
+      → length block.ports ≡ 1 → is_kept_kind block.kind ≡ true → is_batch block.kind ≡ false
       → every is_none block.jobs.slots ≡ true → Jobs block journal
       → Jobs (makes_of (block_makes layout meaning b) (first_of held) block) journal
   made_next block journal [] is one built other out law = law

@@ -1,18 +1,28 @@
--- What holds of each kind that is built: it has one port, and makes rows or something of its first message.
+-- What holds of each kind that is kept in order: it has one port, and makes rows or something of its first message.
 use Rattle.std.proofs.Common.{◌≡◌, ℕ, Bool, true, false, cond, length, [], ◌∷◌, Option, Some, None, Result, Ok, Err, refl, ap, sym, ◌∙◌, List}
 use Rattle.flow_value.specs.declared.value.Value.{Value}
 use Rattle.flow_link.specs.declared.draft.BlockKind.{BlockKind}
 use Rattle.flow_link.specs.declared.draft.BlockKind.TheVariants.{Buffer, Action, Transform, TransformMany, Batch}
 use Rattle.flow_link.specs.Layout.{Layout}
-use Rattle.flow_link.specs.Plan.{block_in, ports_by_kind, has_work, is_broadcast}
 use Rattle.flow_link.specs.NotBuilt.{is_built_kind}
+use Rattle.flow_link.specs.Plan.{block_in, ports_by_kind, has_work, is_broadcast}
+use Rattle.flow_block.specs.Kinds.{is_kept_kind}
 use Rattle.flow_intake.specs.Calls.{first_of}
 use Rattle.flow_block.specs.Block.{BlockState, held_by, is_batch, made_of, makes_row, keeps_results, yields, copies_next, makes_of, makes_other, makes}
 use Rattle.flow_block.specs.NodeLaw.{ShapeLaw}
 
--- what holds of buffers, actions, both transforms and batches holds of each kind that is built
+-- each kind of which a plan may be made is kept in order
+pub built_kept : (kind : BlockKind) → is_built_kind kind ≡ true → is_kept_kind kind ≡ true
+built_kept Buffer e = refl
+built_kept Action e = refl
+built_kept Transform e = refl
+built_kept TransformMany e = refl
+built_kept Batch e = refl
+built_kept _ e = absurd (cc)
+
+-- what holds of buffers, actions, both transforms and batches holds of each kind that is kept in order
 pub by_kind : (P : BlockKind → Type 0) → P Buffer → P Action → P Transform → P TransformMany → P Batch → (kind : BlockKind)
-    → is_built_kind kind ≡ true → P kind
+    → is_kept_kind kind ≡ true → P kind
 by_kind P buffer action transform many batch Buffer e = buffer
 by_kind P buffer action transform many batch Action e = action
 by_kind P buffer action transform many batch Transform e = transform
@@ -69,11 +79,11 @@ made_kind result (Some value) block = yields_kind (made_of block.kind result val
 
 module _ {W : Type 0} (layout : Layout W) (meaning : ℕ → Value → Result (List Value) ℕ) (b : ℕ) (block : BlockState)
     (shape : ShapeLaw layout meaning b block) where
-  pub planned_built : is_built_kind (block_in layout.blocks b).kind ≡ true
-  planned_built = ap is_built_kind (sym shape.kind_is) ∙ shape.built
+  pub planned_kept : is_kept_kind (block_in layout.blocks b).kind ≡ true
+  planned_kept = ap is_kept_kind (sym shape.kind_is) ∙ shape.built
 
   pub has_one_port : length block.ports ≡ 1
   has_one_port =
       shape.port_count_is
       ∙ by_kind (λ kind. ports_by_kind kind (block_in layout.blocks b).ports ≡ 1) refl refl refl refl refl
-      (block_in layout.blocks b).kind planned_built
+      (block_in layout.blocks b).kind planned_kept

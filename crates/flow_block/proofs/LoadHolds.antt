@@ -14,7 +14,7 @@ use Rattle.flow_link.specs.Layout.{Layout}
 use Rattle.flow_link.specs.Making.{result_of, row_weight}
 use Rattle.flow_link.specs.Plan.{block_in}
 use Rattle.flow_link.specs.Trace.{took, gave}
-use Rattle.flow_link.specs.NotBuilt.{is_built_kind}
+use Rattle.flow_block.specs.Kinds.{is_kept_kind}
 use Rattle.flow_link.proofs.OneMoreMark.{took_no_more, gave_no_more, took_by_took, gave_by_took, took_by_gave, gave_by_gave}
 use Rattle.flow_intake.specs.Port.{PortState, fresh_port}
 use Rattle.flow_intake.specs.Calls.{first_of, one_more, wants, turns_down, postpones, refuses, consumes, opens, closes, looks as port_looks, takes_next, gives_room, port_closes, port_fails}
@@ -52,7 +52,7 @@ transformed_is_one (Ok (value ∷ [])) values e = let same : values ≡ value �
 transformed_is_one (Ok (value ∷ next ∷ more)) values e = absurd (cc)
 
 made_by_kind : (kind : BlockKind) (raw : Value → Result (List Value) ℕ) (value : Value) (values : List Value)
-    → is_built_kind kind ≡ true → made_of kind (λ v. result_of kind (raw v)) value ≡ Ok values
+    → is_kept_kind kind ≡ true → made_of kind (λ v. result_of kind (raw v)) value ≡ Ok values
     → is_action kind ≡ false → is_many kind ≡ false → is_batch kind ≡ false → length values ≡ 1
 made_by_kind Buffer raw value values built e other single alone = let same : values ≡ value ∷ [] = cc in rw same refl
 made_by_kind Action raw value values built e other single alone = absurd (cc)
@@ -61,7 +61,7 @@ made_by_kind TransformMany raw value values built e other single alone = absurd 
 made_by_kind kind raw value values built e other single alone = absurd (cc)
 
 made_is_one : (kind planned : BlockKind) (raw : Value → Result (List Value) ℕ) (value : Value) (values : List Value)
-    → kind ≡ planned → is_built_kind kind ≡ true → made_of kind (λ v. result_of planned (raw v)) value ≡ Ok values
+    → kind ≡ planned → is_kept_kind kind ≡ true → made_of kind (λ v. result_of planned (raw v)) value ≡ Ok values
     → is_action kind ≡ false → is_many kind ≡ false → is_batch kind ≡ false → length values ≡ 1
 made_is_one kind planned raw value values same built e other single alone =
     made_by_kind kind raw value values built

@@ -15,7 +15,7 @@ use Rattle.flow_link.specs.Making.{all_items, items_of}
 use Rattle.flow_link.specs.Plan.{has_work}
 use Rattle.flow_link.specs.Trace.{took, gave}
 use Rattle.flow_link.specs.Worked.{WorkedInto}
-use Rattle.flow_link.specs.NotBuilt.{is_built_kind}
+use Rattle.flow_block.specs.Kinds.{is_kept_kind}
 use Rattle.flow_link.proofs.OneMoreMark.{took_no_more, gave_no_more, took_by_took, gave_by_took, took_by_gave, gave_by_gave}
 use Rattle.flow_link.proofs.OneMoreWorked.{worked_more}
 use Rattle.flow_intake.specs.Port.{PortState, fresh_port, hand_in}
@@ -148,7 +148,7 @@ record Fails (result : Value → Result (List Value) ℕ) (kind : BlockKind) (va
   fails : result value ≡ Err number
 
 fails_so : (result : Value → Result (List Value) ℕ) (kind : BlockKind) (value : Value) (number : ℕ)
-    → is_built_kind kind ≡ true → is_batch kind ≡ false → made_of kind result value ≡ Err number
+    → is_kept_kind kind ≡ true → is_batch kind ≡ false → made_of kind result value ≡ Err number
     → Fails result kind value number
 fails_so result Buffer value number built other made = absurd (cc)
 fails_so result Action value number built other made = record { works = refl; fails = made }
@@ -285,7 +285,7 @@ module _ {W : Type 0} (layout : Layout W) (meaning : ℕ → Value → Result (L
 
   kept_as : (kind : BlockKind) (block : BlockState) (journal : List Mark) (value : Value) (rest values : List Value)
       → block.kind ≡ kind
-      → is_built_kind kind ≡ true → is_batch kind ≡ false → length block.ports ≡ 1 → block.fault ≡ None
+      → is_kept_kind kind ≡ true → is_batch kind ≡ false → length block.ports ≡ 1 → block.fault ≡ None
       → held_by block ≡ value ∷ rest
       → made_of kind (block_makes layout meaning b) value ≡ Ok values → MakesLaw layout meaning b block journal
       → MakesLaw layout meaning b (keeps_results kind values block) journal
@@ -312,7 +312,7 @@ module _ {W : Type 0} (layout : Layout W) (meaning : ℕ → Value → Result (L
   yielded : (block : BlockState) (journal : List Mark) (value : Value) (rest : List Value)
       (made : Result (List Value) ℕ)
       → length block.ports ≡ 1 → block.fault ≡ None → held_by block ≡ value ∷ rest
-      → is_built_kind block.kind ≡ true → is_batch block.kind ≡ false
+      → is_kept_kind block.kind ≡ true → is_batch block.kind ≡ false
       → made_of block.kind (block_makes layout meaning b) value ≡ made → MakesLaw layout meaning b block journal
       → MakesLaw layout meaning b (yields made block) journal
   yielded block journal value rest (Ok values) one none first built other is law =
@@ -332,7 +332,7 @@ module _ {W : Type 0} (layout : Layout W) (meaning : ℕ → Value → Result (L
       }
 
   made_next : (block : BlockState) (journal : List Mark) (held : List Value) → held_by block ≡ held
-      → length block.ports ≡ 1 → block.fault ≡ None → is_built_kind block.kind ≡ true → is_batch block.kind ≡ false
+      → length block.ports ≡ 1 → block.fault ≡ None → is_kept_kind block.kind ≡ true → is_batch block.kind ≡ false
       → MakesLaw layout meaning b block journal
       → MakesLaw layout meaning b (makes_of (block_makes layout meaning b) (first_of held) block) journal
   made_next block journal [] is one none built other law = law

@@ -26,7 +26,7 @@ use Rattle.flow_link.specs.Stage.{source_stage_of, target_stage_of, refusal_of}
 use Rattle.flow_link.specs.Trace.{BlockTrace, Run, took, gave, gave_over, took_over, has_complete, has_fault, has_ended, is_done, is_faulted, is_used_up, is_cut, block_of, link_of, link_numbers, trace_of, marks_of, held_at, left_at, ports_of, given_by}
 use Rattle.flow_link.specs.Views as views
 use Rattle.flow_link.specs.Worked.{WorkedInto}
-use Rattle.flow_link.specs.NotBuilt.{is_built_kind}
+use Rattle.flow_block.specs.Kinds.{is_kept_kind}
 use Rattle.flow_link.proofs.RoundsOfWalks.{some_here_below}
 use Rattle.flow_link.proofs.ListTests.{or_not, every_below, every_weaker_below, length_numbers, or_others, same_values_where}
 use Rattle.flow_intake.specs.Port.{EndState, PortState, end_in, fresh_end, fresh_port, coming as coming_at, is_coming as is_coming_at}
@@ -45,7 +45,7 @@ use Rattle.flow_block.specs.Planned.{out_place, in_place, block_makes}
 use Rattle.flow_block.proofs.CopiesIdle.{left_is_shared}
 use Rattle.flow_block.proofs.EndsTell.{ended_complete, ended_fault, ended_plain, used_up_told, ended_stage, refused_told, spoken_is_out, refusal_told, coming_told, completion_told, fault_told}
 use Rattle.flow_block.proofs.JournalTells.{stopped_tells, every_mark, complete_own, done_outcome, done_marked, fault_marked, passed_by}
-use Rattle.flow_block.proofs.KindsBuilt.{by_kind, planned_built}
+use Rattle.flow_block.proofs.KindsBuilt.{by_kind, planned_kept}
 use Rattle.flow_block.proofs.NodesSeen.{held_is, none_held, own_fault_is, complete_is, load_is}
 use Rattle.flow_block.proofs.PlacesOfLinks.{IsEndIn, HasEndOut, end_in_is, end_in_of, end_out_is, end_out_of, count_of_links, there_at_port, there_at_block, source_there}
 use Rattle.flow_block.proofs.TestsTell.{some_tells}
@@ -113,8 +113,8 @@ module _ {W : Type 0} (run : Run W) (ends : ℕ → Ends) (b : ℕ) (node : Node
       → HasEndOut run.layout run.meaning b node.block law.shape l
   from_has l small begins = end_out_of run.layout run.meaning b node.block law.shape l small begins
 
-  plain : is_built_kind (block_of run b).kind ≡ true
-  plain = planned_built run.layout run.meaning b node.block law.shape
+  plain : is_kept_kind (block_of run b).kind ≡ true
+  plain = planned_kept run.layout run.meaning b node.block law.shape
 
   marks_are : marks_of run b ≡ node.journal
   marks_are = ap (λ (t : BlockTrace). t.journal) is.trace
@@ -149,7 +149,7 @@ module _ {W : Type 0} (run : Run W) (ends : ℕ → Ends) (b : ℕ) (node : Node
   outputs_are = sym (ap (λ (t : BlockTrace). gave t.journal ++ t.left) is.trace
       ∙ ap (λ (left : List Value). gave node.journal ++ left) (left_is_shared run.layout run.meaning b node law))
 
-  makes_by : (kind : BlockKind) → is_built_kind kind ≡ true
+  makes_by : (kind : BlockKind) → is_kept_kind kind ≡ true
       → (is_batch kind ≡ true → RowsLaw node.block.size node.journal (held_by node.block) node.block.exits.left)
       → MakesAsKind kind → NodeMakes run ends b kind
   makes_by Buffer built rows makes =

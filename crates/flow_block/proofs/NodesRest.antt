@@ -22,7 +22,7 @@ use Rattle.flow_link.specs.RestsByParts.{OutletRests, KindRests, NodeRests, is_o
 use Rattle.flow_link.specs.Stage.{source_stage_of, target_stage_of}
 use Rattle.flow_link.specs.Trace.{BlockTrace, Run, gave_over, given_by, given_over, took_at, has_complete, has_fault, has_ended, is_faulted, is_done, is_used_up, is_cut as is_run_cut, block_of, link_of, marks_of, held_at, left_at, ports_of}
 use Rattle.flow_link.specs.Views.{SourceStage as SourceViewStage, SourceView, TargetView}
-use Rattle.flow_link.specs.NotBuilt.{is_built_kind}
+use Rattle.flow_block.specs.Kinds.{is_kept_kind}
 use Rattle.flow_link.proofs.ListTests.{never_both, passes_below, unless_done}
 use Rattle.flow_intake.specs.Port.{EndState, PortState, fresh_port, fresh_end, hand_in, stage_at as port_stage, coming, has_room, is_below}
 use Rattle.flow_intake.specs.PortLaw.{has_ended as has_port_ended}
@@ -46,7 +46,7 @@ use Rattle.flow_block.proofs.EndsTell.{limit_is, no_room_left, free_back, postpo
 use Rattle.flow_block.proofs.FaultsSeen.{not_seen_at_ends, not_seen_at_ports}
 use Rattle.flow_block.proofs.GoingOn.{open_goes_on}
 use Rattle.flow_block.proofs.JournalTells.{stopped_tells, fault_marked, faulted_marked, none_stopped, stopped_ends, ended_by_complete}
-use Rattle.flow_block.proofs.KindsBuilt.{by_kind, planned_built, has_one_port}
+use Rattle.flow_block.proofs.KindsBuilt.{by_kind, planned_kept, has_one_port}
 use Rattle.flow_block.proofs.NodesSeen.{held_is, none_held, own_fault_is, complete_is, load_is}
 use Rattle.flow_block.proofs.NothingToDo.{worked_off, none_seen, no_coming, free_at, waiting_goes, not_admitted, not_finished, left_where}
 use Rattle.flow_block.proofs.PlacesOfLinks.{end_in_of, end_out_of}
@@ -96,8 +96,8 @@ module _ {W : Type 0} (run : Run W) (ends : ℕ → Ends) (b : ℕ) (node : Node
   abbrev kind : BlockKind
   kind = (block_of run b).kind
 
-  built : is_built_kind kind ≡ true
-  built = planned_built run.layout run.meaning b own law.shape
+  built : is_kept_kind kind ≡ true
+  built = planned_kept run.layout run.meaning b own law.shape
 
   marks_are : marks_of run b ≡ node.journal
   marks_are = ap (λ (t : BlockTrace). t.journal) part.trace
@@ -141,7 +141,7 @@ module _ {W : Type 0} (run : Run W) (ends : ℕ → Ends) (b : ℕ) (node : Node
       (ap₂ (λ (complete none : Bool). not complete || none) completed_as held_as ∙ both.1)
 
   -- a block of its kind that could make nothing more rests
-  rests_by : (k : BlockKind) → is_built_kind k ≡ true
+  rests_by : (k : BlockKind) → is_kept_kind k ≡ true
       → cond (is_batch k) (ltb (length (held_by own)) own.size && (not (has_complete 0 node.journal) || is_empty (held_by own)))
       (holds_nothing own.ports) ≡ true
       → rests_as run k b ≡ true

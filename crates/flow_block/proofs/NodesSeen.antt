@@ -21,7 +21,7 @@ use Rattle.flow_block.specs.NodeSeen.{IsNodeOf}
 use Rattle.flow_block.specs.Peeks.{holds_nothing}
 use Rattle.flow_block.specs.Planned.{block_makes}
 use Rattle.flow_block.proofs.CopiesIdle.{left_is_shared}
-use Rattle.flow_block.proofs.KindsBuilt.{by_kind, planned_built}
+use Rattle.flow_block.proofs.KindsBuilt.{by_kind, planned_kept}
 use Rattle.flow_block.proofs.TestsTell.{every_tells, none_left}
 use Rattle.flow_block.proofs.WeightsOfResults.{weight_weighed, weight_rows, weight_partial}
 
@@ -51,7 +51,7 @@ module _ {W : Type 0} (run : Run W) (ends : ℕ → Ends) (b : ℕ) (node : Node
   pub complete_is : is_complete run b ≡ every (λ p. has_complete p (marks_of run b)) (ports_of run b)
   complete_is =
       by_kind (λ kind. is_complete_as run kind b ≡ every (λ p. has_complete p (marks_of run b)) (ports_of run b))
-      refl refl refl refl refl (block_of run b).kind (planned_built run.layout run.meaning b node.block law.shape)
+      refl refl refl refl refl (block_of run b).kind (planned_kept run.layout run.meaning b node.block law.shape)
 
   -- how a block of this kind has its messages counted
   abbrev LoadIs : ℕ → BlockKind → Type 0
@@ -109,7 +109,7 @@ module _ {W : Type 0} (run : Run W) (ends : ℕ → Ends) (b : ℕ) (node : Node
       by_kind (LoadIs p) (load_of_left p limited) (load_of_left p limited) (load_of_left p limited)
       (λ partial. ap₂ (λ (held : List Value) (left : ℕ). length held + left) (held_is p) (part_left_is limited partial))
       (load_of_rows p limited)
-      (block_of run b).kind (planned_built run.layout run.meaning b node.block law.shape)
+      (block_of run b).kind (planned_kept run.layout run.meaning b node.block law.shape)
       (subst (λ (kind : BlockKind). WeighsAs (block_makes run.layout run.meaning b) kind (block_of run b).capacity
       (took node.journal) (held_by node.block) (gave node.journal) node.block.exits.left node.block.exits.next
       node.block.exits.groups) law.shape.kind_is law.load.groups)

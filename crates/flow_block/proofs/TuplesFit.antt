@@ -27,12 +27,15 @@ one_less None waiting weight more load few some out = omega arith
 one_less (Some room) [] weight more load few some out = absurd (cc)
 one_less (Some room) (value ∷ waiting) weight more load few some out = omega (arith, few, out)
 
-weight_fits : (capacity : Option ℕ) (waiting : List Value) (weight load : ℕ) → not (is_empty waiting) ≡ true
-    → cond (is_some capacity) (length waiting + weight) 0 ≤ load → cond (is_some capacity) load 0 < 2 ^ 32 → weight < 2 ^ 32
-    → weight + unit_weight capacity < 2 ^ 32
-weight_fits None waiting weight load some out small few = omega (arith, few)
-weight_fits (Some room) [] weight load some out small few = absurd (cc)
-weight_fits (Some room) (value ∷ waiting) weight load some out small few = omega (arith, out, small)
+weight_fits : (capacity : Option ℕ) (waiting : List Value) (weight copied load : ℕ) → not (is_empty waiting) ≡ true
+    → cond (is_some capacity) (length waiting + (weight + copied)) 0 ≤ load → cond (is_some capacity) load 0 < 2 ^ 32
+    → weight + 0 < 2 ^ 32 → weight + unit_weight capacity < 2 ^ 32
+weight_fits None waiting weight copied load some out small few = omega (arith, few)
+weight_fits (Some room) [] weight copied load some out small few = absurd (cc)
+weight_fits (Some room) (value ∷ waiting) weight copied load some out small few = omega (arith, out, small)
+
+with_copied : (room weight copied more : ℕ) (now : ℕ) → now ≡ room + weight + more → room + weight + copied + more ≡ now + copied
+with_copied room weight copied more now e = omega (arith, e)
 
 -- All ports
 
@@ -52,7 +55,7 @@ first_out weight [] some all = absurd (omega (arith, some))
 first_out weight (port ∷ ports) some all = all.0
 
 -- there is room for the weight of a tuple, and it is room that its ports gave out
-module _ {ports : List PortState} {exits : OutletState} (fits : BlockFits ports exits) (some : 0 < length ports)
+module _ {ports : List PortState} {exits : OutletState} {copied : ℕ} (fits : BlockFits ports exits copied) (some : 0 < length ports)
     (waits : has_tuple ports ≡ true) (seen : PortState) (seen_is : seen ≡ get_or ports 0 seen)
     (small : cond (is_some seen.capacity) seen.load 0 < 2 ^ 32) where
   is_first : seen ≡ port_in ports 0
@@ -60,19 +63,19 @@ module _ {ports : List PortState} {exits : OutletState} (fits : BlockFits ports 
 
   pub tuple_fits : exits.room + weight_of exits.groups + unit_weight seen.capacity < 2 ^ 32
   tuple_fits =
-      weight_fits seen.capacity seen.waiting (weight_out exits) seen.load
+      weight_fits seen.capacity seen.waiting (exits.room + weight_of exits.groups) copied seen.load
       (subst (λ (port : PortState). not (is_empty port.waiting) ≡ true) (sym is_first) (first_waits ports some waits))
-      (subst (λ (port : PortState). GaveOut (weight_out exits) port) (sym is_first)
-      (first_out (weight_out exits) ports some fits.room))
+      (subst (λ (port : PortState). GaveOut (weight_out exits copied) port) (sym is_first)
+      (first_out (weight_out exits copied) ports some fits.room))
       small fits.few
 
-  pub fits_tuple : (row : Value) → BlockFits (takes_tuple ports) (puts (row ∷ []) (unit_weight seen.capacity) exits)
+  pub fits_tuple : (row : Value) → BlockFits (takes_tuple ports) (puts (row ∷ []) (unit_weight seen.capacity) exits) copied
   fits_tuple row =
       let weights = room_put (exits.next + length exits.left) 1 (unit_weight seen.capacity) exits.room exits.groups in
       let few = tuple_fits in
       record {
-        room = subst (λ (weight : ℕ). AllGaveOut weight (takes_tuple ports)) (sym weights)
-            (all_less (weight_out exits) (unit_weight seen.capacity) ports (at_most_one seen.capacity) waits fits.room);
+        room = subst (λ (weight : ℕ). AllGaveOut weight (takes_tuple ports)) (with_copied _ _ copied _ _ weights)
+            (all_less (weight_out exits copied) (unit_weight seen.capacity) ports (at_most_one seen.capacity) waits fits.room);
         few = omega (arith, weights, few);
       }
 

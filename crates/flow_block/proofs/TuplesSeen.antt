@@ -5,11 +5,13 @@ use Rattle.std.proofs.lemmas.Bool.{and_from}
 use Rattle.std.specs.List.{list_all, list_any}
 use Rattle.flow_value.specs.declared.value.Value.{Value}
 use Rattle.flow_link.specs.declared.draft.BlockKind.TheVariants.{Join}
+use Rattle.flow_link.specs.declared.trace.Mark.{Mark}
 use Rattle.flow_link.specs.Endings.{is_complete_as}
 use Rattle.flow_link.specs.Lists.{every, some, below, numbers_from, is_empty, same_values}
 use Rattle.flow_link.specs.Making.{is_row, column, outputs, join_makes, load_as}
+use Rattle.flow_link.specs.Plan.{is_one_taker}
 use Rattle.flow_link.specs.Quiet.{has_no_row}
-use Rattle.flow_link.specs.Trace.{BlockTrace, Run, took_at, gave, has_complete, block_of, marks_of, held_at, ports_of}
+use Rattle.flow_link.specs.Trace.{BlockTrace, Run, took_at, gave, has_complete, block_of, marks_of, held_at, left_at, ports_of}
 use Rattle.flow_link.proofs.ListTests.{every_below, length_numbers, same_values_where}
 use Rattle.flow_link.proofs.RoundsOfWalks.{some_here_below}
 use Rattle.flow_intake.specs.Port.{PortState, fresh_port}
@@ -18,8 +20,8 @@ use Rattle.flow_outlet.specs.Fits.{weight_of}
 use Rattle.flow_group.specs.Taken.{HasEmptyPort}
 use Rattle.flow_group.specs.Tuple.{held_at as waits_at, has_run_dry, has_tuple, is_join_complete}
 use Rattle.flow_group.proofs.PortsTaken.{nothing_more}
-use Rattle.flow_block.specs.Block.{port_in, port_at}
-use Rattle.flow_block.specs.Node.{NodeState}
+use Rattle.flow_block.specs.Block.{BlockState, port_in, port_at}
+use Rattle.flow_block.specs.Node.{NodeState, left_in}
 use Rattle.flow_block.specs.NodeLaw.{weighed}
 use Rattle.flow_block.specs.TuplesKeep.{KeepsTuples}
 use Rattle.flow_block.specs.TuplesSeen.{IsPortsOf, EndsByComplete, JoinsAreParts}
@@ -47,6 +49,10 @@ some_port test by_place first (port ∷ ports) same =
     ap₂ (λ (a b : Bool). a || b) (ap by_place here ∙ same 0 (omega arith))
     (some_port test by_place (suc first) ports (λ p there. ap by_place (next p) ∙ same (suc p) (omega (arith, there))))
 
+-- what a block has left that shares its messages out
+pub left_shared : (block : BlockState) → is_one_taker block.kind ≡ true → left_in block ≡ block.exits.left
+left_shared block shares = rw shares refl
+
 module _ {W : Type 0} (run : Run W) (b : ℕ) (node : NodeState) (part : IsPortsOf run b node) where
   abbrev ports : List PortState
   ports = node.block.ports
@@ -54,12 +60,15 @@ module _ {W : Type 0} (run : Run W) (b : ℕ) (node : NodeState) (part : IsPorts
   marks_are : marks_of run b ≡ node.journal
   marks_are = ap (λ (t : BlockTrace). t.journal) part.trace
 
+  left_is : left_at run b ≡ node.block.exits.left
+  left_is = ap (λ (t : BlockTrace). t.left) part.trace ∙ left_shared node.block part.shares
+
   held_is : (p : ℕ) → held_at run b p ≡ waits_at ports p
   held_is p =
       ap (λ (t : BlockTrace). get_or t.held p []) part.trace ∙ get_or-map (λ (port : PortState). port.waiting) ports p (fresh_port None)
 
   outputs_are : gave node.journal ++ node.block.exits.left ≡ outputs run b
-  outputs_are = sym (ap (λ (t : BlockTrace). gave t.journal ++ t.left) part.trace)
+  outputs_are = sym (ap₂ (λ (marks : List Mark) (left : List Value). gave marks ++ left) marks_are left_is)
 
   numbers_are : ports_of run b ≡ below (length ports)
   numbers_are = ap below (sym part.count)
@@ -86,7 +95,7 @@ module _ {W : Type 0} (run : Run W) (b : ℕ) (node : NodeState) (part : IsPorts
       → node.block.exits.groups ≡ weighed (block_of run b).capacity node.block.exits.next node.block.exits.left
       → load_as run b Join p ≡ length (port_at p node.block).waiting + weight_of node.block.exits.groups
   load_so p limited weighs =
-      ap₂ (λ (held left : List Value). length held + length left) (held_is p) (ap (λ (t : BlockTrace). t.left) part.trace)
+      ap₂ (λ (held left : List Value). length held + length left) (held_is p) left_is
       ∙ ap (λ (n : ℕ). length (port_at p node.block).waiting + n)
       (sym (ap weight_of weighs
       ∙ weight_weighed (block_of run b).capacity node.block.exits.next node.block.exits.left limited))

@@ -136,6 +136,7 @@ module _ {W : Type 0} (layout : Layout W) (meaning : ℕ → Value → Result (L
   after_each node (NodeCall.end_link k how) law may = exits_stay node law (ends_link k how node.block.exits) refl
   after_each node (NodeCall.look_in p k phase) law may = port_stays node law p (port_looks k phase) refl
   after_each node (NodeCall.look_out k phase) law may = exits_stay node law (exit_looks k phase node.block.exits) refl
+  after_each node (NodeCall.copy call) law may = absurd may
   after_each node NodeCall.begin law may = law
   after_each node NodeCall.make law may = tuple_made node law may.waits
   after_each node (NodeCall.complete p) law may = completed node law p

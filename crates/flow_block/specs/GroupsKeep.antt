@@ -61,6 +61,7 @@ module _ {W : Type 0} (layout : Layout W) (meaning : ℕ → Value → Result (L
   abbrev pub MayCallBatched : List ℕ → NodeCall → NodeState → Type 0
   MayCallBatched order NodeCall.make node = has_group size (are_complete (length node.block.ports) node.journal) order ≡ true
   MayCallBatched order (NodeCall.close p k) node = MayTake p k node
+  MayCallBatched order (NodeCall.copy call) node = ⊥
   MayCallBatched order call node = MayCall layout meaning b call node
 
 -- each call keeps the groups of a batched join

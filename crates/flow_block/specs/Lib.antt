@@ -13,6 +13,7 @@ pub mod Jobs
 pub mod JobsEnd
 pub mod JobsOut
 pub mod JournalFits
+pub mod Kinds
 pub mod NextMoves
 pub mod Node
 pub mod NodeKeeps

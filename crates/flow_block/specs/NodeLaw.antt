@@ -22,7 +22,7 @@ use Rattle.flow_link.specs.Making.{all_items, are_groups, row_weight, before_com
 use Rattle.flow_link.specs.Plan.{block_in, port_count, has_work, is_one_taker}
 use Rattle.flow_link.specs.Trace.{Run, took, took_at, gave, gave_over, has_complete, has_fault, has_ended, is_done}
 use Rattle.flow_link.specs.Worked.{WorkedInto}
-use Rattle.flow_link.specs.NotBuilt.{is_built_kind}
+use Rattle.flow_block.specs.Kinds.{is_kept_kind}
 use Rattle.flow_intake.specs.Port.{EndState, PortState, stage_at as port_stage}
 use Rattle.flow_intake.specs.PortLaw.{PortLaw, has_ended as has_port_ended}
 use Rattle.flow_intake.specs.Ended.{has_seen_completion, fault_seen}
@@ -161,7 +161,7 @@ module _ {W : Type 0} (layout : Layout W) (meaning : ℕ → Value → Result (L
 
   -- the block is of a kind that is built, and has the ports and links that the plan gives it
   pub record ShapeLaw (block : BlockState) : Type 0 where
-    pub built : is_built_kind block.kind ≡ true
+    pub built : is_kept_kind block.kind ≡ true
     pub kind_is : block.kind ≡ (block_in layout.blocks b).kind
     pub size_is : block.size ≡ size_of layout b
     pub some_size : is_batch block.kind ≡ true → 0 < block.size

@@ -35,6 +35,7 @@ after_at_join result call node = after result call node
 module _ {W : Type 0} (layout : Layout W) (meaning : ℕ → Value → Result (List Value) ℕ) (b : ℕ) where
   abbrev pub MayCallJoin : NodeCall → NodeState → Type 0
   MayCallJoin NodeCall.make node = MayMakeTuple node
+  MayCallJoin (NodeCall.copy call) node = ⊥
   MayCallJoin call node = MayCall layout meaning b call node
 
   abbrev pub after_join_call : NodeCall → NodeState → NodeState

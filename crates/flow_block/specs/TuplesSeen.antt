@@ -3,7 +3,7 @@ use Rattle.std.specs.Prelude.{◌≡◌, ℕ, ◌+◌, ◌<◌, true, false, len
 use Rattle.flow_link.specs.declared.draft.BlockKind.TheVariants.{Join}
 use Rattle.flow_link.specs.Endings.{is_complete_as}
 use Rattle.flow_link.specs.Making.{join_makes, load_as}
-use Rattle.flow_link.specs.Plan.{port_count}
+use Rattle.flow_link.specs.Plan.{port_count, is_one_taker}
 use Rattle.flow_link.specs.Quiet.{has_no_row}
 use Rattle.flow_link.specs.Trace.{Run, has_complete, block_of, trace_of}
 use Rattle.flow_intake.specs.PortLaw.{has_ended}
@@ -15,10 +15,11 @@ use Rattle.flow_block.specs.NodeLaw.{weighed}
 use Rattle.flow_block.specs.TuplesKeep.{KeepsTuples}
 
 module _ {W : Type 0} (run : Run W) (b : ℕ) (node : NodeState) where
-  -- the node's trace is the block's, and it has as many ports as the plan says
+  -- the node's trace is the block's, it has as many ports as the plan says, and shares its messages out
   pub record IsPortsOf : Type 0 where
     pub trace : trace_of run b ≡ node_trace node
     pub count : length node.block.ports ≡ port_count (block_of run b)
+    pub shares : is_one_taker node.block.kind ≡ true
 
   -- a port has ended just where its journal has the port's Complete: the block has not stopped
   abbrev pub EndsByComplete : Type 0

@@ -7,7 +7,7 @@ use Rattle.flow_link.specs.declared.phase.Phase.{Phase}
 use Rattle.flow_link.specs.Layout.{Layout}
 use Rattle.flow_link.specs.Phase.{phase_after}
 use Rattle.flow_link.specs.Plan.{block_in, link_in, has_work}
-use Rattle.flow_link.specs.NotBuilt.{is_built_kind}
+use Rattle.flow_block.specs.Kinds.{is_kept_kind}
 use Rattle.flow_block.specs.Block.{BlockState, held_by}
 use Rattle.flow_block.specs.Jobs.{is_front_back, is_out}
 use Rattle.flow_block.specs.Peeks.{may_make, may_begin, may_end, may_complete, next_fault, may_finish}
@@ -49,7 +49,7 @@ module _ {W : Type 0} (layout : Layout W) (net : NetState) where
 -- a block is of a kind that is built, as the plan has it, and has one port
 pub record IsPlanned {W : Type 0} (layout : Layout W) (b : ℕ) (block : BlockState) : Type 0 where
   pub kind_is : block.kind ≡ (block_in layout.blocks b).kind
-  pub built : is_built_kind block.kind ≡ true
+  pub built : is_kept_kind block.kind ≡ true
   pub alone : length block.ports ≡ 1
   -- it works on no more messages than it holds, and what came back in its turn came out
   pub begun : length block.jobs.slots ≤ length (held_by block)
