@@ -18,7 +18,7 @@ use Rattle.flow_intake.specs.Calls.{first_of, is_offered, is_posted, is_postpone
 use Rattle.flow_intake.specs.Ended.{fault_seen, fault_at_ends}
 use Rattle.flow_outlet.proofs.OffersInOrder.{offers_in_order}
 use Rattle.flow_spread.specs.Spread.{is_spread_free}
-use Rattle.flow_block.specs.Block.{BlockState, port_at, port_in, held_by, is_batch}
+use Rattle.flow_block.specs.Block.{BlockState, port_at, port_in, held_by, is_batch, is_join}
 use Rattle.flow_block.specs.Copier.{Copier}
 use Rattle.flow_block.specs.Copies.{may_put, none_waits}
 use Rattle.flow_block.specs.Jobs.{begins}
@@ -30,6 +30,7 @@ use Rattle.flow_block.proofs.CopierHolds.{no_exit_at, ports_change, port_changes
 use Rattle.flow_block.proofs.FaultsSeen.{StaysSeen, stays_at_ends, stays_at_ports, seen_by_looks, unseen_where}
 use Rattle.flow_block.proofs.GoingOn.{may_work_tells, may_fault_tells, may_finish_tells}
 use Rattle.flow_block.proofs.JournalTells.{gave_same, took_here}
+use Rattle.flow_block.proofs.Joins.{broadcast_unjoined}
 use Rattle.flow_block.proofs.KindsBuilt.{makes_by}
 
 no_batch : (kind : BlockKind) → is_broadcast kind ≡ true → is_batch kind ≡ false
@@ -44,7 +45,7 @@ free_to_copy group false free e = absurd (cc)
 may_copy_tells : (block : BlockState) → is_broadcast block.kind ≡ true → may_work block ≡ true → is_spread_free block.copies ≡ true
 may_copy_tells block broadcast may =
     let goes = and_parts (is_none block.stopped && is_none block.fault) (has_next block) may in
-    let next = rw (no_batch block.kind broadcast, broadcast) at goes.1 in
+    let next = rw (no_batch block.kind broadcast, broadcast_unjoined block.kind broadcast, broadcast) at goes.1 in
     (and_parts (is_spread_free block.copies) (none_waits block.copies)
     (free_to_copy (has_group block) _ (may_put block.copies) next)).0
 
@@ -122,9 +123,10 @@ module _ {W : Type 0} (layout : Layout W) (meaning : ℕ → Value → Result (L
   call_keeps NodeCall.make may alone copying =
       makes_by (λ new. Copier layout b new node.journal) (block_makes layout meaning b) block
       (λ batch. never_both (is_batch block.kind) batch (no_batch block.kind copying))
+      (λ join. never_both (is_join block.kind) join (broadcast_unjoined block.kind copying))
       (λ broadcast. put_keeps layout b block node.journal law (first_of (held_by block)) refl alone
       (may_work_tells block may.waits).going (may_copy_tells block copying may.waits) (may.copy_id copying))
-      (λ other single. never_both (is_broadcast block.kind) copying single)
+      (λ other alone single. never_both (is_broadcast block.kind) copying single)
   call_keeps (NodeCall.complete p) may alone copying =
       complete_keeps layout b block node.journal law p (Complete p) refl (λ test. refl)
   call_keeps (NodeCall.fault number) may alone copying =

@@ -20,6 +20,7 @@ use Rattle.flow_block.proofs.CopiesIdle.{no_copy_at, none_broadcast}
 use Rattle.flow_block.proofs.CopierKept.{call_keeps as copier_kept}
 use Rattle.flow_block.proofs.KindsBuilt.{has_one_port, makes_by}
 use Rattle.flow_block.proofs.ShapeHolds.{shape_kept}
+use Rattle.flow_block.proofs.Joins.{copies_unjoined}
 
 -- what shares its messages out copies none, whatever it makes
 record SameCopies (before after : BlockState) : Type 0 where
@@ -63,8 +64,9 @@ module _ {W : Type 0} (layout : Layout W) (meaning : ℕ → Value → Result (L
   idle_keeps node NodeCall.make law may =
       makes_by IsIdle (block_makes layout meaning b) node.block
       (λ batch. law.copies.idle)
+      (λ join. law.copies.idle)
       (λ broadcast. never_both (is_broadcast node.block.kind) broadcast (none_broadcast node.block.kind law.shape.built))
-      (λ other single. stays node.block _ (next_same (block_makes layout meaning b) (first_of (held_by node.block)) node.block) law.copies.idle)
+      (λ other alone single. stays node.block _ (next_same (block_makes layout meaning b) (first_of (held_by node.block)) node.block) law.copies.idle)
   idle_keeps node call law may = law.copies.idle
 
   -- its kind stays
@@ -87,7 +89,8 @@ module _ {W : Type 0} (layout : Layout W) (meaning : ℕ → Value → Result (L
     idle = idle_keeps node call law may;
     copier = λ copying.
         let copied = kind_stays node call law may copying in
-        copier_kept layout meaning b node (law.copies.copier copied) call may (has_one_port layout meaning b node.block law.shape)
+        copier_kept layout meaning b node (law.copies.copier copied) call may
+        (has_one_port layout meaning b node.block law.shape (copies_unjoined node.block.kind copied))
         (copies_over node.block.kind law.shape.built copied);
   }
 

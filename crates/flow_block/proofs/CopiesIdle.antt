@@ -13,10 +13,10 @@ use Rattle.flow_block.specs.Peeks.{may_copy}
 use Rattle.flow_block.proofs.KindsBuilt.{by_kind}
 
 pub none_broadcast : (kind : BlockKind) → is_kept_kind kind ≡ true → is_broadcast kind ≡ false
-none_broadcast kind built = by_kind (λ k. is_broadcast k ≡ false) refl refl refl refl refl kind built
+none_broadcast kind built = by_kind (λ k. is_broadcast k ≡ false) refl refl refl refl refl refl kind built
 
 pub shares_out : (kind : BlockKind) → is_kept_kind kind ≡ true → is_one_taker kind ≡ true
-shares_out kind built = by_kind (λ k. is_one_taker k ≡ true) refl refl refl refl refl kind built
+shares_out kind built = by_kind (λ k. is_one_taker k ≡ true) refl refl refl refl refl refl kind built
 
 module _ {W : Type 0} (layout : Layout W) (meaning : ℕ → Value → Result (List Value) ℕ) (b : ℕ) (node : NodeState)
     (law : NodeLaw layout meaning b node) where

@@ -1,4 +1,4 @@
--- A join, or a batched join, in which nothing has happened keeps its laws.
+-- A block with several ports in which nothing has happened has made nothing.
 use Rattle.std.proofs.Common.{◌≡◌, ℕ, zero, suc, List, [], ◌∷◌, length, map, refl}
 use Rattle.flow_link.specs.Layout.{Layout}
 use Rattle.flow_link.specs.Lists.{below}
@@ -6,9 +6,10 @@ use Rattle.flow_link.specs.Plan.{block_in, port_count}
 use Rattle.flow_link.specs.Trace.{took_at}
 use Rattle.flow_intake.specs.Port.{PortState}
 use Rattle.flow_group.specs.Tuple.{held_at}
+use Rattle.flow_group.specs.Tuples.{TuplesLaw}
 use Rattle.flow_group.proofs.GroupsKeep.{groups_kept}
 use Rattle.flow_group.proofs.TuplesKeep.{tuples_kept}
-use Rattle.flow_block.specs.FreshGroups.{FreshTuples, FreshGroups}
+use Rattle.flow_block.specs.FreshGroups.{FreshGroups}
 use Rattle.flow_block.specs.GroupsKeep.{are_complete}
 use Rattle.flow_block.specs.Planned.{port_of_plan}
 
@@ -24,8 +25,9 @@ module _ {W : Type 0} (layout : Layout W) (b : ℕ) where
   abbrev pub ports : List PortState
   ports = map (port_of_plan layout b) numbers
 
-pub fresh_tuples : (W : Type 0) → FreshTuples W
-fresh_tuples W layout b =
+pub fresh_tuples : {W : Type 0} (layout : Layout W) (b : ℕ)
+    → TuplesLaw (length (ports layout b)) (λ p. took_at p []) [] (held_at (ports layout b))
+fresh_tuples layout b =
     let count = length (ports layout b) in
     tuples_kept.same count (λ p. []) (λ p. took_at p []) [] (λ p. []) (held_at (ports layout b)) (tuples_kept.fresh count)
     (λ p there. refl) (λ p there. none_waits layout b (numbers layout b) p)

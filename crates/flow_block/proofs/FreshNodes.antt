@@ -12,7 +12,7 @@ use Rattle.flow_link.specs.Layout.{Layout}
 use Rattle.flow_link.specs.LinkOk.{IsWithin}
 use Rattle.flow_link.specs.Lists.{numbers_from, below}
 use Rattle.flow_block.specs.Kinds.{is_kept_kind}
-use Rattle.flow_link.specs.Plan.{block_in, port_count, is_one_taker}
+use Rattle.flow_link.specs.Plan.{block_in, port_count, is_one_taker, is_reserving}
 use Rattle.flow_link.specs.Trace.{has_ended}
 use Rattle.flow_link.proofs.ListTests.{length_numbers, never_both}
 use Rattle.flow_intake.specs.Port.{EndState, PortState, fresh_end, end_in, stage_at as port_stage, is_coming}
@@ -30,6 +30,7 @@ use Rattle.flow_block.specs.Node.{NodeState}
 use Rattle.flow_block.specs.NodeLaw.{NodeLaw, is_kept, MakesAs, WeighsAs, PortAsPlanned, GaveOver, weighed, rows_weighed, partly_weighed}
 use Rattle.flow_block.specs.Peeks.{is_pending}
 use Rattle.flow_block.specs.Planned.{lanes_of, size_of, block_makes, links_to, links_from, rule_of, port_of_plan, fresh_node}
+use Rattle.flow_block.proofs.FreshGroups.{fresh_tuples}
 use Rattle.flow_block.proofs.CopiesIdle.{shares_out}
 use Rattle.flow_block.proofs.EndsTell.{none_come}
 
@@ -157,9 +158,9 @@ fresh_with layout b exits copies =
 
 fresh_sharing : (W : Type 0) (layout : Layout W) (meaning : ℕ → Value → Result (List Value) ℕ) (b : ℕ)
     → is_kept_kind (block_in layout.blocks b).kind ≡ true
-    → 0 < lanes_of layout b → (is_batch (block_in layout.blocks b).kind ≡ true → 0 < size_of layout b)
+    → 0 < port_count (block_in layout.blocks b) → is_reserving (block_in layout.blocks b) ≡ false → 0 < lanes_of layout b → (is_batch (block_in layout.blocks b).kind ≡ true → 0 < size_of layout b)
     → NodeLaw layout meaning b (fresh_with layout b (fresh_outlet (map (rule_of layout) (links_from layout b)) 1) (fresh_spread false [] 1))
-fresh_sharing W layout meaning b built lane size =
+fresh_sharing W layout meaning b built some freely lane size =
     let rules = map (rule_of layout) (links_from layout b) in
     let node = fresh_with layout b (fresh_outlet rules 1) (fresh_spread false [] 1) in
     let block = block_in layout.blocks b in
@@ -170,6 +171,8 @@ fresh_sharing W layout meaning b built lane size =
         size_is = refl;
         some_size = size;
         port_count_is = count_is layout b;
+        some_port = subst (λ (count : ℕ). 0 < count) (sym (count_is layout b)) some;
+        takes_freely = freely;
         ports = each_port layout b (PortAsPlanned layout meaning b)
             (λ p. record { links = links_kept (links_to layout b p); capacity = refl; never_reserves = refl });
         rules = rules_kept rules;
@@ -196,6 +199,7 @@ fresh_sharing W layout meaning b built lane size =
         fault_is = λ number e. absurd (cc);
       };
       rows = λ batch. record { groups = refl; whole_before = refl; whole = or_right (false && is_empty (held_by node.block)) true refl };
+      tuples = λ join. fresh_tuples layout b;
       jobs = record {
         lanes_are = refl;
         some_lane = lane;
@@ -234,10 +238,10 @@ fresh_sharing W layout meaning b built lane size =
     }
 
 pub fresh_in_order : (W : Type 0) → FreshInOrder W
-fresh_in_order W layout meaning b built lane size =
+fresh_in_order W layout meaning b built some freely lane size =
     let rules = map (rule_of layout) (links_from layout b) in
     let same = fresh_shared (block_in layout.blocks b).kind rules (shares_out (block_in layout.blocks b).kind built) in
     subst (λ (copies : SpreadState). NodeLaw layout meaning b (fresh_with layout b (fresh_outlet (shared_rules (block_in layout.blocks b).kind rules) 1) copies))
     (sym same.1)
     (subst (λ (shared : List LinkRule). NodeLaw layout meaning b (fresh_with layout b (fresh_outlet shared 1) (fresh_spread false [] 1)))
-    (sym same.0) (fresh_sharing W layout meaning b built lane size))
+    (sym same.0) (fresh_sharing W layout meaning b built some freely lane size))

@@ -342,8 +342,9 @@ module _ {W : Type 0} (layout : Layout W) (meaning : ℕ → Value → Result (L
   gave_keep node NodeCall.make law may =
       makes_by (λ new. GaveLaw layout meaning b new.exits node.journal) (block_makes layout meaning b) node.block
       (λ batch. record { each = law.gave.each; next_is = law.gave.next_is; in_order = law.gave.in_order })
+      (λ join. record { each = law.gave.each; next_is = law.gave.next_is; in_order = law.gave.in_order })
       (λ broadcast. law_of_copy (first_of (held_by node.block)) node law.gave)
-      (λ other single. make_keeps node.block node.journal (block_makes layout meaning b) (first_of (held_by node.block)) law.gave)
+      (λ other alone single. make_keeps node.block node.journal (block_makes layout meaning b) (first_of (held_by node.block)) law.gave)
   gave_keep node (NodeCall.complete p) law may =
       quiet_mark node.block.exits node.journal (Complete p) (λ test. refl) (λ all. refl) law.gave
   gave_keep node (NodeCall.fault number) law may =

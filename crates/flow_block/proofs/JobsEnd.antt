@@ -15,7 +15,8 @@ use Rattle.flow_intake.specs.Port.{PortState, end_in}
 use Rattle.flow_intake.specs.Calls.{first_of, takes_next, gives_room, port_fails}
 use Rattle.flow_outlet.specs.End.{end_in as out_end}
 use Rattle.flow_outlet.specs.Outlet.{OutletState, lacks_ids, puts}
-use Rattle.flow_block.specs.Block.{BlockState, port_at, unit_weight, with_jobs, job_message, held_by, put_by_kind, values_of_result, put_of, fails, keeps_results, yields, copies_next, makes_of, makes_other, row_of, next_group, makes_row, makes, yields_all, yields_where, put_where}
+use Rattle.flow_group.specs.Tuple.{tuple_of}
+use Rattle.flow_block.specs.Block.{BlockState, port_at, unit_weight, with_jobs, is_join, makes_tuple, job_message, held_by, put_by_kind, values_of_result, put_of, fails, keeps_results, yields, copies_next, makes_of, makes_other, row_of, next_group, makes_row, makes, yields_all, yields_where, put_where}
 use Rattle.flow_block.specs.Jobs.{Slot, JobsState, no_slot, place_of, is_out, is_front_back, brings, comes_out, AreOf}
 use Rattle.flow_block.specs.JobsEnd.{JobsEndWell, MayEndJob, EndsWell, ViewsStay, after_job, job_result}
 use Rattle.flow_block.specs.Node.{NodeState, NodeCall, with_block, view_of_in, view_of_out}
@@ -33,6 +34,7 @@ use Rattle.flow_block.proofs.PortsChange.{kept_at_all}
 use Rattle.flow_block.proofs.ShapeHolds.{exits_move as shape_stays}
 use Rattle.flow_block.proofs.TestsTell.{none_is}
 use Rattle.flow_block.proofs.ViewsMove.{EndsStay, keeping_stays, yielding_stays}
+use Rattle.flow_block.proofs.Joins.{works_unjoined}
 
 -- Other slots, and slots of which nothing has come back
 
@@ -204,6 +206,7 @@ module _ {W : Type 0} (kept : NodesKept W) (layout : Layout W) (meaning : ℕ �
         gave = law.gave;
         makes = makes_stay layout meaning b (record { block = block; journal = journal }) law.makes change;
         rows = law.rows;
+        tuples = law.tuples;
         jobs = record {
           lanes_are = law.jobs.lanes_are;
           some_lane = law.jobs.some_lane;
@@ -223,7 +226,9 @@ module _ {W : Type 0} (kept : NodesKept W) (layout : Layout W) (meaning : ℕ �
       → has_work block.kind ≡ true → held_by block ≡ value ∷ rest → result value ≡ made
       → makes result block ≡ yields made block
   makes_so block made value rest works held is =
-      ap (λ (batch : Bool). cond batch (makes_row block) (makes_other result block)) (works_alone block.kind works)
+      ap (λ (batch : Bool). cond batch (makes_row block) (cond (is_join block.kind) (makes_tuple block) (makes_other result block)))
+      (works_alone block.kind works)
+      ∙ ap (λ (join : Bool). cond join (makes_tuple block) (makes_other result block)) (works_unjoined block.kind works)
       ∙ ap (λ (copies : Bool). cond copies (copies_next (first_of (held_by block)) block) (makes_of result (first_of (held_by block)) block))
       (works_shared block.kind works)
       ∙ ap (λ (first : Option Value). makes_of result first block) (ap first_of held)
@@ -240,12 +245,16 @@ module _ {W : Type 0} (kept : NodesKept W) (layout : Layout W) (meaning : ℕ �
       let old = with_slots (blank slots) block in
       let node : NodeState = record { block = old; journal = journal } in
       let may : MayMake result node = record {
-        waits = rw (going, well, works_alone block.kind works, held, works_shared block.kind works) refl;
+        waits = rw (going, well, works_alone block.kind works, works_unjoined block.kind works, held, works_shared block.kind works) refl;
         all_out = blank_out slots;
         copy_id = λ broadcast. absurd (never_both (is_broadcast block.kind) broadcast (works_shared block.kind works));
         ids = ap (λ (batch : Bool). lacks_ids (cond batch (row_of (next_group old) ∷ [])
-            (cond (is_broadcast block.kind) [] (put_of block.kind result (first_of (held_by block))))) block.exits)
+            (cond (is_join block.kind) (tuple_of block.ports ∷ [])
+            (cond (is_broadcast block.kind) [] (put_of block.kind result (first_of (held_by block)))))) block.exits)
             (works_alone block.kind works)
+            ∙ ap (λ (join : Bool). lacks_ids (cond join (tuple_of block.ports ∷ [])
+            (cond (is_broadcast block.kind) [] (put_of block.kind result (first_of (held_by block))))) block.exits)
+            (works_unjoined block.kind works)
             ∙ ap (λ (copies : Bool). lacks_ids (cond copies [] (put_of block.kind result (first_of (held_by block)))) block.exits)
             (works_shared block.kind works)
             ∙ ap (λ (first : Option Value). lacks_ids (put_of block.kind result first) block.exits) (ap first_of held)
@@ -292,7 +301,7 @@ module _ {W : Type 0} (kept : NodesKept W) (layout : Layout W) (meaning : ℕ �
       (ids_first kind values (comes_out slots) block.exits ids) law in
       let mid : InOrder (with_slots (blank slots) new) journal =
       subst (λ (block : BlockState). InOrder block journal) (keeps_slots kind values (blank all) block works) made in
-      let one = has_one_port layout meaning b (with_slots (blank all) block) law.shape in
+      let one = has_one_port layout meaning b (with_slots (blank all) block) law.shape (works_unjoined block.kind works) in
       subst (λ (block : BlockState). InOrder (yields_all slots block) journal) (sym (keeps_slots kind values all block works))
       (out_keeps slots new journal rest (held_then kind values block value rest one same)
       (ap has_work goes.kind ∙ works) (goes.stopped ∙ going) (goes.fault ∙ well) are.1

@@ -1,4 +1,6 @@
 pub mod Causes
+pub mod ClosingStays
+pub mod CompleteSeen
 pub mod CopierHolds
 pub mod CopierKept
 pub mod CopiesFit
@@ -28,6 +30,7 @@ pub mod JobsOut
 pub mod JobsRecorded
 pub mod JobsRest
 pub mod JournalTells
+pub mod Joins
 pub mod KindsBuilt
 pub mod LoadHolds
 pub mod MakesHold
@@ -57,9 +60,8 @@ pub mod SourceStands
 pub mod StandsInOrder
 pub mod TargetStands
 pub mod TestsTell
-pub mod TupleMade
 pub mod TuplesFit
 pub mod TuplesSeen
-pub mod TuplesStand
+pub mod TuplesHold
 pub mod ViewsMove
 pub mod WeightsOfResults

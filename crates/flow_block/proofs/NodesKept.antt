@@ -11,6 +11,7 @@ use Rattle.flow_block.proofs.MarksHold.{marks_kept}
 use Rattle.flow_block.proofs.PortsHold.{ports_kept}
 use Rattle.flow_block.proofs.RowsHold.{rows_kept}
 use Rattle.flow_block.proofs.ShapeHolds.{shape_kept}
+use Rattle.flow_block.proofs.TuplesHold.{tuples_kept_so}
 
 pub nodes_kept : (W : Type 0) → NodesKept W
 nodes_kept W layout meaning b node call law may = record {
@@ -21,6 +22,7 @@ nodes_kept W layout meaning b node call law may = record {
   gave = gave_kept W layout meaning b node call law may;
   makes = makes_kept W layout meaning b node call law may;
   rows = rows_kept W layout meaning b node call law may;
+  tuples = tuples_kept_so W layout meaning b node call law may;
   jobs = jobs_kept W layout meaning b node call law may;
   load = load_kept W layout meaning b node call law may;
   marks = marks_kept W layout meaning b node call law may;

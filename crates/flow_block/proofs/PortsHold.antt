@@ -240,8 +240,10 @@ module _ {W : Type 0} (layout : Layout W) (meaning : ℕ → Value → Result (L
   call_keeps node NodeCall.make law may =
       makes_by (λ new. PortsLaw layout meaning b new node.journal) (block_makes layout meaning b) node.block
       (λ batch. row_keeps node.block.size node.block node.journal law.ports)
+      (λ join. each_port node.block.ports node.journal node.journal takes_next law.ports (λ q. refl)
+      (λ q below old. moves_keep.take_next facts (taken node.journal q) (port_in node.block.ports q) old))
       (λ broadcast. never_both (is_broadcast node.block.kind) broadcast (none_broadcast node.block.kind law.shape.built))
-      (λ other single. make_keeps (first_of (held_by node.block)) node.block node.journal refl law.ports)
+      (λ other alone single. make_keeps (first_of (held_by node.block)) node.block node.journal refl law.ports)
   call_keeps node (NodeCall.complete p) law may =
       let port = port_in node.block.ports p in
       let none = (may_complete_tells p node.block may.completes).none_comes in

@@ -34,6 +34,7 @@ use Rattle.flow_block.proofs.GoingOn.{may_work_tells, may_complete_tells, open_g
 use Rattle.flow_block.proofs.JournalTells.{complete_where}
 use Rattle.flow_block.proofs.KindsBuilt.{has_one_port, made_kind, makes_by}
 use Rattle.flow_block.proofs.PortsChange.{kept_at_one, kept_at_all}
+use Rattle.flow_block.proofs.Joins.{batch_unjoined, join_alone}
 
 pub other_side : (a b : Bool) → a ≡ false → (a || b) ≡ true → b ≡ true
 other_side true b none e = absurd (cc)
@@ -145,7 +146,7 @@ module _ {W : Type 0} (layout : Layout W) (meaning : ℕ → Value → Result (L
   taken_in node law p k (Some value) at batch =
       let block = node.block in
       let old = law.rows batch in
-      let one = has_one_port layout meaning b block law.shape in
+      let one = has_one_port layout meaning b block law.shape (batch_unjoined block.kind batch) in
       let first : p ≡ 0 = omega (arith, one, at.port) in
       let change = closes k value in
       let end = (law.ports p at.port).each k at.place in
@@ -166,7 +167,7 @@ module _ {W : Type 0} (layout : Layout W) (meaning : ℕ → Value → Result (L
   completed node law p may batch =
       let block = node.block in
       let old = law.rows batch in
-      let one = has_one_port layout meaning b block law.shape in
+      let one = has_one_port layout meaning b block law.shape (batch_unjoined block.kind batch) in
       let first : p ≡ 0 = omega (arith, one, may.port) in
       let open_port = (may_complete_tells p block may.completes).open_port in
       let unended = (open_goes_on layout meaning b block node.journal law.ends p may.port open_port).1 in
@@ -186,7 +187,7 @@ module _ {W : Type 0} (layout : Layout W) (meaning : ℕ → Value → Result (L
       let block = node.block in
       let journal = node.journal in
       let old = law.rows batch in
-      let one = has_one_port layout meaning b block law.shape in
+      let one = has_one_port layout meaning b block law.shape (batch_unjoined block.kind batch) in
       let there : 0 < length block.ports = omega (arith, one) in
       let size = block.size in
       let held = held_by block in
@@ -228,8 +229,9 @@ module _ {W : Type 0} (layout : Layout W) (meaning : ℕ → Value → Result (L
   after_each node NodeCall.make law may =
       makes_by (λ new. KeepsRows new node.journal) (block_makes layout meaning b) node.block
       (λ batch. let tells = may_work_tells node.block may.waits in row_made node law tells.going (tells.group batch))
+      (λ join batch. never_both (is_batch node.block.kind) batch (join_alone node.block.kind join))
       (λ broadcast. never_both (is_broadcast node.block.kind) broadcast (none_broadcast node.block.kind law.shape.built))
-      (λ other single batch. never_both (is_batch node.block.kind)
+      (λ other alone single batch. never_both (is_batch node.block.kind)
       (ap is_batch (sym (made_kind (block_makes layout meaning b) (first_of (held_by node.block)) node.block)) ∙ batch) other)
   after_each node (NodeCall.complete p) law may = completed node law p may
   after_each node (NodeCall.fault number) law may =

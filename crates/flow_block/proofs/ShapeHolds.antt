@@ -104,6 +104,8 @@ module _ {W : Type 0} (layout : Layout W) (meaning : ℕ → Value → Result (L
     size_is = size ∙ law.size_is;
     some_size = rw (kind, size) law.some_size;
     port_count_is = rw (ports, length-set before.ports p (change (port_in before.ports p))) law.port_count_is;
+    some_port = rw (ports, length-set before.ports p (change (port_in before.ports p))) law.some_port;
+    takes_freely = law.takes_freely;
     ports =
         let port = port_in before.ports p in
         rw ports (each_after_one IsPlanned before.ports p (change port)
@@ -123,6 +125,8 @@ module _ {W : Type 0} (layout : Layout W) (meaning : ℕ → Value → Result (L
     size_is = size ∙ law.size_is;
     some_size = rw (kind, size) law.some_size;
     port_count_is = rw (ports, length-map before.ports change) law.port_count_is;
+    some_port = rw (ports, length-map before.ports change) law.some_port;
+    takes_freely = law.takes_freely;
     ports =
         rw ports (each_after_all IsPlanned change before.ports
         (λ q below.
@@ -140,6 +144,8 @@ module _ {W : Type 0} (layout : Layout W) (meaning : ℕ → Value → Result (L
     size_is = size ∙ law.size_is;
     some_size = rw (kind, size) law.some_size;
     port_count_is = rw ports law.port_count_is;
+    some_port = rw ports law.some_port;
+    takes_freely = law.takes_freely;
     ports = rw ports law.ports;
     rules = rules ∙ law.rules;
   }
@@ -219,8 +225,9 @@ module _ {W : Type 0} (layout : Layout W) (meaning : ℕ → Value → Result (L
   call_keeps node NodeCall.make law =
       makes_by (ShapeLaw layout meaning b) (block_makes layout meaning b) node.block
       (λ batch. one_port node.block _ 0 (takes_group node.block.size) (takes_group_same node.block.size) refl refl refl refl law)
+      (λ join. each_port node.block _ takes_next takes_next_same refl refl refl refl law)
       (λ broadcast. copy_keeps (first_of (held_by node.block)) node.block law)
-      (λ other single. make_keeps (first_of (held_by node.block)) node.block law)
+      (λ other alone single. make_keeps (first_of (held_by node.block)) node.block law)
   call_keeps node (NodeCall.complete p) law =
       one_port node.block _ p port_closes port_closes_same refl refl refl refl law
   call_keeps node (NodeCall.fault number) law =

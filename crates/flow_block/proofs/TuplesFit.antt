@@ -9,10 +9,9 @@ use Rattle.flow_outlet.specs.Fits.{weight_of}
 use Rattle.flow_outlet.specs.Outlet.{OutletState, puts}
 use Rattle.flow_outlet.proofs.OutletFits.{room_put}
 use Rattle.flow_group.specs.Tuple.{has_first, has_tuple, takes_tuple}
-use Rattle.flow_block.specs.Block.{BlockState, port_in, unit_weight}
+use Rattle.flow_block.specs.Block.{BlockState, port_in, unit_weight, makes_tuple}
 use Rattle.flow_block.specs.BlockFits.{GaveOut, AllGaveOut, BlockFits, weight_out}
 use Rattle.flow_block.specs.JournalFits.{ports_due, marks_due}
-use Rattle.flow_block.specs.Tuples.{makes_tuple}
 
 -- One port
 

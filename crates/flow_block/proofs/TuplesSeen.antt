@@ -22,8 +22,7 @@ use Rattle.flow_group.specs.Tuple.{held_at as waits_at, has_run_dry, has_tuple, 
 use Rattle.flow_group.proofs.PortsTaken.{nothing_more}
 use Rattle.flow_block.specs.Block.{BlockState, port_in, port_at}
 use Rattle.flow_block.specs.Node.{NodeState, left_in}
-use Rattle.flow_block.specs.NodeLaw.{weighed}
-use Rattle.flow_block.specs.TuplesKeep.{KeepsTuples}
+use Rattle.flow_block.specs.NodeLaw.{weighed, KeepsTuples}
 use Rattle.flow_block.specs.TuplesSeen.{IsPortsOf, EndsByComplete, JoinsAreParts}
 use Rattle.flow_block.proofs.WeightsOfResults.{weight_weighed}
 

@@ -43,7 +43,7 @@ use Rattle.flow_block.specs.ViewsMove.{message_at, IsAboutIn, IsAboutOut, Others
 use Rattle.flow_block.proofs.JournalTells.{took_same, gave_same, took_here, gave_here}
 use Rattle.flow_block.proofs.KindsBuilt.{makes_by}
 use Rattle.flow_block.proofs.PlacesOfLinks.{links_in_differ, links_out_differ}
-use Rattle.flow_block.proofs.PortsChange.{kept_at_one, port_of_map, end_there, end_elsewhere}
+use Rattle.flow_block.proofs.PortsChange.{kept_at_one, port_of_map, end_there, end_elsewhere, kept_at_all}
 use Rattle.flow_block.proofs.TestsTell.{some_is}
 
 -- one end of a link into a node stands at a place, and all others as they did
@@ -272,8 +272,13 @@ making_stays : (result : Value → Result (List Value) ℕ) (block : BlockState)
     → EndsStay block (makes result block)
 making_stays result block shares =
     makes_by (EndsStay block) result block (λ batch. row_stays block)
+    (λ join. record {
+      ins = λ p below. kept_at_all (λ (port : PortState). port.ends) takes_next block.ports p (λ port. refl);
+      outs = refl;
+      copies = λ k there. refl;
+    })
     (λ broadcast. never_both (is_broadcast block.kind) broadcast shares)
-    (λ other single. first_stays result (first_of (held_by block)) block)
+    (λ other alone single. first_stays result (first_of (held_by block)) block)
 
 jobs_stay : (block : BlockState) (change : JobsState → JobsState) → EndsStay block (with_jobs change block)
 jobs_stay block change = record { ins = λ p below. refl; outs = refl; copies = λ k there. refl }

@@ -1,13 +1,9 @@
--- A join, or a batched join, in which nothing has happened: it has made nothing, and holds nothing.
+-- A batched join in which nothing has happened: it has made nothing, and holds nothing.
 use Rattle.std.specs.Prelude.{ℕ, []}
 use Rattle.flow_link.specs.Layout.{Layout}
 use Rattle.flow_block.specs.GroupsKeep.{KeepsGroups}
 use Rattle.flow_block.specs.GroupsSeen.{WholeBefore}
 use Rattle.flow_block.specs.Planned.{fresh_node}
-use Rattle.flow_block.specs.TuplesKeep.{KeepsTuples}
-
-abbrev pub FreshTuples : Type 0 → Type 0
-FreshTuples W = (layout : Layout W) (b : ℕ) → KeepsTuples (fresh_node layout b).block []
 
 abbrev pub FreshGroups : Type 0 → Type 0
 FreshGroups W =

@@ -25,7 +25,5 @@ pub mod Peeks
 pub mod Planned
 pub mod Routes
 pub mod Traits
-pub mod Tuples
-pub mod TuplesKeep
 pub mod TuplesSeen
 pub mod ViewsMove

@@ -22,10 +22,10 @@ use Rattle.flow_link.specs.Plan.{is_broadcast}
 use Rattle.flow_spread.specs.Law.{MayPutOff as MayPutOffOver}
 use Rattle.flow_spread.specs.Spread.{may_offer as may_offer_copy, may_give as may_give_copy, is_asked_by}
 use Rattle.flow_spread.specs.Spread as spread
-use Rattle.flow_block.specs.Block.{port_at, put_next}
+use Rattle.flow_block.specs.Block.{port_at, put_next, is_join}
 use Rattle.flow_block.specs.Copies.{CopyCall, copy_place}
 use Rattle.flow_block.specs.Node.{NodeState, NodeCall, in_link_at, after}
-use Rattle.flow_block.specs.NodeLaw.{NodeLaw, ShapeLaw, PortsLaw, ExitsLaw, CopiesLaw, GaveLaw, MakesLaw, KeepsRows, JobsLaw, LoadLaw, MarksLaw, EndsLaw}
+use Rattle.flow_block.specs.NodeLaw.{NodeLaw, ShapeLaw, PortsLaw, ExitsLaw, CopiesLaw, GaveLaw, MakesLaw, KeepsRows, KeepsTuples, JobsLaw, LoadLaw, MarksLaw, EndsLaw}
 use Rattle.flow_block.specs.Peeks.{is_pending, may_work, may_begin, may_complete, next_fault, may_finish}
 use Rattle.flow_block.specs.Planned.{block_makes}
 
@@ -160,6 +160,9 @@ module _ (W : Type 0) where
 
   abbrev pub RowsKept : Type 0
   RowsKept = AtEachBlock (λ layout meaning b node. KeepsRows node.block node.journal)
+
+  abbrev pub TuplesKept : Type 0
+  TuplesKept = AtEachBlock (λ layout meaning b node. is_join node.block.kind ≡ true → KeepsTuples node.block node.journal)
 
   abbrev pub JobsKept : Type 0
   JobsKept = AtEachBlock (λ layout meaning b node. JobsLaw layout meaning b node.block node.journal)

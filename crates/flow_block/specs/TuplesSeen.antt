@@ -11,8 +11,7 @@ use Rattle.flow_outlet.specs.Fits.{weight_of}
 use Rattle.flow_group.specs.Tuple.{has_tuple, is_join_complete}
 use Rattle.flow_block.specs.Block.{port_at}
 use Rattle.flow_block.specs.Node.{NodeState, node_trace}
-use Rattle.flow_block.specs.NodeLaw.{weighed}
-use Rattle.flow_block.specs.TuplesKeep.{KeepsTuples}
+use Rattle.flow_block.specs.NodeLaw.{weighed, KeepsTuples}
 
 module _ {W : Type 0} (run : Run W) (b : ℕ) (node : NodeState) where
   -- the node's trace is the block's, it has as many ports as the plan says, and shares its messages out

@@ -1,5 +1,5 @@
 //! Laws about the groups of a batched join. Each stands on a function that does nothing: whoever calls it has the whole law.
-ghost use Rattle.flow_block.specs.FreshGroups.{FreshTuples, FreshGroups};
+ghost use Rattle.flow_block.specs.FreshGroups.{FreshGroups};
 ghost use Rattle.flow_block.specs.GroupsKeep.{GroupsStand};
 ghost use Rattle.flow_block.specs.GroupsSeen.{WholeStand, BatchedJoinsAreParts};
 
@@ -20,8 +20,7 @@ pub fn batched_joins_are_parts<W>()
     ensures { BatchedJoinsAreParts W }
 {}
 
-/// A block with several ports in which nothing has happened has made no tuple and no group, and holds nothing.
+/// A batched join in which nothing has happened has made no group, and holds nothing.
 pub fn fresh_blocks_have_made_nothing<W>()
-    ensures tuples { FreshTuples W }
-    ensures groups { FreshGroups W }
+    ensures { FreshGroups W }
 {}

@@ -56,4 +56,4 @@ pub use laws::{
 pub use node::Node;
 pub use planned::{Route, port_of, ports_of, routes_of, rules_from};
 pub use traits::blocks_in_order_stand_as_their_ends;
-pub use tuple_laws::{calls_keep_tuples, joins_are_parts, tuples_keep_blocks_in_order};
+pub use tuple_laws::joins_are_parts;

@@ -7,14 +7,15 @@ ghost use Rattle.flow_intake.specs.PortLaw.{has_ended};
 ghost use Rattle.flow_link.specs.Plan.{has_work, is_broadcast};
 ghost use Rattle.flow_outlet.specs.End.{is_waiting};
 ghost use Rattle.flow_outlet.specs.Outlet.{out_move, stage_at, is_empty};
-ghost use Rattle.flow_block.specs.Block.{port_at, port_in, is_batch};
+ghost use Rattle.flow_block.specs.Block.{port_at, port_in, is_batch, is_join};
 ghost use Rattle.flow_block.specs.Peeks.{may_work, may_make, may_begin, may_end, may_complete, next_fault, is_held_up, may_finish, could_stop};
 ghost use Rattle.flow_spread.specs.Spread.{out_move as copy_move};
 ghost use Rattle.flow_block.specs.Peeks.{may_copy, is_copy_held_up, would_copy, has_all_given, is_copied_out, is_out_at_rest};
-ghost use Rattle.flow_block.specs.Peeks.{fault_cause, fault_at_ports, is_pending, has_group, has_next, is_worked_off};
+ghost use Rattle.flow_block.specs.Peeks.{fault_cause, fault_at_ports, is_pending, has_group, has_next, is_worked_off, is_complete};
 
 use crate::block::Block;
 use crate::copies::copies_left;
+use flow_group::{has_tuple, is_join_complete};
 use flow_intake::Intake;
 use flow_link::{BlockKind, Move};
 
@@ -32,6 +33,8 @@ impl Block {
     {
         if is_batch(self.kind) {
             self.has_group()
+        } else if is_join(self.kind) {
+            has_tuple(&self.ports)
         } else {
             holds_first(&self.ports) && self.may_copy()
         }
@@ -65,13 +68,15 @@ impl Block {
     {
         if is_batch(self.kind) {
             !self.has_group()
+        } else if is_join(self.kind) {
+            !has_tuple(&self.ports)
         } else {
             holds_nothing(&self.ports)
         }
     }
 
     /// Whether it would make its next outputs: it has no function, and hands on the message that it holds first, or makes
-    /// a row of those that it holds.
+    /// a row or a tuple of those that it holds.
     pub fn may_make(&self) -> bool
         ensures { result ≡ may_make self.now }
     {
@@ -167,13 +172,26 @@ impl Block {
         self.stopped.is_none() && holds_first(&self.ports) && self.copies.is_free()
     }
 
-    /// Whether it is done now: all its ports have completed, and it has nothing to work on and nothing to give.
+    /// Whether its ports have completed. A join is complete, too, when a completed port has no message that waits for
+    /// partners.
+    #[tactic(auto, using(flow_link::proofs::FirstInOrder::all_is_every))]
+    pub fn is_complete(&self) -> bool
+        ensures { result ≡ is_complete self.now }
+    {
+        if is_join(self.kind) {
+            is_join_complete(&self.ports)
+        } else {
+            all_ended(&self.ports)
+        }
+    }
+
+    /// Whether it is done now: it is complete, has nothing to work on and nothing to give.
     #[tactic(auto, using(flow_link::proofs::FirstInOrder::all_is_every))]
     pub fn may_finish(&self) -> bool
         ensures { result ≡ may_finish self.now }
     {
         self.could_stop()
-            && all_ended(&self.ports)
+            && self.is_complete()
             && holds_nothing(&self.ports)
             && self.exits.left().is_empty()
             && self.exits.is_at_rest()
@@ -187,12 +205,12 @@ impl Block {
         copies_left(&self.copies) == 0 && self.copies.is_at_rest()
     }
 
-    /// Whether all its ports have completed, and it has nothing to work on and nothing to give.
+    /// Whether it is complete, and has nothing to work on and nothing to give.
     #[tactic(auto, using(flow_link::proofs::FirstInOrder::all_is_every))]
     fn has_all_given(&self) -> bool
         ensures { result ≡ has_all_given self.now }
     {
-        all_ended(&self.ports)
+        self.is_complete()
             && holds_nothing(&self.ports)
             && self.exits.left().is_empty()
             && copies_left(&self.copies) == 0
@@ -268,6 +286,13 @@ fn is_batch(kind: BlockKind) -> bool
     ensures { result ≡ is_batch kind }
 {
     kind == BlockKind::Batch
+}
+
+/// Whether blocks of this kind make tuples of the messages of their ports.
+fn is_join(kind: BlockKind) -> bool
+    ensures { result ≡ is_join kind }
+{
+    kind == BlockKind::Join
 }
 
 /// Whether blocks of this kind copy each message to all their links, over the last one.

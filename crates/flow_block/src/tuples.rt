@@ -5,7 +5,7 @@ ghost use Rattle.flow_outlet.specs.Outlet.{puts, lacks_ids};
 ghost use Rattle.flow_outlet.specs.declared.fault.OutletFault.TheVariants.{Ids};
 ghost use Rattle.flow_group.specs.Tuple.{has_tuple, tuple_of, takes_tuple};
 ghost use Rattle.flow_block.specs.Node.{with_block};
-ghost use Rattle.flow_block.specs.Tuples.{makes_tuple};
+ghost use Rattle.flow_block.specs.Block.{makes_tuple};
 
 use crate::block::Block;
 use crate::node::Node;

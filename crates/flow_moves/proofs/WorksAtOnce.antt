@@ -30,6 +30,10 @@ begin_tells block e =
     let both = and_parts (may_work block) (has_work block.kind) inner.0 in
     record { works = both.1; no_fault = (may_work_tells block both.0).no_fault }
 
+-- only a block with a function begins one
+pub begin_works : (block : BlockState) → may_begin block ≡ true → has_work block.kind ≡ true
+begin_works block e = (begin_tells block e).works
+
 -- the first slot of one, and the message that is held first
 one_slot : (slots : List Slot) (slot : Slot) (k : ℕ) → slots ≡ [] → k ≡ 0 → set (slots ++ None ∷ []) k slot ≡ slot ∷ []
 one_slot slots slot k none first = rw (none, first) refl

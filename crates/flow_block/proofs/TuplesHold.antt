@@ -19,12 +19,21 @@ use Rattle.flow_group.specs.Tuple.{held_at, has_tuple, tuple_of}
 use Rattle.flow_group.specs.Tuples.{only_at}
 use Rattle.flow_group.proofs.JournalsTell.{journals_tell}
 use Rattle.flow_group.proofs.TuplesKeep.{tuples_kept, held_by_take}
-use Rattle.flow_block.specs.Block.{BlockState, port_at, with_port, stops_by}
+use Rattle.flow_link.specs.Plan.{is_broadcast}
+use Rattle.flow_block.specs.Block.{is_batch, held_by, BlockState, port_at, with_port, stops_by, is_join, makes_tuple}
 use Rattle.flow_block.specs.Node.{NodeState, NodeCall, takes_in, gives_from, in_link_at, out_link_at}
-use Rattle.flow_block.specs.Tuples.{makes_tuple}
-use Rattle.flow_block.specs.TuplesKeep.{KeepsTuples, MayCallJoin, after_join_call, TuplesStand}
+use Rattle.flow_block.specs.NodeKeeps.{MayCall, after_call, TuplesKept}
+use Rattle.flow_block.specs.NodeLaw.{NodeLaw, KeepsTuples}
+use Rattle.flow_block.specs.Planned.{block_makes}
+use Rattle.flow_block.proofs.CopiesIdle.{no_copy_at}
+use Rattle.flow_block.proofs.GoingOn.{may_work_tells}
+use Rattle.flow_block.proofs.Joins.{join_alone, broadcast_unjoined}
+use Rattle.flow_block.proofs.KindsBuilt.{makes_by}
+use Rattle.flow_block.proofs.ShapeHolds.{shape_kept}
 use Rattle.flow_block.proofs.PortsChange.{kept_at_one, kept_at_all}
 use Rattle.flow_block.proofs.RowsHold.{given_on}
+use Rattle.flow_block.specs.Copies.{copy_place}
+use Rattle.flow_link.proofs.ListTests.{never_both}
 
 -- what is taken, held and made is as before
 stays : (before after : BlockState) (journal later : List Mark) → KeepsTuples before journal
@@ -120,28 +129,45 @@ tuple_made node law waits =
     (tuples_kept.make (λ q. took_at q node.journal) (gave node.journal ++ left) ports law waits)
 
 module _ {W : Type 0} (layout : Layout W) (meaning : ℕ → Value → Result (List Value) ℕ) (b : ℕ) where
-  after_each : (node : NodeState) (call : NodeCall) → KeepsTuples node.block node.journal → MayCallJoin layout meaning b call node
-      → KeepsTuples (after_join_call layout meaning b call node).block (after_join_call layout meaning b call node).journal
-  after_each node (NodeCall.want p k) law may = port_stays node law p (wants k) refl
-  after_each node (NodeCall.turn_down p k) law may = port_stays node law p (turns_down k) refl
-  after_each node (NodeCall.postpone p k) law may = port_stays node law p (postpones k) refl
-  after_each node (NodeCall.refuse p k) law may = port_stays node law p (refuses k) refl
-  after_each node (NodeCall.consume p k) law may = port_stays node law p (consumes k) refl
-  after_each node (NodeCall.open_with p k value) law may = port_stays node law p (opens k value) refl
-  after_each node (NodeCall.close p k) law may = taken_in node law p k (hand_in k (port_at p node.block).ends)
-  after_each node (NodeCall.offer k) law may = exits_stay node law (offers k (prepares node.block.exits)) refl
-  after_each node (NodeCall.give k) law may = given_out node law k (head_of node.block.exits) refl
-  after_each node (NodeCall.deny k) law may = exits_stay node law (denies k node.block.exits) refl
-  after_each node (NodeCall.withdraw k) law may = exits_stay node law (withdraws k node.block.exits) refl
-  after_each node (NodeCall.end_link k how) law may = exits_stay node law (ends_link k how node.block.exits) refl
-  after_each node (NodeCall.look_in p k phase) law may = port_stays node law p (port_looks k phase) refl
-  after_each node (NodeCall.look_out k phase) law may = exits_stay node law (exit_looks k phase node.block.exits) refl
-  after_each node (NodeCall.copy call) law may = absurd may
-  after_each node NodeCall.begin law may = law
-  after_each node NodeCall.make law may = tuple_made node law may.waits
-  after_each node (NodeCall.complete p) law may = completed node law p
-  after_each node (NodeCall.fault number) law may = stops_so node law (outcome.Faulted number) (Fault number) refl refl
-  after_each node NodeCall.finish law may = stops_so node law outcome.Done Done refl refl
+  after_each : (node : NodeState) (call : NodeCall) → NodeLaw layout meaning b node → is_join node.block.kind ≡ true
+      → KeepsTuples node.block node.journal → MayCall layout meaning b call node
+      → KeepsTuples (after_call layout meaning b call node).block (after_call layout meaning b call node).journal
+  after_each node (NodeCall.want p k) whole join law may = port_stays node law p (wants k) refl
+  after_each node (NodeCall.turn_down p k) whole join law may = port_stays node law p (turns_down k) refl
+  after_each node (NodeCall.postpone p k) whole join law may = port_stays node law p (postpones k) refl
+  after_each node (NodeCall.refuse p k) whole join law may = port_stays node law p (refuses k) refl
+  after_each node (NodeCall.consume p k) whole join law may = port_stays node law p (consumes k) refl
+  after_each node (NodeCall.open_with p k value) whole join law may = port_stays node law p (opens k value) refl
+  after_each node (NodeCall.close p k) whole join law may = taken_in node law p k (hand_in k (port_at p node.block).ends)
+  after_each node (NodeCall.offer k) whole join law may = exits_stay node law (offers k (prepares node.block.exits)) refl
+  after_each node (NodeCall.give k) whole join law may = given_out node law k (head_of node.block.exits) refl
+  after_each node (NodeCall.deny k) whole join law may = exits_stay node law (denies k node.block.exits) refl
+  after_each node (NodeCall.withdraw k) whole join law may = exits_stay node law (withdraws k node.block.exits) refl
+  after_each node (NodeCall.end_link k how) whole join law may = exits_stay node law (ends_link k how node.block.exits) refl
+  after_each node (NodeCall.look_in p k phase) whole join law may = port_stays node law p (port_looks k phase) refl
+  after_each node (NodeCall.look_out k phase) whole join law may = exits_stay node law (exit_looks k phase node.block.exits) refl
+  after_each node (NodeCall.copy call) whole join law may = absurd (no_copy_at layout meaning b node whole (copy_place call) may.place)
+  after_each node NodeCall.begin whole join law may = law
+  after_each node NodeCall.make whole join law may =
+      let kind = node.block.kind in
+      makes_by (λ new. KeepsTuples new node.journal) (block_makes layout meaning b) node.block
+      (λ batch. never_both (is_batch kind) batch (join_alone kind join))
+      (λ joins. tuple_made node law ((may_work_tells node.block may.waits).tuple join))
+      (λ broadcast. never_both (is_join kind) join (broadcast_unjoined kind broadcast))
+      (λ other alone single. never_both (is_join kind) join alone)
+  after_each node (NodeCall.complete p) whole join law may = completed node law p
+  after_each node (NodeCall.fault number) whole join law may = stops_so node law (outcome.Faulted number) (Fault number) refl refl
+  after_each node NodeCall.finish whole join law may = stops_so node law outcome.Done Done refl refl
 
-pub tuples_stand : (W : Type 0) → TuplesStand W
-tuples_stand W layout meaning b node call law may = after_each layout meaning b node call law may
+  -- it stays a join
+  stays_join : (node : NodeState) (call : NodeCall) → NodeLaw layout meaning b node → MayCall layout meaning b call node
+      → is_join (after_call layout meaning b call node).block.kind ≡ true → is_join node.block.kind ≡ true
+  stays_join node call law may join =
+      let before = law.shape in
+      let after = shape_kept W layout meaning b node call law may in
+      ap is_join (before.kind_is ∙ sym after.kind_is) ∙ join
+
+pub tuples_kept_so : (W : Type 0) → TuplesKept W
+tuples_kept_so W layout meaning b node call law may join =
+    let was = stays_join layout meaning b node call law may join in
+    after_each layout meaning b node call law was (law.tuples was) may
