@@ -1,5 +1,6 @@
 //! Networks that are refused, each with its line, and some that are read and look as if they were not.
-use crate::driver::{ENOUGH, add, chain, check, has_lines, is_refusal, is_report, told_by};
+use crate::check::check;
+use flow_trial::{ENOUGH, add, chain, has_lines, is_refusal, is_report, told_by};
 use std::alloc::{AllocError, Global};
 use std::io;
 use std::io::Write;

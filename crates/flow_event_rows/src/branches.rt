@@ -1,11 +1,13 @@
 //! Networks whose links branch and meet, whose blocks have room for so many messages, and whose links carry some
 //! messages or so many: as drafts to which values are posted, in several orders of events, and as texts with records.
-use crate::driver::{ENOUGH, add, check, has_lines, told_by};
-use crate::events::{came_to, do_first, in_order, post_all, settles, wander};
+use crate::check::check;
 use flow_link::{
     BlockDef, BlockKind, Draft, Ending, LinkDef, Place, PlanFault, PlanRefusal, plan_check,
 };
 use flow_net::Net;
+use flow_trial::{
+    ENOUGH, add, came_to, do_first, has_lines, in_order, post_all, settles, told_by, wander,
+};
 use flow_value::{Steps, Text, Value, When};
 use std::alloc::{AllocError, Global};
 use std::process::Abort;
@@ -427,8 +429,7 @@ fn wander_each(rt: &(impl Abort + Print), alloc: Global, table: &[Case]) -> Resu
     for case in table {
         for seed in 0..SEEDS {
             let mut net = network(alloc, case)?;
-            let is_due = wander(rt, alloc, &mut net, seed)?
-                && came_to(alloc, &net, case.5)?.is_some();
+            let is_due = wander(alloc, &mut net, seed)? && came_to(alloc, &net, case.5)?.is_some();
             check(rt, case.0, is_due);
         }
     }
@@ -452,7 +453,7 @@ fn order_each(rt: &(impl Abort + Print), alloc: Global, table: &[Case]) -> Resul
         ] {
             let mut net = network(alloc, case)?;
             let choices = in_order(alloc, net.plan(), links_first, backwards)?;
-            let is_due = do_first(rt, alloc, &mut net, choices.as_slice())?
+            let is_due = do_first(alloc, &mut net, choices.as_slice())?
                 && came_to(alloc, &net, case.5)?.is_some();
             check(rt, case.0, is_due);
         }

@@ -1,8 +1,7 @@
 //! Blocks that work on several messages at once: their results come out in the order of the messages.
-use crate::driver::{ENOUGH, Told, add, chain, has_lines, told_with};
-use crate::events::{came_to, network, settles};
 use flow_link::Ending;
 use flow_net::Settled;
+use flow_trial::{ENOUGH, Told, add, came_to, chain, has_lines, network, settles, told_with};
 use std::alloc::{AllocError, Global};
 use std::process::Abort;
 use std::sync::Wait;

@@ -9,9 +9,9 @@
 //! `settle`            all that may happen
 //! `change`            from here on the steps are those of an equal network, or of the first one again
 //! `shows LINES`       nothing: the report has these lines
-use crate::events::{Asked, PAIR, Results, THREE, came_to, is_done, network, settles};
 use flow_link::{Ending, LinkEnd, Move};
 use flow_net::Net;
+use flow_trial::{Asked, PAIR, Results, THREE, came_to, is_done, network, settles};
 use flow_value::{MessageHeader, Steps};
 use std::alloc::Global;
 use std::mem::swap;
@@ -132,7 +132,7 @@ impl Stage {
     /// Asks for the event of these words, and tells whether it is done.
     fn does(&mut self, rt: &impl Abort, alloc: Global, words: &str, id: u64) -> Result<bool, Fail> {
         let asked = asked_by(words, id).ok_or("no event")?;
-        is_done(rt, alloc, &mut self.net, &mut self.results, asked)
+        is_done(alloc, &mut self.net, &mut self.results, asked)
     }
 
     /// Tells whether this may not happen. A result that is asked for has to be there, and is kept.

@@ -3,7 +3,7 @@ use Rattle.std.proofs.lemmas.List.Sums.{sum_by-drop_more}
 use Rattle.flow_link.specs.declared.draft.BlockDef.{BlockDef}
 use Rattle.flow_link.specs.Plan.{no_block}
 use Rattle.flow_link.specs.Planned.{layout_of}
-use Rattle.flow_rows.proofs.events.post_all.Goals as goal
+use Rattle.flow_trial.proofs.nets.post_all.Goals as goal
 
 module _ {W : Type 0} (blocks : List (BlockDef W)) where
   -- one more block, to which something is posted where it is an input
