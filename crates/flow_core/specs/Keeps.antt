@@ -16,8 +16,8 @@ use Rattle.flow_block.specs.NodeLaw.{NodeLaw}
 use Rattle.flow_core.specs.State.{NetState, node_at, input_at, ends_of}
 
 module _ {W : Type 0} (layout : Layout W) where
-  -- a network of blocks that are built, linked in any way that a plan allows, none of which reserves, and from which nothing is
-  -- received
+  -- a network of blocks of kinds that are built, linked in any way that a plan allows; none of them reserves, and nothing is
+  -- received from it
   pub record IsRun : Type 0 where
     pub leads : LeadsWell layout
     pub well_formed : IsWellFormed layout.blocks layout.links
