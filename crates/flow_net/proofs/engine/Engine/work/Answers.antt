@@ -1,8 +1,6 @@
 use Rattle.flow_core.specs.State.{node_at}
 use Rattle.flow_moves.proofs.MerelyKept.{blocks_planned}
 use Rattle.flow_moves.proofs.WorksAtOnce.{begin_works}
-use Rattle.std.proofs.Common.{◌<◌, length, sym, subst, ap}
-use Rattle.flow_value.specs.declared.value.Value.{Value}
 use Rattle.flow_link.specs.Planned.{layout_of}
 use Rattle.flow_exec.specs.Works.{works_of}
 use Rattle.flow_net.proofs.EventsDone.{worked_so}
