@@ -4,6 +4,7 @@ pub mod KeyTestsTell
 pub mod ListsGrow
 pub mod NoPlanFor
 pub mod PickedYields
+pub mod PlainBytes
 pub mod PrintedGrows
 pub mod RecordsPost
 pub mod ReportGrows

@@ -1,5 +1,5 @@
 -- How values are printed: numbers in decimal, texts between double quotes, rows and lists between brackets.
-use Rattle.std.specs.Prelude.{ℕ, ◌+◌, ◌/◌, ◌%◌, ◌==◌, nat_lt, ◌||◌, if◌then◌else◌, Bool, true, false, List, [], ◌∷◌, ◌++◌, map}
+use Rattle.std.specs.Prelude.{ℕ, ◌+◌, ◌/◌, ◌%◌, ◌==◌, leb, nat_lt, not, ◌&&◌, ◌||◌, if◌then◌else◌, Bool, true, false, List, [], ◌∷◌, ◌++◌, map}
 use Rattle.std.specs.Fmt.{signed_decimal}
 use Rattle.std.specs.List.{join_with_byte}
 use Rattle.flow_value.specs.Items.{Items, done, int_then, text_then, row_then}
@@ -16,6 +16,10 @@ escaped byte =
     if (byte == 34) || (byte == 92) then 92 ∷ byte ∷ []
     else if nat_lt byte 32 || (byte == 127) then 92 ∷ 120 ∷ hex_digit (byte / 16) ∷ hex_digit (byte % 16) ∷ []
     else byte ∷ []
+
+-- the byte stands for itself
+abbrev pub is_plain_byte : ℕ → Bool
+is_plain_byte byte = leb 32 byte && not (byte == 34) && not (byte == 92) && not (byte == 127)
 
 -- the bytes of a text, one by one
 abbrev pub escapes : List ℕ → List ℕ

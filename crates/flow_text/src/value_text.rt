@@ -1,20 +1,50 @@
 //! Prints values: numbers in decimal, texts between double quotes, rows and lists between brackets.
-ghost use Rattle.std.specs.Prelude.{◌≡◌, ◌<◌, ◌↔◌, true, false, [], ◌∷◌, ◌++◌, IsTrue, OnOk};
+ghost use Rattle.std.specs.Prelude.{◌≡◌, ◌<◌, ◌↔◌, true, false, [], ◌∷◌, ◌++◌, map, IsTrue, OnOk};
 ghost use Rattle.std.specs.Io.KnownBytes.{Appends, append_known};
+ghost use Rattle.flow_link.specs.Lists.{below};
 ghost use Rattle.flow_text.specs.Written.{StaysInFront};
-ghost use Rattle.flow_text.specs.Printed.{hex_digit, escaped, escapes, quoted, value_text, list_text, comma_unless};
+ghost use Rattle.flow_text.specs.Printed.{hex_digit, is_plain_byte, escaped, escapes, quoted, value_text, list_text};
+ghost use Rattle.flow_text.specs.Printed.{comma_unless};
 
 use crate::page::{Page, Unwritten, gather_bytes};
 use flow_value::Value;
 use itoa::Buffer;
 use std::io::Write;
 
-// Whether the byte stands for itself in a printed text. It has no branches.
+/// For each byte whether it stands for itself in a printed text.
+const PLAIN: [bool; 256] = [
+    false, false, false, false, false, false, false, false, false, false, false, false, false,
+    false, false, false, false, false, false, false, false, false, false, false, false, false,
+    false, false, false, false, false, false, true, true, false, true, true, true, true, true,
+    true, true, true, true, true, true, true, true, true, true, true, true, true, true, true, true,
+    true, true, true, true, true, true, true, true, true, true, true, true, true, true, true, true,
+    true, true, true, true, true, true, true, true, true, true, true, true, true, true, true, true,
+    true, true, true, true, false, true, true, true, true, true, true, true, true, true, true,
+    true, true, true, true, true, true, true, true, true, true, true, true, true, true, true, true,
+    true, true, true, true, true, true, true, true, false, true, true, true, true, true, true,
+    true, true, true, true, true, true, true, true, true, true, true, true, true, true, true, true,
+    true, true, true, true, true, true, true, true, true, true, true, true, true, true, true, true,
+    true, true, true, true, true, true, true, true, true, true, true, true, true, true, true, true,
+    true, true, true, true, true, true, true, true, true, true, true, true, true, true, true, true,
+    true, true, true, true, true, true, true, true, true, true, true, true, true, true, true, true,
+    true, true, true, true, true, true, true, true, true, true, true, true, true, true, true, true,
+    true, true, true, true, true, true, true, true, true, true, true, true, true, true, true, true,
+    true, true, true, true, true, true, true, true, true, true,
+];
+
+#[inline]
+fn plain_bytes() -> &'static [bool; 256]
+    ensures { result.now ≡ map is_plain_byte (below 256) }
+{
+    &PLAIN
+}
+
+// Whether the byte stands for itself in a printed text. It looks that up, since each byte of a report is asked for.
 #[inline]
 fn is_plain(byte: u8) -> bool
     ensures { IsTrue result ↔ (escaped byte ≡ byte ∷ []) }
 {
-    (byte >= 32) & (byte != b'"') & (byte != b'\\') & (byte != 127)
+    plain_bytes()[byte as usize]
 }
 
 fn hex_digit_of(number: u8) -> u8
