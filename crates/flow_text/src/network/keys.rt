@@ -107,6 +107,11 @@ const BLOCK: &[Key] = &[
         form: Form::Count,
         is_required: false,
     },
+    Key {
+        name: "ports",
+        form: Form::Count,
+        is_required: false,
+    },
 ];
 
 const LINK: &[Key] = &[
@@ -119,6 +124,11 @@ const LINK: &[Key] = &[
         name: "to",
         form: Form::Text,
         is_required: true,
+    },
+    Key {
+        name: "port",
+        form: Form::Count,
+        is_required: false,
     },
     Key {
         name: "when",
