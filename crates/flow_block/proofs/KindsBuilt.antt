@@ -19,6 +19,7 @@ built_kept Action e = refl
 built_kept Transform e = refl
 built_kept TransformMany e = refl
 built_kept Batch e = refl
+built_kept Join e = refl
 built_kept _ e = absurd (cc)
 
 -- what holds of buffers, actions, both transforms, batches and joins holds of each kind that is kept in order
