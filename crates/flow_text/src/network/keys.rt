@@ -170,6 +170,7 @@ pub(super) fn kind_of(word: &str) -> Option<BlockKind>
         "transform" => Some(BlockKind::Transform),
         "transform_many" => Some(BlockKind::TransformMany),
         "batch" => Some(BlockKind::Batch),
+        "join" => Some(BlockKind::Join),
         _ => None,
     }
 }
