@@ -425,12 +425,15 @@ fn block_choices(alloc: Global, plan: &Plan<Steps>) -> Result<Vec<Asked>, Fail> 
     Ok(choices)
 }
 
-fn steps_of(number: usize) -> [Asked; 6] {
+/// What a block may do by itself, which has three ports at most.
+fn steps_of(number: usize) -> [Asked; 8] {
     [
         Asked::Make(number),
         Asked::Begin(number),
         Asked::End(number, None),
         Asked::Complete(number, 0),
+        Asked::Complete(number, 1),
+        Asked::Complete(number, 2),
         Asked::Fault(number),
         Asked::Done(number),
     ]

@@ -9,6 +9,8 @@ mod branches;
 #[cfg(test)]
 mod devices;
 #[cfg(test)]
+mod drawn;
+#[cfg(test)]
 mod driver;
 #[cfg(test)]
 mod events;
@@ -16,6 +18,8 @@ mod events;
 mod functions;
 #[cfg(test)]
 mod intake;
+#[cfg(test)]
+mod joins;
 #[cfg(test)]
 mod lanes;
 #[cfg(test)]
