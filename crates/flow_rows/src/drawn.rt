@@ -12,6 +12,7 @@ use flow_link::{
     BlockDef, BlockKind, Draft, Ending, LinkDef, Plan, PlanFault, PlanRefusal, plan_check,
 };
 use flow_net::{Net, Posted};
+use flow_text::{TextFault, TextRefusal, read_plan};
 use flow_value::{Steps, Text, Value, When};
 use std::alloc::{AllocError, Global};
 use std::process::Abort;
@@ -401,10 +402,29 @@ pub(crate) fn check_cases(
 }
 
 /// The fault of the draft that is drawn so; none where it is a plan.
-pub(crate) fn fault_of(alloc: Global, drawn: &str) -> Result<Option<PlanFault>, Fail> {
+fn fault_of(alloc: Global, drawn: &str) -> Result<Option<PlanFault>, Fail> {
     match plan_check(alloc, draft(alloc, drawn)?) {
         Ok(_) => Ok(None),
         Err((_, PlanRefusal::Fault(fault))) => Ok(Some(fault)),
         Err((_, PlanRefusal::Memory)) => Err(Fail::new("out of memory")),
     }
+}
+
+/// The fault of the plan that is read from the text that is drawn so.
+fn fault_of_text(alloc: Global, drawn: &str) -> Result<Option<PlanFault>, Fail> {
+    match read_plan(alloc, text(alloc, drawn)?.as_slice()) {
+        Ok(_) => Ok(None),
+        Err(TextRefusal::Fault(TextFault::Plan(fault))) => Ok(Some(fault)),
+        Err(_) => Err(Fail::new("no draft")),
+    }
+}
+
+/// Whether this is the fault of what is drawn so, as a draft and as a text. A text cannot say whether a join is greedy.
+pub(crate) fn has_fault(
+    alloc: Global,
+    drawn: &str,
+    fault: Option<PlanFault>,
+) -> Result<bool, Fail> {
+    let is_read = drawn.contains("greedy") || fault_of_text(alloc, drawn)? == fault;
+    Ok(is_read && fault_of(alloc, drawn)? == fault)
 }

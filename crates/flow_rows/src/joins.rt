@@ -1,5 +1,5 @@
 //! Joins: a row of one message from each port, as long as each port has one.
-use crate::drawn::{check_cases, fault_of};
+use crate::drawn::{check_cases, has_fault};
 use flow_link::{Place, PlanFault};
 use std::test::Fail;
 
@@ -56,8 +56,8 @@ fn joins_make_pairs_and_triples(rt: HostRuntime) -> Result<(), Fail> {
     check_cases(&rt, rt.alloc(), JOINS)
 }
 
-/// Drafts of joins, and the fault of each; none where it is a plan.
-const DRAFTS: &[(&str, Option<PlanFault>)] = &[
+/// Networks with joins, and the fault of each; none where it is a plan.
+const FAULTS: &[(&str, Option<PlanFault>)] = &[
     ("j join", None),
     ("j join ports 3 capacity 1", None),
     ("j join greedy true", None),
@@ -108,9 +108,9 @@ const DRAFTS: &[(&str, Option<PlanFault>)] = &[
 ];
 
 #[test]
-fn drafts_of_joins_have_their_faults(rt: HostRuntime) -> Result<(), Fail> {
-    for (drawn, fault) in DRAFTS {
-        assert!(rt; fault_of(rt.alloc(), drawn)? == *fault, "{drawn}");
+fn joins_have_ports_and_options_in_range(rt: HostRuntime) -> Result<(), Fail> {
+    for (drawn, fault) in FAULTS {
+        assert!(rt; has_fault(rt.alloc(), drawn, *fault)?, "{drawn}");
     }
     Ok(())
 }
