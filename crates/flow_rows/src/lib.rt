@@ -7,6 +7,8 @@ mod blocks;
 #[cfg(test)]
 mod branches;
 #[cfg(test)]
+mod copies;
+#[cfg(test)]
 mod devices;
 #[cfg(test)]
 mod drawn;
