@@ -185,7 +185,8 @@ fn a_network_shows_its_parts(rt: HostRuntime) -> Result<(), Fail> {
     assert!(rt; net.state(0) == State::Done && net.state(1) == State::Faulted(1));
     assert!(rt; matches!(net.journal(0), [Mark::Took(0, 2, _), .., Mark::Done]));
     assert!(rt; net.posted(0).len() == 2 && net.posted(1).is_empty());
-    assert!(rt; net.held(1, 0).len() == 1);
+    let held = r#"block t faulted 1 ; held 0 ["x"]"#;
+    assert!(rt; came_to(alloc, &net, &[held])?.is_some());
     assert!(rt; net.left(1).len() + net.record(2).len() == 1);
     Ok(())
 }
