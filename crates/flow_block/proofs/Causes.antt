@@ -25,11 +25,12 @@ use Rattle.flow_outlet.specs.Outlet.{OutletState, head_of, end_at, stage_at, end
 use Rattle.flow_outlet.specs.Order.{StopsAt, IsNextOffer}
 use Rattle.flow_outlet.specs.declared.ends.OutEnd.{OutEnd}
 use Rattle.flow_outlet.proofs.OffersInOrder.{offers_in_order}
-use Rattle.flow_block.specs.Block.{port_at}
+use Rattle.flow_block.specs.Block.{BlockState, port_at}
 use Rattle.flow_block.specs.Causes.{MayRefuse, FaultsItself, FaultsInTime, OffersBefore, NextMovesHaveCauses}
 use Rattle.flow_block.specs.Node.{NodeState}
 use Rattle.flow_block.specs.NodeLaw.{NodeLaw}
-use Rattle.flow_block.specs.Peeks.{is_worked_off, could_stop, nothing_comes, fault_at_ports, fault_cause, is_held_up}
+use Rattle.flow_spread.specs.Spread.{is_at_rest as is_spread_at_rest}
+use Rattle.flow_block.specs.Peeks.{next_fault, is_worked_off, could_stop, nothing_comes, fault_at_ports, fault_cause, is_held_up}
 
 -- a move that an answer is
 answer_refuses : (answer : MessageStatus) → move_of answer ≡ Some move.Refuse → answer ≡ status.DecliningPermanently
@@ -201,6 +202,17 @@ module _ {W : Type 0} (layout : Layout W) (meaning : ℕ → Value → Result (L
       let held = offers_in_order.none node.block.exits may left none k here stops in
       record { place = held.place; before = held.before; goes_on = inr held.busy }
 
+rests_out : (stops rests copied : Bool) (cause : Option ℕ) (number : ℕ) → cond (stops && (rests && copied)) cause None ≡ Some number
+    → cond (stops && rests) cause None ≡ Some number
+rests_out true true true cause number e = e
+rests_out true true false cause number e = absurd (cc)
+rests_out true false copied cause number e = absurd (cc)
+rests_out false rests copied cause number e = absurd (cc)
+
+at_rest_out : (block : BlockState) (number : ℕ) → next_fault block ≡ Some number
+    → cond (could_stop block && is_at_rest block.exits) (fault_cause block) None ≡ Some number
+at_rest_out block number e = rests_out (could_stop block) (is_at_rest block.exits) (is_spread_at_rest block.copies) (fault_cause block) number e
+
 pub next_moves_have_causes : (W : Type 0) → NextMovesHaveCauses W
 next_moves_have_causes W layout meaning b node law = record {
   refuses = λ p k here there e. refuses_for layout meaning b node law p here (port_at p node.block).refusing refl (refuses_at (port_at p node.block) k (port_stage k (port_at p node.block)) e);
@@ -210,6 +222,6 @@ next_moves_have_causes W layout meaning b node law = record {
       (room_adds_up.room (port_at p node.block) capacity is).0
       (oldest_first.oldest (port_at p node.block) k (consumes_at (port_at p node.block) k (port_stage k (port_at p node.block)) e)).0.room;
   oldest = λ p k e. (oldest_first.oldest (port_at p node.block) k (consumes_at (port_at p node.block) k (port_stage k (port_at p node.block)) e)).1;
-  faults = λ number e. in_time layout meaning b node law (could_stop node.block) (is_at_rest node.block.exits) number refl refl e;
+  faults = λ number e. in_time layout meaning b node law (could_stop node.block) (is_at_rest node.block.exits) number refl refl (at_rest_out node.block number e);
   offers = λ k here going left none stops. offers_or layout meaning b node law k here going left none stops (may_offer node.block.exits) refl;
 }

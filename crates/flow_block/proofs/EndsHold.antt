@@ -1,6 +1,6 @@
 -- Each call keeps what a node says of how it ends.
-use Rattle.std.proofs.Common.{◌≡◌, ℕ, ◌<◌, leb, ltb, ◌==◌, ◌⊎◌, cond, not, ◌&&◌, ◌||◌, Bool, true, false, List, [], ◌∷◌, ◌++◌, length, set, map, Option, Some, None, is_some, Result, Ok, Err, refl, ap, sym, ◌∙◌, inl, inr, ⊎_elim, arith, eq-eqb, eqb-true, subst}
-use Rattle.std.proofs.lemmas.Bool.{ne_eqb, and_from, or_left, or_right, leb-false, lt-ltb}
+use Rattle.std.proofs.Common.{◌≡◌, ℕ, ◌<◌, leb, ltb, ◌==◌, ◌⊎◌, cond, not, ◌&&◌, ◌||◌, Bool, true, false, List, [], ◌∷◌, ◌++◌, length, set, map, Option, Some, None, is_some, Result, Ok, Err, refl, ap, sym, ◌∙◌, inl, inr, ⊎_elim, arith, eq-eqb, eqb-true, subst, suc, ap₂}
+use Rattle.std.proofs.lemmas.Bool.{or_cases, ne_eqb, and_from, or_left, or_right, leb-false, lt-ltb, and_parts}
 use Rattle.std.proofs.lemmas.List.{length-map, length-set}
 use Rattle.flow_value.specs.declared.value.Value.{Value}
 use Rattle.flow_link.specs.declared.draft.BlockKind.{BlockKind}
@@ -22,29 +22,37 @@ use Rattle.flow_intake.specs.PortLaw.{has_ended as has_port_ended}
 use Rattle.flow_intake.specs.Calls.{message_of, is_offered, is_posted, is_postponed, is_arrived, may_be_refused, first_of, refused_by, wants, turns_down, postpones, refuses, consumes, opens, closes, looks as port_looks, takes_next, gives_room, port_closes, port_fails}
 use Rattle.flow_intake.proofs.CountsOfEnds.{hand_comes}
 use Rattle.flow_outlet.specs.Outlet.{OutletState, is_empty, head_of, gives, prepares, offers, denies, withdraws, ends_link, looks as exit_looks, is_at_rest, end_at, stage_at}
-use Rattle.flow_block.specs.Block.{BlockState, port_in, port_at, with_port, with_jobs, held_by, made_of, fails, puts_out, yields, keeps_results, makes_of, is_batch, takes_group, makes_row, gives_out, stops_by}
+use Rattle.flow_link.proofs.ListTests.{never_both}
+use Rattle.flow_link.specs.Plan.{is_broadcast}
+use Rattle.flow_block.specs.Copies.{copy_place}
+use Rattle.flow_block.proofs.CopiesIdle.{no_copy_at, none_broadcast}
+use Rattle.flow_block.specs.Block.{BlockState, port_in, port_at, with_port, with_jobs, held_by, made_of, fails, puts_out, yields, keeps_results, makes_of, is_batch, takes_group, makes_row, gives_out, stops_by, is_join, makes_tuple}
 use Rattle.flow_block.specs.Jobs.{JobsState, begins, works_off}
 use Rattle.flow_block.specs.Node.{NodeState, NodeCall, takes_in, gives_from, in_link_at, out_link_at}
 use Rattle.flow_block.specs.NodeKeeps.{EndsKept, MayCall, InAt, MayGive, MayCompletePort, after_call}
-use Rattle.flow_block.specs.NodeLaw.{NodeLaw, ShapeLaw, EndsLaw, has_made_all, is_fault_seen, stops_at, outcome_in}
-use Rattle.flow_block.specs.Peeks.{fault_at_ports, holds_nothing, has_group, is_worked_off, next_fault, may_finish}
+use Rattle.flow_block.specs.NodeLaw.{NodeLaw, ShapeLaw, EndsLaw, has_made_all, is_fault_seen, stops_at, outcome_in, have_completed}
+use Rattle.flow_block.specs.Peeks.{fault_at_ports, holds_nothing, has_group, is_worked_off, next_fault, may_finish, all_ended}
 use Rattle.flow_block.specs.Planned.{block_makes}
 use Rattle.flow_block.proofs.FaultsSeen.{sees_at, seen_at_ports, cause_tells}
 use Rattle.flow_block.proofs.GoingOn.{open_goes_on, away_goes_on, rest_stays, wanted_away, wish_away, waiting_away, look_stays_home, may_work_tells, may_complete_tells, may_fault_tells, may_finish_tells}
 use Rattle.flow_block.proofs.JournalTells.{goes_on, not_faulted_so, outcome_more, ended_no_more, complete_where, ended_by_complete, ended_by_fault, ended_by_done}
-use Rattle.flow_block.proofs.KindsBuilt.{has_one_port, makes_by}
+use Rattle.flow_group.specs.Tuple.{has_run_dry, has_tuple, is_join_complete, all_ended as ports_ended}
+use Rattle.std.specs.List.{list_any}
+use Rattle.flow_block.proofs.KindsBuilt.{makes_by}
 use Rattle.flow_block.proofs.PortEnds.{PortEnds, StageGoes, end_moves, port_closed, port_failed, unseen_goes, refuses_so, look_goes}
 use Rattle.flow_block.proofs.PortsChange.{kept_at_one, kept_at_all, each_after_one, each_after_all}
 use Rattle.flow_block.proofs.TestsTell.{every_tells, some_last, some_set, every_set, some_map, every_map, none_left}
+use Rattle.flow_block.proofs.Joins.{tuple_at_one, tuple_at_all}
+use Rattle.flow_link.proofs.RoundsOfWalks.{some_here_below}
 
 -- The block
 
-record BlockEnds (made_all : Bool) (ports : List PortState) (exits : OutletState) (fault : Option ℕ)
+record BlockEnds (kind : BlockKind) (made_all : Bool) (ports : List PortState) (exits : OutletState) (fault : Option ℕ)
     (stopped : Option Outcome) (journal : List Mark) : Type 0 where
   stopped_is : stopped ≡ outcome_in journal
   at_rest : is_some stopped ≡ true → is_at_rest exits ≡ true
   done_empty : stopped ≡ Some outcome.Done → (holds_nothing ports ≡ true) × (exits.left ≡ [])
-  done_complete : is_done journal ≡ true → every (λ p. has_complete p journal) (below (length ports)) ≡ true
+  done_complete : is_done journal ≡ true → have_completed kind (length ports) journal ≡ true
   fault_cause : (number : ℕ) → has_fault number journal ≡ true
       → (fault ≡ Some number) ⊎ (some (λ (port : PortState). sees_at number port) ports ≡ true)
   faulted_by : (number : ℕ) → stopped ≡ Some (outcome.Faulted number)
@@ -52,8 +60,53 @@ record BlockEnds (made_all : Bool) (ports : List PortState) (exits : OutletState
 
 made_all_same : (block after : BlockState) (journal later : List Mark) → after.kind ≡ block.kind → after.size ≡ block.size
     → held_by after ≡ held_by block → holds_nothing after.ports ≡ holds_nothing block.ports
-    → has_complete 0 later ≡ has_complete 0 journal → has_made_all after later ≡ has_made_all block journal
-made_all_same block after journal later kind size held holds complete = rw (kind, size, held, holds, complete) refl
+    → has_tuple after.ports ≡ has_tuple block.ports → has_complete 0 later ≡ has_complete 0 journal → has_made_all after later ≡ has_made_all block journal
+made_all_same block after journal later kind size held holds tuple complete = rw (kind, size, held, holds, tuple, complete) refl
+
+-- of a complete join one port has ended
+record HasEnded (ports : List PortState) : Type 0 where
+  place : ℕ
+  there : place < length ports
+  ended : has_port_ended (port_in ports place).refusing ≡ true
+
+one_on : (port : PortState) (ports : List PortState) → HasEnded ports → HasEnded (port ∷ ports)
+one_on port ports has = record { place = suc has.place; there = omega (arith, has.there); ended = has.ended }
+
+dry_has_ended : (ports : List PortState) → list_any has_run_dry ports ≡ true → HasEnded ports
+dry_has_ended [] e = absurd (cc)
+dry_has_ended (port ∷ ports) e =
+    ⊎_elim
+    (λ here. record { place = 0; there = omega arith; ended = (and_parts (has_port_ended port.refusing) (is_empty port.waiting) here).0 })
+    (λ later. one_on port ports (dry_has_ended ports later))
+    (or_cases (has_run_dry port) (list_any has_run_dry ports) e)
+
+all_have_ended : (ports : List PortState) → 0 < length ports → ports_ended ports ≡ true → HasEnded ports
+all_have_ended [] there e = absurd (omega (arith, there))
+all_have_ended (port ∷ ports) there e =
+    record { place = 0; there = omega arith; ended = (and_parts (has_port_ended port.refusing) (ports_ended ports) e).0 }
+
+join_has_ended : (ports : List PortState) → 0 < length ports → is_join_complete ports ≡ true → HasEnded ports
+join_has_ended ports there e =
+    ⊎_elim (λ all. all_have_ended ports there all) (λ dry. dry_has_ended ports dry)
+    (or_cases (ports_ended ports) (list_any has_run_dry ports) e)
+
+-- the same ports have completed
+every_same : (test other : ℕ → Bool) (ps : List ℕ) → ((p : ℕ) → test p ≡ other p) → every test ps ≡ every other ps
+every_same test other [] same = refl
+every_same test other (p ∷ ps) same = rw (same p, every_same test other ps same) refl
+
+some_same : (test other : ℕ → Bool) (ps : List ℕ) → ((p : ℕ) → test p ≡ other p) → some test ps ≡ some other ps
+some_same test other [] same = refl
+some_same test other (p ∷ ps) same = rw (same p, some_same test other ps same) refl
+
+same_completed : (kind : BlockKind) (count : ℕ) (journal later : List Mark)
+    → ((p : ℕ) → has_complete p later ≡ has_complete p journal) → have_completed kind count journal ≡ true
+    → have_completed kind count later ≡ true
+same_completed kind count journal later same completed =
+    ap₂ (λ (one all : Bool). cond (is_join kind) one all)
+    (some_same (λ p. has_complete p later) (λ p. has_complete p journal) (below count) same)
+    (every_same (λ p. has_complete p later) (λ p. has_complete p journal) (below count) same)
+    ∙ completed
 
 -- a batch that has no group left to make
 pub no_group_left : (held : List Value) (size : ℕ) (enough ended complete : Bool) → 0 < size → leb size (length held) ≡ enough
@@ -69,10 +122,10 @@ no_group_left (value ∷ held) size false false complete some here unended none 
     (or_left (not complete) false (ap not (unended refl)))
 
 -- one that goes on has no end to account for
-going_ends : (made_all : Bool) (ports : List PortState) (exits : OutletState) (fault : Option ℕ) (stopped : Option Outcome)
+going_ends : (kind : BlockKind) (made_all : Bool) (ports : List PortState) (exits : OutletState) (fault : Option ℕ) (stopped : Option Outcome)
     (journal : List Mark)
-    → stopped ≡ None → outcome_in journal ≡ None → BlockEnds made_all ports exits fault stopped journal
-going_ends made_all ports exits fault stopped journal none going = record {
+    → stopped ≡ None → outcome_in journal ≡ None → BlockEnds kind made_all ports exits fault stopped journal
+going_ends kind made_all ports exits fault stopped journal none going = record {
   stopped_is = none ∙ sym going;
   at_rest = λ is. let never : false ≡ true = ap is_some (sym none) ∙ is in absurd (cc);
   done_empty = λ is. let never = sym none ∙ is in absurd (cc);
@@ -82,12 +135,12 @@ going_ends made_all ports exits fault stopped journal none going = record {
 }
 
 -- its exits change
-exits_move : (made_all : Bool) (ports : List PortState) (exits after : OutletState) (fault : Option ℕ) (stopped : Option Outcome)
+exits_move : (kind : BlockKind) (made_all : Bool) (ports : List PortState) (exits after : OutletState) (fault : Option ℕ) (stopped : Option Outcome)
     (journal : List Mark)
-    → BlockEnds made_all ports exits fault stopped journal → after.left ≡ exits.left
+    → BlockEnds kind made_all ports exits fault stopped journal → after.left ≡ exits.left
     → (is_at_rest exits ≡ true → is_at_rest after ≡ true)
-    → BlockEnds made_all ports after fault stopped journal
-exits_move made_all ports exits after fault stopped journal law left rest = record {
+    → BlockEnds kind made_all ports after fault stopped journal
+exits_move kind made_all ports exits after fault stopped journal law left rest = record {
   stopped_is = law.stopped_is;
   at_rest = λ is. rest (law.at_rest is);
   done_empty = λ is. let empty = law.done_empty is in (empty.0, left ∙ empty.1);
@@ -97,12 +150,12 @@ exits_move made_all ports exits after fault stopped journal law left rest = reco
 }
 
 -- one port changes, and holds what it held
-port_moves : (made_all : Bool) (ports : List PortState) (exits : OutletState) (fault : Option ℕ) (stopped : Option Outcome)
+port_moves : (kind : BlockKind) (made_all : Bool) (ports : List PortState) (exits : OutletState) (fault : Option ℕ) (stopped : Option Outcome)
     (journal : List Mark) (p : ℕ) (port : PortState)
-    → BlockEnds made_all ports exits fault stopped journal → port.waiting ≡ (port_in ports p).waiting
+    → BlockEnds kind made_all ports exits fault stopped journal → port.waiting ≡ (port_in ports p).waiting
     → ((number : ℕ) → sees_at number (port_in ports p) ≡ true → sees_at number port ≡ true)
-    → BlockEnds made_all (set ports p port) exits fault stopped journal
-port_moves made_all ports exits fault stopped journal p port law waiting seen =
+    → BlockEnds kind made_all (set ports p port) exits fault stopped journal
+port_moves kind made_all ports exits fault stopped journal p port law waiting seen =
     let holds =
     every_set (λ (q : PortState). is_empty q.waiting) ports p port (fresh_port None) (ap is_empty waiting) in
     record {
@@ -138,7 +191,7 @@ module _ {W : Type 0} (layout : Layout W) (meaning : ℕ → Value → Result (L
   }
 
   whole : (block : BlockState) (journal : List Mark) → Ends block journal
-      → BlockEnds (has_made_all block journal) block.ports block.exits block.fault block.stopped journal
+      → BlockEnds block.kind (has_made_all block journal) block.ports block.exits block.fault block.stopped journal
   whole block journal law = record {
     stopped_is = law.stopped_is;
     at_rest = law.at_rest;
@@ -150,7 +203,7 @@ module _ {W : Type 0} (layout : Layout W) (meaning : ℕ → Value → Result (L
 
   both : (block : BlockState) (journal : List Mark)
       → ((p : ℕ) → p < length block.ports → PortEndsBy block.fault journal p (port_in block.ports p))
-      → BlockEnds (has_made_all block journal) block.ports block.exits block.fault block.stopped journal
+      → BlockEnds block.kind (has_made_all block journal) block.ports block.exits block.fault block.stopped journal
       → Ends block journal
   both block journal ports law = record {
     stopped_is = law.stopped_is;
@@ -178,15 +231,16 @@ module _ {W : Type 0} (layout : Layout W) (meaning : ℕ → Value → Result (L
       let old = port_at p block in
       let holds = every_set (λ (q : PortState). is_empty q.waiting) block.ports p port (fresh_port None) (ap is_empty waiting) in
       let held = kept_at_one (λ (q : PortState). q.waiting) block.ports p 0 port waiting in
-      let made = made_all_same block (record block { ports = set block.ports p port }) journal journal refl refl held holds refl in
+      let tuple = tuple_at_one block.ports p port waiting in
+      let made = made_all_same block (record block { ports = set block.ports p port }) journal journal refl refl held holds tuple refl in
       both (record block { ports = set block.ports p port }) journal
       (each_after_one (PortEndsBy block.fault journal) block.ports p port
       (λ there. rw (refusing, ends)
       (end_moves block.fault (has_ended p journal) (has_complete p journal) old.refusing old.ends k end
       (each_port block journal law p small) goes))
       (λ q there other. each_port block journal law q there))
-      (subst (λ (all : Bool). BlockEnds all (set block.ports p port) block.exits block.fault block.stopped journal) (sym made)
-      (port_moves (has_made_all block journal) block.ports block.exits block.fault block.stopped journal p port (whole block journal law) waiting
+      (subst (λ (all : Bool). BlockEnds block.kind all (set block.ports p port) block.exits block.fault block.stopped journal) (sym made)
+      (port_moves block.kind (has_made_all block journal) block.ports block.exits block.fault block.stopped journal p port (whole block journal law) waiting
       (λ number is. rw ends
       (some_set (λ (e : EndState). is_fault_seen number e) old.ends k end (fresh_end 0) (goes.fault_kept number) is))))
 
@@ -196,14 +250,14 @@ module _ {W : Type 0} (layout : Layout W) (meaning : ℕ → Value → Result (L
       → (is_at_rest block.exits ≡ true → is_at_rest exits ≡ true) → Ends (record block { exits = exits }) journal
   exits_go block journal law exits left rest =
       both (record block { exits = exits }) journal (each_port block journal law)
-      (exits_move (has_made_all block journal) block.ports block.exits exits block.fault block.stopped journal (whole block journal law) left rest)
+      (exits_move block.kind (has_made_all block journal) block.ports block.exits exits block.fault block.stopped journal (whole block journal law) left rest)
 
   exits_going : (block : BlockState) (journal : List Mark) → Ends block journal → (exits : OutletState)
       → block.stopped ≡ None
       → Ends (record block { exits = exits }) journal
   exits_going block journal law exits none =
       both (record block { exits = exits }) journal (each_port block journal law)
-      (going_ends _ block.ports exits block.fault block.stopped journal none (sym law.stopped_is ∙ none))
+      (going_ends block.kind _ block.ports exits block.fault block.stopped journal none (sym law.stopped_is ∙ none))
 
   -- a mark that ends nothing
   record EndsNothing (mark : Mark) : Type 0 where
@@ -248,7 +302,7 @@ module _ {W : Type 0} (layout : Layout W) (meaning : ℕ → Value → Result (L
       (each_port block node.journal law.ends p at.port) goes))
       (λ q there other. port_marked block.fault node.journal mark nothing q (port_in block.ports q)
       (each_port block node.journal law.ends q there)))
-      (going_ends _ (set block.ports p port) block.exits block.fault block.stopped (node.journal ++ mark ∷ []) none
+      (going_ends block.kind _ (set block.ports p port) block.exits block.fault block.stopped (node.journal ++ mark ∷ []) none
       (going_marked node.journal mark nothing going))
 
   given_out : (node : NodeState) → NodeLaw layout meaning b node → (k : ℕ) (value : Option Value) → MayGive k node
@@ -265,7 +319,7 @@ module _ {W : Type 0} (layout : Layout W) (meaning : ℕ → Value → Result (L
       (each_after_all (PortEndsBy block.fault (node.journal ++ mark ∷ [])) change block.ports
       (λ q there. port_marked block.fault node.journal mark nothing q (change (port_in block.ports q))
       (each_port block node.journal law.ends q there)))
-      (going_ends _ (map change block.ports) (gives_out k block).exits block.fault block.stopped
+      (going_ends block.kind _ (map change block.ports) (gives_out k block).exits block.fault block.stopped
       (node.journal ++ mark ∷ []) none
       (going_marked node.journal mark nothing (sym law.ends.stopped_is ∙ none)))
 
@@ -280,8 +334,19 @@ module _ {W : Type 0} (layout : Layout W) (meaning : ℕ → Value → Result (L
       (each_after_one (PortEndsBy block.fault journal) block.ports 0 (change (port_at 0 block))
       (λ there. rw (refusing, ends) (each_port block journal law 0 there))
       (λ q there other. each_port block journal law q there))
-      (going_ends _ (set block.ports 0 (change (port_at 0 block))) exits block.fault block.stopped journal none
+      (going_ends block.kind _ (set block.ports 0 (change (port_at 0 block))) exits block.fault block.stopped journal none
       (sym law.stopped_is ∙ none))
+
+  -- it works on a message of each port
+  pub works_on_each : (block : BlockState) (journal : List Mark) → Ends block journal
+      → (change : PortState → PortState) (exits : OutletState) → ((port : PortState) → (change port).refusing ≡ port.refusing)
+      → ((port : PortState) → (change port).ends ≡ port.ends) → block.stopped ≡ None
+      → Ends (record block { ports = map change block.ports; exits = exits }) journal
+  works_on_each block journal law change exits refusing ends none =
+      both (record block { ports = map change block.ports; exits = exits }) journal
+      (each_after_all (PortEndsBy block.fault journal) change block.ports
+      (λ q there. rw (refusing (port_in block.ports q), ends (port_in block.ports q)) (each_port block journal law q there)))
+      (going_ends block.kind _ (map change block.ports) exits block.fault block.stopped journal none (sym law.stopped_is ∙ none))
 
   kept_as : (kind : BlockKind) (values : List Value) (block : BlockState) (journal : List Mark) → Ends block journal
       → block.stopped ≡ None
@@ -311,7 +376,7 @@ module _ {W : Type 0} (layout : Layout W) (meaning : ℕ → Value → Result (L
       (each_after_all (PortEndsBy (Some number) journal) port_fails block.ports
       (λ q there. port_failed block.fault number (has_ended q journal) (has_complete q journal)
       (port_in block.ports q).refusing (port_in block.ports q).ends (each_port block journal law q there)))
-      (going_ends _ (map port_fails block.ports) block.exits (Some number) block.stopped journal none
+      (going_ends block.kind _ (map port_fails block.ports) block.exits (Some number) block.stopped journal none
       (sym law.stopped_is ∙ none))
 
   made_next : (first : Option Value) (block : BlockState) (journal : List Mark) → Ends block journal
@@ -341,7 +406,7 @@ module _ {W : Type 0} (layout : Layout W) (meaning : ℕ → Value → Result (L
       (λ q small other. other_marked block.fault node.journal p q (port_in block.ports q)
       (ne_eqb p q (λ same. other (sym same)))
       (each_port block node.journal law.ends q small)))
-      (going_ends _ (set block.ports p (port_closes old)) block.exits block.fault block.stopped later
+      (going_ends block.kind _ (set block.ports p (port_closes old)) block.exits block.fault block.stopped later
       (law.ends.stopped_is ∙ going)
       (outcome_more node.journal mark going))
     where
@@ -368,21 +433,23 @@ module _ {W : Type 0} (layout : Layout W) (meaning : ℕ → Value → Result (L
 
   -- it could make nothing more, and stops
   made_all_by : (block : BlockState) (journal later : List Mark) → ShapeLaw layout meaning b block → Ends block journal
-      → (how : Outcome) → has_complete 0 later ≡ has_complete 0 journal → (batch : Bool) → is_batch block.kind ≡ batch
-      → cond batch (not (has_group block)) (holds_nothing block.ports) ≡ true
+      → (how : Outcome) → has_complete 0 later ≡ has_complete 0 journal
+      → (batch join : Bool) → is_batch block.kind ≡ batch → is_join block.kind ≡ join
+      → cond batch (not (has_group block)) (cond join (not (has_tuple block.ports)) (holds_nothing block.ports)) ≡ true
       → has_made_all (stops_by how block) later ≡ true
-  made_all_by block journal later shape law how same true is done =
-      let one = has_one_port layout meaning b block shape in
-      let there : 0 < length block.ports = omega (arith, one) in
+  made_all_by block journal later shape law how same true join is joins done =
+      let there = shape.some_port in
       let held = kept_at_all (λ (port : PortState). port.waiting) port_closes block.ports 0 (λ port. refl) in
       let left =
       no_group_left (held_by block) block.size (leb block.size (length (held_by block)))
       (has_port_ended (port_at 0 block).refusing) (has_complete 0 journal) (shape.some_size is) refl
       (λ unended. (open_goes_on layout meaning b block journal law 0 there unended).1) done in
       rw (is, held, same) left
-  made_all_by block journal later shape law how same false is done =
+  made_all_by block journal later shape law how same false true is joins done =
+      rw (is, joins, tuple_at_all port_closes block.ports (λ port. refl)) done
+  made_all_by block journal later shape law how same false false is joins done =
       let holds = every_map (λ (q : PortState). is_empty q.waiting) port_closes block.ports (λ q. refl) in
-      rw is (holds ∙ done)
+      rw (is, joins) (holds ∙ done)
 
   faulted : (block : BlockState) (journal : List Mark) → ShapeLaw layout meaning b block → Ends block journal
       → (number : ℕ) → next_fault block ≡ Some number
@@ -422,13 +489,31 @@ module _ {W : Type 0} (layout : Layout W) (meaning : ℕ → Value → Result (L
             ⊎_elim (λ own. inl (own ∙ ap Some same)) (λ seen. inr (
               seen.none,
               made_all_by block journal later shape law (outcome.Faulted number)
-                  (some_no_more (is_complete_mark 0) journal mark refl) (is_batch block.kind) refl seen.empty,
+                  (some_no_more (is_complete_mark 0) journal mark refl) (is_batch block.kind) (is_join block.kind) refl refl
+                  seen.empty,
             )) cause;
       })
 
-  finished : (block : BlockState) (journal : List Mark) → Ends block journal → may_finish block ≡ true
+  -- where it is complete and holds nothing, the marks say so
+  completed_so : (block : BlockState) (journal : List Mark) → 0 < length block.ports → Ends block journal → block.stopped ≡ None
+      → holds_nothing block.ports ≡ true → (join : Bool) → is_join block.kind ≡ join
+      → cond join (is_join_complete block.ports) (all_ended block.ports) ≡ true
+      → have_completed block.kind (length block.ports) journal ≡ true
+  completed_so block journal there law none empty true joins complete =
+      let going = sym law.stopped_is ∙ none in
+      let first = join_has_ended block.ports there complete in
+      rw joins (some_here_below (λ p. has_complete p journal) (length block.ports) first.place first.there
+      (complete_where first.place journal going (sym (law.ended_is first.place first.there) ∙ first.ended)))
+  completed_so block journal there law none empty false joins complete =
+      let going = sym law.stopped_is ∙ none in
+      rw joins (every_below (λ p. has_complete p journal) (length block.ports)
+      (λ p small.
+      complete_where p journal going (sym (law.ended_is p small)
+      ∙ every_tells (λ (port : PortState). has_port_ended port.refusing) block.ports (fresh_port None) p complete small)))
+
+  finished : (block : BlockState) (journal : List Mark) → 0 < length block.ports → Ends block journal → may_finish block ≡ true
       → Ends (stops_by outcome.Done block) (journal ++ Done ∷ [])
-  finished block journal law may =
+  finished block journal there law may =
       let tests = may_finish_tells block may in
       let none = tests.going in
       let going = sym law.stopped_is ∙ none in
@@ -443,13 +528,11 @@ module _ {W : Type 0} (layout : Layout W) (meaning : ℕ → Value → Result (L
         stopped_is = sym (outcome_more journal Done going);
         at_rest = λ is. tests.rest;
         done_empty = λ is. (holds ∙ tests.empty, none_left block.exits.left tests.none_left);
-        done_complete = λ is. every_below (λ p. has_complete p later) (length closed)
-            (λ p there.
-            let small : p < length block.ports = omega (arith, there, length-map block.ports port_closes) in
-            some_no_more (is_complete_mark p) journal Done refl
-            ∙ complete_where p journal going (sym (law.ended_is p small)
-            ∙ every_tells (λ (port : PortState). has_port_ended port.refusing) block.ports (fresh_port None) p
-            tests.ended small));
+        done_complete = λ is.
+            rw (length-map block.ports port_closes)
+            (same_completed block.kind (length block.ports) journal later
+            (λ p. some_no_more (is_complete_mark p) journal Done refl)
+            (completed_so block journal there law none tests.empty (is_join block.kind) refl tests.ended));
         fault_cause = λ number is.
             let before = some_no_more (is_fault_mark number) journal Done refl in
             let never = sym (not_faulted_so number journal going) ∙ sym before ∙ is in
@@ -551,6 +634,7 @@ module _ {W : Type 0} (layout : Layout W) (meaning : ℕ → Value → Result (L
       exits_go node.block node.journal law.ends (exit_looks k phase node.block.exits) refl
       (rest_stays node.block.exits.ends k (record end { stage = source_looks end.stage phase })
       (look_stays_home end.stage phase))
+  after_each node (NodeCall.copy call) law may = absurd (no_copy_at layout meaning b node law (copy_place call) may.place)
   after_each node NodeCall.begin law may = jobs_change node.block node.journal law.ends begins
   after_each node NodeCall.make law may =
       let block = node.block in
@@ -558,10 +642,12 @@ module _ {W : Type 0} (layout : Layout W) (meaning : ℕ → Value → Result (L
       makes_by (λ new. Ends new node.journal) (block_makes layout meaning b) block
       (λ batch. works_on block node.journal law.ends (takes_group block.size) (makes_row block).exits block.jobs
       block.recorded refl refl going)
-      (λ other. made_next (first_of (held_by block)) block node.journal law.ends going)
+      (λ join. works_on_each block node.journal law.ends takes_next (makes_tuple block).exits (λ port. refl) (λ port. refl) going)
+      (λ broadcast. never_both (is_broadcast block.kind) broadcast (none_broadcast block.kind law.shape.built))
+      (λ other alone single. made_next (first_of (held_by block)) block node.journal law.ends going)
   after_each node (NodeCall.complete p) law may = completed node law p may
   after_each node (NodeCall.fault number) law may = faulted node.block node.journal law.shape law.ends number may
-  after_each node NodeCall.finish law may = finished node.block node.journal law.ends may
+  after_each node NodeCall.finish law may = finished node.block node.journal law.shape.some_port law.ends may
 
 pub ends_kept : (W : Type 0) → EndsKept W
 ends_kept W layout meaning b node call law may = after_each layout meaning b node call law may

@@ -1,5 +1,5 @@
 -- Each call keeps a block's exits in order.
-use Rattle.std.proofs.Common.{◌≡◌, ℕ, ◌<◌, cond, Bool, true, false, ◌||◌, List, [], ◌∷◌, length, set, map, Option, Some, None, is_some, Result, Ok, Err, refl, ap, sym, ◌∙◌, subst}
+use Rattle.std.proofs.Common.{◌≡◌, ℕ, ◌-◌, ◌<◌, cond, Bool, true, false, ◌||◌, List, [], ◌∷◌, length, set, map, Option, Some, None, is_some, Result, Ok, Err, refl, ap, sym, ◌∙◌, subst}
 use Rattle.std.specs.Option.{ForSome}
 use Rattle.flow_value.specs.declared.value.Value.{Value}
 use Rattle.flow_link.specs.declared.draft.BlockKind.{BlockKind}
@@ -24,7 +24,10 @@ use Rattle.flow_outlet.specs.Outlet.{OutletState, head_of, end_at, stage_at, is_
 use Rattle.flow_outlet.proofs.LawKept.{calls_keep_law}
 use Rattle.flow_outlet.proofs.OffersInOrder.{offers_in_order}
 use Rattle.flow_outlet.proofs.OneEndChanges.{each_set}
-use Rattle.flow_block.specs.Block.{BlockState, port_at, unit_weight, made_of, keeps_results, yields, makes_of, put_by_kind, put_of, values_of_result, row_of, next_group, group_weight, takes_group, makes_row, is_batch, gives_out, stops_by, held_by}
+use Rattle.flow_link.specs.Plan.{is_broadcast}
+use Rattle.flow_spread.specs.Spread.{puts}
+use Rattle.flow_block.specs.Copies.{after_copy, copies_left}
+use Rattle.flow_block.specs.Block.{BlockState, port_at, copies_next, unit_weight, made_of, keeps_results, yields, makes_of, put_by_kind, put_of, values_of_result, row_of, next_group, group_weight, takes_group, makes_row, is_batch, gives_out, stops_by, held_by, is_join, makes_tuple}
 use Rattle.flow_block.specs.Node.{NodeState, NodeCall, hand_at, takes_in, gives_from}
 use Rattle.flow_block.specs.NodeLaw.{ExitsLaw, is_kept}
 use Rattle.flow_block.specs.NodeKeeps.{MayCall, after_call, ExitsKept}
@@ -34,6 +37,8 @@ use Rattle.flow_block.proofs.EndsTell.{none_kept_by_looks}
 use Rattle.flow_block.proofs.FaultsSeen.{StaysSeen, stays_at_ends, stays_at_ports, seen_over_ports, seen_by_looks, unseen_where}
 use Rattle.flow_block.proofs.GoingOn.{may_fault_tells, may_finish_tells}
 use Rattle.flow_block.proofs.KindsBuilt.{makes_by}
+use Rattle.flow_group.specs.Tuple.{tuple_of}
+use Rattle.flow_block.proofs.Joins.{join_alone}
 
 -- The law of the exits
 
@@ -160,6 +165,29 @@ module _ {W : Type 0} (layout : Layout W) (meaning : ℕ → Value → Result (L
       none_kept = law.none_kept;
     }
 
+    tuple_keeps : lacks_ids (tuple_of block.ports ∷ []) block.exits ≡ false → ExitsLaw layout meaning b (makes_tuple block)
+    tuple_keeps fit = record {
+      law = calls_keep_law.put (is_pending (makes_tuple block)) block.stopped block.exits
+          (subst (λ (seen : Option ℕ). OutletLaw (is_some block.fault || is_some seen) block.stopped block.exits)
+          (sym (seen_over_ports takes_next (λ port. refl) block.ports)) law.law)
+          (tuple_of block.ports ∷ []) (unit_weight (port_at 0 block).capacity) fit;
+      none_kept = law.none_kept;
+    }
+
+    -- room comes back to its ports
+    room_comes : (room : ℕ) → ExitsLaw layout meaning b (record block { ports = map (gives_room room) block.ports })
+    room_comes room =
+        let same = seen_over_ports (gives_room room) (λ port. refl) block.ports in
+        ports_change (map (gives_room room) block.ports)
+        (λ seen. subst (λ (f : Option ℕ). is_some f ≡ true) (sym same) seen)
+
+    copy_keeps : (value : Option Value) → ExitsLaw layout meaning b (copies_next value block)
+    copy_keeps None = law
+    copy_keeps (Some value) = record {
+      law = (port_stays 0 (gives_room (1 - copies_left (puts value block.copies)) (takes_next (port_at 0 block))) refl).law;
+      none_kept = law.none_kept;
+    }
+
     give_keeps : (k : ℕ) → k < length block.exits.ends → may_give k block.exits ≡ true
         → ExitsLaw layout meaning b (gives_out k block)
     give_keeps k here may =
@@ -239,16 +267,29 @@ module _ {W : Type 0} (layout : Layout W) (meaning : ℕ → Value → Result (L
       exits_change node.block law (looks k phase o) k _ may.place refl
       (none_kept_by_looks (stage_at o k) phase (law.none_kept k may.place))
       (calls_keep_law.look (is_pending node.block) node.block.stopped o law.law k may.place phase may.put_off)
+  exits_keep node (NodeCall.copy call) law may =
+      let room = copies_left node.block.copies - copies_left (after_copy call node.block.copies) in
+      record { law = (room_comes node.block law room).law; none_kept = law.none_kept }
   exits_keep node NodeCall.begin law may = record { law = law.law; none_kept = law.none_kept }
   exits_keep node NodeCall.make law may =
       let block = node.block in
       let result = block_makes layout meaning b in
+      let row = row_of (next_group block) ∷ [] in
+      let tuple = tuple_of block.ports ∷ [] in
+      let one = put_of block.kind result (first_of (held_by block)) in
+      let other = cond (is_broadcast block.kind) [] one in
       let fits : (batch : Bool) → is_batch block.kind ≡ batch
-      → lacks_ids (cond batch (row_of (next_group block) ∷ []) (put_of block.kind result (first_of (held_by block)))) block.exits ≡ false =
-      λ batch is. ap (λ (kind : Bool). lacks_ids (cond kind (row_of (next_group block) ∷ []) (put_of block.kind result (first_of (held_by block)))) block.exits) (sym is) ∙ may.ids in
+      → lacks_ids (cond batch row (cond (is_join block.kind) tuple other)) block.exits ≡ false =
+      λ batch is. ap (λ (kind : Bool). lacks_ids (cond kind row (cond (is_join block.kind) tuple other)) block.exits) (sym is) ∙ may.ids in
+      let fits_alone : (join : Bool) → is_join block.kind ≡ join → is_batch block.kind ≡ false
+      → lacks_ids (cond join tuple other) block.exits ≡ false =
+      λ join is single. ap (λ (kind : Bool). lacks_ids (cond kind tuple other) block.exits) (sym is) ∙ fits false single in
       makes_by (ExitsLaw layout meaning b) result block
       (λ batch. row_keeps block law (fits true batch))
-      (λ other. make_keeps block law result (first_of (held_by block)) (fits false other))
+      (λ join. tuple_keeps block law (fits_alone true join (join_alone block.kind join)))
+      (λ broadcast. copy_keeps block law (first_of (held_by block)))
+      (λ single alone shared. make_keeps block law result (first_of (held_by block))
+      (ap (λ (kind : Bool). lacks_ids (cond kind [] one) block.exits) (sym shared) ∙ fits_alone false alone single))
   exits_keep node (NodeCall.complete p) law may = port_stays node.block law p (port_closes (port_at p node.block)) refl
   exits_keep node (NodeCall.fault number) law may =
       stops_keep node.block law (outcome.Faulted number) (may_fault_tells node.block number may).going

@@ -4,28 +4,34 @@ use Rattle.std.proofs.lemmas.Bool.{or_right}
 use Rattle.std.proofs.lemmas.List.{length-map}
 use Rattle.flow_value.specs.declared.value.Value.{Value}
 use Rattle.flow_link.specs.declared.draft.BlockKind.{BlockKind}
-use Rattle.flow_link.specs.declared.draft.BlockKind.TheVariants.{Buffer, Action, Transform, TransformMany, Batch}
+use Rattle.flow_link.specs.declared.draft.BlockKind.TheVariants.{Buffer, Broadcast, WriteOnce, Action, Transform, TransformMany, Batch}
 use Rattle.flow_link.specs.declared.stage.Refusal.TheVariants.{OwnFault}
 use Rattle.flow_link.specs.declared.stage.TargetStage.TheVariants.{Refused}
 use Rattle.flow_link.specs.Facts.{facts_in}
 use Rattle.flow_link.specs.Layout.{Layout}
 use Rattle.flow_link.specs.LinkOk.{IsWithin}
 use Rattle.flow_link.specs.Lists.{numbers_from, below}
-use Rattle.flow_link.specs.Plan.{block_in, port_count}
+use Rattle.flow_block.specs.Kinds.{is_kept_kind}
+use Rattle.flow_link.specs.Plan.{block_in, port_count, is_one_taker, is_reserving}
 use Rattle.flow_link.specs.Trace.{has_ended}
-use Rattle.flow_link.proofs.ListTests.{length_numbers}
+use Rattle.flow_link.proofs.ListTests.{length_numbers, never_both}
 use Rattle.flow_intake.specs.Port.{EndState, PortState, fresh_end, end_in, stage_at as port_stage, is_coming}
 use Rattle.flow_intake.specs.PortLaw.{InLaw, PortLaw, has_ended as has_port_ended}
 use Rattle.flow_outlet.specs.declared.ends.LinkRule.{LinkRule}
 use Rattle.flow_outlet.specs.declared.ends.OutEnd.{OutEnd}
 use Rattle.flow_outlet.specs.End.{fresh_end as fresh_out, end_in as out_in}
 use Rattle.flow_outlet.proofs.LawKept.{calls_keep_law}
-use Rattle.flow_outlet.specs.Outlet.{is_empty}
-use Rattle.flow_block.specs.Block.{port_in, held_by}
+use Rattle.flow_outlet.specs.Outlet.{OutletState, is_empty, fresh_outlet}
+use Rattle.flow_spread.specs.Spread.{SpreadState, fresh_spread}
+use Rattle.flow_block.specs.Block.{port_in, held_by, is_batch}
+use Rattle.flow_block.specs.Copies.{shared_rules, fresh_copies}
 use Rattle.flow_block.specs.Fresh.{FreshInOrder}
-use Rattle.flow_block.specs.NodeLaw.{is_kept, MakesAs, WeighsAs, PortAsPlanned, GaveOver, weighed, rows_weighed, partly_weighed}
+use Rattle.flow_block.specs.Node.{NodeState}
+use Rattle.flow_block.specs.NodeLaw.{NodeLaw, is_kept, MakesAs, WeighsAs, PortAsPlanned, GaveOver, weighed, rows_weighed, partly_weighed}
 use Rattle.flow_block.specs.Peeks.{is_pending}
-use Rattle.flow_block.specs.Planned.{block_makes, links_to, links_from, rule_of, port_of_plan, fresh_node}
+use Rattle.flow_block.specs.Planned.{lanes_of, size_of, block_makes, links_to, links_from, rule_of, port_of_plan, fresh_node}
+use Rattle.flow_block.proofs.FreshGroups.{fresh_tuples}
+use Rattle.flow_block.proofs.CopiesIdle.{shares_out}
 use Rattle.flow_block.proofs.EndsTell.{none_come}
 
 -- each end is a fresh one
@@ -139,10 +145,24 @@ module _ {W : Type 0} (layout : Layout W) (b : ℕ) where
     took = omega arith;
   }
 
-pub fresh_in_order : (W : Type 0) → FreshInOrder W
-fresh_in_order W layout meaning b built lane size =
-    let node = fresh_node layout b in
+-- a block that shares its messages out copies none
+fresh_shared : (kind : BlockKind) (rules : List LinkRule) → is_one_taker kind ≡ true
+    → (shared_rules kind rules ≡ rules) × (fresh_copies kind rules ≡ fresh_spread false [] 1)
+fresh_shared Broadcast rules e = absurd (cc)
+fresh_shared WriteOnce rules e = absurd (cc)
+fresh_shared _ rules e = (refl, refl)
+
+abbrev fresh_with : {W : Type 0} (layout : Layout W) (b : ℕ) → OutletState → SpreadState → NodeState
+fresh_with layout b exits copies =
+    let node = fresh_node layout b in record node { block = record node.block { exits = exits; copies = copies } }
+
+fresh_sharing : (W : Type 0) (layout : Layout W) (meaning : ℕ → Value → Result (List Value) ℕ) (b : ℕ)
+    → is_kept_kind (block_in layout.blocks b).kind ≡ true
+    → 0 < port_count (block_in layout.blocks b) → is_reserving (block_in layout.blocks b) ≡ false → 0 < lanes_of layout b → (is_batch (block_in layout.blocks b).kind ≡ true → 0 < size_of layout b)
+    → NodeLaw layout meaning b (fresh_with layout b (fresh_outlet (map (rule_of layout) (links_from layout b)) 1) (fresh_spread false [] 1))
+fresh_sharing W layout meaning b built some freely lane size =
     let rules = map (rule_of layout) (links_from layout b) in
+    let node = fresh_with layout b (fresh_outlet rules 1) (fresh_spread false [] 1) in
     let block = block_in layout.blocks b in
     record {
       shape = record {
@@ -151,6 +171,8 @@ fresh_in_order W layout meaning b built lane size =
         size_is = refl;
         some_size = size;
         port_count_is = count_is layout b;
+        some_port = subst (λ (count : ℕ). 0 < count) (sym (count_is layout b)) some;
+        takes_freely = freely;
         ports = each_port layout b (PortAsPlanned layout meaning b)
             (λ p. record { links = links_kept (links_to layout b p); capacity = refl; never_reserves = refl });
         rules = rules_kept rules;
@@ -159,6 +181,10 @@ fresh_in_order W layout meaning b built lane size =
       exits = record {
         law = calls_keep_law.fresh (is_pending node.block) None rules 1 (omega arith) (omega arith);
         none_kept = out_ends_fresh rules (λ (end : OutEnd). is_kept end.stage ≡ false) (λ rule. refl);
+      };
+      copies = record {
+        idle = λ shares. refl;
+        copier = λ copying. never_both (is_one_taker block.kind) (shares_out block.kind built) copying;
       };
       gave = record {
         each = out_ends_fresh rules (GaveOver layout meaning b [])
@@ -173,6 +199,7 @@ fresh_in_order W layout meaning b built lane size =
         fault_is = λ number e. absurd (cc);
       };
       rows = λ batch. record { groups = refl; whole_before = refl; whole = or_right (false && is_empty (held_by node.block)) true refl };
+      tuples = λ join. fresh_tuples layout b;
       jobs = record {
         lanes_are = refl;
         some_lane = lane;
@@ -209,3 +236,12 @@ fresh_in_order W layout meaning b built lane size =
         faulted_by = λ number e. absurd (cc);
       };
     }
+
+pub fresh_in_order : (W : Type 0) → FreshInOrder W
+fresh_in_order W layout meaning b built some freely lane size =
+    let rules = map (rule_of layout) (links_from layout b) in
+    let same = fresh_shared (block_in layout.blocks b).kind rules (shares_out (block_in layout.blocks b).kind built) in
+    subst (λ (copies : SpreadState). NodeLaw layout meaning b (fresh_with layout b (fresh_outlet (shared_rules (block_in layout.blocks b).kind rules) 1) copies))
+    (sym same.1)
+    (subst (λ (shared : List LinkRule). NodeLaw layout meaning b (fresh_with layout b (fresh_outlet shared 1) (fresh_spread false [] 1)))
+    (sym same.0) (fresh_sharing W layout meaning b built some freely lane size))

@@ -33,7 +33,9 @@ use Rattle.flow_outlet.proofs.LookTells.{look_tells}
 use Rattle.flow_outlet.proofs.OffersInOrder.{offers_in_order}
 use Rattle.flow_outlet.proofs.OneEndChanges.{each_set}
 use Rattle.flow_outlet.proofs.StagesTell.{number_same}
-use Rattle.flow_block.specs.Block.{BlockState, made_of, keeps_results, yields, makes_of, held_by}
+use Rattle.flow_block.specs.Copies.{copy_place}
+use Rattle.flow_block.proofs.CopiesIdle.{no_copy_at}
+use Rattle.flow_block.specs.Block.{BlockState, copies_next, made_of, keeps_results, yields, makes_of, held_by}
 use Rattle.flow_block.specs.Node.{NodeState, NodeCall, hand_at, takes_in, gives_from}
 use Rattle.flow_block.specs.NodeLaw.{NodeLaw, ShapeLaw, GaveLaw, GaveOver, refuses_over, run_seen_by}
 use Rattle.flow_block.specs.NodeKeeps.{MayCall, after_call, GaveKept}
@@ -110,7 +112,7 @@ none_refused : (test : SourceStage → Bool) → test source.Refused ≡ false �
 none_refused test refused_not source.Refused after e refused = never_both (test source.Refused) e refused_not
 none_refused test refused_not _ after e refused = cc
 
-count_more : (max : Option ℕ) (given : ℕ) (values : List Value) (value : Value)
+pub count_more : (max : Option ℕ) (given : ℕ) (values : List Value) (value : Value)
     → (is_some max ≡ true → given ≡ length values) → is_some max ≡ true
     → counted max given ≡ length (values ++ value ∷ [])
 count_more None given values value is e = cc
@@ -284,6 +286,11 @@ module _ {W : Type 0} (layout : Layout W) (meaning : ℕ → Value → Result (L
   make_keeps block journal result None law = law
   make_keeps block journal result (Some value) law = result_keeps block journal (made_of block.kind result value) law
 
+  law_of_copy : (first : Option Value) (node : NodeState) → GaveLaw layout meaning b node.block.exits node.journal
+      → GaveLaw layout meaning b (copies_next first node.block).exits node.journal
+  law_of_copy None node law = law
+  law_of_copy (Some value) node law = law
+
   closes_keep : (node : NodeState) (p k : ℕ) (hand : Option Value)
       → GaveLaw layout meaning b node.block.exits node.journal
       → GaveLaw layout meaning b (takes_in p k hand node).block.exits (takes_in p k hand node).journal
@@ -330,11 +337,14 @@ module _ {W : Type 0} (layout : Layout W) (meaning : ℕ → Value → Result (L
   gave_keep node (NodeCall.look_out k phase) law may =
       let o = node.block.exits in
       end_moves o node.journal k _ _ _ _ may.place (look_tells (stage_at o k) phase).refused law.gave
+  gave_keep node (NodeCall.copy call) law may = absurd (no_copy_at layout meaning b node law (copy_place call) may.place)
   gave_keep node NodeCall.begin law may = law.gave
   gave_keep node NodeCall.make law may =
       makes_by (λ new. GaveLaw layout meaning b new.exits node.journal) (block_makes layout meaning b) node.block
       (λ batch. record { each = law.gave.each; next_is = law.gave.next_is; in_order = law.gave.in_order })
-      (λ other. make_keeps node.block node.journal (block_makes layout meaning b) (first_of (held_by node.block)) law.gave)
+      (λ join. record { each = law.gave.each; next_is = law.gave.next_is; in_order = law.gave.in_order })
+      (λ broadcast. law_of_copy (first_of (held_by node.block)) node law.gave)
+      (λ other alone single. make_keeps node.block node.journal (block_makes layout meaning b) (first_of (held_by node.block)) law.gave)
   gave_keep node (NodeCall.complete p) law may =
       quiet_mark node.block.exits node.journal (Complete p) (λ test. refl) (λ all. refl) law.gave
   gave_keep node (NodeCall.fault number) law may =

@@ -17,11 +17,16 @@ use Rattle.flow_intake.specs.Ended.{has_seen_completion}
 use Rattle.flow_outlet.specs.declared.ends.OutEnd.{OutEnd}
 use Rattle.flow_outlet.specs.End.{is_away, is_waiting, count_at, end_in}
 use Rattle.flow_outlet.specs.Outlet.{is_empty, is_wanted, is_wish, is_at_rest, stage_at}
-use Rattle.flow_block.specs.Block.{BlockState, port_at, held_by, is_batch}
-use Rattle.flow_block.specs.Peeks.{could_stop, has_group, has_next, may_work, may_begin, may_make, may_complete, next_fault, may_finish, fault_cause, nothing_comes, all_ended, holds_nothing}
+use Rattle.flow_spread.specs.Spread.{is_at_rest as is_spread_at_rest}
+use Rattle.flow_link.specs.declared.draft.BlockKind.TheVariants.{Join}
+use Rattle.flow_group.specs.Tuple.{has_tuple}
+use Rattle.flow_block.specs.Block.{BlockState, port_at, held_by, is_batch, is_join}
+use Rattle.flow_block.specs.Copies.{copies_left}
+use Rattle.flow_block.specs.Peeks.{could_stop, is_out_at_rest, is_copied_out, may_copy, has_group, has_next, may_work, may_begin, may_make, may_complete, next_fault, may_finish, fault_cause, nothing_comes, all_ended, holds_nothing, is_complete}
 use Rattle.flow_block.specs.NodeLaw.{EndsLaw, outcome_in}
 use Rattle.flow_block.proofs.JournalTells.{open_tells}
 use Rattle.flow_block.proofs.TestsTell.{none_is, none_unless}
+use Rattle.flow_link.specs.declared.draft.BlockKind.{BlockKind}
 
 -- what counts nothing, and its elements
 none_counted : (b : Bool) (n : ℕ) → (cond b 1 0 + n == 0) ≡ true → (b ≡ false) × ((n == 0) ≡ true)
@@ -82,15 +87,27 @@ could_tells block e =
     let both = and_parts (is_none block.stopped) (nothing_comes block.ports) e in
     (none_is block.stopped both.0, both.1)
 
+single_join : (kind : BlockKind) → is_join kind ≡ true → is_batch kind ≡ false
+single_join Join e = refl
+single_join _ e = absurd (cc)
+
 pub record MayMake (block : BlockState) : Type 0 where
   pub going : block.stopped ≡ None
   pub no_fault : block.fault ≡ None
   -- a batch has a row to make
   pub group : is_batch block.kind ≡ true → has_group block ≡ true
+  -- a join has a tuple to make
+  pub tuple : is_join block.kind ≡ true → has_tuple block.ports ≡ true
 
 next_of_batch : (batch : Bool) (group some : Bool) → cond batch group some ≡ true → batch ≡ true → group ≡ true
 next_of_batch true group some e is = e
 next_of_batch false group some e is = absurd (cc)
+
+next_of_join : (batch join : Bool) (group tuple some : Bool) → cond batch group (cond join tuple some) ≡ true → batch ≡ false
+    → join ≡ true → tuple ≡ true
+next_of_join false true group tuple some e single is = e
+next_of_join false false group tuple some e single is = absurd (cc)
+next_of_join true join group tuple some e single is = absurd (cc)
 
 pub may_work_tells : (block : BlockState) → may_work block ≡ true → MayMake block
 may_work_tells block e =
@@ -99,7 +116,11 @@ may_work_tells block e =
     record {
       going = none_is block.stopped inner.0;
       no_fault = none_is block.fault inner.1;
-      group = next_of_batch (is_batch block.kind) (has_group block) (not (is_empty (held_by block))) outer.1;
+      group = next_of_batch (is_batch block.kind) (has_group block)
+          (cond (is_join block.kind) (has_tuple block.ports) (not (is_empty (held_by block)) && may_copy block)) outer.1;
+      tuple = λ join.
+          next_of_join (is_batch block.kind) (is_join block.kind) (has_group block) (has_tuple block.ports)
+          (not (is_empty (held_by block)) && may_copy block) outer.1 (single_join block.kind join) join;
     }
 
 pub may_begin_tells : (block : BlockState) → may_begin block ≡ true → MayMake block
@@ -136,6 +157,7 @@ pub record MayFault (block : BlockState) (number : ℕ) : Type 0 where
   pub going : block.stopped ≡ None
   pub none_comes : nothing_comes block.ports ≡ true
   pub rest : is_at_rest block.exits ≡ true
+  pub copies_rest : is_spread_at_rest block.copies ≡ true
   pub cause : fault_cause block ≡ Some number
 
 fault_may : (may : Bool) (cause : Option ℕ) (number : ℕ) → cond may cause None ≡ Some number
@@ -145,18 +167,21 @@ fault_may false cause number e = absurd (cc)
 
 pub may_fault_tells : (block : BlockState) (number : ℕ) → next_fault block ≡ Some number → MayFault block number
 may_fault_tells block number e =
-    let may = fault_may (could_stop block && is_at_rest block.exits) (fault_cause block) number e in
-    let both = and_parts (could_stop block) (is_at_rest block.exits) may.0 in
+    let may = fault_may (could_stop block && is_out_at_rest block) (fault_cause block) number e in
+    let both = and_parts (could_stop block) (is_out_at_rest block) may.0 in
     let could = could_tells block both.0 in
-    record { going = could.0; none_comes = could.1; rest = both.1; cause = may.1 }
+    let rests = and_parts (is_at_rest block.exits) (is_spread_at_rest block.copies) both.1 in
+    record { going = could.0; none_comes = could.1; rest = rests.0; copies_rest = rests.1; cause = may.1 }
 
 pub record MayFinish (block : BlockState) : Type 0 where
   pub going : block.stopped ≡ None
   pub none_comes : nothing_comes block.ports ≡ true
-  pub ended : all_ended block.ports ≡ true
+  pub ended : is_complete block ≡ true
   pub empty : holds_nothing block.ports ≡ true
   pub none_left : is_empty block.exits.left ≡ true
   pub rest : is_at_rest block.exits ≡ true
+  pub none_copied : copies_left block.copies ≡ 0
+  pub copies_rest : is_spread_at_rest block.copies ≡ true
 
 five : (a b c d e : Bool) → (a && b && c && d && e) ≡ true
     → (a ≡ true) × (b ≡ true) × (c ≡ true) × (d ≡ true) × (e ≡ true)
@@ -169,11 +194,23 @@ five true true true true false all = absurd (cc)
 
 pub may_finish_tells : (block : BlockState) → may_finish block ≡ true → MayFinish block
 may_finish_tells block e =
+    let outer = and_parts (could_stop block && is_complete block && holds_nothing block.ports && is_empty block.exits.left && is_at_rest block.exits)
+    (is_copied_out block.copies) e in
     let all =
-    five (could_stop block) (all_ended block.ports) (holds_nothing block.ports) (is_empty block.exits.left)
-    (is_at_rest block.exits) e in
+    five (could_stop block) (is_complete block) (holds_nothing block.ports) (is_empty block.exits.left)
+    (is_at_rest block.exits) outer.0 in
     let could = could_tells block all.0 in
-    record { going = could.0; none_comes = could.1; ended = all.1; empty = all.2; none_left = all.3; rest = all.4 }
+    let copied = and_parts (copies_left block.copies == 0) (is_spread_at_rest block.copies) outer.1 in
+    record {
+      going = could.0;
+      none_comes = could.1;
+      ended = all.1;
+      empty = all.2;
+      none_left = all.3;
+      rest = all.4;
+      none_copied = eqb-true (copies_left block.copies) 0 copied.0;
+      copies_rest = copied.1;
+    }
 
 -- What the law tells
 

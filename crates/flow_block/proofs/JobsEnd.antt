@@ -1,6 +1,6 @@
 -- A job that ends keeps its node in order. Where its result is the next one, the block makes its outputs of that message and of those
 -- behind it whose results are there, one after another, as if nothing had come back of them before.
-use Rattle.std.proofs.Common.{◌≡◌, ℕ, ◌+◌, ◌≤◌, ◌^◌, leb, cond, Bool, true, false, List, [], ◌∷◌, ◌++◌, length, drop, set, get_or, map, Option, Some, None, is_none, Result, Ok, Err, refl, ap, sym, subst, ◌∙◌, arith, length-append}
+use Rattle.std.proofs.Common.{◌<◌, ◌≡◌, ℕ, ◌+◌, ◌≤◌, ◌^◌, leb, cond, Bool, true, false, List, [], ◌∷◌, ◌++◌, length, drop, set, get_or, map, Option, Some, None, is_none, Result, Ok, Err, refl, ap, sym, subst, ◌∙◌, arith, length-append}
 use Rattle.std.proofs.lemmas.Bool.{and_parts, ltb-false, le-ltb}
 use Rattle.std.proofs.lemmas.List.{length-map, length-set}
 use Rattle.flow_value.specs.declared.value.Value.{Value}
@@ -9,13 +9,14 @@ use Rattle.flow_link.specs.declared.draft.BlockKind.TheVariants.{Buffer, Action}
 use Rattle.flow_link.specs.declared.trace.Mark.{Mark}
 use Rattle.flow_link.specs.Layout.{Layout}
 use Rattle.flow_link.specs.Lists.{every}
-use Rattle.flow_link.specs.Plan.{has_work}
+use Rattle.flow_link.specs.Plan.{has_work, is_broadcast}
 use Rattle.flow_link.proofs.ListTests.{never_both}
 use Rattle.flow_intake.specs.Port.{PortState, end_in}
 use Rattle.flow_intake.specs.Calls.{first_of, takes_next, gives_room, port_fails}
 use Rattle.flow_outlet.specs.End.{end_in as out_end}
 use Rattle.flow_outlet.specs.Outlet.{OutletState, lacks_ids, puts}
-use Rattle.flow_block.specs.Block.{BlockState, port_at, unit_weight, with_jobs, job_message, held_by, put_by_kind, values_of_result, put_of, fails, keeps_results, yields, makes_of, row_of, next_group, makes_row, makes, yields_all, yields_where, put_where}
+use Rattle.flow_group.specs.Tuple.{tuple_of}
+use Rattle.flow_block.specs.Block.{BlockState, port_at, unit_weight, with_jobs, is_join, makes_tuple, job_message, held_by, put_by_kind, values_of_result, put_of, fails, keeps_results, yields, copies_next, makes_of, makes_other, row_of, next_group, makes_row, makes, yields_all, yields_where, put_where}
 use Rattle.flow_block.specs.Jobs.{Slot, JobsState, no_slot, place_of, is_out, is_front_back, brings, comes_out, AreOf}
 use Rattle.flow_block.specs.JobsEnd.{JobsEndWell, MayEndJob, EndsWell, ViewsStay, after_job, job_result}
 use Rattle.flow_block.specs.Node.{NodeState, NodeCall, with_block, view_of_in, view_of_out}
@@ -24,7 +25,8 @@ use Rattle.flow_block.specs.NodeLaw.{NodeLaw}
 use Rattle.flow_block.specs.Planned.{block_makes}
 use Rattle.flow_block.proofs.EndsHold.{jobs_change as ends_stay}
 use Rattle.flow_block.proofs.JobsHold.{back_at, makes_by_work, held_next}
-use Rattle.flow_block.proofs.KindsBuilt.{has_one_port, works_alone}
+use Rattle.flow_block.proofs.CopierHolds.{jobs_change}
+use Rattle.flow_block.proofs.KindsBuilt.{has_one_port, works_alone, works_shared}
 use Rattle.flow_block.proofs.LoadHolds.{jobs_change as load_stays}
 use Rattle.flow_block.proofs.MakesHold.{jobs_change as makes_stay}
 use Rattle.flow_block.proofs.NodesKept.{nodes_kept}
@@ -32,6 +34,7 @@ use Rattle.flow_block.proofs.PortsChange.{kept_at_all}
 use Rattle.flow_block.proofs.ShapeHolds.{exits_move as shape_stays}
 use Rattle.flow_block.proofs.TestsTell.{none_is}
 use Rattle.flow_block.proofs.ViewsMove.{EndsStay, keeping_stays, yielding_stays}
+use Rattle.flow_block.proofs.Joins.{works_unjoined}
 
 -- Other slots, and slots of which nothing has come back
 
@@ -127,11 +130,13 @@ none_out ticket jobs none out =
 
 -- No end of a link moves
 
-stays_then : (block mid new : BlockState) → length mid.ports ≡ length block.ports → EndsStay block mid
+stays_then : (block mid new : BlockState) → length mid.ports ≡ length block.ports
+    → length mid.copies.ends ≡ length block.copies.ends → EndsStay block mid
     → EndsStay mid new → EndsStay block new
-stays_then block mid new same first then = record {
+stays_then block mid new same count first then = record {
   ins = λ p small. then.ins p (omega (arith, same, small)) ∙ first.ins p small;
   outs = then.outs ∙ first.outs;
+  copies = λ k small. then.copies k (subst (λ (n : ℕ). k < n) (sym count) small) ∙ first.copies k small;
 }
 
 pub ports_stay : (kind : BlockKind) (values : List Value) (block : BlockState)
@@ -140,18 +145,24 @@ ports_stay Action values block = length-set block.ports 0 _
 ports_stay _ [] block = length-set block.ports 0 _
 ports_stay _ (value ∷ values) block = length-set block.ports 0 _
 
+pub copies_stay : (kind : BlockKind) (values : List Value) (block : BlockState)
+    → length (keeps_results kind values block).copies.ends ≡ length block.copies.ends
+copies_stay Action values block = refl
+copies_stay _ [] block = refl
+copies_stay _ (value ∷ values) block = refl
+
 all_stay : (slots : List Slot) (block : BlockState) → EndsStay block (yields_all slots block)
-all_stay [] block = record { ins = λ p small. refl; outs = refl }
-all_stay (None ∷ slots) block = record { ins = λ p small. refl; outs = refl }
+all_stay [] block = record { ins = λ p small. refl; outs = refl; copies = λ k small. refl }
+all_stay (None ∷ slots) block = record { ins = λ p small. refl; outs = refl; copies = λ k small. refl }
 all_stay (Some (Err number) ∷ slots) block = yielding_stays (Err number) block
 all_stay (Some (Ok values) ∷ slots) block =
     let mid = keeps_results block.kind values block in
-    stays_then block mid (yields_all slots mid) (ports_stay block.kind values block)
+    stays_then block mid (yields_all slots mid) (ports_stay block.kind values block) (copies_stay block.kind values block)
     (keeping_stays block.kind values block) (all_stay slots mid)
 
 where_stays : (well : Bool) (block : BlockState) → EndsStay block (yields_where well block)
 where_stays true block = all_stay block.jobs.slots block
-where_stays false block = record { ins = λ p small. refl; outs = refl }
+where_stays false block = record { ins = λ p small. refl; outs = refl; copies = λ k small. refl }
 
 views_stay : (node : NodeState) (block : BlockState) → EndsStay node.block block
     → ViewsStay node (with_block block node)
@@ -188,9 +199,14 @@ module _ {W : Type 0} (kept : NodesKept W) (layout : Layout W) (meaning : ℕ �
         shape = shape_stays layout meaning b block new refl refl refl refl law.shape;
         ports = law.ports;
         exits = record { law = law.exits.law; none_kept = law.exits.none_kept };
+        copies = record {
+          idle = law.copies.idle;
+          copier = λ copying. jobs_change layout b block journal (law.copies.copier copying) (change block.jobs);
+        };
         gave = law.gave;
         makes = makes_stay layout meaning b (record { block = block; journal = journal }) law.makes change;
         rows = law.rows;
+        tuples = law.tuples;
         jobs = record {
           lanes_are = law.jobs.lanes_are;
           some_lane = law.jobs.some_lane;
@@ -210,8 +226,11 @@ module _ {W : Type 0} (kept : NodesKept W) (layout : Layout W) (meaning : ℕ �
       → has_work block.kind ≡ true → held_by block ≡ value ∷ rest → result value ≡ made
       → makes result block ≡ yields made block
   makes_so block made value rest works held is =
-      ap (λ (batch : Bool). cond batch (makes_row block) (makes_of result (first_of (held_by block)) block))
+      ap (λ (batch : Bool). cond batch (makes_row block) (cond (is_join block.kind) (makes_tuple block) (makes_other result block)))
       (works_alone block.kind works)
+      ∙ ap (λ (join : Bool). cond join (makes_tuple block) (makes_other result block)) (works_unjoined block.kind works)
+      ∙ ap (λ (copies : Bool). cond copies (copies_next (first_of (held_by block)) block) (makes_of result (first_of (held_by block)) block))
+      (works_shared block.kind works)
       ∙ ap (λ (first : Option Value). makes_of result first block) (ap first_of held)
       ∙ ap (λ (r : Result (List Value) ℕ). yields r block) (sym (makes_by_work result block.kind value works) ∙ is)
 
@@ -226,10 +245,18 @@ module _ {W : Type 0} (kept : NodesKept W) (layout : Layout W) (meaning : ℕ �
       let old = with_slots (blank slots) block in
       let node : NodeState = record { block = old; journal = journal } in
       let may : MayMake result node = record {
-        waits = rw (going, well, works_alone block.kind works, held) refl;
+        waits = rw (going, well, works_alone block.kind works, works_unjoined block.kind works, held, works_shared block.kind works) refl;
         all_out = blank_out slots;
-        ids = ap (λ (batch : Bool). lacks_ids (cond batch (row_of (next_group old) ∷ []) (put_of block.kind result (first_of (held_by block)))) block.exits)
+        copy_id = λ broadcast. absurd (never_both (is_broadcast block.kind) broadcast (works_shared block.kind works));
+        ids = ap (λ (batch : Bool). lacks_ids (cond batch (row_of (next_group old) ∷ [])
+            (cond (is_join block.kind) (tuple_of block.ports ∷ [])
+            (cond (is_broadcast block.kind) [] (put_of block.kind result (first_of (held_by block)))))) block.exits)
             (works_alone block.kind works)
+            ∙ ap (λ (join : Bool). lacks_ids (cond join (tuple_of block.ports ∷ [])
+            (cond (is_broadcast block.kind) [] (put_of block.kind result (first_of (held_by block))))) block.exits)
+            (works_unjoined block.kind works)
+            ∙ ap (λ (copies : Bool). lacks_ids (cond copies [] (put_of block.kind result (first_of (held_by block)))) block.exits)
+            (works_shared block.kind works)
             ∙ ap (λ (first : Option Value). lacks_ids (put_of block.kind result first) block.exits) (ap first_of held)
             ∙ ap (λ (r : Result (List Value) ℕ). lacks_ids (put_by_kind block.kind (values_of_result r)) block.exits)
             (sym (makes_by_work result block.kind value works) ∙ is)
@@ -274,7 +301,7 @@ module _ {W : Type 0} (kept : NodesKept W) (layout : Layout W) (meaning : ℕ �
       (ids_first kind values (comes_out slots) block.exits ids) law in
       let mid : InOrder (with_slots (blank slots) new) journal =
       subst (λ (block : BlockState). InOrder block journal) (keeps_slots kind values (blank all) block works) made in
-      let one = has_one_port layout meaning b (with_slots (blank all) block) law.shape in
+      let one = has_one_port layout meaning b (with_slots (blank all) block) law.shape (works_unjoined block.kind works) in
       subst (λ (block : BlockState). InOrder (yields_all slots block) journal) (sym (keeps_slots kind values all block works))
       (out_keeps slots new journal rest (held_then kind values block value rest one same)
       (ap has_work goes.kind ∙ works) (goes.stopped ∙ going) (goes.fault ∙ well) are.1
@@ -328,7 +355,7 @@ module _ {W : Type 0} (kept : NodesKept W) (layout : Layout W) (meaning : ℕ �
       let stay = where_stays (is_none block.fault) back in
       record {
         law = end_keeps node ticket law may (has_work node.block.kind) refl;
-        views = views_stay node (yields_where (is_none block.fault) back) (record { ins = stay.ins; outs = stay.outs });
+        views = views_stay node (yields_where (is_none block.fault) back) (record { ins = stay.ins; outs = stay.outs; copies = stay.copies });
       }
 
 pub jobs_end_well : (W : Type 0) → JobsEndWell W

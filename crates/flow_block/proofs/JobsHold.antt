@@ -16,21 +16,24 @@ use Rattle.flow_link.specs.Layout.{Layout}
 use Rattle.flow_link.specs.Lists.{every}
 use Rattle.flow_link.specs.Plan.{has_work}
 use Rattle.flow_link.specs.Trace.{took}
-use Rattle.flow_link.specs.NotBuilt.{is_built_kind}
 use Rattle.flow_link.proofs.ListTests.{never_both}
 use Rattle.flow_link.proofs.OneMoreMark.{took_no_more, took_by_took, took_by_gave}
 use Rattle.flow_intake.specs.Port.{PortState, fresh_port, hand_in}
 use Rattle.flow_intake.specs.Calls.{first_of, wants, turns_down, postpones, refuses, consumes, opens, closes, looks as port_looks, takes_next, gives_room, port_closes, port_fails}
 use Rattle.flow_outlet.specs.Outlet.{OutletState, head_of, gives}
-use Rattle.flow_block.specs.Block.{BlockState, port_at, with_port, begins, held_by, made_of, yields, keeps_results, makes_of, is_batch, makes_row, stops_by}
+use Rattle.flow_link.specs.Plan.{is_broadcast}
+use Rattle.flow_block.specs.Copies.{copy_place}
+use Rattle.flow_block.proofs.CopiesIdle.{no_copy_at, none_broadcast}
+use Rattle.flow_block.specs.Block.{BlockState, port_at, with_port, begins, held_by, made_of, yields, keeps_results, makes_of, is_batch, makes_row, stops_by, is_join, makes_tuple}
 use Rattle.flow_block.specs.Jobs.{Slot, is_front_back, AreOf}
 use Rattle.flow_block.specs.Node.{NodeState, NodeCall, takes_in, gives_from, in_link_at, out_link_at}
 use Rattle.flow_block.specs.NodeKeeps.{JobsKept, MayCall, after_call}
 use Rattle.flow_block.specs.NodeLaw.{NodeLaw, JobsLaw}
 use Rattle.flow_block.specs.Peeks.{may_work, may_begin}
 use Rattle.flow_block.specs.Planned.{block_makes}
-use Rattle.flow_block.proofs.KindsBuilt.{has_one_port, batch_idle, makes_by}
+use Rattle.flow_block.proofs.KindsBuilt.{is_of_one, of_one, has_one_port, batch_idle, makes_by}
 use Rattle.flow_block.proofs.PortsChange.{kept_at_one, kept_at_all}
+use Rattle.flow_block.proofs.Joins.{join_idle}
 
 -- The results of the messages that are held first
 
@@ -135,12 +138,27 @@ module _ {W : Type 0} (layout : Layout W) (meaning : ℕ → Value → Result (L
   exits_stay node law exits =
       stays node.block (record node.block { exits = exits }) node.journal node.journal law refl refl refl refl refl
 
-  taken_in : (node : NodeState) → NodeLaw layout meaning b node → (p k : ℕ) (value : Option Value)
-      → p < length node.block.ports
-      → Jobs (takes_in p k value node).block (takes_in p k value node).journal
-  taken_in node law p k None below = law.jobs
-  taken_in node law p k (Some value) below =
-      let one = has_one_port layout meaning b node.block law.shape in
+  -- a block without a function works on nothing
+  pub handed_on : (block after : BlockState) (journal later : List Mark) → after.kind ≡ block.kind → after.jobs ≡ block.jobs
+      → has_work block.kind ≡ false → Jobs block journal → Jobs after later
+  handed_on block after journal later kind jobs idle law = record {
+    lanes_are = rw jobs law.lanes_are;
+    some_lane = rw jobs law.some_lane;
+    within = rw jobs law.within;
+    only_works = rw (kind, jobs) law.only_works;
+    results = rw (jobs, law.only_works idle) tt;
+    drained = λ well. rw (jobs, law.only_works idle) refl;
+    counted = λ works. absurd (never_both (has_work block.kind) (rw (← kind) works) idle);
+  }
+
+  taken_by : (node : NodeState) → NodeLaw layout meaning b node → (p k : ℕ) (value : Value)
+      → p < length node.block.ports → (join : Bool) → is_join node.block.kind ≡ join
+      → Jobs (takes_in p k (Some value) node).block (takes_in p k (Some value) node).journal
+  taken_by node law p k value below true join =
+      handed_on node.block (takes_in p k (Some value) node).block node.journal (takes_in p k (Some value) node).journal refl refl
+      (join_idle node.block.kind join) law.jobs
+  taken_by node law p k value below false alone =
+      let one = has_one_port layout meaning b node.block law.shape alone in
       let first : p ≡ 0 = omega arith in
       let change = closes k value in
       let held : held_by (with_port p change node.block) ≡ held_by node.block ++ value ∷ [] =
@@ -161,6 +179,12 @@ module _ {W : Type 0} (layout : Layout W) (meaning : ℕ → Value → Result (L
             rw (held, taken, length-append (held_by node.block) (value ∷ []), length-append (took node.journal) (value ∷ []))
             (omega (arith, before));
       }
+
+  taken_in : (node : NodeState) → NodeLaw layout meaning b node → (p k : ℕ) (value : Option Value)
+      → p < length node.block.ports
+      → Jobs (takes_in p k value node).block (takes_in p k value node).journal
+  taken_in node law p k None below = law.jobs
+  taken_in node law p k (Some value) below = taken_by node law p k value below (is_join node.block.kind) refl
 
   given_out : (node : NodeState) → Jobs node.block node.journal → (k : ℕ) (value : Option Value)
       → Jobs (gives_from k value node).block (gives_from k value node).journal
@@ -227,22 +251,10 @@ module _ {W : Type 0} (layout : Layout W) (meaning : ℕ → Value → Result (L
             rw (held, jobs) (omega (arith, before, one));
       }
 
-  handed_on : (block after : BlockState) (journal : List Mark) → after.kind ≡ block.kind → after.jobs ≡ block.jobs
-      → has_work block.kind ≡ false → Jobs block journal → Jobs after journal
-  handed_on block after journal kind jobs idle law = record {
-    lanes_are = rw jobs law.lanes_are;
-    some_lane = rw jobs law.some_lane;
-    within = rw jobs law.within;
-    only_works = rw (kind, jobs) law.only_works;
-    results = rw (jobs, law.only_works idle) tt;
-    drained = λ well. rw (jobs, law.only_works idle) refl;
-    counted = λ works. absurd (never_both (has_work block.kind) (rw (← kind) works) idle);
-  }
-
   results_kept : (kind : BlockKind) (values : List Value) (block : BlockState) (journal : List Mark) (value : Value)
       (rest : List Value)
       → block.kind ≡ kind → length block.ports ≡ 1 → held_by block ≡ value ∷ rest
-      → is_built_kind kind ≡ true → is_batch kind ≡ false → (works : Bool) → has_work kind ≡ works
+      → is_of_one kind ≡ true → is_batch kind ≡ false → (works : Bool) → has_work kind ≡ works
       → every is_none block.jobs.slots ≡ true
       → Jobs block journal → Jobs (keeps_results kind values block) journal
   results_kept Action values block journal value rest same one first built other works is out law =
@@ -250,9 +262,9 @@ module _ {W : Type 0} (layout : Layout W) (meaning : ℕ → Value → Result (L
       (held_next block (λ port. gives_room 1 (takes_next port)) value rest one first (λ port. refl))
       (ap has_work same) out law
   results_kept Buffer [] block journal value rest same one first built other works is out law =
-      handed_on block (keeps_results Buffer [] block) journal refl refl (ap has_work same) law
+      handed_on block (keeps_results Buffer [] block) journal journal refl refl (ap has_work same) law
   results_kept Buffer (made ∷ values) block journal value rest same one first built other works is out law =
-      handed_on block (keeps_results Buffer (made ∷ values) block) journal refl refl (ap has_work same) law
+      handed_on block (keeps_results Buffer (made ∷ values) block) journal journal refl refl (ap has_work same) law
   results_kept kind [] block journal value rest same one first built other true is out law =
       worked_off block (keeps_results kind [] block) journal value rest refl refl first
       (held_next block (λ port. gives_room 1 (takes_next port)) value rest one first (λ port. refl))
@@ -265,7 +277,7 @@ module _ {W : Type 0} (layout : Layout W) (meaning : ℕ → Value → Result (L
 
   yielded : (block : BlockState) (journal : List Mark) (value : Value) (rest : List Value)
       (made : Result (List Value) ℕ)
-      → length block.ports ≡ 1 → is_built_kind block.kind ≡ true → is_batch block.kind ≡ false
+      → length block.ports ≡ 1 → is_of_one block.kind ≡ true → is_batch block.kind ≡ false
       → held_by block ≡ value ∷ rest
       → every is_none block.jobs.slots ≡ true → Jobs block journal → Jobs (yields made block) journal
   yielded block journal value rest (Ok values) one built other first out law =
@@ -283,7 +295,7 @@ module _ {W : Type 0} (layout : Layout W) (meaning : ℕ → Value → Result (L
       }
 
   made_next : (block : BlockState) (journal : List Mark) (held : List Value) → held_by block ≡ held
-      → length block.ports ≡ 1 → is_built_kind block.kind ≡ true → is_batch block.kind ≡ false
+      → length block.ports ≡ 1 → is_of_one block.kind ≡ true → is_batch block.kind ≡ false
       → every is_none block.jobs.slots ≡ true → Jobs block journal
       → Jobs (makes_of (block_makes layout meaning b) (first_of held) block) journal
   made_next block journal [] is one built other out law = law
@@ -301,12 +313,18 @@ module _ {W : Type 0} (layout : Layout W) (meaning : ℕ → Value → Result (L
   after_each node (NodeCall.close p k) law may = taken_in node law p k (hand_in k (port_at p node.block).ends) may.port
   after_each node (NodeCall.give k) law may = given_out node law.jobs k (head_of node.block.exits)
   after_each node (NodeCall.look_in p k phase) law may = port_stays node law.jobs p (port_looks k phase) refl
+  after_each node (NodeCall.copy call) law may = absurd (no_copy_at layout meaning b node law (copy_place call) may.place)
   after_each node NodeCall.begin law may = begun node law.jobs may
   after_each node NodeCall.make law may =
       makes_by (λ new. Jobs new node.journal) (block_makes layout meaning b) node.block
-      (λ batch. handed_on node.block (makes_row node.block) node.journal refl refl (batch_idle node.block.kind batch) law.jobs)
-      (λ other. made_next node.block node.journal (held_by node.block) refl
-      (has_one_port layout meaning b node.block law.shape) law.shape.built other may.all_out law.jobs)
+      (λ batch. handed_on node.block (makes_row node.block) node.journal node.journal refl refl (batch_idle node.block.kind batch)
+      law.jobs)
+      (λ join. handed_on node.block (makes_tuple node.block) node.journal node.journal refl refl (join_idle node.block.kind join)
+      law.jobs)
+      (λ broadcast. never_both (is_broadcast node.block.kind) broadcast (none_broadcast node.block.kind law.shape.built))
+      (λ other alone single. made_next node.block node.journal (held_by node.block) refl
+      (has_one_port layout meaning b node.block law.shape alone)
+      (of_one node.block.kind law.shape.built other alone single) other may.all_out law.jobs)
   after_each node (NodeCall.complete p) law may =
       stays node.block (with_port p port_closes node.block) node.journal (node.journal ++ Complete p ∷ []) law.jobs
       refl refl (kept_at_one (λ port. port.waiting) node.block.ports p 0 (port_closes (port_at p node.block)) refl)

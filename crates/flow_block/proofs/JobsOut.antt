@@ -14,8 +14,8 @@ use Rattle.flow_block.proofs.JobsEnd.{keeps_goes, ports_stay, held_then}
 
 -- What is set aside
 
-pub aside_fits : {ports : List PortState} {exits : OutletState} → BlockFits ports exits → (spare : ℕ)
-    → BlockFits ports (record exits { spare = spare })
+pub aside_fits : {ports : List PortState} {exits : OutletState} {copied : ℕ} → BlockFits ports exits copied → (spare : ℕ)
+    → BlockFits ports (record exits { spare = spare }) copied
 aside_fits fits spare = record { room = fits.room; few = fits.few }
 
 uses_none : (block : BlockState) → uses_aside 0 block ≡ block

@@ -36,13 +36,13 @@ port_out (Some (Ok values) ∷ slots) weight port held out =
     (one_back port.capacity port.waiting weight port.load (omega (arith, held)) out)
 
 -- all that is there is recorded, and its room comes back
-pub fits_recorded : {ports : List PortState} {exits : OutletState} → BlockFits ports exits → (old : PortState)
+pub fits_recorded : {ports : List PortState} {exits : OutletState} {copied : ℕ} → BlockFits ports exits copied → (old : PortState)
     → old ≡ get_or ports 0 old → 0 < length ports → (slots : List Slot) → length slots ≤ length (port_in ports 0).waiting
-    → BlockFits (set ports 0 (port_recorded slots old)) exits
-fits_recorded {ports} {exits} fits old is some slots held =
+    → BlockFits (set ports 0 (port_recorded slots old)) exits copied
+fits_recorded {ports} {exits} {copied} fits old is some slots held =
     let read = get_or_read ports 0 old some is (fresh_port None) in
     let here : length slots ≤ length old.waiting = rw read held in
-    fits_port fits 0 old (port_recorded slots old) some is (port_out slots (weight_out exits) old here)
+    fits_port fits 0 old (port_recorded slots old) some is (port_out slots (weight_out exits copied) old here)
 
 -- What is recorded
 

@@ -1,5 +1,5 @@
 -- Each call keeps what a block counts of its places: one is taken by each message that it holds or has not wholly given.
-use Rattle.std.proofs.Common.{◌≡◌, ℕ, ◌+◌, ◌<◌, leb, ◌==◌, cond, Bool, true, false, List, [], ◌∷◌, ◌++◌, length, map, set, drop, Option, Some, None, is_some, Result, Ok, Err, refl, ap, sym, ◌∙◌, subst, append-nil, arith, ne_eqb, length-append}
+use Rattle.std.proofs.Common.{zero, suc, ◌≡◌, ℕ, ◌+◌, ◌<◌, leb, ◌==◌, cond, Bool, true, false, List, [], ◌∷◌, ◌++◌, length, map, set, drop, Option, Some, None, is_some, Result, Ok, Err, refl, ap, sym, ◌∙◌, subst, append-nil, arith, ne_eqb, length-append, not}
 use Rattle.std.proofs.lemmas.List.{get_or-set_same, take-append-drop}
 use Rattle.flow_value.specs.View.{values_of-items_from}
 use Rattle.flow_value.specs.declared.value.Value.{Value}
@@ -14,16 +14,19 @@ use Rattle.flow_link.specs.Layout.{Layout}
 use Rattle.flow_link.specs.Making.{result_of, row_weight}
 use Rattle.flow_link.specs.Plan.{block_in}
 use Rattle.flow_link.specs.Trace.{took, gave}
-use Rattle.flow_link.specs.NotBuilt.{is_built_kind}
 use Rattle.flow_link.proofs.OneMoreMark.{took_no_more, gave_no_more, took_by_took, gave_by_took, took_by_gave, gave_by_gave}
 use Rattle.flow_intake.specs.Port.{PortState, fresh_port}
 use Rattle.flow_intake.specs.Calls.{first_of, one_more, wants, turns_down, postpones, refuses, consumes, opens, closes, looks as port_looks, takes_next, gives_room, port_closes, port_fails}
 use Rattle.flow_intake.specs.PortLaw.{has_ended as has_port_ended}
 use Rattle.flow_outlet.specs.declared.group.Group.{Group}
 use Rattle.flow_outlet.specs.Fits.{weight_of}
-use Rattle.flow_outlet.specs.Outlet.{OutletState, head_of, groups_with, groups_after, room_with, gives, prepares, offers, denies, withdraws, ends_link, looks as exit_looks}
+use Rattle.flow_outlet.specs.Outlet.{OutletState, head_of, groups_with, groups_after, room_with, gives, prepares, offers, denies, withdraws, ends_link, looks as exit_looks, is_empty}
 use Rattle.flow_outlet.proofs.OutletFits.{weight_stays, room_put}
-use Rattle.flow_block.specs.Block.{BlockState, port_in, port_at, with_port, with_jobs, held_by, unit_weight, made_of, puts_out, fails, yields, keeps_results, makes_of, is_batch, row_of, next_group, group_weight, takes_group, makes_row, stops_by}
+use Rattle.flow_link.proofs.ListTests.{never_both}
+use Rattle.flow_link.specs.Plan.{is_broadcast}
+use Rattle.flow_block.specs.Copies.{copy_place}
+use Rattle.flow_block.proofs.CopiesIdle.{no_copy_at, none_broadcast}
+use Rattle.flow_block.specs.Block.{BlockState, port_in, port_at, with_port, with_jobs, held_by, unit_weight, made_of, puts_out, fails, yields, keeps_results, makes_of, is_batch, row_of, next_group, group_weight, takes_group, makes_row, stops_by, is_join, makes_tuple}
 use Rattle.flow_block.specs.Jobs.{JobsState, begins, works_off}
 use Rattle.flow_block.specs.Node.{NodeState, NodeCall, hand_at, in_link_at, out_link_at, takes_in, gives_from}
 use Rattle.flow_block.specs.NodeLaw.{NodeLaw, ShapeLaw, LoadLaw, WeighsAs, rows_weighed}
@@ -31,9 +34,12 @@ use Rattle.flow_block.specs.NodeKeeps.{MayCall, after_call, LoadKept}
 use Rattle.flow_block.specs.Planned.{block_makes}
 use Rattle.flow_block.proofs.GroupsOfRows.{group_there, group_tells}
 use Rattle.flow_block.proofs.GoingOn.{may_work_tells}
-use Rattle.flow_block.proofs.KindsBuilt.{has_one_port, makes_by}
+use Rattle.flow_block.proofs.KindsBuilt.{is_of_one, of_one, has_one_port, makes_by}
 use Rattle.flow_block.proofs.PortsChange.{kept_at_one, kept_at_all, each_after_one, each_after_all}
 use Rattle.flow_block.proofs.WeightsOfResults.{is_many, weighs_taken, weighs_given, weighs_many, weighs_one, rows_put}
+use Rattle.flow_block.proofs.Joins.{batch_unjoined, join_alone, join_single, join_weighs}
+use Rattle.flow_group.specs.Tuple.{has_first, has_tuple, tuple_of}
+use Rattle.std.proofs.lemmas.Bool.{and_parts}
 
 abbrev is_action : BlockKind → Bool
 is_action Action = true
@@ -48,7 +54,7 @@ transformed_is_one (Ok (value ∷ [])) values e = let same : values ≡ value �
 transformed_is_one (Ok (value ∷ next ∷ more)) values e = absurd (cc)
 
 made_by_kind : (kind : BlockKind) (raw : Value → Result (List Value) ℕ) (value : Value) (values : List Value)
-    → is_built_kind kind ≡ true → made_of kind (λ v. result_of kind (raw v)) value ≡ Ok values
+    → is_of_one kind ≡ true → made_of kind (λ v. result_of kind (raw v)) value ≡ Ok values
     → is_action kind ≡ false → is_many kind ≡ false → is_batch kind ≡ false → length values ≡ 1
 made_by_kind Buffer raw value values built e other single alone = let same : values ≡ value ∷ [] = cc in rw same refl
 made_by_kind Action raw value values built e other single alone = absurd (cc)
@@ -57,7 +63,7 @@ made_by_kind TransformMany raw value values built e other single alone = absurd 
 made_by_kind kind raw value values built e other single alone = absurd (cc)
 
 made_is_one : (kind planned : BlockKind) (raw : Value → Result (List Value) ℕ) (value : Value) (values : List Value)
-    → kind ≡ planned → is_built_kind kind ≡ true → made_of kind (λ v. result_of planned (raw v)) value ≡ Ok values
+    → kind ≡ planned → is_of_one kind ≡ true → made_of kind (λ v. result_of planned (raw v)) value ≡ Ok values
     → is_action kind ≡ false → is_many kind ≡ false → is_batch kind ≡ false → length values ≡ 1
 made_is_one kind planned raw value values same built e other single alone =
     made_by_kind kind raw value values built
@@ -65,26 +71,38 @@ made_is_one kind planned raw value values same built e other single alone =
     other single alone
 
 -- the room of a result that is there does not come back at once
-none_back : (count weight room : ℕ) → 0 < count → room ≡ 0 → room_with count weight room ≡ 0
+pub none_back : (count weight room : ℕ) → 0 < count → room ≡ 0 → room_with count weight room ≡ 0
 none_back count weight room some none =
     let more : (count == 0) ≡ false = ne_eqb count 0 (λ e. omega arith) in
     ap (λ (test : Bool). room + cond test weight 0) more ∙ omega arith
 
 -- a result that is there takes the places of its weight
-more_weight : (next count weight : ℕ) (groups : List Group) → 0 < count
+pub more_weight : (next count weight : ℕ) (groups : List Group) → 0 < count
     → weight_of (groups_with next count weight groups) ≡ weight_of groups + weight
 more_weight next count weight groups some =
     let put = room_put next count weight 0 groups in
     let none = none_back count weight 0 some refl in
     omega (arith, put, none)
 
-one_place : (capacity : Option ℕ) → is_some capacity ≡ true → unit_weight capacity ≡ 1
+pub one_place : (capacity : Option ℕ) → is_some capacity ≡ true → unit_weight capacity ≡ 1
 one_place None there = absurd (cc)
 one_place (Some c) there = refl
 
 many_places : (capacity : Option ℕ) (count : ℕ) → is_some capacity ≡ true → group_weight capacity count ≡ count
 many_places None count there = absurd (cc)
 many_places (Some c) count there = refl
+
+-- one message goes off each port
+one_gone : (waiting : List Value) → not (is_empty waiting) ≡ true → length waiting ≡ length (drop 1 waiting) + 1
+one_gone [] some = absurd (cc)
+one_gone (value ∷ waiting) some = omega arith
+
+gone_at : (ports : List PortState) (q : ℕ) → q < length ports → has_tuple ports ≡ true
+    → length (port_in ports q).waiting ≡ length (drop 1 (port_in ports q).waiting) + 1
+gone_at [] q there waits = absurd (omega (arith, there))
+gone_at (port ∷ ports) zero there waits = one_gone port.waiting (and_parts (has_first port) (has_tuple ports) waits).0
+gone_at (port ∷ ports) (suc q) there waits =
+    gone_at ports q (omega (arith, there)) (and_parts (has_first port) (has_tuple ports) waits).1
 
 -- an outlet has the same left to give
 record IsLeftSo (before after : OutletState) : Type 0 where
@@ -227,14 +245,13 @@ module _ {W : Type 0} (layout : Layout W) (meaning : ℕ → Value → Result (L
       groups_with (block.exits.next + length block.exits.left) (length values) (unit_weight limit) block.exits.groups
 
   put_keeps : (kind : BlockKind) (values : List Value) (value : Value) (block : BlockState) (journal : List Mark)
-      → block.kind ≡ kind → first_of (held_by block) ≡ Some value
+      → block.kind ≡ kind → first_of (held_by block) ≡ Some value → length block.ports ≡ 1
       → ShapeLaw layout meaning b block → LoadLaw layout meaning b block journal
       → weighs kind (took journal) (drop 1 (held_by block)) (gave journal) (block.exits.left ++ values)
       block.exits.next (put_groups values block)
       → LoadLaw layout meaning b (puts_out values block) journal
-  put_keeps kind [] value block journal same first shape law put =
+  put_keeps kind [] value block journal same first one shape law put =
       let change : PortState → PortState = λ port. gives_room 1 (takes_next port) in
-      let one = has_one_port layout meaning b block shape in
       record {
         groups = rw (same, held_next block change one refl)
             (subst (λ (left : List Value). weighs kind (took journal) (drop 1 (held_by block)) (gave journal) left
@@ -242,10 +259,9 @@ module _ {W : Type 0} (layout : Layout W) (meaning : ℕ → Value → Result (L
         no_room = law.no_room;
         load = done_counts value block (weight_of block.exits.groups) first law.load;
       }
-  put_keeps kind (made ∷ values) value block journal same first shape law put =
+  put_keeps kind (made ∷ values) value block journal same first alone shape law put =
       let port = port_at 0 block in
-      let alone = has_one_port layout meaning b block shape in
-      let below : 0 < length block.ports = omega arith in
+      let below : 0 < length block.ports = omega (arith, alone) in
       let capacity : port.capacity ≡ limit = (shape.ports 0 below).capacity in
       record {
         groups = rw (same, held_next block takes_next alone refl, capacity) put;
@@ -258,7 +274,7 @@ module _ {W : Type 0} (layout : Layout W) (meaning : ℕ → Value → Result (L
             (unit_weight port.capacity) block.exits.groups (omega arith) in
             let one = one_place port.capacity (ap is_some capacity ∙ there) in
             omega (arith, all, goes, more, one))
-            (λ q there other. absurd (other (omega arith)));
+            (λ q there other. absurd (other (omega (arith, alone, there))));
       }
 
   held_first : (held : List Value) (value : Value) → first_of held ≡ Some value → held ≡ value ∷ drop 1 held
@@ -279,56 +295,57 @@ module _ {W : Type 0} (layout : Layout W) (meaning : ℕ → Value → Result (L
 
   results_kept : (kind : BlockKind) (values : List Value) (value : Value) (block : BlockState) (journal : List Mark)
       → block.kind ≡ kind → first_of (held_by block) ≡ Some value → block.exits.next ≡ 1 + length (gave journal)
-      → ShapeLaw layout meaning b block → LoadLaw layout meaning b block journal
+      → length block.ports ≡ 1 → ShapeLaw layout meaning b block → LoadLaw layout meaning b block journal
       → made_of kind (block_makes layout meaning b) value ≡ Ok values
       → is_batch kind ≡ false → (is_action kind ≡ false → is_many kind ≡ false → length values ≡ 1)
       → LoadLaw layout meaning b (keeps_results kind values block) journal
-  results_kept Action values value block journal same first next shape law made other single = record {
+  results_kept Action values value block journal same first next one shape law made other single = record {
     groups = rw same (subst (λ (kind : BlockKind). weighs kind (took journal) (held_by block) (gave journal)
         block.exits.left block.exits.next block.exits.groups) same law.groups);
     no_room = law.no_room;
     load = done_counts value block (weight_of block.exits.groups) first law.load;
   }
-  results_kept TransformMany values value block journal same first next shape law made other single =
+  results_kept TransformMany values value block journal same first next one shape law made other single =
       let exits = block.exits in
       jobs_change (puts_out values block) journal works_off
-      (put_keeps TransformMany values value block journal same first shape law
+      (put_keeps TransformMany values value block journal same first one shape law
       (weighs_many (block_makes layout meaning b) limit (took journal) (drop 1 (held_by block)) (gave journal)
       exits.left exits.next exits.groups value values made next
       (subst (λ (held : List Value). weighs TransformMany (took journal) held (gave journal) exits.left exits.next
       exits.groups) (held_first (held_by block) value first)
       (subst (λ (kind : BlockKind). weighs kind (took journal) (held_by block) (gave journal) exits.left exits.next
       exits.groups) same law.groups))))
-  results_kept Buffer values value block journal same first next shape law made other single =
-      put_keeps Buffer values value block journal same first shape law
+  results_kept Buffer values value block journal same first next one shape law made other single =
+      put_keeps Buffer values value block journal same first one shape law
       (weighs_put Buffer values block journal same refl refl (single refl refl) law)
-  results_kept Batch values value block journal same first next shape law made other single = absurd (cc)
-  results_kept kind values value block journal same first next shape law made other single =
+  results_kept Batch values value block journal same first next one shape law made other single = absurd (cc)
+  results_kept kind values value block journal same first next one shape law made other single =
       jobs_change (puts_out values block) journal works_off
-      (put_keeps kind values value block journal same first shape law
+      (put_keeps kind values value block journal same first one shape law
       (weighs_put kind values block journal same refl refl (single refl refl) law))
 
   yield_keeps : (result : Result (List Value) ℕ) (value : Value) (block : BlockState) (journal : List Mark)
       → first_of (held_by block) ≡ Some value → block.exits.next ≡ 1 + length (gave journal)
-      → ShapeLaw layout meaning b block → LoadLaw layout meaning b block journal
-      → is_batch block.kind ≡ false → made_of block.kind (block_makes layout meaning b) value ≡ result
+      → length block.ports ≡ 1 → ShapeLaw layout meaning b block → LoadLaw layout meaning b block journal
+      → is_of_one block.kind ≡ true → is_batch block.kind ≡ false → made_of block.kind (block_makes layout meaning b) value ≡ result
       → LoadLaw layout meaning b (yields result block) journal
-  yield_keeps (Ok values) value block journal first next shape law other made =
-      results_kept block.kind values value block journal refl first next shape law made other
+  yield_keeps (Ok values) value block journal first next one shape law simple other made =
+      results_kept block.kind values value block journal refl first next one shape law made other
       (λ acts single. made_is_one block.kind (block_in layout.blocks b).kind (meaning b) value values shape.kind_is
-      shape.built made acts single other)
-  yield_keeps (Err number) value block journal first next shape law other made =
+      simple made acts single other)
+  yield_keeps (Err number) value block journal first next one shape law simple other made =
       all_move block (fails number block) journal journal port_fails refl refl refl (λ port. refl) (λ port. refl)
       refl refl law
 
   make_keeps : (held : Option Value) (block : BlockState) (journal : List Mark) → first_of (held_by block) ≡ held
-      → block.exits.next ≡ 1 + length (gave journal)
-      → ShapeLaw layout meaning b block → LoadLaw layout meaning b block journal → is_batch block.kind ≡ false
+      → block.exits.next ≡ 1 + length (gave journal) → length block.ports ≡ 1
+      → ShapeLaw layout meaning b block → LoadLaw layout meaning b block journal
+      → is_of_one block.kind ≡ true → is_batch block.kind ≡ false
       → LoadLaw layout meaning b (makes_of (block_makes layout meaning b) held block) journal
-  make_keeps None block journal first next shape law other = law
-  make_keeps (Some value) block journal first next shape law other =
-      yield_keeps (made_of block.kind (block_makes layout meaning b) value) value block journal first next shape law
-      other refl
+  make_keeps None block journal first next one shape law simple other = law
+  make_keeps (Some value) block journal first next one shape law simple other =
+      yield_keeps (made_of block.kind (block_makes layout meaning b) value) value block journal first next one shape law
+      simple other refl
 
   -- a row is made of messages that it holds
   row_keeps : (block : BlockState) (journal : List Mark) (kind : BlockKind) → block.kind ≡ kind → is_batch kind ≡ true
@@ -341,7 +358,7 @@ module _ {W : Type 0} (layout : Layout W) (meaning : ℕ → Value → Result (L
       let group = next_group block in
       let count = length group in
       let row = row_of group in
-      let alone = has_one_port layout meaning b block shape in
+      let alone = has_one_port layout meaning b block shape (batch_unjoined block.kind (ap is_batch same ∙ batch)) in
       let below : 0 < length block.ports = omega (arith, alone) in
       let capacity : port.capacity ≡ limit = (shape.ports 0 below).capacity in
       let weighs_row : row_weight row ≡ count = ap (λ (vs : List Value). length vs) (values_of-items_from group) in
@@ -365,6 +382,55 @@ module _ {W : Type 0} (layout : Layout W) (meaning : ℕ → Value → Result (L
       }
   row_keeps block journal _ same batch some shape law = absurd (cc)
 
+  -- a tuple is made of a message of each port
+  tuple_keeps : (block : BlockState) (journal : List Mark) → is_join block.kind ≡ true → has_tuple block.ports ≡ true
+      → ShapeLaw layout meaning b block → LoadLaw layout meaning b block journal
+      → LoadLaw layout meaning b (makes_tuple block) journal
+  tuple_keeps block journal join waits shape law =
+      let port = port_at 0 block in
+      let exits = block.exits in
+      let made = tuple_of block.ports ∷ [] in
+      let capacity : port.capacity ≡ limit = (shape.ports 0 shape.some_port).capacity in
+      record {
+        groups = rw capacity
+            (weighs_one (block_makes layout meaning b) block.kind limit (took journal) (held_by block)
+            (held_by (makes_tuple block)) (gave journal) exits.left exits.next exits.groups made
+            (join_single block.kind join) (join_alone block.kind join) refl law.groups);
+        no_room = none_back 1 (unit_weight port.capacity) exits.room (omega arith) law.no_room;
+        load = each_after_all (Loads (weight_of (makes_tuple block).exits.groups)) takes_next block.ports
+            (λ q below there.
+            let all = law.load q below there in
+            let goes = gone_at block.ports q below waits in
+            let more = more_weight (exits.next + length exits.left) 1 (unit_weight port.capacity) exits.groups (omega arith) in
+            let one = one_place port.capacity (ap is_some capacity ∙ there) in
+            omega (arith, all, goes, more, one));
+      }
+
+  -- what is kept for what it has left, when it takes a message
+  taken_weighs : (p k : ℕ) (value : Value) (node : NodeState) → p < length node.block.ports
+      → ShapeLaw layout meaning b node.block → LoadLaw layout meaning b node.block node.journal
+      → (join : Bool) → is_join node.block.kind ≡ join
+      → let new = takes_in p k (Some value) node in
+      weighs node.block.kind (took new.journal) (held_by new.block) (gave new.journal) node.block.exits.left
+      node.block.exits.next node.block.exits.groups
+  taken_weighs p k value node below shape law true join =
+      join_weighs (block_makes layout meaning b) node.block.kind limit _ _ _ _ _ _ node.block.exits.left node.block.exits.next
+      node.block.exits.groups join law.groups
+  taken_weighs p k value node below shape law false alone =
+      let block = node.block in
+      let exits = block.exits in
+      let change = closes k value in
+      let one = has_one_port layout meaning b block shape alone in
+      let first : p ≡ 0 = omega (arith, one, below) in
+      let held : held_by (with_port p change block) ≡ held_by block ++ value ∷ [] =
+      rw first (ap (λ (port : PortState). port.waiting)
+      (get_or-set_same block.ports 0 (change (port_at 0 block)) (fresh_port None) (omega (arith, one)))) in
+      let taken = took_by_took node.journal p (in_link_at p k node) value in
+      let given = gave_by_took node.journal p (in_link_at p k node) value in
+      rw (held, taken, given)
+      (weighs_taken (block_makes layout meaning b) block.kind limit (took node.journal) (held_by block)
+      (gave node.journal) exits.left exits.next exits.groups value law.groups)
+
   take_keeps : (p k : ℕ) (hand : Option Value) (node : NodeState) → p < length node.block.ports
       → ShapeLaw layout meaning b node.block → LoadLaw layout meaning b node.block node.journal
       → LoadLaw layout meaning b (takes_in p k hand node).block (takes_in p k hand node).journal
@@ -372,19 +438,9 @@ module _ {W : Type 0} (layout : Layout W) (meaning : ℕ → Value → Result (L
   take_keeps p k (Some value) node below shape law =
       let block = node.block in
       let exits = block.exits in
-      let change = closes k value in
-      let one = has_one_port layout meaning b block shape in
-      let first : p ≡ 0 = omega arith in
-      let held : held_by (with_port p change block) ≡ held_by block ++ value ∷ [] =
-      rw first (ap (λ (port : PortState). port.waiting)
-      (get_or-set_same block.ports 0 (change (port_at 0 block)) (fresh_port None) (omega arith))) in
-      let taken = took_by_took node.journal p (in_link_at p k node) value in
-      let given = gave_by_took node.journal p (in_link_at p k node) value in
       let port = port_in block.ports p in
       record {
-        groups = rw (held, taken, given)
-            (weighs_taken (block_makes layout meaning b) block.kind limit (took node.journal) (held_by block)
-            (gave node.journal) exits.left exits.next exits.groups value law.groups);
+        groups = taken_weighs p k value node below shape law (is_join block.kind) refl;
         no_room = law.no_room;
         load = each_after_one (Loads (weight_of exits.groups)) block.ports p (closes k value port)
             (λ below there.
@@ -457,6 +513,7 @@ module _ {W : Type 0} (layout : Layout W) (meaning : ℕ → Value → Result (L
       one_moves node.block node.journal node.journal p (port_looks k phase) refl refl refl refl law.load
   call_keeps node (NodeCall.look_out k phase) law may =
       exits_move node (exit_looks k phase node.block.exits) refl refl refl refl law.load
+  call_keeps node (NodeCall.copy call) law may = absurd (no_copy_at layout meaning b node law (copy_place call) may.place)
   call_keeps node NodeCall.begin law may =
       jobs_change node.block node.journal begins law.load
   call_keeps node NodeCall.make law may =
@@ -467,7 +524,11 @@ module _ {W : Type 0} (layout : Layout W) (meaning : ℕ → Value → Result (L
       (has_port_ended (port_at 0 block).refusing) ((may_work_tells block may.waits).group batch) in
       row_keeps block node.journal block.kind refl batch
       (group_there block.size (held_by block) (law.shape.some_size batch) group.0) law.shape law.load)
-      (λ other. make_keeps (first_of (held_by block)) block node.journal refl law.gave.next_is law.shape law.load other)
+      (λ join. tuple_keeps block node.journal join ((may_work_tells block may.waits).tuple join) law.shape law.load)
+      (λ broadcast. never_both (is_broadcast block.kind) broadcast (none_broadcast block.kind law.shape.built))
+      (λ other alone single. make_keeps (first_of (held_by block)) block node.journal refl law.gave.next_is
+      (has_one_port layout meaning b block law.shape alone) law.shape law.load
+      (of_one block.kind law.shape.built other alone single) other)
   call_keeps node (NodeCall.complete p) law may =
       one_moves node.block node.journal (node.journal ++ Complete p ∷ []) p port_closes refl refl
       (took_no_more node.journal (Complete p) refl) (gave_no_more node.journal (Complete p) refl) law.load

@@ -1,5 +1,5 @@
 -- Each call keeps what a block makes of what it took.
-use Rattle.std.proofs.Common.{◌≡◌, ℕ, ◌<◌, true, false, List, [], ◌∷◌, ◌++◌, length, take, drop, Option, Some, None, Result, Ok, Err, refl, ap, sym, ◌∙◌, subst, append-nil, append_assoc, arith}
+use Rattle.std.proofs.Common.{◌≡◌, ℕ, ◌<◌, true, false, List, [], ◌∷◌, ◌++◌, length, take, drop, Option, Some, None, Result, Ok, Err, refl, ap, sym, ◌∙◌, subst, append-nil, append_assoc, arith, Bool}
 use Rattle.std.proofs.lemmas.List.{get_or-set_same, take-append-drop}
 use Rattle.flow_value.specs.View.{items_from, values_of, values_of-items_from}
 use Rattle.flow_value.specs.declared.value.Value.{Value}
@@ -15,20 +15,24 @@ use Rattle.flow_link.specs.Making.{all_items, items_of}
 use Rattle.flow_link.specs.Plan.{has_work}
 use Rattle.flow_link.specs.Trace.{took, gave}
 use Rattle.flow_link.specs.Worked.{WorkedInto}
-use Rattle.flow_link.specs.NotBuilt.{is_built_kind}
 use Rattle.flow_link.proofs.OneMoreMark.{took_no_more, gave_no_more, took_by_took, gave_by_took, took_by_gave, gave_by_gave}
 use Rattle.flow_link.proofs.OneMoreWorked.{worked_more}
 use Rattle.flow_intake.specs.Port.{PortState, fresh_port, hand_in}
 use Rattle.flow_intake.specs.Calls.{first_of, wants, turns_down, postpones, refuses, consumes, opens, closes, looks as port_looks, takes_next, gives_room, port_closes, port_fails}
 use Rattle.flow_outlet.specs.Outlet.{OutletState, first_of as first_left, rest_of, head_of, gives, prepares, offers, denies, withdraws, ends_link, looks as exit_looks}
-use Rattle.flow_block.specs.Block.{BlockState, port_at, with_port, with_jobs, held_by, made_of, puts_out, put_by_kind, yields, keeps_results, makes_of, is_batch, row_of, takes_group, makes_row, stops_by}
+use Rattle.flow_link.proofs.ListTests.{never_both}
+use Rattle.flow_link.specs.Plan.{is_broadcast}
+use Rattle.flow_block.specs.Copies.{copy_place}
+use Rattle.flow_block.proofs.CopiesIdle.{no_copy_at, none_broadcast}
+use Rattle.flow_block.specs.Block.{BlockState, port_at, with_port, with_jobs, held_by, made_of, puts_out, put_by_kind, yields, keeps_results, makes_of, is_batch, row_of, takes_group, makes_row, stops_by, is_join, makes_tuple}
 use Rattle.flow_block.specs.Jobs.{JobsState, begins, works_off}
 use Rattle.flow_block.specs.Node.{NodeState, NodeCall, takes_in, gives_from, in_link_at, out_link_at}
 use Rattle.flow_block.specs.NodeKeeps.{MakesKept, MayCall, after_call}
 use Rattle.flow_block.specs.NodeLaw.{NodeLaw, MakesLaw, MakesAs, FaultsOn}
 use Rattle.flow_block.specs.Planned.{block_makes}
 use Rattle.flow_block.proofs.GoingOn.{may_work_tells}
-use Rattle.flow_block.proofs.KindsBuilt.{has_one_port, makes_by}
+use Rattle.flow_block.proofs.Joins.{join_idle, join_makes, batch_unjoined}
+use Rattle.flow_block.proofs.KindsBuilt.{is_of_one, of_one, has_one_port, makes_by}
 use Rattle.flow_block.proofs.PortsChange.{kept_at_one, kept_at_all}
 
 -- What is taken, given and made
@@ -144,7 +148,7 @@ record Fails (result : Value → Result (List Value) ℕ) (kind : BlockKind) (va
   fails : result value ≡ Err number
 
 fails_so : (result : Value → Result (List Value) ℕ) (kind : BlockKind) (value : Value) (number : ℕ)
-    → is_built_kind kind ≡ true → is_batch kind ≡ false → made_of kind result value ≡ Err number
+    → is_of_one kind ≡ true → is_batch kind ≡ false → made_of kind result value ≡ Err number
     → Fails result kind value number
 fails_so result Buffer value number built other made = absurd (cc)
 fails_so result Action value number built other made = record { works = refl; fails = made }
@@ -174,12 +178,16 @@ module _ {W : Type 0} (layout : Layout W) (meaning : ℕ → Value → Result (L
       (kept_at_one (λ port. port.waiting) node.block.ports p 0 (change (port_at p node.block)) same)
       refl refl refl refl refl
 
-  taken_in : (node : NodeState) → NodeLaw layout meaning b node → (p k : ℕ) (value : Option Value)
-      → p < length node.block.ports
-      → MakesLaw layout meaning b (takes_in p k value node).block (takes_in p k value node).journal
-  taken_in node law p k None below = law.makes
-  taken_in node law p k (Some value) below =
-      let one = has_one_port layout meaning b node.block law.shape in
+  taken_by : (node : NodeState) → NodeLaw layout meaning b node → (p k : ℕ) (value : Value)
+      → p < length node.block.ports → (join : Bool) → is_join node.block.kind ≡ join
+      → MakesLaw layout meaning b (takes_in p k (Some value) node).block (takes_in p k (Some value) node).journal
+  taken_by node law p k value below true join = record {
+    makes = join_makes (block_makes layout meaning b) node.block.kind _ _ _ _ _ join;
+    fault_is = λ number is.
+        never_both (has_work node.block.kind) (law.makes.fault_is number is).works (join_idle node.block.kind join);
+  }
+  taken_by node law p k value below false alone =
+      let one = has_one_port layout meaning b node.block law.shape alone in
       let first : p ≡ 0 = omega arith in
       let change = closes k value in
       let held : held_by (with_port p change node.block) ≡ held_by node.block ++ value ∷ [] =
@@ -195,6 +203,12 @@ module _ {W : Type 0} (layout : Layout W) (meaning : ℕ → Value → Result (L
             (fault_when_taken (block_makes layout meaning b) node.block.kind (held_by node.block) value number
             (law.makes.fault_is number is));
       }
+
+  taken_in : (node : NodeState) → NodeLaw layout meaning b node → (p k : ℕ) (value : Option Value)
+      → p < length node.block.ports
+      → MakesLaw layout meaning b (takes_in p k value node).block (takes_in p k value node).journal
+  taken_in node law p k None below = law.makes
+  taken_in node law p k (Some value) below = taken_by node law p k value below (is_join node.block.kind) refl
 
   given_out : (node : NodeState) → MakesLaw layout meaning b node.block node.journal → (k : ℕ) (value : Option Value)
       → head_of node.block.exits ≡ value
@@ -281,7 +295,7 @@ module _ {W : Type 0} (layout : Layout W) (meaning : ℕ → Value → Result (L
 
   kept_as : (kind : BlockKind) (block : BlockState) (journal : List Mark) (value : Value) (rest values : List Value)
       → block.kind ≡ kind
-      → is_built_kind kind ≡ true → is_batch kind ≡ false → length block.ports ≡ 1 → block.fault ≡ None
+      → is_of_one kind ≡ true → is_batch kind ≡ false → length block.ports ≡ 1 → block.fault ≡ None
       → held_by block ≡ value ∷ rest
       → made_of kind (block_makes layout meaning b) value ≡ Ok values → MakesLaw layout meaning b block journal
       → MakesLaw layout meaning b (keeps_results kind values block) journal
@@ -308,7 +322,7 @@ module _ {W : Type 0} (layout : Layout W) (meaning : ℕ → Value → Result (L
   yielded : (block : BlockState) (journal : List Mark) (value : Value) (rest : List Value)
       (made : Result (List Value) ℕ)
       → length block.ports ≡ 1 → block.fault ≡ None → held_by block ≡ value ∷ rest
-      → is_built_kind block.kind ≡ true → is_batch block.kind ≡ false
+      → is_of_one block.kind ≡ true → is_batch block.kind ≡ false
       → made_of block.kind (block_makes layout meaning b) value ≡ made → MakesLaw layout meaning b block journal
       → MakesLaw layout meaning b (yields made block) journal
   yielded block journal value rest (Ok values) one none first built other is law =
@@ -328,7 +342,7 @@ module _ {W : Type 0} (layout : Layout W) (meaning : ℕ → Value → Result (L
       }
 
   made_next : (block : BlockState) (journal : List Mark) (held : List Value) → held_by block ≡ held
-      → length block.ports ≡ 1 → block.fault ≡ None → is_built_kind block.kind ≡ true → is_batch block.kind ≡ false
+      → length block.ports ≡ 1 → block.fault ≡ None → is_of_one block.kind ≡ true → is_batch block.kind ≡ false
       → MakesLaw layout meaning b block journal
       → MakesLaw layout meaning b (makes_of (block_makes layout meaning b) (first_of held) block) journal
   made_next block journal [] is one none built other law = law
@@ -354,6 +368,14 @@ module _ {W : Type 0} (layout : Layout W) (meaning : ℕ → Value → Result (L
       }
   row_made block journal one none _ same batch law = absurd (cc)
 
+  -- it makes a tuple
+  tuple_made : (block : BlockState) (journal : List Mark) → is_join block.kind ≡ true → block.fault ≡ None
+      → MakesLaw layout meaning b (makes_tuple block) journal
+  tuple_made block journal join none = record {
+    makes = join_makes (block_makes layout meaning b) block.kind _ _ _ _ _ join;
+    fault_is = λ number is. absurd (let never : None ≡ Some number = sym none ∙ is in cc);
+  }
+
   after_each : (node : NodeState) (call : NodeCall) → NodeLaw layout meaning b node → MayCall layout meaning b call node
       → MakesLaw layout meaning b (after_call layout meaning b call node).block
       (after_call layout meaning b call node).journal
@@ -366,14 +388,18 @@ module _ {W : Type 0} (layout : Layout W) (meaning : ℕ → Value → Result (L
   after_each node (NodeCall.close p k) law may = taken_in node law p k (hand_in k (port_at p node.block).ends) may.port
   after_each node (NodeCall.give k) law may = given_out node law.makes k (head_of node.block.exits) refl
   after_each node (NodeCall.look_in p k phase) law may = port_stays node law.makes p (port_looks k phase) refl
+  after_each node (NodeCall.copy call) law may = absurd (no_copy_at layout meaning b node law (copy_place call) may.place)
   after_each node NodeCall.begin law may = jobs_change node law.makes begins
   after_each node NodeCall.make law may =
       let block = node.block in
       let none = (may_work_tells block may.waits).no_fault in
-      let one = has_one_port layout meaning b block law.shape in
+      let one : is_join block.kind ≡ false → length block.ports ≡ 1 = has_one_port layout meaning b block law.shape in
       makes_by (λ new. MakesLaw layout meaning b new node.journal) (block_makes layout meaning b) block
-      (λ batch. row_made block node.journal one none block.kind refl batch law.makes)
-      (λ other. made_next block node.journal (held_by block) refl one none law.shape.built other law.makes)
+      (λ batch. row_made block node.journal (one (batch_unjoined block.kind batch)) none block.kind refl batch law.makes)
+      (λ join. tuple_made block node.journal join none)
+      (λ broadcast. never_both (is_broadcast block.kind) broadcast (none_broadcast block.kind law.shape.built))
+      (λ other alone single. made_next block node.journal (held_by block) refl (one alone) none
+      (of_one block.kind law.shape.built other alone single) other law.makes)
   after_each node (NodeCall.complete p) law may =
       stays node.block (with_port p port_closes node.block) node.journal (node.journal ++ Complete p ∷ []) law.makes
       refl (kept_at_one (λ port. port.waiting) node.block.ports p 0 (port_closes (port_at p node.block)) refl)

@@ -119,7 +119,7 @@ module _ (p : ℕ) (block : BlockState) (l : p < length block.ports) where
     due_looks phase =
         omega (arith, due_with p 0 0 (looks k phase) block l (due_moved k 0 0 _ (port_at p block).ready (port_at p block) there (omega (arith, look_owes_less (stage_at k (port_at p block)) phase))))
 
-due_map : (change : PortState → PortState) (ports : List PortState) → ((port : PortState) → port_due (change port) ≡ port_due port)
+pub due_map : (change : PortState → PortState) (ports : List PortState) → ((port : PortState) → port_due (change port) ≡ port_due port)
     → ports_due (map change ports) ≡ ports_due ports
 due_map change [] same = refl
 due_map change (port ∷ ports) same = rw (same port, due_map change ports same) refl
@@ -136,7 +136,7 @@ due_stopped how block = rw (due_map port_closes block.ports (λ _. refl)) refl
 
 -- A job that ends
 
-first_kept : (change : PortState → PortState) (ports : List PortState)
+pub first_kept : (change : PortState → PortState) (ports : List PortState)
     → ((port : PortState) → port_due (change port) ≡ port_due port)
     → ports_due (set ports 0 (change (port_in ports 0))) ≡ ports_due ports
 first_kept change [] same = refl

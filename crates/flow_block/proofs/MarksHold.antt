@@ -14,6 +14,8 @@ use Rattle.flow_link.proofs.OneMoreMark.{every_more}
 use Rattle.flow_intake.specs.Port.{stage_at as port_stage, hand_in, is_hand}
 use Rattle.flow_intake.proofs.CountsOfEnds.{hand_comes}
 use Rattle.flow_outlet.specs.Outlet.{head_of, stage_at}
+use Rattle.flow_block.specs.Copies.{copy_place}
+use Rattle.flow_block.proofs.CopiesIdle.{no_copy_at}
 use Rattle.flow_block.specs.Block.{port_at}
 use Rattle.flow_block.specs.Node.{NodeState, NodeCall, takes_in, gives_from, in_link_at, out_link_at}
 use Rattle.flow_block.specs.NodeKeeps.{InAt, MayGive, MayCompletePort, MarksKept, MayCall, after_call}
@@ -117,6 +119,7 @@ module _ {W : Type 0} (layout : Layout W) (meaning : ℕ → Value → Result (L
   after_each node NodeCall.finish law may =
       one_more node.journal Done law.marks refl (sym law.ends.stopped_is ∙ (may_finish_tells node.block may).going)
       (done_goes node.journal)
+  after_each node (NodeCall.copy call) law may = absurd (no_copy_at layout meaning b node law (copy_place call) may.place)
   after_each node call law may = law.marks
 
 pub marks_kept : (W : Type 0) → MarksKept W

@@ -1,11 +1,11 @@
 -- A node in order keeps what each block of a lawful run keeps.
-use Rattle.std.proofs.Common.{◌≡◌, ℕ, ◌+◌, ◌==◌, ◌<◌, ltb, Bool, true, false, not, ◌&&◌, ◌||◌, is_some, List, [], ◌∷◌, ◌++◌, length, Option, Some, None, refl, ap, ap₂, sym, subst, ◌∙◌, arith, ⊎_elim, eq-eqb, eqb-true, ltb-true, le-leb}
-use Rattle.std.proofs.lemmas.Bool.{OnTrue_at, and_from, and_parts, or_left, or_right}
+use Rattle.std.proofs.Common.{zero, suc, ◌≡◌, ℕ, ◌+◌, ◌==◌, ◌<◌, ltb, Bool, true, false, not, ◌&&◌, ◌||◌, is_some, List, [], ◌∷◌, ◌++◌, length, Option, Some, None, refl, ap, ap₂, sym, subst, ◌∙◌, arith, ⊎_elim, eq-eqb, eqb-true, ltb-true, le-leb, cond}
+use Rattle.std.proofs.lemmas.Bool.{OnTrue_at, and_from, and_parts, or_left, or_right, or_cases}
 use Rattle.std.proofs.Math.Bool.{or_comm}
 use Rattle.flow_value.specs.When.{admits}
 use Rattle.flow_value.specs.declared.value.Value.{Value}
 use Rattle.flow_link.specs.declared.draft.BlockKind.{BlockKind}
-use Rattle.flow_link.specs.declared.draft.BlockKind.TheVariants.{Buffer, Action, Transform, TransformMany, Batch}
+use Rattle.flow_link.specs.declared.draft.BlockKind.TheVariants.{Buffer, Action, Transform, TransformMany, Batch, Join}
 use Rattle.flow_link.specs.declared.phase.LinkEnd.{LinkEnd}
 use Rattle.flow_link.specs.declared.phase.LinkEnd.TheVariants as link_end
 use Rattle.flow_link.specs.declared.plan.LinkSource.TheVariants.{Block}
@@ -16,17 +16,17 @@ use Rattle.flow_link.specs.declared.trace.Mark.{Mark}
 use Rattle.flow_link.specs.declared.trace.Mark.TheVariants.{Took, Gave, Complete, Fault, Done}
 use Rattle.flow_link.specs.Composes.{Ends, SourceKeeps, TargetKeeps, SpeaksForOne, WorksInto, NodeMakes, NodeKeeps, RefusesFor, as_seen, is_refused_stage, is_coming, is_spoken_for, has_seen_completion, has_seen_fault, has_seen_cause, has_room_at, coming}
 use Rattle.flow_link.specs.Copies.{copies_as}
-use Rattle.flow_link.specs.Endings.{own_fault, is_number, is_complete, has_nothing, stops, completes_once}
+use Rattle.flow_link.specs.Endings.{own_fault, is_number, is_complete, has_nothing, stops, completes_once, is_complete_as}
 use Rattle.flow_link.specs.Law.{is_own_mark, has_own_marks, has_room_for, takes_level, is_passed, gives_in_order, keeps_link_order}
 use Rattle.flow_link.specs.LinkOk.{IsWithin}
-use Rattle.flow_link.specs.Lists.{every, some, below, is_empty, same_values}
-use Rattle.flow_link.specs.Making.{outputs, load, group_size, all_items, are_groups, row_weight, before_complete, whole_until}
+use Rattle.flow_link.specs.Lists.{every, some, below, is_empty, same_values, numbers_from}
+use Rattle.flow_link.specs.Making.{outputs, load, group_size, all_items, are_groups, row_weight, before_complete, whole_until, join_makes}
 use Rattle.flow_link.specs.Plan.{begins_at, ends_at, ends_at_port, is_one_taker, is_reserving, reserves_by_kind, is_steady, port_count}
 use Rattle.flow_link.specs.Stage.{source_stage_of, target_stage_of, refusal_of}
 use Rattle.flow_link.specs.Trace.{BlockTrace, Run, took, gave, gave_over, took_over, has_complete, has_fault, has_ended, is_done, is_faulted, is_used_up, is_cut, block_of, link_of, link_numbers, trace_of, marks_of, held_at, left_at, ports_of, given_by}
 use Rattle.flow_link.specs.Views as views
 use Rattle.flow_link.specs.Worked.{WorkedInto}
-use Rattle.flow_link.specs.NotBuilt.{is_built_kind}
+use Rattle.flow_block.specs.Kinds.{is_kept_kind}
 use Rattle.flow_link.proofs.RoundsOfWalks.{some_here_below}
 use Rattle.flow_link.proofs.ListTests.{or_not, every_below, every_weaker_below, length_numbers, or_others, same_values_where}
 use Rattle.flow_intake.specs.Port.{EndState, PortState, end_in, fresh_end, fresh_port, coming as coming_at, is_coming as is_coming_at}
@@ -37,17 +37,19 @@ use Rattle.flow_outlet.specs.declared.ends.OutEnd.{OutEnd}
 use Rattle.flow_outlet.specs.End.{no_end, is_cut as is_end_cut}
 use Rattle.flow_outlet.specs.Law.{is_refused}
 use Rattle.flow_outlet.specs.Outlet.{end_at, end_of}
-use Rattle.flow_block.specs.Block.{port_at, held_by, is_batch}
+use Rattle.flow_block.specs.Block.{port_at, held_by, is_batch, is_join, port_in}
 use Rattle.flow_block.specs.Node.{NodeState, in_view}
-use Rattle.flow_block.specs.NodeLaw.{NodeLaw, MakesAs, RowsLaw, is_whole, RefusesFor as RefusesBy, refuses_over, run_seen_by, is_fault_seen}
+use Rattle.flow_block.specs.NodeLaw.{NodeLaw, MakesAs, RowsLaw, is_whole, RefusesFor as RefusesBy, refuses_over, run_seen_by, is_fault_seen, have_completed}
 use Rattle.flow_block.specs.NodeSeen.{IsNodeOf, NodesAreLawful}
 use Rattle.flow_block.specs.Planned.{out_place, in_place, block_makes}
+use Rattle.flow_block.proofs.CopiesIdle.{left_is_shared}
 use Rattle.flow_block.proofs.EndsTell.{ended_complete, ended_fault, ended_plain, used_up_told, ended_stage, refused_told, spoken_is_out, refusal_told, coming_told, completion_told, fault_told}
 use Rattle.flow_block.proofs.JournalTells.{stopped_tells, every_mark, complete_own, done_outcome, done_marked, fault_marked, passed_by}
-use Rattle.flow_block.proofs.KindsBuilt.{by_kind, planned_built}
-use Rattle.flow_block.proofs.NodesSeen.{held_is, none_held, own_fault_is, complete_is, load_is}
+use Rattle.flow_block.proofs.KindsBuilt.{by_kind, planned_kept}
+use Rattle.flow_block.proofs.NodesSeen.{held_is, none_held, own_fault_is, complete_is, load_is, is_joining, join_seen}
 use Rattle.flow_block.proofs.PlacesOfLinks.{IsEndIn, HasEndOut, end_in_is, end_in_of, end_out_is, end_out_of, count_of_links, there_at_port, there_at_block, source_there}
-use Rattle.flow_block.proofs.TestsTell.{some_tells}
+use Rattle.flow_block.proofs.TestsTell.{some_tells, every_tells}
+use Rattle.flow_block.specs.Peeks.{holds_nothing}
 
 -- what is left of rows that are all whole is whole
 every_behind : (test : Value → Bool) (front rest : List Value) → every test (front ++ rest) ≡ true → every test rest ≡ true
@@ -70,6 +72,33 @@ fits : {W : Type 0} (run : Run W) (capacity : Option ℕ) (count kept : ℕ) →
     → IsWithin capacity kept → has_room_for run capacity count ≡ true
 fits run None count kept same within = refl
 fits run (Some capacity) count kept same within = le-leb count capacity (omega (arith, same refl, within))
+
+-- a test that holds of a place before the last holds somewhere
+record HoldsAt (test : ℕ → Bool) (count : ℕ) : Type 0 where
+  place : ℕ
+  there : place < count
+  holds : test place ≡ true
+
+holds_from : (test : ℕ → Bool) (first count : ℕ) → some test (numbers_from first count) ≡ true
+    → (place : ℕ) × (place < first + count) × (test place ≡ true)
+holds_from test first zero e = absurd (cc)
+holds_from test first (suc count) e =
+    ⊎_elim
+    (λ here. (first, omega arith, here))
+    (λ later. let found = holds_from test (suc first) count later in (found.0, omega (arith, found.1), found.2))
+    (or_cases (test first) (some test (numbers_from (suc first) count)) e)
+
+found_below : (test : ℕ → Bool) (count : ℕ) → some test (below count) ≡ true → HoldsAt test count
+found_below test count e =
+    let found = holds_from test 0 count e in record { place = found.0; there = omega (arith, found.1); holds = found.2 }
+
+pub join_is : (kind : BlockKind) → is_join kind ≡ true → kind ≡ Join
+join_is Join e = refl
+join_is _ e = absurd (cc)
+
+none_waits : (ports : List PortState) (p : ℕ) → holds_nothing ports ≡ true → p < length ports
+    → is_empty (port_in ports p).waiting ≡ true
+none_waits ports p none there = every_tells (λ (port : PortState). is_empty port.waiting) ports (fresh_port None) p none there
 
 module _ {W : Type 0} (run : Run W) (ends : ℕ → Ends) (b : ℕ) (node : NodeState)
     (law : NodeLaw run.layout run.meaning b node) (is : IsNodeOf run ends b node)
@@ -112,14 +141,14 @@ module _ {W : Type 0} (run : Run W) (ends : ℕ → Ends) (b : ℕ) (node : Node
       → HasEndOut run.layout run.meaning b node.block law.shape l
   from_has l small begins = end_out_of run.layout run.meaning b node.block law.shape l small begins
 
-  plain : is_built_kind (block_of run b).kind ≡ true
-  plain = planned_built run.layout run.meaning b node.block law.shape
+  plain : is_kept_kind (block_of run b).kind ≡ true
+  plain = planned_kept run.layout run.meaning b node.block law.shape
 
   marks_are : marks_of run b ≡ node.journal
   marks_are = ap (λ (t : BlockTrace). t.journal) is.trace
 
   left_is : left_at run b ≡ node.block.exits.left
-  left_is = ap (λ (t : BlockTrace). t.left) is.trace
+  left_is = ap (λ (t : BlockTrace). t.left) is.trace ∙ left_is_shared run.layout run.meaning b node law
 
   -- what is shown of the journal holds of the marks
   of_marks : (P : List Mark → Type 0) → P node.journal → P (marks_of run b)
@@ -145,24 +174,25 @@ module _ {W : Type 0} (run : Run W) (ends : ℕ → Ends) (b : ℕ) (node : Node
   }
 
   outputs_are : gave node.journal ++ node.block.exits.left ≡ outputs run b
-  outputs_are = sym (ap (λ (t : BlockTrace). gave t.journal ++ t.left) is.trace)
+  outputs_are = sym (ap (λ (t : BlockTrace). gave t.journal ++ t.left) is.trace
+      ∙ ap (λ (left : List Value). gave node.journal ++ left) (left_is_shared run.layout run.meaning b node law))
 
-  makes_by : (kind : BlockKind) → is_built_kind kind ≡ true
+  makes_by : (kind : BlockKind) → is_kept_kind kind ≡ true → (is_join kind ≡ true → join_makes run b ≡ true)
       → (is_batch kind ≡ true → RowsLaw node.block.size node.journal (held_by node.block) node.block.exits.left)
       → MakesAsKind kind → NodeMakes run ends b kind
-  makes_by Buffer built rows makes =
+  makes_by Buffer built joins rows makes =
       ap took marks_are ∙ makes ∙ ap (λ (made : List Value). made ++ held_by node.block) outputs_are
       ∙ ap (λ (held : List Value). outputs run b ++ held) (sym (held_is run ends b node law is 0))
-  makes_by Action built rows makes = record {
+  makes_by Action built joins rows makes = record {
     works = works_so node.block.recorded (trace_of run b).recorded
         (sym (ap (λ (t : BlockTrace). t.recorded) is.trace)) makes.0;
     none_left = left_is ∙ makes.1;
   }
-  makes_by Transform built rows makes =
+  makes_by Transform built joins rows makes =
       works_so (gave node.journal ++ node.block.exits.left) (outputs run b) outputs_are makes
-  makes_by TransformMany built rows makes =
+  makes_by TransformMany built joins rows makes =
       works_so (gave node.journal ++ node.block.exits.left) (outputs run b) outputs_are makes
-  makes_by Batch built rows makes =
+  makes_by Batch built joins rows makes =
       let size : node.block.size ≡ group_size run b = law.shape.size_is in
       let law_of = rows refl in
       let outs = outputs run b in
@@ -187,11 +217,15 @@ module _ {W : Type 0} (run : Run W) (ends : ℕ → Ends) (b : ℕ) (node : Node
       (same_values_where taken all same) groups)
       (and_from (every (is_whole (group_size run b)) (gave (before_complete 0 (marks_of run b))))
       (has_complete 0 (marks_of run b) || every (is_whole (group_size run b)) (left_at run b)) before left)
-  makes_by _ built rows makes = absurd (cc)
+  makes_by Join built joins rows makes = joins refl
+  makes_by _ built joins rows makes = absurd (cc)
 
   makes_so : NodeMakes run ends b (block_of run b).kind
   makes_so =
       makes_by (block_of run b).kind plain
+      (λ join.
+      let here = sym (is_joining run ends b node law is) ∙ join in
+      (join_seen run ends b node law is here).makes (law.tuples here))
       (λ batch. law.rows (ap is_batch law.shape.kind_is ∙ batch))
       (subst MakesAsKind law.shape.kind_is law.makes.makes)
 
@@ -232,23 +266,41 @@ module _ {W : Type 0} (run : Run W) (ends : ℕ → Ends) (b : ℕ) (node : Node
 
   level_so : takes_level run b ≡ true
   level_so =
-      or_left (not (is_reserving (block_of run b))) _
-      (by_kind (λ kind. not (reserves_by_kind kind (block_of run b).greedy) ≡ true) refl refl refl refl refl
-      (block_of run b).kind plain)
+      or_left (not (is_reserving (block_of run b))) _ (ap not law.shape.takes_freely)
 
   copies_so : copies_as (as_seen run ends) b (block_of run b).kind ≡ true
-  copies_so = by_kind (λ kind. copies_as (as_seen run ends) b kind ≡ true) refl refl refl refl refl (block_of run b).kind plain
+  copies_so = by_kind (λ kind. copies_as (as_seen run ends) b kind ≡ true) refl refl refl refl refl refl (block_of run b).kind plain
 
   -- how it ends
+  complete_so : (join : Bool) → is_join node.block.kind ≡ join → holds_nothing node.block.ports ≡ true
+      → have_completed node.block.kind (length node.block.ports) node.journal ≡ true → is_complete run b ≡ true
+  complete_so true joins nothing completed =
+      let one : some (λ p. has_complete p node.journal) (below (length node.block.ports)) ≡ true =
+      ap (λ (join : Bool). cond join (some (λ p. has_complete p node.journal) (below (length node.block.ports)))
+      (every (λ p. has_complete p node.journal) (below (length node.block.ports)))) (sym joins) ∙ completed in
+      let all : ℕ → Bool = λ p. has_complete p (marks_of run b) && is_empty (held_at run b p) in
+      let first = found_below (λ p. has_complete p node.journal) (length node.block.ports) one in
+      ap (λ (kind : BlockKind). is_complete_as run kind b) (join_is (block_of run b).kind (is_joining run ends b node law is ∙ joins))
+      ∙ or_right (every (λ p. has_complete p (marks_of run b)) (ports_of run b)) (some all (ports_of run b))
+      (some_here_below all (port_count (block_of run b)) first.place
+      (subst (λ (count : ℕ). first.place < count) law.shape.port_count_is first.there)
+      (and_from (has_complete first.place (marks_of run b)) (is_empty (held_at run b first.place))
+      (ap (has_complete first.place) marks_are ∙ first.holds)
+      (ap is_empty (held_is run ends b node law is first.place)
+      ∙ none_waits node.block.ports first.place nothing first.there)))
+  complete_so false joins nothing completed =
+      complete_is run ends b node law is (is_joining run ends b node law is ∙ joins)
+      ∙ of_marks (λ marks. every (λ p. has_complete p marks) (ports_of run b) ≡ true)
+      (subst (λ (n : ℕ). every (λ p. has_complete p node.journal) (below n) ≡ true) law.shape.port_count_is
+      (ap (λ (join : Bool). cond join (some (λ p. has_complete p node.journal) (below (length node.block.ports)))
+      (every (λ p. has_complete p node.journal) (below (length node.block.ports)))) (sym joins) ∙ completed))
+
   done_so : is_done (marks_of run b) ≡ true → (is_complete run b && has_nothing run b) ≡ true
   done_so e =
       let ended : is_done node.journal ≡ true = ap is_done (sym marks_are) ∙ e in
       let nothing = law.ends.done_empty (law.ends.stopped_is ∙ done_outcome node.journal law.marks.last ended) in
       and_from (is_complete run b) (has_nothing run b)
-      (complete_is run ends b node law is
-      ∙ of_marks (λ marks. every (λ p. has_complete p marks) (ports_of run b) ≡ true)
-      (subst (λ (n : ℕ). every (λ p. has_complete p node.journal) (below n) ≡ true) law.shape.port_count_is
-      (law.ends.done_complete ended)))
+      (complete_so (is_join node.block.kind) refl nothing.0 (law.ends.done_complete ended))
       (and_from (every (λ p. is_empty (held_at run b p)) (ports_of run b)) (is_empty (left_at run b))
       (none_held run ends b node law is nothing.0) (ap is_empty (left_is ∙ nothing.1)))
 
@@ -300,7 +352,9 @@ module _ {W : Type 0} (run : Run W) (ends : ℕ → Ends) (b : ℕ) (node : Node
   -- its ends of the links out of it
   seen_out : (l : ℕ) → l < length run.layout.links → (link_of run l).source ≡ Block b
       → (ends l).source.stage ≡ source_stage_of (end_from l).stage
-  seen_out l small begins = ap (λ (view : views.SourceView Value). view.stage) (is.sources l small begins)
+  seen_out l small begins =
+      ap (λ (view : views.SourceView Value). view.stage)
+      (is.sources l small begins)
 
   refused_seen : (l : ℕ) → l < length run.layout.links → (link_of run l).source ≡ Block b
       → refuses_over node.block.exits.ends l ≡ true → is_refused_stage (ends l).source.stage ≡ true

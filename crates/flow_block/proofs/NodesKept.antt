@@ -1,5 +1,6 @@
 -- Each call that may be made keeps a node in order, part by part.
 use Rattle.flow_block.specs.NodeKeeps.{NodesKept}
+use Rattle.flow_block.proofs.CopiesHold.{copies_kept}
 use Rattle.flow_block.proofs.EndsHold.{ends_kept}
 use Rattle.flow_block.proofs.ExitsHold.{exits_kept}
 use Rattle.flow_block.proofs.GaveHolds.{gave_kept}
@@ -10,15 +11,18 @@ use Rattle.flow_block.proofs.MarksHold.{marks_kept}
 use Rattle.flow_block.proofs.PortsHold.{ports_kept}
 use Rattle.flow_block.proofs.RowsHold.{rows_kept}
 use Rattle.flow_block.proofs.ShapeHolds.{shape_kept}
+use Rattle.flow_block.proofs.TuplesHold.{tuples_kept_so}
 
 pub nodes_kept : (W : Type 0) → NodesKept W
 nodes_kept W layout meaning b node call law may = record {
   shape = shape_kept W layout meaning b node call law may;
   ports = ports_kept W layout meaning b node call law may;
   exits = exits_kept W layout meaning b node call law may;
+  copies = copies_kept W layout meaning b node call law may;
   gave = gave_kept W layout meaning b node call law may;
   makes = makes_kept W layout meaning b node call law may;
   rows = rows_kept W layout meaning b node call law may;
+  tuples = tuples_kept_so W layout meaning b node call law may;
   jobs = jobs_kept W layout meaning b node call law may;
   load = load_kept W layout meaning b node call law may;
   marks = marks_kept W layout meaning b node call law may;

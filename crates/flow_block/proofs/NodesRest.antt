@@ -1,9 +1,9 @@
 -- A node that has nothing to do rests when its links do.
 use Rattle.std.proofs.Common.{◌≡◌, ℕ, ◌+◌, ◌<◌, ◌≤◌, Bool, true, false, not, ltb, leb, ◌==◌, ◌&&◌, ◌||◌, cond, List, [], ◌∷◌, length, map, sum, is_some, Option, Some, None, refl, ap, ap₂, sym, subst, ◌∙◌, ⊎_elim, arith, eq-eqb}
-use Rattle.std.proofs.lemmas.Bool.{or_cases, ltb-false, lt-ltb, and_from, and_parts, or_left, or_right, false_from_ne_true}
+use Rattle.std.proofs.lemmas.Bool.{or_cases, ltb-false, lt-ltb, and_from, and_parts, or_left, or_right, false_from_ne_true, not-true}
 use Rattle.flow_value.specs.declared.value.Value.{Value}
 use Rattle.flow_link.specs.declared.draft.BlockKind.{BlockKind}
-use Rattle.flow_link.specs.declared.draft.BlockKind.TheVariants.{Buffer, Action, Transform, TransformMany, Batch}
+use Rattle.flow_link.specs.declared.draft.BlockKind.TheVariants.{Join, Buffer, Action, Transform, TransformMany, Batch}
 use Rattle.flow_link.specs.declared.plan.LinkSource.TheVariants.{Block}
 use Rattle.flow_link.specs.declared.plan.LinkTarget.TheVariants.{Port}
 use Rattle.flow_link.specs.declared.stage.SourceStage.TheVariants as source
@@ -11,7 +11,7 @@ use Rattle.flow_link.specs.declared.trace.Mark.{Mark}
 use Rattle.flow_link.specs.declared.trace.Outcome.{Outcome}
 use Rattle.flow_link.specs.declared.trace.Outcome.TheVariants.{Done, Faulted}
 use Rattle.flow_link.specs.Composes.{Ends, is_done_with}
-use Rattle.flow_link.specs.Endings.{is_complete, has_nothing}
+use Rattle.flow_link.specs.Endings.{is_complete, has_nothing, is_complete_as}
 use Rattle.flow_link.specs.Facts.{facts_in}
 use Rattle.flow_link.specs.LinkOk.{IsWithin}
 use Rattle.flow_link.specs.Lists.{every, below, is_empty as is_none_left}
@@ -22,7 +22,7 @@ use Rattle.flow_link.specs.RestsByParts.{OutletRests, KindRests, NodeRests, is_o
 use Rattle.flow_link.specs.Stage.{source_stage_of, target_stage_of}
 use Rattle.flow_link.specs.Trace.{BlockTrace, Run, gave_over, given_by, given_over, took_at, has_complete, has_fault, has_ended, is_faulted, is_done, is_used_up, is_cut as is_run_cut, block_of, link_of, marks_of, held_at, left_at, ports_of}
 use Rattle.flow_link.specs.Views.{SourceStage as SourceViewStage, SourceView, TargetView}
-use Rattle.flow_link.specs.NotBuilt.{is_built_kind}
+use Rattle.flow_block.specs.Kinds.{is_kept_kind}
 use Rattle.flow_link.proofs.ListTests.{never_both, passes_below, unless_done}
 use Rattle.flow_intake.specs.Port.{EndState, PortState, fresh_port, fresh_end, hand_in, stage_at as port_stage, coming, has_room, is_below}
 use Rattle.flow_intake.specs.PortLaw.{has_ended as has_port_ended}
@@ -32,20 +32,25 @@ use Rattle.flow_outlet.specs.Law.{admits_head as admits}
 use Rattle.flow_outlet.specs.Outlet.{OutletState, first_of, is_empty, head_of, end_at, stage_at, end_of}
 use Rattle.flow_outlet.specs.declared.ends.LinkRule.{LinkRule}
 use Rattle.flow_outlet.proofs.StagesTell.{waits_for}
-use Rattle.flow_block.specs.Block.{BlockState, port_at, held_by, is_batch}
+use Rattle.flow_block.specs.Block.{BlockState, port_at, held_by, is_batch, is_join}
 use Rattle.flow_block.specs.Node.{NodeState}
 use Rattle.flow_block.specs.NodeLaw.{NodeLaw, has_made_all, outcome_in}
 use Rattle.flow_block.specs.NodeRests.{HasNothingToDo, EndsRest, NodesRest}
 use Rattle.flow_block.specs.NodeSeen.{IsNodeOf}
-use Rattle.flow_block.specs.Peeks.{holds_nothing, has_group, all_ended}
+use Rattle.flow_block.specs.Peeks.{holds_nothing, has_group, is_complete as is_complete_here}
+use Rattle.flow_block.proofs.NodesAreLawful.{join_is}
+use Rattle.flow_block.proofs.NodesSeen.{join_seen, is_joining}
+use Rattle.flow_group.specs.Tuple.{has_tuple}
+use Rattle.flow_link.specs.Quiet.{has_no_row}
 use Rattle.flow_block.specs.Planned.{rule_of, out_place, in_place}
+use Rattle.flow_block.proofs.CopiesIdle.{left_is_shared}
 use Rattle.flow_block.proofs.EndsAtRest.{over_unless, not_cut, not_stopped, no_room_where}
 use Rattle.flow_block.proofs.EndsHold.{no_group_left}
 use Rattle.flow_block.proofs.EndsTell.{limit_is, no_room_left, free_back, postponed_back, end_back}
 use Rattle.flow_block.proofs.FaultsSeen.{not_seen_at_ends, not_seen_at_ports}
 use Rattle.flow_block.proofs.GoingOn.{open_goes_on}
-use Rattle.flow_block.proofs.JournalTells.{stopped_tells, fault_marked, faulted_marked, none_stopped, stopped_ends, ended_by_complete}
-use Rattle.flow_block.proofs.KindsBuilt.{by_kind, planned_built, has_one_port}
+use Rattle.flow_block.proofs.JournalTells.{stopped_tells, fault_marked, faulted_marked, none_stopped, stopped_ends, ended_by_complete, complete_where}
+use Rattle.flow_block.proofs.KindsBuilt.{by_kind, planned_kept, has_one_port}
 use Rattle.flow_block.proofs.NodesSeen.{held_is, none_held, own_fault_is, complete_is, load_is}
 use Rattle.flow_block.proofs.NothingToDo.{worked_off, none_seen, no_coming, free_at, waiting_goes, not_admitted, not_finished, left_where}
 use Rattle.flow_block.proofs.PlacesOfLinks.{end_in_of, end_out_of}
@@ -78,6 +83,23 @@ same_first : (values : List Value) → first_left values ≡ first_of values
 same_first [] = refl
 same_first (value ∷ values) = refl
 
+-- where nothing is held, there is no tuple
+no_first : (ports : List PortState) → 0 < length ports → holds_nothing ports ≡ true → not (has_tuple ports) ≡ true
+no_first [] some none = absurd (omega (arith, some))
+no_first (port ∷ ports) some none =
+    let empty = (and_parts (is_empty port.waiting) (holds_nothing ports) none).0 in
+    ap (λ (first : Bool). not (not first && has_tuple ports)) empty
+
+-- a port of a block that goes on has ended just where it has completed
+same_tests : (a b : Bool) → (a ≡ true → b ≡ true) → (b ≡ true → a ≡ true) → a ≡ b
+same_tests true b there back = sym (there refl)
+same_tests false true there back = back refl
+same_tests false false there back = refl
+
+ended_is_complete : (p : ℕ) (journal : List Mark) → outcome_in journal ≡ None → has_ended p journal ≡ has_complete p journal
+ended_is_complete p journal going =
+    same_tests (has_ended p journal) (has_complete p journal) (complete_where p journal going) (ended_by_complete p journal)
+
 module _ {W : Type 0} (run : Run W) (ends : ℕ → Ends) (b : ℕ) (node : NodeState)
     (law : NodeLaw run.layout run.meaning b node)
     (part : IsNodeOf run ends b node)
@@ -95,103 +117,109 @@ module _ {W : Type 0} (run : Run W) (ends : ℕ → Ends) (b : ℕ) (node : Node
   abbrev kind : BlockKind
   kind = (block_of run b).kind
 
-  built : is_built_kind kind ≡ true
-  built = planned_built run.layout run.meaning b own law.shape
+  built : is_kept_kind kind ≡ true
+  built = planned_kept run.layout run.meaning b own law.shape
 
   marks_are : marks_of run b ≡ node.journal
   marks_are = ap (λ (t : BlockTrace). t.journal) part.trace
 
   left_is : left_at run b ≡ outs.left
-  left_is = ap (λ (t : BlockTrace). t.left) part.trace
+  left_is = ap (λ (t : BlockTrace). t.left) part.trace ∙ left_is_shared run.layout run.meaning b node law
 
   of_marks : (P : List Mark → Type 0) → P node.journal → P (marks_of run b)
   of_marks P holds = subst P (sym marks_are) holds
 
   -- one port
-  ports_are : ports_of run b ≡ 0 ∷ []
-  ports_are =
-      by_kind (λ k. below (ports_by_kind k (block_of run b).ports) ≡ 0 ∷ []) refl refl refl refl refl kind built
+  ports_are : is_join own.kind ≡ false → ports_of run b ≡ 0 ∷ []
+  ports_are alone =
+      ap below (sym law.shape.port_count_is ∙ has_one_port run.layout run.meaning b own law.shape alone)
 
-  held_count : held_in_all run b ≡ length (held_by own)
-  held_count =
-      ap (λ (ps : List ℕ). sum (map (λ p. length (held_at run b p)) ps)) ports_are
+  held_count : is_join own.kind ≡ false → held_in_all run b ≡ length (held_by own)
+  held_count alone =
+      ap (λ (ps : List ℕ). sum (map (λ p. length (held_at run b p)) ps)) (ports_are alone)
       ∙ ap (λ (held : List Value). 0 + length held) (held_is run ends b node law part 0) ∙ omega arith
 
-  held_as : every (λ p. is_none_left (held_at run b p)) (ports_of run b) ≡ is_empty (held_by own)
-  held_as =
-      ap (λ (ps : List ℕ). every (λ p. is_none_left (held_at run b p)) ps) ports_are
+  held_as : is_join own.kind ≡ false → every (λ p. is_none_left (held_at run b p)) (ports_of run b) ≡ is_empty (held_by own)
+  held_as alone =
+      ap (λ (ps : List ℕ). every (λ p. is_none_left (held_at run b p)) ps) (ports_are alone)
       ∙ ap (λ (held : List Value). is_none_left held && true) (held_is run ends b node law part 0)
       ∙ none_same (held_by own)
 
-  completed_as : all_completed run b ≡ has_complete 0 node.journal
-  completed_as =
-      ap (λ (ps : List ℕ). every (λ p. has_complete p (marks_of run b)) ps) ports_are
+  completed_as : is_join own.kind ≡ false → all_completed run b ≡ has_complete 0 node.journal
+  completed_as alone =
+      ap (λ (ps : List ℕ). every (λ p. has_complete p (marks_of run b)) ps) (ports_are alone)
       ∙ ap (λ (marks : List Mark). has_complete 0 marks && true) marks_are
       ∙ and_true (has_complete 0 node.journal)
 
   -- a batch has no row to make
-  no_group_where : (ltb (length (held_by own)) own.size && (not (has_complete 0 node.journal) || is_empty (held_by own))) ≡ true
+  no_group_where : is_join own.kind ≡ false
+      → (ltb (length (held_by own)) own.size && (not (has_complete 0 node.journal) || is_empty (held_by own))) ≡ true
       → has_no_group run b ≡ true
-  no_group_where none =
+  no_group_where alone none =
       let both = and_parts (ltb (length (held_by own)) own.size)
       (not (has_complete 0 node.journal) || is_empty (held_by own)) none in
       and_from (ltb (held_in_all run b) (group_size run b)) (not (all_completed run b) || run_holds_nothing run b)
-      (ap₂ ltb held_count (sym law.shape.size_is) ∙ both.0)
-      (ap₂ (λ (complete none : Bool). not complete || none) completed_as held_as ∙ both.1)
+      (ap₂ ltb (held_count alone) (sym law.shape.size_is) ∙ both.0)
+      (ap₂ (λ (complete none : Bool). not complete || none) (completed_as alone) (held_as alone) ∙ both.1)
+
+  -- what is left of a batch's messages, of a join's and of all others', when it could make nothing more
+  abbrev made_all_as : BlockKind → Bool
+  made_all_as k =
+      cond (is_batch k)
+      (ltb (length (held_by own)) own.size && (not (has_complete 0 node.journal) || is_empty (held_by own)))
+      (cond (is_join k) (not (has_tuple own.ports)) (holds_nothing own.ports))
 
   -- a block of its kind that could make nothing more rests
-  rests_by : (k : BlockKind) → is_built_kind k ≡ true
-      → cond (is_batch k) (ltb (length (held_by own)) own.size && (not (has_complete 0 node.journal) || is_empty (held_by own)))
-      (holds_nothing own.ports) ≡ true
-      → rests_as run k b ≡ true
-  rests_by Batch there none = no_group_where none
-  rests_by Buffer there none = none_held run ends b node law part none
-  rests_by Action there none = none_held run ends b node law part none
-  rests_by Transform there none = none_held run ends b node law part none
-  rests_by TransformMany there none = none_held run ends b node law part none
-  rests_by _ there none = absurd (cc)
+  rests_by : (k : BlockKind) → is_kept_kind k ≡ true → own.kind ≡ k → made_all_as k ≡ true → rests_as run k b ≡ true
+  rests_by Batch there is none = no_group_where (ap is_join is) none
+  rests_by Buffer there is none = none_held run ends b node law part none
+  rests_by Action there is none = none_held run ends b node law part none
+  rests_by Transform there is none = none_held run ends b node law part none
+  rests_by TransformMany there is none = none_held run ends b node law part none
+  rests_by Join there is none =
+      ap (has_no_row run b) law.shape.takes_freely
+      ∙ (join_seen run ends b node law part (ap is_join is)).rests (not-true (has_tuple own.ports) none)
+  rests_by _ there is none = absurd (cc)
 
   rests_where : has_made_all own node.journal ≡ true → rests run b ≡ true
   rests_where none =
       or_right (faulted_by_itself run b) (rests_as run kind b)
-      (rests_by kind built
-      (ap (λ (k : BlockKind). cond (is_batch k) (ltb (length (held_by own)) own.size
-      && (not (has_complete 0 node.journal) || is_empty (held_by own))) (holds_nothing own.ports)) (sym law.shape.kind_is)
-      ∙ none))
+      (rests_by kind built law.shape.kind_is (ap made_all_as (sym law.shape.kind_is) ∙ none))
 
   -- it holds nothing
-  nothing_held_where : holds_nothing own.ports ≡ true → (batch : Bool) → is_batch own.kind ≡ batch
+  nothing_held_where : holds_nothing own.ports ≡ true → (batch join : Bool) → is_batch own.kind ≡ batch → is_join own.kind ≡ join
       → has_made_all own node.journal ≡ true
-  nothing_held_where none true is =
-      let there : 0 < length own.ports = omega (arith, has_one_port run.layout run.meaning b own law.shape) in
+  nothing_held_where none true join is joins =
       let empty : is_empty (held_by own) ≡ true =
-      every_tells (λ (port : PortState). is_empty port.waiting) own.ports (fresh_port None) 0 none there in
+      every_tells (λ (port : PortState). is_empty port.waiting) own.ports (fresh_port None) 0 none law.shape.some_port in
       let held = nothing_in (held_by own) empty in
       let some = law.shape.some_size is in
       rw is (and_from (ltb (length (held_by own)) own.size) (not (has_complete 0 node.journal) || is_empty (held_by own))
       (ap (λ (vs : List Value). ltb (length vs) own.size) held ∙ lt-ltb 0 own.size some)
       (or_right (not (has_complete 0 node.journal)) (is_empty (held_by own)) empty))
-  nothing_held_where none false is = rw is none
+  nothing_held_where none false true is joins = rw (is, joins) (no_first own.ports law.shape.some_port none)
+  nothing_held_where none false false is joins = rw (is, joins) none
 
   -- it could make nothing more, and goes on
-  made_all_where : own.stopped ≡ None → (batch : Bool) → is_batch own.kind ≡ batch
-      → cond batch (not (has_group own)) (holds_nothing own.ports) ≡ true → has_made_all own node.journal ≡ true
-  made_all_where going true is done =
-      let there : 0 < length own.ports = omega (arith, has_one_port run.layout run.meaning b own law.shape) in
+  made_all_where : own.stopped ≡ None → (batch join : Bool) → is_batch own.kind ≡ batch → is_join own.kind ≡ join
+      → cond batch (not (has_group own)) (cond join (not (has_tuple own.ports)) (holds_nothing own.ports)) ≡ true
+      → has_made_all own node.journal ≡ true
+  made_all_where going true join is joins done =
       let left =
       no_group_left (held_by own) own.size (leb own.size (length (held_by own)))
       (has_port_ended (port_at 0 own).refusing) (has_complete 0 node.journal) (law.shape.some_size is) refl
-      (λ unended. (open_goes_on run.layout run.meaning b own node.journal law.ends 0 there unended).1) done in
+      (λ unended. (open_goes_on run.layout run.meaning b own node.journal law.ends 0 law.shape.some_port unended).1) done in
       rw is left
-  made_all_where going false is done = rw is done
+  made_all_where going false true is joins done = rw (is, joins) done
+  made_all_where going false false is joins done = rw (is, joins) done
 
   marked : (how : Outcome) → own.stopped ≡ Some how → outcome_in node.journal ≡ Some how
   marked how e = sym law.ends.stopped_is ∙ e
 
   worked_where : (stopped : Option Outcome) → own.stopped ≡ stopped → rests run b ≡ true
   worked_where None e =
-      rests_where (made_all_where e (is_batch own.kind) refl (worked_off run.layout run.meaning b node law nothing rest e))
-  worked_where (Some Done) e = rests_where (nothing_held_where (law.ends.done_empty e).0 (is_batch own.kind) refl)
+      rests_where (made_all_where e (is_batch own.kind) (is_join own.kind) refl refl (worked_off run.layout run.meaning b node law nothing rest e))
+  worked_where (Some Done) e = rests_where (nothing_held_where (law.ends.done_empty e).0 (is_batch own.kind) (is_join own.kind) refl refl)
   worked_where (Some (Faulted n)) e =
       ⊎_elim
       (λ fault.
@@ -206,27 +234,45 @@ module _ {W : Type 0} (run : Run W) (ends : ℕ → Ends) (b : ℕ) (node : Node
   going_where f d =
       law.ends.stopped_is ∙ none_stopped node.journal f d
 
-  all_ended_where : is_complete run b ≡ true → all_ended own.ports ≡ true
-  all_ended_where e =
-      every_where (λ (port : PortState). has_port_ended port.refusing) own.ports (fresh_port None) (λ p small.
+  -- where all is told, it is complete
+  complete_where_told : own.stopped ≡ None → is_complete run b ≡ true → (join : Bool) → is_join own.kind ≡ join
+      → is_complete_here own ≡ true
+  complete_where_told going e true joins =
+      let ends_so : (p : ℕ) → p < length own.ports → has_port_ended (port_at p own).refusing ≡ has_complete p node.journal =
+      λ p small. law.ends.ended_is p small ∙ ended_is_complete p node.journal (sym law.ends.stopped_is ∙ going) in
+      rw joins
+      (sym ((join_seen run ends b node law part joins).complete ends_so)
+      ∙ ap (λ (k : BlockKind). is_complete_as run k b) (sym (join_is kind (is_joining run ends b node law part ∙ joins))) ∙ e)
+  complete_where_told going e false joins =
+      rw joins
+      (every_where (λ (port : PortState). has_port_ended port.refusing) own.ports (fresh_port None) (λ p small.
       let complete =
       passes_below (λ q. has_complete q (marks_of run b)) (port_count (block_of run b)) p
-      (sym (complete_is run ends b node law part) ∙ e)
+      (sym (complete_is run ends b node law part (is_joining run ends b node law part ∙ joins)) ∙ e)
       (omega (arith, law.shape.port_count_is)) in
       let complete_here : has_complete p node.journal ≡ true = ap (has_complete p) (sym marks_are) ∙ complete in
       law.ends.ended_is p small
-      ∙ ended_by_complete p node.journal complete_here)
+      ∙ ended_by_complete p node.journal complete_here))
+
+  none_held_here : every (λ p. is_none_left (held_at run b p)) (ports_of run b) ≡ true → holds_nothing own.ports ≡ true
+  none_held_here none =
+      every_where (λ (port : PortState). is_empty port.waiting) own.ports (fresh_port None) (λ p small.
+      sym (none_same (port_at p own).waiting)
+      ∙ ap (λ (empty : Bool). empty && true)
+      (ap is_none_left (sym (held_is run ends b node law part p))
+      ∙ passes_below (λ q. is_none_left (held_at run b q)) (port_count (block_of run b)) p none
+      (omega (arith, small, law.shape.port_count_is))))
 
   done_so : is_done_if_can run b ≡ true
   done_so =
       unless_done (is_faulted (marks_of run b)) (is_done (marks_of run b)) (is_complete run b) (has_nothing run b)
       (λ f d complete none.
       let going = going_where (ap is_faulted (sym marks_are) ∙ f) (ap is_done (sym marks_are) ∙ d) in
-      let none_left =
-      (and_parts (every (λ p. is_none_left (held_at run b p)) (ports_of run b))
-      (is_none_left (left_at run b)) none).1 in
-      not_finished run.layout run.meaning b node law nothing rest going (all_ended_where complete)
-      (ap is_empty (sym left_is ∙ nothing_where (left_at run b) none_left)))
+      let parts =
+      and_parts (every (λ p. is_none_left (held_at run b p)) (ports_of run b)) (is_none_left (left_at run b)) none in
+      not_finished run.layout run.meaning b node law nothing rest going
+      (complete_where_told going complete (is_join own.kind) refl) (none_held_here parts.0)
+      (ap is_empty (sym left_is ∙ nothing_where (left_at run b) parts.1)))
 
   kind_rests : KindRests run ends b
   kind_rests = record {
@@ -235,7 +281,7 @@ module _ {W : Type 0} (run : Run W) (ends : ℕ → Ends) (b : ℕ) (node : Node
     served =
         or_left (not (is_broadcast kind) || is_faulted (marks_of run b)) (is_none_left (left_at run b))
         (or_left (not (is_broadcast kind)) (is_faulted (marks_of run b))
-        (by_kind (λ k. not (is_broadcast k) ≡ true) refl refl refl refl refl kind built));
+        (by_kind (λ k. not (is_broadcast k) ≡ true) refl refl refl refl refl refl kind built));
   }
 
   -- Its links out
@@ -248,7 +294,9 @@ module _ {W : Type 0} (run : Run W) (ends : ℕ → Ends) (b : ℕ) (node : Node
     rule_is = (end_out_of run.layout run.meaning b own law.shape l small from).rule_is
 
     source_is : (ends l).source.stage ≡ source_stage_of (stage_at outs (place l))
-    source_is = ap (λ (view : SourceView Value). view.stage) (part.sources l small from)
+    source_is =
+        ap (λ (view : SourceView Value). view.stage)
+        (part.sources l small from)
 
     cut_here : is_run_cut run l ≡ true → is_cut (end_at outs (place l)) ≡ true
     cut_here e =
@@ -314,7 +362,7 @@ module _ {W : Type 0} (run : Run W) (ends : ℕ → Ends) (b : ℕ) (node : Node
       by_kind
           (λ k. admits_head run l (head_as run b l false k) ≡ true
           → admits_head run l (first_left (left_at run b)) ≡ true)
-          (λ same. same) (λ same. same) (λ same. same) (λ same. same) (λ same. same) kind built e,
+          (λ same. same) (λ same. same) (λ same. same) (λ same. same) (λ same. same) (λ same. same) kind built e,
     )
 
     -- the predicate of the end is that of the link

@@ -1,5 +1,5 @@
 -- What a run tells of a node that it has: what the node holds, its own fault, whether it is complete, and its load.
-use Rattle.std.proofs.Common.{◌≡◌, ℕ, ◌+◌, ◌-◌, ◌<◌, true, List, [], length, take, get_or, is_some, Some, refl, ap, ap₂, sym, ◌∙◌, subst, arith, None}
+use Rattle.std.proofs.Common.{◌≡◌, ℕ, ◌+◌, ◌-◌, ◌<◌, true, List, [], length, take, get_or, is_some, Some, refl, ap, ap₂, sym, ◌∙◌, subst, arith, None, false}
 use Rattle.std.proofs.Math.ListN.{get_or-map}
 use Rattle.flow_value.specs.declared.value.Value.{Value}
 use Rattle.flow_link.specs.declared.draft.BlockKind.{BlockKind}
@@ -14,15 +14,19 @@ use Rattle.flow_link.proofs.ListTests.{every_below, front_without}
 use Rattle.flow_intake.specs.Port.{PortState, fresh_port}
 use Rattle.flow_outlet.specs.Fits.{weight_of}
 use Rattle.flow_outlet.specs.Outlet.{is_empty as has_none}
-use Rattle.flow_block.specs.Block.{port_at, held_by}
+use Rattle.flow_block.specs.Block.{port_at, held_by, is_join}
 use Rattle.flow_block.specs.Node.{NodeState}
 use Rattle.flow_block.specs.NodeLaw.{NodeLaw, WeighsAs, PartlyGiven, weighed, rows_weighed}
 use Rattle.flow_block.specs.NodeSeen.{IsNodeOf}
 use Rattle.flow_block.specs.Peeks.{holds_nothing}
 use Rattle.flow_block.specs.Planned.{block_makes}
-use Rattle.flow_block.proofs.KindsBuilt.{by_kind, planned_built}
+use Rattle.flow_block.proofs.CopiesIdle.{left_is_shared}
+use Rattle.flow_block.proofs.KindsBuilt.{by_kind, planned_kept}
 use Rattle.flow_block.proofs.TestsTell.{every_tells, none_left}
 use Rattle.flow_block.proofs.WeightsOfResults.{weight_weighed, weight_rows, weight_partial}
+use Rattle.flow_block.specs.TuplesSeen.{JoinSeen}
+use Rattle.flow_block.proofs.TuplesSeen.{joins_are_parts}
+use Rattle.flow_block.proofs.Joins.{join_shares}
 
 module _ {W : Type 0} (run : Run W) (ends : ℕ → Ends) (b : ℕ) (node : NodeState)
     (law : NodeLaw run.layout run.meaning b node) (part : IsNodeOf run ends b node) where
@@ -47,10 +51,25 @@ module _ {W : Type 0} (run : Run W) (ends : ℕ → Ends) (b : ℕ) (node : Node
       ∙ ap (first_fault run b) (held_is 0 ∙ has.held_is)
       ∙ ap fault_of has.fails
 
-  pub complete_is : is_complete run b ≡ every (λ p. has_complete p (marks_of run b)) (ports_of run b)
-  complete_is =
-      by_kind (λ kind. is_complete_as run kind b ≡ every (λ p. has_complete p (marks_of run b)) (ports_of run b))
-      refl refl refl refl refl (block_of run b).kind (planned_built run.layout run.meaning b node.block law.shape)
+  pub complete_is : is_join (block_of run b).kind ≡ false
+      → is_complete run b ≡ every (λ p. has_complete p (marks_of run b)) (ports_of run b)
+  complete_is alone =
+      by_kind (λ kind. is_join kind ≡ false
+      → is_complete_as run kind b ≡ every (λ p. has_complete p (marks_of run b)) (ports_of run b))
+      (λ e. refl) (λ e. refl) (λ e. refl) (λ e. refl) (λ e. refl) (λ e. absurd (cc))
+      (block_of run b).kind (planned_kept run.layout run.meaning b node.block law.shape) alone
+
+  pub is_joining : is_join (block_of run b).kind ≡ is_join node.block.kind
+  is_joining = ap is_join (sym law.shape.kind_is)
+
+  -- a join as a part of the run
+  pub join_seen : is_join node.block.kind ≡ true → JoinSeen run b node
+  join_seen join =
+      joins_are_parts W run b node (record {
+        trace = part.trace;
+        count = law.shape.port_count_is;
+        shares = join_shares node.block.kind join;
+      })
 
   -- how a block of this kind has its messages counted
   abbrev LoadIs : ℕ → BlockKind → Type 0
@@ -66,7 +85,7 @@ module _ {W : Type 0} (run : Run W) (ends : ℕ → Ends) (b : ℕ) (node : Node
       ≡ length (port_at p node.block).waiting + weight_of node.block.exits.groups
   load_of_left p limited weighs =
       ap₂ (λ (held left : List Value). length held + length left) (held_is p)
-      (ap (λ (t : BlockTrace). t.left) part.trace)
+      (ap (λ (t : BlockTrace). t.left) part.trace ∙ left_is_shared run.layout run.meaning b node law)
       ∙ ap (λ (n : ℕ). length (port_at p node.block).waiting + n)
       (sym (ap weight_of weighs
       ∙ weight_weighed (block_of run b).capacity node.block.exits.next node.block.exits.left limited))
@@ -78,7 +97,7 @@ module _ {W : Type 0} (run : Run W) (ends : ℕ → Ends) (b : ℕ) (node : Node
       ≡ length (port_at p node.block).waiting + weight_of node.block.exits.groups
   load_of_rows p limited weighs =
       ap₂ (λ (held left : List Value). length held + length (all_items left)) (held_is p)
-      (ap (λ (t : BlockTrace). t.left) part.trace)
+      (ap (λ (t : BlockTrace). t.left) part.trace ∙ left_is_shared run.layout run.meaning b node law)
       ∙ ap (λ (n : ℕ). length (port_at p node.block).waiting + n)
       (sym (ap weight_of weighs
       ∙ weight_rows (block_of run b).capacity node.block.exits.next node.block.exits.left limited))
@@ -107,8 +126,8 @@ module _ {W : Type 0} (run : Run W) (ends : ℕ → Ends) (b : ℕ) (node : Node
   load_is p limited =
       by_kind (LoadIs p) (load_of_left p limited) (load_of_left p limited) (load_of_left p limited)
       (λ partial. ap₂ (λ (held : List Value) (left : ℕ). length held + left) (held_is p) (part_left_is limited partial))
-      (load_of_rows p limited)
-      (block_of run b).kind (planned_built run.layout run.meaning b node.block law.shape)
+      (load_of_rows p limited) (load_of_left p limited)
+      (block_of run b).kind (planned_kept run.layout run.meaning b node.block law.shape)
       (subst (λ (kind : BlockKind). WeighsAs (block_makes run.layout run.meaning b) kind (block_of run b).capacity
       (took node.journal) (held_by node.block) (gave node.journal) node.block.exits.left node.block.exits.next
       node.block.exits.groups) law.shape.kind_is law.load.groups)

@@ -18,18 +18,23 @@ use Rattle.flow_outlet.specs.declared.ends.OutEnd.{OutEnd}
 use Rattle.flow_outlet.proofs.OffersInOrder.{offers_in_order}
 use Rattle.flow_outlet.proofs.StagesTell.{free_is, at_itself}
 use Rattle.flow_outlet.proofs.TestsTell.{three_all}
-use Rattle.flow_block.specs.Block.{BlockState, port_at, held_by, is_batch}
+use Rattle.flow_block.specs.Block.{BlockState, port_at, held_by, is_batch, is_join}
 use Rattle.flow_block.specs.Node.{NodeState}
 use Rattle.flow_block.specs.NodeLaw.{NodeLaw}
 use Rattle.flow_block.specs.NodeRests.{HasNothingToDo, EndsRest}
-use Rattle.flow_block.specs.Peeks.{fault_at_ports, holds_nothing, has_group, has_next, is_worked_off, may_work, may_make, nothing_comes, all_ended, is_pending, fault_cause, could_stop, next_fault, is_held_up, may_finish}
+use Rattle.flow_spread.specs.Spread.{is_at_rest as is_spread_at_rest}
+use Rattle.flow_block.specs.Copies.{copies_left}
+use Rattle.flow_block.proofs.CopiesIdle.{copies_rest, copies_freely, none_copied}
+use Rattle.flow_block.specs.Peeks.{is_out_at_rest, is_copied_out, may_copy, fault_at_ports, holds_nothing, has_group, has_next, is_worked_off, may_work, may_make, nothing_comes, all_ended, is_pending, fault_cause, could_stop, next_fault, is_held_up, may_finish, is_complete}
 use Rattle.flow_block.proofs.EndsAtRest.{not_out, must_wait, away_waits, none_away, waiting_stays, free_stays, not_cut, not_coming}
 use Rattle.flow_block.proofs.EndsTell.{none_come}
 use Rattle.flow_block.proofs.FaultsSeen.{first_none}
 use Rattle.flow_block.proofs.GoingOn.{away_goes_on, waiting_away}
 use Rattle.flow_block.proofs.JobsRest.{holds_none}
+use Rattle.flow_block.proofs.Joins.{join_idle, join_alone}
 use Rattle.flow_block.proofs.KindsBuilt.{has_one_port, batch_idle}
 use Rattle.flow_block.proofs.TestsTell.{every_tells, every_where}
+use Rattle.flow_group.specs.Tuple.{has_tuple}
 
 offer_none : (offer : Option ℕ) → ((j : ℕ) → offer ≡ Some j → ⊥) → offer ≡ None
 offer_none None h = refl
@@ -56,12 +61,6 @@ not_rejected when (Some value) e = ap not e
 
 closed_unless : (end : OutEnd) → end.stage ≡ source.Free → is_cut end ≡ false → is_closed end ≡ false
 closed_unless end free cut = ap₂ (λ (over cut : Bool). over || cut) (ap is_over free) cut
-
-none_in_group : (held : List Value) (enough ended : Bool) → ended ≡ true
-    → (not (is_empty held) && (enough || ended)) ≡ false → is_empty held ≡ true
-none_in_group [] enough ended is none = refl
-none_in_group (value ∷ held) enough ended is none =
-    never_both (enough || ended) (or_right enough ended is) none
 
 -- What the node knows of itself
 
@@ -110,7 +109,8 @@ module _ {W : Type 0} (layout : Layout W) (meaning : ℕ → Value → Result (L
       (λ waits. never_both (is_held_up block) held_up (waiting_tells k small waits).0)) in
       let found : next_fault block ≡ fault_cause block =
       ap (λ (stops : Bool). cond stops (fault_cause block) None)
-      (and_from (could_stop block) (is_at_rest exits) (could going) at_rest) in
+      (and_from (could_stop block) (is_out_at_rest block) (could going)
+      (and_from (is_at_rest exits) (is_spread_at_rest block.copies) at_rest (copies_rest layout meaning b node law))) in
       sym found ∙ nothing.faults
 
   no_cause : block.stopped ≡ None → fault_cause block ≡ None
@@ -119,15 +119,15 @@ module _ {W : Type 0} (layout : Layout W) (meaning : ℕ → Value → Result (L
   no_own_fault : block.stopped ≡ None → block.fault ≡ None
   no_own_fault going = (first_none block.fault _ (no_cause going)).0
 
-  no_held : block.stopped ≡ None → is_batch block.kind ≡ false → held_by block ≡ []
-  no_held going other =
+  no_held : block.stopped ≡ None → is_batch block.kind ≡ false → is_join block.kind ≡ false → held_by block ≡ []
+  no_held going other alone =
       let well = no_own_fault going in
-      holds_none block going well other law.jobs.some_lane (law.jobs.drained well) nothing.makes nothing.begins nothing.ends
+      holds_none block going well other alone (copies_freely layout meaning b node law) law.jobs.some_lane (law.jobs.drained well) nothing.makes nothing.begins nothing.ends
 
-  all_held : is_empty (held_by block) ≡ true → holds_nothing block.ports ≡ true
-  all_held none =
+  all_held : is_join block.kind ≡ false → is_empty (held_by block) ≡ true → holds_nothing block.ports ≡ true
+  all_held alone none =
       every_where (λ (port : PortState). is_empty port.waiting) block.ports (fresh_port None) (λ p small.
-      let first : 0 ≡ p = omega (arith, has_one_port layout meaning b block law.shape) in
+      let first : 0 ≡ p = omega (arith, small, has_one_port layout meaning b block law.shape alone) in
       subst (λ (q : ℕ). is_empty (port_at q block).waiting ≡ true) first none)
 
   -- a batch has no row to make
@@ -138,34 +138,34 @@ module _ {W : Type 0} (layout : Layout W) (meaning : ℕ → Value → Result (L
       (and_from (may_work block) (not (has_work block.kind))
       (and_from (is_none block.stopped && is_none block.fault) (has_next block)
       (and_from (is_none block.stopped) (is_none block.fault) (ap is_none going) (ap is_none (no_own_fault going)))
-      (ap (λ (is : Bool). cond is (has_group block) (not (is_empty (held_by block)))) batch ∙ group))
+      (ap (λ (is : Bool). cond is (has_group block)
+      (cond (is_join block.kind) (has_tuple block.ports) (not (is_empty (held_by block)) && may_copy block))) batch ∙ group))
       (ap not (batch_idle block.kind batch)))
       nothing.makes)
 
+  -- a join has no tuple to make
+  no_tuple : block.stopped ≡ None → is_join block.kind ≡ true → has_tuple block.ports ≡ false
+  no_tuple going join =
+      false_from_ne_true (has_tuple block.ports) (λ tuple.
+      never_both (may_make block)
+      (and_from (may_work block) (not (has_work block.kind))
+      (and_from (is_none block.stopped && is_none block.fault) (has_next block)
+      (and_from (is_none block.stopped) (is_none block.fault) (ap is_none going) (ap is_none (no_own_fault going)))
+      (ap₂ (λ (batch joins : Bool). cond batch (has_group block)
+      (cond joins (has_tuple block.ports) (not (is_empty (held_by block)) && may_copy block)))
+      (join_alone block.kind join) join ∙ tuple))
+      (ap not (join_idle block.kind join)))
+      nothing.makes)
+
   -- it has worked off what it holds
-  worked_off_by : block.stopped ≡ None → (batch : Bool) → is_batch block.kind ≡ batch
-      → cond batch (not (has_group block)) (holds_nothing block.ports) ≡ true
-  worked_off_by going true is = ap not (no_group going is)
-  worked_off_by going false is = all_held (ap is_empty (no_held going is))
+  worked_off_by : block.stopped ≡ None → (batch join : Bool) → is_batch block.kind ≡ batch → is_join block.kind ≡ join
+      → cond batch (not (has_group block)) (cond join (not (has_tuple block.ports)) (holds_nothing block.ports)) ≡ true
+  worked_off_by going true join is joins = ap not (no_group going is)
+  worked_off_by going false true is joins = ap not (no_tuple going joins)
+  worked_off_by going false false is joins = all_held joins (ap is_empty (no_held going is joins))
 
   pub worked_off : block.stopped ≡ None → is_worked_off block ≡ true
-  worked_off going = worked_off_by going (is_batch block.kind) refl
-
-  ended_first : all_ended block.ports ≡ true → has_port_ended (port_at 0 block).refusing ≡ true
-  ended_first ended =
-      every_tells (λ (port : PortState). has_port_ended port.refusing) block.ports (fresh_port None) 0 ended
-      (omega (arith, has_one_port layout meaning b block law.shape))
-
-  -- where its ports have completed, it holds nothing
-  held_by_none : block.stopped ≡ None → all_ended block.ports ≡ true → (batch : Bool) → is_batch block.kind ≡ batch
-      → holds_nothing block.ports ≡ true
-  held_by_none going ended true is =
-      all_held (none_in_group (held_by block) (leb block.size (length (held_by block)))
-      (has_port_ended (port_at 0 block).refusing) (ended_first ended) (no_group going is))
-  held_by_none going ended false is = all_held (ap is_empty (no_held going is))
-
-  held_none : block.stopped ≡ None → all_ended block.ports ≡ true → holds_nothing block.ports ≡ true
-  held_none going ended = held_by_none going ended (is_batch block.kind) refl
+  worked_off going = worked_off_by going (is_batch block.kind) (is_join block.kind) refl refl
 
   pub none_seen : block.stopped ≡ None → fault_at_ports block.ports ≡ None
   none_seen going =
@@ -224,15 +224,20 @@ module _ {W : Type 0} (layout : Layout W) (meaning : ℕ → Value → Result (L
       (rejects end.rule.when (head_of exits))
       (closed_unless end free cut) (ap (speaks_of exits.next) free) late (not_rejected end.rule.when (head_of exits) e))
 
-  -- it could finish, if it had nothing left and its ports were complete
-  pub not_finished : block.stopped ≡ None → all_ended block.ports ≡ true → is_empty exits.left ≡ true → ⊥
-  not_finished going ended left =
+  -- it could finish, if it held nothing, had nothing left and were complete
+  pub not_finished : block.stopped ≡ None → is_complete block ≡ true → holds_nothing block.ports ≡ true
+      → is_empty exits.left ≡ true → ⊥
+  not_finished going ended none left =
       let at_rest : is_at_rest exits ≡ true =
       none_away exits.ends rest.outs (λ k small.
       false_from_ne_true (is_waiting (stage_at exits k))
       (λ waits. never_both (is_empty exits.left) left (waiting_left k small waits))) in
       never_both (may_finish block)
-      (all_five (could_stop block) (all_ended block.ports) (holds_nothing block.ports) (is_empty exits.left)
+      (and_from (could_stop block && is_complete block && holds_nothing block.ports && is_empty exits.left && is_at_rest exits)
+      (is_copied_out block.copies)
+      (all_five (could_stop block) (is_complete block) (holds_nothing block.ports) (is_empty exits.left)
       (is_at_rest exits)
-      (could going) ended (held_none going ended) left at_rest)
+      (could going) ended none left at_rest)
+      (and_from (copies_left block.copies == 0) (is_spread_at_rest block.copies)
+      (ap (λ (left : ℕ). left == 0) (none_copied layout meaning b node law)) (copies_rest layout meaning b node law)))
       nothing.finishes

@@ -19,6 +19,10 @@ use Rattle.flow_intake.proofs.CallsKeepOrder.{moves_keep}
 use Rattle.flow_outlet.specs.Fits.{weight_of}
 use Rattle.flow_outlet.specs.Outlet.{head_of, weight_at, gives}
 use Rattle.flow_outlet.proofs.OutletFits.{weight_stays}
+use Rattle.flow_link.proofs.ListTests.{never_both}
+use Rattle.flow_link.specs.Plan.{is_broadcast}
+use Rattle.flow_block.specs.Copies.{copy_place}
+use Rattle.flow_block.proofs.CopiesIdle.{no_copy_at, none_broadcast}
 use Rattle.flow_block.specs.Block.{BlockState, port_in, held_by, made_of, yields, keeps_results, makes_of, takes_group}
 use Rattle.flow_block.specs.Node.{NodeState, NodeCall, hand_at, in_link_at, out_link_at, takes_in, gives_from}
 use Rattle.flow_block.specs.NodeLaw.{NodeLaw, ShapeLaw, PortsLaw, LoadLaw}
@@ -231,11 +235,15 @@ module _ {W : Type 0} (layout : Layout W) (meaning : ℕ → Value → Result (L
       one_port node.block.ports node.journal p (looks k phase port) law.ports
       (λ old. moves_keep.look facts (taken node.journal p) port old k phase may.place)
   call_keeps node (NodeCall.look_out k phase) law may = law.ports
+  call_keeps node (NodeCall.copy call) law may = absurd (no_copy_at layout meaning b node law (copy_place call) may.place)
   call_keeps node NodeCall.begin law may = law.ports
   call_keeps node NodeCall.make law may =
       makes_by (λ new. PortsLaw layout meaning b new node.journal) (block_makes layout meaning b) node.block
       (λ batch. row_keeps node.block.size node.block node.journal law.ports)
-      (λ other. make_keeps (first_of (held_by node.block)) node.block node.journal refl law.ports)
+      (λ join. each_port node.block.ports node.journal node.journal takes_next law.ports (λ q. refl)
+      (λ q below old. moves_keep.take_next facts (taken node.journal q) (port_in node.block.ports q) old))
+      (λ broadcast. never_both (is_broadcast node.block.kind) broadcast (none_broadcast node.block.kind law.shape.built))
+      (λ other alone single. make_keeps (first_of (held_by node.block)) node.block node.journal refl law.ports)
   call_keeps node (NodeCall.complete p) law may =
       let port = port_in node.block.ports p in
       let none = (may_complete_tells p node.block may.completes).none_comes in

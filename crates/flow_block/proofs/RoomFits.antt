@@ -1,5 +1,5 @@
 -- Room that is to come back stays room that the ports gave out, whatever a block does.
-use Rattle.std.proofs.Common.{◌≡◌, ℕ, zero, suc, ◌+◌, ◌-◌, ◌<◌, ◌≤◌, ◌^◌, true, cond, List, [], ◌∷◌, ◌++◌, length, set, get_or, take, drop, map, Option, Some, None, is_some, refl, ap, arith, subst, sym}
+use Rattle.std.proofs.Common.{◌≡◌, ℕ, zero, suc, ◌+◌, ◌-◌, ◌<◌, ◌≤◌, ◌^◌, ◌==◌, true, cond, List, [], ◌∷◌, ◌++◌, length, set, get_or, take, drop, map, Option, Some, None, is_some, refl, ap, arith, subst, sym}
 use Rattle.std.proofs.lemmas.Bool.{and_parts}
 use Rattle.std.proofs.lemmas.List.{length-append, get_or_read, take-append-drop}
 use Rattle.flow_value.specs.declared.value.Value.{Value}
@@ -9,6 +9,10 @@ use Rattle.flow_outlet.specs.Fits.{weight_of}
 use Rattle.flow_outlet.specs.Outlet.{OutletState, is_empty, fresh_outlet, puts, gives, groups_after}
 use Rattle.flow_outlet.specs.declared.ends.LinkRule.{LinkRule}
 use Rattle.flow_outlet.proofs.OutletFits.{weight_stays, room_put}
+use Rattle.flow_link.specs.declared.draft.BlockKind.{BlockKind}
+use Rattle.flow_spread.specs.End.{owes_it}
+use Rattle.flow_spread.proofs.CountsOfEnds.{none_counts}
+use Rattle.flow_block.specs.Copies.{shared_rules, copied_rules, fresh_copies, copies_left}
 use Rattle.flow_block.specs.Block.{port_in, unit_weight, group_weight, takes_group}
 use Rattle.flow_block.specs.BlockFits.{GaveOut, AllGaveOut, BlockFits, weight_out}
 use Rattle.flow_block.specs.Peeks.{holds_nothing}
@@ -27,12 +31,12 @@ out_set weight (first ∷ ports) zero port all one = (one, all.1)
 out_set weight (first ∷ ports) (suc p) port all one = (all.0, out_set weight ports p port all.1 one)
 
 -- one port changes
-pub fits_port : {ports : List PortState} {exits : OutletState} → BlockFits ports exits → (p : ℕ) (old new : PortState) → p < length ports
-    → old ≡ get_or ports p old → (GaveOut (weight_out exits) old → GaveOut (weight_out exits) new) → BlockFits (set ports p new) exits
-fits_port {ports} {exits} fits p old new l is keeps =
+pub fits_port : {ports : List PortState} {exits : OutletState} {copied : ℕ} → BlockFits ports exits copied → (p : ℕ) (old new : PortState) → p < length ports
+    → old ≡ get_or ports p old → (GaveOut (weight_out exits copied) old → GaveOut (weight_out exits copied) new) → BlockFits (set ports p new) exits copied
+fits_port {ports} {exits} {copied} fits p old new l is keeps =
     let read = get_or_read ports p old l is (fresh_port None) in
-    let was = subst (λ port. GaveOut (weight_out exits) port) (sym read) (out_there (weight_out exits) ports p l fits.room) in
-    record { room = out_set (weight_out exits) ports p new fits.room (keeps was); few = fits.few }
+    let was = subst (λ port. GaveOut (weight_out exits copied) port) (sym read) (out_there (weight_out exits copied) ports p l fits.room) in
+    record { room = out_set (weight_out exits copied) ports p new fits.room (keeps was); few = fits.few }
 
 one_waits : (capacity : Option ℕ) (waiting : List Value) (value : Value) (weight load : ℕ)
     → cond (is_some capacity) (length waiting + weight) 0 ≤ load
@@ -89,39 +93,44 @@ next_out back ports now p port all l is read =
     let known : port ≡ port_in ports p = get_or_read ports p port l there (fresh_port None) in
     back_out port.capacity port.waiting back port.load (subst (λ port. GaveOut back port) (sym known) (out_there back ports p l all))
 
-module _ {ports : List PortState} {exits : OutletState} (fits : BlockFits ports exits) (k room : ℕ) (is : room ≡ (gives k exits).room) where
-  weights : weight_out exits ≡ room + weight_of (groups_after exits.next exits.groups)
+module _ {ports : List PortState} {exits : OutletState} {copied : ℕ} (fits : BlockFits ports exits copied) (k room : ℕ) (is : room ≡ (gives k exits).room) where
+  weights : weight_out exits copied ≡ room + (weight_of (groups_after exits.next exits.groups) + copied)
   weights = omega (arith, is, weight_stays exits.next exits.groups)
 
   -- the room of what is given was given out
   pub given_out : AllGaveOut room ports
-  given_out = all_less (weight_out exits) room ports (omega (arith, weights)) fits.room
+  given_out = all_less (weight_out exits copied) room ports (omega (arith, weights)) fits.room
 
   -- the head is given, and its room comes back
-  pub fits_given : BlockFits (map (gives_room room) ports) (record (gives k exits) { room = 0 })
+  pub fits_given : BlockFits (map (gives_room room) ports) (record (gives k exits) { room = 0 }) copied
   fits_given =
       let all = subst (λ weight. AllGaveOut weight ports) weights fits.room in
-      let rest : 0 + weight_of (groups_after exits.next exits.groups) ≡ weight_of (groups_after exits.next exits.groups) = omega arith in
+      let kept = weight_of (groups_after exits.next exits.groups) + copied in
+      let rest : 0 + weight_of (groups_after exits.next exits.groups) + copied ≡ kept = omega arith in
       record {
-        room = subst (λ weight. AllGaveOut weight (map (gives_room room) ports)) (sym rest) (all_back room (weight_of (groups_after exits.next exits.groups)) ports all);
+        room = subst (λ weight. AllGaveOut weight (map (gives_room room) ports)) (sym rest) (all_back room kept ports all);
         few = omega (arith, fits.few, weights);
       }
 
 none_out : (capacity : Option ℕ) (waiting : List Value) (load : ℕ) → is_empty waiting ≡ true
-    → cond (is_some capacity) (length waiting + (0 + 0)) 0 ≤ load
+    → cond (is_some capacity) (length waiting + (0 + 0 + 0)) 0 ≤ load
 none_out None waiting load none = omega arith
 none_out (Some room) [] load none = omega arith
 none_out (Some room) (_ ∷ _) load none = absurd (cc)
 
-all_fresh : (ports : List PortState) → holds_nothing ports ≡ true → AllGaveOut (0 + 0) ports
+all_fresh : (ports : List PortState) → holds_nothing ports ≡ true → AllGaveOut (0 + 0 + 0) ports
 all_fresh [] none = tt
 all_fresh (port ∷ ports) none =
     let both = and_parts (is_empty port.waiting) (holds_nothing ports) none in
     (none_out port.capacity port.waiting port.load both.0, all_fresh ports both.1)
 
 -- nothing is put yet
-pub fits_fresh : (ports : List PortState) (rules : List LinkRule) → holds_nothing ports ≡ true → BlockFits ports (fresh_outlet rules 1)
-fits_fresh ports rules none = record { room = all_fresh ports none; few = omega arith }
+pub fits_fresh : (ports : List PortState) (kind : BlockKind) (rules : List LinkRule) → holds_nothing ports ≡ true
+    → BlockFits ports (fresh_outlet (shared_rules kind rules) 1) (copies_left (fresh_copies kind rules))
+fits_fresh ports kind rules none =
+    let nobody : copies_left (fresh_copies kind rules) ≡ 0 =
+    ap (λ (count : ℕ). cond (count == 0) 0 1) (none_counts owes_it (copied_rules kind rules) (λ rule. refl)) in
+    rw nobody (record { room = all_fresh ports none; few = omega arith })
 
 -- The message that waits longest is taken on
 
@@ -143,23 +152,29 @@ only_one weight [] port one out = absurd (omega arith)
 only_one weight (first ∷ []) port one out = (out, tt)
 only_one weight (first ∷ second ∷ ports) port one out = absurd (omega arith)
 
+more_copied : (room weight more copied now kept : ℕ) → now + kept ≡ room + weight + more
+    → room + weight + copied + more ≡ now + kept + copied
+more_copied room weight more copied now kept e = omega (arith, e)
+
 -- what is made of it is put, with its weight
-pub fits_put_out : {ports : List PortState} {exits : OutletState} → BlockFits ports exits → (seen old : PortState) → seen ≡ get_or ports 0 seen
+pub fits_put_out : {ports : List PortState} {exits : OutletState} {copied : ℕ} → BlockFits ports exits copied → (seen old : PortState) → seen ≡ get_or ports 0 seen
     → old ≡ get_or ports 0 old → length ports ≡ 1 → 0 < length (port_in ports 0).waiting → cond (is_some seen.capacity) seen.load 0 < 2 ^ 32
-    → (values : List Value) → BlockFits (set ports 0 (takes_next old)) (puts values (unit_weight seen.capacity) exits)
-fits_put_out {ports} {exits} fits seen old seen_is old_is one waits small values =
+    → (values : List Value) → BlockFits (set ports 0 (takes_next old)) (puts values (unit_weight seen.capacity) exits) copied
+fits_put_out {ports} {exits} {copied} fits seen old seen_is old_is one waits small values =
     let l : 0 < length ports = omega arith in
     let first = port_in ports 0 in
     let seen_first : seen ≡ first = get_or_read ports 0 seen l seen_is (fresh_port None) in
     let old_first : old ≡ first = get_or_read ports 0 old l old_is (fresh_port None) in
     let few : cond (is_some first.capacity) first.load 0 < 2 ^ 32 = rw seen_first at small in
-    let was = out_there (weight_out exits) ports 0 l fits.room in
+    let was = out_there (weight_out exits copied) ports 0 l fits.room in
+    let bare = less_out first.capacity first.waiting (weight_out exits copied) (weight_out exits 0) first.load (omega arith) was in
     let weights = room_put (exits.next + length exits.left) (length values) (unit_weight first.capacity) exits.room exits.groups in
-    let out = one_on first.capacity first.waiting (weight_out exits) first.load waits was in
+    let out = one_on first.capacity first.waiting (weight_out exits copied) first.load waits was in
     rw (seen_first, old_first) (
     record {
-      room = subst (λ weight. AllGaveOut weight (set ports 0 (takes_next first))) (sym weights) (only_one (weight_out exits + unit_weight first.capacity) ports (takes_next first) one out);
-      few = omega (arith, weights, weight_fits first.capacity first.waiting (weight_out exits) first.load waits was few fits.few);
+      room = subst (λ weight. AllGaveOut weight (set ports 0 (takes_next first))) (more_copied _ _ _ copied _ _ weights)
+          (only_one (weight_out exits copied + unit_weight first.capacity) ports (takes_next first) one out);
+      few = omega (arith, weights, weight_fits first.capacity first.waiting (weight_out exits 0) first.load waits bare few fits.few);
     }
     )
 
@@ -184,35 +199,38 @@ group_on (Some room) size waiting weight load out =
     omega (arith, parts, whole, out)
 
 -- there is room for the weight of the row
-pub row_fits : {ports : List PortState} {exits : OutletState} → BlockFits ports exits → (port : PortState)
+pub row_fits : {ports : List PortState} {exits : OutletState} {copied : ℕ} → BlockFits ports exits copied → (port : PortState)
     → port ≡ get_or ports 0 port → length ports ≡ 1 → cond (is_some port.capacity) port.load 0 < 2 ^ 32 → (size : ℕ)
     → exits.room + weight_of exits.groups + group_weight port.capacity (length (take size port.waiting)) < 2 ^ 32
-row_fits {ports} {exits} fits port is one small size =
+row_fits {ports} {exits} {copied} fits port is one small size =
     let l : 0 < length ports = omega (arith, one) in
     let first = get_or_read ports 0 port l is (fresh_port None) in
-    let was = subst (λ port. GaveOut (weight_out exits) port) (sym first) (out_there (weight_out exits) ports 0 l fits.room) in
-    group_fits port.capacity size port.waiting (weight_out exits) port.load was small fits.few
+    let was = subst (λ port. GaveOut (weight_out exits copied) port) (sym first) (out_there (weight_out exits copied) ports 0 l fits.room) in
+    let bare = less_out port.capacity port.waiting (weight_out exits copied) (weight_out exits 0) port.load (omega arith) was in
+    let fit = group_fits port.capacity size port.waiting (weight_out exits 0) port.load bare small fits.few in
+    omega (arith, fit)
 
-pub fits_row : {ports : List PortState} {exits : OutletState} → BlockFits ports exits → (seen old : PortState)
+pub fits_row : {ports : List PortState} {exits : OutletState} {copied : ℕ} → BlockFits ports exits copied → (seen old : PortState)
     → seen ≡ get_or ports 0 seen → old ≡ get_or ports 0 old → length ports ≡ 1
     → cond (is_some seen.capacity) seen.load 0 < 2 ^ 32 → (size : ℕ) (row : Value)
     → BlockFits (set ports 0 (takes_group size old))
-    (puts (row ∷ []) (group_weight seen.capacity (length (take size seen.waiting))) exits)
-fits_row {ports} {exits} fits seen old seen_is old_is one small size row =
+    (puts (row ∷ []) (group_weight seen.capacity (length (take size seen.waiting))) exits) copied
+fits_row {ports} {exits} {copied} fits seen old seen_is old_is one small size row =
     let l : 0 < length ports = omega (arith, one) in
     let port = port_in ports 0 in
     let seen_first : seen ≡ port = get_or_read ports 0 seen l seen_is (fresh_port None) in
     let old_first : old ≡ port = get_or_read ports 0 old l old_is (fresh_port None) in
     let few : cond (is_some port.capacity) port.load 0 < 2 ^ 32 = rw seen_first at small in
-    let was = out_there (weight_out exits) ports 0 l fits.room in
+    let was = out_there (weight_out exits copied) ports 0 l fits.room in
+    let bare = less_out port.capacity port.waiting (weight_out exits copied) (weight_out exits 0) port.load (omega arith) was in
     let more = group_weight port.capacity (length (take size port.waiting)) in
     let weights = room_put (exits.next + length exits.left) 1 more exits.room exits.groups in
-    let out = group_on port.capacity size port.waiting (weight_out exits) port.load was in
+    let out = group_on port.capacity size port.waiting (weight_out exits copied) port.load was in
     rw (seen_first, old_first) (
     record {
-      room = subst (λ weight. AllGaveOut weight (set ports 0 (takes_group size port))) (sym weights)
-          (only_one (weight_out exits + more) ports (takes_group size port) one out);
-      few = omega (arith, weights, group_fits port.capacity size port.waiting (weight_out exits) port.load was few fits.few);
+      room = subst (λ weight. AllGaveOut weight (set ports 0 (takes_group size port))) (more_copied _ _ _ copied _ _ weights)
+          (only_one (weight_out exits copied + more) ports (takes_group size port) one out);
+      few = omega (arith, weights, group_fits port.capacity size port.waiting (weight_out exits 0) port.load bare few fits.few);
     }
     )
 
@@ -223,8 +241,61 @@ all_same : (f : PortState → PortState) (weight : ℕ) (ports : List PortState)
 all_same f weight [] keeps all = tt
 all_same f weight (port ∷ ports) keeps all = (keeps port all.0, all_same f weight ports keeps all.1)
 
-pub fits_failed : {ports : List PortState} {exits : OutletState} → BlockFits ports exits → BlockFits (map port_fails ports) exits
-fits_failed {ports} {exits} fits = record { room = all_same port_fails (weight_out exits) ports (λ _ out. out) fits.room; few = fits.few }
+pub fits_failed : {ports : List PortState} {exits : OutletState} {copied : ℕ} → BlockFits ports exits copied → BlockFits (map port_fails ports) exits copied
+fits_failed {ports} {exits} {copied} fits = record { room = all_same port_fails (weight_out exits copied) ports (λ _ out. out) fits.room; few = fits.few }
 
-pub fits_closed : {ports : List PortState} {exits : OutletState} → BlockFits ports exits → BlockFits (map port_closes ports) exits
-fits_closed {ports} {exits} fits = record { room = all_same port_closes (weight_out exits) ports (λ _ out. out) fits.room; few = fits.few }
+pub fits_closed : {ports : List PortState} {exits : OutletState} {copied : ℕ} → BlockFits ports exits copied → BlockFits (map port_closes ports) exits copied
+fits_closed {ports} {exits} {copied} fits = record { room = all_same port_closes (weight_out exits copied) ports (λ _ out. out) fits.room; few = fits.few }
+
+-- What it copies
+
+-- where the element counts less than it did, what it counts no more comes back
+pub copied_out : {ports : List PortState} {exits : OutletState} {copied : ℕ} → BlockFits ports exits copied → (now : ℕ)
+    → AllGaveOut (copied - now) ports
+copied_out {ports} {exits} {copied} fits now = all_less (weight_out exits copied) (copied - now) ports (omega arith) fits.room
+
+pub fits_copied : {ports : List PortState} {exits : OutletState} {copied : ℕ} → BlockFits ports exits copied → (now : ℕ) → now ≤ copied
+    → BlockFits (map (gives_room (copied - now)) ports) exits now
+fits_copied {ports} {exits} {copied} fits now less =
+    let is : weight_out exits copied ≡ (copied - now) + weight_out exits now = omega (arith, less) in
+    record {
+      room = all_back (copied - now) (weight_out exits now) ports (subst (λ weight. AllGaveOut weight ports) is fits.room);
+      few = fits.few;
+    }
+
+-- the message that waits longest is copied from now on
+waits_less : (capacity : Option ℕ) (waiting : List Value) (weight load now : ℕ) → 0 < length waiting → now ≤ 1
+    → cond (is_some capacity) (length waiting + (weight + 0)) 0 ≤ load
+    → cond (is_some capacity) (length (drop 1 waiting) + (weight + now)) 0 ≤ load - (1 - now)
+waits_less None waiting weight load now waits one out = omega arith
+waits_less (Some room) [] weight load now waits one out = absurd (omega arith)
+waits_less (Some room) (_ ∷ waiting) weight load now waits one out = omega arith
+
+pub room_of_copied : (capacity : Option ℕ) (waiting : List Value) (weight load now : ℕ) → 0 < length waiting → now ≤ 1
+    → cond (is_some capacity) (length waiting + weight) 0 ≤ load
+    → cond (is_some capacity) (1 - now) 0 ≤ load - length (drop 1 waiting)
+room_of_copied None waiting weight load now waits one out = omega arith
+room_of_copied (Some room) [] weight load now waits one out = absurd (omega arith)
+room_of_copied (Some room) (_ ∷ waiting) weight load now waits one out = omega arith
+
+module _ {ports : List PortState} {exits : OutletState} (fits : BlockFits ports exits 0) (port : PortState) (is : port ≡ get_or ports 0 port)
+    (alone : length ports ≡ 1) (waits : 0 < length (port_in ports 0).waiting) (now : ℕ) (one : now ≤ 1) where
+  first_is : port ≡ port_in ports 0
+  first_is = get_or_read ports 0 port (omega (arith, alone)) is (fresh_port None)
+
+  first_out : GaveOut (weight_out exits 0) (port_in ports 0)
+  first_out = out_there (weight_out exits 0) ports 0 (omega (arith, alone)) fits.room
+
+  pub copy_room : cond (is_some port.capacity) (1 - now) 0 ≤ port.load - length (drop 1 port.waiting)
+  copy_room =
+      let first = port_in ports 0 in
+      rw first_is (room_of_copied first.capacity first.waiting (weight_out exits 0) first.load now waits one first_out)
+
+  pub fits_copy : BlockFits (set ports 0 (gives_room (1 - now) (takes_next port))) exits now
+  fits_copy =
+      let first = port_in ports 0 in
+      rw first_is (record {
+        room = only_one (weight_out exits now) ports (gives_room (1 - now) (takes_next first)) alone
+            (waits_less first.capacity first.waiting (exits.room + weight_of exits.groups) first.load now waits one first_out);
+        few = fits.few;
+      })

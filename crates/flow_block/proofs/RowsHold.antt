@@ -20,6 +20,9 @@ use Rattle.flow_intake.specs.PortLaw.{has_ended as has_port_ended}
 use Rattle.flow_intake.specs.Calls.{first_of, wants, turns_down, postpones, refuses, consumes, opens, closes, looks as port_looks, gives_room, port_closes}
 use Rattle.flow_intake.proofs.CountsOfEnds.{hand_comes}
 use Rattle.flow_outlet.specs.Outlet.{OutletState, first_of as first_left, rest_of, is_empty, head_of, gives, prepares, offers, denies, withdraws, ends_link, looks as exit_looks}
+use Rattle.flow_link.specs.Plan.{is_broadcast}
+use Rattle.flow_block.specs.Copies.{copy_place}
+use Rattle.flow_block.proofs.CopiesIdle.{no_copy_at, none_broadcast}
 use Rattle.flow_block.specs.Block.{BlockState, port_at, with_port, held_by, is_batch, row_of, next_group, makes_row, stops_by}
 use Rattle.flow_block.specs.Node.{NodeState, NodeCall, takes_in, gives_from, in_link_at, out_link_at}
 use Rattle.flow_block.specs.NodeKeeps.{RowsKept, MayCall, MayCompletePort, InAt, after_call}
@@ -31,12 +34,13 @@ use Rattle.flow_block.proofs.GoingOn.{may_work_tells, may_complete_tells, open_g
 use Rattle.flow_block.proofs.JournalTells.{complete_where}
 use Rattle.flow_block.proofs.KindsBuilt.{has_one_port, made_kind, makes_by}
 use Rattle.flow_block.proofs.PortsChange.{kept_at_one, kept_at_all}
+use Rattle.flow_block.proofs.Joins.{batch_unjoined, join_alone}
 
-other_side : (a b : Bool) → a ≡ false → (a || b) ≡ true → b ≡ true
+pub other_side : (a b : Bool) → a ≡ false → (a || b) ≡ true → b ≡ true
 other_side true b none e = absurd (cc)
 other_side false b none e = e
 
-not_both_so : (a b : Bool) → a ≡ false → (a && b) ≡ false
+pub not_both_so : (a b : Bool) → a ≡ false → (a && b) ≡ false
 not_both_so true b e = absurd (cc)
 not_both_so false b e = refl
 
@@ -48,14 +52,14 @@ no_more_held : (held : List Value) (value : Value) → is_empty (held ++ value �
 no_more_held [] value = refl
 no_more_held (first ∷ held) value = refl
 
-given_on : (given left : List Value) (value : Value) → first_left left ≡ Some value
+pub given_on : (given left : List Value) (value : Value) → first_left left ≡ Some value
     → (given ++ value ∷ []) ++ rest_of left ≡ given ++ left
 given_on given [] value head = absurd (cc)
 given_on given (first ∷ left) value head =
     let same : value ≡ first = cc in
     append_assoc given (value ∷ []) left ∙ ap (λ (v : Value). given ++ v ∷ left) same
 
-given_back : (left : List Value) (value : Value) → first_left left ≡ Some value → left ≡ value ∷ rest_of left
+pub given_back : (left : List Value) (value : Value) → first_left left ≡ Some value → left ≡ value ∷ rest_of left
 given_back [] value head = absurd (cc)
 given_back (first ∷ left) value head = let same : first ≡ value = cc in ap (λ (v : Value). v ∷ left) same
 
@@ -142,7 +146,7 @@ module _ {W : Type 0} (layout : Layout W) (meaning : ℕ → Value → Result (L
   taken_in node law p k (Some value) at batch =
       let block = node.block in
       let old = law.rows batch in
-      let one = has_one_port layout meaning b block law.shape in
+      let one = has_one_port layout meaning b block law.shape (batch_unjoined block.kind batch) in
       let first : p ≡ 0 = omega (arith, one, at.port) in
       let change = closes k value in
       let end = (law.ports p at.port).each k at.place in
@@ -163,7 +167,7 @@ module _ {W : Type 0} (layout : Layout W) (meaning : ℕ → Value → Result (L
   completed node law p may batch =
       let block = node.block in
       let old = law.rows batch in
-      let one = has_one_port layout meaning b block law.shape in
+      let one = has_one_port layout meaning b block law.shape (batch_unjoined block.kind batch) in
       let first : p ≡ 0 = omega (arith, one, may.port) in
       let open_port = (may_complete_tells p block may.completes).open_port in
       let unended = (open_goes_on layout meaning b block node.journal law.ends p may.port open_port).1 in
@@ -183,7 +187,7 @@ module _ {W : Type 0} (layout : Layout W) (meaning : ℕ → Value → Result (L
       let block = node.block in
       let journal = node.journal in
       let old = law.rows batch in
-      let one = has_one_port layout meaning b block law.shape in
+      let one = has_one_port layout meaning b block law.shape (batch_unjoined block.kind batch) in
       let there : 0 < length block.ports = omega (arith, one) in
       let size = block.size in
       let held = held_by block in
@@ -220,11 +224,14 @@ module _ {W : Type 0} (layout : Layout W) (meaning : ℕ → Value → Result (L
   after_each node (NodeCall.close p k) law may = taken_in node law p k (hand_in k (port_at p node.block).ends) may
   after_each node (NodeCall.give k) law may = given_out node law.rows k (head_of node.block.exits) refl
   after_each node (NodeCall.look_in p k phase) law may = port_stays node law.rows p (port_looks k phase) refl
+  after_each node (NodeCall.copy call) law may = absurd (no_copy_at layout meaning b node law (copy_place call) may.place)
   after_each node NodeCall.begin law may = law.rows
   after_each node NodeCall.make law may =
       makes_by (λ new. KeepsRows new node.journal) (block_makes layout meaning b) node.block
       (λ batch. let tells = may_work_tells node.block may.waits in row_made node law tells.going (tells.group batch))
-      (λ other batch. never_both (is_batch node.block.kind)
+      (λ join batch. never_both (is_batch node.block.kind) batch (join_alone node.block.kind join))
+      (λ broadcast. never_both (is_broadcast node.block.kind) broadcast (none_broadcast node.block.kind law.shape.built))
+      (λ other alone single batch. never_both (is_batch node.block.kind)
       (ap is_batch (sym (made_kind (block_makes layout meaning b) (first_of (held_by node.block)) node.block)) ∙ batch) other)
   after_each node (NodeCall.complete p) law may = completed node law p may
   after_each node (NodeCall.fault number) law may =

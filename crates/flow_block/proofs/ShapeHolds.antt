@@ -1,5 +1,5 @@
 -- Each call keeps a block's kind, the links and capacities of its ports, and the rules of its exits.
-use Rattle.std.proofs.Common.{◌≡◌, ℕ, List, [], ◌∷◌, map, set, Option, Some, None, Result, Ok, Err, refl, ◌∙◌}
+use Rattle.std.proofs.Common.{◌≡◌, ℕ, ◌-◌, List, [], ◌∷◌, map, set, Option, Some, None, Result, Ok, Err, refl, ◌∙◌}
 use Rattle.std.proofs.Math.Seq.{map-set_same}
 use Rattle.std.proofs.lemmas.List.{length-set, length-map}
 use Rattle.flow_value.specs.declared.value.Value.{Value}
@@ -13,7 +13,9 @@ use Rattle.flow_intake.specs.Calls.{first_of, put_hand, wants, turns_down, postp
 use Rattle.flow_outlet.specs.declared.ends.OutEnd.{OutEnd}
 use Rattle.flow_outlet.specs.End.{end_in, no_end}
 use Rattle.flow_outlet.specs.Outlet.{head_of, gives}
-use Rattle.flow_block.specs.Block.{BlockState, port_in, held_by, made_of, yields, keeps_results, makes_of, takes_group}
+use Rattle.flow_spread.specs.Spread.{puts}
+use Rattle.flow_block.specs.Copies.{after_copy, copies_left}
+use Rattle.flow_block.specs.Block.{BlockState, port_in, held_by, copies_next, made_of, yields, keeps_results, makes_of, takes_group}
 use Rattle.flow_block.specs.Node.{NodeState, NodeCall, hand_at, takes_in, gives_from}
 use Rattle.flow_block.specs.NodeLaw.{ShapeLaw, PortAsPlanned}
 use Rattle.flow_block.specs.NodeKeeps.{after_call, ShapeKept}
@@ -102,6 +104,8 @@ module _ {W : Type 0} (layout : Layout W) (meaning : ℕ → Value → Result (L
     size_is = size ∙ law.size_is;
     some_size = rw (kind, size) law.some_size;
     port_count_is = rw (ports, length-set before.ports p (change (port_in before.ports p))) law.port_count_is;
+    some_port = rw (ports, length-set before.ports p (change (port_in before.ports p))) law.some_port;
+    takes_freely = law.takes_freely;
     ports =
         let port = port_in before.ports p in
         rw ports (each_after_one IsPlanned before.ports p (change port)
@@ -121,6 +125,8 @@ module _ {W : Type 0} (layout : Layout W) (meaning : ℕ → Value → Result (L
     size_is = size ∙ law.size_is;
     some_size = rw (kind, size) law.some_size;
     port_count_is = rw (ports, length-map before.ports change) law.port_count_is;
+    some_port = rw (ports, length-map before.ports change) law.some_port;
+    takes_freely = law.takes_freely;
     ports =
         rw ports (each_after_all IsPlanned change before.ports
         (λ q below.
@@ -138,6 +144,8 @@ module _ {W : Type 0} (layout : Layout W) (meaning : ℕ → Value → Result (L
     size_is = size ∙ law.size_is;
     some_size = rw (kind, size) law.some_size;
     port_count_is = rw ports law.port_count_is;
+    some_port = rw ports law.some_port;
+    takes_freely = law.takes_freely;
     ports = rw ports law.ports;
     rules = rules ∙ law.rules;
   }
@@ -162,6 +170,14 @@ module _ {W : Type 0} (layout : Layout W) (meaning : ℕ → Value → Result (L
       → ShapeLaw layout meaning b (makes_of (block_makes layout meaning b) held block)
   make_keeps None block law = law
   make_keeps (Some value) block law = yield_keeps (made_of block.kind (block_makes layout meaning b) value) block law
+
+  copy_keeps : (held : Option Value) (block : BlockState) → ShapeLaw layout meaning b block
+      → ShapeLaw layout meaning b (copies_next held block)
+  copy_keeps None block law = law
+  copy_keeps (Some value) block law =
+      let room = 1 - copies_left (puts value block.copies) in
+      one_port block _ 0 (λ port. gives_room room (takes_next port)) (λ port. record { links = refl; capacity = refl; reserves = refl })
+      refl refl refl refl law
 
   take_keeps : (p k : ℕ) (hand : Option Value) (node : NodeState) → ShapeLaw layout meaning b node.block
       → ShapeLaw layout meaning b (takes_in p k hand node).block
@@ -202,11 +218,16 @@ module _ {W : Type 0} (layout : Layout W) (meaning : ℕ → Value → Result (L
       one_port node.block _ p (looks k phase) (looks_same k phase) refl refl refl refl law
   call_keeps node (NodeCall.look_out k phase) law =
       exits_move node.block _ refl refl refl (rules_stay node.block.exits.ends k _ refl) law
+  call_keeps node (NodeCall.copy call) law =
+      let room = copies_left node.block.copies - copies_left (after_copy call node.block.copies) in
+      each_port node.block _ (gives_room room) (gives_room_same room) refl refl refl refl law
   call_keeps node NodeCall.begin law = exits_move node.block _ refl refl refl refl law
   call_keeps node NodeCall.make law =
       makes_by (ShapeLaw layout meaning b) (block_makes layout meaning b) node.block
       (λ batch. one_port node.block _ 0 (takes_group node.block.size) (takes_group_same node.block.size) refl refl refl refl law)
-      (λ other. make_keeps (first_of (held_by node.block)) node.block law)
+      (λ join. each_port node.block _ takes_next takes_next_same refl refl refl refl law)
+      (λ broadcast. copy_keeps (first_of (held_by node.block)) node.block law)
+      (λ other alone single. make_keeps (first_of (held_by node.block)) node.block law)
   call_keeps node (NodeCall.complete p) law =
       one_port node.block _ p port_closes port_closes_same refl refl refl refl law
   call_keeps node (NodeCall.fault number) law =

@@ -1,5 +1,5 @@
 -- Each call moves the view of its own end as the laws of one link have it, and no other end's.
-use Rattle.std.proofs.Common.{unwrap_or, ◌≡◌, ◌≢◌, ℕ, ◌<◌, ◌==◌, cond, Bool, true, List, [], ◌∷◌, ◌++◌, length, set, Option, Some, None, is_some, Result, Ok, Err, refl, ap, sym, ◌∙◌, subst, eq-eqb}
+use Rattle.std.proofs.Common.{false, unwrap_or, ◌≡◌, ◌≢◌, ℕ, ◌<◌, ◌==◌, cond, Bool, true, List, [], ◌∷◌, ◌++◌, length, set, Option, Some, None, is_some, Result, Ok, Err, refl, ap, sym, ◌∙◌, subst, eq-eqb}
 use Rattle.std.proofs.lemmas.List.{get_or-set_same, get_or-set_other}
 use Rattle.flow_value.specs.declared.value.Value.{Value}
 use Rattle.flow_value.specs.declared.when.When.{When}
@@ -27,9 +27,14 @@ use Rattle.flow_outlet.specs.Law.{admits_head}
 use Rattle.flow_outlet.specs.Outlet.{OutletState, head_of, end_at, stage_at, gives, given_end, offers, prepares, denies, withdraws, ends_link, looks as exit_looks}
 use Rattle.flow_outlet.proofs.LawKept.{gives_in_order}
 use Rattle.flow_outlet.proofs.OffersInOrder.{offers_in_order}
+use Rattle.flow_link.specs.Plan.{is_broadcast}
+use Rattle.flow_link.proofs.ListTests.{never_both}
+use Rattle.flow_spread.specs.Spread.{link_at as link_over}
+use Rattle.flow_block.specs.Copies.{copy_place}
+use Rattle.flow_block.proofs.CopiesIdle.{no_copy_at, none_broadcast}
 use Rattle.flow_block.specs.Block.{BlockState, port_at, with_port, with_jobs, begins, made_of, keeps_results, yields, makes_of, makes, makes_row, takes_group, held_by, stops_by}
 use Rattle.flow_block.specs.Jobs.{JobsState, begins as one_more}
-use Rattle.flow_block.specs.Node.{NodeState, NodeCall, with_block, with_exits, marks, hand_at, in_link_at, out_link_at, takes_in, gives_from, view_of_in, view_of_out, in_view, out_view}
+use Rattle.flow_block.specs.Node.{NodeState, NodeCall, with_block, with_exits, marks, hand_at, in_link_at, out_link_at, takes_in, gives_from, view_of_in, view_of_out, in_view, out_view, copy_view}
 use Rattle.flow_block.specs.NodeKeeps.{after_call}
 use Rattle.flow_block.specs.NodeLaw.{NodeLaw}
 use Rattle.flow_block.specs.Peeks.{is_pending}
@@ -38,7 +43,7 @@ use Rattle.flow_block.specs.ViewsMove.{message_at, IsAboutIn, IsAboutOut, Others
 use Rattle.flow_block.proofs.JournalTells.{took_same, gave_same, took_here, gave_here}
 use Rattle.flow_block.proofs.KindsBuilt.{makes_by}
 use Rattle.flow_block.proofs.PlacesOfLinks.{links_in_differ, links_out_differ}
-use Rattle.flow_block.proofs.PortsChange.{kept_at_one, port_of_map, end_there, end_elsewhere}
+use Rattle.flow_block.proofs.PortsChange.{kept_at_one, port_of_map, end_there, end_elsewhere, kept_at_all}
 use Rattle.flow_block.proofs.TestsTell.{some_is}
 
 -- one end of a link into a node stands at a place, and all others as they did
@@ -62,6 +67,7 @@ others_in : (call : NodeCall) (node : NodeState) (p k : ℕ) (ports : List PortS
     → OneInMoves node (with_block (record node.block { ports = ports }) node) p k end
     → OthersStay call node (with_block (record node.block { ports = ports }) node)
 others_in call node p k ports end about one = record {
+  copies = λ j there apart. refl;
   ins = λ q j below there apart. ap (view_of_in node.journal) (one.others q j (about q j apart));
   outs = λ j there apart. refl;
 }
@@ -85,6 +91,7 @@ others_out : (call : NodeCall) (node : NodeState) (k : ℕ) (exits : OutletState
     → ((j : ℕ) → ¬ IsAboutOut j call → j ≢ k)
     → OneOutMoves node (with_exits exits node) k end → OthersStay call node (with_exits exits node)
 others_out call node k exits end about one = record {
+  copies = λ j there apart. refl;
   ins = λ p j below there apart. refl;
   outs = λ j there apart. ap (view_of_out node.journal) (one.others j (about j apart));
 }
@@ -93,6 +100,7 @@ others_out call node k exits end about one = record {
 record NoneMoves (node new : NodeState) : Type 0 where
   ins : (p : ℕ) → p < length node.block.ports → (port_at p new.block).ends ≡ (port_at p node.block).ends
   outs : new.block.exits.ends ≡ node.block.exits.ends
+  copies : (k : ℕ) → k < length node.block.copies.ends → link_over new.block.copies k ≡ link_over node.block.copies k
   taken : (l : ℕ) → took_over l new.journal ≡ took_over l node.journal
   given : (l : ℕ) → gave_over l new.journal ≡ gave_over l node.journal
 
@@ -114,10 +122,17 @@ view_out_stays node new none k =
     ap (λ (ends : List OutEnd). view_of_out new.journal (end_out_in ends k)) none.outs
     ∙ ap (knows_out (end_at node.block.exits k)) (none.given (out_link_at k node))
 
+copy_view_stays : (node new : NodeState) → NoneMoves node new → (k : ℕ) → k < length node.block.copies.ends
+    → copy_view k new ≡ copy_view k node
+copy_view_stays node new none k there =
+    ap (view_of_out new.journal) (none.copies k there)
+    ∙ ap (knows_out (link_over node.block.copies k)) (none.given (link_over node.block.copies k).rule.id)
+
 others_stay : (call : NodeCall) (node new : NodeState) → NoneMoves node new → OthersStay call node new
 others_stay call node new none = record {
   ins = λ p k below there apart. view_in_stays node new none p k below;
   outs = λ k there apart. view_out_stays node new none k;
+  copies = λ k there apart. copy_view_stays node new none k there;
 }
 
 module _ {W : Type 0} (layout : Layout W) (meaning : ℕ → Value → Result (List Value) ℕ) (b : ℕ) (node : NodeState)
@@ -149,6 +164,8 @@ module _ {W : Type 0} (layout : Layout W) (meaning : ℕ → Value → Result (L
               (ap (λ (same : Bool). cond same (value ∷ []) []) differs));
           outs = λ j near other. ap (knows_out (end_at node.block.exits j))
               (gave_same (λ link. link == out_link_at j node) node.journal mark refl);
+          copies = λ j near other. ap (knows_out (link_over node.block.copies j))
+              (gave_same (λ link. link == (link_over node.block.copies j).rule.id) node.journal mark refl);
         };
       }
 
@@ -180,6 +197,7 @@ module _ {W : Type 0} (layout : Layout W) (meaning : ℕ → Value → Result (L
               ∙ ap (knows_out (end_at node.block.exits j))
               (gave_same (λ link. link == out_link_at j node) node.journal mark
               (ap (λ (same : Bool). cond same (value ∷ []) []) differs));
+          copies = λ j near other. absurd (no_copy_at layout meaning b node law j near);
         };
       }
 
@@ -187,10 +205,11 @@ module _ {W : Type 0} (layout : Layout W) (meaning : ℕ → Value → Result (L
 pub record EndsStay (block new : BlockState) : Type 0 where
   pub ins : (p : ℕ) → p < length block.ports → (port_at p new).ends ≡ (port_at p block).ends
   pub outs : new.exits.ends ≡ block.exits.ends
+  pub copies : (k : ℕ) → k < length block.copies.ends → link_over new.copies k ≡ link_over block.copies k
 
 none_moves : (node : NodeState) (block : BlockState) → EndsStay node.block block
     → NoneMoves node (with_block block node)
-none_moves node block stay = record { ins = stay.ins; outs = stay.outs; taken = λ l. refl; given = λ l. refl }
+none_moves node block stay = record { ins = stay.ins; outs = stay.outs; copies = stay.copies; taken = λ l. refl; given = λ l. refl }
 
 none_moves_by : (node : NodeState) (block : BlockState) (mark : Mark) → EndsStay node.block block
     → ((test : ℕ → ℕ → Bool) → taken_by_mark test mark ≡ []) → ((test : ℕ → Bool) → given_by_mark test mark ≡ [])
@@ -198,6 +217,7 @@ none_moves_by : (node : NodeState) (block : BlockState) (mark : Mark) → EndsSt
 none_moves_by node block mark stay none_taken none_given = record {
   ins = stay.ins;
   outs = stay.outs;
+  copies = stay.copies;
   taken = λ l. took_same (λ port link. link == l) node.journal mark (none_taken (λ port link. link == l));
   given = λ l. gave_same (λ link. link == l) node.journal mark (none_given (λ link. link == l));
 }
@@ -210,6 +230,7 @@ keeping_stays Action values block =
           kept_at_one (λ (port : PortState). port.ends) block.ports 0 p
           (gives_room 1 (takes_next (port_at 0 block))) refl;
       outs = refl;
+      copies = λ k there. refl;
     }
 keeping_stays _ [] block =
     record {
@@ -217,10 +238,12 @@ keeping_stays _ [] block =
           kept_at_one (λ (port : PortState). port.ends) block.ports 0 p
           (gives_room 1 (takes_next (port_at 0 block))) refl;
       outs = refl;
+      copies = λ k there. refl;
     }
 keeping_stays _ (value ∷ values) block = record {
   ins = λ p below. kept_at_one (λ (port : PortState). port.ends) block.ports 0 p (takes_next (port_at 0 block)) refl;
   outs = refl;
+  copies = λ k there. refl;
 }
 
 pub yielding_stays : (result : Result (List Value) ℕ) (block : BlockState) → EndsStay block (yields result block)
@@ -229,11 +252,12 @@ yielding_stays (Err number) block =
     record {
       ins = λ p below. ap (λ (port : PortState). port.ends) (port_of_map port_fails block.ports p below);
       outs = refl;
+      copies = λ k there. refl;
     }
 
 first_stays : (result : Value → Result (List Value) ℕ) (message : Option Value) (block : BlockState)
     → EndsStay block (makes_of result message block)
-first_stays result None block = record { ins = λ p below. refl; outs = refl }
+first_stays result None block = record { ins = λ p below. refl; outs = refl; copies = λ k there. refl }
 first_stays result (Some value) block = yielding_stays (made_of block.kind result value) block
 
 row_stays : (block : BlockState) → EndsStay block (makes_row block)
@@ -241,20 +265,29 @@ row_stays block = record {
   ins = λ p below.
       kept_at_one (λ (port : PortState). port.ends) block.ports 0 p (takes_group block.size (port_at 0 block)) refl;
   outs = refl;
+  copies = λ k there. refl;
 }
 
-making_stays : (result : Value → Result (List Value) ℕ) (block : BlockState) → EndsStay block (makes result block)
-making_stays result block =
+making_stays : (result : Value → Result (List Value) ℕ) (block : BlockState) → is_broadcast block.kind ≡ false
+    → EndsStay block (makes result block)
+making_stays result block shares =
     makes_by (EndsStay block) result block (λ batch. row_stays block)
-    (λ other. first_stays result (first_of (held_by block)) block)
+    (λ join. record {
+      ins = λ p below. kept_at_all (λ (port : PortState). port.ends) takes_next block.ports p (λ port. refl);
+      outs = refl;
+      copies = λ k there. refl;
+    })
+    (λ broadcast. never_both (is_broadcast block.kind) broadcast shares)
+    (λ other alone single. first_stays result (first_of (held_by block)) block)
 
 jobs_stay : (block : BlockState) (change : JobsState → JobsState) → EndsStay block (with_jobs change block)
-jobs_stay block change = record { ins = λ p below. refl; outs = refl }
+jobs_stay block change = record { ins = λ p below. refl; outs = refl; copies = λ k there. refl }
 
 closing_stays : (block : BlockState) (p : ℕ) → EndsStay block (with_port p port_closes block)
 closing_stays block p = record {
   ins = λ q below. kept_at_one (λ (port : PortState). port.ends) block.ports p q (port_closes (port_at p block)) refl;
   outs = refl;
+  copies = λ k there. refl;
 }
 
 stopping_stays : (block : BlockState) (how : Outcome) → EndsStay block (stops_by how block)
@@ -262,6 +295,7 @@ stopping_stays block how =
     record {
       ins = λ p below. ap (λ (port : PortState). port.ends) (port_of_map port_closes block.ports p below);
       outs = refl;
+      copies = λ k there. refl;
     }
 
 head_there : (when : When) (head : Option Value) → admits_head when head ≡ true → is_some head ≡ true
@@ -385,12 +419,13 @@ calls_move_views W layout meaning b node (NodeCall.look_out k phase) law may =
           (source_looks_kept old.stage phase);
       others = others_out (NodeCall.look_out k phase) node k _ end (λ j apart. apart) one;
     }
+calls_move_views W layout meaning b node (NodeCall.copy call) law may = absurd (no_copy_at layout meaning b node law (copy_place call) may.place)
 calls_move_views W layout meaning b node NodeCall.begin law may =
     let none = none_moves node (begins node.block) (jobs_stay node.block one_more) in
     record { moved = tt; others = others_stay NodeCall.begin node (after_call layout meaning b NodeCall.begin node) none }
 calls_move_views W layout meaning b node NodeCall.make law may =
     let new = after_call layout meaning b NodeCall.make node in
-    let stay = making_stays (block_makes layout meaning b) node.block in
+    let stay = making_stays (block_makes layout meaning b) node.block (none_broadcast node.block.kind law.shape.built) in
     let none = none_moves node new.block stay in
     record { moved = tt; others = others_stay NodeCall.make node new none }
 calls_move_views W layout meaning b node (NodeCall.complete p) law may =

@@ -1,15 +1,19 @@
 -- A block as plain data, and what its calls make of it: each block takes messages at its ports, makes something of them, and
 -- gives that over its exits.
-use Rattle.std.specs.Prelude.{ℕ, Bool, true, false, cond, List, [], ◌∷◌, ◌++◌, length, get_or, set, map, take, drop, Option, Some, None, is_none, Result, Ok, Err, pos}
+use Rattle.std.specs.Prelude.{ℕ, ◌-◌, Bool, true, false, cond, List, [], ◌∷◌, ◌++◌, length, get_or, set, map, take, drop, Option, Some, None, is_none, Result, Ok, Err, pos}
 use Rattle.flow_value.specs.View.{items_from}
 use Rattle.flow_value.specs.declared.value.Value.{Value}
 use Rattle.flow_value.specs.declared.value.Value.TheVariants.{Int, Row}
 use Rattle.flow_link.specs.declared.draft.BlockKind.{BlockKind}
-use Rattle.flow_link.specs.declared.draft.BlockKind.TheVariants.{Buffer, Action, Batch}
+use Rattle.flow_link.specs.declared.draft.BlockKind.TheVariants.{Buffer, Action, Batch, Join}
 use Rattle.flow_link.specs.declared.trace.Outcome.{Outcome}
+use Rattle.flow_link.specs.Plan.{is_broadcast}
 use Rattle.flow_intake.specs.Port.{PortState, fresh_port}
 use Rattle.flow_intake.specs.Calls.{first_of, takes_next, gives_room, port_closes, port_fails}
+use Rattle.flow_group.specs.Tuple.{tuple_of, takes_tuple}
 use Rattle.flow_outlet.specs.Outlet.{OutletState, puts, gives}
+use Rattle.flow_spread.specs.Spread.{SpreadState, puts as copies_put}
+use Rattle.flow_block.specs.Copies.{copies_left}
 use Rattle.flow_block.specs.Jobs.{JobsState, Slot, begins as one_more, brings, works_off, comes_out, place_of}
 
 pub record BlockState : Type 0 where
@@ -18,6 +22,8 @@ pub record BlockState : Type 0 where
   pub size : ℕ
   pub ports : List PortState
   pub exits : OutletState
+  -- the element that it copies to its links, if its kind copies
+  pub copies : SpreadState
   -- what it works on
   pub jobs : JobsState
   -- the results that an action keeps
@@ -36,7 +42,7 @@ port_at p block = port_in block.ports p
 abbrev pub with_port : ℕ → (PortState → PortState) → BlockState → BlockState
 with_port p change block = record block { ports = set block.ports p (change (port_at p block)) }
 
--- what it took and has not worked on: the kinds that are built have one port
+-- what it took at its first port and has not worked on: all kinds but joins have that port alone
 abbrev pub held_by : BlockState → List Value
 held_by block = (port_at 0 block).waiting
 
@@ -110,9 +116,38 @@ makes_row block =
       exits = puts (row_of (next_group block) ∷ []) (group_weight (port_at 0 block).capacity (length (next_group block))) block.exits;
     }
 
--- it makes what it makes of the message that it holds first; a batch makes its next row
+-- a join makes tuples, of the messages that wait longest, one from each port
+abbrev pub is_join : BlockKind → Bool
+is_join Join = true
+is_join _ = false
+
+-- the tuple is there to be given, and when it is, one place comes back at each port
+abbrev pub makes_tuple : BlockState → BlockState
+makes_tuple block = record block {
+  ports = takes_tuple block.ports;
+  exits = puts (tuple_of block.ports ∷ []) (unit_weight (port_at 0 block).capacity) block.exits;
+}
+
+-- the message is what it copies from now on. Where no link is to have it, its room comes back at once
+abbrev pub copies_it : Value → BlockState → BlockState
+copies_it value block =
+    record (with_port 0 (λ port. gives_room (1 - copies_left (copies_put value block.copies)) (takes_next port)) block) {
+      copies = copies_put value block.copies;
+    }
+
+abbrev pub copies_next : Option Value → BlockState → BlockState
+copies_next None block = block
+copies_next (Some value) block = copies_it value block
+
+-- it makes what it makes of the message that it holds first, and a broadcast copies that message
+abbrev pub makes_other : (Value → Result (List Value) ℕ) → BlockState → BlockState
+makes_other result block =
+    cond (is_broadcast block.kind) (copies_next (first_of (held_by block)) block) (makes_of result (first_of (held_by block)) block)
+
+-- a batch makes its next row, and a join its next tuple
 abbrev pub makes : (Value → Result (List Value) ℕ) → BlockState → BlockState
-makes result block = cond (is_batch block.kind) (makes_row block) (makes_of result (first_of (held_by block)) block)
+makes result block =
+    cond (is_batch block.kind) (makes_row block) (cond (is_join block.kind) (makes_tuple block) (makes_other result block))
 
 -- what it would put into its exits by that
 abbrev pub put_by_kind : BlockKind → List Value → List Value
@@ -128,7 +163,10 @@ put_of kind result None = []
 put_of kind result (Some value) = put_by_kind kind (values_of_result (made_of kind result value))
 
 abbrev pub put_next : (Value → Result (List Value) ℕ) → BlockState → List Value
-put_next result block = cond (is_batch block.kind) (row_of (next_group block) ∷ []) (put_of block.kind result (first_of (held_by block)))
+put_next result block =
+    cond (is_batch block.kind) (row_of (next_group block) ∷ [])
+    (cond (is_join block.kind) (tuple_of block.ports ∷ [])
+    (cond (is_broadcast block.kind) [] (put_of block.kind result (first_of (held_by block)))))
 
 -- Its jobs
 
@@ -170,6 +208,13 @@ abbrev pub gives_out : ℕ → BlockState → BlockState
 gives_out k block = record block {
   exits = record (gives k block.exits) { room = 0 };
   ports = map (gives_room (gives k block.exits).room) block.ports;
+}
+
+-- its end of a link over which copies go comes to stand elsewhere. Where nobody owes the element any more, its room comes back
+abbrev pub with_copies : SpreadState → BlockState → BlockState
+with_copies copies block = record block {
+  copies = copies;
+  ports = map (gives_room (copies_left block.copies - copies_left copies)) block.ports;
 }
 
 abbrev pub stops_by : Outcome → BlockState → BlockState

@@ -6,6 +6,7 @@ use Rattle.flow_outlet.specs.Fits.{weight_of}
 use Rattle.flow_outlet.specs.Outlet.{OutletState, fresh_outlet}
 use Rattle.flow_outlet.specs.declared.ends.LinkRule.{LinkRule}
 use Rattle.flow_block.specs.Block.{BlockState}
+use Rattle.flow_block.specs.Copies.{shared_rules, fresh_copies}
 use Rattle.flow_block.specs.Jobs.{fresh_jobs}
 
 -- a block with these ports and so many lanes, and with rows of this size if it is a batch, which made nothing yet; messages are
@@ -15,16 +16,17 @@ fresh_block kind lanes size ports rules = record {
   kind = kind;
   size = size;
   ports = ports;
-  exits = fresh_outlet rules 1;
+  exits = fresh_outlet (shared_rules kind rules) 1;
+  copies = fresh_copies kind rules;
   jobs = fresh_jobs lanes;
   recorded = [];
   fault = None;
   stopped = None;
 }
 
--- the weights of what was put and is not told as room
-abbrev pub weight_out : OutletState → ℕ
-weight_out exits = exits.room + weight_of exits.groups
+-- the weights of what was put and is not told as room, with the weight of what it copies
+abbrev pub weight_out : OutletState → ℕ → ℕ
+weight_out exits copied = exits.room + weight_of exits.groups + copied
 
 -- the port gave out room for what waits there, and so much more
 abbrev pub GaveOut : ℕ → PortState → Type 0
@@ -34,6 +36,6 @@ abbrev pub AllGaveOut : ℕ → List PortState → Type 0
 AllGaveOut weight [] = Unit {0}
 AllGaveOut weight (port ∷ ports) = GaveOut weight port × AllGaveOut weight ports
 
-pub record BlockFits (ports : List PortState) (exits : OutletState) : Type 0 where
-  pub room : AllGaveOut (weight_out exits) ports
-  pub few : weight_out exits < 2 ^ 32
+pub record BlockFits (ports : List PortState) (exits : OutletState) (copied : ℕ) : Type 0 where
+  pub room : AllGaveOut (weight_out exits copied) ports
+  pub few : weight_out exits 0 < 2 ^ 32

@@ -1,13 +1,19 @@
 pub mod Block
 pub mod BlockFits
 pub mod Causes
+pub mod Copier
+pub mod Copies
 pub mod Fresh
+pub mod FreshGroups
+pub mod GroupsKeep
+pub mod GroupsSeen
 pub mod Input
 pub mod InputKeeps
 pub mod Jobs
 pub mod JobsEnd
 pub mod JobsOut
 pub mod JournalFits
+pub mod Kinds
 pub mod NextMoves
 pub mod Node
 pub mod NodeKeeps
@@ -19,4 +25,5 @@ pub mod Peeks
 pub mod Planned
 pub mod Routes
 pub mod Traits
+pub mod TuplesSeen
 pub mod ViewsMove

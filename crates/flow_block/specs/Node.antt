@@ -1,6 +1,6 @@
 -- A node of a network: a block with its journal. Its calls are its side of each move of a link, its looks, and what it does by
 -- itself.
-use Rattle.std.specs.Prelude.{ℕ, List, [], ◌∷◌, ◌++◌, map, Option, Some, None, Result}
+use Rattle.std.specs.Prelude.{ℕ, cond, List, [], ◌∷◌, ◌++◌, map, Option, Some, None, Result}
 use Rattle.flow_value.specs.declared.value.Value.{Value}
 use Rattle.flow_link.specs.declared.phase.LinkEnd.{LinkEnd}
 use Rattle.flow_link.specs.declared.phase.Phase.{Phase}
@@ -14,7 +14,11 @@ use Rattle.flow_intake.specs.Port.{EndState, PortState, end_in, link_in, hand_in
 use Rattle.flow_intake.specs.Calls.{wants, turns_down, postpones, refuses, consumes, opens, closes, looks as port_looks, port_closes}
 use Rattle.flow_outlet.specs.Outlet.{OutletState, head_of, end_at, prepares, offers, denies, withdraws, ends_link, looks as exit_looks}
 use Rattle.flow_outlet.specs.declared.ends.OutEnd.{OutEnd}
-use Rattle.flow_block.specs.Block.{BlockState, port_at, with_port, begins, makes, gives_out, stops_by}
+use Rattle.flow_outlet.specs.History.{listed}
+use Rattle.flow_spread.specs.Spread.{SpreadState, link_at, left_of}
+use Rattle.flow_link.specs.Plan.{is_one_taker}
+use Rattle.flow_block.specs.Block.{BlockState, port_at, with_port, begins, makes, gives_out, with_copies, stops_by}
+use Rattle.flow_block.specs.Copies.{CopyCall, after_copy}
 
 pub record NodeState : Type 0 where
   pub block : BlockState
@@ -39,6 +43,8 @@ pub data NodeCall : Type 0 where
   -- the looks
   look_in : ℕ → ℕ → Phase → NodeCall
   look_out : ℕ → Phase → NodeCall
+  -- the source's side of each move and look, at a link over which copies go
+  copy : CopyCall → NodeCall
   -- what it does by itself: it begins to work on one more message, and what it makes of its first message comes out
   begin : NodeCall
   make : NodeCall
@@ -75,6 +81,21 @@ abbrev pub gives_from : ℕ → Option Value → NodeState → NodeState
 gives_from k None node = node
 gives_from k (Some value) node = marks (Gave (out_link_at k node) value) (with_block (gives_out k node.block) node)
 
+-- a copy of the element goes over its link
+abbrev pub marks_copied : ℕ → Option Value → List Mark → List Mark
+marks_copied link None journal = journal
+marks_copied link (Some value) journal = journal ++ Gave link value ∷ []
+
+abbrev pub marks_copy : CopyCall → SpreadState → List Mark → List Mark
+marks_copy (CopyCall.give k) copies journal = marks_copied (link_at copies k).rule.id copies.element journal
+marks_copy _ copies journal = journal
+
+abbrev pub copies_by : CopyCall → NodeState → NodeState
+copies_by call node = record {
+  block = with_copies (after_copy call node.block.copies) node.block;
+  journal = marks_copy call node.block.copies node.journal;
+}
+
 -- what a node makes of a message by its function
 module _ (result : Value → Result (List Value) ℕ) where
   abbrev pub after : NodeCall → NodeState → NodeState
@@ -92,6 +113,7 @@ module _ (result : Value → Result (List Value) ℕ) where
   after (NodeCall.end_link k how) node = with_exits (ends_link k how node.block.exits) node
   after (NodeCall.look_in p k phase) node = with_block (with_port p (port_looks k phase) node.block) node
   after (NodeCall.look_out k phase) node = with_exits (exit_looks k phase node.block.exits) node
+  after (NodeCall.copy call) node = copies_by call node
   after NodeCall.begin node = with_block (begins node.block) node
   after NodeCall.make node = with_block (makes result node.block) node
   after (NodeCall.complete p) node = marks (Complete p) (with_block (with_port p port_closes node.block) node)
@@ -112,11 +134,22 @@ in_view p k node = view_of_in node.journal (end_in k (port_at p node.block).ends
 abbrev pub out_view : ℕ → NodeState → SourceView Value
 out_view k node = view_of_out node.journal (end_at node.block.exits k)
 
+abbrev pub copy_view : ℕ → NodeState → SourceView Value
+copy_view k node = view_of_out node.journal (link_at node.block.copies k)
+
+-- of a link out of it, whether it shares its messages or copies them
+abbrev pub source_view : ℕ → NodeState → SourceView Value
+source_view k node = cond (is_one_taker node.block.kind) (out_view k node) (copy_view k node)
+
+-- what it has to give
+abbrev pub left_in : BlockState → List Value
+left_in block = cond (is_one_taker block.kind) block.exits.left (listed (left_of block.copies))
+
 -- what the block leaves of a run
 abbrev pub node_trace : NodeState → BlockTrace
 node_trace node = record {
   journal = node.journal;
   held = map (λ (port : PortState). port.waiting) node.block.ports;
-  left = node.block.exits.left;
+  left = left_in node.block;
   recorded = node.block.recorded;
 }

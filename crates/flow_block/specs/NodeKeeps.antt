@@ -1,5 +1,5 @@
 -- When each call of a node may be made, and that it keeps the node in order.
-use Rattle.std.specs.Prelude.{◌≡◌, ℕ, ◌<◌, Bool, true, false, List, length, Some, None, is_some, is_none, Result}
+use Rattle.std.specs.Prelude.{◌≡◌, ℕ, ◌+◌, ◌^◌, ◌<◌, Bool, true, false, List, length, Some, None, is_some, is_none, Result}
 use Rattle.std.specs.Bool.{OnTrue}
 use Rattle.flow_value.specs.declared.value.Value.{Value}
 use Rattle.flow_link.specs.declared.phase.LinkEnd.{LinkEnd}
@@ -18,9 +18,14 @@ use Rattle.flow_intake.specs.Calls.{is_offered, is_posted, is_postponed, is_arri
 use Rattle.flow_outlet.specs.End.{is_free, is_waiting, speaks_of}
 use Rattle.flow_outlet.specs.Law.{is_put_off}
 use Rattle.flow_outlet.specs.Outlet.{end_at, stage_at, may_offer, may_give, is_wish, end_of, lacks_ids}
-use Rattle.flow_block.specs.Block.{port_at, put_next}
+use Rattle.flow_link.specs.Plan.{is_broadcast}
+use Rattle.flow_spread.specs.Law.{MayPutOff as MayPutOffOver}
+use Rattle.flow_spread.specs.Spread.{may_offer as may_offer_copy, may_give as may_give_copy, is_asked_by}
+use Rattle.flow_spread.specs.Spread as spread
+use Rattle.flow_block.specs.Block.{port_at, put_next, is_join}
+use Rattle.flow_block.specs.Copies.{CopyCall, copy_place}
 use Rattle.flow_block.specs.Node.{NodeState, NodeCall, in_link_at, after}
-use Rattle.flow_block.specs.NodeLaw.{NodeLaw, ShapeLaw, PortsLaw, ExitsLaw, GaveLaw, MakesLaw, KeepsRows, JobsLaw, LoadLaw, MarksLaw, EndsLaw}
+use Rattle.flow_block.specs.NodeLaw.{NodeLaw, ShapeLaw, PortsLaw, ExitsLaw, CopiesLaw, GaveLaw, MakesLaw, KeepsRows, KeepsTuples, JobsLaw, LoadLaw, MarksLaw, EndsLaw}
 use Rattle.flow_block.specs.Peeks.{is_pending, may_work, may_begin, may_complete, next_fault, may_finish}
 use Rattle.flow_block.specs.Planned.{block_makes}
 
@@ -66,11 +71,30 @@ pub record MayLookOut (k : ℕ) (phase : Phase) (node : NodeState) : Type 0 wher
   pub place : k < length node.block.exits.ends
   pub put_off : OnTrue (is_put_off (source_looks (stage_at node.block.exits k) phase)) ((end_at node.block.exits k).rule.steady ≡ false)
 
+-- what a call needs at a link over which copies go
+abbrev pub MayCopyAt : CopyCall → NodeState → Type 0
+MayCopyAt (CopyCall.offer k) node = (node.block.stopped ≡ None) × (may_offer_copy k node.block.copies ≡ true)
+MayCopyAt (CopyCall.look k phase) node =
+    OnTrue (is_put_off (source_looks (spread.stage_at node.block.copies k) phase)) (MayPutOffOver (spread.link_at node.block.copies k))
+MayCopyAt (CopyCall.give k) node = may_give_copy k node.block.copies ≡ true
+MayCopyAt (CopyCall.hold k) node = is_asked_by (spread.stage_at node.block.copies k) ≡ true
+MayCopyAt (CopyCall.withdraw k) node =
+    (is_waiting (spread.stage_at node.block.copies k) ≡ true)
+    × ((spread.end_at node.block.copies k).owes ≡ true → is_pending node.block ≡ true)
+MayCopyAt (CopyCall.end_link k how) node =
+    (is_free (spread.stage_at node.block.copies k) ≡ true)
+    × (end_of (spread.link_at node.block.copies k) node.block.stopped ≡ Some how)
+
+pub record MayCopy (call : CopyCall) (node : NodeState) : Type 0 where
+  pub place : copy_place call < length node.block.copies.ends
+  pub stands : MayCopyAt call node
+
 -- there are ids left for what it makes, and no result that came back waits for it
 pub record MayMake (result : Value → Result (List Value) ℕ) (node : NodeState) : Type 0 where
   pub waits : may_work node.block ≡ true
   pub all_out : every is_none node.block.jobs.slots ≡ true
   pub ids : lacks_ids (put_next result node.block) node.block.exits ≡ false
+  pub copy_id : is_broadcast node.block.kind ≡ true → node.block.copies.id + 1 < 2 ^ 59
 
 pub record MayCompletePort (p : ℕ) (node : NodeState) : Type 0 where
   pub port : p < length node.block.ports
@@ -97,6 +121,7 @@ module _ {W : Type 0} (layout : Layout W) (meaning : ℕ → Value → Result (L
   MayCall (NodeCall.end_link k how) node = MayEndLink k how node
   MayCall (NodeCall.look_in p k phase) node = InAt any_stage p k node
   MayCall (NodeCall.look_out k phase) node = MayLookOut k phase node
+  MayCall (NodeCall.copy call) node = MayCopy call node
   MayCall NodeCall.begin node = may_begin node.block ≡ true
   MayCall NodeCall.make node = MayMake (block_makes layout meaning b) node
   MayCall (NodeCall.complete p) node = MayCompletePort p node
@@ -124,6 +149,9 @@ module _ (W : Type 0) where
   abbrev pub ExitsKept : Type 0
   ExitsKept = AtEachBlock (λ layout meaning b node. ExitsLaw layout meaning b node.block)
 
+  abbrev pub CopiesKept : Type 0
+  CopiesKept = AtEachBlock (λ layout meaning b node. CopiesLaw layout meaning b node.block node.journal)
+
   abbrev pub GaveKept : Type 0
   GaveKept = AtEachBlock (λ layout meaning b node. GaveLaw layout meaning b node.block.exits node.journal)
 
@@ -132,6 +160,9 @@ module _ (W : Type 0) where
 
   abbrev pub RowsKept : Type 0
   RowsKept = AtEachBlock (λ layout meaning b node. KeepsRows node.block node.journal)
+
+  abbrev pub TuplesKept : Type 0
+  TuplesKept = AtEachBlock (λ layout meaning b node. is_join node.block.kind ≡ true → KeepsTuples node.block node.journal)
 
   abbrev pub JobsKept : Type 0
   JobsKept = AtEachBlock (λ layout meaning b node. JobsLaw layout meaning b node.block node.journal)

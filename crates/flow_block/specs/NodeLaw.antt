@@ -19,10 +19,10 @@ use Rattle.flow_link.specs.Law.{is_own_mark, gives_in_order}
 use Rattle.flow_link.specs.Layout.{Layout}
 use Rattle.flow_link.specs.Lists.{every, some, below}
 use Rattle.flow_link.specs.Making.{all_items, are_groups, row_weight, before_complete}
-use Rattle.flow_link.specs.Plan.{block_in, port_count, has_work}
+use Rattle.flow_link.specs.Plan.{block_in, port_count, has_work, is_one_taker, is_reserving}
 use Rattle.flow_link.specs.Trace.{Run, took, took_at, gave, gave_over, has_complete, has_fault, has_ended, is_done}
 use Rattle.flow_link.specs.Worked.{WorkedInto}
-use Rattle.flow_link.specs.NotBuilt.{is_built_kind}
+use Rattle.flow_block.specs.Kinds.{is_kept_kind}
 use Rattle.flow_intake.specs.Port.{EndState, PortState, stage_at as port_stage}
 use Rattle.flow_intake.specs.PortLaw.{PortLaw, has_ended as has_port_ended}
 use Rattle.flow_intake.specs.Ended.{has_seen_completion, fault_seen}
@@ -31,7 +31,11 @@ use Rattle.flow_outlet.specs.Fits.{weight_of}
 use Rattle.flow_outlet.specs.Outlet.{OutletState, end_at, stage_at, is_at_rest, is_empty}
 use Rattle.flow_outlet.specs.declared.ends.OutEnd.{OutEnd}
 use Rattle.flow_outlet.specs.declared.group.Group.{Group}
-use Rattle.flow_block.specs.Block.{BlockState, port_at, held_by, is_batch}
+use Rattle.flow_spread.specs.Spread.{fresh_spread}
+use Rattle.flow_group.specs.Tuple.{held_at, has_tuple}
+use Rattle.flow_group.specs.Tuples.{TuplesLaw}
+use Rattle.flow_block.specs.Block.{BlockState, port_at, held_by, is_batch, is_join}
+use Rattle.flow_block.specs.Copier.{Copier}
 use Rattle.flow_block.specs.Jobs.{AreOf, is_front_back}
 use Rattle.flow_block.specs.Node.{NodeState}
 use Rattle.flow_block.specs.Peeks.{is_pending, holds_nothing}
@@ -128,13 +132,23 @@ pub record RowsLaw (size : ℕ) (journal : List Mark) (held left : List Value) :
 abbrev pub KeepsRows : BlockState → List Mark → Type 0
 KeepsRows block journal = is_batch block.kind ≡ true → RowsLaw block.size journal (held_by block) block.exits.left
 
+-- each message taken at a port stands in a tuple that was given or is left, in order, or waits at the port
+abbrev pub KeepsTuples : BlockState → List Mark → Type 0
+KeepsTuples block journal =
+    TuplesLaw (length block.ports) (λ p. took_at p journal) (gave journal ++ block.exits.left) (held_at block.ports)
+
 -- it could make nothing more of what it held when it stopped: a batch held less than a row, and nothing if its port had
--- completed before
+-- completed before; a join held nothing at one of its ports
 abbrev pub has_made_all : BlockState → List Mark → Bool
 has_made_all block journal =
     cond (is_batch block.kind)
     (ltb (length (held_by block)) block.size && (not (has_complete 0 journal) || is_empty (held_by block)))
-    (holds_nothing block.ports)
+    (cond (is_join block.kind) (not (has_tuple block.ports)) (holds_nothing block.ports))
+
+-- these ports have completed; of a join, that is done and holds nothing, one has
+abbrev pub have_completed : BlockKind → ℕ → List Mark → Bool
+have_completed kind count journal =
+    cond (is_join kind) (some (λ p. has_complete p journal) (below count)) (every (λ p. has_complete p journal) (below count))
 
 -- the end has seen this fault
 abbrev pub is_fault_seen : ℕ → EndState → Bool
@@ -157,13 +171,15 @@ module _ {W : Type 0} (layout : Layout W) (meaning : ℕ → Value → Result (L
     pub capacity : port.capacity ≡ (block_in layout.blocks b).capacity
     pub never_reserves : port.reserves ≡ false
 
-  -- the block is of a kind that is built, and has the ports and links that the plan gives it
+  -- the block is of a kind that is kept in order, and has the ports and links that the plan gives it
   pub record ShapeLaw (block : BlockState) : Type 0 where
-    pub built : is_built_kind block.kind ≡ true
+    pub built : is_kept_kind block.kind ≡ true
     pub kind_is : block.kind ≡ (block_in layout.blocks b).kind
     pub size_is : block.size ≡ size_of layout b
     pub some_size : is_batch block.kind ≡ true → 0 < block.size
     pub port_count_is : length block.ports ≡ port_count (block_in layout.blocks b)
+    pub some_port : 0 < length block.ports
+    pub takes_freely : is_reserving (block_in layout.blocks b) ≡ false
     pub ports : (p : ℕ) → p < length block.ports → PortAsPlanned p (port_at p block)
     pub rules : map (λ (end : OutEnd). end.rule) block.exits.ends ≡ map (rule_of layout) (links_from layout b)
 
@@ -176,6 +192,11 @@ module _ {W : Type 0} (layout : Layout W) (meaning : ℕ → Value → Result (L
   pub record ExitsLaw (block : BlockState) : Type 0 where
     pub law : OutletLaw (is_pending block) block.stopped block.exits
     pub none_kept : (k : ℕ) → k < length block.exits.ends → is_kept (stage_at block.exits k) ≡ false
+
+  -- a block that shares its messages out copies none, and one that copies gives each of its links what it put
+  pub record CopiesLaw (block : BlockState) (journal : List Mark) : Type 0 where
+    pub idle : is_one_taker block.kind ≡ true → block.copies ≡ fresh_spread false [] 1
+    pub copier : is_one_taker block.kind ≡ false → Copier layout b block journal
 
   -- what an end gave, as the marks tell it
   pub record GaveOver (journal : List Mark) (end : OutEnd) : Type 0 where
@@ -231,9 +252,9 @@ module _ {W : Type 0} (layout : Layout W) (meaning : ℕ → Value → Result (L
         → port_stage k (port_at p block) ≡ Refused why → RefusesFor (port_at p block).refusing block.fault why
     -- a block that has stopped has nothing under way
     pub at_rest : is_some block.stopped ≡ true → is_at_rest block.exits ≡ true
-    -- one that is done holds nothing, has nothing left, and all its ports are complete
+    -- one that is done holds nothing, has nothing left, and its ports have completed
     pub done_empty : block.stopped ≡ Some Done → (holds_nothing block.ports ≡ true) × (block.exits.left ≡ [])
-    pub done_complete : is_done journal ≡ true → every (λ p. has_complete p journal) (below (length block.ports)) ≡ true
+    pub done_complete : is_done journal ≡ true → have_completed block.kind (length block.ports) journal ≡ true
     -- each end has a cause that it has seen
     pub complete_cause : (p : ℕ) → p < length block.ports → has_complete p journal ≡ true → has_seen_completion (port_at p block).ends ≡ true
     pub fault_cause : (number : ℕ) → has_fault number journal ≡ true
@@ -246,9 +267,11 @@ module _ {W : Type 0} (layout : Layout W) (meaning : ℕ → Value → Result (L
     pub shape : ShapeLaw node.block
     pub ports : PortsLaw node.block node.journal
     pub exits : ExitsLaw node.block
+    pub copies : CopiesLaw node.block node.journal
     pub gave : GaveLaw node.block.exits node.journal
     pub makes : MakesLaw node.block node.journal
     pub rows : KeepsRows node.block node.journal
+    pub tuples : is_join node.block.kind ≡ true → KeepsTuples node.block node.journal
     pub jobs : JobsLaw node.block node.journal
     pub load : LoadLaw node.block node.journal
     pub marks : MarksLaw node.journal

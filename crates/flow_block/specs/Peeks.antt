@@ -1,12 +1,15 @@
 -- What a block could do next by itself, told by its own data alone.
 use Rattle.std.specs.Prelude.{ℕ, ◌==◌, leb, ltb, Bool, not, ◌&&◌, ◌||◌, cond, List, [], ◌∷◌, length, Option, None, is_some, is_none}
 use Rattle.flow_link.specs.Lists.{every}
-use Rattle.flow_link.specs.Plan.{has_work}
+use Rattle.flow_link.specs.Plan.{has_work, is_broadcast}
 use Rattle.flow_intake.specs.Port.{PortState, coming}
 use Rattle.flow_intake.specs.Ended.{first_some, has_seen_completion, fault_at_ends}
 use Rattle.flow_intake.specs.PortLaw.{has_ended}
 use Rattle.flow_outlet.specs.Outlet.{is_empty, is_at_rest, only_waits}
-use Rattle.flow_block.specs.Block.{BlockState, port_at, held_by, is_batch}
+use Rattle.flow_spread.specs.Spread.{SpreadState, is_spread_free, is_at_rest as is_spread_at_rest, only_waits as spread_only_waits}
+use Rattle.flow_group.specs.Tuple.{has_tuple, is_join_complete}
+use Rattle.flow_block.specs.Block.{BlockState, port_at, held_by, is_batch, is_join}
+use Rattle.flow_block.specs.Copies.{copies_left, may_put}
 use Rattle.flow_block.specs.Jobs.{is_out}
 
 abbrev pub fault_at_ports : List PortState → Option ℕ
@@ -31,13 +34,21 @@ abbrev pub has_group : BlockState → Bool
 has_group block =
     not (is_empty (held_by block)) && (leb block.size (length (held_by block)) || has_ended (port_at 0 block).refusing)
 
+-- a broadcast may copy another message: no link is to have the last one still, or waits for it
+abbrev pub may_copy : BlockState → Bool
+may_copy block = not (is_broadcast block.kind) || may_put block.copies
+
 -- it holds what it could make something of
 abbrev pub has_next : BlockState → Bool
-has_next block = cond (is_batch block.kind) (has_group block) (not (is_empty (held_by block)))
+has_next block =
+    cond (is_batch block.kind) (has_group block)
+    (cond (is_join block.kind) (has_tuple block.ports) (not (is_empty (held_by block)) && may_copy block))
 
 -- it could make nothing more of what it holds
 abbrev pub is_worked_off : BlockState → Bool
-is_worked_off block = cond (is_batch block.kind) (not (has_group block)) (holds_nothing block.ports)
+is_worked_off block =
+    cond (is_batch block.kind) (not (has_group block))
+    (cond (is_join block.kind) (not (has_tuple block.ports)) (holds_nothing block.ports))
 
 -- it goes on, and holds what it could make something of
 abbrev pub may_work : BlockState → Bool
@@ -70,14 +81,41 @@ fault_cause block = first_some block.fault (cond (is_worked_off block) (fault_at
 abbrev pub could_stop : BlockState → Bool
 could_stop block = is_none block.stopped && nothing_comes block.ports
 
+-- nothing is under way over a link out of it
+abbrev pub is_out_at_rest : BlockState → Bool
+is_out_at_rest block = is_at_rest block.exits && is_spread_at_rest block.copies
+
 abbrev pub next_fault : BlockState → Option ℕ
-next_fault block = cond (could_stop block && is_at_rest block.exits) (fault_cause block) None
+next_fault block = cond (could_stop block && is_out_at_rest block) (fault_cause block) None
 
 -- it would fault, but for offers that wait for their targets
 abbrev pub is_held_up : BlockState → Bool
 is_held_up block = could_stop block && only_waits block.exits && is_some (fault_cause block)
 
--- all its ports have completed, and it has nothing to work on and nothing to give
+-- its ports have completed; a join is complete, too, when a completed port has no message that waits for partners
+abbrev pub is_complete : BlockState → Bool
+is_complete block = cond (is_join block.kind) (is_join_complete block.ports) (all_ended block.ports)
+
+-- it is complete, and has nothing to work on and nothing to give
+abbrev pub has_all_given : BlockState → Bool
+has_all_given block =
+    is_complete block && holds_nothing block.ports && is_empty block.exits.left && copies_left block.copies == 0
+
+-- no copy is left to give, and none is under way
+abbrev pub is_copied_out : SpreadState → Bool
+is_copied_out copies = copies_left copies == 0 && is_spread_at_rest copies
+
+-- it is complete, has nothing to work on and nothing to give, and nothing is under way
 abbrev pub may_finish : BlockState → Bool
 may_finish block =
-    could_stop block && all_ended block.ports && holds_nothing block.ports && is_empty block.exits.left && is_at_rest block.exits
+    could_stop block && is_complete block && holds_nothing block.ports && is_empty block.exits.left && is_at_rest block.exits
+    && is_copied_out block.copies
+
+-- a broadcast would copy its next message, but for offers of the last one that wait
+abbrev pub would_copy : BlockState → Bool
+would_copy block = is_none block.stopped && not (is_empty (held_by block)) && is_spread_free block.copies
+
+-- a block that copies would go on, fault or be done, but for such offers
+abbrev pub is_copy_held_up : BlockState → Bool
+is_copy_held_up block =
+    would_copy block || could_stop block && spread_only_waits block.copies && (is_some (fault_cause block) || has_all_given block)

@@ -9,6 +9,7 @@ use Rattle.flow_link.specs.Plan.{block_in, link_in, begins_at, ends_at_port, por
 use Rattle.flow_intake.specs.Port.{PortState, fresh_port, fresh_end}
 use Rattle.flow_outlet.specs.declared.ends.LinkRule.{LinkRule}
 use Rattle.flow_outlet.specs.Outlet.{fresh_outlet}
+use Rattle.flow_block.specs.Copies.{shared_rules, fresh_copies}
 use Rattle.flow_block.specs.Jobs.{fresh_jobs}
 use Rattle.flow_block.specs.Node.{NodeState}
 
@@ -68,7 +69,8 @@ module _ {W : Type 0} (layout : Layout W) where
       kind = (block_in layout.blocks b).kind;
       size = size_of b;
       ports = map (port_of_plan b) (below (port_count (block_in layout.blocks b)));
-      exits = fresh_outlet (map rule_of (links_from b)) 1;
+      exits = fresh_outlet (shared_rules (block_in layout.blocks b).kind (map rule_of (links_from b))) 1;
+      copies = fresh_copies (block_in layout.blocks b).kind (map rule_of (links_from b));
       jobs = fresh_jobs (lanes_of b);
       recorded = [];
       fault = None;

@@ -4,14 +4,16 @@ use Rattle.std.specs.Prelude.{◌≡◌, ℕ, ◌<◌, List, length, Some, Resul
 use Rattle.flow_value.specs.declared.value.Value.{Value}
 use Rattle.flow_link.specs.Layout.{Layout}
 use Rattle.flow_link.specs.Looks.{looking_in, looking_out}
-use Rattle.flow_link.specs.Moves.{offering, ending, giving, denying, withdrawing, wanting, turning_down, refusing, postponing, consuming, opening, closing}
+use Rattle.flow_link.specs.Moves.{offering, ending, giving, denying, holding, withdrawing, wanting, turning_down, refusing, postponing, consuming, opening, closing}
 use Rattle.flow_link.specs.Stage.{refusal_of}
 use Rattle.flow_intake.specs.Calls.{message_of}
 use Rattle.flow_intake.specs.Port.{stage_at as port_stage}
 use Rattle.flow_link.specs.declared.stage.Refusal.{Refusal}
 use Rattle.flow_outlet.specs.Outlet.{head_of}
 use Rattle.flow_block.specs.Block.{port_at}
-use Rattle.flow_block.specs.Node.{NodeState, NodeCall, in_view, out_view, hand_at}
+use Rattle.flow_spread.specs.Spread.{asked_id, stage_at as stage_over}
+use Rattle.flow_block.specs.Copies.{CopyCall, copy_place}
+use Rattle.flow_block.specs.Node.{NodeState, NodeCall, in_view, out_view, copy_view, hand_at}
 use Rattle.flow_block.specs.NodeKeeps.{MayCall, after_call}
 use Rattle.flow_block.specs.NodeLaw.{NodeLaw}
 
@@ -39,6 +41,20 @@ module _ (node new : NodeState) where
     pub head : head_of node.block.exits ≡ Some value
     pub view : out_view k new ≡ giving node.block.exits.next value (out_view k node)
 
+  -- the element is given
+  pub record CopiesAt (k : ℕ) : Type 0 where
+    pub value : Value
+    pub element : node.block.copies.element ≡ Some value
+    pub view : copy_view k new ≡ giving node.block.copies.id value (copy_view k node)
+
+  abbrev pub MovesCopy : CopyCall → Type 0
+  MovesCopy (CopyCall.offer k) = copy_view k new ≡ offering node.block.copies.id (copy_view k node)
+  MovesCopy (CopyCall.look k phase) = copy_view k new ≡ looking_out phase (copy_view k node)
+  MovesCopy (CopyCall.give k) = CopiesAt k
+  MovesCopy (CopyCall.hold k) = copy_view k new ≡ holding (asked_id (stage_over node.block.copies k)) (copy_view k node)
+  MovesCopy (CopyCall.withdraw k) = copy_view k new ≡ withdrawing (copy_view k node)
+  MovesCopy (CopyCall.end_link k how) = copy_view k new ≡ ending how (copy_view k node)
+
   abbrev pub MovesView : NodeCall → Type 0
   MovesView (NodeCall.want p k) = in_view p k new ≡ wanting (message_at p k node) (in_view p k node)
   MovesView (NodeCall.turn_down p k) = in_view p k new ≡ turning_down (in_view p k node)
@@ -54,6 +70,7 @@ module _ (node new : NodeState) where
   MovesView (NodeCall.end_link k how) = out_view k new ≡ ending how (out_view k node)
   MovesView (NodeCall.look_in p k phase) = in_view p k new ≡ looking_in phase (in_view p k node)
   MovesView (NodeCall.look_out k phase) = out_view k new ≡ looking_out phase (out_view k node)
+  MovesView (NodeCall.copy call) = MovesCopy call
   MovesView NodeCall.begin = Unit {0}
   MovesView NodeCall.make = Unit {0}
   MovesView (NodeCall.complete p) = Unit {0}
@@ -81,11 +98,16 @@ IsAboutOut k (NodeCall.end_link j how) = k ≡ j
 IsAboutOut k (NodeCall.look_out j phase) = k ≡ j
 IsAboutOut k _ = ⊥
 
+abbrev pub IsAboutCopy : ℕ → NodeCall → Type 0
+IsAboutCopy k (NodeCall.copy call) = k ≡ copy_place call
+IsAboutCopy k _ = ⊥
+
 -- the other ends know what they knew
 pub record OthersStay (call : NodeCall) (node new : NodeState) : Type 0 where
   pub ins : (p k : ℕ) → p < length node.block.ports → k < length (port_at p node.block).ends → ¬ IsAboutIn p k call
       → in_view p k new ≡ in_view p k node
   pub outs : (k : ℕ) → k < length node.block.exits.ends → ¬ IsAboutOut k call → out_view k new ≡ out_view k node
+  pub copies : (k : ℕ) → k < length node.block.copies.ends → ¬ IsAboutCopy k call → copy_view k new ≡ copy_view k node
 
 pub record ViewsMove (call : NodeCall) (node new : NodeState) : Type 0 where
   pub moved : MovesView node new call

@@ -6,15 +6,17 @@ ghost use Rattle.flow_outlet.specs.End.{count_at, is_away};
 ghost use Rattle.flow_outlet.specs.Outlet.{out_move, end_at, may_offer};
 ghost use Rattle.flow_block.specs.Block.{port_at};
 ghost use Rattle.flow_block.specs.BlockFits.{fresh_block};
-ghost use Rattle.flow_block.specs.JournalFits.{marks_due};
+ghost use Rattle.flow_block.specs.JournalFits.{copies_due, marks_due};
 ghost use Rattle.flow_block.specs.Peeks.{holds_nothing};
 
+use crate::copies::exits_of;
 use crate::jobs::Jobs;
 use crate::ports::ports_due;
 use flow_intake::Intake;
 use flow_link::{BlockKind, LinkId, Move, Outcome};
 use flow_outlet::{LinkRule, Outlet};
-use flow_value::{MessageHeader, Value};
+use flow_spread::Spread;
+use flow_value::Value;
 use std::alloc::Global;
 use std::collections::VecDeque;
 use std::marker::Model;
@@ -30,6 +32,8 @@ pub struct Block {
     pub(crate) size: u32,
     pub(crate) ports: Vec<Intake>,
     pub(crate) exits: Outlet,
+    /// What it copies to its links, if its kind copies; else it has no links there.
+    pub(crate) copies: Spread,
     pub(crate) jobs: Jobs,
     /// The results that an action keeps.
     pub(crate) recorded: Vec<Value>,
@@ -43,6 +47,7 @@ impl Model for Block {
     ghost use Rattle.flow_value.specs.contracts.value.Value as content;
     ghost use Rattle.flow_block.specs.Block.{BlockState};
     ghost use Rattle.flow_block.specs.BlockFits.{BlockFits};
+    ghost use Rattle.flow_block.specs.Copies.{copies_left};
 
     ghost Value = { BlockState };
 
@@ -53,13 +58,14 @@ impl Model for Block {
       size = b.size;
       ports = b.ports.items;
       exits = b.exits;
+      copies = b.copies;
       jobs = b.jobs;
       recorded = b.recorded.items;
       fault = b.fault;
       stopped = b.stopped;
     } };
 
-    ghost invariant = { λ b. BlockFits b.ports.items b.exits };
+    ghost invariant = { λ b. BlockFits b.ports.items b.exits (copies_left b.copies) };
 }
 
 impl Block {
@@ -78,15 +84,13 @@ impl Block {
         ensures { MatchResult result (λ block. block ≡ fresh_block kind lanes size ports.items rules.items)
             (λ back. (back.0 ≡ ports) × (back.1 ≡ rules)) }
     {
-        let Some(first) = MessageHeader::new(1) else {
-            unreachable!()
-        };
-        match Outlet::new(alloc, rules, first) {
-            Ok(exits) => Ok(Block {
+        match exits_of(alloc, kind, rules) {
+            Ok((exits, copies)) => Ok(Block {
                 kind,
                 size,
                 ports,
                 exits,
+                copies,
                 jobs: Jobs::new(alloc, lanes),
                 recorded: Vec::new(alloc),
                 fault: None,
@@ -157,6 +161,13 @@ impl Block {
         self.exits.left()
     }
 
+    /// What it copies to its links, if its kind copies.
+    pub fn copies(&self) -> &Spread
+        ensures { result.now ≡ self.now.copies }
+    {
+        &self.copies
+    }
+
     /// The results that it keeps, if it is an action.
     pub fn recorded(&self) -> &[Value]
         ensures { result.now ≡ self.now.recorded }
@@ -183,7 +194,15 @@ impl Block {
         requires { marks_due self.now < 2 ^ 64 }
         ensures { result ≡ marks_due self.now }
     {
-        ports_due(&self.ports) + usize::from(self.exits.is_ready())
+        ports_due(&self.ports) + usize::from(self.exits.is_ready()) + self.copies_due()
+    }
+
+    /// Over how many links the element may still be given.
+    fn copies_due(&self) -> usize
+        requires { copies_due self.now.copies < 2 ^ 64 }
+        ensures { result ≡ copies_due self.now.copies }
+    {
+        self.copies.busy_count() + self.copies.waiting_count()
     }
 
     /// The place of the link over which the head would be offered next.

@@ -3,14 +3,16 @@
 //! A [`Block`] has ports, at which messages wait, and exits, over which it gives what it made. It works on the message
 //! that waits longest, and a batch on those that make a row:
 //!
-//! call        kind of block    what becomes of the message
-//! `hand_on`   buffer           it is there to be given
-//! `put_out`   both transforms  its results are there to be given
-//! `record`    action           its results are kept
-//! `make_row`  batch            a row of it and those behind it is there to be given
-//! `fail`      all with work    it stays, and the ports take no more
-//! `begin`     all with work    it stays, and is worked on beside others
-//! `end_job`   all with work    its results come out in its turn, or its fault stands
+//! call          kind of block    what becomes of the message
+//! `hand_on`     buffer           it is there to be given
+//! `put_out`     both transforms  its results are there to be given
+//! `record`      action           its results are kept
+//! `make_row`    batch            a row of it and those behind it is there to be given
+//! `make_tuple`  join             a row of it and one from each other port is there to be given
+//! `copy_next`   broadcast        each link is given a copy of it
+//! `fail`        all with work    it stays, and the ports take no more
+//! `begin`       all with work    it stays, and is worked on beside others
+//! `end_job`     all with work    its results come out in its turn, or its fault stands
 //!
 //! Room at the ports comes back when what was made of a message is wholly given. A [`Node`] is a block with its
 //! journal, and an [`Input`] is the values that are posted to a block from outside.
@@ -21,6 +23,9 @@
 
 mod answer;
 mod block;
+mod copies;
+mod copying;
+mod group_laws;
 mod input;
 mod jobs;
 mod laws;
@@ -32,9 +37,15 @@ mod peeks;
 mod planned;
 mod ports;
 mod traits;
+mod tuple_laws;
+mod tuples;
 mod work;
 
 pub use block::Block;
+pub use group_laws::{
+    batched_joins_are_parts, calls_keep_groups, calls_keep_groups_whole,
+    fresh_blocks_have_made_nothing,
+};
 pub use input::Input;
 pub use jobs::Answer;
 pub use laws::{
@@ -45,3 +56,4 @@ pub use laws::{
 pub use node::Node;
 pub use planned::{Route, port_of, ports_of, routes_of, rules_from};
 pub use traits::blocks_in_order_stand_as_their_ends;
+pub use tuple_laws::joins_are_parts;

@@ -412,7 +412,7 @@ impl Node {
 }
 
 /// Sets room aside in the journal for one more mark than those that may follow anyway.
-fn reserve_mark(journal: &mut Vec<Mark>, block: &Block) -> Result<(), AllocError>
+pub(crate) fn reserve_mark(journal: &mut Vec<Mark>, block: &Block) -> Result<(), AllocError>
     requires { vec_len journal.old + marks_due block.now ≤ vec_capacity journal.old }
     ensures items { journal.new.items ≡ journal.old.items }
     ensures len { vec_len journal.new ≡ vec_len journal.old }

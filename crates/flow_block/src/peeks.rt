@@ -4,14 +4,18 @@ ghost use Rattle.std.specs.Option.{IfNone};
 ghost use Rattle.std.specs.List.{list_all};
 ghost use Rattle.flow_intake.specs.Port.{PortState, coming};
 ghost use Rattle.flow_intake.specs.PortLaw.{has_ended};
-ghost use Rattle.flow_link.specs.Plan.{has_work};
+ghost use Rattle.flow_link.specs.Plan.{has_work, is_broadcast};
 ghost use Rattle.flow_outlet.specs.End.{is_waiting};
 ghost use Rattle.flow_outlet.specs.Outlet.{out_move, stage_at, is_empty};
-ghost use Rattle.flow_block.specs.Block.{port_at, port_in, is_batch};
+ghost use Rattle.flow_block.specs.Block.{port_at, port_in, is_batch, is_join};
 ghost use Rattle.flow_block.specs.Peeks.{may_work, may_make, may_begin, may_end, may_complete, next_fault, is_held_up, may_finish, could_stop};
-ghost use Rattle.flow_block.specs.Peeks.{fault_cause, fault_at_ports, is_pending, has_group, has_next, is_worked_off};
+ghost use Rattle.flow_spread.specs.Spread.{out_move as copy_move};
+ghost use Rattle.flow_block.specs.Peeks.{may_copy, is_copy_held_up, would_copy, has_all_given, is_copied_out, is_out_at_rest};
+ghost use Rattle.flow_block.specs.Peeks.{fault_cause, fault_at_ports, is_pending, has_group, has_next, is_worked_off, is_complete};
 
 use crate::block::Block;
+use crate::copies::copies_left;
+use flow_group::{has_tuple, is_join_complete};
 use flow_intake::Intake;
 use flow_link::{BlockKind, Move};
 
@@ -29,9 +33,18 @@ impl Block {
     {
         if is_batch(self.kind) {
             self.has_group()
+        } else if is_join(self.kind) {
+            has_tuple(&self.ports)
         } else {
-            holds_first(&self.ports)
+            holds_first(&self.ports) && self.may_copy()
         }
+    }
+
+    /// Whether it may make something of another message: a broadcast may when its links are done with the last one.
+    fn may_copy(&self) -> bool
+        ensures { result ≡ may_copy self.now }
+    {
+        !is_broadcast(self.kind) || self.copies.is_free() && self.copies.waiting_count() == 0
     }
 
     /// Whether a batch holds what it makes a row of: as many messages as a row has, or the rest when its port has
@@ -55,13 +68,15 @@ impl Block {
     {
         if is_batch(self.kind) {
             !self.has_group()
+        } else if is_join(self.kind) {
+            !has_tuple(&self.ports)
         } else {
             holds_nothing(&self.ports)
         }
     }
 
     /// Whether it would make its next outputs: it has no function, and hands on the message that it holds first, or makes
-    /// a row of those that it holds.
+    /// a row or a tuple of those that it holds.
     pub fn may_make(&self) -> bool
         ensures { result ≡ may_make self.now }
     {
@@ -126,7 +141,7 @@ impl Block {
     pub fn next_fault(&self) -> Option<u32>
         ensures { result ≡ next_fault self.now }
     {
-        if self.could_stop() && self.exits.is_at_rest() {
+        if self.could_stop() && self.is_out_at_rest() {
             self.fault_cause()
         } else {
             None
@@ -140,16 +155,81 @@ impl Block {
         self.could_stop() && self.exits.only_waits() && self.fault_cause().is_some()
     }
 
-    /// Whether it is done now: all its ports have completed, and it has nothing to work on and nothing to give.
+    /// Whether a block that copies would go on, fault or be done, but for offers that wait for their targets.
+    pub fn is_copy_held_up(&self) -> bool
+        ensures { result ≡ is_copy_held_up self.now }
+    {
+        self.would_copy()
+            || self.could_stop()
+                && self.copies.only_waits()
+                && (self.fault_cause().is_some() || self.has_all_given())
+    }
+
+    /// Whether it would copy its next message, but for offers of the last one that wait.
+    fn would_copy(&self) -> bool
+        ensures { result ≡ would_copy self.now }
+    {
+        self.stopped.is_none() && holds_first(&self.ports) && self.copies.is_free()
+    }
+
+    /// Whether its ports have completed. A join is complete, too, when a completed port has no message that waits for
+    /// partners.
+    #[tactic(auto, using(flow_link::proofs::FirstInOrder::all_is_every))]
+    pub fn is_complete(&self) -> bool
+        ensures { result ≡ is_complete self.now }
+    {
+        if is_join(self.kind) {
+            is_join_complete(&self.ports)
+        } else {
+            all_ended(&self.ports)
+        }
+    }
+
+    /// Whether it is done now: it is complete, has nothing to work on and nothing to give.
     #[tactic(auto, using(flow_link::proofs::FirstInOrder::all_is_every))]
     pub fn may_finish(&self) -> bool
         ensures { result ≡ may_finish self.now }
     {
         self.could_stop()
-            && all_ended(&self.ports)
+            && self.is_complete()
             && holds_nothing(&self.ports)
             && self.exits.left().is_empty()
             && self.exits.is_at_rest()
+            && self.is_copied_out()
+    }
+
+    /// Whether no copy is left to give, and none is under way.
+    fn is_copied_out(&self) -> bool
+        ensures { result ≡ is_copied_out self.now.copies }
+    {
+        copies_left(&self.copies) == 0 && self.copies.is_at_rest()
+    }
+
+    /// Whether it is complete, and has nothing to work on and nothing to give.
+    #[tactic(auto, using(flow_link::proofs::FirstInOrder::all_is_every))]
+    fn has_all_given(&self) -> bool
+        ensures { result ≡ has_all_given self.now }
+    {
+        self.is_complete()
+            && holds_nothing(&self.ports)
+            && self.exits.left().is_empty()
+            && copies_left(&self.copies) == 0
+    }
+
+    /// Whether nothing is under way over a link out of it.
+    fn is_out_at_rest(&self) -> bool
+        ensures { result ≡ is_out_at_rest self.now }
+    {
+        self.exits.is_at_rest() && self.copies.is_at_rest()
+    }
+
+    /// What the end of a link out of it over which copies go would do next.
+    pub fn next_copy(&self, place: usize) -> Option<Move>
+        requires { place < length self.now.copies.ends }
+        ensures { result ≡ copy_move place self.now.stopped (is_copy_held_up self.now) self.now.copies }
+    {
+        self.copies
+            .out_move(place, self.stopped, self.is_copy_held_up())
     }
 
     /// What the end of a link out of it would do next.
@@ -206,6 +286,20 @@ fn is_batch(kind: BlockKind) -> bool
     ensures { result ≡ is_batch kind }
 {
     kind == BlockKind::Batch
+}
+
+/// Whether blocks of this kind make tuples of the messages of their ports.
+fn is_join(kind: BlockKind) -> bool
+    ensures { result ≡ is_join kind }
+{
+    kind == BlockKind::Join
+}
+
+/// Whether blocks of this kind copy each message to all their links, over the last one.
+fn is_broadcast(kind: BlockKind) -> bool
+    ensures { result ≡ is_broadcast kind }
+{
+    kind == BlockKind::Broadcast
 }
 
 /// Whether a message waits at the first port.

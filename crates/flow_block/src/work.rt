@@ -56,7 +56,7 @@ impl Block {
 
     /// The message of a job whose result has not come back.
     pub fn job_message(&self, ticket: u64) -> &Value
-        requires alone { length self.now.ports ≡ 1 }
+        requires ports { 0 < length self.now.ports }
         requires out { is_out ticket self.now.jobs ≡ true }
         requires held { length self.now.jobs.slots ≤ length (held_by self.now) }
         ensures { result.now ≡ job_message ticket self.now }
@@ -66,7 +66,7 @@ impl Block {
 
     /// The message that the next job is of.
     pub fn begun_message(&self) -> &Value
-        requires alone { length self.now.ports ≡ 1 }
+        requires ports { 0 < length self.now.ports }
         requires more { length self.now.jobs.slots < length (held_by self.now) }
         ensures { result.now ≡ get_or (held_by self.now) (length self.now.jobs.slots) (Int (pos 0)) }
     {

@@ -15,7 +15,7 @@ use Rattle.flow_link.specs.LinkOk.{LinkOk}
 use Rattle.flow_link.specs.Lists.{every}
 use Rattle.flow_link.specs.Looks.{looking_in, looking_out}
 use Rattle.flow_link.specs.Phase.{phase_after}
-use Rattle.flow_link.specs.Plan.{link_in, has_work}
+use Rattle.flow_link.specs.Plan.{link_in, has_work, is_broadcast}
 use Rattle.flow_link.specs.Views.{SourceView, TargetView}
 use Rattle.flow_link.proofs.LooksKeepOrder.{looks_keep}
 use Rattle.flow_block.specs.Input.{input_view}
@@ -28,6 +28,8 @@ use Rattle.flow_block.specs.NodeKeeps.{NodesKept, MayCall}
 use Rattle.flow_block.specs.Peeks.{may_work, may_make, may_end, next_fault}
 use Rattle.flow_block.specs.Planned.{in_place, out_place, block_makes}
 use Rattle.flow_block.specs.ViewsMove.{CallsMoveViews, IsAboutIn, IsAboutOut}
+use Rattle.flow_link.proofs.ListTests.{never_both}
+use Rattle.flow_block.proofs.CopiesIdle.{none_broadcast}
 use Rattle.flow_core.specs.Events.{NetEvent, MayHappen, HasIds, LinkMay, is_of_source, node_after, out_call, in_call}
 use Rattle.flow_core.specs.Events.{input_call, input_after, with_node, with_line, source_peek, target_peek, peek_by}
 use Rattle.flow_core.specs.Events.{value_from, slot_after, source_moves, target_moves, source_sees, target_sees}
@@ -233,6 +235,8 @@ module _ {W : Type 0} (kept : NodesKept W) (jobs : JobsEndWell W) (views : Calls
           waits = both.0;
           all_out = ap (λ (slots : List Slot). every is_none slots) none;
           ids = ids;
+          copy_id = λ broadcast.
+              absurd (never_both (is_broadcast block.kind) broadcast (none_broadcast block.kind (keeps.nodes b low).shape.built));
         })
         (λ q j about. about) (λ j about. about)
 

@@ -5,7 +5,7 @@ use Rattle.std.proofs.lemmas.Bool.{and_parts, leb-true}
 use Rattle.flow_value.specs.declared.value.Value.{Value}
 use Rattle.flow_link.specs.declared.draft.BlockDef.{BlockDef}
 use Rattle.flow_link.specs.declared.draft.BlockKind.{BlockKind}
-use Rattle.flow_link.specs.declared.draft.BlockKind.TheVariants.{Batch}
+use Rattle.flow_link.specs.declared.draft.BlockKind.TheVariants.{Batch, Join, BatchedJoin}
 use Rattle.flow_link.specs.declared.plan.LinkSource.{LinkSource}
 use Rattle.flow_link.specs.declared.plan.LinkSource.TheVariants.{Block, Input}
 use Rattle.flow_link.specs.declared.plan.LinkTarget.{LinkTarget}
@@ -14,13 +14,14 @@ use Rattle.flow_link.specs.Facts.{facts_in}
 use Rattle.flow_link.specs.Layout.{Layout}
 use Rattle.flow_link.specs.Lists.{below}
 use Rattle.flow_link.specs.LooksKeep.{fresh_source, fresh_target}
-use Rattle.flow_link.specs.Plan.{block_in, link_in, port_count}
+use Rattle.flow_link.specs.Plan.{block_in, link_in, port_count, ports_by_kind}
 use Rattle.flow_link.specs.PlanFaults.{is_name, is_in, allows, input_rule, output_rule, capacity_rule, work_rule, lanes_rule, size_rule, ports_rule, greedy_rule, keys_fit, ranges_fit, options_fit}
 use Rattle.flow_link.specs.Trace.{InputTrace, nothing_posted}
 use Rattle.flow_link.proofs.ListTests.{length_numbers}
 use Rattle.flow_link.proofs.LooksKeepOrder.{looks_keep}
 use Rattle.flow_intake.specs.Port.{fresh_end as fresh_in, end_in as in_at, fresh_port}
 use Rattle.flow_outlet.specs.End.{fresh_end, no_end}
+use Rattle.flow_block.specs.Copies.{shared_rules}
 use Rattle.flow_block.specs.Block.{is_batch}
 use Rattle.flow_block.specs.Fresh.{FreshInOrder}
 use Rattle.flow_block.specs.Input.{fresh_input, no_input, input_view}
@@ -28,6 +29,7 @@ use Rattle.flow_block.specs.InputKeeps.{InputLaw, InputsKeep}
 use Rattle.flow_block.specs.Node.{in_view, out_view, view_of_in, view_of_out}
 use Rattle.flow_block.specs.NodeLaw.{NodeLaw}
 use Rattle.flow_block.specs.Planned.{fresh_node, port_of_plan, links_from, links_to, rule_of, in_place, out_place, input_place}
+use Rattle.flow_block.proofs.KindsBuilt.{built_kept}
 use Rattle.flow_core.specs.Keeps.{LineKeeps}
 use Rattle.flow_core.specs.State.{NetState, fresh_net, fresh_line, source_from, target_from, no_node}
 use Rattle.flow_core.specs.Statements.{FreshKeeps}
@@ -82,6 +84,20 @@ some_size block fit batch =
     some_between block.size (size_required block.kind (is_some block.size) batch (and_parts front sized most.0).1)
     (and_parts (capacity && lanes) size outer.0).1
 
+-- each block has a port
+port_by_kind : (kind : BlockKind) (ports : Option ℕ) → is_in 2 3 ports ≡ true → 0 < ports_by_kind kind ports
+port_by_kind Join None within = omega arith
+port_by_kind Join (Some n) within = let low = leb-true 2 n (and_parts (leb 2 n) (leb n 3) within).0 in omega (arith, low)
+port_by_kind BatchedJoin None within = omega arith
+port_by_kind BatchedJoin (Some n) within = let low = leb-true 2 n (and_parts (leb 2 n) (leb n 3) within).0 in omega (arith, low)
+port_by_kind _ ports within = omega arith
+
+some_port : {W : Type 0} (block : BlockDef W) → options_fit block ≡ true → 0 < port_count block
+some_port block fit =
+    let ranges = (and_parts (is_name block.name && keys_fit block) (ranges_fit block) fit).1 in
+    let front = is_in 1 2147483647 block.capacity && is_in 1 16 block.lanes && is_in 1 4096 block.size in
+    port_by_kind block.kind block.ports (and_parts front (is_in 2 3 block.ports) ranges).1
+
 -- what is made of a number stands at that number's place
 mapped_at : {A : Type 0} (f : ℕ → A) (count k : ℕ) (none : A) → k < count → get_or (map f (below count)) k none ≡ f k
 mapped_at f count k none small =
@@ -99,7 +115,8 @@ module _ {W : Type 0} (layout : Layout W) where
   -- each end of a fresh node is fresh
   out_fresh : (k b : ℕ) → out_view k (fresh_node layout b) ≡ fresh_source
   out_fresh k b =
-      holds_mapped (λ end. view_of_out [] end ≡ fresh_source) fresh_end (map (rule_of layout) (links_from layout b)) k
+      holds_mapped (λ end. view_of_out [] end ≡ fresh_source) fresh_end
+      (shared_rules (block_in layout.blocks b).kind (map (rule_of layout) (links_from layout b))) k
       no_end refl (λ rule. refl)
 
   in_fresh : (p k b : ℕ) → in_view p k (fresh_node layout b) ≡ fresh_target
@@ -143,7 +160,8 @@ fresh_keeps blocks inputs layout meaning runs posted count = record {
   nodes = λ b here.
       subst (NodeLaw layout meaning b)
       (sym (mapped_at (fresh_node layout) (length layout.blocks) b no_node here))
-      (blocks layout meaning b (runs.built b here)
+      (blocks layout meaning b (built_kept (block_in layout.blocks b).kind (runs.built b here))
+      (some_port (block_in layout.blocks b) (runs.well_formed.options b here)) (runs.freely b here)
       (some_lane (block_in layout.blocks b) (runs.well_formed.options b here))
       (some_size (block_in layout.blocks b) (runs.well_formed.options b here)));
   inputs = λ b here is.

@@ -7,14 +7,12 @@ use Rattle.std.proofs.lemmas.List.{get_or-map, get_or_default}
 use Rattle.std.proofs.lemmas.List.Folds.{find-append}
 use Rattle.flow_link.specs.declared.draft.BlockDef.{BlockDef}
 use Rattle.flow_link.specs.declared.draft.LinkDef.{LinkDef}
-use Rattle.flow_link.specs.declared.draft.BlockKind.{BlockKind}
-use Rattle.flow_link.specs.declared.draft.BlockKind.TheVariants.{Join}
 use Rattle.flow_link.specs.declared.plan.Link.{Link}
 use Rattle.flow_link.specs.declared.plan.PlanFault.{PlanFault}
 use Rattle.flow_link.specs.declared.plan.PlanFault.TheVariants.{Limit, DuplicateName, UnknownBlock, Port, NoOutput, BadOption, CapacityBelowSize, SharedSource, Cycle}
 use Rattle.flow_link.specs.declared.plan.Place.TheVariants.{Block, Link as at_link}
 use Rattle.flow_link.specs.Lists.{numbers_from, below, some}
-use Rattle.flow_link.specs.Plan.{block_named, block_in, link_in, named_link, named_links, planned_links, reserves_by_kind}
+use Rattle.flow_link.specs.Plan.{block_named, block_in, link_in, named_link, named_links, planned_links, is_reserving}
 use Rattle.flow_link.specs.PlanFaults.{lacks_port, lacks_output, options_fit, is_in, holds_no_group, stands, walks, faults_in_order, first_plan_fault}
 use Rattle.flow_link.specs.NotBuilt.{stands_now, first_at, name_faults, end_faults, option_faults, is_built_kind, is_built_block, is_bad_block, first_fault_now}
 use Rattle.flow_link.specs.Layout.{IsLaidOut}
@@ -127,20 +125,18 @@ fails_from test first (suc count) k low e =
     [ true ↦ λ here wrong. cc | false ↦ λ here rest. fails_after test first count k low here (λ j small. fails_from test (suc first) count j small rest) ] in
     go (test first) refl e
 
-kind_of_built : (a b c : Bool) → (a || not (b && c)) ≡ false → b ≡ true
-kind_of_built true b c h = cc
-kind_of_built false true c h = refl
-kind_of_built false false c h = cc
+last_of_built : (a b c d : Bool) → (a || not (b && c && not d)) ≡ false → d ≡ false
+last_of_built true b c d h = cc
+last_of_built false true true true h = cc
+last_of_built false true true false h = refl
+last_of_built false true false d h = cc
+last_of_built false false c d h = cc
 
 module _ {W : Type 0} where
-  built_kind_of : (block : BlockDef W) → is_bad_block block ≡ false → is_built_kind block.kind ≡ true
+  -- what is built does not reserve
+  built_takes : (block : BlockDef W) → is_bad_block block ≡ false → is_reserving block ≡ false
   unfolding is_bad_block
-  built_kind_of block good = kind_of_built (not (options_fit block)) (is_built_kind block.kind) (not block.output) good
-
--- what is built does not reserve
-built_takes : (kind : BlockKind) (greedy : Option Bool) → is_built_kind kind ≡ true → reserves_by_kind kind greedy ≡ false
-built_takes Join greedy e = cc
-built_takes _ greedy e = refl
+  built_takes block good = last_of_built (not (options_fit block)) (is_built_kind block.kind) (not block.output) (is_reserving block) good
 
 -- the first fault of each group, from the first place of each fault
 module _ {W : Type 0} (blocks : List (BlockDef W)) (links : List LinkDef) where
@@ -200,7 +196,7 @@ with_some a e f x y = refl
 -- where every option is as its kind has it and is built, no block reserves
 module _ {W : Type 0} (blocks : List (BlockDef W)) (links : List LinkDef) where
   pub good_blocks : find (stands_now blocks links) (option_faults blocks links) ≡ None
-      → (k : ℕ) → k < length blocks → is_built_kind (block_in blocks k).kind ≡ true
+      → (k : ℕ) → k < length blocks → is_reserving (block_in blocks k) ≡ false
   good_blocks e k low =
       let test = stands_now blocks links in
       let bad = λ (b : ℕ). BadOption (Block b) in
@@ -209,7 +205,7 @@ module _ {W : Type 0} (blocks : List (BlockDef W)) (links : List LinkDef) where
       let none : find (λ b. test (bad b)) (below (length blocks)) ≡ None =
       none_image bad _ (sym (find_of_images test bad (below (length blocks))) ∙ front) in
       let zeroth : 0 + k ≡ k = omega arith in
-      built_kind_of (block_in blocks k) (ap (λ j. is_bad_block (block_in blocks j)) (sym zeroth) ∙ fails_from (λ b. test (bad b)) 0 (length blocks) k low none)
+      built_takes (block_in blocks k) (ap (λ j. is_bad_block (block_in blocks j)) (sym zeroth) ∙ fails_from (λ b. test (bad b)) 0 (length blocks) k low none)
 
   -- the first batch that has no room for a group
   first_small_batch : (small : Option ℕ) → position (λ block. holds_no_group block.kind block.capacity block.size) blocks ≡ small
@@ -224,7 +220,7 @@ module _ {W : Type 0} (blocks : List (BlockDef W)) (links : List LinkDef) where
       let test = stands_now blocks links in
       find_of_images test SharedSource (below (length blocks))
       ∙ ap (option_map SharedSource) (none_below (λ b. test (SharedSource b)) (length blocks)
-      (λ k low. rw (built_takes (block_in blocks k).kind (block_in blocks k).greedy (good_blocks e k low)) refl))
+      (λ k low. rw (good_blocks e k low) refl))
 
   -- the first fault, from the first of each group
   pub first_fault_of : (names ends options : Option PlanFault) (small : Option ℕ) (cycle : Bool)

@@ -3,12 +3,12 @@ use Rattle.std.specs.Prelude.{ℕ, Bool, true, false, not, ◌&&◌, ◌||◌, L
 use Rattle.flow_link.specs.declared.draft.BlockDef.{BlockDef}
 use Rattle.flow_link.specs.declared.draft.LinkDef.{LinkDef}
 use Rattle.flow_link.specs.declared.draft.BlockKind.{BlockKind}
-use Rattle.flow_link.specs.declared.draft.BlockKind.TheVariants.{Buffer, Action, Transform, TransformMany, Batch}
+use Rattle.flow_link.specs.declared.draft.BlockKind.TheVariants.{Buffer, Action, Transform, TransformMany, Batch, Join}
 use Rattle.flow_link.specs.declared.plan.Place.TheVariants.{Block, Link as at_link}
 use Rattle.flow_link.specs.declared.plan.PlanFault.{PlanFault}
 use Rattle.flow_link.specs.declared.plan.PlanFault.TheVariants.{Limit, DuplicateName, UnknownBlock, Port, NoOutput, BadOption}
 use Rattle.flow_link.specs.Lists.{below}
-use Rattle.flow_link.specs.Plan.{block_in}
+use Rattle.flow_link.specs.Plan.{block_in, is_reserving}
 use Rattle.flow_link.specs.PlanFaults.{stands, options_fit, faults_in_order}
 
 abbrev pub is_built_kind : BlockKind → Bool
@@ -17,11 +17,12 @@ is_built_kind Action = true
 is_built_kind Transform = true
 is_built_kind TransformMany = true
 is_built_kind Batch = true
+is_built_kind Join = true
 is_built_kind _ = false
 
--- nothing that the caller receives
+-- a kind that is built; it gives nothing to the caller, and takes each message without reserving it first
 abbrev pub is_built_block : {W : Type 0} → BlockDef W → Bool
-is_built_block block = is_built_kind block.kind && not block.output
+is_built_block block = is_built_kind block.kind && not block.output && not (is_reserving block)
 
 -- the block has a name or an option that its kind does not have, or one that is not built
 unfoldable pub is_bad_block : {W : Type 0} → BlockDef W → Bool

@@ -1,6 +1,6 @@
 //! What makes a draft a plan: the faults in their order, a function each.
 //!
-//! One of the nine cannot come first yet: SharedSource is of a join, and that kind is not built.
+//! One of the nine cannot come first yet: SharedSource is of a join that reserves, and that is not built.
 ghost use Rattle.std.specs.Prelude.{◌≡◌, ◌<◌, [], length, ◌||◌, not, find, position, IfOk, IfErr, IfSome, OnOk, None};
 ghost use Rattle.std.specs.Prelude.{is_none};
 ghost use Rattle.flow_link.specs.declared.plan.PlanFault.TheVariants.{Limit, DuplicateName};

@@ -1,7 +1,7 @@
 //! Which options each kind of block has, and their ranges.
 ghost use Rattle.std.specs.Prelude.{◌≡◌};
 ghost use Rattle.std.specs.List.{list_all};
-ghost use Rattle.flow_link.specs.Plan.{ports_by_kind};
+ghost use Rattle.flow_link.specs.Plan.{ports_by_kind, reserves_by_kind};
 ghost use Rattle.flow_link.specs.PlanFaults.{is_between, is_name, is_name_byte, is_in, allows, input_rule, output_rule};
 ghost use Rattle.flow_link.specs.PlanFaults.{capacity_rule, work_rule, lanes_rule, size_rule, ports_rule, greedy_rule};
 ghost use Rattle.flow_link.specs.PlanFaults.{keys_fit, ranges_fit, options_fit, holds_no_group};
@@ -32,7 +32,7 @@ pub fn options_fit<W>(block: &BlockDef<W>) -> bool
 pub fn is_built_block<W>(block: &BlockDef<W>) -> bool
     ensures { result ≡ is_built_block block.now }
 {
-    is_built_kind(block.kind) && !block.output
+    is_built_kind(block.kind) && !block.output && !reserves(block.kind, block.greedy)
 }
 
 /// Whether the link's number of messages is in its range.
@@ -62,6 +62,16 @@ pub fn port_count(kind: BlockKind, ports: Option<u32>) -> u32
     }
 }
 
+/// Whether a block reserves its messages before it takes them.
+fn reserves(kind: BlockKind, greedy: Option<bool>) -> bool
+    ensures { result ≡ reserves_by_kind kind greedy }
+{
+    match kind {
+        BlockKind::Join => !greedy.unwrap_or(true),
+        _ => false,
+    }
+}
+
 fn is_built_kind(kind: BlockKind) -> bool
     ensures { result ≡ is_built_kind kind }
 {
@@ -72,6 +82,7 @@ fn is_built_kind(kind: BlockKind) -> bool
             | BlockKind::Transform
             | BlockKind::TransformMany
             | BlockKind::Batch
+            | BlockKind::Join
     )
 }
 

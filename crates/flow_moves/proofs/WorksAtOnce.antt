@@ -1,18 +1,19 @@
 -- A job that begins and ends at once, while nothing else is worked on: what becomes of its block is what its result makes of it.
-use Rattle.std.proofs.Common.{◌≡◌, ℕ, ◌-◌, ◌&&◌, ltb, Bool, true, false, List, [], ◌∷◌, ◌++◌, length, get_or, set, Option, Some, None, is_none, Result, Ok, Err, pos, refl, ap, ap₂, sym, subst, ◌∙◌, append-nil, arith}
+use Rattle.std.proofs.Common.{◌≡◌, ℕ, ◌<◌, drop, slice_index_or, ◌-◌, ◌&&◌, ltb, Bool, true, false, List, [], ◌∷◌, ◌++◌, length, get_or, set, Option, Some, None, is_none, Result, Ok, Err, pos, refl, ap, ap₂, sym, subst, ◌∙◌, append-nil, arith}
 use Rattle.std.proofs.lemmas.Bool.{and_parts}
 use Rattle.flow_value.specs.declared.value.Value.{Value}
 use Rattle.flow_value.specs.declared.value.Value.TheVariants.{Int}
 use Rattle.flow_link.specs.declared.draft.BlockKind.{BlockKind}
 use Rattle.flow_link.specs.declared.draft.BlockKind.TheVariants.{Buffer, Action}
 use Rattle.flow_link.specs.Plan.{has_work}
+use Rattle.flow_outlet.specs.Outlet.{lacks_ids}
 use Rattle.flow_block.specs.Block.{BlockState, with_jobs, held_by, made_of, put_by_kind, values_of_result, keeps_results, fails, yields_all, yields_where, put_where, job_message}
 use Rattle.flow_block.specs.Jobs.{Slot, comes_out}
 use Rattle.flow_block.specs.JobsEnd.{job_result}
 use Rattle.flow_block.specs.Node.{NodeState, with_block}
 use Rattle.flow_block.specs.Peeks.{may_work, may_begin}
 use Rattle.flow_block.proofs.GoingOn.{may_work_tells}
-use Rattle.flow_block.proofs.JobsEnd.{with_slots, keeps_slots}
+use Rattle.flow_block.proofs.JobsEnd.{with_slots, keeps_slots, put_nothing}
 use Rattle.flow_block.proofs.JobsHold.{makes_by_work}
 use Rattle.flow_moves.specs.AtOnce.{begun, works_at_once, works_out, put_at_once}
 
@@ -28,6 +29,10 @@ begin_tells block e =
     let inner = and_parts (may_work block && has_work block.kind) few outer.0 in
     let both = and_parts (may_work block) (has_work block.kind) inner.0 in
     record { works = both.1; no_fault = (may_work_tells block both.0).no_fault }
+
+-- only a block with a function begins one
+pub begin_works : (block : BlockState) → may_begin block ≡ true → has_work block.kind ≡ true
+begin_works block e = (begin_tells block e).works
 
 -- the first slot of one, and the message that is held first
 one_slot : (slots : List Slot) (slot : Slot) (k : ℕ) → slots ≡ [] → k ≡ 0 → set (slots ++ None ∷ []) k slot ≡ slot ∷ []
@@ -94,3 +99,20 @@ module _ (result : Value → Result (List Value) ℕ) (node : NodeState) (may : 
       ap (λ (slots : List Slot). put_where (is_none block.fault) block.kind slots) slots_are
       ∙ ap (λ (well : Bool). put_where well block.kind (Some (result value) ∷ [])) goes
       ∙ out_of_one block.kind (result value)
+
+  pub done_is : (made : Result (List Value) ℕ) → made ≡ result value
+      → with_block (works_out made block) node ≡ works_at_once result node
+  done_is made is = ap (λ (m : Result (List Value) ℕ). with_block (works_out m block) node) is ∙ sym worked_is
+
+  -- a fault puts nothing into the exits
+  pub failed_ids : (number : ℕ) → Err number ≡ result value → lacks_ids (put_at_once result node) block.exits ≡ false
+  failed_ids number is =
+      ap (λ (values : List Value). lacks_ids values block.exits)
+      (put_is ∙ ap (λ (made : Result (List Value) ℕ). put_by_kind block.kind (values_of_result made)) (sym is) ∙ put_nothing block.kind)
+
+-- the message at the front is held first
+pub front_held : (items held : List Value) (message : Value) → items ≡ held → 0 < length items
+    → message ≡ slice_index_or items 0 message → held ≡ message ∷ drop 1 held
+front_held [] held message is some first = absurd (omega (arith, some))
+front_held (value ∷ rest) held message is some first =
+    sym is ∙ ap (λ (v : Value). v ∷ rest) (sym first) ∙ ap (λ (vs : List Value). message ∷ drop 1 vs) is

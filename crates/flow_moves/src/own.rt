@@ -4,10 +4,10 @@ ghost use Rattle.std.specs.Prelude.{◌≤◌, ◌↔◌, None, OnOk, OnErr, IfE
 ghost use Rattle.flow_value.specs.declared.value.Value.{Value};
 ghost use Rattle.flow_link.specs.declared.draft.BlockKind.TheVariants.{Buffer};
 ghost use Rattle.flow_link.specs.Plan.{has_work};
-ghost use Rattle.flow_link.specs.NotBuilt.{is_built_kind};
+ghost use Rattle.flow_block.specs.Kinds.{is_kept_kind};
 ghost use Rattle.flow_outlet.specs.Outlet.{lacks_ids};
 ghost use Rattle.flow_outlet.specs.declared.fault.OutletFault.TheVariants.{Ids};
-ghost use Rattle.flow_block.specs.Block.{held_by, put_by_kind, put_next, ends_job, put_by_job};
+ghost use Rattle.flow_block.specs.Block.{held_by, is_join, put_by_kind, put_next, ends_job, put_by_job};
 ghost use Rattle.flow_block.specs.Jobs.{has_ticket, is_out, is_front_back};
 ghost use Rattle.flow_block.specs.JobsEnd.{after_job, put_at_end};
 ghost use Rattle.flow_block.specs.Node.{NodeCall, after, with_block};
@@ -26,13 +26,15 @@ use flow_value::{Value, Work};
 use std::alloc::{AllocError, Global};
 
 impl Parts {
-    /// A block without a function makes its next outputs: it hands on the message that waits longest, or makes a row of
-    /// those that wait. Where message ids are used up or memory is out, nothing has changed.
+    /// A block without a function makes its next outputs: it hands on the message that waits longest, or makes a row or a
+    /// tuple of those that wait. Where message ids are used up or memory is out, nothing has changed.
     pub fn make(&mut self, alloc: Global, block: usize) -> Result<(), OutletFault>
         requires there { block < length self.old.nodes }
-        requires alone { length (node_at self.old block).block.ports ≡ 1 }
+        requires alone { is_join (node_at self.old block).block.kind ≡ false →
+            length (node_at self.old block).block.ports ≡ 1 }
+        requires ports { 0 < length (node_at self.old block).block.ports }
         requires waits { may_make (node_at self.old block).block ≡ true }
-        requires built { is_built_kind (node_at self.old block).block.kind ≡ true }
+        requires built { is_kept_kind (node_at self.old block).block.kind ≡ true }
         ensures done { OnOk result ((result : Value → Result (List Value) ℕ) →
             self.new ≡ with_node block (after result NodeCall.make) self.old) }
         ensures ids { OnOk result ((result : Value → Result (List Value) ℕ) → lacks_ids (put_next result
@@ -67,7 +69,7 @@ impl Parts {
         requires alone { length (node_at self.old block).block.ports ≡ 1 }
         requires waits { may_begin (node_at self.old block).block ≡ true }
         requires idle { (node_at self.old block).block.jobs.slots ≡ [] }
-        requires built { is_built_kind (node_at self.old block).block.kind ≡ true }
+        requires built { is_kept_kind (node_at self.old block).block.kind ≡ true }
         ensures done { OnOk result (self.new ≡ with_node block
             (works_at_once (results_by (option_map (λ work. work.now) work.entry)
             (node_at self.old block).block.kind W.meaning)) self.old) }
@@ -173,9 +175,10 @@ impl Parts {
 
 /// A block without a function makes its next outputs. Where message ids are used up or memory is out, nothing has changed.
 fn make(node: &mut Node, alloc: Global) -> Result<(), OutletFault>
-    requires alone { length node.old.block.ports ≡ 1 }
+    requires alone { is_join node.old.block.kind ≡ false → length node.old.block.ports ≡ 1 }
+    requires ports { 0 < length node.old.block.ports }
     requires waits { may_make node.old.block ≡ true }
-    requires built { is_built_kind node.old.block.kind ≡ true }
+    requires built { is_kept_kind node.old.block.kind ≡ true }
     ensures done { OnOk result ((result : Value → Result (List Value) ℕ) →
         node.new ≡ after result NodeCall.make node.old) }
     ensures ids { OnOk result ((result : Value → Result (List Value) ℕ) →
@@ -186,7 +189,14 @@ fn make(node: &mut Node, alloc: Global) -> Result<(), OutletFault>
 {
     match node.block().kind() {
         BlockKind::Batch => node.make_row(alloc),
-        _ => node.hand_on(),
+        BlockKind::Join => node.make_tuple(alloc),
+        BlockKind::Buffer
+        | BlockKind::Broadcast
+        | BlockKind::WriteOnce
+        | BlockKind::Action
+        | BlockKind::Transform
+        | BlockKind::TransformMany
+        | BlockKind::BatchedJoin => node.hand_on(),
     }
 }
 
@@ -201,7 +211,7 @@ fn work_at_once<W: Work>(
     requires alone { length node.old.block.ports ≡ 1 }
     requires waits { may_begin node.old.block ≡ true }
     requires idle { node.old.block.jobs.slots ≡ [] }
-    requires built { is_built_kind node.old.block.kind ≡ true }
+    requires built { is_kept_kind node.old.block.kind ≡ true }
     ensures done { OnOk result (node.new ≡ works_at_once
         (results_by (option_map (λ work. work.now) work.entry) node.old.block.kind W.meaning) node.old) }
     ensures ids { OnOk result (lacks_ids (put_at_once
@@ -269,7 +279,7 @@ fn yield_results(node: &mut Node, values: Vec<Value>) -> Result<(), OutletFault>
     requires waits { 0 < length (held_by node.old.block) }
     requires idle { node.old.block.jobs.slots ≡ [] }
     requires ticket { has_ticket node.old.block.jobs ≡ true }
-    requires built { is_built_kind node.old.block.kind ≡ true }
+    requires built { is_kept_kind node.old.block.kind ≡ true }
     requires works { node.old.block.kind ≢ Buffer }
     ensures done { OnOk result (node.new ≡ with_block (works_out (Ok values.items) node.old.block) node.old) }
     ensures ids { OnOk result (lacks_ids (put_by_kind node.old.block.kind values.items)

@@ -1,14 +1,22 @@
 -- What the finders of events tell: that an end of a link is where its way says, that what it would do is due, and when a block
 -- would do nothing.
-use Rattle.std.proofs.Common.{◌≡◌, ℕ, ◌+◌, ◌<◌, ◌≤◌, Bool, true, false, List, length, get_or, map, Option, Some, None}
+use Rattle.std.proofs.Common.{◌≡◌, ℕ, ◌+◌, ◌<◌, ◌≤◌, leb, ◌&&◌, Bool, true, false, List, length, get_or, map, Option, Some, None}
 use Rattle.std.proofs.Common.{IsTrue, ◌↔◌, Result, ap, sym, ◌∙◌, subst, arith, ⊎_elim}
+use Rattle.std.proofs.Math.Bridge.{le_prop}
+use Rattle.std.proofs.Math.Logic.{∥∥₁_elim}
 use Rattle.std.proofs.Math.Nat.{eq-or-lt_of_le}
+use Rattle.std.proofs.lemmas.Bool.{and_parts, leb-true}
 use Rattle.std.proofs.lemmas.List.{length-map}
 use Rattle.flow_value.specs.declared.value.Value.{Value}
 use Rattle.flow_value.specs.declared.work.WorkFault.{WorkFault}
+use Rattle.flow_link.specs.declared.draft.BlockDef.{BlockDef}
+use Rattle.flow_link.specs.declared.draft.BlockKind.{BlockKind}
+use Rattle.flow_link.specs.declared.draft.BlockKind.TheVariants.{Join, BatchedJoin}
 use Rattle.flow_link.specs.declared.phase.Move.{Move}
 use Rattle.flow_link.specs.declared.plan.Plan.{Plan}
 use Rattle.flow_link.specs.Layout.{Layout}
+use Rattle.flow_link.specs.Plan.{block_in, port_count, ports_by_kind}
+use Rattle.flow_link.specs.PlanFaults.{is_name, is_in, keys_fit, ranges_fit, options_fit}
 use Rattle.flow_link.specs.Planned.{layout_of}
 use Rattle.flow_link.specs.Lists.{below}
 use Rattle.flow_link.proofs.ListTests.{length_numbers}
@@ -19,9 +27,9 @@ use Rattle.flow_block.specs.Block.{BlockState}
 use Rattle.flow_block.specs.Peeks.{may_make, may_begin, may_end, may_complete, next_fault, may_finish}
 use Rattle.flow_core.specs.Events.{NetEvent, LinkMay, MayHappen, is_of_source}
 use Rattle.flow_core.specs.Keeps.{NetKeeps}
-use Rattle.flow_core.specs.State.{NetState}
+use Rattle.flow_core.specs.State.{NetState, node_at}
 use Rattle.flow_moves.specs.Ready.{IsThere, SourceIsThere, TargetIsThere}
-use Rattle.flow_moves.specs.Statements.{IsPlanned, HasNothingToDo, source_would, target_would}
+use Rattle.flow_moves.specs.Statements.{HasNothingToDo, source_would, target_would}
 use Rattle.flow_moves.specs.Ways.{lacks_id, source_next, target_next}
 use Rattle.flow_exec.specs.Works.{works_of}
 use Rattle.flow_moves.proofs.PlansRun.{plan_runs}
@@ -131,26 +139,44 @@ module _ {W : Type 0} (works : W → Value → Result (List Value) WorkFault) (p
 
 -- A block
 
--- it has one port, so it would do nothing by itself where it would do none of these
-pub nothing_to_do : {W : Type 0} (layout : Layout W) (b : ℕ) (block : BlockState) → IsPlanned layout b block
-    → may_make block ≡ false → may_begin block ≡ false → ((ticket : ℕ) → may_end ticket block ≡ false)
-    → may_complete 0 block ≡ false → next_fault block ≡ None → may_finish block ≡ false
+-- a plan gives no block more than three ports
+ports_within : (kind : BlockKind) (ports : Option ℕ) → is_in 2 3 ports ≡ true → ports_by_kind kind ports ≤ 3
+ports_within Join None within = omega arith
+ports_within Join (Some n) within = leb-true n 3 (and_parts (leb 2 n) (leb n 3) within).1
+ports_within BatchedJoin None within = omega arith
+ports_within BatchedJoin (Some n) within = leb-true n 3 (and_parts (leb 2 n) (leb n 3) within).1
+ports_within _ ports within = omega arith
+
+at_most_three : {W : Type 0} (block : BlockDef W) → options_fit block ≡ true → port_count block ≤ 3
+at_most_three block fit =
+    let ranges = (and_parts (is_name block.name && keys_fit block) (ranges_fit block) fit).1 in
+    let front = is_in 1 2147483647 block.capacity && is_in 1 16 block.lanes && is_in 1 4096 block.size in
+    ports_within block.kind block.ports (and_parts front (is_in 2 3 block.ports) ranges).1
+
+pub few_ports : {W : Type 0} (plan : Plan W) (meaning : ℕ → Value → Result (List Value) ℕ) (net : NetState)
+    → ∥ NetKeeps (layout_of plan) meaning net ∥₁ → (b : ℕ) → b < length (layout_of plan).blocks
+    → length (node_at net b).block.ports ≤ 3
+few_ports plan meaning net kept b low =
+    ∥∥₁_elim kept le_prop (λ keeps.
+    subst (λ (count : ℕ). count ≤ 3) (sym (keeps.nodes b low).shape.port_count_is)
+    (at_most_three (block_in plan.blocks.items b) (plan.well_formed.options b low)))
+
+-- it would do nothing by itself where it would do none of these
+pub nothing_to_do : (block : BlockState)
+    → may_make block ≡ false → may_begin block ≡ false → ((ticket : ℕ) → may_end ticket block ≡ false) → IsOpen block
     → HasNothingToDo block
-nothing_to_do layout b block planned make begin end complete fault finish = record {
+nothing_to_do block make begin end is_open = record {
   make = make;
   begin = begin;
   end = end;
-  complete = λ p low.
-      let first : 0 ≡ p = omega (arith, low, planned.alone) in
-      subst (λ (q : ℕ). may_complete q block ≡ false) first complete;
-  fault = fault;
-  finish = finish;
+  complete = is_open.ports;
+  fault = is_open.fault;
+  finish = is_open.goes_on;
 }
 
 -- and so where it would make nothing, and is found to be open
-pub nothing_where_open : {W : Type 0} (layout : Layout W) (b : ℕ) (block : BlockState) → IsPlanned layout b block
+pub nothing_where_open : (block : BlockState)
     → may_make block ≡ false → may_begin block ≡ false → ((ticket : ℕ) → may_end ticket block ≡ false)
     → (found : Option Due) → IfNone found (IsOpen block) → IfNone found (HasNothingToDo block)
-nothing_where_open plan b block planned make begin end None is_open =
-    nothing_to_do plan b block planned make begin end is_open.port is_open.fault is_open.goes_on
-nothing_where_open plan b block planned make begin end (Some due) is_open = is_open
+nothing_where_open block make begin end None is_open = nothing_to_do block make begin end is_open
+nothing_where_open block make begin end (Some due) is_open = is_open

@@ -12,7 +12,7 @@ use Rattle.flow_link.specs.declared.trace.Mark.{Mark}
 use Rattle.flow_link.specs.declared.trace.Mark.TheVariants.{Took, Gave, Complete, Fault, Done}
 use Rattle.flow_link.specs.declared.trace.Outcome.{Outcome}
 use Rattle.flow_link.specs.declared.trace.Outcome.TheVariants as outcome
-use Rattle.flow_link.specs.Endings.{stops}
+use Rattle.flow_link.specs.Endings.{stops, is_complete as is_run_complete}
 use Rattle.flow_link.specs.Layout.{Layout}
 use Rattle.flow_link.specs.Lists.{is_empty}
 use Rattle.flow_link.specs.Plan.{block_in, port_count, no_block}
@@ -25,8 +25,13 @@ use Rattle.flow_block.specs.Input.{no_input, input_trace}
 use Rattle.flow_block.specs.Node.{node_trace}
 use Rattle.flow_block.specs.NodeLaw.{outcome_in, NodeLaw}
 use Rattle.flow_block.specs.Planned.{input_place}
+use Rattle.flow_block.specs.Peeks.{is_complete}
+use Rattle.flow_block.proofs.CompleteSeen.{complete_told}
 use Rattle.flow_block.proofs.JournalTells.{done_marked, goes_on}
-use Rattle.flow_block.proofs.KindsBuilt.{has_one_port}
+use Rattle.std.specs.Coded.{codes}
+use Rattle.flow_value.specs.contracts.value.Value as content
+use Rattle.flow_block.specs.Node.{left_in}
+use Rattle.flow_block.proofs.CopiesIdle.{left_is_shared}
 use Rattle.flow_core.specs.Keeps.{NetKeeps}
 use Rattle.flow_core.specs.State.{NetState, no_node, node_at}
 use Rattle.flow_core.proofs.PlacesTell.{count_within}
@@ -69,26 +74,26 @@ no_fault_of_done (Complete p ∷ marks) last e = no_fault_of_done marks last e
 no_fault_of_done (Fault n ∷ marks) last e = absurd (cc)
 no_fault_of_done (Done ∷ marks) last e = no_fault_in_none marks last
 
--- the port of a block that goes on has ended where it is complete
-going_state : (complete faulted done ended : Bool) → faulted ≡ false → done ≡ false
-    → ended ≡ (complete || faulted || done) → state_from None done complete ≡ state_told None ended
-going_state complete true done ended no_fault not_done e = absurd (cc)
-going_state complete false true ended no_fault not_done e = absurd (cc)
-going_state true false false ended no_fault not_done e = ap (state_told None) (sym e)
-going_state false false false ended no_fault not_done e = ap (state_told None) (sym e)
+-- a block that goes on is completing where it is complete
+going_state : (told complete : Bool) → told ≡ complete → state_from None false told ≡ state_told None complete
+going_state true true e = refl
+going_state false false e = refl
+going_state true false e = absurd (cc)
+going_state false true e = absurd (cc)
 
--- so how it stopped and whether its port has ended tell its state
-state_where : (marks : List Mark) (stopped : Option Outcome) (ended : Bool) → stops marks ≡ true
-    → stopped ≡ outcome_in marks → ended ≡ has_ended 0 marks → state_by marks ≡ state_told stopped ended
-state_where marks (Some (outcome.Faulted n)) ended last how e =
-    ap (λ (fault : Option ℕ). state_from fault (is_done marks) (has_complete 0 marks)) (fault_found marks n (sym how))
-state_where marks (Some outcome.Done) ended last how e =
-    ap₂ (λ (fault : Option ℕ) (done : Bool). state_from fault done (has_complete 0 marks))
+-- so how it stopped and whether it is complete tell its state
+state_where : (marks : List Mark) (stopped : Option Outcome) (told complete : Bool) → stops marks ≡ true
+    → stopped ≡ outcome_in marks → (stopped ≡ None → told ≡ complete)
+    → state_from (fault_in marks) (is_done marks) told ≡ state_told stopped complete
+state_where marks (Some (outcome.Faulted n)) told complete last how e =
+    ap (λ (fault : Option ℕ). state_from fault (is_done marks) told) (fault_found marks n (sym how))
+state_where marks (Some outcome.Done) told complete last how e =
+    ap₂ (λ (fault : Option ℕ) (done : Bool). state_from fault done told)
     (no_fault_of_done marks last (sym how)) (done_marked marks (sym how))
-state_where marks None ended last how e =
-    let going = goes_on marks (sym how) in
-    ap (λ (fault : Option ℕ). state_from fault (is_done marks) (has_complete 0 marks)) (no_fault marks (sym how))
-    ∙ going_state (has_complete 0 marks) (is_faulted marks) (is_done marks) ended going.0 going.1 e
+state_where marks None told complete last how e =
+    ap₂ (λ (fault : Option ℕ) (done : Bool). state_from fault done told) (no_fault marks (sym how))
+    (goes_on marks (sym how)).1
+    ∙ going_state told complete (e refl)
 
 -- states are told apart
 State-set : IsSet State
@@ -107,7 +112,7 @@ module _ {W : Type 0} (meaning : W → Value → Result (List Value) WorkFault) 
     pub journal_is : (node_at net b).journal ≡ marks_of run b
     journal_is = ap (λ (trace : BlockTrace). trace.journal) trace_is
 
-    pub left_is : (node_at net b).block.exits.left ≡ left_at run b
+    pub left_is : left_in (node_at net b).block ≡ left_at run b
     left_is = ap (λ (trace : BlockTrace). trace.left) trace_is
 
     pub record_is : (node_at net b).block.recorded ≡ (trace_of run b).recorded
@@ -130,19 +135,21 @@ module _ {W : Type 0} (meaning : W → Value → Result (List Value) WorkFault) 
     pub ports_are : length (node_at net b).block.ports ≡ port_count (block_in layout.blocks b)
     ports_are = ∥∥₁_elim kept (ℕ_set _ _) (λ keeps. (keeps.nodes b low).shape.port_count_is)
 
+    -- what it has left is what it shares out
+    pub left_told : (node_at net b).block.exits.left ≡ left_at run b
+    left_told = ∥∥₁_elim kept (Prim.hlevel (codes, content.the_row.coded)) (λ keeps.
+        sym (left_is_shared layout (works_of meaning layout) b (node_at net b) (keeps.nodes b low)) ∙ left_is b)
+
     -- its state
     state_in : NodeLaw layout (works_of meaning layout) b (node_at net b)
-        → state_by (marks_of run b)
-        ≡ state_told (node_at net b).block.stopped (has_port_ended (port_at 0 (node_at net b).block).refusing)
+        → state_by run b ≡ state_told (node_at net b).block.stopped (is_complete (node_at net b).block)
     state_in law =
-        let one = has_one_port layout (works_of meaning layout) b (node_at net b).block law.shape in
-        ap state_by (sym (journal_is b))
-        ∙ state_where (node_at net b).journal (node_at net b).block.stopped
-        (has_port_ended (port_at 0 (node_at net b).block).refusing) law.marks.last law.ends.stopped_is
-        (law.ends.ended_is 0 (omega (arith, one)))
+        ap (λ (marks : List Mark). state_from (fault_in marks) (is_done marks) (is_run_complete run b)) (sym (journal_is b))
+        ∙ state_where (node_at net b).journal (node_at net b).block.stopped (is_run_complete run b)
+        (is_complete (node_at net b).block) law.marks.last law.ends.stopped_is
+        (λ going. complete_told run b (node_at net b) law (sym (trace_is b)) going)
 
-    pub state_is : state_by (marks_of run b)
-        ≡ state_told (node_at net b).block.stopped (has_port_ended (port_at 0 (node_at net b).block).refusing)
+    pub state_is : state_by run b ≡ state_told (node_at net b).block.stopped (is_complete (node_at net b).block)
     state_is = ∥∥₁_elim kept (State-set _ _) (λ keeps. state_in (keeps.nodes b low))
 
     -- an input has a place among the inputs

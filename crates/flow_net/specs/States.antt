@@ -1,4 +1,4 @@
--- What became of a block, by its journal. Each kind that is built has one port, and is complete with it.
+-- What became of a block, by its journal, and by whether it is complete.
 use Rattle.std.specs.Prelude.{ℕ, Bool, true, false, List, [], ◌∷◌, Option, Some, None}
 use Rattle.flow_link.specs.declared.trace.Mark.{Mark}
 use Rattle.flow_link.specs.declared.trace.Outcome.{Outcome}
@@ -6,7 +6,8 @@ use Rattle.flow_link.specs.declared.trace.Outcome.TheVariants as outcome
 use Rattle.flow_link.specs.declared.trace.Mark.TheVariants.{Took, Gave, Complete, Fault, Done}
 use Rattle.flow_link.specs.declared.trace.Outcome.{Outcome}
 use Rattle.flow_link.specs.declared.trace.Outcome.TheVariants as outcome
-use Rattle.flow_link.specs.Trace.{is_done, has_complete}
+use Rattle.flow_link.specs.Endings.{is_complete}
+use Rattle.flow_link.specs.Trace.{Run, is_done, marks_of}
 use Rattle.flow_net.specs.declared.posted.State.{State}
 use Rattle.flow_net.specs.declared.posted.State.TheVariants as state
 
@@ -26,12 +27,12 @@ state_from None true complete = state.Done
 state_from None false true = state.Completing
 state_from None false false = state.Open
 
-abbrev pub state_by : List Mark → State
-state_by marks = state_from (fault_in marks) (is_done marks) (has_complete 0 marks)
+abbrev pub state_by : {W : Type 0} → Run W → ℕ → State
+state_by run b = state_from (fault_in (marks_of run b)) (is_done (marks_of run b)) (is_complete run b)
 
--- the same by how the block stopped and whether its port has ended
+-- the same by how the block stopped and whether it is complete
 abbrev pub state_told : Option Outcome → Bool → State
-state_told (Some (outcome.Faulted number)) ended = state.Faulted number
-state_told (Some outcome.Done) ended = state.Done
+state_told (Some (outcome.Faulted number)) complete = state.Faulted number
+state_told (Some outcome.Done) complete = state.Done
 state_told None true = state.Completing
 state_told None false = state.Open

@@ -1,6 +1,6 @@
 //! Where something may be able to happen: a hint, which saves looking everywhere. Whoever takes a spot from it tests
 //! it; and nothing rests on all such spots being on it.
-ghost use Rattle.std.specs.Prelude.{◌≡◌, ◌<◌, IfSome, vec_len};
+ghost use Rattle.std.specs.Prelude.{◌≡◌, ◌<◌, IfSome, length, vec_len};
 
 use crate::due::Due;
 use crate::find::{link_to_consume, link_to_offer};
@@ -270,18 +270,24 @@ impl Agenda {
         }
     }
 
-    /// Lists all links into a block: each that is built has one port.
+    /// Lists all links into a block.
     fn list_in(&mut self, block: &Block) {
-        if block.port_count() == 0 {
-            return;
+        for port in 0..block.port_count() {
+            self.list_into(block, port);
         }
-        for place in 0..block.in_count(0) {
-            self.list(Spot::Link(block.in_link(0, place)));
+    }
+
+    /// Lists all links into a port of a block.
+    fn list_into(&mut self, block: &Block, port: usize)
+        requires { port < length block.now.ports }
+    {
+        for place in 0..block.in_count(port) {
+            self.list(Spot::Link(block.in_link(port, place)));
         }
     }
 }
 
-/// Whether a block that has made or given something would do more by itself: each that is built has one port.
+/// Whether a block that has made or given something would do more by itself.
 fn has_work(block: &Block) -> bool {
     if block.port_count() == 0 {
         return false;
@@ -290,7 +296,7 @@ fn has_work(block: &Block) -> bool {
     (holds && (block.may_make() || block.may_begin()))
         || (!block.is_idle() && block.next_end().is_some())
         || (block.is_pending() && block.next_fault().is_some())
-        || (block.has_ended(0) && block.may_finish())
+        || (block.is_complete() && block.may_finish())
 }
 
 /// Sets the mark at this place; false where there is no such place, or it was so already.

@@ -1,7 +1,8 @@
 //! Finds events that may happen.
-ghost use Rattle.std.specs.Prelude.{◌≡◌, ℕ, ◌<◌, length, is_some, IsTrue, IfOk, IfErr, IfSome, IfNone, ◌↔◌};
+ghost use Rattle.std.specs.Prelude.{◌≡◌, ℕ, ◌<◌, true, false, length, is_some, IsTrue, IfOk, IfErr, IfSome, IfNone, ◌↔◌};
 ghost use Rattle.flow_link.specs.Planned.{layout_of};
 ghost use Rattle.flow_link.specs.Plan.{block_in};
+ghost use Rattle.flow_block.specs.Peeks.{may_complete};
 ghost use Rattle.flow_block.specs.Planned.{input_place};
 ghost use Rattle.flow_block.specs.Routes.{route_of};
 ghost use Rattle.flow_core.specs.Events.{Enabled, MayHappen, NetEvent};
@@ -198,7 +199,26 @@ impl<W: Work> Engine<W> {
         }
     }
 
-    /// How a block would end next: its port, or itself.
+    /// The first port of a block that would complete.
+    fn port_to_complete(&self, number: usize) -> Option<u32>
+        requires known { number < length (layout_of self.now.plan).blocks }
+        requires kept { ∥ NetKeeps (layout_of self.now.plan) (works_of W.meaning (layout_of self.now.plan))
+            self.now.parts ∥₁ }
+        ensures there { IfSome result (λ port. port < length (node_at self.now.parts number).block.ports) }
+        ensures completes { IfSome result (λ port. may_complete port (node_at self.now.parts number).block ≡ true) }
+        ensures none { IfNone result ((port : ℕ) → port < length (node_at self.now.parts number).block.ports →
+            may_complete port (node_at self.now.parts number).block ≡ false) }
+    {
+        let block = self.parts.node(number).block();
+        for port in 0..block.port_count() {
+            if block.may_complete(port) {
+                return Some(port as u32);
+            }
+        }
+        None
+    }
+
+    /// How a block would end next: one of its ports, or itself.
     fn end_of_block(&self, number: usize) -> Option<Due>
         requires known { number < length (layout_of self.now.plan).blocks }
         requires kept { ∥ NetKeeps (layout_of self.now.plan) (works_of W.meaning (layout_of self.now.plan))
@@ -208,8 +228,8 @@ impl<W: Work> Engine<W> {
         ensures none { IfNone result (IsOpen (node_at self.now.parts number).block) }
     {
         let block = self.parts.node(number).block();
-        if block.may_complete(0) {
-            Some(Due::Complete(number, 0))
+        if let Some(port) = self.port_to_complete(number) {
+            Some(Due::Complete(number, port))
         } else if block.next_fault().is_some() {
             Some(Due::Fault(number))
         } else if block.may_finish() {
@@ -379,15 +399,25 @@ pub(crate) fn link_to_offer(block: &Block) -> Option<LinkId> {
     }
 }
 
-/// The link over which a block would consume next: each that is built has one port.
-pub(crate) fn link_to_consume(block: &Block) -> Option<LinkId> {
-    if block.port_count() == 0 {
-        return None;
-    }
-    let place = block.next_place(0)?;
-    if place < block.in_count(0) {
-        Some(block.in_link(0, place))
+/// The link over which a port of a block would consume next.
+fn link_to_consume_at(block: &Block, port: usize) -> Option<LinkId>
+    requires { port < length block.now.ports }
+{
+    let place = block.next_place(port)?;
+    if place < block.in_count(port) {
+        Some(block.in_link(port, place))
     } else {
         None
     }
+}
+
+/// The link over which a block would consume next, at the first of its ports that would.
+pub(crate) fn link_to_consume(block: &Block) -> Option<LinkId> {
+    for port in 0..block.port_count() {
+        let link = link_to_consume_at(block, port);
+        if link.is_some() {
+            return link;
+        }
+    }
+    None
 }

@@ -1,8 +1,7 @@
 //! A network with one owner: what is posted goes from block to block until nothing can move.
 ghost use Rattle.std.specs.Prelude.{◌≡◌, ◌<◌, length, IfSome, None};
 ghost use Rattle.flow_link.specs.Planned.{layout_of};
-ghost use Rattle.flow_intake.specs.PortLaw.{has_ended};
-ghost use Rattle.flow_block.specs.Block.{port_at};
+ghost use Rattle.flow_block.specs.Peeks.{is_complete};
 ghost use Rattle.flow_core.specs.Keeps.{NetKeeps};
 ghost use Rattle.flow_exec.specs.Works.{works_of};
 ghost use Rattle.flow_net.specs.Dues.{event_of};
@@ -211,7 +210,7 @@ impl<W: Work> Net<W> {
     /// What became of this block.
     pub fn state(&self, block: usize) -> State
         requires { block < length (layout_in self.now).blocks }
-        ensures { result ≡ state_by (marks_of (run_of W.meaning self.now) block) }
+        ensures { result ≡ state_by (run_of W.meaning self.now) block }
     {
         state_of(self.engine.parts.node(block).block())
     }
@@ -271,15 +270,14 @@ fn due_of<W: Work>(event: &Event<W>) -> Option<Due>
     }
 }
 
-/// What became of a block: each that is built has one port, and is complete with it.
+/// What became of a block.
 fn state_of(block: &Block) -> State
-    requires { 0 < length block.now.ports }
-    ensures { result ≡ state_told block.now.stopped (has_ended (port_at 0 block.now).refusing) }
+    ensures { result ≡ state_told block.now.stopped (is_complete block.now) }
 {
     match block.stopped() {
         Some(Outcome::Faulted(number)) => State::Faulted(number),
         Some(Outcome::Done) => State::Done,
-        None if block.has_ended(0) => State::Completing,
+        None if block.is_complete() => State::Completing,
         None => State::Open,
     }
 }

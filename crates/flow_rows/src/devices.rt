@@ -1,9 +1,9 @@
 //! Readers and writers that fail, and memory that runs out.
-use crate::driver::{ENOUGH, is_refusal, is_report, ran, row_of, told_by, values_of};
 use flow_link::PlanFault;
 use flow_net::Settled;
 use flow_run::{Ran, RunRefusal, write_refusal};
 use flow_text::{TextFault, TextRefusal, read_plan};
+use flow_trial::{ENOUGH, is_refusal, is_report, ran, row_of, told_by, values_of};
 use flow_value::{Parcel, Steps, StepsError, Value, Work, WorkFault};
 use std::alloc::{AllocError, Global};
 use std::io;

@@ -1,5 +1,6 @@
 //! What each function makes of a text, as an action's record or a fault's number tells it.
-use crate::driver::{ENOUGH, Told, cells, chain, check, has_lines, told_by};
+use crate::check::check;
+use flow_trial::{ENOUGH, Told, cells, chain, has_lines, told_by};
 use std::alloc::Global;
 use std::process::Abort;
 use std::sync::Wait;

@@ -5,27 +5,19 @@
 #[cfg(test)]
 mod blocks;
 #[cfg(test)]
-mod branches;
+mod check;
 #[cfg(test)]
 mod devices;
-#[cfg(test)]
-mod driver;
-#[cfg(test)]
-mod events;
 #[cfg(test)]
 mod functions;
 #[cfg(test)]
 mod intake;
-#[cfg(test)]
-mod lanes;
 #[cfg(test)]
 mod links;
 #[cfg(test)]
 mod outlet;
 #[cfg(test)]
 mod refused;
-#[cfg(test)]
-mod scripts;
 #[cfg(test)]
 mod texts;
 #[cfg(test)]

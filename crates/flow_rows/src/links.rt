@@ -1,5 +1,5 @@
 //! Links of plans, with what no text says of them, and how far a message has come over one.
-use crate::driver::check;
+use crate::check::check;
 use flow_link::{
     BlockDef, BlockKind, Draft, LinkDef, LinkEnd, LinkSource, LinkTarget, Move, Phase, Place,
     PlanFault, PlanRefusal, phase_of, plan_check, step_of, word_of,

@@ -1,5 +1,6 @@
 //! Networks that are refused, each with its line, and some that are read and look as if they were not.
-use crate::driver::{ENOUGH, add, chain, check, has_lines, is_refusal, is_report, told_by};
+use crate::check::check;
+use flow_trial::{ENOUGH, add, chain, has_lines, is_refusal, is_report, told_by};
 use std::alloc::{AllocError, Global};
 use std::io;
 use std::io::Write;
@@ -41,11 +42,11 @@ const TEXTS: &str = r#"
 2 UnknownKey top | block = [] ; "" = 1
 2 UnknownKey block 0 | block = [{name = "a", kind = "buffer", capasity = 1}]
 2 UnknownKey block 0 | block = [{sise = 1}]
-2 UnknownKey block 0 | block = [{ports = 1}]
+2 UnknownKey block 0 | block = [{port = 1}]
 2 UnknownKey block 0 | block = [{greedy = true}]
 2 UnknownKey block 0 | block = [{output = true}]
 2 UnknownKey block 2 | block = [{}, {}, {strange = 1}, {strange = 1}]
-2 UnknownKey link 0 | block = [] ; link = [{port = 0}]
+2 UnknownKey link 0 | block = [] ; link = [{ports = 1}]
 2 UnknownKey link 1 | block = [] ; link = [{}, {strange = 1}]
 # Keys that are required.
 3 MissingKey top | # nothing else
@@ -55,6 +56,7 @@ const TEXTS: &str = r#"
 3 MissingKey block 1 | block = [{name = "a", kind = "buffer"}, {}]
 3 MissingKey link 0 | block = [] ; link = [{to = "a"}]
 3 MissingKey link 0 | block = [] ; link = [{from = "a"}]
+3 MissingKey link 0 | block = [] ; link = [{port = 0}]
 3 MissingKey link 1 | block = [] ; link = [{from = "a", to = "a"}, {}]
 # Values of other types.
 4 WrongType top | block = 3
@@ -71,7 +73,6 @@ const TEXTS: &str = r#"
 # Kinds that are not built yet.
 4 WrongType block 0 | block = [{name = "a", kind = "broadcast"}]
 4 WrongType block 0 | block = [{name = "a", kind = "write_once"}]
-4 WrongType block 0 | block = [{name = "a", kind = "join"}]
 4 WrongType block 0 | block = [{name = "a", kind = "batched_join"}]
 4 WrongType block 0 | block = [{name = "a", kind = "buffer", input = "true"}]
 4 WrongType block 0 | block = [{name = "a", kind = "action", work = "id"}]
@@ -92,6 +93,9 @@ const TEXTS: &str = r#"
 4 WrongType link 0 | block = [] ; link = [{from = "a", to = "b", max = true}]
 4 WrongType link 0 | block = [] ; link = [{from = "a", to = "b", max = -1}]
 4 WrongType link 0 | block = [] ; link = [{from = "a", to = "b", max = 4294967296}]
+4 WrongType block 0 | block = [{name = "a", kind = "buffer", ports = -1}]
+4 WrongType link 0 | block = [] ; link = [{from = "a", to = "b", port = "0"}]
+4 WrongType link 0 | block = [] ; link = [{from = "a", to = "b", port = 4294967296}]
 # Predicates that there are not.
 6 BadWhen link 0 | block = [] ; link = [{from = "a", to = "b", when = "evn"}]
 6 BadWhen link 0 | block = [] ; link = [{from = "a", to = "b", when = ""}]
@@ -109,6 +113,7 @@ const TEXTS: &str = r#"
 8 Plan 6 BadOption block 0 | block = [{name = "a", kind = "buffer", capacity = 2147483648}]
 8 Plan 6 BadOption block 0 | block = [{name = "a", kind = "buffer", capacity = 4294967295}]
 8 Plan 6 BadOption block 0 | block = [{name = "a", kind = "buffer", lanes = 1}]
+8 Plan 6 BadOption block 0 | block = [{name = "a", kind = "buffer", ports = 1}]
 8 Plan 6 BadOption block 0 | block = [{name = "a", kind = "action", work = [], lanes = 0}]
 8 Plan 6 BadOption block 0 | block = [{name = "a", kind = "action", work = [], lanes = 17}]
 # Batches without a size, with a size out of range, and with less room than one.
@@ -121,7 +126,10 @@ const TEXTS: &str = r#"
 8 Plan 6 BadOption block 2 | block = [{name = "in", kind = "buffer", input = true}, {name = "t", kind = "transform", work = ["int"]}, {name = "b", kind = "batch", size = 0}, {name = "out", kind = "action", work = []}]
 8 Plan 7 CapacityBelowSize block 2 | block = [{name = "in", kind = "buffer", input = true}, {name = "t", kind = "transform", work = ["int"]}, {name = "b", kind = "batch", size = 3, capacity = 2}, {name = "out", kind = "action", work = []}]
 8 Plan 6 BadOption block 1 | block = [{name = "a", kind = "batch", size = 3, capacity = 2}, {name = "b", kind = "batch"}]
-# Links that are in no plan.
+# Links that are in no plan. Only the first port is there.
+8 Plan 4 Port link 0 | block = [{name = "a", kind = "buffer"}, {name = "b", kind = "buffer"}] ; link = [{from = "a", to = "b", port = 1}]
+8 Plan 4 Port link 1 | block = [{name = "a", kind = "buffer"}, {name = "b", kind = "buffer", ports = 2}] ; link = [{from = "a", to = "b", port = 0}, {from = "a", to = "b", port = 1}]
+8 Plan 6 BadOption block 1 | block = [{name = "a", kind = "buffer"}, {name = "b", kind = "buffer", ports = 2}] ; link = [{from = "a", to = "b", port = 0}]
 8 Plan 6 BadOption link 0 | block = [{name = "a", kind = "buffer"}] ; link = [{from = "a", to = "a", max = 0}]
 8 Plan 6 BadOption link 0 | block = [{name = "a", kind = "buffer"}] ; link = [{from = "a", to = "a", max = 2147483648}]
 # With two faults the first in order counts.

@@ -1,8 +1,9 @@
 //! Whole runs: a network and records, and all that is written of them.
-use crate::driver::{ENOUGH, Told, chain, check, is_refusal, is_report, told_by, told_with};
+use crate::check::check;
 use flow_link::{Place, PlanFault};
 use flow_run::{RunRefusal, split_input, status, write_refusal};
 use flow_text::{TextFault, TextPlace};
+use flow_trial::{ENOUGH, Told, chain, is_refusal, is_report, told_by, told_with};
 use std::alloc::Global;
 use std::process::Abort;
 use std::test::Fail;

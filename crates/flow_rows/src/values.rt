@@ -1,5 +1,6 @@
 //! Values, functions and predicates where no text reaches them, and each of their calls once.
-use crate::driver::{atom, cells, check, row_of, values_of};
+use crate::check::check;
+use flow_trial::{atom, cells, row_of, values_of};
 use flow_value::{
     MAX_ID, MessageHeader, MessageStatus, Parcel, Row, Steps, StepsError, Text, Value, When, Work,
     WorkFault,

@@ -32,7 +32,7 @@ use Rattle.flow_spread.specs.Copied.{Call, Course, after, IsAllowed, after_all, 
 use Rattle.flow_spread.specs.End.{no_end, fresh_end, moved, is_answer, takes_up}
 use Rattle.flow_spread.specs.Law.{SpreadLaw, CopyEndLaw, MayPutOff, speaks, concerns_it}
 use Rattle.flow_spread.specs.Spread.{SpreadState, end_at, link_at, stage_at, changes, fresh_spread, is_spread_free, puts, may_offer, offers, looks, is_wanted, gives, is_asked_by, asked_id, holds, withdraws, ends_link}
-use Rattle.flow_spread.proofs.CarriedValues.{part_with, part_without, no_part, carried_skips, carried_cut, carried_adds, front_more, front_same, first_dropped, first_is, first_cut}
+use Rattle.flow_spread.proofs.CarriedValues.{part_with, part_without, no_part, carried_skips, carried_cut, carried_adds, front_more, front_same, first_dropped, first_is, first_cut, first_more}
 use Rattle.flow_spread.proofs.CountsOfEnds.{none_there}
 use Rattle.flow_spread.proofs.EndsKeepLaw.{ended_cut, open_parts}
 use Rattle.flow_spread.specs.End.{owes_it}
@@ -50,6 +50,8 @@ pub record HadSoFar (older given : List Value) (element : Option Value) (id : �
   pub some : 1 ≤ last → is_some (first_of given) ≡ true
   pub first : rule.sole ≡ true → is_refused stage ≡ false
       → first_of given ≡ first_of (carried rule (older ++ cond owes [] (listed element)))
+  pub begun : rule.sole ≡ true → is_some (first_of given) ≡ true
+      → first_of given ≡ first_of (carried rule (older ++ listed element))
 
 abbrev pub HadBy : List Value → List Value → Option Value → ℕ → CopyEnd → Type 0
 HadBy older given element id end =
@@ -79,6 +81,7 @@ moved_had {older} {given} {element} {rule = rule} {owes = owes} had stage' owes'
         | inl stays ↦ rw stays was
         | inr late ↦ rw (late.0) (first_dropped rule older given (listed element) owes was (had.some late.1))
       ];
+  begun = had.begun;
 }
 
 -- the end at a place, where one end changes
@@ -171,6 +174,17 @@ given_had {older} {given} {element} {id} end value is law spoken out_or_off taki
     let adds : carried rule (older ++ value ∷ []) ≡ carried rule older ++ value ∷ [] = carried_adds rule end.link.given older value admitted room counts in
     let here : given ++ value ∷ [] ≡ carried rule (older ++ value ∷ []) = ap (λ (vs : List Value). vs ++ value ∷ []) before ∙ sym adds in
     here in
+    let first_so = λ (sole : rule.sole ≡ true).
+    let so : first_of (given ++ value ∷ []) ≡ first_of (carried rule (older ++ value ∷ [])) =
+    first_given rule end.link.given older given value end.owes admitted room (mine.first sole taking)
+    (λ none. or_either (is_out end.link.stage) (is_put_off end.link.stage)
+    (λ out. OnTrue_at out law.owed)
+    (λ off.
+    let well : MayPutOff end.link = OnTrue_at off law.put_off in
+    let given_before : is_some (first_of given) ≡ true = had.some (well.late sole) in
+    never_so (is_some (first_of given)) given_before (ap is_some none))
+    out_or_off) in
+    so in
     record {
       part = part_with value (had.before (OnTrue_at concerned law.fresh));
       before = λ l. absurd (omega (arith, l));
@@ -178,14 +192,8 @@ given_had {older} {given} {element} {id} end value is law spoken out_or_off taki
       all = λ steady _. all steady;
       front = λ steady. front_same _ _ (all steady);
       some = λ _. some_more given value;
-      first = λ sole _. first_given rule end.link.given older given value end.owes admitted room (mine.first sole taking)
-          (λ none. or_either (is_out end.link.stage) (is_put_off end.link.stage)
-          (λ out. OnTrue_at out law.owed)
-          (λ off.
-          let well : MayPutOff end.link = OnTrue_at off law.put_off in
-          let given_before : is_some (first_of given) ≡ true = had.some (well.late sole) in
-          never_so (is_some (first_of given)) given_before (ap is_some none))
-          out_or_off);
+      first = λ sole _. first_so sole;
+      begun = λ sole _. first_so sole;
     }
 
 -- A new element
@@ -253,6 +261,9 @@ put_had {older} {given} {element} {id} end value law owes had =
           (λ away. before ∙ ap first_of (sym (carried_skips rule all value (not_is (admits rule.when value) away))))
           (closed_or_turned_away (is_over stage) (is_cut end.link) (admits rule.when value) none
           (λ over. ended_cut end.link law.ended stage (over_before end.link.stage over) over taking)));
+      begun = λ sole some.
+          let was : first_of given ≡ first_of (carried rule all) = had.begun sole some in
+          was ∙ sym (first_more rule all (value ∷ []) (sym (ap is_some was) ∙ some));
     }
 
 -- One call
@@ -266,7 +277,7 @@ faulted : (first : ℕ) (pending : Bool) (stopped : Option Outcome) (s : SpreadS
 faulted first true stopped s law = law
 faulted first false stopped s law = calls_keep_law.fault first stopped s law
 
-law_after : (first : ℕ) (call : Call) (c : Course) → IsAllowed call c → SpreadLaw first c.pending c.stopped c.spread
+pub law_after : (first : ℕ) (call : Call) (c : Course) → IsAllowed call c → SpreadLaw first c.pending c.stopped c.spread
     → SpreadLaw first (after call c).pending (after call c).stopped (after call c).spread
 law_after first (Call.put value) c may law =
     rw may.0 (calls_keep_law.put first c.pending c.spread (rw may.0 at law) value may.1 may.2)
@@ -514,6 +525,7 @@ fresh_had rule id = record {
   front = λ steady. front_same [] (up_to rule.max []) (none_up_to rule.max);
   some = λ l. absurd (omega (arith, l));
   first = λ sole taking. ap first_of (none_up_to rule.max);
+  begun = λ sole some. cc;
 }
 
 has_copies : (first : ℕ) (elements given : List Value) (k : ℕ) (c : Course) → Known first elements given k c
@@ -529,6 +541,9 @@ has_copies first elements given k c known =
       all = known.had.all;
       first = known.had.first;
       front = λ steady. subst (λ (whole : List Value). IsFrontOf given (carried (link_at s k).rule whole)) known.newest (known.had.front steady);
+      went = known.had.some;
+      begun = λ sole some.
+          known.had.begun sole some ∙ ap (λ (whole : List Value). first_of (carried (link_at s k).rule whole)) known.newest;
     }
 
 link_has : (once pending : Bool) (rules : List LinkRule) (first : ℕ) → 1 ≤ first → first ≤ 2 ^ 59

@@ -1,5 +1,5 @@
 -- Which elements a link is given, and which it lacks, over any calls that may be made.
-use Rattle.std.specs.Prelude.{◌≡◌, ℕ, ◌+◌, ◌^◌, ◌<◌, ◌≤◌, ◌==◌, cond, Bool, true, false, List, [], ◌∷◌, ◌++◌, length, filter, Option, Some, None}
+use Rattle.std.specs.Prelude.{◌≡◌, ℕ, ◌+◌, ◌^◌, ◌<◌, ◌≤◌, ◌==◌, cond, Bool, true, false, List, [], ◌∷◌, ◌++◌, length, filter, Option, Some, None, is_some}
 use Rattle.std.specs.Bool.{OnTrue}
 use Rattle.flow_value.specs.When.{admits}
 use Rattle.flow_value.specs.declared.value.Value.{Value}
@@ -141,6 +141,11 @@ pub record LinkHas (given elements : List Value) (k : ℕ) (s : SpreadState) : T
   pub first : (link_at s k).rule.sole ≡ true → is_refused (stage_at s k) ≡ false
       → first_of given ≡ first_of (carried (link_at s k).rule (older ++ cond (end_at s k).owes [] (listed s.element)))
   pub front : (link_at s k).rule.steady ≡ true → IsFrontOf given (carried (link_at s k).rule elements)
+  -- what went over the link was given
+  pub went : 1 ≤ (link_at s k).last → is_some (first_of given) ≡ true
+  -- whatever became of the link since: if anything was given over it, that began with the first
+  pub begun : (link_at s k).rule.sole ≡ true → is_some (first_of given) ≡ true
+      → first_of given ≡ first_of (carried (link_at s k).rule elements)
 
 abbrev pub fresh_course : Bool → Bool → List LinkRule → ℕ → Course
 fresh_course once pending rules first = record { spread = fresh_spread once rules first; pending = pending; stopped = None }

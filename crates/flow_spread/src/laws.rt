@@ -15,7 +15,7 @@ pub fn calls_keep_the_law()
 /// Over any calls that may be made, each link is given some of the elements that were put, each once at most and in
 /// their order, and none that it still owes. A link whose target takes each message at once lacks none that its predicate
 /// admits, up to its limit, but for the newest while it owes that, and for those behind a refusal. A link alone into its
-/// target has the first of them, with the same exceptions.
+/// target has the first of them, with the same exceptions, and whatever it was given begins with that one.
 #[tactic(auto, using(crate::proofs::LinksCopied::each_link_has))]
 pub fn each_link_has_its_copies()
     ensures { EachLinkHasItsCopies }

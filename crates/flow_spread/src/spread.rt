@@ -6,7 +6,7 @@ ghost use Rattle.flow_link.specs.LinkOk.{HasRoom};
 ghost use Rattle.flow_outlet.specs.End.{is_cut, is_free, is_waiting};
 ghost use Rattle.flow_spread.specs.ByLink.{place_of, offer_named, offers_next, IsAsked, answered, MayConsume, consumed};
 ghost use Rattle.flow_spread.specs.ByLink.{consumes, gives_home, tests_asked, tests_consume, is_there, answered_link, still_owes};
-ghost use Rattle.flow_spread.specs.End.{count_of, owes_it};
+ghost use Rattle.flow_spread.specs.End.{count_of, owes_it, is_busy_at, is_waiting_at};
 ghost use Rattle.flow_spread.specs.Spread.{fresh_spread, is_spread_free, puts, left_of, is_at_rest, only_waits, moves};
 ghost use Rattle.flow_spread.specs.Spread.{may_offer, next_place, prepares, offers, looks, may_give, gives, is_asked_by};
 ghost use Rattle.flow_spread.specs.Spread.{holds, withdraws, ends_link, out_move, free_move, end_at, link_at, stage_at};
@@ -150,6 +150,20 @@ impl Spread {
         ensures { result ≡ count_of owes_it self.now.ends }
     {
         self.ends.owing()
+    }
+
+    /// Over how many links an offer of the element waits.
+    pub fn waiting_count(&self) -> usize
+        ensures { result ≡ count_of is_waiting_at self.now.ends }
+    {
+        self.ends.waiting()
+    }
+
+    /// Over how many links the target has to be given the element, or to say more of it.
+    pub fn busy_count(&self) -> usize
+        ensures { result ≡ count_of is_busy_at self.now.ends }
+    {
+        self.ends.busy()
     }
 
     /// Whether nothing is under way over a link, or waits there.

@@ -3,7 +3,7 @@ use Rattle.std.specs.Prelude.{ℕ, leb, ℤ, pos, negsuc, Bool, true, false, not
 use Rattle.std.specs.List.{list_any}
 use Rattle.std.specs.Str.{bytes_eq}
 use Rattle.flow_link.specs.declared.draft.BlockKind.{BlockKind}
-use Rattle.flow_link.specs.declared.draft.BlockKind.TheVariants.{Buffer, Action, Transform, TransformMany, Batch}
+use Rattle.flow_link.specs.declared.draft.BlockKind.TheVariants.{Buffer, Action, Transform, TransformMany, Batch, Join}
 use Rattle.toml.specs.Data.{Data, Items, no_items, item, Members, no_members, member, get_member, as_str, as_bool, as_integer, as_array, as_table}
 use Rattle.flow_text.specs.declared.network.keys.Part.{Part}
 use Rattle.flow_text.specs.declared.network.keys.Part.TheVariants.{Top, Block, Link}
@@ -28,9 +28,10 @@ optional name form = record { name = name; form = form; required = false }
 abbrev pub rules_of : Part → List Rule
 rules_of Top = required (codes "format") Integer ∷ required (codes "block") Tables ∷ optional (codes "link") Tables ∷ []
 rules_of Block = required (codes "name") Text ∷ required (codes "kind") Kind ∷ optional (codes "input") Boolean ∷ optional (codes "capacity") Count
-    ∷ optional (codes "work") Texts ∷ optional (codes "lanes") Count ∷ optional (codes "size") Count ∷ []
-rules_of Link = required (codes "from") Text ∷ required (codes "to") Text ∷ optional (codes "when") Text ∷ optional (codes "max") Count
-    ∷ optional (codes "propagate") Boolean ∷ []
+    ∷ optional (codes "work") Texts ∷ optional (codes "lanes") Count ∷ optional (codes "size") Count
+    ∷ optional (codes "ports") Count ∷ []
+rules_of Link = required (codes "from") Text ∷ required (codes "to") Text ∷ optional (codes "port") Count ∷ optional (codes "when") Text
+    ∷ optional (codes "max") Count ∷ optional (codes "propagate") Boolean ∷ []
 
 -- the kind that a word names
 abbrev pub kind_named : List ℕ → Option BlockKind
@@ -40,6 +41,7 @@ kind_named word =
     else if bytes_eq word (codes "transform") then Some Transform
     else if bytes_eq word (codes "transform_many") then Some TransformMany
     else if bytes_eq word (codes "batch") then Some Batch
+    else if bytes_eq word (codes "join") then Some Join
     else None
 
 -- each item passes the test

@@ -73,14 +73,14 @@ pub record IsBlock (ms : Members) (block : BlockDef Steps) : Type 0 where
   pub work : IsWork ms block.work
   pub lanes : block.lanes ≡ count_at (codes "lanes") ms
   pub size : block.size ≡ count_at (codes "size") ms
-  pub ports : block.ports ≡ None
+  pub ports : block.ports ≡ count_at (codes "ports") ms
   pub greedy : block.greedy ≡ None
 
 -- the link that a table is
 pub record IsLink (ms : Members) (link : LinkDef) : Type 0 where
   pub from : text_at (codes "from") ms ≡ Some link.from
   pub to : text_at (codes "to") ms ≡ Some link.to
-  pub port : link.port ≡ None
+  pub port : link.port ≡ count_at (codes "port") ms
   pub when : IsWhen ms link.when
   pub max : link.max ≡ count_at (codes "max") ms
   pub propagate : link.propagate ≡ flag_at (codes "propagate") ms

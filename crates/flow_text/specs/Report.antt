@@ -79,7 +79,7 @@ is_output block = block.output
 
 module _ {W : Type 0} (run : Run W) where
   abbrev pub state_of : ℕ → State
-  state_of b = state_by (marks_of run b)
+  state_of b = state_by run b
 
   -- links between blocks have the first numbers, then come those of the inputs, then those of the exits
   abbrev pub between_count : ℕ

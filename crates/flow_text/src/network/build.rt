@@ -71,7 +71,7 @@ fn block(alloc: Global, table: &Table, place: TextPlace) -> Result<BlockDef<Step
         work,
         lanes: count(table, "lanes"),
         size: count(table, "size"),
-        ports: None,
+        ports: count(table, "ports"),
         greedy: None,
     })
 }
@@ -84,7 +84,7 @@ fn link(alloc: Global, table: &Table, place: TextPlace) -> Result<LinkDef, TextR
     Ok(LinkDef {
         from: Text::from_str(alloc, text(table, "from"))?,
         to: Text::from_str(alloc, text(table, "to"))?,
-        port: None,
+        port: count(table, "port"),
         when,
         max: count(table, "max"),
         propagate: flag(table, "propagate"),

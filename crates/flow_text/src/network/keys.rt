@@ -107,6 +107,11 @@ const BLOCK: &[Key] = &[
         form: Form::Count,
         is_required: false,
     },
+    Key {
+        name: "ports",
+        form: Form::Count,
+        is_required: false,
+    },
 ];
 
 const LINK: &[Key] = &[
@@ -119,6 +124,11 @@ const LINK: &[Key] = &[
         name: "to",
         form: Form::Text,
         is_required: true,
+    },
+    Key {
+        name: "port",
+        form: Form::Count,
+        is_required: false,
     },
     Key {
         name: "when",
@@ -160,6 +170,7 @@ pub(super) fn kind_of(word: &str) -> Option<BlockKind>
         "transform" => Some(BlockKind::Transform),
         "transform_many" => Some(BlockKind::TransformMany),
         "batch" => Some(BlockKind::Batch),
+        "join" => Some(BlockKind::Join),
         _ => None,
     }
 }

@@ -21,6 +21,7 @@ returns-clause-done c =
       size = c.self.inside.size;
       ports = c.self.inside.ports.items;
       exits = c.self.inside.exits;
+      copies = c.self.inside.copies;
       jobs = c.self.inside.jobs;
       recorded = c.self.inside.recorded.items;
       fault = c.self.inside.fault;

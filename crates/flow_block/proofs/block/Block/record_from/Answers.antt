@@ -25,6 +25,7 @@ returns-clause-done c =
       size = c.self.inside.size;
       ports = c.self.inside.ports.items;
       exits = c.self.inside.exits;
+      copies = c.self.inside.copies;
       jobs = brings c.args.ticket c.args.answer c.self.inside.jobs;
       recorded = c.self.inside.recorded.items;
       fault = c.self.inside.fault;

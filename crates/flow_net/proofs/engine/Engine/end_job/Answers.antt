@@ -27,7 +27,9 @@ end_job-requires-clause-alone g c =
     c.job.ensures (c.is_own_job.ensures.0 c.if-not-is_own_job.false) in
     let planned = blocks_planned (layout_of now.plan) (works_of g.W.Work.meaning (layout_of now.plan)) now.parts
     c.requires.kept c.args.number own.there in
-    planned.alone
+    let block = (node_at now.parts c.args.number).block in
+    let ticket = ticket_in (job_in c.args.done) in
+    planned.alone_at_work (planned.works ticket (and_parts (is_none block.stopped) (is_out ticket block.jobs) own.out).1)
 
 pub end_job-requires-clause-works : goal.end_job-requires-clause-works
 end_job-requires-clause-works g c =

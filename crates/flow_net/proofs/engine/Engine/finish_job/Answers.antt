@@ -13,7 +13,10 @@ finish_job-requires-clause-alone g c κs within =
     let old = c.args.self.now in
     let layout = layout_of old.plan in
     let meaning = works_of g.W.Work.meaning layout in
-    (blocks_planned layout meaning old.parts c.requires.kept c.args.number c.requires.enabled.there).alone
+    let block = (node_at old.parts c.args.number).block in
+    let planned = blocks_planned layout meaning old.parts c.requires.kept c.args.number c.requires.enabled.there in
+    planned.alone_at_work (planned.works c.args.ticket
+    (and_parts (is_none block.stopped) (is_out c.args.ticket block.jobs) c.requires.enabled.would).1)
 
 pub finish_job-requires-clause-works : goal.finish_job-requires-clause-works
 finish_job-requires-clause-works g c κs within =

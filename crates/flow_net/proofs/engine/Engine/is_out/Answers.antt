@@ -1,4 +1,4 @@
-use Rattle.std.proofs.Common.{◌≡◌, ℕ, ◌≤◌, length, ap, sym, subst, ◌∙◌}
+use Rattle.std.proofs.Common.{ℕ, ◌<◌, ◌≤◌, length, ap, sym, subst, ◌∙◌}
 use Rattle.flow_link.specs.Planned.{layout_of}
 use Rattle.flow_block.specs.Block.{BlockState, held_by, job_message}
 use Rattle.flow_block.specs.Node.{NodeState}
@@ -8,13 +8,13 @@ use Rattle.flow_moves.proofs.MerelyKept.{blocks_planned}
 use Rattle.flow_value.specs.Same.{same_value-Decides}
 use Rattle.flow_net.proofs.engine.Engine.is_out.Goals as goal
 
-pub job_message-requires-clause-alone : goal.job_message-requires-clause-alone
-job_message-requires-clause-alone g c =
+pub job_message-requires-clause-ports : goal.job_message-requires-clause-ports
+job_message-requires-clause-ports g c =
     let now = c.args.self.now in
     let planned = blocks_planned (layout_of now.plan) (works_of g.W.Work.meaning (layout_of now.plan)) now.parts
     c.requires.kept c.args.number c.requires.known in
     let block_is = c.block-block.ensures ∙ ap (λ (node : NodeState). node.block) c.node.ensures in
-    subst (λ (block : BlockState). length block.ports ≡ 1) (sym block_is) planned.alone
+    subst (λ (block : BlockState). 0 < length block.ports) (sym block_is) planned.some_port
 
 pub job_message-requires-clause-held : goal.job_message-requires-clause-held
 job_message-requires-clause-held g c =

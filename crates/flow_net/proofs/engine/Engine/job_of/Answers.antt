@@ -1,4 +1,4 @@
-use Rattle.std.proofs.Common.{◌≡◌, length, ap, sym, subst, ◌∙◌}
+use Rattle.std.proofs.Common.{◌<◌, length, ap, sym, subst, ◌∙◌}
 use Rattle.flow_link.specs.Planned.{layout_of}
 use Rattle.flow_block.specs.Block.{BlockState}
 use Rattle.flow_block.specs.Node.{NodeState}
@@ -6,10 +6,10 @@ use Rattle.flow_exec.specs.Works.{works_of}
 use Rattle.flow_moves.proofs.MerelyKept.{blocks_planned}
 use Rattle.flow_net.proofs.engine.Engine.job_of.Goals as goal
 
-pub begun_message-requires-clause-alone : goal.begun_message-requires-clause-alone
-begun_message-requires-clause-alone g c =
+pub begun_message-requires-clause-ports : goal.begun_message-requires-clause-ports
+begun_message-requires-clause-ports g c =
     let now = c.args.self.now in
     let planned = blocks_planned (layout_of now.plan) (works_of g.W.Work.meaning (layout_of now.plan)) now.parts
     c.requires.kept c.args.number c.requires.enabled.there in
     let block_is = c.block-block.ensures ∙ ap (λ (node : NodeState). node.block) c.node.ensures in
-    subst (λ (block : BlockState). length block.ports ≡ 1) (sym block_is) planned.alone
+    subst (λ (block : BlockState). 0 < length block.ports) (sym block_is) planned.some_port

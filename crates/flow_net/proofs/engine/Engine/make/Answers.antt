@@ -13,6 +13,20 @@ make-requires-clause-built g c =
     let meaning = works_of g.W.Work.meaning layout in
     (blocks_planned layout meaning old.parts c.requires.kept c.args.number c.requires.enabled.there).built
 
+pub make-requires-clause-alone : goal.make-requires-clause-alone
+make-requires-clause-alone g c =
+    let old = c.args.self.now in
+    let layout = layout_of old.plan in
+    let meaning = works_of g.W.Work.meaning layout in
+    (blocks_planned layout meaning old.parts c.requires.kept c.args.number c.requires.enabled.there).alone
+
+pub make-requires-clause-ports : goal.make-requires-clause-ports
+make-requires-clause-ports g c =
+    let old = c.args.self.now in
+    let layout = layout_of old.plan in
+    let meaning = works_of g.W.Work.meaning layout in
+    (blocks_planned layout meaning old.parts c.requires.kept c.args.number c.requires.enabled.there).some_port
+
 pub returns-clause-done : goal.returns-clause-done
 returns-clause-done g c =
     let layout = layout_of c.args.self.now.plan in

@@ -1,9 +1,18 @@
-use Rattle.std.proofs.Common.{◌<◌, length, sym, subst, ap}
-use Rattle.flow_value.specs.declared.value.Value.{Value}
+use Rattle.flow_core.specs.State.{node_at}
+use Rattle.flow_moves.proofs.MerelyKept.{blocks_planned}
+use Rattle.flow_moves.proofs.WorksAtOnce.{begin_works}
 use Rattle.flow_link.specs.Planned.{layout_of}
 use Rattle.flow_exec.specs.Works.{works_of}
 use Rattle.flow_net.proofs.EventsDone.{worked_so}
 use Rattle.flow_net.proofs.engine.Engine.work.Goals as goal
+
+pub work-requires-clause-alone : goal.work-requires-clause-alone
+work-requires-clause-alone g c κs within =
+    let old = c.args.self.now in
+    let layout = layout_of old.plan in
+    let meaning = works_of g.W.Work.meaning layout in
+    let planned = blocks_planned layout meaning old.parts c.requires.kept c.args.number c.requires.enabled.there in
+    planned.alone_at_work (begin_works (node_at old.parts c.args.number).block c.requires.enabled.would)
 
 pub returns-clause-happened : goal.returns-clause-happened
 returns-clause-happened g c =

@@ -1,7 +1,7 @@
 use Rattle.std.proofs.Common.{ap, sym, ◌∙◌}
-use Rattle.flow_intake.specs.PortLaw.{has_ended}
-use Rattle.flow_block.specs.Block.{BlockState, port_at}
+use Rattle.flow_block.specs.Block.{BlockState}
 use Rattle.flow_block.specs.Node.{NodeState}
+use Rattle.flow_block.specs.Peeks.{is_complete}
 use Rattle.flow_net.specs.Net.{layout_in, parts_of}
 use Rattle.flow_net.specs.States.{state_told}
 use Rattle.flow_net.proofs.NetTells.{state_is}
@@ -12,5 +12,5 @@ returns g c =
     let net = c.args.self.now in
     let block_is = c.block.ensures ∙ ap (λ (node : NodeState). node.block) c.node.ensures in
     c.state_of.ensures
-    ∙ ap (λ (block : BlockState). state_told block.stopped (has_ended (port_at 0 block).refusing)) block_is
+    ∙ ap (λ (block : BlockState). state_told block.stopped (is_complete block)) block_is
     ∙ sym (state_is g.W.Work.meaning (layout_in net) (parts_of net) net.kept c.args.block c.requires)

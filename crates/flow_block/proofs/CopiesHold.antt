@@ -1,0 +1,98 @@
+-- Each call keeps what a block copies in order.
+use Rattle.std.proofs.Common.{◌≡◌, ℕ, true, false, List, [], ◌∷◌, Option, Some, None, Result, Ok, Err, refl, sym, ap, ◌∙◌}
+use Rattle.flow_value.specs.declared.value.Value.{Value}
+use Rattle.flow_link.specs.declared.draft.BlockKind.{BlockKind}
+use Rattle.flow_link.specs.declared.draft.BlockKind.TheVariants.{Broadcast, WriteOnce, Action}
+use Rattle.flow_link.specs.Plan.{is_broadcast, is_one_taker}
+use Rattle.flow_link.specs.Layout.{Layout}
+use Rattle.flow_block.specs.Kinds.{is_kept_kind}
+use Rattle.flow_link.proofs.ListTests.{never_both}
+use Rattle.flow_intake.specs.Calls.{first_of}
+use Rattle.flow_outlet.specs.Outlet.{head_of}
+use Rattle.flow_spread.specs.Spread.{fresh_spread}
+use Rattle.flow_block.specs.Block.{BlockState, held_by, made_of, keeps_results, yields, makes_of}
+use Rattle.flow_block.specs.Copies.{copy_place}
+use Rattle.flow_block.specs.Node.{NodeState, NodeCall, hand_at, takes_in, gives_from}
+use Rattle.flow_block.specs.NodeKeeps.{MayCall, after_call, CopiesKept}
+use Rattle.flow_block.specs.NodeLaw.{NodeLaw, CopiesLaw}
+use Rattle.flow_block.specs.Planned.{block_makes}
+use Rattle.flow_block.proofs.CopiesIdle.{no_copy_at, none_broadcast}
+use Rattle.flow_block.proofs.CopierKept.{call_keeps as copier_kept}
+use Rattle.flow_block.proofs.KindsBuilt.{has_one_port, makes_by}
+use Rattle.flow_block.proofs.ShapeHolds.{shape_kept}
+use Rattle.flow_block.proofs.Joins.{copies_unjoined}
+
+-- what shares its messages out copies none, whatever it makes
+record SameCopies (before after : BlockState) : Type 0 where
+  kind : after.kind ≡ before.kind
+  copies : after.copies ≡ before.copies
+
+results_same : (kind : BlockKind) (values : List Value) (block : BlockState) → SameCopies block (keeps_results kind values block)
+results_same Action values block = record { kind = refl; copies = refl }
+results_same _ [] block = record { kind = refl; copies = refl }
+results_same _ (value ∷ values) block = record { kind = refl; copies = refl }
+
+made_same : (made : Result (List Value) ℕ) (block : BlockState) → SameCopies block (yields made block)
+made_same (Ok values) block = results_same block.kind values block
+made_same (Err number) block = record { kind = refl; copies = refl }
+
+next_same : (result : Value → Result (List Value) ℕ) (held : Option Value) (block : BlockState) → SameCopies block (makes_of result held block)
+next_same result None block = record { kind = refl; copies = refl }
+next_same result (Some value) block = made_same (made_of block.kind result value) block
+
+module _ {W : Type 0} (layout : Layout W) (meaning : ℕ → Value → Result (List Value) ℕ) (b : ℕ) where
+  -- what shares its messages out copies none
+  abbrev IsIdle : BlockState → Type 0
+  IsIdle block = is_one_taker block.kind ≡ true → block.copies ≡ fresh_spread false [] 1
+
+  stays : (before after : BlockState) → SameCopies before after → IsIdle before → IsIdle after
+  stays before after same law shares = same.copies ∙ law (ap is_one_taker (sym same.kind) ∙ shares)
+
+  take_keeps : (p k : ℕ) (hand : Option Value) (node : NodeState) → IsIdle node.block → IsIdle (takes_in p k hand node).block
+  take_keeps p k None node law = law
+  take_keeps p k (Some value) node law = law
+
+  give_keeps : (k : ℕ) (head : Option Value) (node : NodeState) → IsIdle node.block → IsIdle (gives_from k head node).block
+  give_keeps k None node law = law
+  give_keeps k (Some value) node law = law
+
+  idle_keeps : (node : NodeState) (call : NodeCall) → NodeLaw layout meaning b node → MayCall layout meaning b call node
+      → IsIdle (after_call layout meaning b call node).block
+  idle_keeps node (NodeCall.close p k) law may = take_keeps p k (hand_at p k node) node law.copies.idle
+  idle_keeps node (NodeCall.give k) law may = give_keeps k (head_of node.block.exits) node law.copies.idle
+  idle_keeps node (NodeCall.copy call) law may = absurd (no_copy_at layout meaning b node law (copy_place call) may.place)
+  idle_keeps node NodeCall.make law may =
+      makes_by IsIdle (block_makes layout meaning b) node.block
+      (λ batch. law.copies.idle)
+      (λ join. law.copies.idle)
+      (λ broadcast. never_both (is_broadcast node.block.kind) broadcast (none_broadcast node.block.kind law.shape.built))
+      (λ other alone single. stays node.block _ (next_same (block_makes layout meaning b) (first_of (held_by node.block)) node.block) law.copies.idle)
+  idle_keeps node call law may = law.copies.idle
+
+  -- its kind stays
+  kind_stays : (node : NodeState) (call : NodeCall) → NodeLaw layout meaning b node → MayCall layout meaning b call node
+      → is_one_taker (after_call layout meaning b call node).block.kind ≡ false → is_one_taker node.block.kind ≡ false
+  kind_stays node call law may copying =
+      let before = law.shape in
+      let after = shape_kept W layout meaning b node call law may in
+      ap is_one_taker (before.kind_is ∙ sym after.kind_is) ∙ copying
+
+  -- the kinds that are built and copy put each message over the last one
+  copies_over : (kind : BlockKind) → is_kept_kind kind ≡ true → is_one_taker kind ≡ false → is_broadcast kind ≡ true
+  copies_over Broadcast built copying = refl
+  copies_over WriteOnce built copying = absurd (cc)
+  copies_over _ built copying = absurd (cc)
+
+  call_keeps : (node : NodeState) (call : NodeCall) → NodeLaw layout meaning b node → MayCall layout meaning b call node
+      → CopiesLaw layout meaning b (after_call layout meaning b call node).block (after_call layout meaning b call node).journal
+  call_keeps node call law may = record {
+    idle = idle_keeps node call law may;
+    copier = λ copying.
+        let copied = kind_stays node call law may copying in
+        copier_kept layout meaning b node (law.copies.copier copied) call may
+        (has_one_port layout meaning b node.block law.shape (copies_unjoined node.block.kind copied))
+        (copies_over node.block.kind law.shape.built copied);
+  }
+
+pub copies_kept : (W : Type 0) → CopiesKept W
+copies_kept W layout meaning b node call law may = call_keeps layout meaning b node call law may

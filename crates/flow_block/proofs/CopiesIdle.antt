@@ -1,0 +1,47 @@
+-- A block that shares its messages out copies none: no link is there over which copies could go.
+use Rattle.std.proofs.Common.{◌≡◌, ℕ, ◌<◌, true, false, List, [], length, Result, refl, ap, arith}
+use Rattle.flow_value.specs.declared.value.Value.{Value}
+use Rattle.flow_link.specs.declared.draft.BlockKind.{BlockKind}
+use Rattle.flow_link.specs.Layout.{Layout}
+use Rattle.flow_block.specs.Kinds.{is_kept_kind}
+use Rattle.flow_link.specs.Plan.{is_one_taker, is_broadcast}
+use Rattle.flow_spread.specs.Spread.{SpreadState, fresh_spread, is_at_rest}
+use Rattle.flow_block.specs.Copies.{copies_left}
+use Rattle.flow_block.specs.Node.{NodeState, left_in, out_view, source_view}
+use Rattle.flow_block.specs.NodeLaw.{NodeLaw}
+use Rattle.flow_block.specs.Peeks.{may_copy}
+use Rattle.flow_block.proofs.KindsBuilt.{by_kind}
+
+pub none_broadcast : (kind : BlockKind) → is_kept_kind kind ≡ true → is_broadcast kind ≡ false
+none_broadcast kind built = by_kind (λ k. is_broadcast k ≡ false) refl refl refl refl refl refl kind built
+
+pub shares_out : (kind : BlockKind) → is_kept_kind kind ≡ true → is_one_taker kind ≡ true
+shares_out kind built = by_kind (λ k. is_one_taker k ≡ true) refl refl refl refl refl refl kind built
+
+module _ {W : Type 0} (layout : Layout W) (meaning : ℕ → Value → Result (List Value) ℕ) (b : ℕ) (node : NodeState)
+    (law : NodeLaw layout meaning b node) where
+  pub shares : is_one_taker node.block.kind ≡ true
+  shares = shares_out node.block.kind law.shape.built
+
+  pub copies_idle : node.block.copies ≡ fresh_spread false [] 1
+  copies_idle = law.copies.idle shares
+
+  pub copies_rest : is_at_rest node.block.copies ≡ true
+  copies_rest = ap is_at_rest copies_idle
+
+  pub none_copied : copies_left node.block.copies ≡ 0
+  none_copied = ap copies_left copies_idle
+
+  pub no_copy_at : (k : ℕ) → k < length node.block.copies.ends → ⊥
+  no_copy_at k there =
+      let none : length node.block.copies.ends ≡ 0 = ap (λ (copies : SpreadState). length copies.ends) copies_idle in
+      omega (arith, none, there)
+
+  pub copies_freely : may_copy node.block ≡ true
+  copies_freely = rw (none_broadcast node.block.kind law.shape.built) refl
+
+  pub left_is_shared : left_in node.block ≡ node.block.exits.left
+  left_is_shared = rw shares refl
+
+  pub view_is_shared : (k : ℕ) → source_view k node ≡ out_view k node
+  view_is_shared k = rw shares refl

@@ -1,0 +1,26 @@
+//! Laws about the groups of a batched join. Each stands on a function that does nothing: whoever calls it has the whole law.
+ghost use Rattle.flow_block.specs.FreshGroups.{FreshGroups};
+ghost use Rattle.flow_block.specs.GroupsKeep.{GroupsStand};
+ghost use Rattle.flow_block.specs.GroupsSeen.{WholeStand, BatchedJoinsAreParts};
+
+/// Whatever a batched join does, what it took is cut, in the order in which it came in over all ports, into the groups that
+/// it gave or has left, and what waits; and only the last group is shorter, once all ports are completed.
+pub fn calls_keep_groups<W>()
+    ensures { GroupsStand W }
+{}
+
+/// Whatever a batched join does, what it gave before a port's mark Complete are whole groups.
+pub fn calls_keep_groups_whole<W>()
+    ensures { WholeStand W }
+{}
+
+/// What a batched join's node knows of its groups is what the laws of a run say of a batched join: its outputs, and when it
+/// is complete.
+pub fn batched_joins_are_parts<W>()
+    ensures { BatchedJoinsAreParts W }
+{}
+
+/// A batched join in which nothing has happened has made no group, and holds nothing.
+pub fn fresh_blocks_have_made_nothing<W>()
+    ensures { FreshGroups W }
+{}

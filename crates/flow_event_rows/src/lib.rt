@@ -1,0 +1,13 @@
+//! Tests of networks event by event: whatever happens first, they come to the same.
+#![tactic(auto)]
+
+#[cfg(test)]
+mod branches;
+#[cfg(test)]
+mod check;
+#[cfg(test)]
+mod events;
+#[cfg(test)]
+mod lanes;
+#[cfg(test)]
+mod scripts;

@@ -1,0 +1,9 @@
+pub mod ExamplesHold
+pub mod GroupsCount
+pub mod GroupsCut
+pub mod GroupsKeep
+pub mod GroupsTaken
+pub mod JournalsTell
+pub mod PortsTaken
+pub mod TuplesKeep
+pub mod TuplesSay

@@ -1,0 +1,409 @@
+//! Networks that are drawn in a line, of blocks of each kind with their options, as drafts and as texts; and tables of
+//! such networks with records, each with what it comes to.
+//!
+//! `a* buffer` is a block that is an input, `t transform(int)` one with a function, and `j join ports 3` one with an
+//! option. `a => j port 1` is a link that propagates, `a -> j` one that does not. Commas stand between them.
+ghost use Rattle.std.specs.Prelude.{◌≡◌, ◌+◌, ◌≤◌, OnOk, IfOk, cond, count_by, length};
+ghost use Rattle.flow_link.specs.Planned.{layout_of};
+
+use crate::check::check;
+use flow_link::{
+    BlockDef, BlockKind, Draft, Ending, LinkDef, Plan, PlanFault, PlanRefusal, plan_check,
+};
+use flow_net::{Net, Posted};
+use flow_trial::{ENOUGH, add, came_to, do_first, has_lines, in_order, settles, told_with, wander};
+use flow_value::{Steps, Text, Value, When};
+use std::alloc::{AllocError, Global};
+use std::process::Abort;
+use std::sync::Wait;
+use std::test::Fail;
+use std::thread::Threads;
+
+/// A block or a link as it is drawn: its two ends are the block itself and its kind, or the blocks that it links.
+#[derive(Clone, Copy)]
+struct Drawn<'a> {
+    first: &'a str,
+    second: &'a str,
+    /// Whether it is a link, and then whether it propagates.
+    link: Option<bool>,
+    /// What stands behind, in pairs of a word and its value.
+    options: &'a str,
+}
+
+/// The first word of a text, and what stands behind it.
+fn split_word(text: &str) -> (&str, &str) {
+    text.split_once(" ").unwrap_or((text, ""))
+}
+
+fn read_drawn(text: &str) -> Drawn<'_> {
+    let (first, others) = split_word(text);
+    let (second, options) = split_word(others);
+    let (target, behind) = split_word(options);
+    match second {
+        "=>" => Drawn {
+            first,
+            second: target,
+            link: Some(true),
+            options: behind,
+        },
+        "->" => Drawn {
+            first,
+            second: target,
+            link: Some(false),
+            options: behind,
+        },
+        _ => Drawn {
+            first,
+            second,
+            link: None,
+            options,
+        },
+    }
+}
+
+impl Drawn<'_> {
+    /// The value of an option.
+    fn option(&self, word: &str) -> Option<&str> {
+        let mut rest = self.options;
+        for _ in 0..self.options.len() {
+            let (key, others) = split_word(rest);
+            let (value, behind) = split_word(others);
+            if key == word {
+                return Some(value);
+            }
+            rest = behind;
+        }
+        None
+    }
+
+    fn number(&self, word: &str) -> Option<u32> {
+        self.option(word)?.parse::<u32>().ok()
+    }
+
+    /// The word of the kind, and the steps of its function if it has one.
+    fn kind_and_work(&self) -> (&str, Option<&str>) {
+        match self.second.split_once("(") {
+            Some((kind, work)) => (kind, Some(work.strip_suffix(")").unwrap_or(work))),
+            None => (self.second, None),
+        }
+    }
+
+    /// The name of the block, and whether it is an input.
+    fn name(&self) -> (&str, bool) {
+        match self.first.strip_suffix("*") {
+            Some(name) => (name, true),
+            None => (self.first, false),
+        }
+    }
+}
+
+fn kind_of(word: &str) -> Option<BlockKind> {
+    Some(match word {
+        "buffer" => BlockKind::Buffer,
+        "broadcast" => BlockKind::Broadcast,
+        "write_once" => BlockKind::WriteOnce,
+        "action" => BlockKind::Action,
+        "transform" => BlockKind::Transform,
+        "transform_many" => BlockKind::TransformMany,
+        "batch" => BlockKind::Batch,
+        "join" => BlockKind::Join,
+        "batched_join" => BlockKind::BatchedJoin,
+        _ => return None,
+    })
+}
+
+/// The function with these steps, between which commas would stand, but there is one at most.
+fn work_of(alloc: Global, work: Option<&str>) -> Result<Option<Steps>, Fail> {
+    match work {
+        Some("") => Ok(Some(Steps::read(alloc, &[])?)),
+        Some(step) => Ok(Some(Steps::read(alloc, &[step])?)),
+        None => Ok(None),
+    }
+}
+
+fn block_of(alloc: Global, drawn: &Drawn) -> Result<BlockDef<Steps>, Fail> {
+    let (name, input) = drawn.name();
+    let (word, work) = drawn.kind_and_work();
+    Ok(BlockDef {
+        name: Text::from_str(alloc, name)?,
+        kind: kind_of(word).ok_or("no kind")?,
+        input,
+        output: false,
+        capacity: drawn.number("capacity"),
+        work: work_of(alloc, work)?,
+        lanes: drawn.number("lanes"),
+        size: drawn.number("size"),
+        ports: drawn.number("ports"),
+        greedy: drawn.option("greedy").map(|word| word == "true"),
+    })
+}
+
+fn link_of(alloc: Global, drawn: &Drawn) -> Result<LinkDef, Fail> {
+    Ok(LinkDef {
+        from: Text::from_str(alloc, drawn.first)?,
+        to: Text::from_str(alloc, drawn.second)?,
+        port: drawn.number("port"),
+        when: drawn.option("when").and_then(When::read),
+        max: drawn.number("max"),
+        propagate: drawn.link == Some(true),
+    })
+}
+
+/// The draft that is drawn so.
+pub(crate) fn draft(alloc: Global, drawn: &str) -> Result<Draft<Steps>, Fail> {
+    let mut blocks = Vec::new(alloc);
+    let mut links = Vec::new(alloc);
+    for part in drawn.split(", ") {
+        let part = read_drawn(part);
+        match part.link {
+            Some(_) => links.push(link_of(alloc, &part)?)?,
+            None => blocks.push(block_of(alloc, &part)?)?,
+        }
+    }
+    Ok(Draft { blocks, links })
+}
+
+/// Puts the options at the end of a text, each as a key with its value.
+fn add_options(text: &mut Vec<u8>, options: &str) -> Result<(), AllocError> {
+    let mut rest = options;
+    for _ in 0..options.len() {
+        if rest.is_empty() {
+            return Ok(());
+        }
+        let (key, others) = split_word(rest);
+        let (value, behind) = split_word(others);
+        let mark = if key == "when" { "\"" } else { "" };
+        add(text, &[key, " = ", mark, value, mark, "\n"])?;
+        rest = behind;
+    }
+    Ok(())
+}
+
+fn add_block(text: &mut Vec<u8>, drawn: &Drawn) -> Result<(), AllocError> {
+    let (name, input) = drawn.name();
+    let (kind, work) = drawn.kind_and_work();
+    let key = if input { "\"\ninput = true\n" } else { "\"\n" };
+    add(text, &["[[block]]\nname = \"", name, key])?;
+    add(text, &["kind = \"", kind, "\"\n"])?;
+    match work {
+        Some("") => add(text, &["work = []\n"])?,
+        Some(step) => add(text, &["work = [\"", step, "\"]\n"])?,
+        None => {}
+    }
+    add_options(text, drawn.options)
+}
+
+fn add_link(text: &mut Vec<u8>, drawn: &Drawn, propagate: bool) -> Result<(), AllocError> {
+    let word = if propagate { "true" } else { "false" };
+    add(
+        text,
+        &[
+            "[[link]]\nfrom = \"",
+            drawn.first,
+            "\"\nto = \"",
+            drawn.second,
+        ],
+    )?;
+    add(text, &["\"\npropagate = ", word, "\n"])?;
+    add_options(text, drawn.options)
+}
+
+/// The text of the network that is drawn so.
+pub(crate) fn text(alloc: Global, drawn: &str) -> Result<Vec<u8>, AllocError> {
+    let mut text = Vec::new(alloc);
+    add(&mut text, &["format = 1\n"])?;
+    for part in drawn.split(", ") {
+        let part = read_drawn(part);
+        match part.link {
+            Some(propagate) => add_link(&mut text, &part, propagate)?,
+            None => add_block(&mut text, &part)?,
+        }
+    }
+    Ok(text)
+}
+
+/// A network with its records and what it comes to.
+#[derive(Clone, Copy)]
+pub(crate) struct Case<'a> {
+    pub(crate) name: &'a str,
+    drawn: &'a str,
+    /// Records, as `a,1 b,2`, or `none`.
+    records: &'a str,
+    /// In each line a status and lines of the report; the network comes to one of them.
+    due: &'a str,
+}
+
+/// The case that these lines are: its name, the network, the records, and what is due.
+pub(crate) fn read_case(lines: &str) -> Result<Case<'_>, Fail> {
+    let (name, others) = lines.split_once("\n").ok_or("no network")?;
+    let (drawn, others) = others.split_once("\n").ok_or("no records")?;
+    let (records, due) = others.split_once("\n").ok_or("nothing due")?;
+    Ok(Case {
+        name,
+        drawn,
+        records,
+        due,
+    })
+}
+
+/// The records as the program reads them.
+fn records_of(alloc: Global, words: &str) -> Result<Vec<u8>, AllocError> {
+    let mut records = Vec::new(alloc);
+    for word in words.split(" ") {
+        if word != "none" {
+            add(&mut records, &[word, "\n"])?;
+        }
+    }
+    Ok(records)
+}
+
+/// The values that the records have for the input with this name.
+fn values_for(alloc: Global, name: &str, records: &str) -> Result<Vec<Value>, AllocError> {
+    let mut values = Vec::new(alloc);
+    for record in records.split(" ") {
+        let (input, text) = record.split_once(",").unwrap_or(("", ""));
+        if input == name {
+            values.push(Value::Text(Text::from_str(alloc, text)?))?;
+        }
+    }
+    Ok(values)
+}
+
+/// Posts what the records have for a block, if it is an input.
+fn post_to(
+    alloc: Global,
+    posted: &mut Vec<Posted>,
+    block: &BlockDef<Steps>,
+    records: &str,
+) -> Result<(), AllocError>
+    ensures { OnOk result (length posted.new.items ≡ length posted.old.items + cond block.now.input 1 0) }
+{
+    if block.input {
+        let values = values_for(alloc, block.name.as_str(), records)?;
+        posted.push(Posted {
+            values,
+            ending: Ending::Complete,
+        })?;
+    }
+    Ok(())
+}
+
+/// What the records post to each input of a plan.
+fn post_records(alloc: Global, plan: &Plan<Steps>, records: &str) -> Result<Vec<Posted>, AllocError>
+    ensures { IfOk result (λ posted. length posted.items ≡ count_by (λ block. block.input)
+        (layout_of plan.now).blocks) }
+{
+    let mut posted = Vec::new(alloc);
+    for number in 0..plan.block_count() {
+        post_to(alloc, &mut posted, plan.block(number), records)?;
+    }
+    Ok(posted)
+}
+
+impl Case<'_> {
+    /// The network, built as a draft, to which the records are posted.
+    pub(crate) fn network(&self, alloc: Global) -> Result<Net<Steps>, Fail> {
+        let Ok(plan) = plan_check(alloc, draft(alloc, self.drawn)?) else {
+            return Err(Fail::new("no plan"));
+        };
+        let posted = post_records(alloc, &plan, self.records)?;
+        match Net::new(alloc, plan, posted) {
+            Ok(net) => Ok(net),
+            Err(_) => Err(Fail::new("out of memory")),
+        }
+    }
+
+    /// Whether what is due stands in the report of a network that is quiet.
+    pub(crate) fn is_met(&self, alloc: Global, net: &Net<Steps>) -> Result<bool, Fail> {
+        let mut lists = Vec::new(alloc);
+        for line in self.due.lines() {
+            lists.push(split_word(line).1)?;
+        }
+        Ok(came_to(alloc, net, lists.as_slice())?.is_some())
+    }
+
+    /// Whether a run of the text over the records comes to what is due.
+    fn runs(
+        &self,
+        rt: &(impl Abort + Threads + Wait + Sync),
+        alloc: Global,
+        workers: u32,
+    ) -> Result<bool, Fail>
+        requires { (1 ≤ workers) × (workers ≤ 64) }
+    {
+        let network = text(alloc, self.drawn)?;
+        let records = records_of(alloc, self.records)?;
+        let told = told_with(rt, alloc, &network, records.as_slice(), workers, ENOUGH)?;
+        for line in self.due.lines() {
+            let (status, lines) = split_word(line);
+            if status.parse::<u8>() == Ok(told.status) && has_lines(told.text.as_slice(), lines) {
+                return Ok(true);
+            }
+        }
+        Ok(false)
+    }
+
+    /// Whether the draft, settled at once, comes to what is due.
+    fn settles(&self, alloc: Global) -> Result<bool, Fail> {
+        let mut net = self.network(alloc)?;
+        Ok(settles(alloc, &mut net) && self.is_met(alloc, &net)?)
+    }
+
+    /// Whether the draft comes to what is due by the schedule with this seed.
+    fn wanders(&self, alloc: Global, seed: u64) -> Result<bool, Fail> {
+        let mut net = self.network(alloc)?;
+        Ok(wander(alloc, &mut net, seed)? && self.is_met(alloc, &net)?)
+    }
+
+    /// Whether the draft comes to what is due with links first or blocks first, forwards or backwards.
+    fn is_met_in_order(
+        &self,
+        alloc: Global,
+        links_first: bool,
+        backwards: bool,
+    ) -> Result<bool, Fail> {
+        let mut net = self.network(alloc)?;
+        let choices = in_order(alloc, net.plan(), links_first, backwards)?;
+        Ok(do_first(alloc, &mut net, choices.as_slice())? && self.is_met(alloc, &net)?)
+    }
+}
+
+/// How many schedules each network is driven by.
+const SEEDS: u64 = 6;
+
+fn check_orders(rt: &(impl Abort + Print), alloc: Global, case: Case) -> Result<(), Fail> {
+    for seed in 0..SEEDS {
+        check(rt, case.name, case.wanders(alloc, seed)?);
+    }
+    for (links_first, backwards) in [(true, false), (false, false), (true, true), (false, true)] {
+        let is_met = case.is_met_in_order(alloc, links_first, backwards)?;
+        check(rt, case.name, is_met);
+    }
+    Ok(())
+}
+
+/// Tests each case of a table, between which empty lines stand: as a text with two workers and with three, as a draft,
+/// and as a draft in several orders of events.
+pub(crate) fn check_cases(
+    rt: &(impl Abort + Print + Threads + Wait + Sync),
+    alloc: Global,
+    table: &str,
+) -> Result<(), Fail> {
+    for lines in table.trim().split("\n\n") {
+        let case = read_case(lines)?;
+        check(rt, case.name, case.runs(rt, alloc, 2)?);
+        check(rt, case.name, case.runs(rt, alloc, 3)?);
+        check(rt, case.name, case.settles(alloc)?);
+        check_orders(rt, alloc, case)?;
+    }
+    Ok(())
+}
+
+/// The fault of the draft that is drawn so; none where it is a plan.
+pub(crate) fn fault_of(alloc: Global, drawn: &str) -> Result<Option<PlanFault>, Fail> {
+    match plan_check(alloc, draft(alloc, drawn)?) {
+        Ok(_) => Ok(None),
+        Err((_, PlanRefusal::Fault(fault))) => Ok(Some(fault)),
+        Err((_, PlanRefusal::Memory)) => Err(Fail::new("out of memory")),
+    }
+}

@@ -1,0 +1,9 @@
+//! Tests of blocks that make groups of the messages of several ports, whatever happens first.
+#![tactic(auto)]
+
+#[cfg(test)]
+mod check;
+#[cfg(test)]
+mod drawn;
+#[cfg(test)]
+mod joins;

@@ -1,0 +1,17 @@
+-- A block has three ports at most, so each of their numbers fits.
+use Rattle.std.proofs.Common.{◌≤◌, length, ap, subst, sym, ◌∙◌, arith}
+use Rattle.flow_link.specs.Planned.{layout_of}
+use Rattle.flow_block.specs.Block.{BlockState}
+use Rattle.flow_block.specs.Node.{NodeState}
+use Rattle.flow_exec.specs.Works.{works_of}
+use Rattle.flow_net.proofs.FindersTell.{few_ports}
+use Rattle.flow_net.proofs.engine.Engine.port_to_complete.Goals as goal
+
+pub overflow_cast-result : goal.overflow_cast-result
+overflow_cast-result g c =
+    let now = c.args.self.now in
+    let block_is = c.block-block.ensures ∙ ap (λ (node : NodeState). node.block) c.node.ensures in
+    let few : length c.block-block.result.now.ports ≤ 3 =
+    subst (λ (block : BlockState). length block.ports ≤ 3) (sym block_is)
+    (few_ports now.plan (works_of g.W.Work.meaning (layout_of now.plan)) now.parts c.requires.kept c.args.number c.requires.known) in
+    omega (arith, few, c.loop-port-test.true, c.port_count-port-end.ensures)
