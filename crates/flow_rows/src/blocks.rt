@@ -2,7 +2,9 @@
 ghost use Rattle.std.specs.Prelude.{◌≡◌, [], ◌∷◌, IfOk, None, true, false};
 ghost use Rattle.flow_value.specs.declared.when.When.TheVariants.{Any};
 ghost use Rattle.flow_intake.specs.Port.{fresh_port};
+ghost use Rattle.flow_link.specs.declared.stage.TargetStage.TheVariants.{Free};
 ghost use Rattle.flow_block.specs.BlockFits.{fresh_block};
+ghost use Rattle.flow_block.specs.Traits.{target_over};
 
 use flow_block::Block;
 use flow_intake::Intake;
@@ -12,6 +14,7 @@ use flow_link::{
 use flow_outlet::LinkRule;
 use flow_value::{MessageHeader, MessageStatus, Parcel, Value, When};
 use std::alloc::Global;
+use std::process::Abort;
 use std::test::Fail;
 
 /// A block of this kind with one lane, with room for so many messages, or for any number, and with one link out of it,
@@ -38,33 +41,55 @@ fn parcel(alloc: Global, number: i64) -> Result<Parcel, Fail> {
     Parcel::new(alloc, Value::Int(number)).map_err(|_| Fail::from("out of memory"))
 }
 
+/// The block takes a message with this header from outside, over a link with the number 0, and makes it ready.
+fn take_in(
+    rt: &impl Abort,
+    alloc: Global,
+    source: &mut Block,
+    header: MessageHeader,
+) -> Result<(), Fail>
+    requires { target_over source.old.ports 0 ≡ Free }
+{
+    let MessageStatus::Accepted = source.offer_message(alloc, 0, header, false)? else {
+        panic!(rt; "it is not accepted");
+    };
+    source.hand_over(0, header, parcel(alloc, 5)?);
+    assert_eq!(rt; source.make(alloc), Ok(true));
+    assert_eq!(rt; source.make(alloc), Ok(false));
+    Ok(())
+}
+
+/// The block takes a message with this header over link 7, and keeps it, since it has a function.
+fn keep(
+    rt: &impl Abort,
+    alloc: Global,
+    target: &mut Block,
+    header: MessageHeader,
+) -> Result<(), Fail>
+    requires { target_over target.old.ports 7 ≡ Free }
+{
+    let MessageStatus::Accepted = target.offer_message(alloc, 7, header, true)? else {
+        panic!(rt; "it is not accepted");
+    };
+    target.hand_over(7, header, parcel(alloc, 5)?);
+    assert_eq!(rt; target.make(alloc), Ok(false));
+    Ok(())
+}
+
 #[test]
 fn a_message_is_taken_and_offered(rt: HostRuntime) -> Result<(), Fail> {
     let one = MessageHeader::new(1).ok_or("no id")?;
     let mut source = block(rt.alloc(), BlockKind::Buffer, None)?;
-    let mut target = block(rt.alloc(), BlockKind::Action, None)?;
-
-    // The source takes a message from outside, over a link with the number 0, and makes it ready.
-    let MessageStatus::Accepted = source.offer_message(rt.alloc(), 0, one, false)? else {
-        panic!(&rt; "it is not accepted");
-    };
-    source.hand_over(0, one, parcel(rt.alloc(), 5)?);
-    assert_eq!(rt; source.make(rt.alloc()), Ok(true));
-    assert_eq!(rt; source.make(rt.alloc()), Ok(false));
-
-    // It is offered over the link to the target, which takes it.
+    take_in(&rt, rt.alloc(), &mut source, one)?;
     let Some((link, header)) = SourceBlock::next_offer(&mut source, rt.alloc())? else {
         panic!(&rt; "nothing is offered");
     };
     assert_eq!(rt; link, 7);
     assert_eq!(rt; header, one);
-    let MessageStatus::Accepted = target.offer_message(rt.alloc(), 7, one, true)? else {
-        panic!(&rt; "it is not accepted");
-    };
-    target.hand_over(7, one, parcel(rt.alloc(), 5)?);
-    assert_eq!(rt; target.make(rt.alloc()), Ok(false));
     assert_eq!(rt; source.completion(), None);
-    Ok(())
+
+    let mut target = block(rt.alloc(), BlockKind::Action, None)?;
+    keep(&rt, rt.alloc(), &mut target, header)
 }
 
 #[test]
