@@ -46,7 +46,7 @@ impl Model for Text {
 #[cycle(value)]
 #[derive(Debug, Drop)]
 pub struct Row {
-    items: Box<Vec<Value>>,
+    items: Arc<Vec<Value>, Global>,
 }
 
 impl Model for Row {
@@ -58,14 +58,16 @@ impl Model for Row {
 
     ghost use Rattle.flow_value.specs.View.{items_from};
 
-    ghost view = { λ r. items_from r.items.value.items };
+    ghost use Rattle.std.specs.Arc.{arc_value};
+
+    ghost view = { λ r. items_from (arc_value r.items).items };
 
     ghost size = { value_count };
 
     ghost use Rattle.std.proofs.Common.{arith};
     ghost use Rattle.flow_value.specs.RowFalls.{most_le-value_count};
 
-    ghost size_decreases = { λ a h. Prim.omega (arith, most_le-value_count a.items.value.items) };
+    ghost size_decreases = { λ a h. Prim.omega (arith, most_le-value_count (arc_value a.items).items) };
 }
 
 impl Text {
@@ -151,8 +153,10 @@ impl Row {
     pub fn new(alloc: Global, items: Vec<Value>) -> Result<Row, Vec<Value>>
         ensures { MatchResult result (λ row. row ≡ items_from items.items) (λ back. back ≡ items) }
     {
-        let items = Box::new(alloc, items).map_err(|refused| refused.value)?;
-        Ok(Row { items })
+        match Arc::new(alloc, items) {
+            Ok(items) => Ok(Row { items }),
+            Err(refused) => Err(refused.value),
+        }
     }
 
     /// The values, in order.
@@ -177,26 +181,41 @@ impl Row {
         self.items.is_empty()
     }
 
-    /// The values, given back. It takes no memory.
-    pub fn into_items(self) -> Vec<Value>
-        ensures { result.items ≡ values_of self }
+    /// The values, given back, or copies of them where another row shares them; where there is no memory for the copies,
+    /// the row comes back.
+    pub fn into_items(self, alloc: Global) -> Result<Vec<Value>, Row>
+        ensures { MatchResult result (λ items. items.items ≡ values_of self) (λ back. back ≡ self) }
     {
-        Box::into_inner(self.items)
+        match Arc::try_unwrap(self.items) {
+            Ok(items) => Ok(items),
+            Err(items) => match copies_of(alloc, items.as_slice()) {
+                Ok(copies) => Ok(copies),
+                Err(_) => Err(Row { items }),
+            },
+        }
     }
 
-    /// A second row with the same values.
-    // Cold, so that the copy of a number or a text, which are most, does not pay for it.
-    #[cold]
+    /// A second row with the same values, which it shares. It takes memory only where as many rows share the values as can
+    /// be counted: then it has values of its own.
     #[cycle(copy)]
     pub fn copy(&self, alloc: Global) -> Result<Row, AllocError>
         ensures { IfOk result (λ row. row ≡ self.now) }
     {
-        let mut copies = Vec::with_capacity(alloc, self.len())?;
-        for item in self.items.iter() {
-            copies.push(item.copy(alloc)?)?;
+        match Arc::try_clone(&self.items) {
+            Ok(items) => Ok(Row { items }),
+            Err(_) => self.copy_items(alloc),
         }
+    }
+
+    // Cold, as it is where a row is shared more often than can be counted.
+    #[cold]
+    #[cycle(copy)]
+    fn copy_items(&self, alloc: Global) -> Result<Row, AllocError>
+        ensures { IfOk result (λ row. row ≡ self.now) }
+    {
+        let items = copies_of(alloc, self.items.as_slice())?;
         Ok(Row {
-            items: Box::new(alloc, copies)?,
+            items: Arc::new(alloc, items)?,
         })
     }
 
@@ -214,6 +233,18 @@ impl Row {
         }
         true
     }
+}
+
+/// A list of copies of these values.
+#[cycle(copy)]
+fn copies_of(alloc: Global, items: &[Value]) -> Result<Vec<Value>, AllocError>
+    ensures { IfOk result (λ copies. copies.items ≡ items.now) }
+{
+    let mut copies = Vec::with_capacity(alloc, items.len())?;
+    for item in items {
+        copies.push(item.copy(alloc)?)?;
+    }
+    Ok(copies)
 }
 
 impl Value {
