@@ -1,3 +1,4 @@
+pub mod Content
 pub mod Fault
 pub mod Function
 pub mod Grammar

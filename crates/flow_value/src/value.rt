@@ -6,6 +6,7 @@ ghost use Rattle.std.specs.Option.{option_copied};
 ghost use Rattle.std.specs.Cmp.{decided, partial_equiv_from_equiv};
 ghost use Rattle.std.proofs.lemmas.Slice.Eq.{bytes_eq-Decides};
 
+use arrayvec::ArrayString;
 use std::alloc::{AllocError, Global};
 use std::marker::Model;
 use std::sync::Arc;
@@ -28,16 +29,49 @@ pub enum Value {
 /// number can be counted no further.
 #[derive(Debug, Drop)]
 pub struct Text {
-    content: Arc<String, Global>,
+    content: Arc<Content, Global>,
 }
 
 impl Model for Text {
-    ghost use Rattle.std.specs.Prelude.{List, ℕ, string_bytes};
+    ghost use Rattle.std.specs.Prelude.{List, ℕ};
     ghost use Rattle.std.specs.Arc.{arc_value};
+    ghost use Rattle.flow_value.specs.Content.{bytes_of};
 
     ghost Value = { List ℕ };
 
-    ghost view = { λ t. string_bytes (arc_value t.content) };
+    ghost view = { λ t. bytes_of (arc_value t.content) };
+}
+
+/// The most bytes of a short text.
+const SHORT: usize = 24;
+
+/// The content of a text: a short one stands beside the count of those that share it, a long one in memory of its own.
+#[derive(Debug, Drop)]
+enum Content {
+    Short(ArrayString<SHORT>),
+    Long(String),
+}
+
+impl Content {
+    ghost use Rattle.flow_value.specs.Content.{bytes_of};
+
+    fn from_str(alloc: Global, content: &str) -> Result<Content, AllocError>
+        ensures { IfOk result (λ kept. bytes_of kept ≡ content.now) }
+    {
+        match ArrayString::from(content) {
+            Ok(short) => Ok(Content::Short(short)),
+            Err(_) => Ok(Content::Long(String::from_str(alloc, content)?)),
+        }
+    }
+
+    fn as_str(&self) -> &str
+        ensures { result.now ≡ bytes_of self.now }
+    {
+        match self {
+            Content::Short(short) => short.as_str(),
+            Content::Long(long) => long.as_str(),
+        }
+    }
 }
 
 /// Values in a row. Contracts see the list of them, as `Items`.
@@ -75,7 +109,7 @@ impl Text {
     pub fn from_str(alloc: Global, content: &str) -> Result<Text, AllocError>
         ensures { IfOk result (λ text. text ≡ content.now) }
     {
-        let content = String::from_str(alloc, content)?;
+        let content = Content::from_str(alloc, content)?;
         Ok(Text {
             content: Arc::new(alloc, content)?,
         })
@@ -85,9 +119,9 @@ impl Text {
     pub fn new(alloc: Global, content: String) -> Result<Text, String>
         ensures { MatchResult result (λ text. text ≡ string_bytes content) (λ back. back ≡ content) }
     {
-        match Arc::new(alloc, content) {
-            Ok(content) => Ok(Text { content }),
-            Err(refused) => Err(refused.value),
+        match Text::from_str(alloc, content.as_str()) {
+            Ok(text) => Ok(text),
+            Err(_) => Err(content),
         }
     }
 
@@ -103,26 +137,23 @@ impl Text {
         ensures count { result ≡ length self.now }
         ensures small { result < 2 ^ 63 }
     {
-        self.content.len()
+        self.as_str().len()
     }
 
     /// Whether it has no bytes.
     pub fn is_empty(&self) -> bool
         ensures { IsTrue result ↔ (self.now ≡ []) }
     {
-        self.content.is_empty()
+        self.as_str().is_empty()
     }
 
-    /// The content, given back, or a copy of it where another text shares it; where there is no memory for the copy,
-    /// the text comes back.
+    /// A copy of the content in memory of its own; where there is no memory for it, the text comes back.
     pub fn into_string(self, alloc: Global) -> Result<String, Text>
         ensures { MatchResult result (λ content. string_bytes content ≡ self) (λ back. back ≡ self) }
     {
-        match Arc::try_unwrap(self.content) {
+        match String::from_str(alloc, self.as_str()) {
             Ok(content) => Ok(content),
-            Err(content) => {
-                String::from_str(alloc, content.as_str()).map_err(|_| Text { content })
-            }
+            Err(_) => Err(self),
         }
     }
 
