@@ -5,6 +5,8 @@ ghost use Rattle.std.specs.Prelude.{◌≡◌, ◌<◌, ◌^◌, ◌↔◌, [], 
 ghost use Rattle.std.specs.Option.{option_copied};
 ghost use Rattle.std.specs.Cmp.{decided, partial_equiv_from_equiv};
 ghost use Rattle.std.proofs.lemmas.Slice.Eq.{bytes_eq-Decides};
+ghost use Rattle.flow_value.specs.Content.{bytes_of};
+ghost use Rattle.flow_value.specs.Plain.{is_plain_byte, all_plain};
 
 use arrayvec::ArrayString;
 use std::alloc::{AllocError, Global};
@@ -39,39 +41,7 @@ impl Model for Text {
 
     ghost Value = { List ℕ };
 
-    ghost view = { λ t. bytes_of (arc_value t.content) };
-}
-
-/// The most bytes of a short text.
-const SHORT: usize = 24;
-
-/// The content of a text: a short one stands beside the count of those that share it, a long one in memory of its own.
-#[derive(Debug, Drop)]
-enum Content {
-    Short(ArrayString<SHORT>),
-    Long(String),
-}
-
-impl Content {
-    ghost use Rattle.flow_value.specs.Content.{bytes_of};
-
-    fn from_str(alloc: Global, content: &str) -> Result<Content, AllocError>
-        ensures { IfOk result (λ kept. bytes_of kept ≡ content.now) }
-    {
-        match ArrayString::from(content) {
-            Ok(short) => Ok(Content::Short(short)),
-            Err(_) => Ok(Content::Long(String::from_str(alloc, content)?)),
-        }
-    }
-
-    fn as_str(&self) -> &str
-        ensures { result.now ≡ bytes_of self.now }
-    {
-        match self {
-            Content::Short(short) => short.as_str(),
-            Content::Long(long) => long.as_str(),
-        }
-    }
+    ghost view = { λ t. bytes_of (arc_value t.content).bytes };
 }
 
 /// Values in a row. Contracts see the list of them, as `Items`.
@@ -91,7 +61,6 @@ impl Model for Row {
     ghost coded = { items_code };
 
     ghost use Rattle.flow_value.specs.View.{items_from};
-
     ghost use Rattle.std.specs.Arc.{arc_value};
 
     ghost view = { λ r. items_from (arc_value r.items).items };
@@ -104,12 +73,73 @@ impl Model for Row {
     ghost size_decreases = { λ a h. Prim.omega (arith, most_le-value_count (arc_value a.items).items) };
 }
 
+/// The most bytes of a short text.
+const SHORT: usize = 24;
+
+/// The bytes of a text: short ones stand beside the count of those that share them, long ones in memory of their own.
+#[derive(Debug, Drop)]
+enum Bytes {
+    Short(ArrayString<SHORT>),
+    Long(String),
+}
+
+/// The content of a text. Whether it is plain is found out once, since a text is printed many times.
+#[derive(Debug, Drop)]
+struct Content {
+    bytes: Bytes,
+    is_plain: bool,
+    ghost told: { is_plain ≡ all_plain (bytes_of bytes) },
+}
+
+impl Bytes {
+    fn from_str(alloc: Global, content: &str) -> Result<Bytes, AllocError>
+        ensures { IfOk result (λ bytes. bytes_of bytes ≡ content.now) }
+    {
+        match ArrayString::from(content) {
+            Ok(short) => Ok(Bytes::Short(short)),
+            Err(_) => Ok(Bytes::Long(String::from_str(alloc, content)?)),
+        }
+    }
+
+    fn as_str(&self) -> &str
+        ensures { result.now ≡ bytes_of self.now }
+    {
+        match self {
+            Bytes::Short(short) => short.as_str(),
+            Bytes::Long(long) => long.as_str(),
+        }
+    }
+}
+
+/// Whether each of these bytes is plain: no control byte, no double quote and no backslash.
+fn are_plain(bytes: &[u8]) -> bool
+    ensures { result ≡ all_plain bytes.now }
+{
+    let mut plain = true;
+    for byte in bytes {
+        plain &= is_plain_byte(*byte);
+    }
+    plain
+}
+
+/// Whether the byte is plain: no control byte, no double quote and no backslash.
+// It has no branches.
+#[inline]
+pub fn is_plain_byte(byte: u8) -> bool
+    ensures { result ≡ is_plain_byte byte }
+{
+    (byte >= 32) & (byte != b'"') & (byte != b'\\') & (byte != 127)
+}
+
 impl Text {
     /// A text with a copy of this content.
     pub fn from_str(alloc: Global, content: &str) -> Result<Text, AllocError>
         ensures { IfOk result (λ text. text ≡ content.now) }
     {
-        let content = Content::from_str(alloc, content)?;
+        let content = Content {
+            bytes: Bytes::from_str(alloc, content)?,
+            is_plain: are_plain(content.as_bytes()),
+        };
         Ok(Text {
             content: Arc::new(alloc, content)?,
         })
@@ -129,7 +159,7 @@ impl Text {
     pub fn as_str(&self) -> &str
         ensures { result.now ≡ self.now }
     {
-        self.content.as_str()
+        self.content.bytes.as_str()
     }
 
     /// How many bytes its UTF-8 form has.
@@ -145,6 +175,13 @@ impl Text {
         ensures { IsTrue result ↔ (self.now ≡ []) }
     {
         self.as_str().is_empty()
+    }
+
+    /// Whether each byte is plain: no control byte, no double quote and no backslash. It is known without a look at them.
+    pub fn is_plain(&self) -> bool
+        ensures { result ≡ all_plain self.now }
+    {
+        self.content.is_plain
     }
 
     /// A copy of the content in memory of its own; where there is no memory for it, the text comes back.
