@@ -1,4 +1,4 @@
-//! Tests of blocks that make groups of the messages of several ports, whatever happens first.
+//! Tests of blocks that make groups of the messages of several ports, whatever happens first, and of copies.
 #![tactic(auto)]
 
 #[cfg(test)]
@@ -7,3 +7,5 @@ mod check;
 mod drawn;
 #[cfg(test)]
 mod joins;
+#[cfg(test)]
+mod spread;
