@@ -321,7 +321,7 @@ module _ {W : Type 0} (layout : Layout W) (b : ℕ) where
           (twice (λ i link. CopiedOver journal link) (copied_on (Out copies.id) mine.declined) (c.each k here) c.each)
 
     -- its links, by their places
-    rule_is : (k : ℕ) → k < length block.copies.ends
+    pub rule_is : (k : ℕ) → k < length block.copies.ends
         → (k < length (links_from layout b)) × ((link_at block.copies k).rule ≡ rule_of layout (get_or (links_from layout b) k 0))
     rule_is k here =
         let links = links_from layout b in
@@ -334,13 +334,13 @@ module _ {W : Type 0} (layout : Layout W) (b : ℕ) where
               ∙ lists.get_or-map (rule_of layout) links k 0 no_end.link.rule small,
         )
 
-    place_is : (k : ℕ) → k < length block.copies.ends → out_place layout b (link_at block.copies k).rule.id ≡ k
+    pub place_is : (k : ℕ) → k < length block.copies.ends → out_place layout b (link_at block.copies k).rule.id ≡ k
     place_is k here =
         let is = rule_is k here in
         ap (λ (rule : LinkRule). out_place layout b rule.id) is.1
         ∙ (stands_below (is_out_of layout b) (length layout.links) k is.0).before
 
-    differ : (j k : ℕ) → j < length block.copies.ends → k < length block.copies.ends → j ≢ k
+    pub differ : (j k : ℕ) → j < length block.copies.ends → k < length block.copies.ends → j ≢ k
         → (link_at block.copies k).rule.id == (link_at block.copies j).rule.id ≡ false
     differ j k here there apart =
         ne_eqb (link_at block.copies k).rule.id (link_at block.copies j).rule.id (λ same.

@@ -3,9 +3,12 @@ pub mod ClosingStays
 pub mod CompleteSeen
 pub mod CopierHolds
 pub mod CopierKept
+pub mod CopiesCalled
 pub mod CopiesFit
+pub mod CopiesGoOn
 pub mod CopiesHold
 pub mod CopiesIdle
+pub mod CopiesMove
 pub mod CourseMore
 pub mod EndsAtRest
 pub mod EndsHold

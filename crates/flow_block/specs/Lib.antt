@@ -3,6 +3,7 @@ pub mod BlockFits
 pub mod Causes
 pub mod Copier
 pub mod Copies
+pub mod CopiesSeen
 pub mod Fresh
 pub mod FreshGroups
 pub mod GroupsKeep
@@ -14,6 +15,7 @@ pub mod JobsEnd
 pub mod JobsOut
 pub mod JournalFits
 pub mod Kinds
+pub mod NextCopies
 pub mod NextMoves
 pub mod Node
 pub mod NodeKeeps

@@ -24,6 +24,7 @@
 mod answer;
 mod block;
 mod copies;
+mod copies_laws;
 mod copying;
 mod group_laws;
 mod input;
