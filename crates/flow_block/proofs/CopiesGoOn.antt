@@ -175,7 +175,7 @@ module _ {W : Type 0} (layout : Layout W) (b : ℕ) (node : NodeState) (c : Copi
   may_by k _ here e is = absurd (cc)
 
   -- a link that still owes has room, so it ends only with its block
-  owing_goes : (k : ℕ) → k < length copies.ends → block.stopped ≡ None → (end_at copies k).owes ≡ true
+  pub owing_goes : (k : ℕ) → k < length copies.ends → block.stopped ≡ None → (end_at copies k).owes ≡ true
       → end_of (link_at copies k) block.stopped ≡ None
   owing_goes k here going owes =
       let link = link_at copies k in
@@ -184,7 +184,7 @@ module _ {W : Type 0} (layout : Layout W) (b : ℕ) (node : NodeState) (c : Copi
       open_going (is_cut link) link.rule.passes block.stopped going
       (false_from_ne_true (is_cut link) (λ cut. no_room_left link.rule.max link.given cut room))
 
-  offers_so : (k : ℕ) → k < length copies.ends → block.stopped ≡ None → (end_at copies k).owes ≡ true
+  pub offers_so : (k : ℕ) → k < length copies.ends → block.stopped ≡ None → (end_at copies k).owes ≡ true
       → is_free (stage_at copies k) ≡ true
       → (next_copy k node ≡ Some (move.Offer copies.id)) ⊎ ((is_write_once block.kind ≡ true) × (is_pending block ≡ true))
   offers_so k here going owes free =

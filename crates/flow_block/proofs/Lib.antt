@@ -9,6 +9,9 @@ pub mod CopiesGoOn
 pub mod CopiesHold
 pub mod CopiesIdle
 pub mod CopiesMove
+pub mod CopiesRest
+pub mod CopiesSeen
+pub mod CopiesTested
 pub mod CourseMore
 pub mod EndsAtRest
 pub mod EndsHold

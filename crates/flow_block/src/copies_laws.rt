@@ -19,3 +19,17 @@ pub fn copies_move_views<W>()
     ensures calls { CopiesMoveViews W }
     ensures puts { PutsMoveNone }
 {}
+
+/// What the node of a block that copies knows is what the laws of a run say of a broadcast or write-once block: which copies
+/// its links carry, what its ends gave, its load, and what is left.
+pub fn copiers_are_parts<W>()
+    ensures { CopiersAreParts W }
+{}
+
+/// A block that copies is still where no end of a link out of it has a move, and it rests where nothing is under way
+/// there: what it would do but for offers that wait it may do, an element is left only where it took one in all or
+/// faulted, and nothing is left to offer over a link that is not over.
+pub fn copiers_with_nothing_to_do_rest<W>()
+    ensures still { CopiersAreStill W }
+    ensures rest { CopiersRest W }
+{}

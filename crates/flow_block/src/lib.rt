@@ -43,6 +43,10 @@ mod tuples;
 mod work;
 
 pub use block::Block;
+pub use copies_laws::{
+    copiers_are_parts, copiers_with_nothing_to_do_rest, copies_move_views, next_copies_have_causes,
+    next_copies_may_be_made,
+};
 pub use group_laws::{
     batched_joins_are_parts, calls_keep_groups, calls_keep_groups_whole,
     fresh_blocks_have_made_nothing,
