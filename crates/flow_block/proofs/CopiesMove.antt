@@ -77,7 +77,7 @@ module _ (node : NodeState) where
   copies = node.block.copies
 
   abbrev with_spread : SpreadState → List Mark → NodeState
-  with_spread s journal = record { block = with_copies s node.block; journal = journal }
+  with_spread s journal = record node { block = with_copies s node.block; journal = journal }
 
   -- where no mark is made
   others_stay : (call : CopyCall) (k : ℕ) (s : SpreadState) (link : OutEnd) → copy_place call ≡ k → OneMoves copies s k link
