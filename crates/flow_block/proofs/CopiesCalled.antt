@@ -1,5 +1,5 @@
 -- What the calls that led to a block that copies tell of its element, and of what each link was given.
-use Rattle.std.proofs.Common.{◌≡◌, ℕ, zero, suc, ◌+◌, ◌<◌, ◌≤◌, Bool, true, false, List, [], ◌∷◌, ◌++◌, length, get_or, map, refl, ap, sym, subst, ◌∙◌, arith, append-nil, append_assoc}
+use Rattle.std.proofs.Common.{◌≡◌, ℕ, ◌+◌, ◌<◌, ◌≤◌, true, false, List, [], ◌∷◌, ◌++◌, length, map, refl, ap, sym, subst, ◌∙◌, arith, append-nil, append_assoc}
 use Rattle.std.proofs.lemmas.List.{length-append, length-map}
 use Rattle.flow_value.specs.declared.value.Value.{Value}
 use Rattle.flow_link.specs.declared.plan.LinkSource.TheVariants.{Block}
@@ -7,10 +7,9 @@ use Rattle.flow_link.specs.declared.trace.Mark.{Mark}
 use Rattle.flow_link.specs.Layout.{Layout}
 use Rattle.flow_link.specs.Plan.{link_in, is_write_once}
 use Rattle.flow_link.specs.Trace.{gave_over}
-use Rattle.flow_outlet.specs.declared.ends.LinkRule.{LinkRule}
 use Rattle.flow_outlet.specs.History.{listed}
 use Rattle.flow_spread.specs.declared.end.CopyEnd.{CopyEnd}
-use Rattle.flow_spread.specs.Copied.{Call, Course, after, after_all, AllAllowed, put_by, put_in, given_in, LinkHas}
+use Rattle.flow_spread.specs.Copied.{Call, Course, after, after_all, put_by, put_in, given_in, LinkHas}
 use Rattle.flow_spread.specs.Law.{SpreadLaw}
 use Rattle.flow_spread.specs.Spread.{SpreadState, link_at}
 use Rattle.flow_spread.proofs.LinksCopied.{each_link_has}
@@ -136,7 +135,8 @@ module _ {W : Type 0} (layout : Layout W) (b : ℕ) (block : BlockState) (journa
       let rules = map (rule_of layout) (links_from layout b) in
       let there : k < length rules =
       omega (arith, (rule_is layout b block journal c k here).0, length-map (links_from layout b) (rule_of layout)) in
-      let by_calls = each_link_has.each (is_write_once block.kind) false rules 1 (omega arith) (omega arith) c.calls c.allowed k there in
+      let by_calls = each_link_has.each (is_write_once block.kind) false rules 1 (omega arith) (omega arith)
+      c.calls c.allowed k there in
       subst (λ (given : List Value). LinkHas given elements k block.copies) (sym (c.gave_is k here))
       (subst (λ (run : Course). LinkHas (given_in k c.calls start) elements k run.spread) c.leads_here by_calls)
 

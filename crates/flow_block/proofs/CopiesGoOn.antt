@@ -1,27 +1,22 @@
 -- What the end of a link over which copies go would do next is a call that it may make, and has its cause.
-use Rattle.std.proofs.Common.{◌≡◌, ℕ, ◌<◌, ◌==◌, ◌⊎◌, inl, inr, Bool, true, false, cond, not, ◌&&◌, ◌||◌, List, [], ◌∷◌, length, Option, Some, None, is_some, is_none, refl, ap, ap₂, sym, subst, ◌∙◌, ⊎_elim, arith, eqb-true}
-use Rattle.std.specs.Bool.{OnTrue}
+use Rattle.std.proofs.Common.{◌≡◌, ℕ, ◌<◌, ◌==◌, ◌⊎◌, inl, inr, Bool, true, false, cond, not, ◌&&◌, ◌||◌, length, Option, Some, None, is_some, is_none, refl, ap, sym, subst, ◌∙◌, ⊎_elim, arith, eqb-true}
 use Rattle.std.proofs.lemmas.Bool.{OnTrue_at, and_parts, or_cases, false_from_ne_true}
-use Rattle.flow_value.specs.declared.value.Value.{Value}
-use Rattle.flow_value.specs.declared.when.When.{When}
 use Rattle.flow_link.specs.declared.phase.LinkEnd.{LinkEnd}
 use Rattle.flow_link.specs.declared.phase.LinkEnd.TheVariants.{Plain}
 use Rattle.flow_link.specs.declared.phase.Move.{Move}
 use Rattle.flow_link.specs.declared.phase.Move.TheVariants as move
 use Rattle.flow_link.specs.declared.stage.SourceStage.{SourceStage}
 use Rattle.flow_link.specs.declared.stage.SourceStage.TheVariants as source
-use Rattle.flow_link.specs.declared.trace.Mark.{Mark}
 use Rattle.flow_link.specs.declared.trace.Outcome.{Outcome}
 use Rattle.flow_link.specs.Layout.{Layout}
 use Rattle.flow_link.specs.Plan.{is_write_once}
 use Rattle.flow_link.proofs.ListTests.{never_both}
 use Rattle.flow_outlet.specs.End.{is_free, is_waiting, is_cut}
-use Rattle.flow_outlet.specs.Law.{admits_head}
 use Rattle.flow_outlet.specs.Outlet.{is_empty, end_of, end_by, is_at_rest as outlet_rest}
-use Rattle.flow_outlet.proofs.StagesTell.{free_is, waits_for}
+use Rattle.flow_outlet.proofs.StagesTell.{free_is}
 use Rattle.flow_spread.specs.End.{count_of, owes_it}
-use Rattle.flow_spread.specs.Law.{SpreadLaw, may_owe, speaks}
-use Rattle.flow_spread.specs.Spread.{SpreadState, end_at, link_at, stage_at, may_offer, is_spread_free, is_at_rest, only_waits, free_move, move_at, out_move}
+use Rattle.flow_spread.specs.Law.{SpreadLaw, speaks}
+use Rattle.flow_spread.specs.Spread.{SpreadState, end_at, link_at, stage_at, may_offer, is_spread_free, is_at_rest, only_waits, free_move, move_at}
 use Rattle.flow_spread.proofs.CountsOfEnds.{none_there}
 use Rattle.flow_spread.proofs.LawKept.{admits_some}
 use Rattle.flow_spread.proofs.MovesAllowed.{moves_are_allowed}
@@ -30,8 +25,8 @@ use Rattle.flow_block.specs.Block.{BlockState, held_by}
 use Rattle.flow_block.specs.Copier.{Copier}
 use Rattle.flow_block.specs.Copies.{copies_left}
 use Rattle.flow_block.specs.Node.{NodeState}
-use Rattle.flow_block.specs.NextCopies.{next_copy, MayMoveCopy, NextCopiesMay, CopiesHaveCauses, NextCopiesHaveCauses}
-use Rattle.flow_block.specs.Peeks.{is_pending, fault_cause, fault_at_ports, is_worked_off, could_stop, has_all_given, would_copy, is_copy_held_up, next_fault, is_out_at_rest}
+use Rattle.flow_block.specs.NextCopies.{next_copy, MayMoveCopy, NextCopiesMay, NextCopiesHaveCauses}
+use Rattle.flow_block.specs.Peeks.{is_pending, fault_cause, fault_at_ports, is_worked_off, could_stop, has_all_given, would_copy, is_copy_held_up}
 use Rattle.flow_block.proofs.CopierHolds.{copies_lawful}
 use Rattle.flow_block.proofs.CopiesCalled.{once_is}
 use Rattle.flow_block.proofs.EndsTell.{no_room_left}
@@ -98,7 +93,8 @@ none_owe s e = by_test (count_of owes_it s.ends == 0) refl e
 
 pub free_owes_none : (s : SpreadState) → is_spread_free s ≡ true → count_of owes_it s.ends ≡ 0
 free_owes_none s e =
-    eqb-true (count_of owes_it s.ends) 0 (and_parts (count_of owes_it s.ends == 0) _ (and_parts (count_of owes_it s.ends == 0 && _) _ e).0).0
+    eqb-true (count_of owes_it s.ends) 0
+    (and_parts (count_of owes_it s.ends == 0) _ (and_parts (count_of owes_it s.ends == 0 && _) _ e).0).0
 
 -- a link is not cut over which the element still goes
 open_going : (cut passes : Bool) (stopped : Option Outcome) → stopped ≡ None → cut ≡ false
@@ -191,7 +187,8 @@ module _ {W : Type 0} (layout : Layout W) (b : ℕ) (node : NodeState) (c : Copi
       let link = link_at copies k in
       let own = law.each k here in
       let some : is_some copies.element ≡ true =
-      admits_some link.rule.when copies.element (OnTrue_at (or_second (speaks link.stage) (end_at copies k).owes owes) own.admitted) in
+      admits_some link.rule.when copies.element
+      (OnTrue_at (or_second (speaks link.stage) (end_at copies k).owes owes) own.admitted) in
       let late = link.declined == copies.id in
       let moves : next_copy k node ≡ free_move copies k (end_of link block.stopped) =
       ap (move_at copies k block.stopped (is_copy_held_up block)) (free_is link.stage free) in
@@ -215,7 +212,8 @@ next_copies_have_causes W layout b node c = record {
   offers = offers_so layout b node c;
   withdraws = λ k e. (withdraws_only k e).1;
   faults = λ number e.
-      at_rest_where (could_stop node.block) (outlet_rest node.block.exits) (is_at_rest node.block.copies) (fault_cause node.block) number e;
+      at_rest_where (could_stop node.block) (outlet_rest node.block.exits) (is_at_rest node.block.copies)
+      (fault_cause node.block) number e;
 }
   where
     withdraws_only : (k : ℕ) → next_copy k node ≡ Some move.Withdraw

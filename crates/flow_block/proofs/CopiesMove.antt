@@ -1,10 +1,7 @@
 -- A call at a link over which copies go moves the view of its own end as the laws of one link have it, and no other end's.
-use Rattle.std.proofs.Common.{◌≡◌, ◌≢◌, ℕ, ◌-◌, ◌<◌, ◌==◌, ◌&&◌, not, cond, Bool, true, false, List, [], ◌∷◌, ◌++◌, length, set, Option, Some, None, is_some, refl, ap, sym, ◌∙◌, subst, arith, eq-eqb, eqb-true}
-use Rattle.std.proofs.Math.ListN.{get_or-map}
+use Rattle.std.proofs.Common.{◌≡◌, ◌≢◌, ℕ, ◌-◌, ◌<◌, ◌==◌, ◌&&◌, not, cond, Bool, true, false, List, [], ◌∷◌, ◌++◌, length, Option, Some, None, is_some, refl, ap, sym, ◌∙◌, arith, eq-eqb, eqb-true}
 use Rattle.std.proofs.lemmas.List.{length-set, get_or-set_same, get_or-set_other}
 use Rattle.flow_value.specs.declared.value.Value.{Value}
-use Rattle.flow_link.specs.declared.phase.LinkEnd.{LinkEnd}
-use Rattle.flow_link.specs.declared.phase.Phase.{Phase}
 use Rattle.flow_link.specs.declared.stage.SourceStage.{SourceStage}
 use Rattle.flow_link.specs.declared.stage.SourceStage.TheVariants as source
 use Rattle.flow_link.specs.declared.trace.Mark.{Mark}
@@ -12,29 +9,27 @@ use Rattle.flow_link.specs.declared.trace.Mark.TheVariants.{Gave}
 use Rattle.flow_link.specs.Layout.{Layout}
 use Rattle.flow_link.specs.Moves.{source_at}
 use Rattle.flow_link.specs.Stage.{source_stage_of, target_stage_of, source_looks}
-use Rattle.flow_link.specs.Trace.{gave_over}
 use Rattle.flow_link.specs.Views.{SourceView, TargetView}
 use Rattle.flow_link.specs.Views as views
-use Rattle.flow_link.proofs.ListTests.{never_both}
 use Rattle.flow_link.proofs.StagesKept.{source_looks_kept}
 use Rattle.flow_intake.specs.Port.{EndState, PortState, end_in}
 use Rattle.flow_intake.specs.Calls.{gives_room}
 use Rattle.flow_outlet.specs.declared.ends.OutEnd.{OutEnd}
-use Rattle.flow_outlet.specs.ByLink.{forgotten, forgotten_stage}
+use Rattle.flow_outlet.specs.ByLink.{forgotten_stage}
 use Rattle.flow_outlet.specs.End.{is_waiting}
 use Rattle.flow_outlet.specs.Outlet.{given_end}
 use Rattle.flow_spread.specs.declared.end.CopyEnd.{CopyEnd}
-use Rattle.flow_spread.specs.End.{no_end, end_in as copy_end_in, moved, is_answer, is_waiting_at, takes_up, count_of}
-use Rattle.flow_spread.specs.Spread.{SpreadState, end_at, link_at, stage_at, changes, puts, prepares, offers, looks, gives, holds, withdraws, ends_link, asked_id}
+use Rattle.flow_spread.specs.End.{no_end, moved, is_answer, is_waiting_at, count_of}
+use Rattle.flow_spread.specs.Spread.{SpreadState, end_at, link_at, stage_at, changes, prepares, offers, gives, asked_id}
 use Rattle.flow_spread.proofs.CountsOfEnds.{none_there}
 use Rattle.flow_spread.proofs.LawKept.{law_tells, end_mapped}
 use Rattle.flow_block.specs.Block.{with_copies, port_at}
 use Rattle.flow_block.specs.Copier.{Copier}
-use Rattle.flow_block.specs.Copies.{CopyCall, copy_place, after_copy, copies_left}
+use Rattle.flow_block.specs.Copies.{CopyCall, copy_place, copies_left}
 use Rattle.flow_block.specs.NextCopies.{CopiesMoveViews, PutsMoveNone}
 use Rattle.flow_block.specs.Node.{NodeState, NodeCall, view_of_in, view_of_out, in_link_at, copy_view, marks_copied, copies_by}
 use Rattle.flow_block.specs.NodeKeeps.{MayCopy}
-use Rattle.flow_block.specs.ViewsMove.{OthersStay, ViewsMove, CopiesAt}
+use Rattle.flow_block.specs.ViewsMove.{OthersStay, ViewsMove}
 use Rattle.flow_block.proofs.CopierHolds.{copies_lawful, differ, no_exit_at}
 use Rattle.flow_block.proofs.JournalTells.{took_same, gave_same, gave_here}
 use Rattle.flow_block.proofs.PortsChange.{port_of_map}
@@ -96,7 +91,8 @@ module _ {W : Type 0} (layout : Layout W) (b : ℕ) (node : NodeState) (c : Copi
   -- the element is given, and the mark names the link that it goes over
   given : (k : ℕ) (value : Value) → k < length node.block.copies.ends → node.block.copies.element ≡ Some value
       → ViewsMove (NodeCall.copy (CopyCall.give k)) node
-      (with_spread node (gives k node.block.copies) (marks_copied (link_at node.block.copies k).rule.id (Some value) node.journal))
+      (with_spread node (gives k node.block.copies)
+      (marks_copied (link_at node.block.copies k).rule.id (Some value) node.journal))
   given k value there element =
       let old = node.block.copies in
       let l = (link_at old k).rule.id in
@@ -145,7 +141,8 @@ module _ {W : Type 0} (layout : Layout W) (b : ℕ) (node : NodeState) (c : Copi
   moves_by (CopyCall.look k phase) may =
       let s = node.block.copies in
       let stage = source_looks (stage_at s k) phase in
-      let end : CopyEnd = moved (record (link_at s k) { stage = stage }) ((end_at s k).owes && not (is_answer s.once stage)) (end_at s k) in
+      let end : CopyEnd = moved (record (link_at s k) { stage = stage })
+      ((end_at s k).owes && not (is_answer s.once stage)) (end_at s k) in
       let one = one_moves s k end may.place in
       record {
         moved = ap (view_of_out node.journal) one.here
@@ -158,7 +155,8 @@ module _ {W : Type 0} (layout : Layout W) (b : ℕ) (node : NodeState) (c : Copi
       gives_some k node.block.copies.element may.place refl well.is_element
   moves_by (CopyCall.hold k) may =
       let s = node.block.copies in
-      let end : CopyEnd = moved (record (link_at s k) { stage = source.Reserved (asked_id (stage_at s k)) }) (end_at s k).owes (end_at s k) in
+      let end : CopyEnd =
+      moved (record (link_at s k) { stage = source.Reserved (asked_id (stage_at s k)) }) (end_at s k).owes (end_at s k) in
       let one = one_moves s k end may.place in
       record {
         moved = ap (view_of_out node.journal) one.here;
@@ -166,7 +164,8 @@ module _ {W : Type 0} (layout : Layout W) (b : ℕ) (node : NodeState) (c : Copi
       }
   moves_by (CopyCall.withdraw k) may =
       let s = node.block.copies in
-      let end : CopyEnd = moved (record (link_at s k) { declined = asked_id (stage_at s k); stage = source.Free }) (end_at s k).owes (end_at s k) in
+      let end : CopyEnd = moved (record (link_at s k) { declined = asked_id (stage_at s k); stage = source.Free })
+      (end_at s k).owes (end_at s k) in
       let one = one_moves s k end may.place in
       record {
         moved = ap (view_of_out node.journal) one.here;

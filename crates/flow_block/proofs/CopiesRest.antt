@@ -3,11 +3,8 @@ use Rattle.std.proofs.Common.{◌≡◌, ℕ, suc, ◌+◌, ◌<◌, ◌≤◌, 
 use Rattle.std.proofs.lemmas.Bool.{OnTrue_at, and_from, or_cases, or_left, or_right, false_from_ne_true}
 use Rattle.flow_value.specs.When.{admits}
 use Rattle.flow_value.specs.declared.value.Value.{Value}
-use Rattle.flow_value.specs.declared.when.When.{When}
 use Rattle.flow_link.specs.declared.draft.BlockKind.{BlockKind}
-use Rattle.flow_link.specs.declared.draft.BlockKind.TheVariants.{Broadcast, WriteOnce}
 use Rattle.flow_link.specs.declared.phase.LinkEnd.{LinkEnd}
-use Rattle.flow_link.specs.declared.phase.Move.{Move}
 use Rattle.flow_link.specs.declared.phase.Move.TheVariants as move
 use Rattle.flow_link.specs.declared.plan.LinkSource.TheVariants.{Block}
 use Rattle.flow_link.specs.declared.stage.SourceStage.{SourceStage}
@@ -20,10 +17,9 @@ use Rattle.flow_link.specs.Layout.{Layout}
 use Rattle.flow_link.specs.Lists.{is_empty as is_none_left}
 use Rattle.flow_link.specs.Plan.{is_write_once, is_broadcast}
 use Rattle.flow_link.specs.Quiet.{first_of as first_left, head_as, head_from, admits_head, has_served_all}
-use Rattle.flow_link.specs.RestsByParts.{OutletRests, is_to_hand_over, is_wished_for, is_over as is_view_over}
+use Rattle.flow_link.specs.RestsByParts.{is_to_hand_over, is_wished_for, is_over as is_view_over}
 use Rattle.flow_link.specs.Stage.{source_stage_of}
 use Rattle.flow_link.specs.Trace.{Run, gave_over, given_over, is_faulted, is_done, is_used_up, is_cut as is_run_cut, block_of, link_of, marks_of, left_at}
-use Rattle.flow_link.specs.Views.{SourceStage as SourceViewStage}
 use Rattle.flow_link.proofs.ListTests.{never_both}
 use Rattle.flow_link.proofs.LinksLaidOut.{none_step}
 use Rattle.flow_outlet.specs.declared.ends.LinkRule.{LinkRule}
@@ -32,23 +28,22 @@ use Rattle.flow_outlet.specs.End.{is_free, is_away, is_waiting, is_cut}
 use Rattle.flow_outlet.specs.History.{listed}
 use Rattle.flow_outlet.specs.Law.{is_refused, admits_head as admits_element}
 use Rattle.flow_outlet.specs.Outlet.{is_empty, first_of, end_of}
-use Rattle.flow_outlet.proofs.StagesTell.{waits_for}
 use Rattle.flow_spread.specs.declared.end.CopyEnd.{CopyEnd}
 use Rattle.flow_spread.specs.End.{end_in, is_busy, is_away_at, is_waiting_at, is_busy_at, count_of, owes_it}
 use Rattle.flow_spread.specs.Law.{SpreadLaw, may_owe, speaks}
-use Rattle.flow_spread.specs.Spread.{SpreadState, end_at, link_at, stage_at, left_of, may_offer, is_spread_free, is_at_rest, only_waits, free_move, move_at}
+use Rattle.flow_spread.specs.Spread.{SpreadState, end_at, link_at, stage_at, left_of, is_spread_free, is_at_rest, only_waits, free_move, move_at}
 use Rattle.flow_spread.proofs.StagesTell.{or_first}
-use Rattle.flow_block.specs.Block.{BlockState, held_by}
+use Rattle.flow_block.specs.Block.{held_by}
 use Rattle.flow_block.specs.Copier.{Copier}
 use Rattle.flow_block.specs.Copies.{copies_left, none_waits, may_put}
-use Rattle.flow_block.specs.CopiesSeen.{IsCopierOf, MayCarry, NoCopyMoves, CopiesAtRest, CopierStill, CopierRests, CopiersAreStill, CopiersRest}
+use Rattle.flow_block.specs.CopiesSeen.{IsCopierOf, NoCopyMoves, CopiesAtRest, CopierStill, CopierRests, CopiersAreStill, CopiersRest}
 use Rattle.flow_block.specs.NextCopies.{next_copy}
 use Rattle.flow_block.specs.Node.{NodeState}
 use Rattle.flow_block.specs.NodeRests.{rests_out}
-use Rattle.flow_block.specs.Peeks.{is_pending, could_stop, would_copy, is_copy_held_up}
+use Rattle.flow_block.specs.Peeks.{is_pending, would_copy, is_copy_held_up}
 use Rattle.flow_block.specs.Planned.{rule_of, out_place}
 use Rattle.flow_block.proofs.CopierHolds.{copies_lawful, none_left}
-use Rattle.flow_block.proofs.CopiesCalled.{once_is, HasCopyEnd}
+use Rattle.flow_block.proofs.CopiesCalled.{once_is}
 use Rattle.flow_block.proofs.CopiesGoOn.{owing_goes, offers_so}
 use Rattle.flow_block.proofs.CopiesSeen.{by_copier, count_none, law, copying, marks_are, of_marks, left_is, has_end, stage_is, given_is, has_copies, done_so}
 use Rattle.flow_block.proofs.EndsAtRest.{rests_away, over_unless, not_cut, not_stopped}
@@ -305,7 +300,8 @@ module _ {W : Type 0} (run : Run W) (ends : ℕ → Ends) (b : ℕ) (node : Node
             never_both (is_faulted (marks_of run b)) (faulted_so n is) going
         left_none_where (Some Done) is going None left admitted = cc
         left_none_where (Some Done) is going (Some v) left admitted =
-            let nothing_left : listed (left_of node.block.copies) ≡ [] = sym (left_is run ends b node part) ∙ done_so run ends b node part is in
+            let nothing_left : listed (left_of node.block.copies) ≡ [] =
+            sym (left_is run ends b node part) ∙ done_so run ends b node part is in
             let some_left : v ∷ [] ≡ [] = sym (ap listed left) ∙ nothing_left in
             cc
         left_none_where None is going None left admitted = cc
@@ -318,7 +314,8 @@ module _ {W : Type 0} (run : Run W) (ends : ℕ → Ends) (b : ℕ) (node : Node
             let single : s.once ≡ true = once_is run.layout b node.block node.journal part.law ∙ once in
             let given : gave_over link.rule.id node.journal ≡ [] = given_is run ends b node part l small begins ∙ none_given in
             one_of_four (end_at s at).owes (link.last == s.id) (is_refused link.stage) (is_cut link)
-            (λ owes. never_both (is_pending node.block) (never_offers run.layout b node part.law nothing at there is owes free).1 (calm is))
+            (λ owes. never_both (is_pending node.block)
+            (never_offers run.layout b node part.law nothing at there is owes free).1 (calm is))
             (λ same.
             let is_id = eqb-true link.last s.id same in
             let since = own.some_since (ap is_some it) in
@@ -330,7 +327,8 @@ module _ {W : Type 0} (run : Run W) (ends : ℕ → Ends) (b : ℕ) (node : Node
             (mine.once_owes single here)
 
       -- no message would cross next over a link that is free
-      module _ (calm : node.block.stopped ≡ None → is_pending node.block ≡ false) (carries : is_used_up (link_of run l).max [] ≡ false)
+      module _ (calm : node.block.stopped ≡ None → is_pending node.block ≡ false)
+          (carries : is_used_up (link_of run l).max [] ≡ false)
           (free : link.stage ≡ source.Free) where
         once_over : is_write_once node.block.kind ≡ true → is_faulted (marks_of run b) ≡ false → (given : List Value)
             → given_over run l ≡ given
@@ -341,7 +339,8 @@ module _ {W : Type 0} (run : Run W) (ends : ℕ → Ends) (b : ℕ) (node : Node
             left_none_where calm free once is carries node.block.stopped refl going left refl
             (ap (admits_head run l) (sym (ap first_left (left_is run ends b node part) ∙ first_listed left)) ∙ e)
 
-        offered_by : (faulted : Bool) → is_faulted (marks_of run b) ≡ faulted → admits_head run l (head_as run b l faulted kind) ≡ true → ⊥
+        offered_by : (faulted : Bool) → is_faulted (marks_of run b) ≡ faulted
+            → admits_head run l (head_as run b l faulted kind) ≡ true → ⊥
         offered_by true is e = cc
         offered_by false is e =
             by_copier (λ k. kind ≡ k → admits_head run l (head_as run b l false k) ≡ true → ⊥)
@@ -350,7 +349,8 @@ module _ {W : Type 0} (run : Run W) (ends : ℕ → Ends) (b : ℕ) (node : Node
             kind (copying run ends b node part) refl e
 
         offered_so : admits_head run l (head_from run l (Block b)) ≡ false
-        offered_so = false_from_ne_true (admits_head run l (head_from run l (Block b))) (offered_by (is_faulted (marks_of run b)) refl)
+        offered_so =
+            false_from_ne_true (admits_head run l (head_from run l (Block b))) (offered_by (is_faulted (marks_of run b)) refl)
 
     -- nothing is left of what copies each message over the last one, unless it faulted
     served_by : (stopped : Option Outcome) → node.block.stopped ≡ stopped → is_write_once node.block.kind ≡ false
@@ -381,7 +381,8 @@ module _ {W : Type 0} (run : Run W) (ends : ℕ → Ends) (b : ℕ) (node : Node
         ended = ended_so;
         offered = λ l small begins free.
             offered_so l small begins calm (carries l small begins)
-            (free_back (stage_at node.block.copies (out_place run.layout b l)) (sym (stage_is run ends b node part l small begins) ∙ free));
+            (free_back (stage_at node.block.copies (out_place run.layout b l))
+            (sym (stage_is run ends b node part l small begins) ∙ free));
       };
       served = served_so;
     }

@@ -1,12 +1,10 @@
 -- What the node of a block that copies knows is what the laws of a run say of a broadcast or write-once block.
-use Rattle.std.proofs.Common.{◌≡◌, ℕ, zero, suc, ◌+◌, ◌-◌, ◌<◌, ◌≤◌, ◌==◌, leb, cond, Bool, true, false, not, ◌&&◌, ◌||◌, List, [], ◌∷◌, ◌++◌, length, take, drop, Option, Some, None, is_some, refl, ap, ap₂, sym, subst, ◌∙◌, ⊎_elim, arith, append-nil, eq-eqb, eqb-true, le-leb, get_or}
+use Rattle.std.proofs.Common.{◌≡◌, ℕ, suc, ◌+◌, ◌-◌, ◌<◌, ◌≤◌, ◌==◌, leb, cond, Bool, true, false, not, ◌&&◌, ◌||◌, List, [], ◌∷◌, ◌++◌, length, take, drop, Option, Some, None, is_some, refl, ap, ap₂, sym, subst, ◌∙◌, ⊎_elim, arith, append-nil, eq-eqb, eqb-true, le-leb, get_or}
 use Rattle.std.proofs.Math.Bool.{or_comm}
 use Rattle.std.proofs.Math.ListN.{get_or-map}
 use Rattle.std.proofs.lemmas.Bool.{OnTrue_at, and_from, and_parts, or_left, or_right, false_from_ne_true}
-use Rattle.std.proofs.lemmas.List.{length-append}
 use Rattle.flow_value.specs.When.{admits}
 use Rattle.flow_value.specs.declared.value.Value.{Value}
-use Rattle.flow_value.specs.declared.when.When.{When}
 use Rattle.flow_link.specs.declared.draft.BlockKind.{BlockKind}
 use Rattle.flow_link.specs.declared.draft.BlockKind.TheVariants.{Broadcast, WriteOnce}
 use Rattle.flow_link.specs.declared.phase.LinkEnd.{LinkEnd}
@@ -17,12 +15,11 @@ use Rattle.flow_link.specs.declared.trace.Outcome.{Outcome}
 use Rattle.flow_link.specs.declared.trace.Outcome.TheVariants.{Done}
 use Rattle.flow_link.specs.Composes.{Ends, SourceKeeps, as_seen, is_refused_stage}
 use Rattle.flow_link.specs.Copies.{broadcasts, broadcasts_over, writes_once, gives_it_once, is_served, copies_as, carried_of}
-use Rattle.flow_link.specs.Law.{takes_level, keeps_link_order}
-use Rattle.flow_link.specs.Lists.{every, below, is_empty, is_front, is_subsequence, same_values, without_last}
+use Rattle.flow_link.specs.Lists.{every, is_empty, is_front, is_subsequence, same_values, without_last}
 use Rattle.flow_link.specs.Making.{worked, makes_as, load_as}
 use Rattle.flow_link.specs.Plan.{is_one_taker, is_write_once, is_reserving, reserves_by_kind, begins_at, is_steady, is_sole}
 use Rattle.flow_link.specs.Stage.{source_stage_of}
-use Rattle.flow_link.specs.Trace.{BlockTrace, Run, took, gave_over, given_by, given_over, has_fault, is_done, is_faulted, is_cut, is_used_up, block_of, link_of, link_numbers, marks_of, held_at, left_at, trace_of}
+use Rattle.flow_link.specs.Trace.{BlockTrace, Run, took, gave_over, given_by, given_over, has_fault, is_done, is_faulted, is_cut, is_used_up, block_of, link_of, link_numbers, marks_of, held_at, left_at}
 use Rattle.flow_link.specs.Views as views
 use Rattle.flow_link.proofs.ListTests.{never_both, every_below, front_without, same_values_where, or_others, or_not}
 use Rattle.flow_intake.specs.Port.{PortState, fresh_port}
@@ -40,10 +37,10 @@ use Rattle.flow_spread.specs.Spread.{SpreadState, end_at, link_at, stage_at, lef
 use Rattle.flow_spread.proofs.CountsOfEnds.{none_there}
 use Rattle.flow_spread.proofs.LawKept.{law_tells, admits_some}
 use Rattle.flow_spread.proofs.StagesTell.{or_second}
-use Rattle.flow_block.specs.Block.{BlockState, port_at, held_by}
+use Rattle.flow_block.specs.Block.{BlockState, port_at}
 use Rattle.flow_block.specs.Copier.{Copier}
 use Rattle.flow_block.specs.Copies.{copies_left}
-use Rattle.flow_block.specs.CopiesSeen.{IsCopierOf, MayCarry, PutsAtOnce, CopierSeen, CopiersAreParts}
+use Rattle.flow_block.specs.CopiesSeen.{IsCopierOf, PutsAtOnce, CopierSeen, CopiersAreParts}
 use Rattle.flow_block.specs.Node.{NodeState, left_in}
 use Rattle.flow_block.specs.Planned.{rule_of, out_place}
 use Rattle.flow_block.proofs.CopierHolds.{copies_lawful}
@@ -159,7 +156,8 @@ module _ {W : Type 0} (run : Run W) (ends : ℕ → Ends) (b : ℕ) (node : Node
       ∙ front_without elements (held_at run b 0)
 
   -- where somebody owes the element, there is one
-  element_at : (element : Option Value) → node.block.copies.element ≡ element → (count_of owes_it node.block.copies.ends == 0) ≡ false
+  element_at : (element : Option Value) → node.block.copies.element ≡ element
+      → (count_of owes_it node.block.copies.ends == 0) ≡ false
       → is_some node.block.copies.element ≡ true
   element_at (Some v) is e = ap is_some is
   element_at None is e =
@@ -215,7 +213,8 @@ module _ {W : Type 0} (run : Run W) (ends : ℕ → Ends) (b : ℕ) (node : Node
         let somebody : (count_of owes_it s.ends == 0) ≡ false =
         false_from_ne_true (count_of owes_it s.ends == 0) (λ none. never_both (end_at s at).owes owes
         (none_there owes_it s.ends at has_end.there (eqb-true (count_of owes_it s.ends) 0 none))) in (
-          ap (λ (left : List Value). not (is_empty left)) left_is ∙ kept_where (count_of owes_it s.ends == 0) s.element somebody there,
+          ap (λ (left : List Value). not (is_empty left)) left_is
+              ∙ kept_where (count_of owes_it s.ends == 0) s.element somebody there,
           there,
         )
 
@@ -228,7 +227,8 @@ module _ {W : Type 0} (run : Run W) (ends : ℕ → Ends) (b : ℕ) (node : Node
         || (is_refused_stage (ends l).source.stage && is_front (given_over seen l) (carried_of (link_of run l) all))))
         && (not (is_sole run.layout.blocks run.layout.links (link_of run l).target)
         || (is_front (take 1 (carried_of (link_of run l) all)) (given_over seen l)
-        || (not (is_empty (left_at seen b)) && is_front (take 1 (carried_of (link_of run l) (without_last all))) (given_over seen l))
+        || (not (is_empty (left_at seen b))
+        && is_front (take 1 (carried_of (link_of run l) (without_last all))) (given_over seen l))
         || (is_refused_stage (ends l).source.stage && is_empty (given_over seen l))))
 
     carries : Carries elements ≡ true
@@ -264,7 +264,8 @@ module _ {W : Type 0} (run : Run W) (ends : ℕ → Ends) (b : ℕ) (node : Node
         || (told && is_empty given)) ≡ true)
         (carries_first_so link.rule given elements c.older s.element owes (is_refused link.stage) stays told c.newest owed
         refused_seen (c.first alone) (c.begun alone)) in
-        and_from _ _ (and_from (is_subsequence given elements) _ (part_passes c.part) (or_not steady _ all_so)) (or_not sole _ first_so)
+        and_from _ _ (and_from (is_subsequence given elements) _ (part_passes c.part) (or_not steady _ all_so))
+        (or_not sole _ first_so)
 
   carries_over : (l : ℕ) → l < length run.layout.links → broadcasts_over seen b l ≡ true
   carries_over l small = by_source (begins_at b (link_of run l).source) refl
@@ -408,7 +409,8 @@ module _ {W : Type 0} (run : Run W) (ends : ℕ → Ends) (b : ℕ) (node : Node
     writes_once_so =
         let s = node.block.copies in
         let taken = took (marks_of run b) in
-        let small : leb (length taken) 1 ≡ true = ap (λ (values : List Value). leb (length values) 1) all_taken ∙ le-leb (length elements) 1 few in
+        let small : leb (length taken) 1 ≡ true =
+        ap (λ (values : List Value). leb (length values) 1) all_taken ∙ le-leb (length elements) 1 few in
         let held : is_empty (held_at run b 0) ≡ true = ap is_empty (held_is 0 ∙ well.none_held) in
         let once_each = every_below (gives_it_once seen b) (length run.layout.links) given_once in
         let left : LeftWell (left_at run b) =
@@ -418,7 +420,9 @@ module _ {W : Type 0} (run : Run W) (ends : ℕ → Ends) (b : ℕ) (node : Node
   copies_so : (is_write_once node.block.kind ≡ true → PutsAtOnce run ends b node) → copies_as seen b kind ≡ true
   copies_so well =
       by_copier (λ k. kind ≡ k → copies_as seen b k ≡ true) (λ is. broadcasts_so)
-      (λ is. let once : is_write_once node.block.kind ≡ true = ap is_write_once (part.kind_is ∙ is) in writes_once_so once (well once))
+      (λ is.
+      let once : is_write_once node.block.kind ≡ true = ap is_write_once (part.kind_is ∙ is) in
+      writes_once_so once (well once))
       kind copying refl
 
   -- Its ends, its load, and what is left

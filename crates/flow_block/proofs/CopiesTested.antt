@@ -1,12 +1,12 @@
 -- The tests by which a law of copies is decided, over plain lists: they pass where the lists are parts, fronts, and the same.
-use Rattle.std.proofs.Common.{◌≡◌, ℕ, zero, suc, ◌+◌, ◌-◌, ◌<◌, ◌≤◌, ◌==◌, cond, Bool, true, false, not, ◌&&◌, ◌||◌, List, [], ◌∷◌, ◌++◌, length, take, drop, Option, Some, None, is_some, refl, ap, sym, subst, ◌∙◌, arith, append-nil}
+use Rattle.std.proofs.Common.{◌≡◌, ℕ, ◌-◌, ◌≤◌, cond, Bool, true, false, not, ◌&&◌, ◌||◌, List, [], ◌∷◌, ◌++◌, length, take, drop, Option, Some, None, is_some, refl, ap, sym, subst, ◌∙◌, arith, append-nil}
 use Rattle.std.proofs.lemmas.Bool.{and_from, or_left, or_right}
 use Rattle.std.proofs.lemmas.List.{length-append}
 use Rattle.std.proofs.Math.Seq.{drop-append_seam}
 use Rattle.flow_value.specs.Same.{same_value}
 use Rattle.flow_value.specs.declared.value.Value.{Value}
 use Rattle.flow_link.specs.Lists.{is_empty, is_front, is_subsequence, same_values, without_last}
-use Rattle.flow_link.proofs.ListTests.{never_both, same_value_refl, same_values_refl, same_values_where, front_append, front_refl, front_without}
+use Rattle.flow_link.proofs.ListTests.{never_both, same_value_refl, same_values_where, front_append, front_refl, front_without}
 use Rattle.flow_outlet.specs.declared.ends.LinkRule.{LinkRule}
 use Rattle.flow_outlet.specs.History.{listed}
 use Rattle.flow_outlet.specs.Outlet.{first_of}
@@ -29,7 +29,8 @@ tail_of : (ws : List Value) (u : Value) (us : List Value) → is_subsequence (u 
 tail_of [] u us e = absurd (cc)
 tail_of (w ∷ ws) u us e = by_same (same_value u w) (tail_of ws) e
   where
-    by_same : (same : Bool) → ((x : Value) (rest : List Value) → is_subsequence (x ∷ rest) ws ≡ true → is_subsequence rest ws ≡ true)
+    by_same : (same : Bool)
+        → ((x : Value) (rest : List Value) → is_subsequence (x ∷ rest) ws ≡ true → is_subsequence rest ws ≡ true)
         → elim same [ true ↦ is_subsequence us ws | false ↦ is_subsequence (u ∷ us) ws ] ≡ true
         → is_subsequence us (w ∷ ws) ≡ true
     by_same true tail is = more_by us w ws tail is
@@ -42,7 +43,10 @@ picked (false ∷ chosen) [] = refl
 picked (true ∷ chosen) (v ∷ whole) = by_same (same_value v v) (same_value_refl v) (picked chosen whole)
   where
     by_same : (same : Bool) → same ≡ true → is_subsequence (pick chosen whole) whole ≡ true
-        → elim same [ true ↦ is_subsequence (pick chosen whole) whole | false ↦ is_subsequence (v ∷ pick chosen whole) whole ] ≡ true
+        → elim same [
+          | true ↦ is_subsequence (pick chosen whole) whole
+          | false ↦ is_subsequence (v ∷ pick chosen whole) whole
+        ] ≡ true
     by_same true is later = later
     by_same false is later = absurd (cc)
 picked (false ∷ chosen) (v ∷ whole) = more_by (pick chosen whole) v whole (tail_of whole) (picked chosen whole)
@@ -143,7 +147,8 @@ module _ (rule : LinkRule) (given elements older : List Value) (element : Option
       by_given [] is = absurd (cc)
       by_given (w ∷ vs) is =
           let same : w ≡ v = cc in
-          subst (λ (u : Value). is_front (v ∷ []) (u ∷ vs) ≡ true) (sym same) (and_from (same_value v v) true (same_value_refl v) refl)
+          subst (λ (u : Value). is_front (v ∷ []) (u ∷ vs) ≡ true) (sym same)
+          (and_from (same_value v v) true (same_value_refl v) refl)
 
   pub carries_first_so : (refused ≡ false → first_of given ≡ first_of (carried rule (older ++ cond owes [] (listed element))))
       → (is_some (first_of given) ≡ true → first_of given ≡ first_of (carried rule elements))

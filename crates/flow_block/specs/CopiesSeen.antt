@@ -1,6 +1,6 @@
 -- A block that copies as a part of a run: what its node knows of its element and its links is what the laws of a run say of a
 -- broadcast or write-once block.
-use Rattle.std.specs.Prelude.{◌≡◌, ℕ, ◌+◌, ◌<◌, true, false, List, [], length, Some, None}
+use Rattle.std.specs.Prelude.{◌≡◌, ℕ, ◌+◌, ◌<◌, true, false, [], length, Some, None}
 use Rattle.flow_link.specs.declared.plan.LinkSource.TheVariants.{Block}
 use Rattle.flow_link.specs.declared.trace.Outcome.TheVariants.{Done}
 use Rattle.flow_link.specs.Composes.{Ends, SourceKeeps, as_seen}
