@@ -1,5 +1,5 @@
 -- Each call keeps what a node says of how it ends.
-use Rattle.std.proofs.Common.{◌≡◌, ℕ, ◌<◌, leb, ltb, ◌==◌, ◌⊎◌, cond, not, ◌&&◌, ◌||◌, Bool, true, false, List, [], ◌∷◌, ◌++◌, length, set, map, Option, Some, None, is_some, Result, Ok, Err, refl, ap, sym, ◌∙◌, inl, inr, ⊎_elim, arith, eq-eqb, eqb-true, subst, suc, ap₂}
+use Rattle.std.proofs.Common.{◌≡◌, ℕ, ◌<◌, leb, ltb, ◌==◌, ◌⊎◌, cond, not, ◌&&◌, ◌||◌, Bool, true, false, List, [], ◌∷◌, ◌++◌, length, set, map, Option, Some, None, is_some, Result, Ok, Err, refl, ap, sym, ◌∙◌, inl, inr, ⊎_elim, arith, eq-eqb, eqb-true, subst, suc, ap₂, ◌-◌}
 use Rattle.std.proofs.lemmas.Bool.{or_cases, ne_eqb, and_from, or_left, or_right, leb-false, lt-ltb, and_parts}
 use Rattle.std.proofs.lemmas.List.{length-map, length-set}
 use Rattle.flow_value.specs.declared.value.Value.{Value}
@@ -24,14 +24,17 @@ use Rattle.flow_intake.proofs.CountsOfEnds.{hand_comes}
 use Rattle.flow_outlet.specs.Outlet.{OutletState, is_empty, head_of, gives, prepares, offers, denies, withdraws, ends_link, looks as exit_looks, is_at_rest, end_at, stage_at}
 use Rattle.flow_link.proofs.ListTests.{never_both}
 use Rattle.flow_link.specs.Plan.{is_broadcast}
-use Rattle.flow_block.specs.Copies.{copy_place}
-use Rattle.flow_block.proofs.CopiesIdle.{no_copy_at, none_broadcast}
-use Rattle.flow_block.specs.Block.{BlockState, port_in, port_at, with_port, with_jobs, held_by, made_of, fails, puts_out, yields, keeps_results, makes_of, is_batch, takes_group, makes_row, gives_out, stops_by, is_join, makes_tuple}
+use Rattle.flow_block.specs.Copies.{copy_place, CopyCall, after_copy, copies_left}
+use Rattle.flow_block.proofs.CopiesIdle.{no_copy_at, copies_at}
+use Rattle.flow_block.specs.Block.{BlockState, port_in, port_at, with_port, with_jobs, held_by, made_of, fails, puts_out, yields, keeps_results, makes_of, is_batch, takes_group, makes_row, gives_out, stops_by, is_join, makes_tuple, copies_next, with_copies}
 use Rattle.flow_block.specs.Jobs.{JobsState, begins, works_off}
-use Rattle.flow_block.specs.Node.{NodeState, NodeCall, takes_in, gives_from, in_link_at, out_link_at}
-use Rattle.flow_block.specs.NodeKeeps.{EndsKept, MayCall, InAt, MayGive, MayCompletePort, after_call}
+use Rattle.flow_block.specs.Node.{NodeState, NodeCall, takes_in, gives_from, in_link_at, out_link_at, copies_by}
+use Rattle.flow_block.specs.NodeKeeps.{EndsKept, MayCall, InAt, MayGive, MayCompletePort, after_call, MayCopy}
 use Rattle.flow_block.specs.NodeLaw.{NodeLaw, ShapeLaw, EndsLaw, has_made_all, is_fault_seen, stops_at, outcome_in, have_completed}
 use Rattle.flow_block.specs.Peeks.{fault_at_ports, holds_nothing, has_group, is_worked_off, next_fault, may_finish, all_ended}
+use Rattle.flow_spread.specs.Spread.{SpreadState, link_at, puts}
+use Rattle.flow_block.proofs.CopierHolds.{copy_goes_on}
+use Rattle.flow_block.proofs.CopiesLeave.{marks_by_copy, held_by_copy}
 use Rattle.flow_block.specs.Planned.{block_makes}
 use Rattle.flow_block.proofs.FaultsSeen.{sees_at, seen_at_ports, cause_tells}
 use Rattle.flow_block.proofs.GoingOn.{open_goes_on, away_goes_on, rest_stays, wanted_away, wish_away, waiting_away, look_stays_home, may_work_tells, may_complete_tells, may_fault_tells, may_finish_tells}
@@ -167,6 +170,25 @@ port_moves kind made_all ports exits fault stopped journal p port law waiting se
           ⊎_elim (λ own. inl own)
           (λ there. inr
           (some_set (λ (q : PortState). sees_at number q) ports p port (fresh_port None) (seen number) there))
+          (law.fault_cause number is);
+      faulted_by = law.faulted_by;
+    }
+
+-- all ports change, and hold what they held
+ports_move : (kind : BlockKind) (made_all : Bool) (ports : List PortState) (exits : OutletState) (fault : Option ℕ) (stopped : Option Outcome)
+    (journal : List Mark) (change : PortState → PortState) → ((port : PortState) → (change port).waiting ≡ port.waiting)
+    → ((number : ℕ) (port : PortState) → sees_at number (change port) ≡ sees_at number port)
+    → BlockEnds kind made_all ports exits fault stopped journal → BlockEnds kind made_all (map change ports) exits fault stopped journal
+ports_move kind made_all ports exits fault stopped journal change waits seen law =
+    let holds = every_map (λ (q : PortState). is_empty q.waiting) change ports (λ q. ap is_empty (waits q)) in
+    record {
+      stopped_is = law.stopped_is;
+      at_rest = law.at_rest;
+      done_empty = λ is. let empty = law.done_empty is in (holds ∙ empty.0, empty.1);
+      done_complete = λ is. rw (length-map ports change) (law.done_complete is);
+      fault_cause = λ number is.
+          ⊎_elim (λ own. inl own)
+          (λ there. inr (some_map (λ (q : PortState). sees_at number q) change ports (seen number) ∙ there))
           (law.fault_cause number is);
       faulted_by = law.faulted_by;
     }
@@ -336,6 +358,51 @@ module _ {W : Type 0} (layout : Layout W) (meaning : ℕ → Value → Result (L
       (λ q there other. each_port block journal law q there))
       (going_ends block.kind _ (set block.ports 0 (change (port_at 0 block))) exits block.fault block.stopped journal none
       (sym law.stopped_is ∙ none))
+
+  -- what it copies is another message
+  copies_change : (block : BlockState) (journal : List Mark) → Ends block journal → (copies : SpreadState)
+      → Ends (record block { copies = copies }) journal
+  copies_change block journal law copies = both (record block { copies = copies }) journal (each_port block journal law) (whole block journal law)
+
+  copied_next : (first : Option Value) (block : BlockState) (journal : List Mark) → Ends block journal → block.stopped ≡ None
+      → Ends (copies_next first block) journal
+  copied_next None block journal law none = law
+  copied_next (Some value) block journal law none =
+      let change : PortState → PortState = λ port. gives_room (1 - copies_left (puts value block.copies)) (takes_next port) in
+      copies_change (with_port 0 change block) journal
+      (works_on block journal law change block.exits block.jobs block.recorded refl refl none) (puts value block.copies)
+
+  -- what it copies goes over a link
+  copied_out : (node : NodeState) → NodeLaw layout meaning b node → (call : CopyCall) → MayCopy call node
+      → Ends (copies_by call node).block (copies_by call node).journal
+  copied_out node law call may =
+      let block = node.block in
+      let copies = after_copy call block.copies in
+      let new = with_copies copies block in
+      let change = gives_room (copies_left block.copies - copies_left copies) in
+      let ports = map change block.ports in
+      let holds = every_map (λ (q : PortState). is_empty q.waiting) change block.ports (λ q. refl) in
+      let made = made_all_same block new node.journal node.journal refl refl (held_by_copy copies block) holds
+      (tuple_at_all change block.ports (λ q. refl)) refl in
+      marks_by_copy (λ journal. Ends new journal) call block.copies node.journal
+      (both new node.journal
+      (each_after_all (PortEndsBy block.fault node.journal) change block.ports
+      (λ q there. each_port block node.journal law.ends q there))
+      (subst (λ (all : Bool). BlockEnds block.kind all ports block.exits block.fault block.stopped node.journal) (sym made)
+      (ports_move block.kind (has_made_all block node.journal) block.ports block.exits block.fault block.stopped node.journal change (λ q. refl)
+      (λ number q. refl) (whole block node.journal law.ends))))
+      (λ k is value.
+      let gives : MayCopy (CopyCall.give k) node = subst (λ (by : CopyCall). MayCopy by node) is may in
+      let copier = law.copies.copier (copies_at layout meaning b node law k gives.place) in
+      let none = copy_goes_on layout b block node.journal copier k gives.place gives.stands in
+      let mark = Gave (link_at block.copies k).rule.id value in
+      let nothing : EndsNothing mark = record { complete = λ q. refl; fault = refl; done = refl; goes_on = refl } in
+      both new (node.journal ++ mark ∷ [])
+      (each_after_all (PortEndsBy block.fault (node.journal ++ mark ∷ [])) change block.ports
+      (λ q there. port_marked block.fault node.journal mark nothing q (change (port_in block.ports q))
+      (each_port block node.journal law.ends q there)))
+      (going_ends _ _ ports block.exits block.fault block.stopped (node.journal ++ mark ∷ []) none
+      (going_marked node.journal mark nothing (sym law.ends.stopped_is ∙ none))))
 
   -- it works on a message of each port
   pub works_on_each : (block : BlockState) (journal : List Mark) → Ends block journal
@@ -634,7 +701,7 @@ module _ {W : Type 0} (layout : Layout W) (meaning : ℕ → Value → Result (L
       exits_go node.block node.journal law.ends (exit_looks k phase node.block.exits) refl
       (rest_stays node.block.exits.ends k (record end { stage = source_looks end.stage phase })
       (look_stays_home end.stage phase))
-  after_each node (NodeCall.copy call) law may = absurd (no_copy_at layout meaning b node law (copy_place call) may.place)
+  after_each node (NodeCall.copy call) law may = copied_out node law call may
   after_each node NodeCall.begin law may = jobs_change node.block node.journal law.ends begins
   after_each node NodeCall.make law may =
       let block = node.block in
@@ -643,7 +710,7 @@ module _ {W : Type 0} (layout : Layout W) (meaning : ℕ → Value → Result (L
       (λ batch. works_on block node.journal law.ends (takes_group block.size) (makes_row block).exits block.jobs
       block.recorded refl refl going)
       (λ join. works_on_each block node.journal law.ends takes_next (makes_tuple block).exits (λ port. refl) (λ port. refl) going)
-      (λ broadcast. never_both (is_broadcast block.kind) broadcast (none_broadcast block.kind law.shape.built))
+      (λ broadcast. copied_next (first_of (held_by block)) block node.journal law.ends going)
       (λ other alone single. made_next (first_of (held_by block)) block node.journal law.ends going)
   after_each node (NodeCall.complete p) law may = completed node law p may
   after_each node (NodeCall.fault number) law may = faulted node.block node.journal law.shape law.ends number may

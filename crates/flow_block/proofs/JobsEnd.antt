@@ -169,6 +169,7 @@ views_stay : (node : NodeState) (block : BlockState) → EndsStay node.block blo
 views_stay node block stay = record {
   ins = λ p k small near. ap (λ ends. view_of_in node.journal (end_in k ends)) (stay.ins p small);
   outs = λ k near. ap (λ ends. view_of_out node.journal (out_end ends k)) stay.outs;
+  copies = λ k near. ap (view_of_out node.journal) (stay.copies k near);
 }
 
 -- what it holds then

@@ -22,16 +22,17 @@ use Rattle.flow_intake.specs.Port.{PortState, fresh_port, hand_in}
 use Rattle.flow_intake.specs.Calls.{first_of, wants, turns_down, postpones, refuses, consumes, opens, closes, looks as port_looks, takes_next, gives_room, port_closes, port_fails}
 use Rattle.flow_outlet.specs.Outlet.{OutletState, head_of, gives}
 use Rattle.flow_link.specs.Plan.{is_broadcast}
-use Rattle.flow_block.specs.Copies.{copy_place}
-use Rattle.flow_block.proofs.CopiesIdle.{no_copy_at, none_broadcast}
-use Rattle.flow_block.specs.Block.{BlockState, port_at, with_port, begins, held_by, made_of, yields, keeps_results, makes_of, is_batch, makes_row, stops_by, is_join, makes_tuple}
+use Rattle.flow_block.specs.Copies.{copy_place, after_copy}
+use Rattle.flow_block.proofs.CopiesIdle.{no_copy_at}
+use Rattle.flow_block.specs.Block.{BlockState, port_at, with_port, begins, held_by, made_of, yields, keeps_results, makes_of, is_batch, makes_row, stops_by, is_join, makes_tuple, copies_it, copies_next}
+use Rattle.flow_block.proofs.CopiesLeave.{took_by_copy, held_by_copy}
 use Rattle.flow_block.specs.Jobs.{Slot, is_front_back, AreOf}
-use Rattle.flow_block.specs.Node.{NodeState, NodeCall, takes_in, gives_from, in_link_at, out_link_at}
+use Rattle.flow_block.specs.Node.{NodeState, NodeCall, takes_in, gives_from, copies_by, in_link_at, out_link_at}
 use Rattle.flow_block.specs.NodeKeeps.{JobsKept, MayCall, after_call}
 use Rattle.flow_block.specs.NodeLaw.{NodeLaw, JobsLaw}
 use Rattle.flow_block.specs.Peeks.{may_work, may_begin}
 use Rattle.flow_block.specs.Planned.{block_makes}
-use Rattle.flow_block.proofs.KindsBuilt.{is_of_one, of_one, has_one_port, batch_idle, makes_by}
+use Rattle.flow_block.proofs.KindsBuilt.{is_of_one, of_one, has_one_port, batch_idle, makes_by, broadcast_idle}
 use Rattle.flow_block.proofs.PortsChange.{kept_at_one, kept_at_all}
 use Rattle.flow_block.proofs.Joins.{join_idle}
 
@@ -302,6 +303,12 @@ module _ {W : Type 0} (layout : Layout W) (meaning : ℕ → Value → Result (L
   made_next block journal (value ∷ rest) is one built other out law =
       yielded block journal value rest (made_of block.kind (block_makes layout meaning b) value) one built other is out law
 
+  copied_next : (first : Option Value) (block : BlockState) (journal : List Mark) → is_broadcast block.kind ≡ true
+      → Jobs block journal → Jobs (copies_next first block) journal
+  copied_next None block journal broadcast law = law
+  copied_next (Some value) block journal broadcast law =
+      handed_on block (copies_it value block) journal journal refl refl (broadcast_idle block.kind broadcast) law
+
   after_each : (node : NodeState) (call : NodeCall) → NodeLaw layout meaning b node → MayCall layout meaning b call node
       → Jobs (after_call layout meaning b call node).block (after_call layout meaning b call node).journal
   after_each node (NodeCall.want p k) law may = port_stays node law.jobs p (wants k) refl
@@ -313,7 +320,9 @@ module _ {W : Type 0} (layout : Layout W) (meaning : ℕ → Value → Result (L
   after_each node (NodeCall.close p k) law may = taken_in node law p k (hand_in k (port_at p node.block).ends) may.port
   after_each node (NodeCall.give k) law may = given_out node law.jobs k (head_of node.block.exits)
   after_each node (NodeCall.look_in p k phase) law may = port_stays node law.jobs p (port_looks k phase) refl
-  after_each node (NodeCall.copy call) law may = absurd (no_copy_at layout meaning b node law (copy_place call) may.place)
+  after_each node (NodeCall.copy call) law may =
+      stays node.block (copies_by call node).block node.journal (copies_by call node).journal law.jobs refl refl
+      (held_by_copy (after_copy call node.block.copies) node.block) refl (took_by_copy call node.block.copies node.journal)
   after_each node NodeCall.begin law may = begun node law.jobs may
   after_each node NodeCall.make law may =
       makes_by (λ new. Jobs new node.journal) (block_makes layout meaning b) node.block
@@ -321,7 +330,7 @@ module _ {W : Type 0} (layout : Layout W) (meaning : ℕ → Value → Result (L
       law.jobs)
       (λ join. handed_on node.block (makes_tuple node.block) node.journal node.journal refl refl (join_idle node.block.kind join)
       law.jobs)
-      (λ broadcast. never_both (is_broadcast node.block.kind) broadcast (none_broadcast node.block.kind law.shape.built))
+      (λ broadcast. copied_next (first_of (held_by node.block)) node.block node.journal broadcast law.jobs)
       (λ other alone single. made_next node.block node.journal (held_by node.block) refl
       (has_one_port layout meaning b node.block law.shape alone)
       (of_one node.block.kind law.shape.built other alone single) other may.all_out law.jobs)

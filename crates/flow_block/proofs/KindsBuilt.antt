@@ -3,10 +3,10 @@
 use Rattle.std.proofs.Common.{◌≡◌, ℕ, Bool, true, false, cond, length, [], ◌∷◌, Option, Some, None, Result, Ok, Err, refl, ap, sym, ◌∙◌, List}
 use Rattle.flow_value.specs.declared.value.Value.{Value}
 use Rattle.flow_link.specs.declared.draft.BlockKind.{BlockKind}
-use Rattle.flow_link.specs.declared.draft.BlockKind.TheVariants.{Buffer, Action, Transform, TransformMany, Batch, Join}
+use Rattle.flow_link.specs.declared.draft.BlockKind.TheVariants.{Buffer, Broadcast, Action, Transform, TransformMany, Batch, Join}
 use Rattle.flow_link.specs.Layout.{Layout}
 use Rattle.flow_link.specs.NotBuilt.{is_built_kind}
-use Rattle.flow_link.specs.Plan.{block_in, ports_by_kind, has_work, is_broadcast}
+use Rattle.flow_link.specs.Plan.{block_in, ports_by_kind, has_work, is_broadcast, is_one_taker}
 use Rattle.flow_block.specs.Kinds.{is_kept_kind}
 use Rattle.flow_intake.specs.Calls.{first_of}
 use Rattle.flow_block.specs.Block.{BlockState, held_by, is_batch, is_join, made_of, makes_row, makes_tuple, keeps_results, yields, copies_next, makes_of, makes_other, makes}
@@ -22,16 +22,17 @@ built_kept Batch e = refl
 built_kept Join e = refl
 built_kept _ e = absurd (cc)
 
--- what holds of buffers, actions, both transforms, batches and joins holds of each kind that is kept in order
-pub by_kind : (P : BlockKind → Type 0) → P Buffer → P Action → P Transform → P TransformMany → P Batch → P Join → (kind : BlockKind)
-    → is_kept_kind kind ≡ true → P kind
-by_kind P buffer action transform many batch join Buffer e = buffer
-by_kind P buffer action transform many batch join Action e = action
-by_kind P buffer action transform many batch join Transform e = transform
-by_kind P buffer action transform many batch join TransformMany e = many
-by_kind P buffer action transform many batch join Batch e = batch
-by_kind P buffer action transform many batch join Join e = join
-by_kind P buffer action transform many batch join _ e = absurd (cc)
+-- what holds of buffers, actions, both transforms, batches, joins and broadcasts holds of each kind that is kept in order
+pub by_kind : (P : BlockKind → Type 0) → P Buffer → P Action → P Transform → P TransformMany → P Batch → P Join → P Broadcast
+    → (kind : BlockKind) → is_kept_kind kind ≡ true → P kind
+by_kind P buffer action transform many batch join broadcast Buffer e = buffer
+by_kind P buffer action transform many batch join broadcast Broadcast e = broadcast
+by_kind P buffer action transform many batch join broadcast Action e = action
+by_kind P buffer action transform many batch join broadcast Transform e = transform
+by_kind P buffer action transform many batch join broadcast TransformMany e = many
+by_kind P buffer action transform many batch join broadcast Batch e = batch
+by_kind P buffer action transform many batch join broadcast Join e = join
+by_kind P buffer action transform many batch join broadcast _ e = absurd (cc)
 
 -- it makes what it makes of one message after another
 abbrev pub is_of_one : BlockKind → Bool
@@ -53,6 +54,21 @@ of_one _ kept single alone shared = absurd (cc)
 pub batch_idle : (kind : BlockKind) → is_batch kind ≡ true → has_work kind ≡ false
 batch_idle Batch e = refl
 batch_idle _ e = absurd (cc)
+
+-- and it shares its rows out
+pub batch_shares : (kind : BlockKind) → is_batch kind ≡ true → is_one_taker kind ≡ true
+batch_shares Batch e = refl
+batch_shares _ e = absurd (cc)
+
+-- nor has a broadcast
+pub broadcast_idle : (kind : BlockKind) → is_broadcast kind ≡ true → has_work kind ≡ false
+broadcast_idle Broadcast e = refl
+broadcast_idle _ e = absurd (cc)
+
+-- and it makes no rows
+pub broadcast_single : (kind : BlockKind) → is_broadcast kind ≡ true → is_batch kind ≡ false
+broadcast_single Broadcast e = refl
+broadcast_single _ e = absurd (cc)
 
 pub works_alone : (kind : BlockKind) → has_work kind ≡ true → is_batch kind ≡ false
 works_alone Batch e = absurd (cc)
@@ -110,5 +126,5 @@ module _ {W : Type 0} (layout : Layout W) (meaning : ℕ → Value → Result (L
   has_one_port alone =
       shape.port_count_is
       ∙ by_kind (λ kind. is_join kind ≡ false → ports_by_kind kind (block_in layout.blocks b).ports ≡ 1)
-      (λ e. refl) (λ e. refl) (λ e. refl) (λ e. refl) (λ e. refl) (λ e. absurd (cc))
+      (λ e. refl) (λ e. refl) (λ e. refl) (λ e. refl) (λ e. refl) (λ e. absurd (cc)) (λ e. refl)
       (block_in layout.blocks b).kind planned_kept (ap is_join (sym shape.kind_is) ∙ alone)

@@ -3,11 +3,13 @@ pub mod ClosingStays
 pub mod CompleteSeen
 pub mod CopierHolds
 pub mod CopierKept
+pub mod CopierOf
 pub mod CopiesCalled
 pub mod CopiesFit
 pub mod CopiesGoOn
 pub mod CopiesHold
 pub mod CopiesIdle
+pub mod CopiesLeave
 pub mod CopiesMove
 pub mod CopiesRest
 pub mod CopiesSeen
@@ -53,6 +55,7 @@ pub mod NodesSeen
 pub mod NothingToDo
 pub mod PassesOfNodes
 pub mod PlacesNamed
+pub mod PlacesOfCopies
 pub mod PlacesOfLinks
 pub mod PlacesOfNumbers
 pub mod PlanMade

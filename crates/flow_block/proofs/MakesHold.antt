@@ -4,7 +4,7 @@ use Rattle.std.proofs.lemmas.List.{get_or-set_same, take-append-drop}
 use Rattle.flow_value.specs.View.{items_from, values_of, values_of-items_from}
 use Rattle.flow_value.specs.declared.value.Value.{Value}
 use Rattle.flow_link.specs.declared.draft.BlockKind.{BlockKind}
-use Rattle.flow_link.specs.declared.draft.BlockKind.TheVariants.{Buffer, Action, Transform, TransformMany, Batch}
+use Rattle.flow_link.specs.declared.draft.BlockKind.TheVariants.{Buffer, Broadcast, WriteOnce, Action, Transform, TransformMany, Batch}
 use Rattle.flow_link.specs.declared.trace.Mark.{Mark}
 use Rattle.flow_link.specs.declared.trace.Mark.TheVariants.{Complete, Fault, Done}
 use Rattle.flow_link.specs.declared.trace.Outcome.{Outcome}
@@ -21,12 +21,13 @@ use Rattle.flow_intake.specs.Port.{PortState, fresh_port, hand_in}
 use Rattle.flow_intake.specs.Calls.{first_of, wants, turns_down, postpones, refuses, consumes, opens, closes, looks as port_looks, takes_next, gives_room, port_closes, port_fails}
 use Rattle.flow_outlet.specs.Outlet.{OutletState, first_of as first_left, rest_of, head_of, gives, prepares, offers, denies, withdraws, ends_link, looks as exit_looks}
 use Rattle.flow_link.proofs.ListTests.{never_both}
-use Rattle.flow_link.specs.Plan.{is_broadcast}
-use Rattle.flow_block.specs.Copies.{copy_place}
-use Rattle.flow_block.proofs.CopiesIdle.{no_copy_at, none_broadcast}
-use Rattle.flow_block.specs.Block.{BlockState, port_at, with_port, with_jobs, held_by, made_of, puts_out, put_by_kind, yields, keeps_results, makes_of, is_batch, row_of, takes_group, makes_row, stops_by, is_join, makes_tuple}
+use Rattle.flow_link.specs.Plan.{is_broadcast, is_one_taker}
+use Rattle.flow_block.specs.Copies.{copy_place, CopyCall, after_copy}
+use Rattle.flow_block.proofs.CopiesIdle.{no_copy_at, copies_at, broadcast_copies}
+use Rattle.flow_block.specs.Block.{BlockState, port_at, with_port, with_jobs, held_by, made_of, puts_out, put_by_kind, yields, keeps_results, makes_of, is_batch, row_of, takes_group, makes_row, stops_by, is_join, makes_tuple, copies_next}
+use Rattle.flow_block.proofs.CopiesLeave.{held_by_copy}
 use Rattle.flow_block.specs.Jobs.{JobsState, begins, works_off}
-use Rattle.flow_block.specs.Node.{NodeState, NodeCall, takes_in, gives_from, in_link_at, out_link_at}
+use Rattle.flow_block.specs.Node.{NodeState, NodeCall, takes_in, gives_from, copies_by, in_link_at, out_link_at}
 use Rattle.flow_block.specs.NodeKeeps.{MakesKept, MayCall, after_call}
 use Rattle.flow_block.specs.NodeLaw.{NodeLaw, MakesLaw, MakesAs, FaultsOn}
 use Rattle.flow_block.specs.Planned.{block_makes}
@@ -155,6 +156,13 @@ fails_so result Action value number built other made = record { works = refl; fa
 fails_so result Transform value number built other made = record { works = refl; fails = made }
 fails_so result TransformMany value number built other made = record { works = refl; fails = made }
 fails_so result kind value number built other made = absurd (cc)
+
+-- of a block that copies, the law of copies tells what it makes
+makes_copied : (result : Value → Result (List Value) ℕ) (kind : BlockKind) (taken held given left recorded : List Value)
+    → is_one_taker kind ≡ false → MakesAs result kind taken held given left recorded
+makes_copied result Broadcast taken held given left recorded copying = tt
+makes_copied result WriteOnce taken held given left recorded copying = tt
+makes_copied result _ taken held given left recorded copying = absurd (cc)
 
 module _ {W : Type 0} (layout : Layout W) (meaning : ℕ → Value → Result (List Value) ℕ) (b : ℕ) where
   -- what the law reads is as it was
@@ -376,6 +384,24 @@ module _ {W : Type 0} (layout : Layout W) (meaning : ℕ → Value → Result (L
     fault_is = λ number is. absurd (let never : None ≡ Some number = sym none ∙ is in cc);
   }
 
+  -- what it copies
+  copied_out : (call : CopyCall) (node : NodeState) → is_one_taker node.block.kind ≡ false
+      → MakesLaw layout meaning b node.block node.journal
+      → MakesLaw layout meaning b (copies_by call node).block (copies_by call node).journal
+  copied_out call node copying law = record {
+    makes = makes_copied (block_makes layout meaning b) node.block.kind _ _ _ _ _ copying;
+    fault_is = λ number is. rw (held_by_copy (after_copy call node.block.copies) node.block) (law.fault_is number is);
+  }
+
+  copied_next : (first : Option Value) (block : BlockState) (journal : List Mark) → block.fault ≡ None
+      → is_one_taker block.kind ≡ false → MakesLaw layout meaning b block journal
+      → MakesLaw layout meaning b (copies_next first block) journal
+  copied_next None block journal none copying law = law
+  copied_next (Some value) block journal none copying law = record {
+    makes = makes_copied (block_makes layout meaning b) block.kind _ _ _ _ _ copying;
+    fault_is = λ number is. absurd (let never : None ≡ Some number = sym none ∙ is in cc);
+  }
+
   after_each : (node : NodeState) (call : NodeCall) → NodeLaw layout meaning b node → MayCall layout meaning b call node
       → MakesLaw layout meaning b (after_call layout meaning b call node).block
       (after_call layout meaning b call node).journal
@@ -388,7 +414,7 @@ module _ {W : Type 0} (layout : Layout W) (meaning : ℕ → Value → Result (L
   after_each node (NodeCall.close p k) law may = taken_in node law p k (hand_in k (port_at p node.block).ends) may.port
   after_each node (NodeCall.give k) law may = given_out node law.makes k (head_of node.block.exits) refl
   after_each node (NodeCall.look_in p k phase) law may = port_stays node law.makes p (port_looks k phase) refl
-  after_each node (NodeCall.copy call) law may = absurd (no_copy_at layout meaning b node law (copy_place call) may.place)
+  after_each node (NodeCall.copy call) law may = copied_out call node (copies_at layout meaning b node law (copy_place call) may.place) law.makes
   after_each node NodeCall.begin law may = jobs_change node law.makes begins
   after_each node NodeCall.make law may =
       let block = node.block in
@@ -397,7 +423,7 @@ module _ {W : Type 0} (layout : Layout W) (meaning : ℕ → Value → Result (L
       makes_by (λ new. MakesLaw layout meaning b new node.journal) (block_makes layout meaning b) block
       (λ batch. row_made block node.journal (one (batch_unjoined block.kind batch)) none block.kind refl batch law.makes)
       (λ join. tuple_made block node.journal join none)
-      (λ broadcast. never_both (is_broadcast block.kind) broadcast (none_broadcast block.kind law.shape.built))
+      (λ broadcast. copied_next (first_of (held_by block)) block node.journal none (broadcast_copies block.kind broadcast) law.makes)
       (λ other alone single. made_next block node.journal (held_by block) refl (one alone) none
       (of_one block.kind law.shape.built other alone single) other law.makes)
   after_each node (NodeCall.complete p) law may =

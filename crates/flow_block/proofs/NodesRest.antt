@@ -3,7 +3,7 @@ use Rattle.std.proofs.Common.{◌≡◌, ℕ, ◌+◌, ◌<◌, ◌≤◌, Bool,
 use Rattle.std.proofs.lemmas.Bool.{or_cases, ltb-false, lt-ltb, and_from, and_parts, or_left, or_right, false_from_ne_true, not-true}
 use Rattle.flow_value.specs.declared.value.Value.{Value}
 use Rattle.flow_link.specs.declared.draft.BlockKind.{BlockKind}
-use Rattle.flow_link.specs.declared.draft.BlockKind.TheVariants.{Join, Buffer, Action, Transform, TransformMany, Batch}
+use Rattle.flow_link.specs.declared.draft.BlockKind.TheVariants.{Join, Buffer, Broadcast, Action, Transform, TransformMany, Batch}
 use Rattle.flow_link.specs.declared.plan.LinkSource.TheVariants.{Block}
 use Rattle.flow_link.specs.declared.plan.LinkTarget.TheVariants.{Port}
 use Rattle.flow_link.specs.declared.stage.SourceStage.TheVariants as source
@@ -16,8 +16,8 @@ use Rattle.flow_link.specs.Facts.{facts_in}
 use Rattle.flow_link.specs.LinkOk.{IsWithin}
 use Rattle.flow_link.specs.Lists.{every, below, is_empty as is_none_left}
 use Rattle.flow_link.specs.Making.{load, group_size}
-use Rattle.flow_link.specs.Plan.{port_count, ports_by_kind, is_broadcast, is_reserving}
-use Rattle.flow_link.specs.Quiet.{first_of as first_left, has_this_fault, faulted_by_itself, rests, rests_as, held_in_all, holds_nothing as run_holds_nothing, all_completed, has_no_group, is_done_if_can, head_as, head_from, admits_head, is_full_with}
+use Rattle.flow_link.specs.Plan.{port_count, ports_by_kind, is_broadcast, is_one_taker, is_reserving}
+use Rattle.flow_link.specs.Quiet.{has_served_all, first_of as first_left, has_this_fault, faulted_by_itself, rests, rests_as, held_in_all, holds_nothing as run_holds_nothing, all_completed, has_no_group, is_done_if_can, head_as, head_from, admits_head, is_full_with}
 use Rattle.flow_link.specs.RestsByParts.{OutletRests, KindRests, NodeRests, is_over as is_view_over, is_postponed as is_view_postponed, has_seen_end, has_to_wait, lacks_an_offer}
 use Rattle.flow_link.specs.Stage.{source_stage_of, target_stage_of}
 use Rattle.flow_link.specs.Trace.{BlockTrace, Run, gave_over, given_by, given_over, took_at, has_complete, has_fault, has_ended, is_faulted, is_done, is_used_up, is_cut as is_run_cut, block_of, link_of, marks_of, held_at, left_at, ports_of}
@@ -37,13 +37,15 @@ use Rattle.flow_block.specs.Node.{NodeState}
 use Rattle.flow_block.specs.NodeLaw.{NodeLaw, has_made_all, outcome_in}
 use Rattle.flow_block.specs.NodeRests.{HasNothingToDo, EndsRest, NodesRest}
 use Rattle.flow_block.specs.NodeSeen.{IsNodeOf}
-use Rattle.flow_block.specs.Peeks.{holds_nothing, has_group, is_complete as is_complete_here}
+use Rattle.flow_block.specs.Peeks.{holds_nothing, has_group, is_complete as is_complete_here, is_pending}
 use Rattle.flow_block.proofs.NodesAreLawful.{join_is}
 use Rattle.flow_block.proofs.NodesSeen.{join_seen, is_joining}
 use Rattle.flow_group.specs.Tuple.{has_tuple}
 use Rattle.flow_link.specs.Quiet.{has_no_row}
 use Rattle.flow_block.specs.Planned.{rule_of, out_place, in_place}
-use Rattle.flow_block.proofs.CopiesIdle.{left_is_shared}
+use Rattle.flow_block.specs.CopiesSeen.{MayCarry, CopierRests}
+use Rattle.flow_block.proofs.CopierOf.{CopiesQuiet, copies_quiet, copier_rests, none_shared}
+use Rattle.flow_block.proofs.CopiesIdle.{left_is_shared, view_is_shared, never_broadcast}
 use Rattle.flow_block.proofs.EndsAtRest.{over_unless, not_cut, not_stopped, no_room_where}
 use Rattle.flow_block.proofs.EndsHold.{no_group_left}
 use Rattle.flow_block.proofs.EndsTell.{limit_is, no_room_left, free_back, postponed_back, end_back}
@@ -52,7 +54,7 @@ use Rattle.flow_block.proofs.GoingOn.{open_goes_on}
 use Rattle.flow_block.proofs.JournalTells.{stopped_tells, fault_marked, faulted_marked, none_stopped, stopped_ends, ended_by_complete, complete_where}
 use Rattle.flow_block.proofs.KindsBuilt.{by_kind, planned_kept, has_one_port}
 use Rattle.flow_block.proofs.NodesSeen.{held_is, none_held, own_fault_is, complete_is, load_is}
-use Rattle.flow_block.proofs.NothingToDo.{worked_off, none_seen, no_coming, free_at, waiting_goes, not_admitted, not_finished, left_where}
+use Rattle.flow_block.proofs.NothingToDo.{not_pending, worked_off, none_seen, no_coming, free_at, waiting_goes, not_admitted, not_finished, left_where}
 use Rattle.flow_block.proofs.PlacesOfLinks.{end_in_of, end_out_of}
 use Rattle.flow_block.proofs.TestsTell.{every_tells, every_where, some_where}
 
@@ -104,7 +106,7 @@ module _ {W : Type 0} (run : Run W) (ends : ℕ → Ends) (b : ℕ) (node : Node
     (law : NodeLaw run.layout run.meaning b node)
     (part : IsNodeOf run ends b node)
     (ports : (l p : ℕ) → l < length run.layout.links → (link_of run l).target ≡ Port b p → p < length node.block.ports)
-    (nothing : HasNothingToDo node) (rest : EndsRest node) where
+    (nothing : HasNothingToDo node) (rest : EndsRest node) (carries : MayCarry run ends b node) where
   abbrev own : BlockState
   own = node.block
 
@@ -120,11 +122,11 @@ module _ {W : Type 0} (run : Run W) (ends : ℕ → Ends) (b : ℕ) (node : Node
   built : is_kept_kind kind ≡ true
   built = planned_kept run.layout run.meaning b own law.shape
 
+  quiet : CopiesQuiet own
+  quiet = copies_quiet run ends b node law part nothing rest (is_one_taker own.kind) refl
+
   marks_are : marks_of run b ≡ node.journal
   marks_are = ap (λ (t : BlockTrace). t.journal) part.trace
-
-  left_is : left_at run b ≡ outs.left
-  left_is = ap (λ (t : BlockTrace). t.left) part.trace ∙ left_is_shared run.layout run.meaning b node law
 
   of_marks : (P : List Mark → Type 0) → P node.journal → P (marks_of run b)
   of_marks P holds = subst P (sym marks_are) holds
@@ -176,6 +178,7 @@ module _ {W : Type 0} (run : Run W) (ends : ℕ → Ends) (b : ℕ) (node : Node
   rests_by Action there is none = none_held run ends b node law part none
   rests_by Transform there is none = none_held run ends b node law part none
   rests_by TransformMany there is none = none_held run ends b node law part none
+  rests_by Broadcast there is none = none_held run ends b node law part none
   rests_by Join there is none =
       ap (has_no_row run b) law.shape.takes_freely
       ∙ (join_seen run ends b node law part (ap is_join is)).rests (not-true (has_tuple own.ports) none)
@@ -218,7 +221,7 @@ module _ {W : Type 0} (run : Run W) (ends : ℕ → Ends) (b : ℕ) (node : Node
 
   worked_where : (stopped : Option Outcome) → own.stopped ≡ stopped → rests run b ≡ true
   worked_where None e =
-      rests_where (made_all_where e (is_batch own.kind) (is_join own.kind) refl refl (worked_off run.layout run.meaning b node law nothing rest e))
+      rests_where (made_all_where e (is_batch own.kind) (is_join own.kind) refl refl (worked_off run.layout run.meaning b node law nothing rest quiet e))
   worked_where (Some Done) e = rests_where (nothing_held_where (law.ends.done_empty e).0 (is_batch own.kind) (is_join own.kind) refl refl)
   worked_where (Some (Faulted n)) e =
       ⊎_elim
@@ -263,140 +266,6 @@ module _ {W : Type 0} (run : Run W) (ends : ℕ → Ends) (b : ℕ) (node : Node
       ∙ passes_below (λ q. is_none_left (held_at run b q)) (port_count (block_of run b)) p none
       (omega (arith, small, law.shape.port_count_is))))
 
-  done_so : is_done_if_can run b ≡ true
-  done_so =
-      unless_done (is_faulted (marks_of run b)) (is_done (marks_of run b)) (is_complete run b) (has_nothing run b)
-      (λ f d complete none.
-      let going = going_where (ap is_faulted (sym marks_are) ∙ f) (ap is_done (sym marks_are) ∙ d) in
-      let parts =
-      and_parts (every (λ p. is_none_left (held_at run b p)) (ports_of run b)) (is_none_left (left_at run b)) none in
-      not_finished run.layout run.meaning b node law nothing rest going
-      (complete_where_told going complete (is_join own.kind) refl) (none_held_here parts.0)
-      (ap is_empty (sym left_is ∙ nothing_where (left_at run b) parts.1)))
-
-  kind_rests : KindRests run ends b
-  kind_rests = record {
-    worked = worked_where own.stopped refl;
-    done = done_so;
-    served =
-        or_left (not (is_broadcast kind) || is_faulted (marks_of run b)) (is_none_left (left_at run b))
-        (or_left (not (is_broadcast kind)) (is_faulted (marks_of run b))
-        (by_kind (λ k. not (is_broadcast k) ≡ true) refl refl refl refl refl refl kind built));
-  }
-
-  -- Its links out
-
-  module _ (l : ℕ) (small : l < length run.layout.links) (from : (link_of run l).source ≡ Block b) where
-    there : place l < length outs.ends
-    there = (end_out_of run.layout run.meaning b own law.shape l small from).there
-
-    rule_is : (end_at outs (place l)).rule ≡ rule_of run.layout l
-    rule_is = (end_out_of run.layout run.meaning b own law.shape l small from).rule_is
-
-    source_is : (ends l).source.stage ≡ source_stage_of (stage_at outs (place l))
-    source_is =
-        ap (λ (view : SourceView Value). view.stage)
-        (part.sources l small from)
-
-    cut_here : is_run_cut run l ≡ true → is_cut (end_at outs (place l)) ≡ true
-    cut_here e =
-        let end = end_at outs (place l) in
-        let given : gave_over end.rule.id node.journal ≡ given_over run l =
-        ap (λ (rule : LinkRule). gave_over rule.id node.journal) rule_is
-        ∙ ap (gave_over l) (sym marks_are)
-        ∙ ap (given_by run l) (sym from) in
-        let used : is_used_up end.rule.max (gave_over end.rule.id node.journal) ≡ is_used_up (link_of run l).max
-        (given_over run l) =
-        ap₂ is_used_up (ap (λ (rule : LinkRule). rule.max) rule_is) given in
-        limit_is end.rule.max end.given (gave_over end.rule.id node.journal) (law.gave.each (place l) there).counted
-        (used ∙ e)
-
-    free_here : stage_at outs (place l) ≡ source.Free → end_of (end_at outs (place l)) own.stopped ≡ None
-    free_here e = (free_at run.layout run.meaning b node law nothing rest (place l) there e).0
-
-    over_where : (stage_at outs (place l) ≡ source.Free → ⊥) → (is_waiting (stage_at outs (place l)) ≡ true → ⊥)
-        → is_view_over (ends l).source.stage ≡ true
-    over_where busy gone = ap is_view_over source_is
-        ∙ over_unless (stage_at outs (place l)) (rest.outs (place l) there) busy gone
-
-    over_cut : is_run_cut run l ≡ true → is_view_over (ends l).source.stage ≡ true
-    over_cut e =
-        let end = end_at outs (place l) in
-        let cut = cut_here e in
-        over_where
-        (λ free. never_both (is_cut end) cut (not_cut end own.stopped (free_here free)))
-        (λ waits.
-        let waiting = waits_for end.stage waits in
-        let room = (law.exits.law.each (place l) there).room waiting.id (ap id_of waiting.is) in
-        no_room_left end.rule.max end.given cut room)
-
-    over_stopped : is_some own.stopped ≡ true → is_view_over (ends l).source.stage ≡ true
-    over_stopped e =
-        let never : own.stopped ≡ None → ⊥ = λ going. never_both (is_some own.stopped) e (ap is_some going) in
-        over_where
-        (λ free. never (not_stopped (end_at outs (place l)) own.stopped (free_here free)))
-        (λ waits. never (waiting_goes run.layout run.meaning b node law nothing rest (place l) there waits))
-
-    stopped_where : (is_faulted (marks_of run b) || is_done (marks_of run b)) ≡ true → is_some own.stopped ≡ true
-    stopped_where e =
-        ap is_some law.ends.stopped_is ∙ stopped_tells node.journal
-        ∙ ap (λ (marks : List Mark). is_faulted marks || is_done marks) (sym marks_are) ∙ e
-
-    ended_so : is_done_with run ends l b ≡ true → is_view_over (ends l).source.stage ≡ true
-    ended_so e =
-        let f = is_faulted (marks_of run b) in
-        let d = is_done (marks_of run b) in
-        ⊎_elim
-        (λ first.
-        ⊎_elim over_cut
-        (λ done. over_stopped (stopped_where (or_right f d done)))
-        (or_cases (is_run_cut run l) d first))
-        (λ faulted. over_stopped (stopped_where (or_left f d faulted)))
-        (or_cases (is_run_cut run l || d) f e)
-
-    head_admitted : (faulted : Bool) → admits_head run l (head_as run b l faulted kind) ≡ true
-        → (faulted ≡ false) × (admits_head run l (first_left (left_at run b)) ≡ true)
-    head_admitted true e = absurd (cc)
-    head_admitted false e = (
-      refl,
-      by_kind
-          (λ k. admits_head run l (head_as run b l false k) ≡ true
-          → admits_head run l (first_left (left_at run b)) ≡ true)
-          (λ same. same) (λ same. same) (λ same. same) (λ same. same) (λ same. same) (λ same. same) kind built e,
-    )
-
-    -- the predicate of the end is that of the link
-    same_admits : (head : Option Value) → admits_head run l head ≡ true
-        → admits (end_at outs (place l)).rule.when head ≡ true
-    same_admits None e = absurd (cc)
-    same_admits (Some value) e = ap (λ (rule : LinkRule). admits rule.when (Some value)) rule_is ∙ e
-
-    admitted_here : admits_head run l (first_left (left_at run b)) ≡ true
-        → admits (end_at outs (place l)).rule.when (head_of outs) ≡ true
-    admitted_here e =
-        let head : first_left (left_at run b) ≡ head_of outs = ap first_left left_is ∙ same_first outs.left in
-        same_admits (head_of outs) (ap (admits_head run l) (sym head) ∙ e)
-
-    not_offered : (stopped : Option Outcome) → own.stopped ≡ stopped → (ends l).source.stage ≡ SourceViewStage.free
-        → is_faulted (marks_of run b) ≡ false → admits_head run l (first_left (left_at run b)) ≡ true → ⊥
-    not_offered None e free faulted admitted =
-        not_admitted run.layout run.meaning b node law nothing rest (place l) there
-        (free_back (stage_at outs (place l)) (sym source_is ∙ free)) e (admitted_here admitted)
-    not_offered (Some Done) e free faulted admitted =
-        never_both (is_empty outs.left) (ap is_empty (law.ends.done_empty e).1)
-        (left_where (end_at outs (place l)).rule.when outs.left (admitted_here admitted))
-    not_offered (Some (Faulted n)) e free faulted admitted =
-        never_both (is_faulted (marks_of run b))
-        (of_marks (λ marks. is_faulted marks ≡ true) (faulted_marked node.journal n (marked (Faulted n) e))) faulted
-
-    offered_so : (ends l).source.stage ≡ SourceViewStage.free → admits_head run l (head_from run l (Block b)) ≡ false
-    offered_so free = false_from_ne_true (admits_head run l (head_from run l (Block b))) (λ e.
-        let both = head_admitted (is_faulted (marks_of run b)) e in
-        not_offered own.stopped refl free both.0 both.1)
-
-  outlet_rests : OutletRests run ends b
-  outlet_rests = record { ended = ended_so; offered = offered_so }
-
   -- Its links in
 
   module _ (l p : ℕ) (small : l < length run.layout.links) (to : (link_of run l).target ≡ Port b p) where
@@ -435,7 +304,7 @@ module _ {W : Type 0} (run : Run W) (ends : ℕ → Ends) (b : ℕ) (node : Node
         (λ k near. rest.ins p k port_there near) (λ k near. nothing.ins p k port_there near) end_there waits in
         let here =
         full_at port.capacity port.load (coming port)
-        (no_coming run.layout run.meaning b node law nothing rest p port_there) order.room full in
+        (no_coming run.layout run.meaning b node law nothing rest quiet p port_there) order.room full in
         let load_here : port.load ≡ load run b p =
         law.load.load p port_there (ap is_some (sym planned.capacity) ∙ here.0)
         ∙ sym (load_is run ends b node law part p (ap is_some (sym planned.capacity) ∙ here.0)) in
@@ -448,7 +317,7 @@ module _ {W : Type 0} (run : Run W) (ends : ℕ → Ends) (b : ℕ) (node : Node
         let seen : has_seen_completion port.ends ≡ true =
         some_where (λ (end : EndState). is_completion end.stage) port.ends (fresh_end 0) in_at end_there e in
         let none : (coming port == 0) ≡ true =
-        eq-eqb (coming port) 0 (no_coming run.layout run.meaning b node law nothing rest p port_there) in
+        eq-eqb (coming port) 0 (no_coming run.layout run.meaning b node law nothing rest quiet p port_there) in
         let ended =
         ended_already (has_port_ended port.refusing) (coming port == 0) (has_seen_completion port.ends) none seen
         (nothing.completes p port_there) in
@@ -458,7 +327,7 @@ module _ {W : Type 0} (run : Run W) (ends : ℕ → Ends) (b : ℕ) (node : Node
         → has_ended p (marks_of run b) ≡ true
     faulted None e seen =
         let none =
-        not_seen_at_ports own.ports p (none_seen run.layout run.meaning b node law nothing rest e) port_there in
+        not_seen_at_ports own.ports p (none_seen run.layout run.meaning b node law nothing rest quiet e) port_there in
         never_both (is_some (fault_seen (port_stage in_at port))) seen
         (ap is_some (not_seen_at_ends port.ends in_at none end_there))
     faulted (Some how) e seen =
@@ -469,10 +338,173 @@ module _ {W : Type 0} (run : Run W) (ends : ℕ → Ends) (b : ℕ) (node : Node
         ⊎_elim completed (faulted own.stopped refl)
         (end_back (port_stage in_at port) (hand_in in_at port.ends) (ap has_seen_end (sym target_is) ∙ e))
 
+  -- Where it shares its messages out
+
+  module _ (shares : is_one_taker own.kind ≡ true) where
+    left_is : left_at run b ≡ outs.left
+    left_is = ap (λ (t : BlockTrace). t.left) part.trace ∙ left_is_shared run.layout run.meaning b node law shares
+
+    module _ (l : ℕ) (small : l < length run.layout.links) (from : (link_of run l).source ≡ Block b) where
+      there : place l < length outs.ends
+      there = (end_out_of run.layout run.meaning b own law.shape shares l small from).there
+
+      rule_is : (end_at outs (place l)).rule ≡ rule_of run.layout l
+      rule_is = (end_out_of run.layout run.meaning b own law.shape shares l small from).rule_is
+
+      source_is : (ends l).source.stage ≡ source_stage_of (stage_at outs (place l))
+      source_is =
+          ap (λ (view : SourceView Value). view.stage)
+          (part.sources l small from ∙ view_is_shared run.layout run.meaning b node law shares (place l))
+
+      cut_here : is_run_cut run l ≡ true → is_cut (end_at outs (place l)) ≡ true
+      cut_here e =
+          let end = end_at outs (place l) in
+          let given : gave_over end.rule.id node.journal ≡ given_over run l =
+          ap (λ (rule : LinkRule). gave_over rule.id node.journal) rule_is
+          ∙ ap (gave_over l) (sym marks_are)
+          ∙ ap (given_by run l) (sym from) in
+          let used : is_used_up end.rule.max (gave_over end.rule.id node.journal) ≡ is_used_up (link_of run l).max
+          (given_over run l) =
+          ap₂ is_used_up (ap (λ (rule : LinkRule). rule.max) rule_is) given in
+          limit_is end.rule.max end.given (gave_over end.rule.id node.journal) ((law.gave shares).each (place l) there).counted
+          (used ∙ e)
+
+      free_here : stage_at outs (place l) ≡ source.Free → end_of (end_at outs (place l)) own.stopped ≡ None
+      free_here e = (free_at run.layout run.meaning b node law nothing rest quiet (place l) there e).0
+
+      over_where : (stage_at outs (place l) ≡ source.Free → ⊥) → (is_waiting (stage_at outs (place l)) ≡ true → ⊥)
+          → is_view_over (ends l).source.stage ≡ true
+      over_where busy gone = ap is_view_over source_is
+          ∙ over_unless (stage_at outs (place l)) (rest.outs (place l) there) busy gone
+
+      over_cut : is_run_cut run l ≡ true → is_view_over (ends l).source.stage ≡ true
+      over_cut e =
+          let end = end_at outs (place l) in
+          let cut = cut_here e in
+          over_where
+          (λ free. never_both (is_cut end) cut (not_cut end own.stopped (free_here free)))
+          (λ waits.
+          let waiting = waits_for end.stage waits in
+          let room = (law.exits.law.each (place l) there).room waiting.id (ap id_of waiting.is) in
+          no_room_left end.rule.max end.given cut room)
+
+      over_stopped : is_some own.stopped ≡ true → is_view_over (ends l).source.stage ≡ true
+      over_stopped e =
+          let never : own.stopped ≡ None → ⊥ = λ going. never_both (is_some own.stopped) e (ap is_some going) in
+          over_where
+          (λ free. never (not_stopped (end_at outs (place l)) own.stopped (free_here free)))
+          (λ waits. never (waiting_goes run.layout run.meaning b node law nothing rest quiet (place l) there waits))
+
+      stopped_where : (is_faulted (marks_of run b) || is_done (marks_of run b)) ≡ true → is_some own.stopped ≡ true
+      stopped_where e =
+          ap is_some law.ends.stopped_is ∙ stopped_tells node.journal
+          ∙ ap (λ (marks : List Mark). is_faulted marks || is_done marks) (sym marks_are) ∙ e
+
+      ended_so : is_done_with run ends l b ≡ true → is_view_over (ends l).source.stage ≡ true
+      ended_so e =
+          let f = is_faulted (marks_of run b) in
+          let d = is_done (marks_of run b) in
+          ⊎_elim
+          (λ first.
+          ⊎_elim over_cut
+          (λ done. over_stopped (stopped_where (or_right f d done)))
+          (or_cases (is_run_cut run l) d first))
+          (λ faulted. over_stopped (stopped_where (or_left f d faulted)))
+          (or_cases (is_run_cut run l || d) f e)
+
+      head_admitted : (faulted : Bool) → admits_head run l (head_as run b l faulted kind) ≡ true
+          → (faulted ≡ false) × (admits_head run l (first_left (left_at run b)) ≡ true)
+      head_admitted true e = absurd (cc)
+      head_admitted false e = (
+        refl,
+        by_kind
+            (λ k. is_one_taker k ≡ true → admits_head run l (head_as run b l false k) ≡ true
+            → admits_head run l (first_left (left_at run b)) ≡ true)
+            (λ _ same. same) (λ _ same. same) (λ _ same. same) (λ _ same. same) (λ _ same. same) (λ _ same. same)
+            (λ sharing. absurd (cc))
+            kind built (ap is_one_taker (sym law.shape.kind_is) ∙ shares) e,
+      )
+
+      -- the predicate of the end is that of the link
+      same_admits : (head : Option Value) → admits_head run l head ≡ true
+          → admits (end_at outs (place l)).rule.when head ≡ true
+      same_admits None e = absurd (cc)
+      same_admits (Some value) e = ap (λ (rule : LinkRule). admits rule.when (Some value)) rule_is ∙ e
+
+      admitted_here : admits_head run l (first_left (left_at run b)) ≡ true
+          → admits (end_at outs (place l)).rule.when (head_of outs) ≡ true
+      admitted_here e =
+          let head : first_left (left_at run b) ≡ head_of outs = ap first_left left_is ∙ same_first outs.left in
+          same_admits (head_of outs) (ap (admits_head run l) (sym head) ∙ e)
+
+      not_offered : (stopped : Option Outcome) → own.stopped ≡ stopped → (ends l).source.stage ≡ SourceViewStage.free
+          → is_faulted (marks_of run b) ≡ false → admits_head run l (first_left (left_at run b)) ≡ true → ⊥
+      not_offered None e free faulted admitted =
+          not_admitted run.layout run.meaning b node law nothing rest quiet (place l) there
+          (free_back (stage_at outs (place l)) (sym source_is ∙ free)) e (admitted_here admitted)
+      not_offered (Some Done) e free faulted admitted =
+          never_both (is_empty outs.left) (ap is_empty (law.ends.done_empty e).1)
+          (left_where (end_at outs (place l)).rule.when outs.left (admitted_here admitted))
+      not_offered (Some (Faulted n)) e free faulted admitted =
+          never_both (is_faulted (marks_of run b))
+          (of_marks (λ marks. is_faulted marks ≡ true) (faulted_marked node.journal n (marked (Faulted n) e))) faulted
+
+      offered_so : (ends l).source.stage ≡ SourceViewStage.free → admits_head run l (head_from run l (Block b)) ≡ false
+      offered_so free = false_from_ne_true (admits_head run l (head_from run l (Block b))) (λ e.
+          let both = head_admitted (is_faulted (marks_of run b)) e in
+          not_offered own.stopped refl free both.0 both.1)
+
+    outlet_shared : OutletRests run ends b
+    outlet_shared = record { ended = ended_so; offered = offered_so }
+
+  served_shared : is_one_taker own.kind ≡ true → has_served_all run b ≡ true
+  served_shared shares =
+      or_left (not (is_broadcast kind) || is_faulted (marks_of run b)) (is_none_left (left_at run b))
+      (or_left (not (is_broadcast kind)) (is_faulted (marks_of run b))
+      (ap (λ (k : BlockKind). not (is_broadcast k)) (sym law.shape.kind_is) ∙ ap not (never_broadcast own.kind shares)))
+
+  -- Its links out, whether it shares its messages out or copies them
+
+  rests_copied : is_one_taker own.kind ≡ false → CopierRests run ends b node
+  rests_copied copying = copier_rests run ends b node law part copying nothing rest
+
+  left_gone : (sharing : Bool) → is_one_taker own.kind ≡ sharing → is_none_left (left_at run b) ≡ true → is_empty outs.left ≡ true
+  left_gone true shares none = ap is_empty (sym (left_is shares) ∙ nothing_where (left_at run b) none)
+  left_gone false copying none = ap is_empty (none_shared run ends b node law part copying).0
+
+  served_so : (sharing : Bool) → is_one_taker own.kind ≡ sharing → has_served_all run b ≡ true
+  served_so true shares = served_shared shares
+  served_so false copying = (rests_copied copying).served
+
+  calm : own.stopped ≡ None → is_pending own ≡ false
+  calm going = not_pending run.layout run.meaning b node law nothing rest quiet going
+
+  outlet_rests : (sharing : Bool) → is_one_taker own.kind ≡ sharing → OutletRests run ends b
+  outlet_rests true shares = outlet_shared shares
+  outlet_rests false copying = (rests_copied copying).outlet calm carries
+
+  done_so : is_done_if_can run b ≡ true
+  done_so =
+      unless_done (is_faulted (marks_of run b)) (is_done (marks_of run b)) (is_complete run b) (has_nothing run b)
+      (λ f d complete none.
+      let going = going_where (ap is_faulted (sym marks_are) ∙ f) (ap is_done (sym marks_are) ∙ d) in
+      let parts =
+      and_parts (every (λ p. is_none_left (held_at run b p)) (ports_of run b)) (is_none_left (left_at run b)) none in
+      not_finished run.layout run.meaning b node law nothing rest quiet going
+      (complete_where_told going complete (is_join own.kind) refl) (none_held_here parts.0)
+      (left_gone (is_one_taker own.kind) refl parts.1))
+
+  kind_rests : KindRests run ends b
+  kind_rests = record {
+    worked = worked_where own.stopped refl;
+    done = done_so;
+    served = served_so (is_one_taker own.kind) refl;
+  }
+
   node_rests : NodeRests run ends b
   node_rests = record {
     kind = kind_rests;
-    outlet = outlet_rests;
+    outlet = outlet_rests (is_one_taker own.kind) refl;
     ports = λ p. record {
       put_off = λ l small to. put_off_so l p small to;
       ended = λ l small to. ended_port l p small to;
@@ -480,4 +512,5 @@ module _ {W : Type 0} (run : Run W) (ends : ℕ → Ends) (b : ℕ) (node : Node
   }
 
 pub nodes_rest : (W : Type 0) → NodesRest W
-nodes_rest W run ends b node small law part ports nothing rest = node_rests run ends b node law part ports nothing rest
+nodes_rest W run ends b node small law part ports nothing rest carries =
+    node_rests run ends b node law part ports nothing rest carries

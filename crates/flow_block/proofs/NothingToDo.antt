@@ -1,6 +1,6 @@
 -- What a node that has nothing to do knows of itself, where its ends rest.
 use Rattle.std.proofs.Common.{◌≡◌, ℕ, ◌<◌, leb, Bool, true, false, cond, not, ◌==◌, ◌&&◌, ◌||◌, List, [], ◌∷◌, length, is_some, is_none, Option, Some, None, Result, refl, ap, ap₂, sym, subst, ◌∙◌, arith, eq-eqb}
-use Rattle.std.proofs.lemmas.Bool.{OnTrue_at, or_from, or_right, or_parts, and_from, false_from_ne_true}
+use Rattle.std.proofs.lemmas.Bool.{OnTrue_at, or_from, or_left, or_right, or_parts, and_from, false_from_ne_true}
 use Rattle.flow_value.specs.declared.value.Value.{Value}
 use Rattle.flow_value.specs.declared.when.When.{When}
 use Rattle.flow_link.specs.declared.stage.SourceStage.{SourceStage}
@@ -22,10 +22,10 @@ use Rattle.flow_block.specs.Block.{BlockState, port_at, held_by, is_batch, is_jo
 use Rattle.flow_block.specs.Node.{NodeState}
 use Rattle.flow_block.specs.NodeLaw.{NodeLaw}
 use Rattle.flow_block.specs.NodeRests.{HasNothingToDo, EndsRest}
-use Rattle.flow_spread.specs.Spread.{is_at_rest as is_spread_at_rest}
+use Rattle.flow_spread.specs.Spread.{is_at_rest as is_spread_at_rest, only_waits as spread_only_waits}
 use Rattle.flow_block.specs.Copies.{copies_left}
-use Rattle.flow_block.proofs.CopiesIdle.{copies_rest, copies_freely, none_copied}
-use Rattle.flow_block.specs.Peeks.{is_out_at_rest, is_copied_out, may_copy, fault_at_ports, holds_nothing, has_group, has_next, is_worked_off, may_work, may_make, nothing_comes, all_ended, is_pending, fault_cause, could_stop, next_fault, is_held_up, may_finish, is_complete}
+use Rattle.flow_block.specs.Peeks.{is_out_at_rest, is_copied_out, may_copy, fault_at_ports, holds_nothing, has_group, has_next, is_worked_off, may_work, may_make, nothing_comes, all_ended, is_pending, fault_cause, could_stop, next_fault, is_held_up, may_finish, is_complete, is_copy_held_up, would_copy, has_all_given}
+use Rattle.flow_block.proofs.CopierOf.{CopiesQuiet}
 use Rattle.flow_block.proofs.EndsAtRest.{not_out, must_wait, away_waits, none_away, waiting_stays, free_stays, not_cut, not_coming}
 use Rattle.flow_block.proofs.EndsTell.{none_come}
 use Rattle.flow_block.proofs.FaultsSeen.{first_none}
@@ -33,7 +33,7 @@ use Rattle.flow_block.proofs.GoingOn.{away_goes_on, waiting_away}
 use Rattle.flow_block.proofs.JobsRest.{holds_none}
 use Rattle.flow_block.proofs.Joins.{join_idle, join_alone}
 use Rattle.flow_block.proofs.KindsBuilt.{has_one_port, batch_idle}
-use Rattle.flow_block.proofs.TestsTell.{every_tells, every_where}
+use Rattle.flow_block.proofs.TestsTell.{every_tells, every_where, none_left}
 use Rattle.flow_group.specs.Tuple.{has_tuple}
 
 offer_none : (offer : Option ℕ) → ((j : ℕ) → offer ≡ Some j → ⊥) → offer ≡ None
@@ -65,7 +65,8 @@ closed_unless end free cut = ap₂ (λ (over cut : Bool). over || cut) (ap is_ov
 -- What the node knows of itself
 
 module _ {W : Type 0} (layout : Layout W) (meaning : ℕ → Value → Result (List Value) ℕ) (b : ℕ) (node : NodeState)
-    (law : NodeLaw layout meaning b node) (nothing : HasNothingToDo node) (rest : EndsRest node) where
+    (law : NodeLaw layout meaning b node) (nothing : HasNothingToDo node) (rest : EndsRest node)
+    (quiet : CopiesQuiet node.block) where
   abbrev pub block : BlockState
   block = node.block
 
@@ -107,10 +108,15 @@ module _ {W : Type 0} (layout : Layout W) (meaning : ℕ → Value → Result (L
       none_away exits.ends rest.outs (λ k small.
       false_from_ne_true (is_waiting (stage_at exits k))
       (λ waits. never_both (is_held_up block) held_up (waiting_tells k small waits).0)) in
+      let copy_held_up : is_copy_held_up block ≡ true =
+      or_right (would_copy block) _
+      (and_from (could_stop block && spread_only_waits block.copies) (is_some (fault_cause block) || has_all_given block)
+      (and_from (could_stop block) (spread_only_waits block.copies) (could going) quiet.only_waits)
+      (or_left (is_some (fault_cause block)) (has_all_given block) (ap is_some e))) in
       let found : next_fault block ≡ fault_cause block =
       ap (λ (stops : Bool). cond stops (fault_cause block) None)
       (and_from (could_stop block) (is_out_at_rest block) (could going)
-      (and_from (is_at_rest exits) (is_spread_at_rest block.copies) at_rest (copies_rest layout meaning b node law))) in
+      (and_from (is_at_rest exits) (is_spread_at_rest block.copies) at_rest (quiet.at_rest copy_held_up))) in
       sym found ∙ nothing.faults
 
   no_cause : block.stopped ≡ None → fault_cause block ≡ None
@@ -121,8 +127,15 @@ module _ {W : Type 0} (layout : Layout W) (meaning : ℕ → Value → Result (L
 
   no_held : block.stopped ≡ None → is_batch block.kind ≡ false → is_join block.kind ≡ false → held_by block ≡ []
   no_held going other alone =
-      let well = no_own_fault going in
-      holds_none block going well other alone (copies_freely layout meaning b node law) law.jobs.some_lane (law.jobs.drained well) nothing.makes nothing.begins nothing.ends
+      held_by_test (is_empty (held_by block)) refl going other alone
+    where
+      held_by_test : (none : Bool) → is_empty (held_by block) ≡ none → block.stopped ≡ None → is_batch block.kind ≡ false
+          → is_join block.kind ≡ false → held_by block ≡ []
+      held_by_test true is going other alone = none_left (held_by block) is
+      held_by_test false is going other alone =
+          let well = no_own_fault going in
+          holds_none block going well other alone (quiet.may_copy going is) law.jobs.some_lane (law.jobs.drained well)
+          nothing.makes nothing.begins nothing.ends
 
   all_held : is_join block.kind ≡ false → is_empty (held_by block) ≡ true → holds_nothing block.ports ≡ true
   all_held alone none =
@@ -172,7 +185,7 @@ module _ {W : Type 0} (layout : Layout W) (meaning : ℕ → Value → Result (L
       ap (λ (none : Bool). cond none (fault_at_ports block.ports) None) (sym (worked_off going))
       ∙ (first_none block.fault (cond (is_worked_off block) (fault_at_ports block.ports) None) (no_cause going)).1
 
-  not_pending : block.stopped ≡ None → is_pending block ≡ false
+  pub not_pending : block.stopped ≡ None → is_pending block ≡ false
   not_pending going = ap₂ (λ (own seen : Option ℕ). is_some own || is_some seen) (no_own_fault going) (none_seen going)
 
   -- an offer that waits is the head's, of a block that has not stopped
@@ -232,6 +245,16 @@ module _ {W : Type 0} (layout : Layout W) (meaning : ℕ → Value → Result (L
       none_away exits.ends rest.outs (λ k small.
       false_from_ne_true (is_waiting (stage_at exits k))
       (λ waits. never_both (is_empty exits.left) left (waiting_left k small waits))) in
+      let given : has_all_given block ≡ true =
+      and_from (is_complete block && holds_nothing block.ports && is_empty exits.left) (copies_left block.copies == 0)
+      (and_from (is_complete block && holds_nothing block.ports) (is_empty exits.left)
+      (and_from (is_complete block) (holds_nothing block.ports) ended none) left)
+      (ap (λ (left : ℕ). left == 0) (quiet.none_left going)) in
+      let copy_held_up : is_copy_held_up block ≡ true =
+      or_right (would_copy block) _
+      (and_from (could_stop block && spread_only_waits block.copies) (is_some (fault_cause block) || has_all_given block)
+      (and_from (could_stop block) (spread_only_waits block.copies) (could going) quiet.only_waits)
+      (or_right (is_some (fault_cause block)) (has_all_given block) given)) in
       never_both (may_finish block)
       (and_from (could_stop block && is_complete block && holds_nothing block.ports && is_empty exits.left && is_at_rest exits)
       (is_copied_out block.copies)
@@ -239,5 +262,5 @@ module _ {W : Type 0} (layout : Layout W) (meaning : ℕ → Value → Result (L
       (is_at_rest exits)
       (could going) ended none left at_rest)
       (and_from (copies_left block.copies == 0) (is_spread_at_rest block.copies)
-      (ap (λ (left : ℕ). left == 0) (none_copied layout meaning b node law)) (copies_rest layout meaning b node law)))
+      (ap (λ (left : ℕ). left == 0) (quiet.none_left going)) (quiet.at_rest copy_held_up)))
       nothing.finishes

@@ -1,5 +1,5 @@
 -- Each call keeps a block's ports in order.
-use Rattle.std.proofs.Common.{◌≡◌, ◌≢◌, ℕ, ◌+◌, ◌-◌, ◌<◌, ◌≤◌, ◌==◌, cond, Bool, true, List, [], ◌∷◌, ◌++◌, length, map, set, drop, Option, Some, None, is_some, Result, Ok, Err, refl, ap, sym, ◌∙◌, subst, arith, ne_eqb, eq-eqb, eqb-true, length-append}
+use Rattle.std.proofs.Common.{◌≡◌, ◌≢◌, ℕ, ◌+◌, ◌-◌, ◌<◌, ◌≤◌, ◌==◌, cond, Bool, true, false, List, [], ◌∷◌, ◌++◌, length, map, set, drop, Option, Some, None, is_some, Result, Ok, Err, refl, ap, sym, ◌∙◌, subst, arith, ne_eqb, eq-eqb, eqb-true, length-append}
 use Rattle.std.proofs.lemmas.List.{length-drop}
 use Rattle.flow_value.specs.declared.value.Value.{Value}
 use Rattle.flow_link.specs.declared.draft.BlockKind.{BlockKind}
@@ -21,14 +21,16 @@ use Rattle.flow_outlet.specs.Outlet.{head_of, weight_at, gives}
 use Rattle.flow_outlet.proofs.OutletFits.{weight_stays}
 use Rattle.flow_link.proofs.ListTests.{never_both}
 use Rattle.flow_link.specs.Plan.{is_broadcast}
-use Rattle.flow_block.specs.Copies.{copy_place}
-use Rattle.flow_block.proofs.CopiesIdle.{no_copy_at, none_broadcast}
-use Rattle.flow_block.specs.Block.{BlockState, port_in, held_by, made_of, yields, keeps_results, makes_of, takes_group}
-use Rattle.flow_block.specs.Node.{NodeState, NodeCall, hand_at, in_link_at, out_link_at, takes_in, gives_from}
-use Rattle.flow_block.specs.NodeLaw.{NodeLaw, ShapeLaw, PortsLaw, LoadLaw}
+use Rattle.flow_block.specs.Copies.{copy_place, CopyCall, after_copy, copies_left}
+use Rattle.flow_block.proofs.CopiesIdle.{no_copy_at}
+use Rattle.flow_block.specs.Block.{BlockState, port_in, held_by, made_of, yields, keeps_results, makes_of, takes_group, copies_next}
+use Rattle.flow_block.specs.Node.{NodeState, NodeCall, hand_at, in_link_at, out_link_at, takes_in, gives_from, copies_by, marks_copy}
+use Rattle.flow_block.specs.NodeLaw.{NodeLaw, ShapeLaw, PortsLaw, LoadLaw, places_out}
+use Rattle.flow_spread.specs.Spread.{puts}
 use Rattle.flow_block.specs.NodeKeeps.{InAt, MayCall, after_call, PortsKept}
 use Rattle.flow_block.specs.Peeks.{nothing_comes}
 use Rattle.flow_block.specs.Planned.{block_makes}
+use Rattle.flow_block.proofs.CopiesLeave.{took_by_copy_at, left_by_copy}
 use Rattle.flow_block.proofs.GoingOn.{may_complete_tells, may_fault_tells, may_finish_tells}
 use Rattle.flow_block.proofs.JournalTells.{took_same, took_here}
 use Rattle.flow_block.proofs.KindsBuilt.{makes_by}
@@ -64,6 +66,10 @@ made_fits : (capacity : Option ℕ) (load : ℕ) (waiting : List Value) (value :
 made_fits None load waiting value first counts = omega arith
 made_fits (Some c) load [] value first counts = absurd (cc)
 made_fits (Some c) load (message ∷ waiting) value first counts = let fits = counts refl in omega arith
+
+fewer_fits : (limited : Bool) (now room : ℕ) → cond limited 1 0 ≤ room → cond limited (1 - now) 0 ≤ room
+fewer_fits true now room fits = omega (arith, fits)
+fewer_fits false now room fits = omega arith
 
 module _ {W : Type 0} (layout : Layout W) (meaning : ℕ → Value → Result (List Value) ℕ) (b : ℕ) where
   abbrev facts : ℕ → LinkFacts
@@ -183,8 +189,39 @@ module _ {W : Type 0} (layout : Layout W) (meaning : ℕ → Value → Result (L
       let port = port_in node.block.ports q in
       moves_keep.give_room facts (taken node.journal q) port old (gives k exits).room
       (rw (shape.ports q below).capacity
-      (given_fits capacity (gives k exits).room port.load (length port.waiting) (weight_of exits.groups) count
-      (load.load q below))))
+      (given_fits capacity (gives k exits).room port.load (length port.waiting) (places_out node.block)
+      (omega (arith, count)) (load.load q below))))
+
+  -- what it copies goes over a link, and the room that it takes no more comes back
+  copy_keeps : (call : CopyCall) (node : NodeState) → copy_place call < length node.block.copies.ends
+      → NodeLaw layout meaning b node → PortsLaw layout meaning b (copies_by call node).block (copies_by call node).journal
+  copy_keeps call node there law =
+      let load : LoadLaw layout meaning b node.block node.journal = law.load in
+      let shape : ShapeLaw layout meaning b node.block = law.shape in
+      let capacity = (block_in layout.blocks b).capacity in
+      let copies = node.block.copies in
+      let back = copies_left copies - copies_left (after_copy call copies) in
+      let less = left_by_copy call copies there in
+      each_port node.block.ports node.journal (marks_copy call copies node.journal) (gives_room back) law.ports
+      (λ q. ap length (took_by_copy_at call copies node.journal q))
+      (λ q below old.
+      let port = port_in node.block.ports q in
+      moves_keep.give_room facts (taken node.journal q) port old back
+      (rw (shape.ports q below).capacity
+      (given_fits capacity back port.load (length port.waiting) (places_out node.block) (omega (arith, less)) (load.load q below))))
+
+  -- the message that waits longest is copied from now on
+  copied_keeps : (first : Option Value) (block : BlockState) (journal : List Mark) → first_of (held_by block) ≡ first
+      → PortsLaw layout meaning b block journal → PortsLaw layout meaning b (copies_next first block) journal
+  copied_keeps None block journal first law = law
+  copied_keeps (Some value) block journal first law =
+      let port = port_in block.ports 0 in
+      let now = copies_left (puts value block.copies) in
+      one_port block.ports journal 0 (gives_room (1 - now) (takes_next port)) law
+      (λ old.
+      moves_keep.give_room facts (taken journal 0) (takes_next port) (moves_keep.take_next facts (taken journal 0) port old) (1 - now)
+      (fewer_fits (is_some port.capacity) now (port.load - length (drop 1 port.waiting))
+      (made_fits port.capacity port.load port.waiting value first old.waits)))
 
   -- it stops
   stop_keeps : (ports : List PortState) (journal : List Mark) (mark : Mark)
@@ -235,14 +272,14 @@ module _ {W : Type 0} (layout : Layout W) (meaning : ℕ → Value → Result (L
       one_port node.block.ports node.journal p (looks k phase port) law.ports
       (λ old. moves_keep.look facts (taken node.journal p) port old k phase may.place)
   call_keeps node (NodeCall.look_out k phase) law may = law.ports
-  call_keeps node (NodeCall.copy call) law may = absurd (no_copy_at layout meaning b node law (copy_place call) may.place)
+  call_keeps node (NodeCall.copy call) law may = copy_keeps call node may.place law
   call_keeps node NodeCall.begin law may = law.ports
   call_keeps node NodeCall.make law may =
       makes_by (λ new. PortsLaw layout meaning b new node.journal) (block_makes layout meaning b) node.block
       (λ batch. row_keeps node.block.size node.block node.journal law.ports)
       (λ join. each_port node.block.ports node.journal node.journal takes_next law.ports (λ q. refl)
       (λ q below old. moves_keep.take_next facts (taken node.journal q) (port_in node.block.ports q) old))
-      (λ broadcast. never_both (is_broadcast node.block.kind) broadcast (none_broadcast node.block.kind law.shape.built))
+      (λ broadcast. copied_keeps (first_of (held_by node.block)) node.block node.journal refl law.ports)
       (λ other alone single. make_keeps (first_of (held_by node.block)) node.block node.journal refl law.ports)
   call_keeps node (NodeCall.complete p) law may =
       let port = port_in node.block.ports p in

@@ -111,7 +111,7 @@ module _ {W : Type 0} (layout : Layout W) (meaning : ℕ → Value → Result (L
         rw ports (each_after_one IsPlanned before.ports p (change port)
         (λ below. port_stays p port (change port) (same port) (law.ports p below))
         (λ q there other. law.ports q there));
-    rules = rw ends law.rules;
+    rules = rw (kind, ends) law.rules;
   }
 
   each_port : (before after : BlockState) (change : PortState → PortState)
@@ -132,7 +132,7 @@ module _ {W : Type 0} (layout : Layout W) (meaning : ℕ → Value → Result (L
         (λ q below.
         let port = port_in before.ports q in
         port_stays q port (change port) (same port) (law.ports q below)));
-    rules = rules ∙ law.rules;
+    rules = rw kind (rules ∙ law.rules);
   }
 
   pub exits_move : (before after : BlockState) → after.kind ≡ before.kind → after.size ≡ before.size → after.ports ≡ before.ports
@@ -147,7 +147,7 @@ module _ {W : Type 0} (layout : Layout W) (meaning : ℕ → Value → Result (L
     some_port = rw ports law.some_port;
     takes_freely = law.takes_freely;
     ports = rw ports law.ports;
-    rules = rules ∙ law.rules;
+    rules = rw kind (rules ∙ law.rules);
   }
 
   -- what it makes of a message

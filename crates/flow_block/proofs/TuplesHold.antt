@@ -27,7 +27,7 @@ use Rattle.flow_block.specs.NodeLaw.{NodeLaw, KeepsTuples}
 use Rattle.flow_block.specs.Planned.{block_makes}
 use Rattle.flow_block.proofs.CopiesIdle.{no_copy_at}
 use Rattle.flow_block.proofs.GoingOn.{may_work_tells}
-use Rattle.flow_block.proofs.Joins.{join_alone, broadcast_unjoined}
+use Rattle.flow_block.proofs.Joins.{join_alone, join_shares, broadcast_unjoined}
 use Rattle.flow_block.proofs.KindsBuilt.{makes_by}
 use Rattle.flow_block.proofs.ShapeHolds.{shape_kept}
 use Rattle.flow_block.proofs.PortsChange.{kept_at_one, kept_at_all}
@@ -146,7 +146,7 @@ module _ {W : Type 0} (layout : Layout W) (meaning : ℕ → Value → Result (L
   after_each node (NodeCall.end_link k how) whole join law may = exits_stay node law (ends_link k how node.block.exits) refl
   after_each node (NodeCall.look_in p k phase) whole join law may = port_stays node law p (port_looks k phase) refl
   after_each node (NodeCall.look_out k phase) whole join law may = exits_stay node law (exit_looks k phase node.block.exits) refl
-  after_each node (NodeCall.copy call) whole join law may = absurd (no_copy_at layout meaning b node whole (copy_place call) may.place)
+  after_each node (NodeCall.copy call) whole join law may = absurd (no_copy_at layout meaning b node whole (join_shares node.block.kind join) (copy_place call) may.place)
   after_each node NodeCall.begin whole join law may = law
   after_each node NodeCall.make whole join law may =
       let kind = node.block.kind in

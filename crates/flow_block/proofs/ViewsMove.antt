@@ -1,5 +1,5 @@
 -- Each call moves the view of its own end as the laws of one link have it, and no other end's.
-use Rattle.std.proofs.Common.{false, unwrap_or, ◌≡◌, ◌≢◌, ℕ, ◌<◌, ◌==◌, cond, Bool, true, List, [], ◌∷◌, ◌++◌, length, set, Option, Some, None, is_some, Result, Ok, Err, refl, ap, sym, ◌∙◌, subst, eq-eqb}
+use Rattle.std.proofs.Common.{false, unwrap_or, ◌≡◌, ◌≢◌, ℕ, ◌-◌, ◌<◌, ◌==◌, cond, Bool, true, List, [], ◌∷◌, ◌++◌, length, set, Option, Some, None, is_some, Result, Ok, Err, refl, ap, sym, ◌∙◌, subst, eq-eqb}
 use Rattle.std.proofs.lemmas.List.{get_or-set_same, get_or-set_other}
 use Rattle.flow_value.specs.declared.value.Value.{Value}
 use Rattle.flow_value.specs.declared.when.When.{When}
@@ -28,11 +28,12 @@ use Rattle.flow_outlet.specs.Outlet.{OutletState, head_of, end_at, stage_at, giv
 use Rattle.flow_outlet.proofs.LawKept.{gives_in_order}
 use Rattle.flow_outlet.proofs.OffersInOrder.{offers_in_order}
 use Rattle.flow_link.specs.Plan.{is_broadcast}
-use Rattle.flow_link.proofs.ListTests.{never_both}
-use Rattle.flow_spread.specs.Spread.{link_at as link_over}
-use Rattle.flow_block.specs.Copies.{copy_place}
-use Rattle.flow_block.proofs.CopiesIdle.{no_copy_at, none_broadcast}
-use Rattle.flow_block.specs.Block.{BlockState, port_at, with_port, with_jobs, begins, made_of, keeps_results, yields, makes_of, makes, makes_row, takes_group, held_by, stops_by}
+use Rattle.flow_spread.specs.Spread.{link_at as link_over, puts}
+use Rattle.flow_block.specs.Copies.{copy_place, copies_left, none_waits}
+use Rattle.flow_block.proofs.CopierKept.{may_copy_next}
+use Rattle.flow_block.proofs.CopiesIdle.{no_copy_at, copies_at}
+use Rattle.flow_block.proofs.CopiesMove.{copies_move_views, puts_move_none}
+use Rattle.flow_block.specs.Block.{BlockState, port_at, with_port, with_jobs, begins, made_of, keeps_results, yields, makes_of, makes, makes_row, takes_group, copies_next, held_by, stops_by}
 use Rattle.flow_block.specs.Jobs.{JobsState, begins as one_more}
 use Rattle.flow_block.specs.Node.{NodeState, NodeCall, with_block, with_exits, marks, hand_at, in_link_at, out_link_at, takes_in, gives_from, view_of_in, view_of_out, in_view, out_view, copy_view}
 use Rattle.flow_block.specs.NodeKeeps.{after_call}
@@ -42,7 +43,7 @@ use Rattle.flow_block.specs.Planned.{block_makes}
 use Rattle.flow_block.specs.ViewsMove.{message_at, IsAboutIn, IsAboutOut, OthersStay, ViewsMove, CallsMoveViews}
 use Rattle.flow_block.proofs.JournalTells.{took_same, gave_same, took_here, gave_here}
 use Rattle.flow_block.proofs.KindsBuilt.{makes_by}
-use Rattle.flow_block.proofs.PlacesOfLinks.{links_in_differ, links_out_differ}
+use Rattle.flow_block.proofs.PlacesOfLinks.{links_in_differ, links_out_differ, shares_at}
 use Rattle.flow_block.proofs.PortsChange.{kept_at_one, port_of_map, end_there, end_elsewhere, kept_at_all}
 use Rattle.flow_block.proofs.TestsTell.{some_is}
 
@@ -197,7 +198,7 @@ module _ {W : Type 0} (layout : Layout W) (meaning : ℕ → Value → Result (L
               ∙ ap (knows_out (end_at node.block.exits j))
               (gave_same (λ link. link == out_link_at j node) node.journal mark
               (ap (λ (same : Bool). cond same (value ∷ []) []) differs));
-          copies = λ j near other. absurd (no_copy_at layout meaning b node law j near);
+          copies = λ j near other. absurd (no_copy_at layout meaning b node law (shares_at layout meaning b node.block law.shape k there) j near);
         };
       }
 
@@ -268,16 +269,28 @@ row_stays block = record {
   copies = λ k there. refl;
 }
 
-making_stays : (result : Value → Result (List Value) ℕ) (block : BlockState) → is_broadcast block.kind ≡ false
-    → EndsStay block (makes result block)
-making_stays result block shares =
+-- the message that waits longest is copied from now on
+copied_stays : (first : Option Value) (block : BlockState) → none_waits block.copies ≡ true → EndsStay block (copies_next first block)
+copied_stays None block none = record { ins = λ p below. refl; outs = refl; copies = λ k there. refl }
+copied_stays (Some value) block none =
+    let room = 1 - copies_left (puts value block.copies) in
+    record {
+      ins = λ p below.
+          kept_at_one (λ (port : PortState). port.ends) block.ports 0 p (gives_room room (takes_next (port_at 0 block))) refl;
+      outs = refl;
+      copies = λ k there. puts_move_none value (record { block = block; journal = [] }) k there none;
+    }
+
+making_stays : (result : Value → Result (List Value) ℕ) (block : BlockState)
+    → (is_broadcast block.kind ≡ true → none_waits block.copies ≡ true) → EndsStay block (makes result block)
+making_stays result block none =
     makes_by (EndsStay block) result block (λ batch. row_stays block)
     (λ join. record {
       ins = λ p below. kept_at_all (λ (port : PortState). port.ends) takes_next block.ports p (λ port. refl);
       outs = refl;
       copies = λ k there. refl;
     })
-    (λ broadcast. never_both (is_broadcast block.kind) broadcast shares)
+    (λ broadcast. copied_stays (first_of (held_by block)) block (none broadcast))
     (λ other alone single. first_stays result (first_of (held_by block)) block)
 
 jobs_stay : (block : BlockState) (change : JobsState → JobsState) → EndsStay block (with_jobs change block)
@@ -419,13 +432,14 @@ calls_move_views W layout meaning b node (NodeCall.look_out k phase) law may =
           (source_looks_kept old.stage phase);
       others = others_out (NodeCall.look_out k phase) node k _ end (λ j apart. apart) one;
     }
-calls_move_views W layout meaning b node (NodeCall.copy call) law may = absurd (no_copy_at layout meaning b node law (copy_place call) may.place)
+calls_move_views W layout meaning b node (NodeCall.copy call) law may =
+    copies_move_views W layout b node (law.copies.copier (copies_at layout meaning b node law (copy_place call) may.place)) call may
 calls_move_views W layout meaning b node NodeCall.begin law may =
     let none = none_moves node (begins node.block) (jobs_stay node.block one_more) in
     record { moved = tt; others = others_stay NodeCall.begin node (after_call layout meaning b NodeCall.begin node) none }
 calls_move_views W layout meaning b node NodeCall.make law may =
     let new = after_call layout meaning b NodeCall.make node in
-    let stay = making_stays (block_makes layout meaning b) node.block (none_broadcast node.block.kind law.shape.built) in
+    let stay = making_stays (block_makes layout meaning b) node.block (λ broadcast. may_copy_next node.block broadcast may.waits) in
     let none = none_moves node new.block stay in
     record { moved = tt; others = others_stay NodeCall.make node new none }
 calls_move_views W layout meaning b node (NodeCall.complete p) law may =

@@ -11,6 +11,7 @@ use Rattle.flow_block.specs.Block.{port_at}
 use Rattle.flow_block.specs.Node.{NodeState, NodeCall}
 use Rattle.flow_block.specs.NodeKeeps.{MayCall}
 use Rattle.flow_block.specs.NodeLaw.{NodeLaw}
+use Rattle.flow_block.specs.NextCopies.{next_copy, MayMoveCopy}
 use Rattle.flow_block.specs.Peeks.{is_held_up}
 
 -- what the end of a link into the node, and of a link out of it, would do next
@@ -51,3 +52,4 @@ NextMovesMay W =
     → ((p k : ℕ) (next : Move) → p < length node.block.ports → k < length (port_at p node.block).ends → next_in p k node ≡ Some next
     → MayMoveIn layout meaning b node p k next)
     × ((k : ℕ) (next : Move) → k < length node.block.exits.ends → next_out k node ≡ Some next → MayMoveOut layout meaning b node k next)
+    × ((k : ℕ) (next : Move) → k < length node.block.copies.ends → next_copy k node ≡ Some next → MayMoveCopy k node next)

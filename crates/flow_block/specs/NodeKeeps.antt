@@ -18,7 +18,7 @@ use Rattle.flow_intake.specs.Calls.{is_offered, is_posted, is_postponed, is_arri
 use Rattle.flow_outlet.specs.End.{is_free, is_waiting, speaks_of}
 use Rattle.flow_outlet.specs.Law.{is_put_off}
 use Rattle.flow_outlet.specs.Outlet.{end_at, stage_at, may_offer, may_give, is_wish, end_of, lacks_ids}
-use Rattle.flow_link.specs.Plan.{is_broadcast}
+use Rattle.flow_link.specs.Plan.{is_broadcast, is_one_taker}
 use Rattle.flow_spread.specs.Law.{MayPutOff as MayPutOffOver}
 use Rattle.flow_spread.specs.Spread.{may_offer as may_offer_copy, may_give as may_give_copy, is_asked_by}
 use Rattle.flow_spread.specs.Spread as spread
@@ -153,7 +153,8 @@ module _ (W : Type 0) where
   CopiesKept = AtEachBlock (λ layout meaning b node. CopiesLaw layout meaning b node.block node.journal)
 
   abbrev pub GaveKept : Type 0
-  GaveKept = AtEachBlock (λ layout meaning b node. GaveLaw layout meaning b node.block.exits node.journal)
+  GaveKept = AtEachBlock (λ layout meaning b node.
+      is_one_taker node.block.kind ≡ true → GaveLaw layout meaning b node.block.exits node.journal)
 
   abbrev pub MakesKept : Type 0
   MakesKept = AtEachBlock (λ layout meaning b node. MakesLaw layout meaning b node.block node.journal)

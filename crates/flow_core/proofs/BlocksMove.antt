@@ -35,6 +35,7 @@ use Rattle.flow_block.specs.Node.{NodeState, NodeCall, out_view}
 use Rattle.flow_block.specs.NodeLaw.{NodeLaw}
 use Rattle.flow_block.specs.Planned.{out_place, rule_of}
 use Rattle.flow_block.specs.ViewsMove.{CallsMoveViews}
+use Rattle.flow_block.proofs.PlacesOfLinks.{shares_at}
 use Rattle.flow_core.specs.Events.{node_after, out_call, slot_after}
 use Rattle.flow_core.specs.OneMove.{SourceMoved, BlocksMoveWell}
 use Rattle.flow_core.proofs.PlacesOfLinks.{exit_there, rule_there}
@@ -194,7 +195,9 @@ module _ {W : Type 0} (layout : Layout W) (meaning : ℕ → Value → Result (L
     max_is = ap (λ (rule : LinkRule). rule.max) rule_is
 
     counts : is_some end.rule.max ≡ true → end.given ≡ crossed view
-    counts limited = let told = (law.gave.each k there).counted limited in omega (arith, told)
+    counts limited =
+        let told = ((law.gave (shares_at layout meaning s node.block law.shape k there)).each k there).counted limited in
+        omega (arith, told)
 
     room : is_cut end ≡ false → HasRoom facts.max (crossed view)
     room open_link =
@@ -248,8 +251,8 @@ module _ {W : Type 0} (layout : Layout W) (meaning : ℕ → Value → Result (L
 pub blocks_move : {W : Type 0} → CallsMoveViews W → NextMovesMay W → BlocksMoveWell W
 blocks_move views may layout meaning runs l s low begins node law phase new slot target next ok peek allowed =
     let k = out_place layout s l in
-    let place = exit_there layout meaning s node law l low begins in
-    let rule_is = rule_there layout meaning s node law l low begins in
+    let place = exit_there layout meaning s node law runs l low begins in
+    let rule_is = rule_there layout meaning s node law runs l low begins in
     let block = runs.leads.from_block l s low begins in
     let own = (may layout meaning s node runs.well_formed block law).1 k next place peek in
     moves layout meaning s l k node law views place rule_is phase new slot target ok next own allowed

@@ -89,9 +89,9 @@ module _ {W : Type 0} (kept : NodesKept W) (views : CallsMoveViews W) (inputs : 
         let node = node_at net s in
         let law = parts.nodes s (run.leads.from_block l s there from) in
         let call = NodeCall.look_out k phase in
-        let rule_is = rule_there layout meaning s node law l there from in
+        let rule_is = rule_there layout meaning s node law run l there from in
         let may : MayCall layout meaning s call node = record {
-          place = exit_there layout meaning s node law l there from;
+          place = exit_there layout meaning s node law run l there from;
           put_off = OnTrue_from _ _ (λ off. ap (λ (rule : LinkRule). rule.steady) rule_is ∙ put_off_well s from off);
         } in
         let known = given_as layout net l (Block s) from in

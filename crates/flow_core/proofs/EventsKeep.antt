@@ -29,7 +29,7 @@ use Rattle.flow_block.specs.Peeks.{may_work, may_make, may_end, next_fault}
 use Rattle.flow_block.specs.Planned.{in_place, out_place, block_makes}
 use Rattle.flow_block.specs.ViewsMove.{CallsMoveViews, IsAboutIn, IsAboutOut}
 use Rattle.flow_link.proofs.ListTests.{never_both}
-use Rattle.flow_block.proofs.CopiesIdle.{none_broadcast}
+use Rattle.flow_block.proofs.CopiesIdle.{never_broadcast}
 use Rattle.flow_core.specs.Events.{NetEvent, MayHappen, HasIds, LinkMay, is_of_source, node_after, out_call, in_call}
 use Rattle.flow_core.specs.Events.{input_call, input_after, with_node, with_line, source_peek, target_peek, peek_by}
 use Rattle.flow_core.specs.Events.{value_from, slot_after, source_moves, target_moves, source_sees, target_sees}
@@ -44,7 +44,7 @@ use Rattle.flow_core.proofs.EndsStep.{SourceSteps, TargetSteps, out_steps, in_st
 use Rattle.flow_core.proofs.EndsStep.{block_gives, block_takes, input_gives}
 use Rattle.flow_core.proofs.LinesKeep.{net_keeps, keeps_with, line_stays}
 use Rattle.flow_core.proofs.EndsLook.{target_looks, source_looks_out}
-use Rattle.flow_core.proofs.PlacesOfLinks.{entry_there, exit_there, port_there}
+use Rattle.flow_core.proofs.PlacesOfLinks.{entry_there, exit_there, port_there, block_shares}
 
 module _ {W : Type 0} (kept : NodesKept W) (jobs : JobsEndWell W) (views : CallsMoveViews W) (next_may : NextMovesMay W) (inputs : InputsKeep)
     (blocks_move : BlocksMoveWell W) (inputs_move : InputsMoveWell W) (targets_move : TargetsMoveWell W)
@@ -84,7 +84,7 @@ module _ {W : Type 0} (kept : NodesKept W) (jobs : JobsEndWell W) (views : Calls
         let node = node_at net s in
         let low = run.leads.from_block l s there from in
         let law = parts.nodes s low in
-        let place = exit_there layout meaning s node law l there from in
+        let place = exit_there layout meaning s node law run l there from in
         let may = (next_may layout meaning s node run.well_formed low law).1 k next place peek in
         let change = node_after layout meaning s (out_call k next) in
         let known = given_as layout net l (Block s) from in
@@ -236,7 +236,8 @@ module _ {W : Type 0} (kept : NodesKept W) (jobs : JobsEndWell W) (views : Calls
           all_out = ap (λ (slots : List Slot). every is_none slots) none;
           ids = ids;
           copy_id = λ broadcast.
-              absurd (never_both (is_broadcast block.kind) broadcast (none_broadcast block.kind (keeps.nodes b low).shape.built));
+              absurd (never_both (is_broadcast block.kind) broadcast
+              (never_broadcast block.kind (block_shares layout meaning b (node_at net b) (keeps.nodes b low) run low)));
         })
         (λ q j about. about) (λ j about. about)
 

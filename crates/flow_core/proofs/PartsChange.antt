@@ -96,7 +96,7 @@ module _ {W : Type 0} (layout : Layout W) where
           element_set (GivesAlike k) net.nodes b s (change (node_at net b)) no_node
           (λ same.
           let here = ap (λ (i : ℕ). Block i) same in
-          let place = exit_there layout meaning b (node_at net b) (parts.nodes b there) k low (from ∙ here) in
+          let place = exit_there layout meaning b (node_at net b) (parts.nodes b there) run k low (from ∙ here) in
           subst (λ (i : ℕ). GivesAlike k i (change (node_at net b))) (sym same)
           (steps.outs (out_place layout b k) place (apart here)))
           refl

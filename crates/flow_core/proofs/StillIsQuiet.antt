@@ -1,5 +1,5 @@
 -- Where nothing may happen any more in a network in order, its run is quiet.
-use Rattle.std.proofs.Common.{◌≡◌, ℕ, ◌<◌, Bool, true, false, ◌||◌, List, length, Option, Some, None, is_some, Result, refl, ap, sym, ◌∙◌}
+use Rattle.std.proofs.Common.{◌≡◌, ℕ, zero, suc, ◌<◌, Bool, true, false, ◌||◌, List, [], length, Option, Some, None, is_some, Result, refl, ap, sym, ◌∙◌}
 use Rattle.std.proofs.lemmas.Bool.{OnTrue_at, false_from_ne_true, or_parts}
 use Rattle.flow_value.specs.declared.value.Value.{Value}
 use Rattle.flow_link.specs.declared.phase.Move.{Move}
@@ -17,10 +17,11 @@ use Rattle.flow_link.specs.Layout.{Layout}
 use Rattle.flow_link.specs.LinkOk.{source_reserves, target_reserves}
 use Rattle.flow_link.specs.LooksKeep.{SeenAt}
 use Rattle.flow_link.specs.Plan.{link_in}
+use Rattle.flow_link.specs.PlanFaults.{is_in}
 use Rattle.flow_link.specs.Quiet.{Quiet}
 use Rattle.flow_link.specs.RestsByParts.{EndsAreStill, PartsRest, is_at_rest}
 use Rattle.flow_link.specs.Stage.{source_stage_of, target_stage_of}
-use Rattle.flow_link.specs.Trace.{Run}
+use Rattle.flow_link.specs.Trace.{Run, is_used_up}
 use Rattle.flow_link.specs.Views.{SourceStage, TargetStage}
 use Rattle.flow_link.proofs.LinksAtRest.{links_rest}
 use Rattle.flow_link.proofs.LooksKeepOrder.{looks_keep}
@@ -36,7 +37,9 @@ use Rattle.flow_block.specs.Node.{NodeState, in_view}
 use Rattle.flow_block.specs.NodeRests.{NodesAreStill, NodesRest, HasNothingToDo, EndsRest, NoneReserve, rests_in, rests_out, is_asked, is_reserving}
 use Rattle.flow_block.specs.NodeSeen.{NodesAreLawful}
 use Rattle.flow_block.specs.Peeks.{may_make, may_begin, may_end, may_complete, next_fault, may_finish}
+use Rattle.flow_block.proofs.CopiesIdle.{no_copy_at}
 use Rattle.flow_block.proofs.PlacesOfLinks.{end_in_is, end_out_is}
+use Rattle.flow_core.proofs.PlacesOfLinks.{block_shares}
 use Rattle.flow_core.specs.Events.{NetEvent, is_of_source, peek_by, source_peek, target_peek}
 use Rattle.flow_core.specs.Keeps.{IsRun, NetKeeps}
 use Rattle.flow_core.specs.State.{NetState, node_at, input_at, ends_of, source_from, target_from, run_of_net}
@@ -50,6 +53,12 @@ use Rattle.flow_core.proofs.StagesShow.{source_shows, source_shown, target_shows
 none_where : {A : Type 0} (x : Option A) → ((a : A) → x ≡ Some a → ⊥) → x ≡ None
 none_where None h = refl
 none_where (Some a) h = absurd (h a refl)
+
+-- a link whose number of messages is in its range may carry one
+may_carry : (max : Option ℕ) → is_in 1 2147483647 max ≡ true → is_used_up max [] ≡ false
+may_carry None e = refl
+may_carry (Some zero) e = absurd (cc)
+may_carry (Some (suc n)) e = refl
 
 -- No end asks for a message or keeps one where nothing reserves
 
@@ -133,6 +142,12 @@ module _ {W : Type 0} (layout : Layout W) (meaning : ℕ → Value → Result (L
           peek = ap (source_peek layout net l) is.begins ∙ ap (λ (place : ℕ). next_out place (node b)) is.place;
         }
 
+    -- nothing is copied over any link
+    none_copied : (b : ℕ) → b < length layout.blocks → (k : ℕ) → k < length (node b).block.copies.ends → ⊥
+    none_copied b low k small =
+        let law = keeps.nodes b low in
+        no_copy_at layout meaning b (node b) law (block_shares layout meaning b (node b) law runs low) k small
+
     abbrev stage_in : ℕ → ℕ → ℕ → TargetStage Value
     stage_in p k b = (in_view p k (node b)).stage
 
@@ -175,6 +190,7 @@ module _ {W : Type 0} (layout : Layout W) (meaning : ℕ → Value → Result (L
           let end = end_at (node b).block.exits k in
           not_asked end.stage
           (sym (ap source_reserves is.stage) ∙ source_takes_freely end.rule.id is.there);
+      copies = λ k small. absurd (none_copied b low k small);
     }
 
     -- where the links rest, so do the ends of blocks and inputs
@@ -200,6 +216,7 @@ module _ {W : Type 0} (layout : Layout W) (meaning : ℕ → Value → Result (L
             let is = out_end b k low small in
             let end = end_at (node b).block.exits k in
             source_rests_kept end.stage ∙ sym (ap source_rests is.stage) ∙ source_end_rests end.rule.id is.there;
+        copies = λ k small. absurd (none_copied b low k small);
       }
 
       input_end_rests : (l b : ℕ) → l < length layout.links → (link l).source ≡ Input b
@@ -236,6 +253,7 @@ module _ {W : Type 0} (layout : Layout W) (meaning : ℕ → Value → Result (L
         outs = λ k small.
             let is = out_end b k low small in
             sym is.peek ∙ source_done (end_at (node b).block.exits k).rule.id is.there;
+        copies = λ k small. absurd (none_copied b low k small);
         makes = false_from_ne_true (may_make (node b).block)
             (λ would. still (NetEvent.make b) (record { there = low; would = would }));
         begins = false_from_ne_true (may_begin (node b).block)
@@ -290,7 +308,7 @@ module _ {W : Type 0} (layout : Layout W) (meaning : ℕ → Value → Result (L
           nodes = λ b low.
               nodes_rest run ends b (node b) low (keeps.nodes b low) (is_node layout meaning runs net keeps b)
               (λ l p there into. port_of_link layout meaning runs net keeps b l p low there into) (nothing_to_do b low)
-              (ends_rest links_are_at_rest b low);
+              (ends_rest links_are_at_rest b low) (λ l there from. may_carry (link l).max (runs.well_formed.max l there));
           inputs = λ l b there from.
               inputs_are_parts.rests run ends l b (input_at layout net b)
               (input_law layout meaning runs net keeps l b there from)

@@ -32,7 +32,7 @@ module _ {W : Type 0} (layout : Layout W) (meaning : ℕ → Value → Result (L
   source_there (Block s) from =
       let low = run.leads.from_block l s there from in
       let node : s < length net.nodes = omega (arith, low, keeps.node_count) in
-      (node, exit_there layout meaning s (node_at net s) (keeps.nodes s low) l there from)
+      (node, exit_there layout meaning s (node_at net s) (keeps.nodes s low) run l there from)
   source_there (Input b) from = input_there b from
 
   target_there : (target : LinkTarget) → (link_in layout.links l).target ≡ target

@@ -141,7 +141,7 @@ module _ {W : Type 0} (layout : Layout W) (meaning : ℕ → Value → Result (L
       let node = node_at net s in
       let low = run.leads.from_block l s there from in
       let law = keeps.nodes s low in
-      let place = exit_there layout meaning s node law l there from in
+      let place = exit_there layout meaning s node law run l there from in
       out_ready layout meaning s node law k next
       ((next_moves_may layout meaning s node run.well_formed low law).1 k next place peek)
   source_ready (Input b) from peek =

@@ -149,7 +149,7 @@ module _ {W : Type 0} (layout : Layout W) (meaning : ℕ → Value → Result (L
         let node = node_at net s in
         let low = runs.leads.from_block l s there from in
         let law = keeps.nodes s low in
-        let place = exit_there layout meaning s node law l there from in
+        let place = exit_there layout meaning s node law runs l there from in
         let k = out_place layout s l in
         id_for_block s node law k next ((next_moves_may layout meaning s node runs.well_formed low law).1 k next place would)
     id_for_source (Input b) from left would =

@@ -34,6 +34,7 @@ use Rattle.flow_block.specs.Node.{left_in}
 use Rattle.flow_block.proofs.CopiesIdle.{left_is_shared}
 use Rattle.flow_core.specs.Keeps.{NetKeeps}
 use Rattle.flow_core.specs.State.{NetState, no_node, node_at}
+use Rattle.flow_core.proofs.PlacesOfLinks.{block_shares}
 use Rattle.flow_core.proofs.PlacesTell.{count_within}
 use Rattle.flow_moves.specs.Ways.{input_in}
 use Rattle.flow_exec.specs.Works.{works_of}
@@ -136,9 +137,11 @@ module _ {W : Type 0} (meaning : W → Value → Result (List Value) WorkFault) 
     ports_are = ∥∥₁_elim kept (ℕ_set _ _) (λ keeps. (keeps.nodes b low).shape.port_count_is)
 
     -- what it has left is what it shares out
-    pub left_told : (node_at net b).block.exits.left ≡ left_at run b
-    left_told = ∥∥₁_elim kept (Prim.hlevel (codes, content.the_row.coded)) (λ keeps.
-        sym (left_is_shared layout (works_of meaning layout) b (node_at net b) (keeps.nodes b low)) ∙ left_is b)
+    pub left_told : IsRun layout → (node_at net b).block.exits.left ≡ left_at run b
+    left_told runs = ∥∥₁_elim kept (Prim.hlevel (codes, content.the_row.coded)) (λ keeps.
+        let law = keeps.nodes b low in
+        sym (left_is_shared layout (works_of meaning layout) b (node_at net b) law
+        (block_shares layout (works_of meaning layout) b (node_at net b) law runs low)) ∙ left_is b)
 
     -- its state
     state_in : NodeLaw layout (works_of meaning layout) b (node_at net b)
