@@ -141,6 +141,10 @@ copy_view k node = view_of_out node.journal (link_at node.block.copies k)
 abbrev pub source_view : ℕ → NodeState → SourceView Value
 source_view k node = cond (is_one_taker node.block.kind) (out_view k node) (copy_view k node)
 
+-- what it would give next: its head, or the element
+abbrev pub given_next : NodeState → Option Value
+given_next node = cond (is_one_taker node.block.kind) (head_of node.block.exits) node.block.copies.element
+
 -- what it has to give
 abbrev pub left_in : BlockState → List Value
 left_in block = cond (is_one_taker block.kind) block.exits.left (listed (left_of block.copies))

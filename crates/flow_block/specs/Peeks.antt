@@ -1,14 +1,15 @@
 -- What a block could do next by itself, told by its own data alone.
-use Rattle.std.specs.Prelude.{ℕ, ◌==◌, leb, ltb, Bool, not, ◌&&◌, ◌||◌, cond, List, [], ◌∷◌, length, Option, None, is_some, is_none}
+use Rattle.std.specs.Prelude.{ℕ, ◌+◌, ◌^◌, ◌==◌, leb, ltb, Bool, not, ◌&&◌, ◌||◌, cond, List, [], ◌∷◌, length, Option, None, is_some, is_none, Result}
+use Rattle.flow_value.specs.declared.value.Value.{Value}
 use Rattle.flow_link.specs.Lists.{every}
 use Rattle.flow_link.specs.Plan.{has_work, is_broadcast}
 use Rattle.flow_intake.specs.Port.{PortState, coming}
 use Rattle.flow_intake.specs.Ended.{first_some, has_seen_completion, fault_at_ends}
 use Rattle.flow_intake.specs.PortLaw.{has_ended}
-use Rattle.flow_outlet.specs.Outlet.{is_empty, is_at_rest, only_waits}
+use Rattle.flow_outlet.specs.Outlet.{is_empty, is_at_rest, only_waits, lacks_ids}
 use Rattle.flow_spread.specs.Spread.{SpreadState, is_spread_free, is_at_rest as is_spread_at_rest, only_waits as spread_only_waits}
 use Rattle.flow_group.specs.Tuple.{has_tuple, is_join_complete}
-use Rattle.flow_block.specs.Block.{BlockState, port_at, held_by, is_batch, is_join}
+use Rattle.flow_block.specs.Block.{BlockState, port_at, held_by, is_batch, is_join, put_next}
 use Rattle.flow_block.specs.Copies.{copies_left, may_put}
 use Rattle.flow_block.specs.Jobs.{is_out}
 
@@ -57,6 +58,11 @@ may_work block = is_none block.stopped && is_none block.fault && has_next block
 -- it may make its next outputs: a block without a function makes them at once
 abbrev pub may_make : BlockState → Bool
 may_make block = may_work block && not (has_work block.kind)
+
+-- there is no id left for what it would make
+abbrev pub lacks_next : (Value → Result (List Value) ℕ) → BlockState → Bool
+lacks_next result block =
+    cond (is_broadcast block.kind) (leb (2 ^ 59) (block.copies.id + 1)) (lacks_ids (put_next result block) block.exits)
 
 -- it may work on one more of the messages that it holds
 abbrev pub may_begin : BlockState → Bool

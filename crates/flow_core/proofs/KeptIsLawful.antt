@@ -1,5 +1,5 @@
 -- The run of a network in order is lawful: each of its parts keeps its own laws.
-use Rattle.std.proofs.Common.{◌≡◌, ℕ, ◌<◌, List, length, refl, ap, sym, ◌∙◌, eq-eqb}
+use Rattle.std.proofs.Common.{◌≡◌, ℕ, ◌<◌, List, length, refl, ap, ◌∙◌, eq-eqb}
 use Rattle.std.proofs.lemmas.List.{length-map}
 use Rattle.std.proofs.Math.ListN.{get_or-map}
 use Rattle.flow_link.specs.declared.plan.LinkSource.TheVariants.{Input}
@@ -16,12 +16,11 @@ use Rattle.flow_block.specs.Input.{no_input, input_trace}
 use Rattle.flow_block.specs.InputKeeps.{InputLaw, InputsAreParts, IsInputOf}
 use Rattle.flow_block.specs.Node.{node_trace}
 use Rattle.flow_block.specs.NodeSeen.{NodesAreLawful, IsNodeOf}
-use Rattle.flow_block.specs.Planned.{input_place, out_place}
-use Rattle.flow_block.proofs.CopiesIdle.{view_is_shared}
+use Rattle.flow_block.specs.Planned.{input_place}
 use Rattle.flow_core.specs.Keeps.{IsRun, NetKeeps}
 use Rattle.flow_core.specs.State.{NetState, no_node, node_at, input_at, ends_of, source_from, target_from, run_of_net}
 use Rattle.flow_core.specs.Statements.{KeptIsLawful}
-use Rattle.flow_core.proofs.PlacesOfLinks.{port_there, block_shares}
+use Rattle.flow_core.proofs.PlacesOfLinks.{port_there}
 use Rattle.std.specs.Prelude.{Result}
 use Rattle.flow_value.specs.declared.value.Value.{Value}
 
@@ -31,12 +30,7 @@ module _ {W : Type 0} (layout : Layout W) (meaning : ℕ → Value → Result (L
   pub is_node : (b : ℕ) → IsNodeOf (run_of_net layout meaning net) (ends_of layout net) b (node_at net b)
   is_node b = record {
     trace = get_or-map node_trace net.nodes b no_node;
-    sources = λ l there from.
-        let low = runs.leads.from_block l b there from in
-        let law = keeps.nodes b low in
-        ap (source_from layout net l) from
-        ∙ sym (view_is_shared layout meaning b (node_at net b) law
-        (block_shares layout meaning b (node_at net b) law runs low) (out_place layout b l));
+    sources = λ l there from. ap (source_from layout net l) from;
     targets = λ l p there to. ap (target_from layout net l) to;
   }
 

@@ -1,31 +1,24 @@
 -- The end that a block has of a link is there, at the link's place, and is the link's.
-use Rattle.std.proofs.Common.{◌≡◌, ℕ, ◌<◌, ◌==◌, true, List, length, get_or, map, Result, refl, ap, sym, ◌∙◌, arith, eq-eqb}
+use Rattle.std.proofs.Common.{◌≡◌, ℕ, ◌<◌, ◌==◌, true, false, List, length, get_or, map, Result, refl, ap, sym, ◌∙◌, arith, eq-eqb}
 use Rattle.std.proofs.lemmas.Bool.{and_from}
 use Rattle.std.proofs.lemmas.List as lists
 use Rattle.std.proofs.Math.ListN.{get_or-map}
 use Rattle.flow_value.specs.declared.value.Value.{Value}
-use Rattle.flow_link.specs.declared.draft.BlockKind.{BlockKind}
-use Rattle.flow_link.specs.declared.draft.BlockKind.TheVariants.{Broadcast, WriteOnce}
 use Rattle.flow_link.specs.declared.plan.LinkSource.TheVariants.{Block}
 use Rattle.flow_link.specs.declared.plan.LinkTarget.TheVariants.{Port}
 use Rattle.flow_link.specs.Layout.{Layout}
-use Rattle.flow_link.specs.NotBuilt.{is_built_kind}
-use Rattle.flow_link.specs.Plan.{block_in, link_in, begins_at, ends_at_port, is_one_taker}
+use Rattle.flow_link.specs.Plan.{link_in, begins_at, ends_at_port, is_one_taker}
 use Rattle.flow_intake.specs.Port.{EndState, end_in, fresh_end}
 use Rattle.flow_outlet.specs.Outlet.{end_at}
+use Rattle.flow_spread.specs.Spread.{link_at}
 use Rattle.flow_block.specs.Block.{port_at}
 use Rattle.flow_block.specs.Node.{NodeState}
 use Rattle.flow_block.specs.NodeLaw.{NodeLaw}
 use Rattle.flow_block.specs.Planned.{is_out_of, is_into, links_to, rule_of, out_place, in_place}
-use Rattle.flow_block.proofs.PlacesOfLinks.{HasEndOut, end_out_of}
+use Rattle.flow_block.proofs.PlacesOfCopies.{copy_out_of}
+use Rattle.flow_block.proofs.PlacesOfLinks.{end_out_of}
 use Rattle.flow_core.specs.Keeps.{IsRun}
 use Rattle.flow_core.proofs.PlacesTell.{place_rises, place_finds}
-
--- a kind of which a plan may be made copies nothing
-pub built_shares : (kind : BlockKind) → is_built_kind kind ≡ true → is_one_taker kind ≡ true
-built_shares Broadcast built = absurd (cc)
-built_shares WriteOnce built = absurd (cc)
-built_shares _ built = refl
 
 module _ {W : Type 0} (layout : Layout W) where
   -- a link that leads so passes the test of the links that do
@@ -37,22 +30,21 @@ module _ {W : Type 0} (layout : Layout W) where
 
   module _ (meaning : ℕ → Value → Result (List Value) ℕ) (b : ℕ) (node : NodeState)
       (law : NodeLaw layout meaning b node) where
-    -- the end of a link out of the block: the kinds of which networks run share their messages out
-    module _ (run : IsRun layout) where
-      pub block_shares : b < length layout.blocks → is_one_taker node.block.kind ≡ true
-      block_shares low =
-          ap is_one_taker law.shape.kind_is ∙ built_shares (block_in layout.blocks b).kind (run.built b low)
-
-      module _ (l : ℕ) (there : l < length layout.links) (from : (link_in layout.links l).source ≡ Block b) where
-        end_of_link : HasEndOut layout meaning b node.block law.shape l
-        end_of_link =
-            end_out_of layout meaning b node.block law.shape (block_shares (run.leads.from_block l b there from)) l there from
-
+    -- the end of a link out of the block, which shares its messages out or copies them
+    module _ (l : ℕ) (there : l < length layout.links) (from : (link_in layout.links l).source ≡ Block b) where
+      module _ (shares : is_one_taker node.block.kind ≡ true) where
         pub exit_there : out_place layout b l < length node.block.exits.ends
-        exit_there = end_of_link.there
+        exit_there = (end_out_of layout meaning b node.block law.shape shares l there from).there
 
         pub rule_there : (end_at node.block.exits (out_place layout b l)).rule ≡ rule_of layout l
-        rule_there = end_of_link.rule_is
+        rule_there = (end_out_of layout meaning b node.block law.shape shares l there from).rule_is
+
+      module _ (copying : is_one_taker node.block.kind ≡ false) where
+        pub copy_there : out_place layout b l < length node.block.copies.ends
+        copy_there = (copy_out_of layout b node.block.copies (law.copies.copier copying).rules l there from).there
+
+        pub copy_rule_there : (link_at node.block.copies (out_place layout b l)).rule ≡ rule_of layout l
+        copy_rule_there = (copy_out_of layout b node.block.copies (law.copies.copier copying).rules l there from).rule_is
 
     -- the end of a link into a port of the block
     module _ (run : IsRun layout) (p l : ℕ) (there : l < length layout.links)
