@@ -20,7 +20,8 @@ use Rattle.flow_link.specs.Views.{SourceView, TargetView}
 use Rattle.flow_link.proofs.LooksKeepOrder.{looks_keep}
 use Rattle.flow_intake.specs.Calls.{first_of}
 use Rattle.flow_outlet.specs.Outlet.{lacks_ids}
-use Rattle.flow_block.specs.Block.{BlockState, held_by, is_batch, row_of, next_group, put_of, put_next}
+use Rattle.flow_group.specs.Tuple.{tuple_of}
+use Rattle.flow_block.specs.Block.{BlockState, held_by, is_batch, is_join, row_of, next_group, put_of, put_next}
 use Rattle.flow_block.specs.Input.{input_view}
 use Rattle.flow_block.specs.InputKeeps.{InputsKeep}
 use Rattle.flow_block.specs.Jobs.{Slot}
@@ -34,6 +35,7 @@ use Rattle.flow_block.specs.Planned.{in_place, out_place, block_makes}
 use Rattle.flow_block.specs.ViewsMove.{CallsMoveViews, IsAboutIn, IsAboutOut, IsAboutCopy}
 use Rattle.flow_link.proofs.ListTests.{never_both}
 use Rattle.flow_block.proofs.CopiesIdle.{broadcast_copies}
+use Rattle.flow_block.proofs.Joins.{broadcast_unjoined}
 use Rattle.flow_block.proofs.KindsBuilt.{broadcast_single}
 use Rattle.flow_core.specs.Events.{NetEvent, MayHappen, HasIds, LinkMay, is_of_source, node_after, source_call, in_call}
 use Rattle.flow_core.specs.Events.{input_call, input_after, with_node, with_line, source_peek, target_peek, peek_by}
@@ -57,9 +59,9 @@ record IdsLeft (result : Value → Result (List Value) ℕ) (block : BlockState)
   ids : lacks_ids (put_next result block) block.exits ≡ false
   copy_id : is_broadcast block.kind ≡ true → block.copies.id + 1 < 2 ^ 59
 
-none_put : (batch broadcast : Bool) (row other : List Value) → batch ≡ false → broadcast ≡ true
-    → cond batch row (cond broadcast [] other) ≡ []
-none_put batch broadcast row other single copies = rw (single, copies) refl
+none_put : (batch join broadcast : Bool) (row tuple other : List Value) → batch ≡ false → join ≡ false → broadcast ≡ true
+    → cond batch row (cond join tuple (cond broadcast [] other)) ≡ []
+none_put batch join broadcast row tuple other single alone copies = rw (single, alone, copies) refl
 
 ids_left : {W : Type 0} (layout : Layout W) (meaning : ℕ → Value → Result (List Value) ℕ) (b : ℕ) (node : NodeState)
     → NodeLaw layout meaning b node → (broadcast : Bool) → is_broadcast node.block.kind ≡ broadcast
@@ -67,8 +69,9 @@ ids_left : {W : Type 0} (layout : Layout W) (meaning : ℕ → Value → Result 
 ids_left layout meaning b node law true copies ids =
     let block = node.block in
     let copier = law.copies.copier (broadcast_copies block.kind copies) in
-    let nothing = none_put (is_batch block.kind) (is_broadcast block.kind) (row_of (next_group block) ∷ [])
-    (put_of block.kind (block_makes layout meaning b) (first_of (held_by block))) (broadcast_single block.kind copies) copies in
+    let nothing = none_put (is_batch block.kind) (is_join block.kind) (is_broadcast block.kind) (row_of (next_group block) ∷ [])
+    (tuple_of block.ports ∷ []) (put_of block.kind (block_makes layout meaning b) (first_of (held_by block)))
+    (broadcast_single block.kind copies) (broadcast_unjoined block.kind copies) copies in
     let left : leb (2 ^ 59) (block.copies.id + 1) ≡ false = rw copies at ids in
     record {
       ids = ap (λ (values : List Value). lacks_ids values block.exits) nothing ∙ ap (lacks_ids []) copier.idle_exits;
