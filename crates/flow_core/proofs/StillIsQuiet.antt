@@ -1,6 +1,6 @@
 -- Where nothing may happen any more in a network in order, its run is quiet.
-use Rattle.std.proofs.Common.{◌≡◌, ℕ, zero, suc, ◌<◌, Bool, true, false, ◌||◌, List, [], length, Option, Some, None, is_some, Result, refl, ap, sym, ◌∙◌}
-use Rattle.std.proofs.lemmas.Bool.{OnTrue_at, false_from_ne_true, or_parts}
+use Rattle.std.proofs.Common.{◌≡◌, ℕ, ◌<◌, leb, leb-true, Bool, true, false, ◌||◌, List, [], length, Option, Some, None, is_some, Result, refl, ap, sym, ◌∙◌, arith}
+use Rattle.std.proofs.lemmas.Bool.{OnTrue_at, and_parts, false_from_ne_true, or_parts}
 use Rattle.flow_value.specs.declared.value.Value.{Value}
 use Rattle.flow_link.specs.declared.phase.Move.{Move}
 use Rattle.flow_link.specs.declared.plan.Link.{Link}
@@ -39,6 +39,7 @@ use Rattle.flow_block.specs.NodeRests.{NodesAreStill, NodesRest, HasNothingToDo,
 use Rattle.flow_block.specs.NodeSeen.{NodesAreLawful}
 use Rattle.flow_block.specs.Peeks.{may_make, may_begin, may_end, may_complete, next_fault, may_finish}
 use Rattle.flow_spread.specs.Spread.{link_at, stage_at as copy_stage}
+use Rattle.flow_spread.proofs.StagesTell.{number_below}
 use Rattle.flow_block.proofs.CopiesIdle.{copies_at}
 use Rattle.flow_block.proofs.PlacesOfCopies.{copy_out_is}
 use Rattle.flow_block.proofs.PlacesOfLinks.{end_in_is, end_out_is, shares_at}
@@ -60,8 +61,9 @@ none_where (Some a) h = absurd (h a refl)
 -- a link whose number of messages is in its range may carry one
 may_carry : (max : Option ℕ) → is_in 1 2147483647 max ≡ true → is_used_up max [] ≡ false
 may_carry None e = refl
-may_carry (Some zero) e = absurd (cc)
-may_carry (Some (suc n)) e = refl
+may_carry (Some max) e =
+    let some = leb-true 1 max (and_parts (leb 1 max) (leb max 2147483647) e).0 in
+    number_below 0 max (omega (arith, some))
 
 -- No end asks for a message or keeps one where nothing reserves
 
