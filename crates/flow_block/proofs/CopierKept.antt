@@ -119,7 +119,7 @@ module _ {W : Type 0} (layout : Layout W) (meaning : ℕ → Value → Result (L
   call_keeps (NodeCall.look_in p k phase) may alone copying =
       end_moves p k (port_looks k phase (port_at p block)) _ refl refl (seen_by_looks (port_stage k (port_at p block)) phase)
   call_keeps (NodeCall.look_out k phase) may alone copying = none_out k may.place
-  call_keeps (NodeCall.copy call) may alone copying = copy_keeps layout b block node.journal law call may
+  call_keeps (NodeCall.copy call) may alone copying = copy_keeps layout b block node.journal law node.grouped call may
   call_keeps NodeCall.begin may alone copying = jobs_change layout b block node.journal law (begins block.jobs)
   call_keeps NodeCall.make may alone copying =
       makes_by (λ new. Copier layout b new node.journal) (block_makes layout meaning b) block

@@ -26,7 +26,8 @@ use Rattle.flow_group.proofs.GroupsKeep.{groups_kept}
 use Rattle.flow_group.proofs.JournalsTell.{journals_tell}
 use Rattle.flow_group.proofs.TuplesKeep.{held_by_take}
 use Rattle.flow_block.specs.Block.{BlockState, port_at, with_port, stops_by}
-use Rattle.flow_block.specs.GroupsKeep.{are_complete, KeepsGroups, makes_group, order_taken, order_after, after_at_batched, MayTake, MayCallBatched, GroupsStand}
+use Rattle.flow_block.specs.Groups.{makes_group}
+use Rattle.flow_block.specs.GroupsKeep.{are_complete, KeepsGroups, order_taken, order_after, after_at_batched, MayTake, MayCallBatched, GroupsStand}
 use Rattle.flow_block.specs.Node.{NodeState, NodeCall, takes_in, gives_from, in_link_at, out_link_at}
 use Rattle.flow_block.specs.Planned.{block_makes}
 use Rattle.flow_block.proofs.PortsChange.{kept_at_one, kept_at_all}

@@ -181,12 +181,12 @@ held_then _ [] block value rest one first =
     held_next block (λ port. gives_room 1 (takes_next port)) value rest one first (λ port. refl)
 held_then _ (made ∷ values) block value rest one first = held_next block takes_next value rest one first (λ port. refl)
 
-module _ {W : Type 0} (kept : NodesKept W) (layout : Layout W) (meaning : ℕ → Value → Result (List Value) ℕ) (b : ℕ) where
+module _ {W : Type 0} (kept : NodesKept W) (layout : Layout W) (meaning : ℕ → Value → Result (List Value) ℕ) (b grouped : ℕ) where
   abbrev result : Value → Result (List Value) ℕ
   result = block_makes layout meaning b
 
   abbrev InOrder : BlockState → List Mark → Type 0
-  InOrder block journal = NodeLaw layout meaning b (record { block = block; journal = journal })
+  InOrder block journal = NodeLaw layout meaning b (record { block = block; journal = journal; grouped = grouped })
 
   -- other slots, of which the law of jobs holds
   slots_stand : (block : BlockState) (journal : List Mark) (slots : List Slot) → InOrder block journal
@@ -205,7 +205,7 @@ module _ {W : Type 0} (kept : NodesKept W) (layout : Layout W) (meaning : ℕ �
           copier = λ copying. jobs_change layout b block journal (law.copies.copier copying) (change block.jobs);
         };
         gave = law.gave;
-        makes = makes_stay layout meaning b (record { block = block; journal = journal }) law.makes change;
+        makes = makes_stay layout meaning b (record { block = block; journal = journal; grouped = grouped }) law.makes change;
         rows = law.rows;
         tuples = law.tuples;
         jobs = record {
@@ -244,7 +244,7 @@ module _ {W : Type 0} (kept : NodesKept W) (layout : Layout W) (meaning : ℕ �
       → InOrder (yields made (with_slots (blank slots) block)) journal
   made_next block journal made value rest slots works going well held is ids law =
       let old = with_slots (blank slots) block in
-      let node : NodeState = record { block = old; journal = journal } in
+      let node : NodeState = record { block = old; journal = journal; grouped = grouped } in
       let may : MayMake result node = record {
         waits = rw (going, well, works_alone block.kind works, works_unjoined block.kind works, held, works_shared block.kind works) refl;
         all_out = blank_out slots;
@@ -328,30 +328,31 @@ module _ {W : Type 0} (kept : NodesKept W) (layout : Layout W) (meaning : ℕ �
       (λ idle. absurd (never_both (has_work block.kind) works idle)) are
       (λ none. absurd (never_both (is_none block.fault) (ap is_none none) fails))
 
+module _ {W : Type 0} (kept : NodesKept W) (layout : Layout W) (meaning : ℕ → Value → Result (List Value) ℕ) (b : ℕ) where
   -- the result of a message comes back
-  end_keeps : (node : NodeState) (ticket : ℕ) → NodeLaw layout meaning b node → MayEndJob result ticket node
+  end_keeps : (node : NodeState) (ticket : ℕ) → NodeLaw layout meaning b node → MayEndJob (block_makes layout meaning b) ticket node
       → (works : Bool) → has_work node.block.kind ≡ works
-      → NodeLaw layout meaning b (after_job result ticket node)
+      → NodeLaw layout meaning b (after_job (block_makes layout meaning b) ticket node)
   end_keeps node ticket law may false idle =
       let out = (and_parts (is_none node.block.stopped) (is_out ticket node.block.jobs) may.out).1 in
       absurd (none_out ticket node.block.jobs (law.jobs.only_works idle) out)
   end_keeps node ticket law may true works =
       let block = node.block in
-      let made = job_result result ticket block in
+      let made = job_result (block_makes layout meaning b) ticket block in
       let k = place_of ticket block.jobs in
       let both = and_parts (is_none block.stopped) (is_out ticket block.jobs) may.out in
-      where_keeps block node.journal (set block.jobs.slots k (Some made)) (is_none block.fault) refl works
+      where_keeps kept layout meaning b node.grouped block node.journal (set block.jobs.slots k (Some made)) (is_none block.fault) refl works
       (none_is block.stopped both.0)
       (subst (λ (n : ℕ). n ≤ block.jobs.lanes) (sym (length-set block.jobs.slots k (Some made))) law.jobs.within)
-      (back_at result (held_by block) block.jobs.slots k made
-      (λ small. makes_by_work result block.kind (job_message ticket block) works) law.jobs.results)
+      (back_at (block_makes layout meaning b) (held_by block) block.jobs.slots k made
+      (λ small. makes_by_work (block_makes layout meaning b) block.kind (job_message ticket block) works) law.jobs.results)
       may.ids law
 
-  pub job_ends_well : (node : NodeState) (ticket : ℕ) → NodeLaw layout meaning b node → MayEndJob result ticket node
+  pub job_ends_well : (node : NodeState) (ticket : ℕ) → NodeLaw layout meaning b node → MayEndJob (block_makes layout meaning b) ticket node
       → EndsWell layout meaning b ticket node
   job_ends_well node ticket law may =
       let block = node.block in
-      let made = job_result result ticket block in
+      let made = job_result (block_makes layout meaning b) ticket block in
       let back = with_jobs (brings ticket made) block in
       let stay = where_stays (is_none block.fault) back in
       record {

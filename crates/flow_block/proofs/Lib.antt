@@ -24,6 +24,8 @@ pub mod FreshGroups
 pub mod FreshNodes
 pub mod GaveHolds
 pub mod GoingOn
+pub mod GroupNoted
+pub mod GroupsFit
 pub mod GroupsOfRows
 pub mod GroupsSeen
 pub mod GroupsStand

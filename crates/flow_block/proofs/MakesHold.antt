@@ -318,11 +318,11 @@ module _ {W : Type 0} (layout : Layout W) (meaning : ℕ → Value → Result (L
       put_so Buffer values block journal value rest same one none first
       (made_more Buffer block journal value rest values same other first made law)
   kept_as Transform block journal value rest values same built other one none first made law =
-      jobs_change (record { block = puts_out values block; journal = journal })
+      jobs_change (record { block = puts_out values block; journal = journal; grouped = 0 })
       (put_so Transform values block journal value rest same one none first
       (made_more Transform block journal value rest values same other first made law)) works_off
   kept_as TransformMany block journal value rest values same built other one none first made law =
-      jobs_change (record { block = puts_out values block; journal = journal })
+      jobs_change (record { block = puts_out values block; journal = journal; grouped = 0 })
       (put_so TransformMany values block journal value rest same one none first
       (made_more TransformMany block journal value rest values same other first made law)) works_off
   kept_as kind block journal value rest values same built other one none first made law = absurd (cc)

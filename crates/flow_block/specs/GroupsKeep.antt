@@ -8,11 +8,11 @@ use Rattle.flow_link.specs.Making.{arrivals}
 use Rattle.flow_link.specs.Lists.{every, below}
 use Rattle.flow_link.specs.Trace.{gave, has_complete}
 use Rattle.flow_intake.specs.Port.{is_hand}
-use Rattle.flow_outlet.specs.Outlet.{puts}
-use Rattle.flow_group.specs.Group.{has_group, group_of, takes_group}
+use Rattle.flow_group.specs.Group.{has_group}
 use Rattle.flow_group.specs.Groups.{GroupsLaw}
 use Rattle.flow_group.specs.Tuple.{held_at}
 use Rattle.flow_block.specs.Block.{BlockState}
+use Rattle.flow_block.specs.Groups.{makes_group}
 use Rattle.flow_block.specs.Node.{NodeState, NodeCall, with_block, hand_at, after}
 use Rattle.flow_block.specs.NodeKeeps.{InAt, MayCall}
 use Rattle.flow_block.specs.Planned.{block_makes}
@@ -26,13 +26,6 @@ abbrev pub KeepsGroups : ℕ → List ℕ → BlockState → List Mark → Type 
 KeepsGroups size order block journal =
     GroupsLaw (length block.ports) size (are_complete (length block.ports) journal) (arrivals journal)
     (gave journal ++ block.exits.left) order (held_at block.ports)
-
--- the next group is there to be given
-abbrev pub makes_group : (size weight : ℕ) → List ℕ → BlockState → BlockState
-makes_group size weight order block = record block {
-  ports = takes_group size order block.ports;
-  exits = puts (group_of size order block.ports ∷ []) weight block.exits;
-}
 
 -- a message came in at the port
 abbrev pub order_taken : ℕ → Option Value → List ℕ → List ℕ

@@ -6,6 +6,8 @@ pub mod Copies
 pub mod CopiesSeen
 pub mod Fresh
 pub mod FreshGroups
+pub mod GroupMade
+pub mod Groups
 pub mod GroupsKeep
 pub mod GroupsSeen
 pub mod Input

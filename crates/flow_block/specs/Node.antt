@@ -23,6 +23,8 @@ use Rattle.flow_block.specs.Copies.{CopyCall, after_copy}
 pub record NodeState : Type 0 where
   pub block : BlockState
   pub journal : List Mark
+  -- how many of its marks are no younger than those of the messages that are in groups, if it is a batched join
+  pub grouped : ℕ
 
 -- a call of a node. The ends of its links are told by their places: those of the links into it by a port and a place there
 pub data NodeCall : Type 0 where
@@ -91,7 +93,7 @@ marks_copy (CopyCall.give k) copies journal = marks_copied (link_at copies k).ru
 marks_copy _ copies journal = journal
 
 abbrev pub copies_by : CopyCall → NodeState → NodeState
-copies_by call node = record {
+copies_by call node = record node {
   block = with_copies (after_copy call node.block.copies) node.block;
   journal = marks_copy call node.block.copies node.journal;
 }

@@ -27,6 +27,7 @@ mod copies;
 mod copies_laws;
 mod copying;
 mod group_laws;
+mod groups;
 mod input;
 mod jobs;
 mod laws;

@@ -1,0 +1,35 @@
+-- What a batched join makes: a group of the messages that came in first, whatever their ports.
+use Rattle.std.specs.Prelude.{ℕ, zero, suc, ◌+◌, Bool, true, false, List, [], ◌∷◌, map}
+use Rattle.flow_link.specs.declared.draft.BlockKind.{BlockKind}
+use Rattle.flow_link.specs.declared.draft.BlockKind.TheVariants.{BatchedJoin}
+use Rattle.flow_link.specs.declared.trace.Mark.{Mark}
+use Rattle.flow_link.specs.declared.trace.Mark.TheVariants.{Took, Gave, Complete, Fault, Done}
+use Rattle.flow_link.specs.Making.{Arrival, arrivals}
+use Rattle.flow_outlet.specs.Outlet.{puts}
+use Rattle.flow_group.specs.Group.{group_of, takes_group}
+use Rattle.flow_block.specs.Block.{BlockState}
+
+-- the next group is there to be given
+abbrev pub makes_group : (size weight : ℕ) → List ℕ → BlockState → BlockState
+makes_group size weight order block = record block {
+  ports = takes_group size order block.ports;
+  exits = puts (group_of size order block.ports ∷ []) weight block.exits;
+}
+
+-- the ports at which messages came in by these marks, in their order
+abbrev pub ports_in : List Mark → List ℕ
+ports_in marks = map (λ (arrival : Arrival). arrival.port) (arrivals marks)
+
+-- how many marks there are until so many messages came in; all of them, where fewer did
+abbrev pub marks_until : List Mark → ℕ → ℕ
+marks_until [] count = 0
+marks_until (Took _ _ _ ∷ marks) zero = 0
+marks_until (Took _ _ _ ∷ marks) (suc count) = 1 + marks_until marks count
+marks_until (Gave _ _ ∷ marks) zero = 0
+marks_until (Gave _ _ ∷ marks) (suc count) = 1 + marks_until marks (suc count)
+marks_until (Complete _ ∷ marks) zero = 0
+marks_until (Complete _ ∷ marks) (suc count) = 1 + marks_until marks (suc count)
+marks_until (Fault _ ∷ marks) zero = 0
+marks_until (Fault _ ∷ marks) (suc count) = 1 + marks_until marks (suc count)
+marks_until (Done ∷ marks) zero = 0
+marks_until (Done ∷ marks) (suc count) = 1 + marks_until marks (suc count)
