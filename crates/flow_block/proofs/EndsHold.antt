@@ -44,6 +44,7 @@ use Rattle.std.specs.List.{list_any}
 use Rattle.flow_block.proofs.KindsBuilt.{makes_by}
 use Rattle.flow_block.proofs.PortEnds.{PortEnds, StageGoes, end_moves, port_closed, port_failed, unseen_goes, refuses_so, look_goes}
 use Rattle.flow_block.proofs.PortsChange.{kept_at_one, kept_at_all, each_after_one, each_after_all}
+use Rattle.flow_block.proofs.RoomBack.{back_at, each_after_back}
 use Rattle.flow_block.proofs.TestsTell.{every_tells, some_last, some_set, every_set, some_map, every_map, none_left}
 use Rattle.flow_block.proofs.Joins.{tuple_at_one, tuple_at_all}
 use Rattle.flow_link.proofs.RoundsOfWalks.{some_here_below}
@@ -336,12 +337,14 @@ module _ {W : Type 0} (layout : Layout W) (meaning : ℕ → Value → Result (L
       let none = away_goes_on layout meaning b block node.journal law.ends k away in
       let mark = Gave (out_link_at k node) value in
       let nothing : EndsNothing mark = record { complete = λ q. refl; fault = refl; done = refl; goes_on = refl } in
-      let change = gives_room (gives k block.exits).room in
       both (gives_out k block) (node.journal ++ mark ∷ [])
-      (each_after_all (PortEndsBy block.fault (node.journal ++ mark ∷ [])) change block.ports
-      (λ q there. port_marked block.fault node.journal mark nothing q (change (port_in block.ports q))
+      (each_after_back (gives k block.exits) block.copies block.kind (head_of block.exits) (PortEndsBy block.fault (node.journal ++ mark ∷ [])) block.ports
+      (λ q there.
+      let port = port_in block.ports q in
+      port_marked block.fault node.journal mark nothing q
+      (gives_room (back_at (gives k block.exits) block.copies block.kind (head_of block.exits) q port) port)
       (each_port block node.journal law.ends q there)))
-      (going_ends block.kind _ (map change block.ports) (gives_out k block).exits block.fault block.stopped
+      (going_ends block.kind _ (gives_out k block).ports (gives_out k block).exits block.fault block.stopped
       (node.journal ++ mark ∷ []) none
       (going_marked node.journal mark nothing (sym law.ends.stopped_is ∙ none)))
 

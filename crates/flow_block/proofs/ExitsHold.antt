@@ -27,7 +27,7 @@ use Rattle.flow_outlet.proofs.OneEndChanges.{each_set}
 use Rattle.flow_link.specs.Plan.{is_broadcast}
 use Rattle.flow_spread.specs.Spread.{puts}
 use Rattle.flow_block.specs.Copies.{after_copy, copies_left}
-use Rattle.flow_block.specs.Block.{BlockState, port_at, copies_next, unit_weight, made_of, keeps_results, yields, makes_of, put_by_kind, put_of, values_of_result, row_of, next_group, group_weight, takes_group, makes_row, is_batch, gives_out, stops_by, held_by, is_join, makes_tuple}
+use Rattle.flow_block.specs.Block.{BlockState, port_at, copies_next, unit_weight, made_of, keeps_results, yields, makes_of, put_by_kind, put_of, values_of_result, row_of, next_group, group_weight, takes_group, makes_row, is_batch, gives_out, stops_by, held_by, is_join, makes_tuple, comes_back}
 use Rattle.flow_block.specs.Node.{NodeState, NodeCall, hand_at, takes_in, gives_from}
 use Rattle.flow_block.specs.NodeLaw.{ExitsLaw, is_kept}
 use Rattle.flow_block.specs.NodeKeeps.{MayCall, after_call, ExitsKept}
@@ -39,6 +39,7 @@ use Rattle.flow_block.proofs.GoingOn.{may_fault_tells, may_finish_tells}
 use Rattle.flow_block.proofs.KindsBuilt.{makes_by}
 use Rattle.flow_group.specs.Tuple.{tuple_of}
 use Rattle.flow_block.proofs.Joins.{join_alone}
+use Rattle.flow_block.proofs.RoomBack.{seen_over_back}
 
 -- The law of the exits
 
@@ -195,10 +196,11 @@ module _ {W : Type 0} (layout : Layout W) (meaning : ℕ → Value → Result (L
         let end = end_at o k in
         let room = wanted_room o.next (is_some o.offer) end.stage end.rule.max end.given may
         (law.law.each k here).room in
-        let same = seen_over_ports (gives_room (gives k o).room) (λ port. refl) block.ports in
-        let over = ports_change (map (gives_room (gives k o).room) block.ports)
+        let back = comes_back (gives k o) block.copies block.kind (head_of o) block.ports in
+        let same = seen_over_back (gives k o) block.copies block.kind (head_of o) block.ports in
+        let over = ports_change back
         (λ seen. subst (λ (f : Option ℕ). is_some f ≡ true) (sym same) seen) in
-        let pending = is_some block.fault || is_some (fault_at_ports (map (gives_room (gives k o).room) block.ports)) in
+        let pending = is_some block.fault || is_some (fault_at_ports back) in
         record {
           law = calls_keep_law.room_back pending block.stopped (gives k o)
               (calls_keep_law.give pending block.stopped o over.law k here may room);

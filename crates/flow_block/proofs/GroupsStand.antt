@@ -31,6 +31,7 @@ use Rattle.flow_block.specs.GroupsKeep.{are_complete, KeepsGroups, order_taken, 
 use Rattle.flow_block.specs.Node.{NodeState, NodeCall, takes_in, gives_from, in_link_at, out_link_at}
 use Rattle.flow_block.specs.Planned.{block_makes}
 use Rattle.flow_block.proofs.PortsChange.{kept_at_one, kept_at_all}
+use Rattle.flow_block.proofs.RoomBack.{length_back, kept_back}
 use Rattle.flow_block.proofs.RowsHold.{given_on}
 
 -- a port that is complete stays so, and one more mark but its Complete does not make it so
@@ -123,10 +124,17 @@ module _ (size : ℕ) (some : 0 < size) (order : List ℕ) where
   given_out node law k (Some value) head =
       let block = node.block in
       let new = gives_from k (Some value) node in
-      ports_move node law new.block (gives_room (gives k block.exits).room) (Gave (out_link_at k node) value) refl (λ port. refl)
+      let mark = Gave (out_link_at k node) value in
+      stays block new.block node.journal (node.journal ++ mark ∷ []) law
+      (record {
+        as_many = length_back (gives k block.exits) block.copies block.kind (head_of block.exits) block.ports;
+        held = λ q there. kept_back (gives k block.exits) block.copies block.kind (head_of block.exits)
+            (λ (seen : PortState). seen.waiting) block.ports q (λ back port. refl);
+      })
+      (complete_on (length block.ports) node.journal mark)
       (ap (λ (given : List Value). given ++ new.block.exits.left) (gave_by_gave node.journal (out_link_at k node) value)
       ∙ given_on (gave node.journal) block.exits.left value head)
-      refl
+      (journals_tell.other node.journal mark refl)
 
   -- a message is taken
   taken_in : (node : NodeState) → Keeps node.block node.journal → (p k : ℕ) → MayTake p k node → (value : Option Value)

@@ -35,6 +35,7 @@ use Rattle.flow_block.specs.Planned.{block_makes}
 use Rattle.flow_block.proofs.KindsBuilt.{is_of_one, of_one, has_one_port, batch_idle, makes_by, broadcast_idle}
 use Rattle.flow_block.proofs.PortsChange.{kept_at_one, kept_at_all}
 use Rattle.flow_block.proofs.Joins.{join_idle}
+use Rattle.flow_block.proofs.RoomBack.{kept_back}
 
 -- The results of the messages that are held first
 
@@ -193,7 +194,8 @@ module _ {W : Type 0} (layout : Layout W) (meaning : ℕ → Value → Result (L
   given_out node law k (Some value) =
       stays node.block (gives_from k (Some value) node).block node.journal (gives_from k (Some value) node).journal law
       refl refl
-      (kept_at_all (λ port. port.waiting) (gives_room (gives k node.block.exits).room) node.block.ports 0 (λ port. refl))
+      (kept_back (gives k node.block.exits) node.block.copies node.block.kind (head_of node.block.exits) (λ port. port.waiting)
+      node.block.ports 0 (λ back port. refl))
       refl (took_by_gave node.journal (out_link_at k node) value)
 
   -- all its ports close

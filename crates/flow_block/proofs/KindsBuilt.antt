@@ -3,13 +3,13 @@
 use Rattle.std.proofs.Common.{◌≡◌, ℕ, Bool, true, false, cond, length, [], ◌∷◌, Option, Some, None, Result, Ok, Err, refl, ap, sym, ◌∙◌, List}
 use Rattle.flow_value.specs.declared.value.Value.{Value}
 use Rattle.flow_link.specs.declared.draft.BlockKind.{BlockKind}
-use Rattle.flow_link.specs.declared.draft.BlockKind.TheVariants.{Buffer, Broadcast, Action, Transform, TransformMany, Batch, Join}
+use Rattle.flow_link.specs.declared.draft.BlockKind.TheVariants.{Buffer, Broadcast, Action, Transform, TransformMany, Batch, Join, BatchedJoin}
 use Rattle.flow_link.specs.Layout.{Layout}
 use Rattle.flow_link.specs.NotBuilt.{is_built_kind}
 use Rattle.flow_link.specs.Plan.{block_in, ports_by_kind, has_work, is_broadcast, is_one_taker}
 use Rattle.flow_block.specs.Kinds.{is_kept_kind}
 use Rattle.flow_intake.specs.Calls.{first_of}
-use Rattle.flow_block.specs.Block.{BlockState, held_by, is_batch, is_join, made_of, makes_row, makes_tuple, keeps_results, yields, copies_next, makes_of, makes_other, makes}
+use Rattle.flow_block.specs.Block.{BlockState, held_by, is_batch, is_join, made_of, makes_row, makes_tuple, keeps_results, yields, copies_next, makes_of, makes_other, makes, is_batched_join}
 use Rattle.flow_block.specs.NodeLaw.{ShapeLaw}
 
 -- each kind of which a plan may be made is kept in order
@@ -49,6 +49,11 @@ of_one Action kept single alone shared = refl
 of_one Transform kept single alone shared = refl
 of_one TransformMany kept single alone shared = refl
 of_one _ kept single alone shared = absurd (cc)
+
+-- none of them makes groups of the messages of several ports
+pub never_batched : (kind : BlockKind) → is_built_kind kind ≡ true → is_batched_join kind ≡ false
+never_batched BatchedJoin e = absurd (cc)
+never_batched _ e = refl
 
 -- a batch has no function
 pub batch_idle : (kind : BlockKind) → is_batch kind ≡ true → has_work kind ≡ false

@@ -64,6 +64,7 @@ pub mod PlanMade
 pub mod PortEnds
 pub mod PortsChange
 pub mod PortsHold
+pub mod RoomBack
 pub mod RoomFits
 pub mod RowsHold
 pub mod ShapeHolds

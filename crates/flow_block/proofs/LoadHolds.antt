@@ -26,7 +26,8 @@ use Rattle.flow_link.proofs.ListTests.{never_both}
 use Rattle.flow_link.specs.Plan.{is_broadcast}
 use Rattle.flow_block.specs.Copies.{copy_place, CopyCall, after_copy, copies_left}
 use Rattle.flow_block.proofs.CopiesIdle.{no_copy_at, copies_at, broadcast_copies}
-use Rattle.flow_block.specs.Block.{BlockState, port_in, port_at, with_port, with_jobs, held_by, unit_weight, made_of, puts_out, fails, yields, keeps_results, makes_of, is_batch, row_of, next_group, group_weight, takes_group, makes_row, stops_by, is_join, makes_tuple, copies_next}
+use Rattle.flow_block.proofs.RoomBack.{back_plain, kept_back, each_after_back}
+use Rattle.flow_block.specs.Block.{BlockState, port_in, port_at, with_port, with_jobs, held_by, unit_weight, made_of, puts_out, fails, yields, keeps_results, makes_of, is_batch, row_of, next_group, group_weight, takes_group, makes_row, stops_by, is_join, makes_tuple, copies_next, is_batched_join}
 use Rattle.flow_spread.specs.Spread.{puts}
 use Rattle.flow_block.proofs.CopiesLeave.{at_most_one, free_is_given, left_by_copy}
 use Rattle.flow_block.specs.Jobs.{JobsState, begins, works_off}
@@ -38,7 +39,7 @@ use Rattle.flow_block.specs.Planned.{block_makes}
 use Rattle.flow_block.proofs.GroupsOfRows.{group_there, group_tells}
 use Rattle.flow_block.proofs.CopierKept.{may_copy_tells}
 use Rattle.flow_block.proofs.GoingOn.{may_work_tells}
-use Rattle.flow_block.proofs.KindsBuilt.{is_of_one, of_one, has_one_port, makes_by}
+use Rattle.flow_block.proofs.KindsBuilt.{is_of_one, of_one, has_one_port, makes_by, never_batched}
 use Rattle.flow_block.proofs.PlacesOfLinks.{shares_at}
 use Rattle.flow_block.proofs.PortsChange.{kept_at_one, kept_at_all, each_after_one, each_after_all}
 use Rattle.flow_block.proofs.WeightsOfResults.{is_many, weighs_taken, weighs_given, weighs_many, weighs_one, rows_put}
@@ -470,16 +471,18 @@ module _ {W : Type 0} (layout : Layout W) (meaning : ℕ → Value → Result (L
             (λ q there other. law.load q there);
       }
 
-  give_keeps : (k : ℕ) (head : Option Value) (node : NodeState) → head_of node.block.exits ≡ head
+  give_keeps : (k : ℕ) (head : Option Value) (node : NodeState) → is_batched_join node.block.kind ≡ false
+      → head_of node.block.exits ≡ head
       → node.block.exits.next ≡ 1 + length (gave node.journal)
       → LoadLaw layout meaning b node.block node.journal
       → LoadLaw layout meaning b (gives_from k head node).block (gives_from k head node).journal
-  give_keeps k None node head next law = law
-  give_keeps k (Some value) node head next law =
+  give_keeps k None node other head next law = law
+  give_keeps k (Some value) node other head next law =
       let block = node.block in
       let exits = block.exits in
-      let change = gives_room (gives k exits).room in
-      let held = kept_at_all (λ port. port.waiting) change block.ports 0 (λ port. refl) in
+      let held =
+      kept_back (gives k exits) block.copies block.kind (head_of exits) (λ port. port.waiting) block.ports 0
+      (λ back port. refl) in
       let taken = took_by_gave node.journal (out_link_at k node) value in
       let given = gave_by_gave node.journal (out_link_at k node) value in
       let back = weight_stays exits.next exits.groups in
@@ -488,11 +491,13 @@ module _ {W : Type 0} (layout : Layout W) (meaning : ℕ → Value → Result (L
             (weighs_given (block_makes layout meaning b) block.kind limit (took node.journal) (held_by block)
             (gave node.journal) exits.left exits.next exits.groups value next head law.groups);
         no_room = refl;
-        load = each_after_all (Loads (weight_of (groups_after exits.next exits.groups) + copies_left block.copies)) change block.ports
+        load = each_after_back (gives k exits) block.copies block.kind (head_of exits)
+            (Loads (weight_of (groups_after exits.next exits.groups) + copies_left block.copies)) block.ports
             (λ q below there.
             let all = law.load q below there in
             let none = law.no_room in
-            omega (arith, all, none, back));
+            let room = back_plain (gives k exits) block.copies block.kind (head_of exits) other q (port_in block.ports q) in
+            omega (arith, all, none, back, room));
       }
 
   -- what it copies goes over a link, and the room that it takes no more comes back
@@ -561,7 +566,7 @@ module _ {W : Type 0} (layout : Layout W) (meaning : ℕ → Value → Result (L
   call_keeps node (NodeCall.offer k) law may =
       exits_move node (offers k (prepares node.block.exits)) refl refl refl refl law.load
   call_keeps node (NodeCall.give k) law may =
-      give_keeps k (head_of node.block.exits) node refl
+      give_keeps k (head_of node.block.exits) node (never_batched node.block.kind law.shape.built) refl
       (law.gave (shares_at layout meaning b node.block law.shape k may.place)).next_is law.load
   call_keeps node (NodeCall.deny k) law may =
       exits_move node (denies k node.block.exits) refl refl refl refl law.load

@@ -35,6 +35,7 @@ use Rattle.flow_block.proofs.GoingOn.{may_work_tells}
 use Rattle.flow_block.proofs.Joins.{join_idle, join_makes, batch_unjoined}
 use Rattle.flow_block.proofs.KindsBuilt.{is_of_one, of_one, has_one_port, makes_by}
 use Rattle.flow_block.proofs.PortsChange.{kept_at_one, kept_at_all}
+use Rattle.flow_block.proofs.RoomBack.{kept_back}
 
 -- What is taken, given and made
 
@@ -224,8 +225,8 @@ module _ {W : Type 0} (layout : Layout W) (meaning : ℕ → Value → Result (L
   given_out node law k None first = law
   given_out node law k (Some value) first =
       let held =
-      kept_at_all (λ port. port.waiting) (gives_room (gives k node.block.exits).room) node.block.ports 0
-      (λ port. refl) in
+      kept_back (gives k node.block.exits) node.block.copies node.block.kind (head_of node.block.exits) (λ port. port.waiting) node.block.ports 0
+      (λ back port. refl) in
       let taken = took_by_gave node.journal (out_link_at k node) value in
       let given = gave_by_gave node.journal (out_link_at k node) value in
       record {

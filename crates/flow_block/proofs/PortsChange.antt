@@ -1,12 +1,12 @@
 -- What a change of one port, or the same change of all, leaves of the ports and of their ends.
-use Rattle.std.proofs.Common.{◌≡◌, ◌≢◌, ℕ, zero, suc, ◌+◌, ◌-◌, ◌<◌, List, [], ◌∷◌, length, set, map, get_or, None, refl, ap, sym, ◌∙◌, inl, inr, arith, subst}
+use Rattle.std.proofs.Common.{◌≡◌, ◌≢◌, ℕ, zero, suc, ◌-◌, ◌<◌, List, [], ◌∷◌, length, set, map, get_or, None, refl, ap, sym, ◌∙◌, inl, inr, arith}
 use Rattle.std.proofs.lemmas.Bool.{cases_eq}
 use Rattle.std.proofs.lemmas.List.{get_or-map as map_at, length-map, length-set, get_or-set_same, get_or-set_other}
 use Rattle.std.proofs.Math.ListN.{get_or-map}
 use Rattle.std.proofs.Math.Seq.{map-set_same}
 use Rattle.flow_intake.specs.Port.{EndState, PortState, fresh_end, fresh_port, end_in}
 use Rattle.flow_intake.specs.Calls.{gives_room}
-use Rattle.flow_block.specs.Block.{port_in, room_at, gives_each}
+use Rattle.flow_block.specs.Block.{port_in}
 
 -- where no room comes back, all ports stay
 pub no_room_back : (ports : List PortState) → ports ≡ map (gives_room 0) ports
@@ -55,43 +55,6 @@ each_after_all P change ports each q there =
 pub port_of_map : (change : PortState → PortState) (ports : List PortState) (p : ℕ) → p < length ports
     → port_in (map change ports) p ≡ change (port_in ports p)
 port_of_map change ports p below = map_at change ports p (fresh_port None) (fresh_port None) below
-
--- at each port room comes back, as much as a group has from there
-
-pub length_each : (room weight : ℕ) (counts : ℕ → ℕ) (first : ℕ) (ports : List PortState)
-    → length (gives_each room weight counts first ports) ≡ length ports
-length_each room weight counts first [] = refl
-length_each room weight counts first (port ∷ ports) = ap suc (length_each room weight counts (suc first) ports)
-
-pub kept_at_each : {A : Type 0} (f : PortState → A) (room weight : ℕ) (counts : ℕ → ℕ) (first : ℕ) (ports : List PortState) (q : ℕ)
-    → ((back : ℕ) (port : PortState) → f (gives_room back port) ≡ f port)
-    → f (port_in (gives_each room weight counts first ports) q) ≡ f (port_in ports q)
-kept_at_each f room weight counts first [] q same = refl
-kept_at_each f room weight counts first (port ∷ ports) zero same = same (room_at room weight (counts first) port) port
-kept_at_each f room weight counts first (port ∷ ports) (suc q) same =
-    kept_at_each f room weight counts (suc first) ports q same
-
-pub port_of_each : (room weight : ℕ) (counts : ℕ → ℕ) (first : ℕ) (ports : List PortState) (q : ℕ) → q < length ports
-    → port_in (gives_each room weight counts first ports) q
-    ≡ gives_room (room_at room weight (counts (first + q)) (port_in ports q)) (port_in ports q)
-port_of_each room weight counts first [] q there = absurd (omega (arith, there))
-port_of_each room weight counts first (port ∷ ports) zero there =
-    let same : first ≡ first + 0 = omega arith in
-    ap (λ (p : ℕ). gives_room (room_at room weight (counts p) port) port) same
-port_of_each room weight counts first (port ∷ ports) (suc q) there =
-    let same : suc first + q ≡ first + suc q = omega arith in
-    port_of_each room weight counts (suc first) ports q (omega (arith, there))
-    ∙ ap (λ (p : ℕ). gives_room (room_at room weight (counts p) (port_in ports q)) (port_in ports q)) same
-
-pub each_after_each : (P : ℕ → PortState → Type 0) (room weight : ℕ) (counts : ℕ → ℕ) (ports : List PortState)
-    → ((q : ℕ) → q < length ports → P q (gives_room (room_at room weight (counts q) (port_in ports q)) (port_in ports q)))
-    → (q : ℕ) → q < length (gives_each room weight counts 0 ports) → P q (port_in (gives_each room weight counts 0 ports) q)
-each_after_each P room weight counts ports each q there =
-    let below : q < length ports = subst (λ (count : ℕ). q < count) (length_each room weight counts 0 ports) there in
-    let same : 0 + q ≡ q = omega arith in
-    let is = port_of_each room weight counts 0 ports q below
-    ∙ ap (λ (p : ℕ). gives_room (room_at room weight (counts p) (port_in ports q)) (port_in ports q)) same in
-    subst (λ (port : PortState). P q port) (sym is) (each q below)
 
 -- a port is replaced by one whose end at a place has moved
 module _ (ports : List PortState) (p k : ℕ) (port : PortState) (end : EndState) (below : p < length ports)

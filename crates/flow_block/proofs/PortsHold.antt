@@ -21,6 +21,7 @@ use Rattle.flow_outlet.specs.Outlet.{head_of, weight_at, gives}
 use Rattle.flow_outlet.proofs.OutletFits.{weight_stays}
 use Rattle.flow_link.proofs.ListTests.{never_both}
 use Rattle.flow_link.specs.Plan.{is_broadcast}
+use Rattle.flow_block.proofs.RoomBack.{back_at, back_plain, each_after_back}
 use Rattle.flow_block.specs.Copies.{copy_place, CopyCall, after_copy, copies_left}
 use Rattle.flow_block.proofs.CopiesIdle.{no_copy_at}
 use Rattle.flow_block.specs.Block.{BlockState, port_in, held_by, made_of, yields, keeps_results, makes_of, takes_group, copies_next}
@@ -183,14 +184,17 @@ module _ {W : Type 0} (layout : Layout W) (meaning : ℕ → Value → Result (L
       let none = load.no_room in
       let count : exits.room + weight_at exits.next exits.groups ≤ weight_of exits.groups = omega (arith, back, none) in
       let mark = Gave (out_link_at k node) value in
-      each_port node.block.ports node.journal (node.journal ++ mark ∷ []) (gives_room (gives k exits).room) law.ports
-      (λ q. took_as_many q node.journal mark refl)
-      (λ q below old.
+      let later = node.journal ++ mark ∷ [] in
+      each_after_back (gives k node.block.exits) node.block.copies node.block.kind (head_of node.block.exits) (λ q port. PortLaw facts (taken later q) port) node.block.ports
+      (λ q below.
       let port = port_in node.block.ports q in
-      moves_keep.give_room facts (taken node.journal q) port old (gives k exits).room
-      (rw (shape.ports q below).capacity
-      (given_fits capacity (gives k exits).room port.load (length port.waiting) (places_out node.block)
-      (omega (arith, count)) (load.load q below))))
+      let room = back_plain (gives k node.block.exits) node.block.copies node.block.kind (head_of node.block.exits) (never_batched node.block.kind shape.built) q port in
+      let fits : cond (is_some port.capacity) (gives k exits).room 0 ≤ port.load - length port.waiting =
+      rw (shape.ports q below).capacity
+      (given_fits capacity (gives k exits).room port.load (length port.waiting) (places_out node.block) (omega (arith, count)) (load.load q below)) in
+      subst (λ (n : ℕ). PortLaw facts n (gives_room (back_at (gives k node.block.exits) node.block.copies node.block.kind (head_of node.block.exits) q port) port)) (sym (took_as_many q node.journal mark refl))
+      (subst (λ (back : ℕ). PortLaw facts (taken node.journal q) (gives_room back port)) (sym room)
+      (moves_keep.give_room facts (taken node.journal q) port (law.ports q below) (gives k exits).room fits)))
 
   -- what it copies goes over a link, and the room that it takes no more comes back
   copy_keeps : (call : CopyCall) (node : NodeState) → copy_place call < length node.block.copies.ends

@@ -35,6 +35,7 @@ use Rattle.flow_block.proofs.JournalTells.{complete_where}
 use Rattle.flow_block.proofs.KindsBuilt.{has_one_port, batch_shares, broadcast_single, made_kind, makes_by}
 use Rattle.flow_block.proofs.PortsChange.{kept_at_one, kept_at_all}
 use Rattle.flow_block.proofs.Joins.{batch_unjoined, join_alone}
+use Rattle.flow_block.proofs.RoomBack.{kept_back}
 
 pub other_side : (a b : Bool) → a ≡ false → (a || b) ≡ true → b ≡ true
 other_side true b none e = absurd (cc)
@@ -123,7 +124,9 @@ given_out node law k (Some value) head batch =
     let block = node.block in
     let old = law batch in
     let mark = Gave (out_link_at k node) value in
-    let held = kept_at_all (λ (port : PortState). port.waiting) (gives_room (gives k block.exits).room) block.ports 0 (λ port. refl) in
+    let held =
+    kept_back (gives k block.exits) block.copies block.kind (head_of block.exits) (λ (port : PortState). port.waiting) block.ports 0
+    (λ back port. refl) in
     let given = gave_by_gave node.journal (out_link_at k node) value in
     let complete = some_no_more (is_complete_mark 0) node.journal mark refl in
     let same = given_on (gave node.journal) block.exits.left value head in

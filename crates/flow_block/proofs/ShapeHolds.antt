@@ -15,13 +15,14 @@ use Rattle.flow_outlet.specs.End.{end_in, no_end}
 use Rattle.flow_outlet.specs.Outlet.{head_of, gives}
 use Rattle.flow_spread.specs.Spread.{puts}
 use Rattle.flow_block.specs.Copies.{after_copy, copies_left}
-use Rattle.flow_block.specs.Block.{BlockState, port_in, held_by, copies_next, made_of, yields, keeps_results, makes_of, takes_group}
+use Rattle.flow_block.specs.Block.{BlockState, port_in, held_by, copies_next, made_of, yields, keeps_results, makes_of, takes_group, gives_out}
 use Rattle.flow_block.specs.Node.{NodeState, NodeCall, hand_at, takes_in, gives_from}
 use Rattle.flow_block.specs.NodeLaw.{ShapeLaw, PortAsPlanned}
 use Rattle.flow_block.specs.NodeKeeps.{after_call, ShapeKept}
 use Rattle.flow_block.specs.Planned.{block_makes}
 use Rattle.flow_block.proofs.KindsBuilt.{makes_by}
 use Rattle.flow_block.proofs.PortsChange.{each_after_one, each_after_all}
+use Rattle.flow_block.proofs.RoomBack.{back_at, length_back, each_after_back}
 
 -- what the plan says of a port stays
 record SamePort (before after : PortState) : Type 0 where
@@ -185,13 +186,28 @@ module _ {W : Type 0} (layout : Layout W) (meaning : ℕ → Value → Result (L
   take_keeps p k (Some value) node law =
       one_port node.block _ p (closes k value) (closes_same k value) refl refl refl refl law
 
+  -- its head is given, and room comes back
+  room_back : (block : BlockState) (k : ℕ) → ShapeLaw layout meaning b block → ShapeLaw layout meaning b (gives_out k block)
+  room_back block k law = record {
+    built = law.built;
+    kind_is = law.kind_is;
+    size_is = law.size_is;
+    some_size = law.some_size;
+    port_count_is = length_back (gives k block.exits) block.copies block.kind (head_of block.exits) block.ports ∙ law.port_count_is;
+    ports =
+        each_after_back (gives k block.exits) block.copies block.kind (head_of block.exits) IsPlanned block.ports
+        (λ q below.
+        let port = port_in block.ports q in
+        let back = back_at (gives k block.exits) block.copies block.kind (head_of block.exits) q port in
+        port_stays q port (gives_room back port) (gives_room_same back port) (law.ports q below));
+    rules = rules_stay block.exits.ends k _ refl ∙ law.rules;
+  }
+
   give_keeps : (k : ℕ) (head : Option Value) (node : NodeState) → ShapeLaw layout meaning b node.block
       → ShapeLaw layout meaning b (gives_from k head node).block
   give_keeps k None node law = law
   give_keeps k (Some value) node law =
-      each_port node.block _ (gives_room (gives k node.block.exits).room)
-      (gives_room_same (gives k node.block.exits).room) refl refl refl
-      (rules_stay node.block.exits.ends k _ refl) law
+      room_back node.block k law
 
   call_keeps : (node : NodeState) (call : NodeCall) → ShapeLaw layout meaning b node.block
       → ShapeLaw layout meaning b (after_call layout meaning b call node).block

@@ -31,6 +31,7 @@ use Rattle.flow_block.proofs.Joins.{join_alone, join_shares, broadcast_unjoined}
 use Rattle.flow_block.proofs.KindsBuilt.{makes_by}
 use Rattle.flow_block.proofs.ShapeHolds.{shape_kept}
 use Rattle.flow_block.proofs.PortsChange.{kept_at_one, kept_at_all}
+use Rattle.flow_block.proofs.RoomBack.{length_back, kept_back}
 use Rattle.flow_block.proofs.RowsHold.{given_on}
 use Rattle.flow_block.specs.Copies.{copy_place}
 use Rattle.flow_link.proofs.ListTests.{never_both}
@@ -89,8 +90,9 @@ given_out node law k (Some value) head =
     let block = node.block in
     let new = gives_from k (Some value) node in
     stays block new.block node.journal new.journal law
-    (length-map block.ports (gives_room (gives k block.exits).room))
-    (λ q. kept_at_all (λ (seen : PortState). seen.waiting) (gives_room (gives k block.exits).room) block.ports q (λ port. refl))
+    (length_back (gives k block.exits) block.copies block.kind (head_of block.exits) block.ports)
+    (λ q. kept_back (gives k block.exits) block.copies block.kind (head_of block.exits) (λ (seen : PortState). seen.waiting)
+    block.ports q (λ back port. refl))
     (ap (λ (given : List Value). given ++ new.block.exits.left) (gave_by_gave node.journal (out_link_at k node) value)
     ∙ given_on (gave node.journal) block.exits.left value head)
     (λ q. journals_tell.other_at q node.journal (Gave (out_link_at k node) value) refl)

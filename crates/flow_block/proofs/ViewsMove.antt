@@ -45,6 +45,7 @@ use Rattle.flow_block.proofs.JournalTells.{took_same, gave_same, took_here, gave
 use Rattle.flow_block.proofs.KindsBuilt.{makes_by}
 use Rattle.flow_block.proofs.PlacesOfLinks.{links_in_differ, links_out_differ, shares_at}
 use Rattle.flow_block.proofs.PortsChange.{kept_at_one, port_of_map, end_there, end_elsewhere, kept_at_all}
+use Rattle.flow_block.proofs.RoomBack.{port_back}
 use Rattle.flow_block.proofs.TestsTell.{some_is}
 
 -- one end of a link into a node stands at a place, and all others as they did
@@ -178,7 +179,6 @@ module _ {W : Type 0} (layout : Layout W) (meaning : ℕ → Value → Result (L
       let mark = Gave l value in
       let end = given_end node.block.exits.next (end_at node.block.exits k) in
       let one = one_out node k (gives k node.block.exits) end there refl in
-      let room = (gives k node.block.exits).room in
       record {
         moved = record {
           value = value;
@@ -189,7 +189,7 @@ module _ {W : Type 0} (layout : Layout W) (meaning : ℕ → Value → Result (L
         others = record {
           ins = λ q j small near apart.
               ap (λ (port : PortState). view_of_in (node.journal ++ mark ∷ []) (end_in j port.ends))
-              (port_of_map (gives_room room) node.block.ports q small)
+              (port_back (gives k node.block.exits) node.block.copies node.block.kind (head_of node.block.exits) node.block.ports q small)
               ∙ ap (knows_in (end_in j (port_at q node.block).ends))
               (took_same (λ port link. link == in_link_at q j node) node.journal mark refl);
           outs = λ j near other.
