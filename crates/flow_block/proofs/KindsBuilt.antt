@@ -51,7 +51,7 @@ of_one TransformMany kept single alone shared = refl
 of_one _ kept single alone shared = absurd (cc)
 
 -- none of them makes groups of the messages of several ports
-pub never_batched : (kind : BlockKind) → is_built_kind kind ≡ true → is_batched_join kind ≡ false
+pub never_batched : (kind : BlockKind) → is_kept_kind kind ≡ true → is_batched_join kind ≡ false
 never_batched BatchedJoin e = absurd (cc)
 never_batched _ e = refl
 

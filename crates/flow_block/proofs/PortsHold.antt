@@ -34,7 +34,7 @@ use Rattle.flow_block.specs.Planned.{block_makes}
 use Rattle.flow_block.proofs.CopiesLeave.{took_by_copy_at, left_by_copy}
 use Rattle.flow_block.proofs.GoingOn.{may_complete_tells, may_fault_tells, may_finish_tells}
 use Rattle.flow_block.proofs.JournalTells.{took_same, took_here}
-use Rattle.flow_block.proofs.KindsBuilt.{makes_by}
+use Rattle.flow_block.proofs.KindsBuilt.{makes_by, never_batched}
 use Rattle.flow_block.proofs.PortsChange.{each_after_one, each_after_all}
 use Rattle.flow_block.proofs.TestsTell.{every_tells}
 

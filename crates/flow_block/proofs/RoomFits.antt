@@ -125,9 +125,10 @@ less_back (Some limit) waiting room weight count load out = omega (arith, out)
 pub each_back : (room weight : ℕ) (counts : ℕ → ℕ) (first : ℕ) (ports : List PortState) → AllGaveOut (room + weight) ports
     → AllGaveOut weight (gives_each room weight counts first ports)
 each_back room weight counts first [] all = tt
-each_back room weight counts first (port ∷ ports) all =
-    (less_back port.capacity port.waiting room weight (counts first) port.load all.0,
-      each_back room weight counts (suc first) ports all.1)
+each_back room weight counts first (port ∷ ports) all = (
+  less_back port.capacity port.waiting room weight (counts first) port.load all.0,
+  each_back room weight counts (suc first) ports all.1,
+)
 
 pub no_rows : (kind : BlockKind) (head : Option Value) → is_batched_join kind ≡ false → (p : ℕ) → row_count kind head p ≡ 0
 no_rows BatchedJoin head other p = absurd (cc)

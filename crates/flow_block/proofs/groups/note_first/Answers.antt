@@ -20,9 +20,11 @@ loop-place-preserved c =
           rw (w.order-is, w.note.ensures)
           (noted_took journal c.args.from c.args.count old.ports place so_far more there mark.port _ _ is, omega (arith, c.loop-place.invariant.1, longer))
       | in_default w ↦
-          rw w.order-is
-          (noted_other journal c.args.from c.args.count old.ports place so_far more there c.index-journal-place.result
-          w.in_default.not-Took c.index-journal-place.is, c.loop-place.invariant.1)
+          rw w.order-is (
+            noted_other journal c.args.from c.args.count old.ports place so_far more there c.index-journal-place.result
+                w.in_default.not-Took c.index-journal-place.is,
+            c.loop-place.invariant.1,
+          )
     ]
 
 pub returns-else-len-count-clause-behind : goal.returns-else-len-count-clause-behind
