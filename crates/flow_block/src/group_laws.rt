@@ -1,12 +1,19 @@
 //! Laws about the groups of a batched join. Each stands on a function that does nothing: whoever calls it has the whole law.
 ghost use Rattle.flow_block.specs.FreshGroups.{FreshGroups};
 ghost use Rattle.flow_block.specs.GroupsKeep.{GroupsStand};
+ghost use Rattle.flow_block.specs.GroupsOrdered.{GroupsOrdered};
 ghost use Rattle.flow_block.specs.GroupsSeen.{WholeStand, BatchedJoinsAreParts};
 
 /// Whatever a batched join does, what it took is cut, in the order in which it came in over all ports, into the groups that
 /// it gave or has left, and what waits; and only the last group is shorter, once all ports are completed.
 pub fn calls_keep_groups<W>()
     ensures { GroupsStand W }
+{}
+
+/// Whatever a batched join's node does, its own journal tells in which order came in what is in no group, and its groups are
+/// cut in that order.
+pub fn calls_keep_groups_in_order<W>()
+    ensures { GroupsOrdered W }
 {}
 
 /// Whatever a batched join does, what it gave before a port's mark Complete are whole groups.
