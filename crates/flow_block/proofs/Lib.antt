@@ -27,6 +27,7 @@ pub mod GoingOn
 pub mod GroupNoted
 pub mod GroupsFit
 pub mod GroupsOfRows
+pub mod GroupsLoad
 pub mod GroupsOrdered
 pub mod GroupsSeen
 pub mod GroupsStand

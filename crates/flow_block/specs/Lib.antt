@@ -9,6 +9,7 @@ pub mod FreshGroups
 pub mod GroupMade
 pub mod Groups
 pub mod GroupsKeep
+pub mod GroupsLoad
 pub mod GroupsOrdered
 pub mod GroupsSeen
 pub mod Input

@@ -1,6 +1,7 @@
 //! Laws about the groups of a batched join. Each stands on a function that does nothing: whoever calls it has the whole law.
 ghost use Rattle.flow_block.specs.FreshGroups.{FreshGroups};
 ghost use Rattle.flow_block.specs.GroupsKeep.{GroupsStand};
+ghost use Rattle.flow_block.specs.GroupsLoad.{GroupsKeepLoad};
 ghost use Rattle.flow_block.specs.GroupsOrdered.{GroupsOrdered};
 ghost use Rattle.flow_block.specs.GroupsSeen.{WholeStand, BatchedJoinsAreParts};
 
@@ -14,6 +15,12 @@ pub fn calls_keep_groups<W>()
 /// cut in that order.
 pub fn calls_keep_groups_in_order<W>()
     ensures { GroupsOrdered W }
+{}
+
+/// Whatever a batched join's node does, at each of its ports a place is taken by each message that waits there, and by each
+/// that is in a group which is not given yet.
+pub fn calls_keep_group_loads<W>()
+    ensures { GroupsKeepLoad W }
 {}
 
 /// Whatever a batched join does, what it gave before a port's mark Complete are whole groups.

@@ -49,7 +49,7 @@ pub use copies_laws::{
     next_copies_may_be_made,
 };
 pub use group_laws::{
-    batched_joins_are_parts, calls_keep_groups, calls_keep_groups_in_order, calls_keep_groups_whole,
+    batched_joins_are_parts, calls_keep_group_loads, calls_keep_groups, calls_keep_groups_in_order, calls_keep_groups_whole,
     fresh_blocks_have_made_nothing,
 };
 pub use input::Input;
