@@ -29,6 +29,7 @@ pub mod GroupsFit
 pub mod GroupsOfRows
 pub mod GroupsLoad
 pub mod GroupsOrdered
+pub mod GroupsPeek
 pub mod GroupsSeen
 pub mod GroupsStand
 pub mod GroupsTaken

@@ -11,6 +11,7 @@ pub mod Groups
 pub mod GroupsKeep
 pub mod GroupsLoad
 pub mod GroupsOrdered
+pub mod GroupsPeek
 pub mod GroupsSeen
 pub mod Input
 pub mod InputKeeps

@@ -3,6 +3,7 @@ ghost use Rattle.flow_block.specs.FreshGroups.{FreshGroups};
 ghost use Rattle.flow_block.specs.GroupsKeep.{GroupsStand};
 ghost use Rattle.flow_block.specs.GroupsLoad.{GroupsKeepLoad};
 ghost use Rattle.flow_block.specs.GroupsOrdered.{GroupsOrdered};
+ghost use Rattle.flow_block.specs.GroupsPeek.{PortsTellGroups};
 ghost use Rattle.flow_block.specs.GroupsSeen.{WholeStand, BatchedJoinsAreParts};
 
 /// Whatever a batched join does, what it took is cut, in the order in which it came in over all ports, into the groups that
@@ -21,6 +22,13 @@ pub fn calls_keep_groups_in_order<W>()
 /// that is in a group which is not given yet.
 pub fn calls_keep_group_loads<W>()
     ensures { GroupsKeepLoad W }
+{}
+
+/// How many messages wait at the ports of a batched join tells whether it has a next group, without the order in which they
+/// came in.
+#[tactic(auto, using(crate::proofs::GroupsPeek::ports_tell_groups))]
+pub fn ports_tell_of_groups()
+    ensures { PortsTellGroups }
 {}
 
 /// Whatever a batched join does, what it gave before a port's mark Complete are whole groups.

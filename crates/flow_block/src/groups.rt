@@ -2,17 +2,19 @@
 //!
 //! In which order they came in, the journal says. A node goes over each of its marks once, as the groups that they are of
 //! are made.
-ghost use Rattle.std.specs.Prelude.{◌≡◌, ◌<◌, ◌≤◌, ◌+◌, ◌^◌, true, false, [], ◌∷◌, take, drop, length, Err, OnOk, OnErr};
+ghost use Rattle.std.specs.Prelude.{◌≡◌, ◌<◌, ◌≤◌, ◌+◌, ◌^◌, true, false, [], ◌∷◌, take, drop, length, leb, Err, OnOk, OnErr};
 ghost use Rattle.flow_outlet.specs.Fits.{weight_of};
 ghost use Rattle.flow_outlet.specs.Outlet.{puts, lacks_ids};
 ghost use Rattle.flow_outlet.specs.declared.fault.OutletFault.TheVariants.{Ids};
+ghost use Rattle.flow_group.specs.Tuple.{all_ended};
 ghost use Rattle.flow_group.specs.Group.{group_of, takes_group, drops_group};
 ghost use Rattle.flow_block.specs.Groups.{makes_group, ports_in, marks_until};
 ghost use Rattle.flow_block.specs.GroupMade.{order_in, makes_next_group};
+ghost use Rattle.flow_block.specs.GroupsPeek.{waiting_in_all, has_group_at, may_make_group};
 
 use crate::block::Block;
 use crate::node::Node;
-use flow_group::{Arrivals, copy_group, take_group};
+use flow_group::{Arrivals, all_ended, copy_group, take_group};
 use flow_intake::Intake;
 use flow_link::Mark;
 use flow_outlet::{Outlet, OutletFault};
@@ -39,6 +41,35 @@ impl Block {
         put_rows(&mut self.ports, &mut self.exits, row, order, self.size)?;
         Ok(())
     }
+}
+
+impl Block {
+    /// Whether a batched join may make its next group: as many messages wait at all ports together as a group has, or some
+    /// do, and all ports have completed.
+    pub fn may_make_group(&self) -> bool
+        ensures { result ≡ may_make_group self.now }
+    {
+        self.stopped.is_none() && has_group_at(&self.ports, self.size)
+    }
+}
+
+/// Whether as many messages wait at these ports as a group has, or some do, and all ports have ended.
+fn has_group_at(ports: &[Intake], size: u32) -> bool
+    ensures { result ≡ has_group_at size (all_ended ports.now) ports.now }
+{
+    has_at_least(ports, 1) && (has_at_least(ports, size as usize) || all_ended(ports))
+}
+
+/// Whether so many messages or more wait at these ports.
+#[tactic(auto, using(crate::proofs::GroupsPeek::waiting_more))]
+fn has_at_least(ports: &[Intake], count: usize) -> bool
+    ensures { result ≡ leb count (waiting_in_all ports.now) }
+{
+    let mut missing = count;
+    for port in ports {
+        missing = missing.saturating_sub(port.waiting().len());
+    }
+    missing == 0
 }
 
 /// Puts the row of a group to the exits, without a weight, and takes its messages off the ports; they stay where the exits

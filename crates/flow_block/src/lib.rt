@@ -50,7 +50,7 @@ pub use copies_laws::{
 };
 pub use group_laws::{
     batched_joins_are_parts, calls_keep_group_loads, calls_keep_groups, calls_keep_groups_in_order, calls_keep_groups_whole,
-    fresh_blocks_have_made_nothing,
+    fresh_blocks_have_made_nothing, ports_tell_of_groups,
 };
 pub use input::Input;
 pub use jobs::Answer;
