@@ -30,6 +30,7 @@ pub mod GroupsOfRows
 pub mod GroupsLoad
 pub mod GroupsOrdered
 pub mod GroupsPeek
+pub mod GroupsRest
 pub mod GroupsSeen
 pub mod GroupsStand
 pub mod GroupsTaken

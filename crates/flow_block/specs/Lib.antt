@@ -12,6 +12,7 @@ pub mod GroupsKeep
 pub mod GroupsLoad
 pub mod GroupsOrdered
 pub mod GroupsPeek
+pub mod GroupsRest
 pub mod GroupsSeen
 pub mod Input
 pub mod InputKeeps

@@ -4,6 +4,7 @@ ghost use Rattle.flow_block.specs.GroupsKeep.{GroupsStand};
 ghost use Rattle.flow_block.specs.GroupsLoad.{GroupsKeepLoad};
 ghost use Rattle.flow_block.specs.GroupsOrdered.{GroupsOrdered};
 ghost use Rattle.flow_block.specs.GroupsPeek.{PortsTellGroups};
+ghost use Rattle.flow_block.specs.GroupsRest.{GroupsRestInRuns, GroupsBegin};
 ghost use Rattle.flow_block.specs.GroupsSeen.{WholeStand, BatchedJoinsAreParts};
 
 /// Whatever a batched join does, what it took is cut, in the order in which it came in over all ports, into the groups that
@@ -45,4 +46,14 @@ pub fn batched_joins_are_parts<W>()
 /// A batched join in which nothing has happened has made no group, and holds nothing.
 pub fn fresh_blocks_have_made_nothing<W>()
     ensures { FreshGroups W }
+{}
+
+/// What a batched join counts at its ports is what the laws of a run say, and where its ports tell of no group, it rests.
+pub fn batched_joins_rest<W>()
+    ensures { GroupsRestInRuns W }
+{}
+
+/// A batched join in which nothing has happened keeps the laws of its order and of its load.
+pub fn fresh_batched_joins_are_in_order<W>()
+    ensures { GroupsBegin W }
 {}
