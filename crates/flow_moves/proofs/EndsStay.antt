@@ -1,6 +1,6 @@
 -- A move of one end of a link leaves the other end where it is, also where both are of one block.
 use Rattle.std.proofs.Common.{◌≡◌, ℕ, ◌<◌, length, List, Option, Some, None, Result, Ok, [], true, false, refl, sym, subst}
-use Rattle.std.proofs.lemmas.List.{length-set, length-map}
+use Rattle.std.proofs.lemmas.List.{length-set}
 use Rattle.flow_value.specs.declared.value.Value.{Value}
 use Rattle.flow_link.specs.declared.phase.Move.{Move}
 use Rattle.flow_link.specs.declared.phase.Move.TheVariants as move
@@ -9,11 +9,10 @@ use Rattle.flow_link.specs.declared.plan.LinkSource.TheVariants.{Block, Input}
 use Rattle.flow_link.specs.declared.plan.LinkTarget.{LinkTarget}
 use Rattle.flow_link.specs.declared.plan.LinkTarget.TheVariants.{Port, Exit}
 use Rattle.flow_intake.specs.Port.{PortState}
-use Rattle.flow_intake.specs.Calls.{gives_room}
 use Rattle.flow_outlet.specs.Outlet.{head_of, gives}
 use Rattle.flow_block.specs.Node.{NodeState, hand_at, gives_from, takes_in}
 use Rattle.flow_block.specs.NodeKeeps.{InAt, any_stage}
-use Rattle.flow_block.proofs.PortsChange.{port_of_map}
+use Rattle.flow_block.proofs.RoomBack.{length_back, port_back}
 use Rattle.flow_core.specs.Events.{out_call, in_call, is_of_source, slot_after, with_line}
 use Rattle.flow_core.specs.State.{NetState, LineState, node_at, no_node}
 use Rattle.flow_core.proofs.PlacesTell.{element_set}
@@ -26,11 +25,14 @@ gives_stay : (k : ℕ) (head : Option Value) (node : NodeState) (p j : ℕ) → 
     → InAt any_stage p j (gives_from k head node)
 gives_stay k None node p j there = there
 gives_stay k (Some value) node p j there =
-    let change = gives_room (gives k node.block.exits).room in
+    let block = node.block in
+    let given = gives k block.exits in
+    let head = head_of block.exits in
     record {
-      port = subst (λ (count : ℕ). p < count) (sym (length-map node.block.ports change)) there.port;
+      port = subst (λ (count : ℕ). p < count) (sym (length_back given block.copies block.kind head block.ports)) there.port;
       place =
-          subst (λ (port : PortState). j < length port.ends) (sym (port_of_map change node.block.ports p there.port)) there.place;
+          subst (λ (port : PortState). j < length port.ends)
+          (sym (port_back given block.copies block.kind head block.ports p there.port)) there.place;
       stands = refl;
     }
 
