@@ -194,6 +194,10 @@ module _ {W : Type 0} (layout : Layout W) (meaning : ℕ → Value → Result (L
     size_is = law.size_is;
     some_size = law.some_size;
     port_count_is = length_back (gives k block.exits) block.copies block.kind (head_of block.exits) block.ports ∙ law.port_count_is;
+    some_port =
+        subst (λ (count : ℕ). 0 < count)
+        (sym (length_back (gives k block.exits) block.copies block.kind (head_of block.exits) block.ports)) law.some_port;
+    takes_freely = law.takes_freely;
     ports =
         each_after_back (gives k block.exits) block.copies block.kind (head_of block.exits) IsPlanned block.ports
         (λ q below.
