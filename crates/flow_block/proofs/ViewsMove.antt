@@ -278,7 +278,7 @@ copied_stays (Some value) block none =
       ins = λ p below.
           kept_at_one (λ (port : PortState). port.ends) block.ports 0 p (gives_room room (takes_next (port_at 0 block))) refl;
       outs = refl;
-      copies = λ k there. puts_move_none value (record { block = block; journal = [] }) k there none;
+      copies = λ k there. puts_move_none value (record { block = block; journal = []; grouped = 0 }) k there none;
     }
 
 making_stays : (result : Value → Result (List Value) ℕ) (block : BlockState)
