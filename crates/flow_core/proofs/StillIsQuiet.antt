@@ -1,6 +1,6 @@
 -- Where nothing may happen any more in a network in order, its run is quiet.
-use Rattle.std.proofs.Common.{◌≡◌, ℕ, zero, suc, ◌<◌, Bool, true, false, ◌||◌, List, [], length, Option, Some, None, is_some, Result, refl, ap, sym, ◌∙◌}
-use Rattle.std.proofs.lemmas.Bool.{OnTrue_at, false_from_ne_true, or_parts}
+use Rattle.std.proofs.Common.{◌≡◌, ℕ, zero, suc, ◌<◌, Bool, true, false, ◌||◌, List, [], length, Option, Some, None, is_some, Result, refl, ap, sym, ◌∙◌, arith}
+use Rattle.std.proofs.lemmas.Bool.{OnTrue_at, false_from_ne_true, or_parts, ne_eqb}
 use Rattle.flow_value.specs.declared.value.Value.{Value}
 use Rattle.flow_link.specs.declared.phase.Move.{Move}
 use Rattle.flow_link.specs.declared.plan.Link.{Link}
@@ -61,7 +61,7 @@ none_where (Some a) h = absurd (h a refl)
 may_carry : (max : Option ℕ) → is_in 1 2147483647 max ≡ true → is_used_up max [] ≡ false
 may_carry None e = refl
 may_carry (Some zero) e = absurd (cc)
-may_carry (Some (suc n)) e = refl
+may_carry (Some (suc n)) e = ne_eqb 0 (suc n) (λ same. omega (arith, same))
 
 -- No end asks for a message or keeps one where nothing reserves
 
