@@ -69,7 +69,7 @@ module _ {W : Type 0} (run : Run W) (b : ℕ) (node : NodeState) (law : NodeLaw 
       })).complete ended_is
   complete_by false joins =
       by_kind (λ k. is_join k ≡ false → is_complete_as run k b ≡ every (λ p. has_complete p (marks_of run b)) (ports_of run b))
-      (λ e. refl) (λ e. refl) (λ e. refl) (λ e. refl) (λ e. refl) (λ e. absurd (cc)) (λ e. refl)
+      (λ e. refl) (λ e. refl) (λ e. refl) (λ e. refl) (λ e. refl) (λ e. absurd (cc)) (λ e. refl) (λ e. refl)
       kind (planned_kept run.layout run.meaning b node.block law.shape) (ap is_join (sym law.shape.kind_is) ∙ joins)
       ∙ all_so
 

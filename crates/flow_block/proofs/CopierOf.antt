@@ -30,7 +30,7 @@ use Rattle.flow_block.proofs.KindsBuilt.{by_kind}
 
 -- the kinds that are kept in order put each message over the last one, if they copy
 pub never_once : (kind : BlockKind) → is_kept_kind kind ≡ true → is_write_once kind ≡ false
-never_once kind kept = by_kind (λ k. is_write_once k ≡ false) refl refl refl refl refl refl refl kind kept
+never_once kind kept = by_kind (λ k. is_write_once k ≡ false) refl refl refl refl refl refl refl refl kind kept
 
 pub makes_copies : {W : Type 0} (run : Run W) (ends : ℕ → Ends) (b : ℕ) (kind : BlockKind) → is_one_taker kind ≡ false
     → makes_as run b kind ≡ true → NodeMakes run ends b kind

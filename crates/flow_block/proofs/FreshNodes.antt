@@ -35,6 +35,7 @@ use Rattle.flow_block.specs.Planned.{lanes_of, size_of, block_makes, links_to, l
 use Rattle.flow_block.proofs.FreshGroups.{fresh_tuples}
 use Rattle.flow_block.proofs.PlacesOfCopies.{rule_at_end}
 use Rattle.flow_block.proofs.EndsTell.{none_come}
+use Rattle.flow_block.proofs.GroupsRest.{groups_begin}
 
 -- each end is a fresh one
 in_ends_fresh : (links : List ℕ) (P : EndState → Type 0) → ((l : ℕ) → P (fresh_end l)) → (k : ℕ)
@@ -190,7 +191,7 @@ fresh_copier layout b copying =
     }
 
 pub fresh_in_order : (W : Type 0) → FreshInOrder W
-fresh_in_order W layout meaning b built some freely lane size =
+fresh_in_order W layout meaning b built some freely lane size group =
     let block = block_in layout.blocks b in
     let rules = map (rule_of layout) (links_from layout b) in
     let shared = shared_rules block.kind rules in
@@ -203,6 +204,7 @@ fresh_in_order W layout meaning b built some freely lane size =
         kind_is = refl;
         size_is = refl;
         some_size = size;
+        some_group = group;
         port_count_is = count_is layout b;
         some_port = subst (λ (count : ℕ). 0 < count) (sym (count_is layout b)) some;
         takes_freely = freely;
@@ -243,7 +245,7 @@ fresh_in_order W layout meaning b built some freely lane size =
         counted = λ works.
             ap (λ (held : List Value). 0 + length held) (nothing_held layout b (below (port_count block)));
       };
-      load = record {
+      load = λ grouped. record {
         groups = subst (λ (held : List Value). WeighsAs (block_makes layout meaning b) block.kind block.capacity [] held
             [] [] 1 []) (sym (nothing_held layout b (below (port_count block))))
             (weighs_nothing (block_makes layout meaning b) block.kind block.capacity 1);
@@ -251,6 +253,8 @@ fresh_in_order W layout meaning b built some freely lane size =
         load = each_port layout b (λ p port. is_some block.capacity ≡ true → port.load ≡ length port.waiting + places_out node.block)
             (λ p some. omega (arith, none_copied));
       };
+      groups = λ batched. (groups_begin W layout b).groups;
+      group_load = λ batched. (groups_begin W layout b).load;
       marks = record { own = refl; last = refl; once = refl };
       ends = record {
         stopped_is = refl;

@@ -24,11 +24,11 @@ use Rattle.flow_group.proofs.PortsTaken.{ports_taken}
 use Rattle.flow_block.specs.Block.{BlockState, port_in, port_at, with_port, is_batched_join, row_count, room_at, gives_out, stops_by}
 use Rattle.flow_block.specs.Copies.{copies_left}
 use Rattle.flow_block.specs.Groups.{makes_group}
-use Rattle.flow_block.specs.GroupMade.{order_in}
-use Rattle.flow_block.specs.GroupsKeep.{are_complete, MayCallBatched}
-use Rattle.flow_block.specs.GroupsLoad.{rows_left, LoadByPort, GroupsKeepLoad}
-use Rattle.flow_block.specs.GroupsOrdered.{OrderedGroups, after_in_order}
-use Rattle.flow_block.specs.Node.{NodeState, NodeCall, takes_in, gives_from, hand_at}
+use Rattle.flow_block.specs.GroupsLaw.{are_complete, rows_left, LoadByPort, OrderedGroups}
+use Rattle.flow_block.specs.GroupsKeep.{MayCallBatched}
+use Rattle.flow_block.specs.GroupsLoad.{GroupsKeepLoad}
+use Rattle.flow_block.specs.GroupsOrdered.{after_in_order}
+use Rattle.flow_block.specs.Node.{NodeState, NodeCall, takes_in, gives_from, hand_at, order_in}
 use Rattle.flow_block.specs.Planned.{block_makes}
 use Rattle.flow_block.proofs.PortsChange.{each_after_one, each_after_all}
 use Rattle.flow_block.proofs.RoomBack.{back_at, each_after_back}

@@ -13,11 +13,10 @@ use Rattle.flow_outlet.specs.Outlet.{head_of, gives}
 use Rattle.flow_group.proofs.GroupsCut.{as_many_taken}
 use Rattle.flow_block.specs.Block.{BlockState, port_at, with_port}
 use Rattle.flow_block.specs.Groups.{makes_group, ports_in, marks_until}
-use Rattle.flow_block.specs.GroupMade.{order_in, makes_next_group}
-use Rattle.flow_block.specs.GroupsKeep.{KeepsGroups, MayCallBatched, after_at_batched, order_after, order_taken}
-use Rattle.flow_block.specs.GroupsOrdered.{OrderedGroups, after_in_order, GroupsOrdered}
-use Rattle.flow_block.specs.GroupsSeen.{WholeBefore}
-use Rattle.flow_block.specs.Node.{NodeState, NodeCall, takes_in, gives_from, hand_at, after}
+use Rattle.flow_block.specs.GroupsLaw.{KeepsGroups, OrderedGroups, WholeBefore}
+use Rattle.flow_block.specs.GroupsKeep.{MayCallBatched, after_at_batched, order_after, order_taken}
+use Rattle.flow_block.specs.GroupsOrdered.{after_in_order, GroupsOrdered}
+use Rattle.flow_block.specs.Node.{NodeState, NodeCall, takes_in, gives_from, hand_at, after, order_in, makes_next_group}
 use Rattle.flow_block.specs.Planned.{block_makes}
 use Rattle.flow_block.proofs.GroupsSeen.{whole_stand}
 use Rattle.flow_block.proofs.GroupsStand.{groups_stand}

@@ -12,11 +12,10 @@ use Rattle.flow_group.specs.Tuple.{held_at}
 use Rattle.flow_group.proofs.GroupsCount.{every_parts}
 use Rattle.flow_group.proofs.GroupsCut.{groups_tell}
 use Rattle.flow_block.specs.Block.{port_in}
-use Rattle.flow_block.specs.GroupMade.{order_in}
-use Rattle.flow_block.specs.GroupsKeep.{are_complete}
-use Rattle.flow_block.specs.GroupsOrdered.{OrderedGroups}
-use Rattle.flow_block.specs.GroupsPeek.{waiting_in_all, has_group_at, PortsTellGroups}
-use Rattle.flow_block.specs.Node.{NodeState}
+use Rattle.flow_block.specs.GroupsLaw.{are_complete, OrderedGroups}
+use Rattle.flow_block.specs.Groups.{waiting_in_all, has_group_at}
+use Rattle.flow_block.specs.GroupsPeek.{PortsTellGroups}
+use Rattle.flow_block.specs.Node.{NodeState, order_in}
 
 -- how many came in at so many ports, from a first one on
 sum_at : ℕ → ℕ → List ℕ → ℕ

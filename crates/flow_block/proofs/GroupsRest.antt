@@ -16,10 +16,8 @@ use Rattle.flow_spread.specs.End.{owes_it}
 use Rattle.flow_spread.proofs.CountsOfEnds.{none_counts}
 use Rattle.flow_block.specs.Block.{port_in, port_at}
 use Rattle.flow_block.specs.Copies.{copied_rules, fresh_copies, copies_left}
-use Rattle.flow_block.specs.GroupsKeep.{are_complete}
-use Rattle.flow_block.specs.GroupsLoad.{LoadByPort}
-use Rattle.flow_block.specs.GroupsOrdered.{OrderedGroups}
-use Rattle.flow_block.specs.GroupsPeek.{waiting_in_all, has_group_at}
+use Rattle.flow_block.specs.GroupsLaw.{are_complete, LoadByPort, OrderedGroups}
+use Rattle.flow_block.specs.Groups.{waiting_in_all, has_group_at}
 use Rattle.flow_block.specs.GroupsRest.{GroupsRestInRuns, FreshInOrder, GroupsBegin}
 use Rattle.flow_block.specs.Node.{NodeState}
 use Rattle.flow_block.specs.Planned.{port_of_plan, fresh_node, rule_of, links_from, size_of}

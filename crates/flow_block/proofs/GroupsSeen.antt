@@ -20,8 +20,8 @@ use Rattle.flow_group.specs.Tuple.{held_at as waits_at}
 use Rattle.flow_group.proofs.GroupsCut.{groups_tell}
 use Rattle.flow_group.proofs.GroupsKeep.{groups_kept}
 use Rattle.flow_block.specs.Block.{port_at}
-use Rattle.flow_block.specs.GroupsKeep.{are_complete, KeepsGroups, MayCallBatched, after_at_batched}
-use Rattle.flow_block.specs.GroupsSeen.{WholeBefore, WholeStand, BatchedJoinsAreParts}
+use Rattle.flow_block.specs.GroupsKeep.{MayCallBatched, after_at_batched}
+use Rattle.flow_block.specs.GroupsSeen.{WholeStand, BatchedJoinsAreParts}
 use Rattle.flow_block.specs.Node.{NodeState, NodeCall, takes_in, gives_from, in_link_at, out_link_at}
 use Rattle.flow_block.specs.Planned.{block_makes}
 use Rattle.flow_block.specs.TuplesSeen.{IsPortsOf}
@@ -29,6 +29,7 @@ use Rattle.flow_block.proofs.GroupsOfRows.{none_before, passes_before, every_of}
 use Rattle.flow_block.proofs.GroupsStand.{one_unfinished}
 use Rattle.flow_block.proofs.TuplesSeen.{left_shared}
 use Rattle.flow_block.proofs.RowsHold.{other_side, not_both_so, given_back}
+use Rattle.flow_block.specs.GroupsLaw.{are_complete, KeepsGroups, WholeBefore}
 
 -- Each call
 

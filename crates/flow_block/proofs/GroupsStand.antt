@@ -27,12 +27,13 @@ use Rattle.flow_group.proofs.JournalsTell.{journals_tell}
 use Rattle.flow_group.proofs.TuplesKeep.{held_by_take}
 use Rattle.flow_block.specs.Block.{BlockState, port_at, with_port, stops_by}
 use Rattle.flow_block.specs.Groups.{makes_group}
-use Rattle.flow_block.specs.GroupsKeep.{are_complete, KeepsGroups, order_taken, order_after, after_at_batched, MayTake, MayCallBatched, GroupsStand}
+use Rattle.flow_block.specs.GroupsKeep.{order_taken, order_after, after_at_batched, MayTake, MayCallBatched, GroupsStand}
 use Rattle.flow_block.specs.Node.{NodeState, NodeCall, takes_in, gives_from, in_link_at, out_link_at}
 use Rattle.flow_block.specs.Planned.{block_makes}
 use Rattle.flow_block.proofs.PortsChange.{kept_at_one, kept_at_all}
 use Rattle.flow_block.proofs.RoomBack.{length_back, kept_back}
 use Rattle.flow_block.proofs.RowsHold.{given_on}
+use Rattle.flow_block.specs.GroupsLaw.{are_complete, KeepsGroups}
 
 -- a port that is complete stays so, and one more mark but its Complete does not make it so
 complete_on : (count : ℕ) (journal : List Mark) (mark : Mark) → are_complete count journal ≡ true

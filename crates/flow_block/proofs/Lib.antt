@@ -25,7 +25,9 @@ pub mod FreshNodes
 pub mod GaveHolds
 pub mod GoingOn
 pub mod GroupNoted
+pub mod GroupPorts
 pub mod GroupsFit
+pub mod GroupsHold
 pub mod GroupsOfRows
 pub mod GroupsLoad
 pub mod GroupsOrdered
@@ -34,6 +36,7 @@ pub mod GroupsRest
 pub mod GroupsSeen
 pub mod GroupsStand
 pub mod GroupsTaken
+pub mod GroupsTold
 pub mod InputsAreParts
 pub mod InputsInOrder
 pub mod JobsBack

@@ -1,5 +1,5 @@
 -- What the room that comes back with a head leaves of the ports: all of each but its load.
-use Rattle.std.proofs.Common.{◌≡◌, ℕ, zero, suc, ◌+◌, ◌<◌, Bool, true, false, List, [], ◌∷◌, length, map, Option, Some, None, refl, ap, sym, ◌∙◌, arith, subst}
+use Rattle.std.proofs.Common.{◌≡◌, ℕ, zero, suc, ◌+◌, ◌-◌, ◌<◌, ◌≤◌, min, cond, is_some, Bool, true, false, List, [], ◌∷◌, length, map, Option, Some, None, refl, ap, sym, ◌∙◌, arith, subst}
 use Rattle.flow_value.specs.declared.value.Value.{Value}
 use Rattle.flow_link.specs.declared.draft.BlockKind.{BlockKind}
 use Rattle.flow_intake.specs.Ended.{first_some, fault_at_ends}
@@ -51,6 +51,10 @@ module _ (room weight : ℕ) (counts : ℕ → ℕ) where
   seen_each first (port ∷ ports) =
       ap (λ (later : Option ℕ). first_some (fault_at_ends port.ends) later) (seen_each (suc first) ports)
 
+rows_fit : (room weight count load waiting : ℕ) → room ≤ load - waiting
+    → room + min count (load - waiting - room - weight) ≤ load - waiting
+rows_fit room weight count load waiting fits = omega (arith, fits)
+
 module _ (exits : OutletState) (copies : SpreadState) (kind : BlockKind) (head : Option Value) where
   -- how much comes back at a port
   abbrev pub back_at : ℕ → PortState → ℕ
@@ -89,3 +93,10 @@ module _ (exits : OutletState) (copies : SpreadState) (kind : BlockKind) (head :
   -- where no group is given, the same room comes back at each port
   pub back_plain : is_batched_join kind ≡ false → (q : ℕ) (port : PortState) → back_at q port ≡ exits.room
   back_plain other q port = rw (no_rows kind head other q) (omega arith)
+
+  -- what comes back at a port was counted there, where what comes back at all of them was
+  pub back_fits : (capacity : Option ℕ) (q : ℕ) (port : PortState) → cond (is_some capacity) exits.room 0 ≤ port.load - length port.waiting
+      → cond (is_some capacity) (back_at q port) 0 ≤ port.load - length port.waiting
+  back_fits None q port fits = omega arith
+  back_fits (Some limit) q port fits =
+      rows_fit exits.room (weight_of exits.groups + copies_left copies) (row_count kind head q) port.load (length port.waiting) fits

@@ -27,8 +27,8 @@ use Rattle.flow_block.specs.NodeLaw.{NodeLaw, KeepsTuples}
 use Rattle.flow_block.specs.Planned.{block_makes}
 use Rattle.flow_block.proofs.CopiesIdle.{no_copy_at}
 use Rattle.flow_block.proofs.GoingOn.{may_work_tells}
-use Rattle.flow_block.proofs.Joins.{join_alone, join_shares, broadcast_unjoined}
-use Rattle.flow_block.proofs.KindsBuilt.{makes_by}
+use Rattle.flow_block.proofs.Joins.{join_alone, join_shares, broadcast_unjoined, batched_unjoined}
+use Rattle.flow_block.proofs.KindsBuilt.{makes_by, next_by}
 use Rattle.flow_block.proofs.ShapeHolds.{shape_kept}
 use Rattle.flow_block.proofs.PortsChange.{kept_at_one, kept_at_all}
 use Rattle.flow_block.proofs.RoomBack.{length_back, kept_back}
@@ -152,11 +152,14 @@ module _ {W : Type 0} (layout : Layout W) (meaning : ℕ → Value → Result (L
   after_each node NodeCall.begin whole join law may = law
   after_each node NodeCall.make whole join law may =
       let kind = node.block.kind in
+      next_by (λ (new : NodeState). KeepsTuples new.block new.journal) (block_makes layout meaning b) node
+      (λ batched. never_both (is_join kind) join (batched_unjoined kind batched))
+      (λ grouped.
       makes_by (λ new. KeepsTuples new node.journal) (block_makes layout meaning b) node.block
       (λ batch. never_both (is_batch kind) batch (join_alone kind join))
       (λ joins. tuple_made node law ((may_work_tells node.block may.waits).tuple join))
       (λ broadcast. never_both (is_join kind) join (broadcast_unjoined kind broadcast))
-      (λ other alone single. never_both (is_join kind) join alone)
+      (λ other alone single. never_both (is_join kind) join alone))
   after_each node (NodeCall.complete p) whole join law may = completed node law p
   after_each node (NodeCall.fault number) whole join law may = stops_so node law (outcome.Faulted number) (Fault number) refl refl
   after_each node NodeCall.finish whole join law may = stops_so node law outcome.Done Done refl refl

@@ -210,6 +210,12 @@ abbrev pub is_batched_join : BlockKind → Bool
 is_batched_join BatchedJoin = true
 is_batched_join _ = false
 
+-- joins and batched joins take messages at several ports
+abbrev pub has_ports : BlockKind → Bool
+has_ports Join = true
+has_ports BatchedJoin = true
+has_ports _ = false
+
 -- how many messages of a group came in at a port; the groups of a batched join have no weight, but this room
 abbrev pub row_count : BlockKind → Option Value → ℕ → ℕ
 row_count BatchedJoin (Some group) p = row_weight (get_or (items_of group) p (Int (pos 0)))

@@ -1,10 +1,11 @@
 -- What a batched join makes: a group of the messages that came in first, whatever their ports.
-use Rattle.std.specs.Prelude.{ℕ, zero, suc, ◌+◌, Bool, true, false, List, [], ◌∷◌, map}
+use Rattle.std.specs.Prelude.{ℕ, zero, suc, ◌+◌, leb, ltb, Bool, true, false, ◌&&◌, ◌||◌, List, [], ◌∷◌, map, length}
 use Rattle.flow_link.specs.declared.draft.BlockKind.{BlockKind}
 use Rattle.flow_link.specs.declared.draft.BlockKind.TheVariants.{BatchedJoin}
 use Rattle.flow_link.specs.declared.trace.Mark.{Mark}
 use Rattle.flow_link.specs.declared.trace.Mark.TheVariants.{Took, Gave, Complete, Fault, Done}
 use Rattle.flow_link.specs.Making.{Arrival, arrivals}
+use Rattle.flow_intake.specs.Port.{PortState}
 use Rattle.flow_outlet.specs.Outlet.{puts}
 use Rattle.flow_group.specs.Group.{group_of, takes_group}
 use Rattle.flow_block.specs.Block.{BlockState}
@@ -33,3 +34,12 @@ marks_until (Fault _ ∷ marks) zero = 0
 marks_until (Fault _ ∷ marks) (suc count) = 1 + marks_until marks (suc count)
 marks_until (Done ∷ marks) zero = 0
 marks_until (Done ∷ marks) (suc count) = 1 + marks_until marks (suc count)
+
+-- how many messages wait at all ports
+abbrev pub waiting_in_all : List PortState → ℕ
+waiting_in_all [] = 0
+waiting_in_all (port ∷ ports) = length port.waiting + waiting_in_all ports
+
+-- as many wait as a group has, or some do, and all ports have ended
+abbrev pub has_group_at : ℕ → Bool → List PortState → Bool
+has_group_at size ended ports = ltb 0 (waiting_in_all ports) && (leb size (waiting_in_all ports) || ended)

@@ -16,16 +16,7 @@ use Rattle.flow_block.specs.Groups.{makes_group}
 use Rattle.flow_block.specs.Node.{NodeState, NodeCall, with_block, hand_at, after}
 use Rattle.flow_block.specs.NodeKeeps.{InAt, MayCall}
 use Rattle.flow_block.specs.Planned.{block_makes}
-
--- a node with so many ports has a mark Complete of each
-abbrev pub are_complete : ℕ → List Mark → Bool
-are_complete count journal = every (λ p. has_complete p journal) (below count)
-
--- with groups of this size, and the ports of the messages that are in no group yet, in the order in which they came in
-abbrev pub KeepsGroups : ℕ → List ℕ → BlockState → List Mark → Type 0
-KeepsGroups size order block journal =
-    GroupsLaw (length block.ports) size (are_complete (length block.ports) journal) (arrivals journal)
-    (gave journal ++ block.exits.left) order (held_at block.ports)
+use Rattle.flow_block.specs.GroupsLaw.{are_complete, KeepsGroups}
 
 -- a message came in at the port
 abbrev pub order_taken : ℕ → Option Value → List ℕ → List ℕ

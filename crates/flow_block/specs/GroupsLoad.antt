@@ -6,23 +6,11 @@ use Rattle.flow_link.specs.Layout.{Layout}
 use Rattle.flow_link.specs.Making.{all_items, column}
 use Rattle.flow_block.specs.Block.{BlockState, port_at, is_batched_join}
 use Rattle.flow_block.specs.Copies.{copies_left}
-use Rattle.flow_block.specs.GroupMade.{order_in}
+use Rattle.flow_block.specs.GroupsLaw.{OrderedGroups, LoadByPort}
 use Rattle.flow_block.specs.GroupsKeep.{MayCallBatched}
-use Rattle.flow_block.specs.GroupsOrdered.{OrderedGroups, after_in_order}
-use Rattle.flow_block.specs.Node.{NodeState, NodeCall}
+use Rattle.flow_block.specs.GroupsOrdered.{after_in_order}
+use Rattle.flow_block.specs.Node.{NodeState, NodeCall, order_in}
 use Rattle.flow_block.specs.Planned.{block_makes}
-
--- how many messages of these groups came in at a port
-abbrev pub rows_left : ℕ → List Value → ℕ
-rows_left p groups = length (all_items (column p groups))
-
-pub record LoadByPort (block : BlockState) : Type 0 where
-  -- a group has no weight: its room is that of its rows
-  pub no_groups : block.exits.groups ≡ []
-  pub no_room : block.exits.room ≡ 0
-  pub no_copies : copies_left block.copies ≡ 0
-  pub load : (p : ℕ) → p < length block.ports → is_some (port_at p block).capacity ≡ true
-      → (port_at p block).load ≡ length (port_at p block).waiting + rows_left p block.exits.left
 
 -- each call of a batched join's node keeps that
 abbrev pub GroupsKeepLoad : Type 0 → Type 0

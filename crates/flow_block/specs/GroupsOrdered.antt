@@ -2,17 +2,10 @@
 use Rattle.std.specs.Prelude.{◌≡◌, ℕ, ◌<◌, ◌≤◌, List, length, Result}
 use Rattle.flow_value.specs.declared.value.Value.{Value}
 use Rattle.flow_link.specs.Layout.{Layout}
-use Rattle.flow_block.specs.GroupMade.{order_in, makes_next_group}
-use Rattle.flow_block.specs.GroupsKeep.{KeepsGroups, MayCallBatched}
-use Rattle.flow_block.specs.GroupsSeen.{WholeBefore}
-use Rattle.flow_block.specs.Node.{NodeState, NodeCall, after}
+use Rattle.flow_block.specs.GroupsLaw.{KeepsGroups, WholeBefore, OrderedGroups}
+use Rattle.flow_block.specs.GroupsKeep.{MayCallBatched}
+use Rattle.flow_block.specs.Node.{NodeState, NodeCall, after, order_in, makes_next_group}
 use Rattle.flow_block.specs.Planned.{block_makes}
-
--- what it took is cut into its groups and what waits; the marks of the messages in groups stand in front of those that wait
-pub record OrderedGroups (node : NodeState) : Type 0 where
-  pub within : node.grouped ≤ length node.journal
-  pub groups : KeepsGroups node.block.size (order_in node) node.block node.journal
-  pub whole : WholeBefore (length node.block.ports) node.block.size node.journal
 
 -- what becomes of it by a call: it makes the next group in that order, and does all else as each node does
 abbrev pub after_in_order : (Value → Result (List Value) ℕ) → NodeCall → NodeState → NodeState

@@ -6,10 +6,8 @@ use Rattle.flow_link.specs.Making.{group_size, load_as}
 use Rattle.flow_link.specs.Quiet.{has_no_group}
 use Rattle.flow_link.specs.Trace.{Run}
 use Rattle.flow_block.specs.Block.{port_at}
-use Rattle.flow_block.specs.GroupsKeep.{are_complete}
-use Rattle.flow_block.specs.GroupsLoad.{LoadByPort}
-use Rattle.flow_block.specs.GroupsOrdered.{OrderedGroups}
-use Rattle.flow_block.specs.GroupsPeek.{has_group_at}
+use Rattle.flow_block.specs.GroupsLaw.{are_complete, LoadByPort, OrderedGroups}
+use Rattle.flow_block.specs.Groups.{has_group_at}
 use Rattle.flow_block.specs.Node.{NodeState}
 use Rattle.flow_block.specs.Planned.{fresh_node}
 use Rattle.flow_block.specs.TuplesSeen.{IsPortsOf}

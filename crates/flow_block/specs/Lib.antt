@@ -6,7 +6,7 @@ pub mod Copies
 pub mod CopiesSeen
 pub mod Fresh
 pub mod FreshGroups
-pub mod GroupMade
+pub mod GroupsLaw
 pub mod Groups
 pub mod GroupsKeep
 pub mod GroupsLoad

@@ -8,9 +8,9 @@ ghost use Rattle.flow_outlet.specs.Outlet.{puts, lacks_ids};
 ghost use Rattle.flow_outlet.specs.declared.fault.OutletFault.TheVariants.{Ids};
 ghost use Rattle.flow_group.specs.Tuple.{all_ended};
 ghost use Rattle.flow_group.specs.Group.{group_of, takes_group, drops_group};
-ghost use Rattle.flow_block.specs.Groups.{makes_group, ports_in, marks_until};
-ghost use Rattle.flow_block.specs.GroupMade.{order_in, makes_next_group};
-ghost use Rattle.flow_block.specs.GroupsPeek.{waiting_in_all, has_group_at, may_make_group};
+ghost use Rattle.flow_block.specs.Groups.{makes_group, ports_in, marks_until, waiting_in_all, has_group_at};
+ghost use Rattle.flow_block.specs.Node.{order_in, makes_next_group};
+ghost use Rattle.flow_block.specs.Peeks.{has_group_of_ports};
 
 use crate::block::Block;
 use crate::node::Node;
@@ -44,12 +44,12 @@ impl Block {
 }
 
 impl Block {
-    /// Whether a batched join may make its next group: as many messages wait at all ports together as a group has, or some
-    /// do, and all ports have completed.
-    pub fn may_make_group(&self) -> bool
-        ensures { result ≡ may_make_group self.now }
+    /// Whether a batched join holds what it makes a group of: as many messages wait at all ports together as a group has,
+    /// or some do, and all ports have completed.
+    pub(crate) fn has_group_of_ports(&self) -> bool
+        ensures { result ≡ has_group_of_ports self.now }
     {
-        self.stopped.is_none() && has_group_at(&self.ports, self.size)
+        has_group_at(&self.ports, self.size)
     }
 }
 

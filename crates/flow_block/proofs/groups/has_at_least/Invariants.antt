@@ -1,5 +1,5 @@
 use Rattle.std.proofs.Common.{◌≡◌, ◌-◌, take}
-use Rattle.flow_block.specs.GroupsPeek.{waiting_in_all}
+use Rattle.flow_block.specs.Groups.{waiting_in_all}
 use Rattle.flow_block.proofs.groups.has_at_least.Given as goal
 
 abbrev pub invariant-loop-port : goal.invariant-loop-port
