@@ -10,7 +10,7 @@ use Rattle.flow_intake.specs.PortLaw.{has_ended as has_port_ended}
 use Rattle.flow_group.specs.Tuple.{is_join_complete}
 use Rattle.flow_block.specs.Block.{port_in, port_at, is_join}
 use Rattle.flow_block.specs.Node.{NodeState, node_trace}
-use Rattle.flow_block.specs.NodeLaw.{NodeLaw, outcome_in}
+use Rattle.flow_block.specs.NodeLaw.{NodeLaw}
 use Rattle.flow_block.specs.Peeks.{all_ended, is_complete}
 use Rattle.flow_block.proofs.JournalTells.{ended_by_complete, complete_where}
 use Rattle.flow_block.proofs.Joins.{join_shares}

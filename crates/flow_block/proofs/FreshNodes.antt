@@ -11,9 +11,9 @@ use Rattle.flow_link.specs.Facts.{facts_in}
 use Rattle.flow_link.specs.Layout.{Layout}
 use Rattle.flow_link.specs.LinkOk.{IsWithin}
 use Rattle.flow_link.specs.Lists.{numbers_from, below}
-use Rattle.flow_link.specs.Plan.{block_in, port_count, is_one_taker, is_write_once, is_reserving}
+use Rattle.flow_link.specs.Plan.{block_in, port_count, is_one_taker, is_write_once}
 use Rattle.flow_link.specs.Trace.{has_ended}
-use Rattle.flow_link.proofs.ListTests.{length_numbers, never_both}
+use Rattle.flow_link.proofs.ListTests.{length_numbers}
 use Rattle.flow_intake.specs.Port.{EndState, PortState, fresh_end, end_in, stage_at as port_stage, is_coming}
 use Rattle.flow_intake.specs.PortLaw.{InLaw, PortLaw, has_ended as has_port_ended}
 use Rattle.flow_outlet.specs.declared.ends.LinkRule.{LinkRule}
@@ -25,13 +25,13 @@ use Rattle.flow_spread.proofs.CountsOfEnds.{none_counts}
 use Rattle.flow_spread.specs.Copied.{Course}
 use Rattle.flow_spread.specs.End.{fresh_end as fresh_copy, end_in as copy_in, owes_it}
 use Rattle.flow_spread.specs.Spread.{fresh_spread}
-use Rattle.flow_block.specs.Block.{port_in, held_by, is_batch}
+use Rattle.flow_block.specs.Block.{port_in, held_by}
 use Rattle.flow_block.specs.Copier.{Copier, CopiedOver}
 use Rattle.flow_block.specs.Copies.{shared_rules, copied_rules, fresh_copies, copies_left}
 use Rattle.flow_block.specs.Fresh.{FreshInOrder}
-use Rattle.flow_block.specs.NodeLaw.{NodeLaw, is_kept, MakesAs, WeighsAs, PortAsPlanned, GaveOver, weighed, rows_weighed, partly_weighed, places_out}
+use Rattle.flow_block.specs.NodeLaw.{is_kept, MakesAs, WeighsAs, PortAsPlanned, GaveOver, weighed, rows_weighed, partly_weighed, places_out}
 use Rattle.flow_block.specs.Peeks.{is_pending}
-use Rattle.flow_block.specs.Planned.{lanes_of, size_of, block_makes, links_to, links_from, rule_of, port_of_plan, fresh_node}
+use Rattle.flow_block.specs.Planned.{block_makes, links_to, links_from, rule_of, port_of_plan, fresh_node}
 use Rattle.flow_block.proofs.FreshGroups.{fresh_tuples}
 use Rattle.flow_block.proofs.PlacesOfCopies.{rule_at_end}
 use Rattle.flow_block.proofs.EndsTell.{none_come}

@@ -1,5 +1,5 @@
 -- What a group that is made leaves of the ports: all of each but what waits there.
-use Rattle.std.proofs.Common.{◌≡◌, ℕ, zero, suc, ◌+◌, ◌<◌, ◌&&◌, ◌||◌, leb, ltb, Bool, List, [], ◌∷◌, length, map, set, take, Option, refl, ap, sym, ◌∙◌, arith, subst}
+use Rattle.std.proofs.Common.{◌≡◌, ℕ, zero, suc, ◌+◌, ◌<◌, List, [], ◌∷◌, length, map, set, take, Option, refl, ap, sym, ◌∙◌, arith, subst}
 use Rattle.flow_value.specs.declared.value.Value.{Value}
 use Rattle.flow_intake.specs.Port.{PortState}
 use Rattle.flow_group.specs.Group.{came_at, takes_first, takes_from, takes_group}

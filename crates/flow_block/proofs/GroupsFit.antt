@@ -1,10 +1,9 @@
 -- A group is put without a weight, so its room stays room that its ports gave out, and it takes no room for marks.
-use Rattle.std.proofs.Common.{◌≡◌, ℕ, zero, suc, ◌+◌, ◌-◌, ◌<◌, ◌≤◌, ◌^◌, cond, List, [], ◌∷◌, length, drop, Option, Some, None, is_some, refl, arith, subst, sym, length-drop}
+use Rattle.std.proofs.Common.{◌≡◌, ℕ, suc, ◌+◌, ◌-◌, ◌≤◌, cond, List, [], ◌∷◌, length, drop, Option, Some, None, is_some, refl, arith, subst, sym, length-drop}
 use Rattle.flow_value.specs.declared.value.Value.{Value}
 use Rattle.flow_intake.specs.Port.{PortState}
-use Rattle.flow_outlet.specs.Fits.{weight_of}
 use Rattle.flow_outlet.specs.Outlet.{OutletState, puts}
-use Rattle.flow_group.specs.Group.{came_at, takes_from, takes_group}
+use Rattle.flow_group.specs.Group.{came_at, takes_from}
 use Rattle.flow_block.specs.Block.{BlockState}
 use Rattle.flow_block.specs.BlockFits.{AllGaveOut, BlockFits, weight_out}
 use Rattle.flow_block.specs.Groups.{makes_group}

@@ -1,9 +1,8 @@
 -- Each call keeps the groups of a batched join, and what it counts at its ports.
-use Rattle.std.proofs.Common.{◌≡◌, ℕ, Bool, true, List, cond, length, None, Result, refl, ap, sym, ◌∙◌, subst}
-use Rattle.std.proofs.lemmas.Bool.{and_parts}
+use Rattle.std.proofs.Common.{◌≡◌, ℕ, Bool, true, List, cond, length, Result, refl, ap, sym, ◌∙◌, subst}
 use Rattle.flow_value.specs.declared.value.Value.{Value}
 use Rattle.flow_link.specs.Layout.{Layout}
-use Rattle.flow_intake.specs.Port.{stage_at as port_stage, hand_in}
+use Rattle.flow_intake.specs.Port.{stage_at as port_stage}
 use Rattle.flow_intake.proofs.CountsOfEnds.{hand_comes}
 use Rattle.flow_block.specs.Block.{port_at, makes, is_batched_join}
 use Rattle.flow_block.specs.Copies.{copy_place}

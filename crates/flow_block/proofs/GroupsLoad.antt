@@ -1,27 +1,24 @@
 -- Each call of a batched join keeps what it counts at each port.
-use Rattle.std.proofs.Common.{◌≡◌, ℕ, zero, suc, ◌+◌, ◌-◌, ◌<◌, ◌≤◌, ◌==◌, min, Bool, true, false, cond, List, [], ◌∷◌, ◌++◌, length, get_or, set, map, take, drop, Option, Some, None, is_some, Result, pos, refl, ap, ap₂, sym, ◌∙◌, arith, subst, length-append, length-drop}
+use Rattle.std.proofs.Common.{◌≡◌, ℕ, zero, suc, ◌+◌, ◌-◌, ◌<◌, ◌≤◌, min, true, List, [], ◌∷◌, ◌++◌, length, get_or, set, take, Option, Some, None, is_some, Result, pos, refl, ap, sym, ◌∙◌, arith, subst, length-append}
 use Rattle.std.proofs.lemmas.List.{length-take}
 use Rattle.flow_value.specs.View.{values_of-items_from}
 use Rattle.flow_value.specs.declared.value.Value.{Value}
-use Rattle.flow_value.specs.declared.value.Value.TheVariants.{Int, Row}
-use Rattle.flow_link.specs.declared.draft.BlockKind.{BlockKind}
+use Rattle.flow_value.specs.declared.value.Value.TheVariants.{Int}
 use Rattle.flow_link.specs.declared.draft.BlockKind.TheVariants.{BatchedJoin}
 use Rattle.flow_link.specs.declared.trace.Outcome.{Outcome}
 use Rattle.flow_link.specs.declared.trace.Outcome.TheVariants as outcome
 use Rattle.flow_link.specs.Layout.{Layout}
-use Rattle.flow_link.specs.Lists.{concat}
 use Rattle.flow_link.specs.Making.{items_of, all_items, column, row_weight, arrivals}
 use Rattle.flow_link.specs.Trace.{gave}
-use Rattle.flow_intake.specs.Port.{PortState, fresh_port}
-use Rattle.flow_intake.specs.Calls.{first_of, one_more, wants, turns_down, postpones, refuses, consumes, opens, closes, looks as port_looks, gives_room, port_closes}
+use Rattle.flow_intake.specs.Port.{PortState}
+use Rattle.flow_intake.specs.Calls.{first_of, one_more, wants, turns_down, postpones, refuses, consumes, opens, closes, looks as port_looks, port_closes}
 use Rattle.flow_outlet.specs.Fits.{weight_of}
 use Rattle.flow_outlet.specs.Outlet.{OutletState, head_of, rest_of, gives, groups_after, weight_at, prepares, offers, denies, withdraws, ends_link, looks as exit_looks}
 use Rattle.flow_group.specs.Group.{came_at, row_of, rows_from, group_of, takes_group}
-use Rattle.flow_group.specs.Taken.{IsTaken}
 use Rattle.flow_group.specs.Tuple.{held_at}
 use Rattle.flow_group.proofs.GroupsCut.{groups_tell, as_many_taken}
 use Rattle.flow_group.proofs.PortsTaken.{ports_taken}
-use Rattle.flow_block.specs.Block.{BlockState, port_in, port_at, with_port, is_batched_join, row_count, room_at, gives_out, stops_by}
+use Rattle.flow_block.specs.Block.{BlockState, port_in, port_at, is_batched_join, row_count, room_at, gives_out, stops_by}
 use Rattle.flow_block.specs.Copies.{copies_left}
 use Rattle.flow_block.specs.Groups.{makes_group}
 use Rattle.flow_block.specs.GroupsLaw.{are_complete, rows_left, LoadByPort, OrderedGroups}

@@ -1,10 +1,9 @@
 -- The journal of a batched join's node tells the order in which came in what is in no group, whatever the node does.
-use Rattle.std.proofs.Common.{◌≡◌, ℕ, zero, suc, ◌+◌, ◌-◌, ◌<◌, ◌≤◌, Bool, List, [], ◌∷◌, ◌++◌, length, map, take, drop, Option, Some, None, Result, refl, ap, sym, ◌∙◌, arith, subst, append-nil, length-append, length-drop}
+use Rattle.std.proofs.Common.{◌≡◌, ℕ, zero, suc, ◌+◌, ◌-◌, ◌<◌, ◌≤◌, List, [], ◌∷◌, ◌++◌, length, take, drop, Option, Some, None, Result, refl, ap, sym, ◌∙◌, arith, subst, append-nil, length-append, length-drop}
 use Rattle.std.proofs.Math.Seq.{drop-nil}
 use Rattle.std.proofs.lemmas.List.{length-map, length-set}
 use Rattle.flow_value.specs.declared.value.Value.{Value}
 use Rattle.flow_link.specs.Layout.{Layout}
-use Rattle.flow_link.specs.Making.{Arrival, arrivals}
 use Rattle.flow_link.specs.declared.trace.Mark.{Mark}
 use Rattle.flow_link.specs.declared.trace.Mark.TheVariants.{Took, Gave, Complete, Fault, Done}
 use Rattle.flow_intake.specs.Port.{PortState}
@@ -12,11 +11,11 @@ use Rattle.flow_intake.specs.Calls.{wants, turns_down, postpones, refuses, consu
 use Rattle.flow_outlet.specs.Outlet.{head_of, gives}
 use Rattle.flow_group.proofs.GroupsCut.{as_many_taken}
 use Rattle.flow_block.specs.Block.{BlockState, port_at, with_port}
-use Rattle.flow_block.specs.Groups.{makes_group, ports_in, marks_until}
+use Rattle.flow_block.specs.Groups.{ports_in, marks_until}
 use Rattle.flow_block.specs.GroupsLaw.{KeepsGroups, OrderedGroups, WholeBefore}
 use Rattle.flow_block.specs.GroupsKeep.{MayCallBatched, after_at_batched, order_after, order_taken}
 use Rattle.flow_block.specs.GroupsOrdered.{after_in_order, GroupsOrdered}
-use Rattle.flow_block.specs.Node.{NodeState, NodeCall, takes_in, gives_from, hand_at, after, order_in, makes_next_group}
+use Rattle.flow_block.specs.Node.{NodeState, NodeCall, takes_in, gives_from, hand_at, order_in}
 use Rattle.flow_block.specs.Planned.{block_makes}
 use Rattle.flow_block.proofs.GroupsSeen.{whole_stand}
 use Rattle.flow_block.proofs.GroupsStand.{groups_stand}

@@ -1,19 +1,18 @@
 -- The ports of a batched join tell how many of its messages are in no group.
-use Rattle.std.proofs.Common.{◌≡◌, ◌≢◌, ℕ, zero, suc, ◌+◌, ◌<◌, ◌≤◌, ◌==◌, leb, ltb, not, cond, Bool, true, false, ◌&&◌, ◌||◌, List, [], ◌∷◌, ◌++◌, length, get_or, map, take, drop, refl, ap, sym, ◌∙◌, arith, subst}
+use Rattle.std.proofs.Common.{◌≡◌, ◌≢◌, ℕ, zero, suc, ◌+◌, ◌<◌, ◌≤◌, ◌==◌, leb, ltb, not, cond, Bool, true, false, ◌&&◌, ◌||◌, List, [], ◌∷◌, ◌++◌, length, get_or, map, take, refl, ap, sym, ◌∙◌, arith}
 use Rattle.std.proofs.lemmas.Bool.{and_parts, eqb-true, eqb-false, ltb-true, lt-ltb, ne_eqb}
 use Rattle.std.proofs.lemmas.List.{take_more}
-use Rattle.flow_value.specs.declared.value.Value.{Value}
 use Rattle.flow_link.specs.Lists.{every, is_empty, concat}
 use Rattle.flow_link.specs.Making.{Arrival, arrivals}
 use Rattle.flow_link.specs.Trace.{gave}
 use Rattle.flow_intake.specs.Port.{PortState}
-use Rattle.flow_group.specs.Group.{came_at, has_group}
+use Rattle.flow_group.specs.Group.{came_at}
 use Rattle.flow_group.specs.Tuple.{held_at}
 use Rattle.flow_group.proofs.GroupsCount.{every_parts}
 use Rattle.flow_group.proofs.GroupsCut.{groups_tell}
 use Rattle.flow_block.specs.Block.{port_in}
 use Rattle.flow_block.specs.GroupsLaw.{are_complete, OrderedGroups}
-use Rattle.flow_block.specs.Groups.{waiting_in_all, has_group_at}
+use Rattle.flow_block.specs.Groups.{waiting_in_all}
 use Rattle.flow_block.specs.GroupsPeek.{PortsTellGroups}
 use Rattle.flow_block.specs.Node.{NodeState, order_in}
 

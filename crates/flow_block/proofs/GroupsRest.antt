@@ -1,5 +1,5 @@
 -- What a run tells of a batched join's load and rest, and how one begins.
-use Rattle.std.proofs.Common.{◌≡◌, ℕ, zero, suc, ◌+◌, ◌<◌, ◌==◌, leb, ltb, not, cond, Bool, true, false, ◌&&◌, ◌||◌, List, [], ◌∷◌, ◌++◌, length, map, sum, None, is_some, refl, ap, ap₂, sym, ◌∙◌, arith, subst}
+use Rattle.std.proofs.Common.{◌≡◌, ℕ, zero, suc, ◌+◌, ◌<◌, ◌==◌, leb, ltb, not, cond, Bool, true, false, ◌&&◌, ◌||◌, List, [], ◌∷◌, length, map, sum, is_some, refl, ap, ap₂, sym, ◌∙◌, arith}
 use Rattle.std.proofs.lemmas.Bool.{and_from, ltb-false, lt-ltb, leb-false}
 use Rattle.std.proofs.lemmas.List.Sums.{sum-map, sum_by-cons}
 use Rattle.flow_value.specs.declared.value.Value.{Value}
@@ -9,14 +9,14 @@ use Rattle.flow_link.specs.Lists.{every, below, numbers_from, is_empty}
 use Rattle.flow_link.specs.Making.{group_size, load_as, all_items, column}
 use Rattle.flow_link.specs.Plan.{block_in, port_count}
 use Rattle.flow_link.specs.Quiet.{held_in_all, holds_nothing, all_completed, has_no_group}
-use Rattle.flow_link.specs.Trace.{Run, has_complete, marks_of, held_at, left_at, ports_of}
+use Rattle.flow_link.specs.Trace.{Run, has_complete, held_at}
 use Rattle.flow_link.specs.declared.trace.Mark.{Mark}
 use Rattle.flow_intake.specs.Port.{PortState}
 use Rattle.flow_spread.specs.End.{owes_it}
 use Rattle.flow_spread.proofs.CountsOfEnds.{none_counts}
 use Rattle.flow_block.specs.Block.{port_in, port_at}
-use Rattle.flow_block.specs.Copies.{copied_rules, fresh_copies, copies_left}
-use Rattle.flow_block.specs.GroupsLaw.{are_complete, LoadByPort, OrderedGroups}
+use Rattle.flow_block.specs.Copies.{copied_rules, copies_left}
+use Rattle.flow_block.specs.GroupsLaw.{are_complete, LoadByPort}
 use Rattle.flow_block.specs.Groups.{waiting_in_all, has_group_at}
 use Rattle.flow_block.specs.GroupsRest.{GroupsRestInRuns, FreshInOrder, GroupsBegin}
 use Rattle.flow_block.specs.Node.{NodeState}

@@ -25,7 +25,7 @@ use Rattle.flow_outlet.proofs.OutletFits.{weight_stays, room_put}
 use Rattle.flow_link.proofs.ListTests.{never_both}
 use Rattle.flow_link.specs.Plan.{is_broadcast}
 use Rattle.flow_block.specs.Copies.{copy_place, CopyCall, after_copy, copies_left}
-use Rattle.flow_block.proofs.CopiesIdle.{no_copy_at, copies_at, broadcast_copies}
+use Rattle.flow_block.proofs.CopiesIdle.{copies_at, broadcast_copies}
 use Rattle.flow_block.proofs.RoomBack.{back_plain, kept_back, each_after_back}
 use Rattle.flow_block.specs.Block.{BlockState, port_in, port_at, with_port, with_jobs, held_by, unit_weight, made_of, puts_out, fails, yields, keeps_results, makes_of, is_batch, row_of, next_group, group_weight, takes_group, makes_row, stops_by, is_join, makes_tuple, copies_next, is_batched_join}
 use Rattle.flow_spread.specs.Spread.{puts}

@@ -1,5 +1,5 @@
 -- A block that would make something by itself has not ended.
-use Rattle.std.proofs.Common.{◌≡◌, ◌==◌, Bool, true, false, not, cond, ◌&&◌, length, None, is_none, refl, ap, ap₂, sym, ◌∙◌, arith, eqb-true}
+use Rattle.std.proofs.Common.{◌≡◌, ◌==◌, true, false, not, ◌&&◌, length, None, is_none, refl, ap₂, arith, eqb-true}
 use Rattle.std.proofs.lemmas.Bool.{and_parts, not-true, false_from_ne_true}
 use Rattle.flow_link.specs.declared.draft.BlockKind.{BlockKind}
 use Rattle.flow_link.specs.declared.draft.BlockKind.TheVariants.{Buffer}
@@ -7,9 +7,8 @@ use Rattle.flow_link.specs.Plan.{has_work}
 use Rattle.flow_link.proofs.ListTests.{never_both}
 use Rattle.flow_intake.specs.Port.{PortState, fresh_port}
 use Rattle.flow_outlet.specs.Outlet.{is_empty}
-use Rattle.flow_group.specs.Tuple.{has_tuple}
 use Rattle.flow_block.specs.Block.{BlockState, held_by, is_batch, is_join, is_batched_join}
-use Rattle.flow_block.specs.Peeks.{may_copy, has_group, has_next, may_work, may_make, may_finish}
+use Rattle.flow_block.specs.Peeks.{may_copy, has_next, may_work, may_make, may_finish}
 use Rattle.flow_block.specs.Traits.{is_buffer, makes_itself, ended_where, outcome_of}
 use Rattle.flow_block.proofs.GoingOn.{may_finish_tells}
 use Rattle.flow_block.proofs.TestsTell.{every_tells, none_is}

@@ -22,7 +22,7 @@ use Rattle.flow_link.specs.Law.{is_own_mark, has_own_marks, has_room_for, takes_
 use Rattle.flow_link.specs.LinkOk.{IsWithin}
 use Rattle.flow_link.specs.Lists.{every, some, below, is_empty, same_values, numbers_from}
 use Rattle.flow_link.specs.Making.{outputs, load, group_size, all_items, are_groups, row_weight, before_complete, whole_until, join_makes, batched_join_makes}
-use Rattle.flow_link.specs.Plan.{begins_at, ends_at, ends_at_port, is_one_taker, is_reserving, reserves_by_kind, is_steady, port_count, is_write_once}
+use Rattle.flow_link.specs.Plan.{begins_at, ends_at, ends_at_port, is_one_taker, is_reserving, is_steady, port_count, is_write_once}
 use Rattle.flow_link.specs.Stage.{source_stage_of, target_stage_of, refusal_of}
 use Rattle.flow_link.specs.Trace.{BlockTrace, Run, took, gave, gave_over, took_over, has_complete, has_fault, has_ended, is_done, is_faulted, is_used_up, is_cut, block_of, link_of, link_numbers, trace_of, marks_of, held_at, left_at, ports_of, given_by}
 use Rattle.flow_link.specs.Views as views

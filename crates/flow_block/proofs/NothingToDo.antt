@@ -1,5 +1,5 @@
 -- What a node that has nothing to do knows of itself, where its ends rest.
-use Rattle.std.proofs.Common.{◌≡◌, ℕ, ◌<◌, leb, Bool, true, false, cond, not, ◌==◌, ◌&&◌, ◌||◌, List, [], ◌∷◌, length, is_some, is_none, Option, Some, None, Result, refl, ap, ap₂, sym, subst, ◌∙◌, arith, eq-eqb}
+use Rattle.std.proofs.Common.{◌≡◌, ℕ, ◌<◌, Bool, true, false, cond, not, ◌==◌, ◌&&◌, ◌||◌, List, [], ◌∷◌, length, is_some, is_none, Option, Some, None, Result, refl, ap, ap₂, sym, subst, ◌∙◌, arith, eq-eqb}
 use Rattle.std.proofs.lemmas.Bool.{OnTrue_at, or_from, or_left, or_right, or_parts, and_from, false_from_ne_true}
 use Rattle.flow_value.specs.declared.value.Value.{Value}
 use Rattle.flow_value.specs.declared.when.When.{When}
@@ -9,7 +9,6 @@ use Rattle.flow_link.specs.Layout.{Layout}
 use Rattle.flow_link.specs.Plan.{has_work}
 use Rattle.flow_link.proofs.ListTests.{never_both}
 use Rattle.flow_intake.specs.Port.{PortState, fresh_port, stage_at as port_stage, coming}
-use Rattle.flow_intake.specs.PortLaw.{has_ended as has_port_ended}
 use Rattle.flow_outlet.specs.End.{is_over, is_out, is_waiting, is_cut, is_closed, speaks_of, rejects}
 use Rattle.flow_outlet.specs.Law.{admits_head as admits}
 use Rattle.flow_outlet.specs.Order.{StopsAt}
@@ -24,7 +23,7 @@ use Rattle.flow_block.specs.NodeLaw.{NodeLaw}
 use Rattle.flow_block.specs.NodeRests.{HasNothingToDo, EndsRest}
 use Rattle.flow_spread.specs.Spread.{is_at_rest as is_spread_at_rest, only_waits as spread_only_waits}
 use Rattle.flow_block.specs.Copies.{copies_left}
-use Rattle.flow_block.specs.Peeks.{is_out_at_rest, is_copied_out, may_copy, fault_at_ports, holds_nothing, has_group, has_next, is_worked_off, may_work, may_make, nothing_comes, all_ended, is_pending, fault_cause, could_stop, next_fault, is_held_up, may_finish, is_complete, is_copy_held_up, would_copy, has_all_given, has_group_of_ports}
+use Rattle.flow_block.specs.Peeks.{is_out_at_rest, is_copied_out, fault_at_ports, holds_nothing, has_group, has_next, is_worked_off, may_work, may_make, nothing_comes, is_pending, fault_cause, could_stop, next_fault, is_held_up, may_finish, is_complete, is_copy_held_up, would_copy, has_all_given, has_group_of_ports}
 use Rattle.flow_block.proofs.CopierOf.{CopiesQuiet}
 use Rattle.flow_block.proofs.EndsAtRest.{not_out, must_wait, away_waits, none_away, waiting_stays, free_stays, not_cut, not_coming}
 use Rattle.flow_block.proofs.EndsTell.{none_come}
@@ -33,7 +32,7 @@ use Rattle.flow_block.proofs.GoingOn.{away_goes_on, waiting_away}
 use Rattle.flow_block.proofs.JobsRest.{holds_none}
 use Rattle.flow_block.proofs.Joins.{join_idle, join_alone, batched_alone, batched_unjoined, batched_idle, others_at_one}
 use Rattle.flow_block.proofs.KindsBuilt.{has_one_port, batch_idle}
-use Rattle.flow_block.proofs.TestsTell.{every_tells, every_where, none_left}
+use Rattle.flow_block.proofs.TestsTell.{every_where, none_left}
 use Rattle.flow_group.specs.Tuple.{has_tuple}
 
 offer_none : (offer : Option ℕ) → ((j : ℕ) → offer ≡ Some j → ⊥) → offer ≡ None

@@ -17,7 +17,7 @@ use Rattle.flow_link.proofs.ListTests.{never_both}
 use Rattle.flow_link.proofs.OneMoreMark.{some_no_more, gave_no_more, gave_by_took, gave_by_gave}
 use Rattle.flow_intake.specs.Port.{PortState, fresh_port, stage_at as port_stage, hand_in, is_hand}
 use Rattle.flow_intake.specs.PortLaw.{has_ended as has_port_ended}
-use Rattle.flow_intake.specs.Calls.{first_of, wants, turns_down, postpones, refuses, consumes, opens, closes, looks as port_looks, gives_room, port_closes}
+use Rattle.flow_intake.specs.Calls.{first_of, wants, turns_down, postpones, refuses, consumes, opens, closes, looks as port_looks, port_closes}
 use Rattle.flow_intake.proofs.CountsOfEnds.{hand_comes}
 use Rattle.flow_outlet.specs.Outlet.{OutletState, first_of as first_left, rest_of, is_empty, head_of, gives, prepares, offers, denies, withdraws, ends_link, looks as exit_looks}
 use Rattle.flow_link.specs.Plan.{is_broadcast}
@@ -34,7 +34,7 @@ use Rattle.flow_block.proofs.GoingOn.{may_work_tells, may_complete_tells, open_g
 use Rattle.flow_block.proofs.JournalTells.{complete_where}
 use Rattle.flow_block.proofs.KindsBuilt.{has_one_port, batch_shares, broadcast_single, made_kind, makes_by, next_by}
 use Rattle.flow_block.proofs.PortsChange.{kept_at_one, kept_at_all}
-use Rattle.flow_block.proofs.Joins.{batch_unjoined, join_alone, batched_alone, batch_at_one}
+use Rattle.flow_block.proofs.Joins.{join_alone, batched_alone, batch_at_one}
 use Rattle.flow_block.proofs.RoomBack.{kept_back}
 
 pub other_side : (a b : Bool) → a ≡ false → (a || b) ≡ true → b ≡ true

@@ -13,14 +13,13 @@ use Rattle.flow_link.specs.Making.{arrivals}
 use Rattle.flow_link.specs.Trace.{took_at, gave}
 use Rattle.flow_link.proofs.OneMoreMark.{gave_no_more, gave_by_took, gave_by_gave}
 use Rattle.flow_intake.specs.Port.{PortState, hand_in}
-use Rattle.flow_intake.specs.Calls.{put_hand, takes_next, wants, turns_down, postpones, refuses, consumes, opens, closes, looks as port_looks, gives_room, port_closes}
+use Rattle.flow_intake.specs.Calls.{put_hand, takes_next, wants, turns_down, postpones, refuses, consumes, opens, closes, looks as port_looks, port_closes}
 use Rattle.flow_outlet.specs.Outlet.{OutletState, head_of, gives, prepares, offers, denies, withdraws, ends_link, looks as exit_looks}
 use Rattle.flow_group.specs.Tuple.{held_at, has_tuple, tuple_of}
 use Rattle.flow_group.specs.Tuples.{only_at}
 use Rattle.flow_group.proofs.JournalsTell.{journals_tell}
 use Rattle.flow_group.proofs.TuplesKeep.{tuples_kept, held_by_take}
-use Rattle.flow_link.specs.Plan.{is_broadcast}
-use Rattle.flow_block.specs.Block.{is_batch, held_by, BlockState, port_at, with_port, stops_by, is_join, makes_tuple}
+use Rattle.flow_block.specs.Block.{is_batch, BlockState, port_at, with_port, stops_by, is_join, makes_tuple}
 use Rattle.flow_block.specs.Node.{NodeState, NodeCall, takes_in, gives_from, in_link_at, out_link_at}
 use Rattle.flow_block.specs.NodeKeeps.{MayCall, after_call, TuplesKept}
 use Rattle.flow_block.specs.NodeLaw.{NodeLaw, KeepsTuples}

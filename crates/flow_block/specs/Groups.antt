@@ -1,7 +1,5 @@
 -- What a batched join makes: a group of the messages that came in first, whatever their ports.
-use Rattle.std.specs.Prelude.{ℕ, zero, suc, ◌+◌, leb, ltb, Bool, true, false, ◌&&◌, ◌||◌, List, [], ◌∷◌, map, length}
-use Rattle.flow_link.specs.declared.draft.BlockKind.{BlockKind}
-use Rattle.flow_link.specs.declared.draft.BlockKind.TheVariants.{BatchedJoin}
+use Rattle.std.specs.Prelude.{ℕ, zero, suc, ◌+◌, leb, ltb, Bool, ◌&&◌, ◌||◌, List, [], ◌∷◌, map, length}
 use Rattle.flow_link.specs.declared.trace.Mark.{Mark}
 use Rattle.flow_link.specs.declared.trace.Mark.TheVariants.{Took, Gave, Complete, Fault, Done}
 use Rattle.flow_link.specs.Making.{Arrival, arrivals}

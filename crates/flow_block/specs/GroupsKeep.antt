@@ -1,17 +1,11 @@
 -- Which groups a batched join has made: whatever its node does, what it took is cut, in the order in which it came in over all
 -- ports, into the groups that were given or are left, and what waits.
-use Rattle.std.specs.Prelude.{◌≡◌, ℕ, ◌<◌, Bool, true, false, List, [], ◌∷◌, ◌++◌, length, drop, Option, Some, None, Result}
+use Rattle.std.specs.Prelude.{◌≡◌, ℕ, ◌<◌, true, false, List, [], ◌∷◌, ◌++◌, length, drop, Option, Some, None, Result}
 use Rattle.flow_value.specs.declared.value.Value.{Value}
-use Rattle.flow_link.specs.declared.trace.Mark.{Mark}
 use Rattle.flow_link.specs.Layout.{Layout}
-use Rattle.flow_link.specs.Making.{arrivals}
-use Rattle.flow_link.specs.Lists.{every, below}
-use Rattle.flow_link.specs.Trace.{gave, has_complete}
+use Rattle.flow_link.specs.Trace.{has_complete}
 use Rattle.flow_intake.specs.Port.{is_hand}
 use Rattle.flow_group.specs.Group.{has_group}
-use Rattle.flow_group.specs.Groups.{GroupsLaw}
-use Rattle.flow_group.specs.Tuple.{held_at}
-use Rattle.flow_block.specs.Block.{BlockState}
 use Rattle.flow_block.specs.Groups.{makes_group}
 use Rattle.flow_block.specs.Node.{NodeState, NodeCall, with_block, hand_at, after}
 use Rattle.flow_block.specs.NodeKeeps.{InAt, MayCall}

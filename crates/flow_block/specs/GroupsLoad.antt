@@ -1,11 +1,9 @@
 -- What a batched join counts at each of its ports: a place is taken by each message that waits there, and by each that is in a
 -- group which is not given yet.
-use Rattle.std.specs.Prelude.{◌≡◌, ℕ, ◌+◌, ◌<◌, true, List, [], length, is_some, Result}
+use Rattle.std.specs.Prelude.{◌≡◌, ℕ, true, List, Result}
 use Rattle.flow_value.specs.declared.value.Value.{Value}
 use Rattle.flow_link.specs.Layout.{Layout}
-use Rattle.flow_link.specs.Making.{all_items, column}
-use Rattle.flow_block.specs.Block.{BlockState, port_at, is_batched_join}
-use Rattle.flow_block.specs.Copies.{copies_left}
+use Rattle.flow_block.specs.Block.{is_batched_join}
 use Rattle.flow_block.specs.GroupsLaw.{OrderedGroups, LoadByPort}
 use Rattle.flow_block.specs.GroupsKeep.{MayCallBatched}
 use Rattle.flow_block.specs.GroupsOrdered.{after_in_order}

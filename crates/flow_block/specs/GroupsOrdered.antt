@@ -1,8 +1,8 @@
 -- A batched join's node cuts what it took in the order that its own journal tells.
-use Rattle.std.specs.Prelude.{◌≡◌, ℕ, ◌<◌, ◌≤◌, List, length, Result}
+use Rattle.std.specs.Prelude.{ℕ, ◌<◌, List, Result}
 use Rattle.flow_value.specs.declared.value.Value.{Value}
 use Rattle.flow_link.specs.Layout.{Layout}
-use Rattle.flow_block.specs.GroupsLaw.{KeepsGroups, WholeBefore, OrderedGroups}
+use Rattle.flow_block.specs.GroupsLaw.{OrderedGroups}
 use Rattle.flow_block.specs.GroupsKeep.{MayCallBatched}
 use Rattle.flow_block.specs.Node.{NodeState, NodeCall, after, order_in, makes_next_group}
 use Rattle.flow_block.specs.Planned.{block_makes}

@@ -1,9 +1,6 @@
 -- Whether a batched join has a next group, as its ports tell it: in which order its messages came in plays no part in that.
-use Rattle.std.specs.Prelude.{◌≡◌, ℕ, ◌+◌, leb, ltb, Bool, ◌&&◌, ◌||◌, List, [], ◌∷◌, length, is_none}
-use Rattle.flow_intake.specs.Port.{PortState}
+use Rattle.std.specs.Prelude.{◌≡◌, Bool}
 use Rattle.flow_group.specs.Group.{has_group}
-use Rattle.flow_group.specs.Tuple.{all_ended}
-use Rattle.flow_block.specs.Block.{BlockState}
 use Rattle.flow_block.specs.GroupsLaw.{OrderedGroups}
 use Rattle.flow_block.specs.Node.{NodeState, order_in}
 use Rattle.flow_block.specs.Groups.{has_group_at}

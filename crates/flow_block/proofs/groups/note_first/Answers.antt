@@ -1,6 +1,6 @@
 use Rattle.std.proofs.Common.{◌≡◌, ◌<◌, ◌≤◌, ◌+◌, ◌∷◌, [], ◌++◌, get_or, length, arith, subst, length-append}
 use Rattle.flow_link.specs.declared.trace.Mark.{Mark}
-use Rattle.flow_block.proofs.GroupNoted.{Noted, noted_took, noted_other, noted_whole}
+use Rattle.flow_block.proofs.GroupNoted.{noted_took, noted_other, noted_whole}
 use Rattle.flow_block.proofs.groups.note_first.Goals as goal
 use Rattle.flow_block.proofs.groups.note_first.Goals.{in-Took, in_default}
 

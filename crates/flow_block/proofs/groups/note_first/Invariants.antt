@@ -1,4 +1,4 @@
-use Rattle.std.proofs.Common.{◌≡◌, ◌+◌, ◌-◌, ◌≤◌, length}
+use Rattle.std.proofs.Common.{◌+◌, ◌-◌, ◌≤◌, length}
 use Rattle.flow_block.proofs.GroupNoted.{Noted}
 use Rattle.flow_block.proofs.groups.note_first.Given as goal
 

@@ -1,11 +1,10 @@
-use Rattle.std.proofs.Common.{◌≡◌, ◌≤◌, ℕ, ◌+◌, List, Some, map, refl, ap, sym, ◌∙◌, subst, arith}
-use Rattle.flow_intake.specs.Port.{PortState}
+use Rattle.std.proofs.Common.{◌≤◌, ℕ, ◌+◌, Some, map, ap, sym, ◌∙◌, arith}
 use Rattle.flow_intake.specs.Calls.{gives_room}
 use Rattle.flow_outlet.specs.Fits.{weight_of}
-use Rattle.flow_block.specs.Block.{is_batched_join, row_count, gives_each}
-use Rattle.flow_block.specs.BlockFits.{AllGaveOut, weight_out}
+use Rattle.flow_block.specs.Block.{row_count}
+use Rattle.flow_block.specs.BlockFits.{weight_out}
 use Rattle.flow_block.specs.Copies.{copies_left}
-use Rattle.flow_block.proofs.RoomFits.{all_less, none_beside, no_rows, rows_only}
+use Rattle.flow_block.proofs.RoomFits.{all_less, none_beside, no_rows}
 use Rattle.flow_block.proofs.ports.bring_back.Goals as goal
 
 pub give_room-requires : goal.give_room-requires
