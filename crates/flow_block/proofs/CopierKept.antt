@@ -128,7 +128,8 @@ module _ {W : Type 0} (layout : Layout W) (meaning : ℕ → Value → Result (L
   call_keeps NodeCall.begin may alone copying = jobs_change layout b block node.journal law (begins block.jobs)
   call_keeps NodeCall.make may alone copying =
       next_by (λ (new : NodeState). Copier layout b new.block new.journal) (block_makes layout meaning b) node
-      (λ batched. never_both (has_ports block.kind) (ap has_ports (batched_is block.kind batched)) (broadcast_at_one block.kind copying))
+      (λ batched. never_both (has_ports block.kind) (ap has_ports (batched_is block.kind batched))
+      (broadcast_at_one block.kind copying))
       (λ grouped.
       makes_by (λ new. Copier layout b new node.journal) (block_makes layout meaning b) block
       (λ batch. never_both (is_batch block.kind) batch (broadcast_single block.kind copying))

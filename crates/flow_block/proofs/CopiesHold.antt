@@ -74,7 +74,8 @@ module _ {W : Type 0} (layout : Layout W) (meaning : ℕ → Value → Result (L
       (λ batch. law.copies.idle)
       (λ join. law.copies.idle)
       (λ broadcast. copied_keeps (first_of (held_by node.block)) node broadcast)
-      (λ other alone single. stays node.block _ (next_same (block_makes layout meaning b) (first_of (held_by node.block)) node.block) law.copies.idle))
+      (λ other alone single. stays node.block _
+      (next_same (block_makes layout meaning b) (first_of (held_by node.block)) node.block) law.copies.idle))
   idle_keeps node call law may = law.copies.idle
 
   -- its kind stays

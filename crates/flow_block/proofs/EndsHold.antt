@@ -76,7 +76,8 @@ made_all_same block after journal later kind size held holds tuple group complet
 -- as many wait, and the same ports have completed
 group_as : (size : ℕ) (journal : List Mark) (ports after : List PortState) → length after ≡ length ports
     → waiting_in_all after ≡ waiting_in_all ports
-    → has_group_at size (are_complete (length after) journal) after ≡ has_group_at size (are_complete (length ports) journal) ports
+    → has_group_at size (are_complete (length after) journal) after
+    ≡ has_group_at size (are_complete (length ports) journal) ports
 group_as size journal ports after count waits =
     ap₂ (λ (many : ℕ) (ended : Bool). ltb 0 many && (leb size many || ended)) waits (ap (λ (n : ℕ). are_complete n journal) count)
 
@@ -270,7 +271,8 @@ module _ {W : Type 0} (layout : Layout W) (meaning : ℕ → Value → Result (L
       let tuple = tuple_at_one block.ports p port waiting in
       let group = group_as block.size journal block.ports (set block.ports p port) (length-set block.ports p port)
       (waiting_at_one block.ports p port waiting) in
-      let made = made_all_same block (record block { ports = set block.ports p port }) journal journal refl refl held holds tuple group refl in
+      let made = made_all_same block (record block { ports = set block.ports p port }) journal journal refl refl held holds tuple
+      group refl in
       both (record block { ports = set block.ports p port }) journal
       (each_after_one (PortEndsBy block.fault journal) block.ports p port
       (λ there. rw (refusing, ends)
@@ -402,7 +404,8 @@ module _ {W : Type 0} (layout : Layout W) (meaning : ℕ → Value → Result (L
       let holds = every_map (λ (q : PortState). is_empty q.waiting) change block.ports (λ q. refl) in
       let made = made_all_same block new node.journal node.journal refl refl (held_by_copy copies block) holds
       (tuple_at_all change block.ports (λ q. refl))
-      (group_as block.size node.journal block.ports ports (length-map block.ports change) (waiting_at_all change block.ports (λ q. refl)))
+      (group_as block.size node.journal block.ports ports (length-map block.ports change)
+      (waiting_at_all change block.ports (λ q. refl)))
       refl in
       marks_by_copy (λ journal. Ends new journal) call block.copies node.journal
       (both new node.journal
@@ -441,7 +444,8 @@ module _ {W : Type 0} (layout : Layout W) (meaning : ℕ → Value → Result (L
   works_on_group block journal law size weight order none =
       let new = makes_group size weight order block in
       both new journal
-      (each_after_group size order (PortEndsBy block.fault journal) block.ports (λ q count there. each_port block journal law q there))
+      (each_after_group size order (PortEndsBy block.fault journal) block.ports
+      (λ q count there. each_port block journal law q there))
       (going_ends block.kind _ new.ports new.exits block.fault block.stopped journal none (sym law.stopped_is ∙ none))
 
   kept_as : (kind : BlockKind) (values : List Value) (block : BlockState) (journal : List Mark) → Ends block journal
@@ -530,7 +534,8 @@ module _ {W : Type 0} (layout : Layout W) (meaning : ℕ → Value → Result (L
   -- it could make nothing more, and stops
   made_all_by : (block : BlockState) (journal later : List Mark) → ShapeLaw layout meaning b block → Ends block journal
       → block.stopped ≡ None → (how : Outcome) → ((p : ℕ) → has_complete p later ≡ has_complete p journal)
-      → (batch join batched : Bool) → is_batch block.kind ≡ batch → is_join block.kind ≡ join → is_batched_join block.kind ≡ batched
+      → (batch join batched : Bool) → is_batch block.kind ≡ batch → is_join block.kind ≡ join
+      → is_batched_join block.kind ≡ batched
       → cond batch (not (has_group block)) (cond join (not (has_tuple block.ports))
       (cond batched (not (has_group_of_ports block)) (holds_nothing block.ports))) ≡ true
       → has_made_all (stops_by how block) later ≡ true

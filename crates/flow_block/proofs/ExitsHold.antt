@@ -300,10 +300,13 @@ module _ {W : Type 0} (layout : Layout W) (meaning : ℕ → Value → Result (L
       let fits : is_batched_join block.kind ≡ false → (batch : Bool) → is_batch block.kind ≡ batch
       → lacks_ids (cond batch row (cond (is_join block.kind) tuple other)) block.exits ≡ false =
       λ grouped batch is.
-      ap (λ (kind : Bool). lacks_ids (cond kind row (cond (is_join block.kind) tuple other)) block.exits) (sym is) ∙ fits_node false grouped in
-      let fits_alone : is_batched_join block.kind ≡ false → (join : Bool) → is_join block.kind ≡ join → is_batch block.kind ≡ false
+      ap (λ (kind : Bool). lacks_ids (cond kind row (cond (is_join block.kind) tuple other)) block.exits) (sym is)
+      ∙ fits_node false grouped in
+      let fits_alone : is_batched_join block.kind ≡ false → (join : Bool) → is_join block.kind ≡ join
+      → is_batch block.kind ≡ false
       → lacks_ids (cond join tuple other) block.exits ≡ false =
-      λ grouped join is single. ap (λ (kind : Bool). lacks_ids (cond kind tuple other) block.exits) (sym is) ∙ fits grouped false single in
+      λ grouped join is single.
+      ap (λ (kind : Bool). lacks_ids (cond kind tuple other) block.exits) (sym is) ∙ fits grouped false single in
       next_by (λ (new : NodeState). ExitsLaw layout meaning b new.block) result node
       (λ batched. group_keeps block law block.size 0 (order_in node) (fits_node true batched))
       (λ grouped.

@@ -349,7 +349,8 @@ module _ {W : Type 0} (layout : Layout W) (meaning : ℕ → Value → Result (L
       (λ batch. record { each = gave.each; next_is = gave.next_is; in_order = gave.in_order })
       (λ join. record { each = gave.each; next_is = gave.next_is; in_order = gave.in_order })
       (λ broadcast. law_of_copy (first_of (held_by node.block)) node gave)
-      (λ other alone single. make_keeps node.block node.journal (block_makes layout meaning b) (first_of (held_by node.block)) gave))
+      (λ other alone single. make_keeps node.block node.journal (block_makes layout meaning b)
+      (first_of (held_by node.block)) gave))
   gave_keep node (NodeCall.complete p) law may shares gave =
       quiet_mark node.block.exits node.journal (Complete p) (λ test. refl) (λ all. refl) gave
   gave_keep node (NodeCall.fault number) law may shares gave =

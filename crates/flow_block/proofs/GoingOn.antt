@@ -119,7 +119,8 @@ next_of_join false true group tuple some e single is = e
 next_of_join false false group tuple some e single is = absurd (cc)
 next_of_join true join group tuple some e single is = absurd (cc)
 
-next_of_batched : (batch join batched : Bool) (group tuple groups some : Bool) → cond batch group (cond join tuple (cond batched groups some)) ≡ true
+next_of_batched : (batch join batched : Bool) (group tuple groups some : Bool)
+    → cond batch group (cond join tuple (cond batched groups some)) ≡ true
     → batch ≡ false → join ≡ false → batched ≡ true → groups ≡ true
 next_of_batched false false true group tuple groups some e single alone is = e
 next_of_batched false false false group tuple groups some e single alone is = absurd (cc)
@@ -135,13 +136,15 @@ may_work_tells block e =
     record {
       going = none_is block.stopped inner.0;
       no_fault = none_is block.fault inner.1;
-      group = next_of_batch (is_batch block.kind) (has_group block) (cond (is_join block.kind) (has_tuple block.ports) other) outer.1;
+      group =
+          next_of_batch (is_batch block.kind) (has_group block) (cond (is_join block.kind) (has_tuple block.ports) other) outer.1;
       tuple = λ join.
           next_of_join (is_batch block.kind) (is_join block.kind) (has_group block) (has_tuple block.ports) other outer.1
           (single_join block.kind join) join;
       groups = λ batched.
-          next_of_batched (is_batch block.kind) (is_join block.kind) (is_batched_join block.kind) (has_group block) (has_tuple block.ports)
-          (has_group_of_ports block) some outer.1 (single_batched block.kind batched) (unjoined_batched block.kind batched) batched;
+          next_of_batched (is_batch block.kind) (is_join block.kind) (is_batched_join block.kind) (has_group block)
+          (has_tuple block.ports) (has_group_of_ports block) some outer.1 (single_batched block.kind batched)
+          (unjoined_batched block.kind batched) batched;
     }
 
 pub may_begin_tells : (block : BlockState) → may_begin block ≡ true → MayMake block

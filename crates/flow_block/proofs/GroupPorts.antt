@@ -59,9 +59,11 @@ pub waiting_at_one : (ports : List PortState) (p : ℕ) (port : PortState) → p
     → waiting_in_all (set ports p port) ≡ waiting_in_all ports
 waiting_at_one [] p port same = refl
 waiting_at_one (first ∷ ports) zero port same = ap (λ (held : List Value). length held + waiting_in_all ports) same
-waiting_at_one (first ∷ ports) (suc p) port same = ap (λ (rest : ℕ). length first.waiting + rest) (waiting_at_one ports p port same)
+waiting_at_one (first ∷ ports) (suc p) port same =
+    ap (λ (rest : ℕ). length first.waiting + rest) (waiting_at_one ports p port same)
 
-pub waiting_at_all : (change : PortState → PortState) (ports : List PortState) → ((port : PortState) → (change port).waiting ≡ port.waiting)
+pub waiting_at_all : (change : PortState → PortState) (ports : List PortState)
+    → ((port : PortState) → (change port).waiting ≡ port.waiting)
     → waiting_in_all (map change ports) ≡ waiting_in_all ports
 waiting_at_all change [] same = refl
 waiting_at_all change (port ∷ ports) same = rw (same port, waiting_at_all change ports same) refl

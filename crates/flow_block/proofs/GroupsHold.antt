@@ -45,7 +45,8 @@ module _ {W : Type 0} (layout : Layout W) (meaning : ℕ → Value → Result (L
   after_same : (node : NodeState) (call : NodeCall) → is_batched_join node.block.kind ≡ true
       → after_in_order (block_makes layout meaning b) call node ≡ after_call layout meaning b call node
   after_same node NodeCall.make batched =
-      ap (λ (grouped : Bool). cond grouped (makes_next_group node) (with_block (makes (block_makes layout meaning b) node.block) node))
+      ap (λ (grouped : Bool). cond grouped (makes_next_group node)
+      (with_block (makes (block_makes layout meaning b) node.block) node))
       (sym batched)
   after_same node call batched = refl
 

@@ -218,7 +218,11 @@ module _ {W : Type 0} (kept : NodesKept W) (layout : Layout W) (meaning : ℕ �
           counted = law.jobs.counted;
         };
         load = λ grouped. load_stays layout meaning b block journal change (law.load grouped);
-        groups = λ batched. let old = law.groups batched in record { within = old.within; groups = old.groups; whole = old.whole };
+        groups = λ batched. let old = law.groups batched in record {
+          within = old.within;
+          groups = old.groups;
+          whole = old.whole;
+        };
         group_load = λ batched. let old = law.group_load batched in record {
           no_groups = old.no_groups;
           no_room = old.no_room;
@@ -282,7 +286,8 @@ module _ {W : Type 0} (kept : NodesKept W) (layout : Layout W) (meaning : ℕ �
       } in
       subst (λ (new : BlockState). InOrder new journal) (makes_so old made value rest works held is)
       (subst (λ (new : NodeState). NodeLaw layout meaning b new)
-      (ap (λ (batched : Bool). cond batched (makes_next_group node) (with_block (makes result old) node)) (works_unbatched block.kind works))
+      (ap (λ (batched : Bool). cond batched (makes_next_group node) (with_block (makes result old) node))
+      (works_unbatched block.kind works))
       (kept layout meaning b node NodeCall.make law may))
 
   -- all that is there comes out in order

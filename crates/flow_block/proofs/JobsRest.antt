@@ -1,5 +1,5 @@
--- A block other than a batch, a join or a batched join that goes on, and has nothing to do by itself, holds nothing: it would begin with what it
--- holds, or its result would come back.
+-- A block other than a batch, a join or a batched join that goes on, and has nothing to do by itself, holds nothing: it would
+-- begin with what it holds, or its result would come back.
 use Rattle.std.proofs.Common.{◌≡◌, ℕ, ◌-◌, ◌<◌, ltb, leb, Bool, true, false, not, ◌&&◌, List, [], ◌∷◌, length, get_or, Some, None, is_none, refl, ap, arith, lt-ltb, le-leb}
 use Rattle.std.proofs.lemmas.Bool.{and_from}
 use Rattle.flow_value.specs.declared.value.Value.{Value}
@@ -19,7 +19,8 @@ front_out jobs slots is =
     (rw (is, at_first) refl)
 
 module _ (block : BlockState) (going : block.stopped ≡ None) (well : block.fault ≡ None) (other : is_batch block.kind ≡ false)
-    (alone : is_join block.kind ≡ false) (grouped : is_batched_join block.kind ≡ false) (freely : may_copy block ≡ true) (lane : 0 < block.jobs.lanes)
+    (alone : is_join block.kind ≡ false) (grouped : is_batched_join block.kind ≡ false) (freely : may_copy block ≡ true)
+    (lane : 0 < block.jobs.lanes)
     (drained : is_front_back block.jobs.slots ≡ false)
     (makes : may_make block ≡ false) (begins : may_begin block ≡ false)
     (ends : (ticket : ℕ) → may_end ticket block ≡ false) where

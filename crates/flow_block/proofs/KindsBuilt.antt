@@ -1,5 +1,5 @@
--- What holds of each kind that is kept in order: it has one port, if it joins nothing, and makes rows, tuples, groups or something
--- of its first message.
+-- What holds of each kind that is kept in order: it has one port, if it joins nothing, and makes rows, tuples, groups or
+-- something of its first message.
 use Rattle.std.proofs.Common.{◌≡◌, ℕ, Bool, true, false, cond, length, [], ◌∷◌, Option, Some, None, Result, Ok, Err, refl, ap, sym, ◌∙◌, List}
 use Rattle.flow_value.specs.declared.value.Value.{Value}
 use Rattle.flow_link.specs.declared.draft.BlockKind.{BlockKind}
@@ -23,10 +23,10 @@ built_kept Batch e = refl
 built_kept Join e = refl
 built_kept _ e = absurd (cc)
 
--- what holds of buffers, actions, both transforms, batches, joins, broadcasts and batched joins holds of each kind that is kept in
--- order
-pub by_kind : (P : BlockKind → Type 0) → P Buffer → P Action → P Transform → P TransformMany → P Batch → P Join → P Broadcast → P BatchedJoin
-    → (kind : BlockKind) → is_kept_kind kind ≡ true → P kind
+-- what holds of buffers, actions, both transforms, batches, joins, broadcasts and batched joins holds of each kind that is kept
+-- in order
+pub by_kind : (P : BlockKind → Type 0) → P Buffer → P Action → P Transform → P TransformMany → P Batch → P Join → P Broadcast
+    → P BatchedJoin → (kind : BlockKind) → is_kept_kind kind ≡ true → P kind
 by_kind P buffer action transform many batch join broadcast batched Buffer e = buffer
 by_kind P buffer action transform many batch join broadcast batched Broadcast e = broadcast
 by_kind P buffer action transform many batch join broadcast batched Action e = action
@@ -45,8 +45,8 @@ is_of_one Transform = true
 is_of_one TransformMany = true
 is_of_one _ = false
 
-pub of_one : (kind : BlockKind) → is_kept_kind kind ≡ true → is_batched_join kind ≡ false → is_batch kind ≡ false → is_join kind ≡ false
-    → is_broadcast kind ≡ false → is_of_one kind ≡ true
+pub of_one : (kind : BlockKind) → is_kept_kind kind ≡ true → is_batched_join kind ≡ false → is_batch kind ≡ false
+    → is_join kind ≡ false → is_broadcast kind ≡ false → is_of_one kind ≡ true
 of_one Buffer kept grouped single alone shared = refl
 of_one Action kept grouped single alone shared = refl
 of_one Transform kept grouped single alone shared = refl
@@ -109,7 +109,8 @@ pub next_by : (P : NodeState → Type 0) (result : Value → Result (List Value)
     → (is_batched_join node.block.kind ≡ false → P (with_block (makes result node.block) node))
     → P (makes_next result node)
 next_by P result node of_group of_other =
-    node_as P (makes_next_group node) (with_block (makes result node.block) node) (is_batched_join node.block.kind) of_group of_other
+    node_as P (makes_next_group node) (with_block (makes result node.block) node) (is_batched_join node.block.kind) of_group
+    of_other
 
 pub works_shared : (kind : BlockKind) → has_work kind ≡ true → is_broadcast kind ≡ false
 works_shared Action e = refl

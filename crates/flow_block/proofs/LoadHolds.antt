@@ -431,7 +431,8 @@ module _ {W : Type 0} (layout : Layout W) (meaning : ℕ → Value → Result (L
 
   -- what is kept for what it has left, when it takes a message
   taken_weighs : (p k : ℕ) (value : Value) (node : NodeState) → p < length node.block.ports
-      → ShapeLaw layout meaning b node.block → is_batched_join node.block.kind ≡ false → LoadLaw layout meaning b node.block node.journal
+      → ShapeLaw layout meaning b node.block → is_batched_join node.block.kind ≡ false
+      → LoadLaw layout meaning b node.block node.journal
       → (join : Bool) → is_join node.block.kind ≡ join
       → let new = takes_in p k (Some value) node in
       weighs node.block.kind (took new.journal) (held_by new.block) (gave new.journal) node.block.exits.left
@@ -455,7 +456,8 @@ module _ {W : Type 0} (layout : Layout W) (meaning : ℕ → Value → Result (L
       (gave node.journal) exits.left exits.next exits.groups value law.groups)
 
   take_keeps : (p k : ℕ) (hand : Option Value) (node : NodeState) → p < length node.block.ports
-      → ShapeLaw layout meaning b node.block → is_batched_join node.block.kind ≡ false → LoadLaw layout meaning b node.block node.journal
+      → ShapeLaw layout meaning b node.block → is_batched_join node.block.kind ≡ false
+      → LoadLaw layout meaning b node.block node.journal
       → LoadLaw layout meaning b (takes_in p k hand node).block (takes_in p k hand node).journal
   take_keeps p k None node below shape grouped law = law
   take_keeps p k (Some value) node below shape grouped law =
@@ -600,7 +602,8 @@ module _ {W : Type 0} (layout : Layout W) (meaning : ℕ → Value → Result (L
       (has_one_port layout meaning b block law.shape (broadcast_at_one block.kind broadcast))
       (broadcast_copies block.kind broadcast) (none_copied_yet block broadcast may.waits) (law.load grouped))
       (λ other alone single. make_keeps (first_of (held_by block)) block node.journal refl
-      (λ many. (law.gave (many_shares block.kind many)).next_is) (has_one_port layout meaning b block law.shape (others_at_one block.kind grouped alone)) law.shape (law.load grouped)
+      (λ many. (law.gave (many_shares block.kind many)).next_is) (has_one_port layout meaning b block law.shape (others_at_one block.kind grouped alone))
+      law.shape (law.load grouped)
       (of_one block.kind law.shape.built grouped other alone single) other))
   call_keeps node (NodeCall.complete p) law grouped may =
       one_moves node.block node.journal (node.journal ++ Complete p ∷ []) p port_closes refl refl

@@ -386,7 +386,8 @@ module _ {W : Type 0} (run : Run W) (ends : ℕ → Ends) (b : ℕ) (node : Node
     copies_shared : copies_as (as_seen run ends) b (block_of run b).kind ≡ true
     copies_shared =
         by_kind (λ kind. is_one_taker kind ≡ true → copies_as (as_seen run ends) b kind ≡ true) (λ _. refl) (λ _. refl) (λ _. refl)
-        (λ _. refl) (λ _. refl) (λ _. refl) (λ sharing. absurd (cc)) (λ _. refl) (block_of run b).kind plain (ap is_one_taker (sym law.shape.kind_is) ∙ shares)
+        (λ _. refl) (λ _. refl) (λ _. refl) (λ sharing. absurd (cc)) (λ _. refl) (block_of run b).kind plain
+        (ap is_one_taker (sym law.shape.kind_is) ∙ shares)
 
     -- its ends of the links out of it
     source_seen : (l : ℕ) → l < length run.layout.links → (link_of run l).source ≡ Block b

@@ -209,8 +209,8 @@ module _ {W : Type 0} (run : Run W) (ends : ℕ → Ends) (b : ℕ) (node : Node
       (rests_by kind built law.shape.kind_is (ap made_all_as (sym law.shape.kind_is) ∙ none))
 
   -- it holds nothing
-  nothing_held_where : holds_nothing own.ports ≡ true → (batch join batched : Bool) → is_batch own.kind ≡ batch → is_join own.kind ≡ join
-      → is_batched_join own.kind ≡ batched → has_made_all own node.journal ≡ true
+  nothing_held_where : holds_nothing own.ports ≡ true → (batch join batched : Bool) → is_batch own.kind ≡ batch
+      → is_join own.kind ≡ join → is_batched_join own.kind ≡ batched → has_made_all own node.journal ≡ true
   nothing_held_where none true join batched is joins groups =
       let empty : is_empty (held_by own) ≡ true =
       every_tells (λ (port : PortState). is_empty port.waiting) own.ports (fresh_port None) 0 none law.shape.some_port in

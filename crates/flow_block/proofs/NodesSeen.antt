@@ -132,8 +132,8 @@ module _ {W : Type 0} (run : Run W) (ends : ℕ → Ends) (b : ℕ) (node : Node
         (λ _ _. load_of_left p limited) (λ _ _. load_of_left p limited) (λ _ _. load_of_left p limited)
         (λ _ _ partial. ap₂ (λ (held : List Value) (left : ℕ). length held + left) (held_is p) (part_left_is limited partial))
         (λ _ _. load_of_rows p limited) (λ _ _. load_of_left p limited) (λ sharing _. absurd (cc)) (λ _ grouped. absurd (cc))
-        (block_of run b).kind (planned_kept run.layout run.meaning b node.block law.shape) (ap is_one_taker (sym law.shape.kind_is) ∙ shares)
-        (ap is_batched_join (sym law.shape.kind_is) ∙ grouped)
+        (block_of run b).kind (planned_kept run.layout run.meaning b node.block law.shape)
+        (ap is_one_taker (sym law.shape.kind_is) ∙ shares) (ap is_batched_join (sym law.shape.kind_is) ∙ grouped)
         (subst (λ (kind : BlockKind). WeighsAs (block_makes run.layout run.meaning b) kind (block_of run b).capacity
         (took node.journal) (held_by node.block) (gave node.journal) node.block.exits.left node.block.exits.next
         node.block.exits.groups) law.shape.kind_is (law.load grouped).groups)

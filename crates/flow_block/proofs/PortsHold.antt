@@ -213,7 +213,8 @@ module _ {W : Type 0} (layout : Layout W) (meaning : ℕ → Value → Result (L
       let block = node.block in
       let later = node.journal ++ Gave (out_link_at k node) value ∷ [] in
       let back : ℕ → PortState → ℕ = back_at (gives k block.exits) block.copies block.kind (head_of block.exits) in
-      each_after_back (gives k block.exits) block.copies block.kind (head_of block.exits) (λ q port. PortLaw facts (taken later q) port) block.ports
+      each_after_back (gives k block.exits) block.copies block.kind (head_of block.exits)
+      (λ q port. PortLaw facts (taken later q) port) block.ports
       (λ q below.
       let port = port_in block.ports q in
       let fits =

@@ -95,8 +95,10 @@ module _ (exits : OutletState) (copies : SpreadState) (kind : BlockKind) (head :
   back_plain other q port = rw (no_rows kind head other q) (omega arith)
 
   -- what comes back at a port was counted there, where what comes back at all of them was
-  pub back_fits : (capacity : Option ℕ) (q : ℕ) (port : PortState) → cond (is_some capacity) exits.room 0 ≤ port.load - length port.waiting
+  pub back_fits : (capacity : Option ℕ) (q : ℕ) (port : PortState)
+      → cond (is_some capacity) exits.room 0 ≤ port.load - length port.waiting
       → cond (is_some capacity) (back_at q port) 0 ≤ port.load - length port.waiting
   back_fits None q port fits = omega arith
   back_fits (Some limit) q port fits =
-      rows_fit exits.room (weight_of exits.groups + copies_left copies) (row_count kind head q) port.load (length port.waiting) fits
+      rows_fit exits.room (weight_of exits.groups + copies_left copies) (row_count kind head q) port.load (length port.waiting)
+      fits

@@ -289,8 +289,8 @@ pub shape_kept : (W : Type 0) → ShapeKept W
 shape_kept W layout meaning b node call law may = call_keeps layout meaning b node call law.shape
 
 -- it stays of its kind
-pub same_kind : {W : Type 0} (layout : Layout W) (meaning : ℕ → Value → Result (List Value) ℕ) (b : ℕ) (node : NodeState) (call : NodeCall)
-    → NodeLaw layout meaning b node → MayCall layout meaning b call node
+pub same_kind : {W : Type 0} (layout : Layout W) (meaning : ℕ → Value → Result (List Value) ℕ) (b : ℕ) (node : NodeState)
+    (call : NodeCall) → NodeLaw layout meaning b node → MayCall layout meaning b call node
     → node.block.kind ≡ (after_call layout meaning b call node).block.kind
 same_kind {W} layout meaning b node call law may =
     let after = shape_kept W layout meaning b node call law may in law.shape.kind_is ∙ sym after.kind_is

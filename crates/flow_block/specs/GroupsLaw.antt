@@ -1,5 +1,5 @@
--- When a batched join is in order: what it took is cut, in the order in which it came in over all ports, into the groups that were
--- given or are left, and what waits; and at each port a place is taken by each message that is not in a group that was given.
+-- When a batched join is in order: what it took is cut, in the order in which it came in over all ports, into the groups that
+-- were given or are left, and what waits; and at each port a place is taken by each message that is not in a group that was given.
 use Rattle.std.specs.Prelude.{◌≡◌, ℕ, ◌+◌, ◌<◌, ◌≤◌, Bool, true, List, [], ◌++◌, length, is_some}
 use Rattle.flow_value.specs.declared.value.Value.{Value}
 use Rattle.flow_link.specs.declared.trace.Mark.{Mark}

@@ -70,7 +70,8 @@ may_make block = may_work block && not (has_work block.kind)
 -- there is no id left for what it would make
 abbrev pub lacks_next : (Value → Result (List Value) ℕ) → NodeState → Bool
 lacks_next result node =
-    cond (is_broadcast node.block.kind) (leb (2 ^ 59) (node.block.copies.id + 1)) (lacks_ids (puts_next result node) node.block.exits)
+    cond (is_broadcast node.block.kind) (leb (2 ^ 59) (node.block.copies.id + 1))
+    (lacks_ids (puts_next result node) node.block.exits)
 
 -- it may work on one more of the messages that it holds
 abbrev pub may_begin : BlockState → Bool
