@@ -32,7 +32,6 @@ use Rattle.flow_block.specs.InputKeeps.{InputLaw, InputsKeep}
 use Rattle.flow_block.specs.Node.{in_view, out_view, copy_view, source_view, view_of_in, view_of_out}
 use Rattle.flow_block.specs.NodeLaw.{NodeLaw}
 use Rattle.flow_block.specs.Planned.{fresh_node, port_of_plan, links_from, links_to, rule_of, in_place, out_place, input_place}
-use Rattle.flow_block.proofs.KindsBuilt.{built_kept}
 use Rattle.flow_core.specs.Keeps.{LineKeeps}
 use Rattle.flow_core.specs.State.{NetState, fresh_net, fresh_line, source_from, target_from, no_node}
 use Rattle.flow_core.specs.Statements.{FreshKeeps}
@@ -183,7 +182,7 @@ fresh_keeps blocks inputs layout meaning runs posted count = record {
   nodes = λ b here.
       subst (NodeLaw layout meaning b)
       (sym (mapped_at (fresh_node layout) (length layout.blocks) b no_node here))
-      (blocks layout meaning b (built_kept (block_in layout.blocks b).kind (runs.built b here))
+      (blocks layout meaning b (runs.kept b here)
       (some_port (block_in layout.blocks b) (runs.well_formed.options b here)) (runs.freely b here)
       (some_lane (block_in layout.blocks b) (runs.well_formed.options b here))
       (λ batch. some_size (block_in layout.blocks b) (runs.well_formed.options b here)
