@@ -131,7 +131,6 @@ pub ended_is_complete : (p : ℕ) (marks : List Mark) → outcome_in marks ≡ N
 ended_is_complete p marks going =
     same_tests (has_ended p marks) (has_complete p marks) (complete_where p marks going) (ended_by_complete p marks)
 
-
 -- Marks of a block's own
 
 -- a test that passes for the marks that do not end, and for those that end and are there
