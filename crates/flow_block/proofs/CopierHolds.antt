@@ -382,16 +382,16 @@ module _ {W : Type 0} (layout : Layout W) (b : ℕ) where
       give_keeps None is some = absurd (cc)
       give_keeps (Some value) is some = give_to value is
 
-    pub copy_keeps : (call : CopyCall) (law : MayCopy call (record { block = block; journal = journal }))
+    pub copy_keeps : (grouped : ℕ) (call : CopyCall) (law : MayCopy call (record { block = block; journal = journal; grouped = grouped }))
         → Copier layout b (with_copies (after_copy call block.copies) block) (marks_copy call block.copies journal)
-    copy_keeps (CopyCall.offer k) may = offer_keeps k may.place may.stands.0 may.stands.1
-    copy_keeps (CopyCall.look k phase) may = look_keeps k may.place phase (may.place, may.stands)
-    copy_keeps (CopyCall.give k) may =
+    copy_keeps grouped (CopyCall.offer k) may = offer_keeps k may.place may.stands.0 may.stands.1
+    copy_keeps grouped (CopyCall.look k phase) may = look_keeps k may.place phase (may.place, may.stands)
+    copy_keeps grouped (CopyCall.give k) may =
         let well = law_tells.given 1 c.pending block.stopped block.copies copies_lawful k may.place may.stands in
         give_keeps k may.place may.stands block.copies.element refl well.is_element
-    copy_keeps (CopyCall.hold k) may = hold_keeps k may.place may.stands
-    copy_keeps (CopyCall.withdraw k) may = withdraw_keeps k may.place (is_pending block) refl may.stands.0 may.stands.1
-    copy_keeps (CopyCall.end_link k how) may = end_keeps k may.place how may.stands.0 may.stands.1
+    copy_keeps grouped (CopyCall.hold k) may = hold_keeps k may.place may.stands
+    copy_keeps grouped (CopyCall.withdraw k) may = withdraw_keeps k may.place (is_pending block) refl may.stands.0 may.stands.1
+    copy_keeps grouped (CopyCall.end_link k how) may = end_keeps k may.place how may.stands.0 may.stands.1
 
     -- What it does by itself
 

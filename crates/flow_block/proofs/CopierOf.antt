@@ -1,24 +1,22 @@
 -- A node of a run whose block copies is what the laws of such blocks speak of, and what is quiet of what a block copies.
-use Rattle.std.proofs.Common.{◌≡◌, ℕ, ◌<◌, ◌==◌, cond, not, ◌||◌, Bool, true, false, List, [], length, Some, None, Result, refl, ap, sym, ◌∙◌, arith}
+use Rattle.std.proofs.Common.{◌≡◌, ℕ, not, ◌||◌, Bool, true, false, List, [], None, Result, refl, ap, ◌∙◌}
 use Rattle.flow_value.specs.declared.value.Value.{Value}
 use Rattle.flow_link.specs.declared.draft.BlockKind.{BlockKind}
 use Rattle.flow_link.specs.declared.draft.BlockKind.TheVariants.{Broadcast, WriteOnce}
-use Rattle.flow_link.specs.declared.trace.Outcome.TheVariants.{Done}
 use Rattle.flow_link.specs.Composes.{Ends, NodeMakes}
 use Rattle.flow_link.specs.Layout.{Layout}
 use Rattle.flow_link.specs.Making.{makes_as}
 use Rattle.flow_link.specs.Plan.{is_one_taker, is_write_once, is_broadcast}
 use Rattle.flow_link.specs.Trace.{Run}
-use Rattle.flow_link.proofs.ListTests.{never_both}
 use Rattle.flow_outlet.specs.Fits.{weight_of}
 use Rattle.flow_outlet.specs.Outlet.{OutletState, is_empty}
-use Rattle.flow_spread.specs.Spread.{SpreadState, is_at_rest, only_waits}
+use Rattle.flow_spread.specs.Spread.{is_at_rest, only_waits}
 use Rattle.flow_block.specs.Block.{BlockState, held_by}
 use Rattle.flow_block.specs.Copies.{copies_left}
 use Rattle.flow_block.specs.CopiesSeen.{IsCopierOf, CopierSeen, CopierStill, CopierRests}
 use Rattle.flow_block.specs.Kinds.{is_kept_kind}
 use Rattle.flow_block.specs.Node.{NodeState, source_view, copy_view}
-use Rattle.flow_block.specs.NodeLaw.{NodeLaw, places_out}
+use Rattle.flow_block.specs.NodeLaw.{NodeLaw}
 use Rattle.flow_block.specs.NodeRests.{HasNothingToDo, EndsRest}
 use Rattle.flow_block.specs.NodeSeen.{IsNodeOf}
 use Rattle.flow_block.specs.Peeks.{is_copy_held_up, may_copy}
@@ -30,7 +28,7 @@ use Rattle.flow_block.proofs.KindsBuilt.{by_kind}
 
 -- the kinds that are kept in order put each message over the last one, if they copy
 pub never_once : (kind : BlockKind) → is_kept_kind kind ≡ true → is_write_once kind ≡ false
-never_once kind kept = by_kind (λ k. is_write_once k ≡ false) refl refl refl refl refl refl refl kind kept
+never_once kind kept = by_kind (λ k. is_write_once k ≡ false) refl refl refl refl refl refl refl refl kind kept
 
 pub makes_copies : {W : Type 0} (run : Run W) (ends : ℕ → Ends) (b : ℕ) (kind : BlockKind) → is_one_taker kind ≡ false
     → makes_as run b kind ≡ true → NodeMakes run ends b kind

@@ -18,9 +18,9 @@ use Rattle.flow_block.specs.NodeLaw.{NodeLaw, CopiesLaw}
 use Rattle.flow_block.specs.Planned.{block_makes}
 use Rattle.flow_block.proofs.CopiesIdle.{no_copy_at, never_broadcast}
 use Rattle.flow_block.proofs.CopierKept.{call_keeps as copier_kept}
-use Rattle.flow_block.proofs.KindsBuilt.{has_one_port, makes_by}
+use Rattle.flow_block.proofs.KindsBuilt.{has_one_port, makes_by, next_by}
 use Rattle.flow_block.proofs.ShapeHolds.{shape_kept}
-use Rattle.flow_block.proofs.Joins.{copies_unjoined}
+use Rattle.flow_block.proofs.Joins.{copies_at_one}
 
 -- what shares its messages out copies none, whatever it makes
 record SameCopies (before after : BlockState) : Type 0 where
@@ -67,11 +67,15 @@ module _ {W : Type 0} (layout : Layout W) (meaning : ℕ → Value → Result (L
   idle_keeps node (NodeCall.give k) law may = give_keeps k (head_of node.block.exits) node law.copies.idle
   idle_keeps node (NodeCall.copy call) law may = λ shares. absurd (no_copy_at layout meaning b node law shares (copy_place call) may.place)
   idle_keeps node NodeCall.make law may =
+      next_by (λ (new : NodeState). IsIdle new.block) (block_makes layout meaning b) node
+      (λ batched. law.copies.idle)
+      (λ grouped.
       makes_by IsIdle (block_makes layout meaning b) node.block
       (λ batch. law.copies.idle)
       (λ join. law.copies.idle)
       (λ broadcast. copied_keeps (first_of (held_by node.block)) node broadcast)
-      (λ other alone single. stays node.block _ (next_same (block_makes layout meaning b) (first_of (held_by node.block)) node.block) law.copies.idle)
+      (λ other alone single. stays node.block _
+      (next_same (block_makes layout meaning b) (first_of (held_by node.block)) node.block) law.copies.idle))
   idle_keeps node call law may = law.copies.idle
 
   -- its kind stays
@@ -95,7 +99,7 @@ module _ {W : Type 0} (layout : Layout W) (meaning : ℕ → Value → Result (L
     copier = λ copying.
         let copied = kind_stays node call law may copying in
         copier_kept layout meaning b node (law.copies.copier copied) call may
-        (has_one_port layout meaning b node.block law.shape (copies_unjoined node.block.kind copied))
+        (has_one_port layout meaning b node.block law.shape (copies_at_one node.block.kind copied))
         (copies_over node.block.kind law.shape.built copied);
   }
 

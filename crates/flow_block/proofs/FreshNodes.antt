@@ -11,9 +11,9 @@ use Rattle.flow_link.specs.Facts.{facts_in}
 use Rattle.flow_link.specs.Layout.{Layout}
 use Rattle.flow_link.specs.LinkOk.{IsWithin}
 use Rattle.flow_link.specs.Lists.{numbers_from, below}
-use Rattle.flow_link.specs.Plan.{block_in, port_count, is_one_taker, is_write_once, is_reserving}
+use Rattle.flow_link.specs.Plan.{block_in, port_count, is_one_taker, is_write_once}
 use Rattle.flow_link.specs.Trace.{has_ended}
-use Rattle.flow_link.proofs.ListTests.{length_numbers, never_both}
+use Rattle.flow_link.proofs.ListTests.{length_numbers}
 use Rattle.flow_intake.specs.Port.{EndState, PortState, fresh_end, end_in, stage_at as port_stage, is_coming}
 use Rattle.flow_intake.specs.PortLaw.{InLaw, PortLaw, has_ended as has_port_ended}
 use Rattle.flow_outlet.specs.declared.ends.LinkRule.{LinkRule}
@@ -25,16 +25,17 @@ use Rattle.flow_spread.proofs.CountsOfEnds.{none_counts}
 use Rattle.flow_spread.specs.Copied.{Course}
 use Rattle.flow_spread.specs.End.{fresh_end as fresh_copy, end_in as copy_in, owes_it}
 use Rattle.flow_spread.specs.Spread.{fresh_spread}
-use Rattle.flow_block.specs.Block.{port_in, held_by, is_batch}
+use Rattle.flow_block.specs.Block.{port_in, held_by}
 use Rattle.flow_block.specs.Copier.{Copier, CopiedOver}
 use Rattle.flow_block.specs.Copies.{shared_rules, copied_rules, fresh_copies, copies_left}
 use Rattle.flow_block.specs.Fresh.{FreshInOrder}
-use Rattle.flow_block.specs.NodeLaw.{NodeLaw, is_kept, MakesAs, WeighsAs, PortAsPlanned, GaveOver, weighed, rows_weighed, partly_weighed, places_out}
+use Rattle.flow_block.specs.NodeLaw.{is_kept, MakesAs, WeighsAs, PortAsPlanned, GaveOver, weighed, rows_weighed, partly_weighed, places_out}
 use Rattle.flow_block.specs.Peeks.{is_pending}
-use Rattle.flow_block.specs.Planned.{lanes_of, size_of, block_makes, links_to, links_from, rule_of, port_of_plan, fresh_node}
+use Rattle.flow_block.specs.Planned.{block_makes, links_to, links_from, rule_of, port_of_plan, fresh_node}
 use Rattle.flow_block.proofs.FreshGroups.{fresh_tuples}
 use Rattle.flow_block.proofs.PlacesOfCopies.{rule_at_end}
 use Rattle.flow_block.proofs.EndsTell.{none_come}
+use Rattle.flow_block.proofs.GroupsRest.{groups_begin}
 
 -- each end is a fresh one
 in_ends_fresh : (links : List ℕ) (P : EndState → Type 0) → ((l : ℕ) → P (fresh_end l)) → (k : ℕ)
@@ -190,7 +191,7 @@ fresh_copier layout b copying =
     }
 
 pub fresh_in_order : (W : Type 0) → FreshInOrder W
-fresh_in_order W layout meaning b built some freely lane size =
+fresh_in_order W layout meaning b built some freely lane size group =
     let block = block_in layout.blocks b in
     let rules = map (rule_of layout) (links_from layout b) in
     let shared = shared_rules block.kind rules in
@@ -203,6 +204,7 @@ fresh_in_order W layout meaning b built some freely lane size =
         kind_is = refl;
         size_is = refl;
         some_size = size;
+        some_group = group;
         port_count_is = count_is layout b;
         some_port = subst (λ (count : ℕ). 0 < count) (sym (count_is layout b)) some;
         takes_freely = freely;
@@ -243,7 +245,7 @@ fresh_in_order W layout meaning b built some freely lane size =
         counted = λ works.
             ap (λ (held : List Value). 0 + length held) (nothing_held layout b (below (port_count block)));
       };
-      load = record {
+      load = λ grouped. record {
         groups = subst (λ (held : List Value). WeighsAs (block_makes layout meaning b) block.kind block.capacity [] held
             [] [] 1 []) (sym (nothing_held layout b (below (port_count block))))
             (weighs_nothing (block_makes layout meaning b) block.kind block.capacity 1);
@@ -251,6 +253,8 @@ fresh_in_order W layout meaning b built some freely lane size =
         load = each_port layout b (λ p port. is_some block.capacity ≡ true → port.load ≡ length port.waiting + places_out node.block)
             (λ p some. omega (arith, none_copied));
       };
+      groups = λ batched. (groups_begin W layout b).groups;
+      group_load = λ batched. (groups_begin W layout b).load;
       marks = record { own = refl; last = refl; once = refl };
       ends = record {
         stopped_is = refl;

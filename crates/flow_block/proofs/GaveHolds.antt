@@ -42,7 +42,7 @@ use Rattle.flow_block.specs.NodeKeeps.{MayCall, after_call, GaveKept}
 use Rattle.flow_block.specs.Planned.{is_out_of, rule_of, out_place, block_makes}
 use Rattle.flow_block.proofs.EndsTell.{used_up_told}
 use Rattle.flow_block.proofs.JournalTells.{gave_same, gave_here, passed_by}
-use Rattle.flow_block.proofs.KindsBuilt.{makes_by}
+use Rattle.flow_block.proofs.KindsBuilt.{makes_by, next_by}
 use Rattle.flow_block.proofs.PlacesOfLinks.{end_out_of, shares_at, source_there, links_out_differ, earlier_out}
 use Rattle.flow_block.proofs.ShapeHolds.{shape_kept}
 use Rattle.flow_block.proofs.TestsTell.{some_where, some_set}
@@ -342,11 +342,15 @@ module _ {W : Type 0} (layout : Layout W) (meaning : ℕ → Value → Result (L
   gave_keep node (NodeCall.copy call) law may shares gave = absurd (no_copy_at layout meaning b node law shares (copy_place call) may.place)
   gave_keep node NodeCall.begin law may shares gave = gave
   gave_keep node NodeCall.make law may shares gave =
+      next_by (λ (new : NodeState). GaveLaw layout meaning b new.block.exits new.journal) (block_makes layout meaning b) node
+      (λ batched. record { each = gave.each; next_is = gave.next_is; in_order = gave.in_order })
+      (λ grouped.
       makes_by (λ new. GaveLaw layout meaning b new.exits node.journal) (block_makes layout meaning b) node.block
       (λ batch. record { each = gave.each; next_is = gave.next_is; in_order = gave.in_order })
       (λ join. record { each = gave.each; next_is = gave.next_is; in_order = gave.in_order })
       (λ broadcast. law_of_copy (first_of (held_by node.block)) node gave)
-      (λ other alone single. make_keeps node.block node.journal (block_makes layout meaning b) (first_of (held_by node.block)) gave)
+      (λ other alone single. make_keeps node.block node.journal (block_makes layout meaning b)
+      (first_of (held_by node.block)) gave))
   gave_keep node (NodeCall.complete p) law may shares gave =
       quiet_mark node.block.exits node.journal (Complete p) (λ test. refl) (λ all. refl) gave
   gave_keep node (NodeCall.fault number) law may shares gave =

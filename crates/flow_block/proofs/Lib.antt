@@ -24,10 +24,19 @@ pub mod FreshGroups
 pub mod FreshNodes
 pub mod GaveHolds
 pub mod GoingOn
+pub mod GroupNoted
+pub mod GroupPorts
+pub mod GroupsFit
+pub mod GroupsHold
 pub mod GroupsOfRows
+pub mod GroupsLoad
+pub mod GroupsOrdered
+pub mod GroupsPeek
+pub mod GroupsRest
 pub mod GroupsSeen
 pub mod GroupsStand
 pub mod GroupsTaken
+pub mod GroupsTold
 pub mod InputsAreParts
 pub mod InputsInOrder
 pub mod JobsBack
@@ -62,6 +71,7 @@ pub mod PlanMade
 pub mod PortEnds
 pub mod PortsChange
 pub mod PortsHold
+pub mod RoomBack
 pub mod RoomFits
 pub mod RowsHold
 pub mod ShapeHolds

@@ -25,8 +25,9 @@ use Rattle.flow_outlet.proofs.OutletFits.{weight_stays, room_put}
 use Rattle.flow_link.proofs.ListTests.{never_both}
 use Rattle.flow_link.specs.Plan.{is_broadcast}
 use Rattle.flow_block.specs.Copies.{copy_place, CopyCall, after_copy, copies_left}
-use Rattle.flow_block.proofs.CopiesIdle.{no_copy_at, copies_at, broadcast_copies}
-use Rattle.flow_block.specs.Block.{BlockState, port_in, port_at, with_port, with_jobs, held_by, unit_weight, made_of, puts_out, fails, yields, keeps_results, makes_of, is_batch, row_of, next_group, group_weight, takes_group, makes_row, stops_by, is_join, makes_tuple, copies_next}
+use Rattle.flow_block.proofs.CopiesIdle.{copies_at, broadcast_copies}
+use Rattle.flow_block.proofs.RoomBack.{back_plain, kept_back, each_after_back}
+use Rattle.flow_block.specs.Block.{BlockState, port_in, port_at, with_port, with_jobs, held_by, unit_weight, made_of, puts_out, fails, yields, keeps_results, makes_of, is_batch, row_of, next_group, group_weight, takes_group, makes_row, stops_by, is_join, makes_tuple, copies_next, is_batched_join}
 use Rattle.flow_spread.specs.Spread.{puts}
 use Rattle.flow_block.proofs.CopiesLeave.{at_most_one, free_is_given, left_by_copy}
 use Rattle.flow_block.specs.Jobs.{JobsState, begins, works_off}
@@ -38,11 +39,12 @@ use Rattle.flow_block.specs.Planned.{block_makes}
 use Rattle.flow_block.proofs.GroupsOfRows.{group_there, group_tells}
 use Rattle.flow_block.proofs.CopierKept.{may_copy_tells}
 use Rattle.flow_block.proofs.GoingOn.{may_work_tells}
-use Rattle.flow_block.proofs.KindsBuilt.{is_of_one, of_one, has_one_port, makes_by}
+use Rattle.flow_block.proofs.KindsBuilt.{is_of_one, of_one, has_one_port, makes_by, next_by}
 use Rattle.flow_block.proofs.PlacesOfLinks.{shares_at}
 use Rattle.flow_block.proofs.PortsChange.{kept_at_one, kept_at_all, each_after_one, each_after_all}
 use Rattle.flow_block.proofs.WeightsOfResults.{is_many, weighs_taken, weighs_given, weighs_many, weighs_one, rows_put}
-use Rattle.flow_block.proofs.Joins.{broadcast_unjoined, batch_unjoined, join_alone, join_single, join_weighs}
+use Rattle.flow_block.proofs.Joins.{join_alone, join_single, join_weighs, batch_at_one, others_at_one, broadcast_at_one}
+use Rattle.flow_block.proofs.ShapeHolds.{same_kind}
 use Rattle.flow_group.specs.Tuple.{has_first, has_tuple, tuple_of}
 use Rattle.std.proofs.lemmas.Bool.{and_parts}
 
@@ -379,7 +381,7 @@ module _ {W : Type 0} (layout : Layout W) (meaning : ℕ → Value → Result (L
       let group = next_group block in
       let count = length group in
       let row = row_of group in
-      let alone = has_one_port layout meaning b block shape (batch_unjoined block.kind (ap is_batch same ∙ batch)) in
+      let alone = has_one_port layout meaning b block shape (batch_at_one block.kind (ap is_batch same ∙ batch)) in
       let below : 0 < length block.ports = omega (arith, alone) in
       let capacity : port.capacity ≡ limit = (shape.ports 0 below).capacity in
       let weighs_row : row_weight row ≡ count = ap (λ (vs : List Value). length vs) (values_of-items_from group) in
@@ -429,19 +431,20 @@ module _ {W : Type 0} (layout : Layout W) (meaning : ℕ → Value → Result (L
 
   -- what is kept for what it has left, when it takes a message
   taken_weighs : (p k : ℕ) (value : Value) (node : NodeState) → p < length node.block.ports
-      → ShapeLaw layout meaning b node.block → LoadLaw layout meaning b node.block node.journal
+      → ShapeLaw layout meaning b node.block → is_batched_join node.block.kind ≡ false
+      → LoadLaw layout meaning b node.block node.journal
       → (join : Bool) → is_join node.block.kind ≡ join
       → let new = takes_in p k (Some value) node in
       weighs node.block.kind (took new.journal) (held_by new.block) (gave new.journal) node.block.exits.left
       node.block.exits.next node.block.exits.groups
-  taken_weighs p k value node below shape law true join =
+  taken_weighs p k value node below shape grouped law true join =
       join_weighs (block_makes layout meaning b) node.block.kind limit _ _ _ _ _ _ node.block.exits.left node.block.exits.next
       node.block.exits.groups join law.groups
-  taken_weighs p k value node below shape law false alone =
+  taken_weighs p k value node below shape grouped law false alone =
       let block = node.block in
       let exits = block.exits in
       let change = closes k value in
-      let one = has_one_port layout meaning b block shape alone in
+      let one = has_one_port layout meaning b block shape (others_at_one block.kind grouped alone) in
       let first : p ≡ 0 = omega (arith, one, below) in
       let held : held_by (with_port p change block) ≡ held_by block ++ value ∷ [] =
       rw first (ap (λ (port : PortState). port.waiting)
@@ -453,15 +456,16 @@ module _ {W : Type 0} (layout : Layout W) (meaning : ℕ → Value → Result (L
       (gave node.journal) exits.left exits.next exits.groups value law.groups)
 
   take_keeps : (p k : ℕ) (hand : Option Value) (node : NodeState) → p < length node.block.ports
-      → ShapeLaw layout meaning b node.block → LoadLaw layout meaning b node.block node.journal
+      → ShapeLaw layout meaning b node.block → is_batched_join node.block.kind ≡ false
+      → LoadLaw layout meaning b node.block node.journal
       → LoadLaw layout meaning b (takes_in p k hand node).block (takes_in p k hand node).journal
-  take_keeps p k None node below shape law = law
-  take_keeps p k (Some value) node below shape law =
+  take_keeps p k None node below shape grouped law = law
+  take_keeps p k (Some value) node below shape grouped law =
       let block = node.block in
       let exits = block.exits in
       let port = port_in block.ports p in
       record {
-        groups = taken_weighs p k value node below shape law (is_join block.kind) refl;
+        groups = taken_weighs p k value node below shape grouped law (is_join block.kind) refl;
         no_room = law.no_room;
         load = each_after_one (Loads (places_out block)) block.ports p (closes k value port)
             (λ below there.
@@ -470,16 +474,18 @@ module _ {W : Type 0} (layout : Layout W) (meaning : ℕ → Value → Result (L
             (λ q there other. law.load q there);
       }
 
-  give_keeps : (k : ℕ) (head : Option Value) (node : NodeState) → head_of node.block.exits ≡ head
+  give_keeps : (k : ℕ) (head : Option Value) (node : NodeState) → is_batched_join node.block.kind ≡ false
+      → head_of node.block.exits ≡ head
       → node.block.exits.next ≡ 1 + length (gave node.journal)
       → LoadLaw layout meaning b node.block node.journal
       → LoadLaw layout meaning b (gives_from k head node).block (gives_from k head node).journal
-  give_keeps k None node head next law = law
-  give_keeps k (Some value) node head next law =
+  give_keeps k None node other head next law = law
+  give_keeps k (Some value) node other head next law =
       let block = node.block in
       let exits = block.exits in
-      let change = gives_room (gives k exits).room in
-      let held = kept_at_all (λ port. port.waiting) change block.ports 0 (λ port. refl) in
+      let held =
+      kept_back (gives k exits) block.copies block.kind (head_of exits) (λ port. port.waiting) block.ports 0
+      (λ back port. refl) in
       let taken = took_by_gave node.journal (out_link_at k node) value in
       let given = gave_by_gave node.journal (out_link_at k node) value in
       let back = weight_stays exits.next exits.groups in
@@ -488,11 +494,13 @@ module _ {W : Type 0} (layout : Layout W) (meaning : ℕ → Value → Result (L
             (weighs_given (block_makes layout meaning b) block.kind limit (took node.journal) (held_by block)
             (gave node.journal) exits.left exits.next exits.groups value next head law.groups);
         no_room = refl;
-        load = each_after_all (Loads (weight_of (groups_after exits.next exits.groups) + copies_left block.copies)) change block.ports
+        load = each_after_back (gives k exits) block.copies block.kind (head_of exits)
+            (Loads (weight_of (groups_after exits.next exits.groups) + copies_left block.copies)) block.ports
             (λ q below there.
             let all = law.load q below there in
             let none = law.no_room in
-            omega (arith, all, none, back));
+            let room = back_plain (gives k exits) block.copies block.kind (head_of exits) other q (port_in block.ports q) in
+            omega (arith, all, none, back, room));
       }
 
   -- what it copies goes over a link, and the room that it takes no more comes back
@@ -541,63 +549,69 @@ module _ {W : Type 0} (layout : Layout W) (meaning : ℕ → Value → Result (L
       all_move node.block (stops_by how node.block) node.journal (node.journal ++ mark ∷ []) port_closes refl refl refl refl
       (λ port. refl) (λ port. refl) (took_no_more node.journal mark takes) (gave_no_more node.journal mark gives) law
 
-  call_keeps : (node : NodeState) (call : NodeCall) → NodeLaw layout meaning b node → MayCall layout meaning b call node
+  call_keeps : (node : NodeState) (call : NodeCall) → NodeLaw layout meaning b node → is_batched_join node.block.kind ≡ false
+      → MayCall layout meaning b call node
       → LoadLaw layout meaning b (after_call layout meaning b call node).block
       (after_call layout meaning b call node).journal
-  call_keeps node (NodeCall.want p k) law may =
-      one_moves node.block node.journal node.journal p (wants k) refl refl refl refl law.load
-  call_keeps node (NodeCall.turn_down p k) law may =
-      one_moves node.block node.journal node.journal p (turns_down k) refl refl refl refl law.load
-  call_keeps node (NodeCall.postpone p k) law may =
-      one_moves node.block node.journal node.journal p (postpones k) refl refl refl refl law.load
-  call_keeps node (NodeCall.refuse p k) law may =
-      one_moves node.block node.journal node.journal p (refuses k) refl refl refl refl law.load
-  call_keeps node (NodeCall.consume p k) law may =
-      one_moves node.block node.journal node.journal p (consumes k) refl refl refl refl law.load
-  call_keeps node (NodeCall.open_with p k value) law may =
-      one_moves node.block node.journal node.journal p (opens k value) refl refl refl refl law.load
-  call_keeps node (NodeCall.close p k) law may =
-      take_keeps p k (hand_at p k node) node may.port law.shape law.load
-  call_keeps node (NodeCall.offer k) law may =
-      exits_move node (offers k (prepares node.block.exits)) refl refl refl refl law.load
-  call_keeps node (NodeCall.give k) law may =
-      give_keeps k (head_of node.block.exits) node refl
-      (law.gave (shares_at layout meaning b node.block law.shape k may.place)).next_is law.load
-  call_keeps node (NodeCall.deny k) law may =
-      exits_move node (denies k node.block.exits) refl refl refl refl law.load
-  call_keeps node (NodeCall.withdraw k) law may =
-      exits_move node (withdraws k node.block.exits) refl refl refl refl law.load
-  call_keeps node (NodeCall.end_link k how) law may =
-      exits_move node (ends_link k how node.block.exits) refl refl refl refl law.load
-  call_keeps node (NodeCall.look_in p k phase) law may =
-      one_moves node.block node.journal node.journal p (port_looks k phase) refl refl refl refl law.load
-  call_keeps node (NodeCall.look_out k phase) law may =
-      exits_move node (exit_looks k phase node.block.exits) refl refl refl refl law.load
-  call_keeps node (NodeCall.copy call) law may =
-      copied_out call node may.place (copies_at layout meaning b node law (copy_place call) may.place) law.load
-  call_keeps node NodeCall.begin law may =
-      jobs_change node.block node.journal begins law.load
-  call_keeps node NodeCall.make law may =
+  call_keeps node (NodeCall.want p k) law grouped may =
+      one_moves node.block node.journal node.journal p (wants k) refl refl refl refl (law.load grouped)
+  call_keeps node (NodeCall.turn_down p k) law grouped may =
+      one_moves node.block node.journal node.journal p (turns_down k) refl refl refl refl (law.load grouped)
+  call_keeps node (NodeCall.postpone p k) law grouped may =
+      one_moves node.block node.journal node.journal p (postpones k) refl refl refl refl (law.load grouped)
+  call_keeps node (NodeCall.refuse p k) law grouped may =
+      one_moves node.block node.journal node.journal p (refuses k) refl refl refl refl (law.load grouped)
+  call_keeps node (NodeCall.consume p k) law grouped may =
+      one_moves node.block node.journal node.journal p (consumes k) refl refl refl refl (law.load grouped)
+  call_keeps node (NodeCall.open_with p k value) law grouped may =
+      one_moves node.block node.journal node.journal p (opens k value) refl refl refl refl (law.load grouped)
+  call_keeps node (NodeCall.close p k) law grouped may =
+      take_keeps p k (hand_at p k node) node may.port law.shape grouped (law.load grouped)
+  call_keeps node (NodeCall.offer k) law grouped may =
+      exits_move node (offers k (prepares node.block.exits)) refl refl refl refl (law.load grouped)
+  call_keeps node (NodeCall.give k) law grouped may =
+      give_keeps k (head_of node.block.exits) node grouped refl
+      (law.gave (shares_at layout meaning b node.block law.shape k may.place)).next_is (law.load grouped)
+  call_keeps node (NodeCall.deny k) law grouped may =
+      exits_move node (denies k node.block.exits) refl refl refl refl (law.load grouped)
+  call_keeps node (NodeCall.withdraw k) law grouped may =
+      exits_move node (withdraws k node.block.exits) refl refl refl refl (law.load grouped)
+  call_keeps node (NodeCall.end_link k how) law grouped may =
+      exits_move node (ends_link k how node.block.exits) refl refl refl refl (law.load grouped)
+  call_keeps node (NodeCall.look_in p k phase) law grouped may =
+      one_moves node.block node.journal node.journal p (port_looks k phase) refl refl refl refl (law.load grouped)
+  call_keeps node (NodeCall.look_out k phase) law grouped may =
+      exits_move node (exit_looks k phase node.block.exits) refl refl refl refl (law.load grouped)
+  call_keeps node (NodeCall.copy call) law grouped may =
+      copied_out call node may.place (copies_at layout meaning b node law (copy_place call) may.place) (law.load grouped)
+  call_keeps node NodeCall.begin law grouped may =
+      jobs_change node.block node.journal begins (law.load grouped)
+  call_keeps node NodeCall.make law grouped may =
       let block = node.block in
+      next_by (λ (new : NodeState). LoadLaw layout meaning b new.block new.journal) (block_makes layout meaning b) node
+      (λ batched. never_both (is_batched_join block.kind) batched grouped)
+      (λ _.
       makes_by (λ new. LoadLaw layout meaning b new node.journal) (block_makes layout meaning b) block
       (λ batch.
       let group = group_tells (held_by block) (leb block.size (length (held_by block)))
       (has_port_ended (port_at 0 block).refusing) ((may_work_tells block may.waits).group batch) in
       row_keeps block node.journal block.kind refl batch
-      (group_there block.size (held_by block) (law.shape.some_size batch) group.0) law.shape law.load)
-      (λ join. tuple_keeps block node.journal join ((may_work_tells block may.waits).tuple join) law.shape law.load)
+      (group_there block.size (held_by block) (law.shape.some_size batch) group.0) law.shape (law.load grouped))
+      (λ join. tuple_keeps block node.journal join ((may_work_tells block may.waits).tuple join) law.shape (law.load grouped))
       (λ broadcast. copied_next (first_of (held_by block)) block node.journal refl
-      (has_one_port layout meaning b block law.shape (broadcast_unjoined block.kind broadcast))
-      (broadcast_copies block.kind broadcast) (none_copied_yet block broadcast may.waits) law.load)
+      (has_one_port layout meaning b block law.shape (broadcast_at_one block.kind broadcast))
+      (broadcast_copies block.kind broadcast) (none_copied_yet block broadcast may.waits) (law.load grouped))
       (λ other alone single. make_keeps (first_of (held_by block)) block node.journal refl
-      (λ many. (law.gave (many_shares block.kind many)).next_is) (has_one_port layout meaning b block law.shape alone) law.shape law.load
-      (of_one block.kind law.shape.built other alone single) other)
-  call_keeps node (NodeCall.complete p) law may =
+      (λ many. (law.gave (many_shares block.kind many)).next_is) (has_one_port layout meaning b block law.shape (others_at_one block.kind grouped alone))
+      law.shape (law.load grouped)
+      (of_one block.kind law.shape.built grouped other alone single) other))
+  call_keeps node (NodeCall.complete p) law grouped may =
       one_moves node.block node.journal (node.journal ++ Complete p ∷ []) p port_closes refl refl
-      (took_no_more node.journal (Complete p) refl) (gave_no_more node.journal (Complete p) refl) law.load
-  call_keeps node (NodeCall.fault number) law may =
-      stop_keeps node (outcome.Faulted number) (Fault number) refl refl law.load
-  call_keeps node NodeCall.finish law may = stop_keeps node outcome.Done Done refl refl law.load
+      (took_no_more node.journal (Complete p) refl) (gave_no_more node.journal (Complete p) refl) (law.load grouped)
+  call_keeps node (NodeCall.fault number) law grouped may =
+      stop_keeps node (outcome.Faulted number) (Fault number) refl refl (law.load grouped)
+  call_keeps node NodeCall.finish law grouped may = stop_keeps node outcome.Done Done refl refl (law.load grouped)
 
 pub load_kept : (W : Type 0) → LoadKept W
-load_kept W layout meaning b node call law may = call_keeps layout meaning b node call law may
+load_kept W layout meaning b node call law may grouped =
+    call_keeps layout meaning b node call law (ap is_batched_join (same_kind layout meaning b node call law may) ∙ grouped) may

@@ -23,11 +23,12 @@ use Rattle.flow_block.specs.Block.{port_at}
 use Rattle.flow_block.specs.Node.{NodeState, NodeCall, takes_in, gives_from, copies_by, in_link_at, out_link_at}
 use Rattle.flow_block.specs.NodeKeeps.{InAt, MayCopy, MayGive, MayCompletePort, MarksKept, MayCall, after_call}
 use Rattle.flow_block.specs.NodeLaw.{NodeLaw, MarksLaw, outcome_in, run_seen_by}
-use Rattle.flow_block.specs.Planned.{is_into, is_out_of}
+use Rattle.flow_block.specs.Planned.{is_into, is_out_of, block_makes}
 use Rattle.flow_block.proofs.GoingOn.{open_goes_on, away_goes_on, wanted_away, may_complete_tells, may_fault_tells, may_finish_tells}
 use Rattle.flow_block.proofs.JournalTells.{GoesWith, once_more, stops_more}
 use Rattle.flow_block.proofs.PlacesOfCopies.{copy_out_is}
 use Rattle.flow_block.proofs.PlacesOfLinks.{end_in_is, end_out_is, there_at_port, there_at_source}
+use Rattle.flow_block.proofs.KindsBuilt.{next_by}
 
 -- What a mark goes with
 
@@ -141,6 +142,9 @@ module _ {W : Type 0} (layout : Layout W) (meaning : ℕ → Value → Result (L
       one_more node.journal Done law.marks refl (sym law.ends.stopped_is ∙ (may_finish_tells node.block may).going)
       (done_goes node.journal)
   after_each node (NodeCall.copy call) law may = copied_out node law call may
+  after_each node NodeCall.make law may =
+      next_by (λ (new : NodeState). MarksLaw layout meaning b new.journal) (block_makes layout meaning b) node
+      (λ batched. law.marks) (λ grouped. law.marks)
   after_each node call law may = law.marks
 
 pub marks_kept : (W : Type 0) → MarksKept W

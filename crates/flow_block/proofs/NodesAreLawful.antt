@@ -5,7 +5,7 @@ use Rattle.std.proofs.Math.Bool.{or_comm}
 use Rattle.flow_value.specs.When.{admits}
 use Rattle.flow_value.specs.declared.value.Value.{Value}
 use Rattle.flow_link.specs.declared.draft.BlockKind.{BlockKind}
-use Rattle.flow_link.specs.declared.draft.BlockKind.TheVariants.{Buffer, Action, Transform, TransformMany, Batch, Join}
+use Rattle.flow_link.specs.declared.draft.BlockKind.TheVariants.{Buffer, Action, Transform, TransformMany, Batch, Join, BatchedJoin}
 use Rattle.flow_link.specs.declared.phase.LinkEnd.{LinkEnd}
 use Rattle.flow_link.specs.declared.phase.LinkEnd.TheVariants as link_end
 use Rattle.flow_link.specs.declared.plan.LinkSource.TheVariants.{Block}
@@ -21,8 +21,8 @@ use Rattle.flow_link.specs.Endings.{own_fault, is_number, is_complete, has_nothi
 use Rattle.flow_link.specs.Law.{is_own_mark, has_own_marks, has_room_for, takes_level, is_passed, gives_in_order, keeps_link_order}
 use Rattle.flow_link.specs.LinkOk.{IsWithin}
 use Rattle.flow_link.specs.Lists.{every, some, below, is_empty, same_values, numbers_from}
-use Rattle.flow_link.specs.Making.{outputs, load, group_size, all_items, are_groups, row_weight, before_complete, whole_until, join_makes}
-use Rattle.flow_link.specs.Plan.{begins_at, ends_at, ends_at_port, is_one_taker, is_reserving, reserves_by_kind, is_steady, port_count, is_write_once}
+use Rattle.flow_link.specs.Making.{outputs, load, group_size, all_items, are_groups, row_weight, before_complete, whole_until, join_makes, batched_join_makes}
+use Rattle.flow_link.specs.Plan.{begins_at, ends_at, ends_at_port, is_one_taker, is_reserving, is_steady, port_count, is_write_once}
 use Rattle.flow_link.specs.Stage.{source_stage_of, target_stage_of, refusal_of}
 use Rattle.flow_link.specs.Trace.{BlockTrace, Run, took, gave, gave_over, took_over, has_complete, has_fault, has_ended, is_done, is_faulted, is_used_up, is_cut, block_of, link_of, link_numbers, trace_of, marks_of, held_at, left_at, ports_of, given_by}
 use Rattle.flow_link.specs.Views as views
@@ -38,8 +38,8 @@ use Rattle.flow_outlet.specs.declared.ends.OutEnd.{OutEnd}
 use Rattle.flow_outlet.specs.End.{no_end, is_cut as is_end_cut}
 use Rattle.flow_outlet.specs.Law.{is_refused}
 use Rattle.flow_outlet.specs.Outlet.{end_at, end_of}
-use Rattle.flow_block.specs.Block.{port_at, held_by, is_batch, is_join, port_in}
-use Rattle.flow_block.specs.Node.{NodeState, in_view, out_view}
+use Rattle.flow_block.specs.Block.{port_at, held_by, is_batch, is_join, port_in, is_batched_join}
+use Rattle.flow_block.specs.Node.{NodeState, in_view, out_view, order_in}
 use Rattle.flow_block.specs.NodeLaw.{NodeLaw, MakesAs, RowsLaw, is_whole, RefusesFor as RefusesBy, refuses_over, run_seen_by, is_fault_seen, have_completed}
 use Rattle.flow_block.specs.NodeSeen.{IsNodeOf, NodesAreLawful}
 use Rattle.flow_block.specs.Planned.{out_place, in_place, block_makes}
@@ -49,10 +49,12 @@ use Rattle.flow_block.proofs.CopiesIdle.{left_is_shared, view_is_shared}
 use Rattle.flow_block.proofs.EndsTell.{ended_complete, ended_fault, ended_plain, used_up_told, ended_stage, refused_told, spoken_is_out, refusal_told, coming_told, completion_told, fault_told}
 use Rattle.flow_block.proofs.JournalTells.{stopped_tells, every_mark, complete_own, done_outcome, done_marked, fault_marked, passed_by}
 use Rattle.flow_block.proofs.KindsBuilt.{by_kind, planned_kept}
-use Rattle.flow_block.proofs.NodesSeen.{held_is, none_held, own_fault_is, complete_is, load_is, is_joining, join_seen}
+use Rattle.flow_block.proofs.NodesSeen.{held_is, none_held, own_fault_is, complete_is, load_is, is_joining, join_seen, is_grouping, as_ports}
 use Rattle.flow_block.proofs.PlacesOfLinks.{IsEndIn, HasEndOut, end_in_is, end_in_of, end_out_is, end_out_of, count_of_links, there_at_port, there_at_block, source_there}
 use Rattle.flow_block.proofs.TestsTell.{some_tells, every_tells}
 use Rattle.flow_block.specs.Peeks.{holds_nothing}
+use Rattle.flow_block.proofs.GroupsSeen.{batched_joins_are_parts}
+use Rattle.flow_block.specs.GroupsLaw.{KeepsGroups, WholeBefore}
 
 -- what is left of rows that are all whole is whole
 every_behind : (test : Value → Bool) (front rest : List Value) → every test (front ++ rest) ≡ true → every test rest ≡ true
@@ -174,12 +176,7 @@ module _ {W : Type 0} (run : Run W) (ends : ℕ → Ends) (b : ℕ) (node : Node
   place_taken : (p : ℕ) → p < length node.block.ports → is_some (block_of run b).capacity ≡ true
       → (port_at p node.block).load + coming_at (port_at p node.block) ≡ load run b p + coming run ends b p
   place_taken p there bounded =
-      omega (
-        arith,
-        law.load.load p there bounded,
-        load_is run ends b node law is p bounded,
-        coming_is p there,
-      )
+      omega (arith, load_is run ends b node law is p there bounded, coming_is p there)
 
   room_so : every (has_room_at run ends b) (ports_of run b) ≡ true
   room_so =
@@ -323,22 +320,22 @@ module _ {W : Type 0} (run : Run W) (ends : ℕ → Ends) (b : ℕ) (node : Node
         ∙ ap (λ (left : List Value). gave node.journal ++ left) (left_is_shared run.layout run.meaning b node law shares))
 
     makes_by : (kind : BlockKind) → is_kept_kind kind ≡ true → is_one_taker kind ≡ true
-        → (is_join kind ≡ true → join_makes run b ≡ true)
+        → (is_join kind ≡ true → join_makes run b ≡ true) → (is_batched_join kind ≡ true → batched_join_makes run b ≡ true)
         → (is_batch kind ≡ true → RowsLaw node.block.size node.journal (held_by node.block) node.block.exits.left)
         → MakesAsKind kind → NodeMakes run ends b kind
-    makes_by Buffer built sharing joins rows makes =
+    makes_by Buffer built sharing joins groups rows makes =
         ap took marks_are ∙ makes ∙ ap (λ (made : List Value). made ++ held_by node.block) outputs_are
         ∙ ap (λ (held : List Value). outputs run b ++ held) (sym (held_is run ends b node law is 0))
-    makes_by Action built sharing joins rows makes = record {
+    makes_by Action built sharing joins groups rows makes = record {
       works = works_so node.block.recorded (trace_of run b).recorded
           (sym (ap (λ (t : BlockTrace). t.recorded) is.trace)) makes.0;
       none_left = left_is ∙ makes.1;
     }
-    makes_by Transform built sharing joins rows makes =
+    makes_by Transform built sharing joins groups rows makes =
         works_so (gave node.journal ++ node.block.exits.left) (outputs run b) outputs_are makes
-    makes_by TransformMany built sharing joins rows makes =
+    makes_by TransformMany built sharing joins groups rows makes =
         works_so (gave node.journal ++ node.block.exits.left) (outputs run b) outputs_are makes
-    makes_by Batch built sharing joins rows makes =
+    makes_by Batch built sharing joins groups rows makes =
         let size : node.block.size ≡ group_size run b = law.shape.size_is in
         let law_of = rows refl in
         let outs = outputs run b in
@@ -363,8 +360,18 @@ module _ {W : Type 0} (run : Run W) (ends : ℕ → Ends) (b : ℕ) (node : Node
         (same_values_where taken all same) groups)
         (and_from (every (is_whole (group_size run b)) (gave (before_complete 0 (marks_of run b))))
         (has_complete 0 (marks_of run b) || every (is_whole (group_size run b)) (left_at run b)) before left)
-    makes_by Join built sharing joins rows makes = joins refl
-    makes_by _ built sharing joins rows makes = absurd (cc)
+    makes_by Join built sharing joins groups rows makes = joins refl
+    makes_by BatchedJoin built sharing joins groups rows makes = groups refl
+    makes_by _ built sharing joins groups rows makes = absurd (cc)
+
+    -- the groups of a batched join
+    groups_make : is_batched_join node.block.kind ≡ true → batched_join_makes run b ≡ true
+    groups_make batched =
+        let law_of = law.groups batched in
+        let size : node.block.size ≡ group_size run b = law.shape.size_is in
+        (batched_joins_are_parts W run b node (as_ports run ends b node law is batched)).makes (order_in node)
+        (subst (λ (n : ℕ). KeepsGroups n (order_in node) node.block node.journal) size law_of.groups)
+        (subst (λ (n : ℕ). WholeBefore (length node.block.ports) n node.journal) size law_of.whole)
 
     makes_shared : NodeMakes run ends b (block_of run b).kind
     makes_shared =
@@ -372,13 +379,15 @@ module _ {W : Type 0} (run : Run W) (ends : ℕ → Ends) (b : ℕ) (node : Node
         (λ join.
         let here = sym (is_joining run ends b node law is) ∙ join in
         (join_seen run ends b node law is here).makes (law.tuples here))
+        (λ batched. groups_make (sym (is_grouping run ends b node law is) ∙ batched))
         (λ batch. law.rows (ap is_batch law.shape.kind_is ∙ batch))
         (subst MakesAsKind law.shape.kind_is law.makes.makes)
 
     copies_shared : copies_as (as_seen run ends) b (block_of run b).kind ≡ true
     copies_shared =
         by_kind (λ kind. is_one_taker kind ≡ true → copies_as (as_seen run ends) b kind ≡ true) (λ _. refl) (λ _. refl) (λ _. refl)
-        (λ _. refl) (λ _. refl) (λ _. refl) (λ sharing. absurd (cc)) (block_of run b).kind plain (ap is_one_taker (sym law.shape.kind_is) ∙ shares)
+        (λ _. refl) (λ _. refl) (λ _. refl) (λ sharing. absurd (cc)) (λ _. refl) (block_of run b).kind plain
+        (ap is_one_taker (sym law.shape.kind_is) ∙ shares)
 
     -- its ends of the links out of it
     source_seen : (l : ℕ) → l < length run.layout.links → (link_of run l).source ≡ Block b

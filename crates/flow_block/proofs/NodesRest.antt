@@ -3,7 +3,7 @@ use Rattle.std.proofs.Common.{◌≡◌, ℕ, ◌+◌, ◌<◌, ◌≤◌, Bool,
 use Rattle.std.proofs.lemmas.Bool.{or_cases, ltb-false, lt-ltb, and_from, and_parts, or_left, or_right, false_from_ne_true, not-true}
 use Rattle.flow_value.specs.declared.value.Value.{Value}
 use Rattle.flow_link.specs.declared.draft.BlockKind.{BlockKind}
-use Rattle.flow_link.specs.declared.draft.BlockKind.TheVariants.{Join, Buffer, Broadcast, Action, Transform, TransformMany, Batch}
+use Rattle.flow_link.specs.declared.draft.BlockKind.TheVariants.{Join, Buffer, Broadcast, Action, Transform, TransformMany, Batch, BatchedJoin}
 use Rattle.flow_link.specs.declared.plan.LinkSource.TheVariants.{Block}
 use Rattle.flow_link.specs.declared.plan.LinkTarget.TheVariants.{Port}
 use Rattle.flow_link.specs.declared.stage.SourceStage.TheVariants as source
@@ -16,7 +16,7 @@ use Rattle.flow_link.specs.Facts.{facts_in}
 use Rattle.flow_link.specs.LinkOk.{IsWithin}
 use Rattle.flow_link.specs.Lists.{every, below, is_empty as is_none_left}
 use Rattle.flow_link.specs.Making.{load, group_size}
-use Rattle.flow_link.specs.Plan.{port_count, ports_by_kind, is_broadcast, is_one_taker, is_reserving}
+use Rattle.flow_link.specs.Plan.{port_count, is_broadcast, is_one_taker, is_reserving}
 use Rattle.flow_link.specs.Quiet.{has_served_all, first_of as first_left, has_this_fault, faulted_by_itself, rests, rests_as, held_in_all, holds_nothing as run_holds_nothing, all_completed, has_no_group, is_done_if_can, head_as, head_from, admits_head, is_full_with}
 use Rattle.flow_link.specs.RestsByParts.{OutletRests, KindRests, NodeRests, is_over as is_view_over, is_postponed as is_view_postponed, has_seen_end, has_to_wait, lacks_an_offer}
 use Rattle.flow_link.specs.Stage.{source_stage_of, target_stage_of}
@@ -32,14 +32,14 @@ use Rattle.flow_outlet.specs.Law.{admits_head as admits}
 use Rattle.flow_outlet.specs.Outlet.{OutletState, first_of, is_empty, head_of, end_at, stage_at, end_of}
 use Rattle.flow_outlet.specs.declared.ends.LinkRule.{LinkRule}
 use Rattle.flow_outlet.proofs.StagesTell.{waits_for}
-use Rattle.flow_block.specs.Block.{BlockState, port_at, held_by, is_batch, is_join}
+use Rattle.flow_block.specs.Block.{BlockState, port_at, held_by, is_batch, is_join, is_batched_join, has_ports}
 use Rattle.flow_block.specs.Node.{NodeState}
 use Rattle.flow_block.specs.NodeLaw.{NodeLaw, has_made_all, outcome_in}
 use Rattle.flow_block.specs.NodeRests.{HasNothingToDo, EndsRest, NodesRest}
 use Rattle.flow_block.specs.NodeSeen.{IsNodeOf}
-use Rattle.flow_block.specs.Peeks.{holds_nothing, has_group, is_complete as is_complete_here, is_pending}
+use Rattle.flow_block.specs.Peeks.{holds_nothing, has_group, is_complete as is_complete_here, is_pending, has_group_of_ports}
 use Rattle.flow_block.proofs.NodesAreLawful.{join_is}
-use Rattle.flow_block.proofs.NodesSeen.{join_seen, is_joining}
+use Rattle.flow_block.proofs.NodesSeen.{join_seen, is_joining, as_ports}
 use Rattle.flow_group.specs.Tuple.{has_tuple}
 use Rattle.flow_link.specs.Quiet.{has_no_row}
 use Rattle.flow_block.specs.Planned.{rule_of, out_place, in_place}
@@ -51,12 +51,16 @@ use Rattle.flow_block.proofs.EndsHold.{no_group_left}
 use Rattle.flow_block.proofs.EndsTell.{limit_is, no_room_left, free_back, postponed_back, end_back}
 use Rattle.flow_block.proofs.FaultsSeen.{not_seen_at_ends, not_seen_at_ports}
 use Rattle.flow_block.proofs.GoingOn.{open_goes_on}
-use Rattle.flow_block.proofs.JournalTells.{stopped_tells, fault_marked, faulted_marked, none_stopped, stopped_ends, ended_by_complete, complete_where}
+use Rattle.flow_block.proofs.JournalTells.{stopped_tells, fault_marked, faulted_marked, none_stopped, stopped_ends, ended_by_complete, ended_is_complete}
 use Rattle.flow_block.proofs.KindsBuilt.{by_kind, planned_kept, has_one_port}
 use Rattle.flow_block.proofs.NodesSeen.{held_is, none_held, own_fault_is, complete_is, load_is}
 use Rattle.flow_block.proofs.NothingToDo.{not_pending, worked_off, none_seen, no_coming, free_at, waiting_goes, not_admitted, not_finished, left_where}
 use Rattle.flow_block.proofs.PlacesOfLinks.{end_in_of, end_out_of}
 use Rattle.flow_block.proofs.TestsTell.{every_tells, every_where, some_where}
+use Rattle.flow_block.specs.Groups.{has_group_at, waiting_in_all}
+use Rattle.flow_block.specs.GroupsLaw.{are_complete}
+use Rattle.flow_block.proofs.GroupsTold.{group_told}
+use Rattle.flow_block.proofs.GroupsRest.{groups_rest}
 
 none_same : (values : List Value) → (is_none_left values && true) ≡ is_empty values
 none_same [] = refl
@@ -92,15 +96,19 @@ no_first (port ∷ ports) some none =
     let empty = (and_parts (is_empty port.waiting) (holds_nothing ports) none).0 in
     ap (λ (first : Bool). not (not first && has_tuple ports)) empty
 
--- a port of a block that goes on has ended just where it has completed
-same_tests : (a b : Bool) → (a ≡ true → b ≡ true) → (b ≡ true → a ≡ true) → a ≡ b
-same_tests true b there back = sym (there refl)
-same_tests false true there back = back refl
-same_tests false false there back = refl
+-- nor a group
+none_in_all : (ports : List PortState) → holds_nothing ports ≡ true → waiting_in_all ports ≡ 0
+none_in_all [] none = refl
+none_in_all (port ∷ ports) none =
+    let both = and_parts (is_empty port.waiting) (holds_nothing ports) none in
+    let here : length port.waiting ≡ 0 = ap (λ (held : List Value). length held) (nothing_in port.waiting both.0) in
+    let rest = none_in_all ports both.1 in
+    omega (arith, here, rest)
 
-ended_is_complete : (p : ℕ) (journal : List Mark) → outcome_in journal ≡ None → has_ended p journal ≡ has_complete p journal
-ended_is_complete p journal going =
-    same_tests (has_ended p journal) (has_complete p journal) (complete_where p journal going) (ended_by_complete p journal)
+no_group_of_none : (size : ℕ) (ended : Bool) (ports : List PortState) → holds_nothing ports ≡ true
+    → not (has_group_at size ended ports) ≡ true
+no_group_of_none size ended ports none =
+    ap (λ (count : ℕ). not (ltb 0 count && (leb size count || ended))) (none_in_all ports none)
 
 module _ {W : Type 0} (run : Run W) (ends : ℕ → Ends) (b : ℕ) (node : NodeState)
     (law : NodeLaw run.layout run.meaning b node)
@@ -132,29 +140,29 @@ module _ {W : Type 0} (run : Run W) (ends : ℕ → Ends) (b : ℕ) (node : Node
   of_marks P holds = subst P (sym marks_are) holds
 
   -- one port
-  ports_are : is_join own.kind ≡ false → ports_of run b ≡ 0 ∷ []
+  ports_are : has_ports own.kind ≡ false → ports_of run b ≡ 0 ∷ []
   ports_are alone =
       ap below (sym law.shape.port_count_is ∙ has_one_port run.layout run.meaning b own law.shape alone)
 
-  held_count : is_join own.kind ≡ false → held_in_all run b ≡ length (held_by own)
+  held_count : has_ports own.kind ≡ false → held_in_all run b ≡ length (held_by own)
   held_count alone =
       ap (λ (ps : List ℕ). sum (map (λ p. length (held_at run b p)) ps)) (ports_are alone)
       ∙ ap (λ (held : List Value). 0 + length held) (held_is run ends b node law part 0) ∙ omega arith
 
-  held_as : is_join own.kind ≡ false → every (λ p. is_none_left (held_at run b p)) (ports_of run b) ≡ is_empty (held_by own)
+  held_as : has_ports own.kind ≡ false → every (λ p. is_none_left (held_at run b p)) (ports_of run b) ≡ is_empty (held_by own)
   held_as alone =
       ap (λ (ps : List ℕ). every (λ p. is_none_left (held_at run b p)) ps) (ports_are alone)
       ∙ ap (λ (held : List Value). is_none_left held && true) (held_is run ends b node law part 0)
       ∙ none_same (held_by own)
 
-  completed_as : is_join own.kind ≡ false → all_completed run b ≡ has_complete 0 node.journal
+  completed_as : has_ports own.kind ≡ false → all_completed run b ≡ has_complete 0 node.journal
   completed_as alone =
       ap (λ (ps : List ℕ). every (λ p. has_complete p (marks_of run b)) ps) (ports_are alone)
       ∙ ap (λ (marks : List Mark). has_complete 0 marks && true) marks_are
       ∙ and_true (has_complete 0 node.journal)
 
   -- a batch has no row to make
-  no_group_where : is_join own.kind ≡ false
+  no_group_where : has_ports own.kind ≡ false
       → (ltb (length (held_by own)) own.size && (not (has_complete 0 node.journal) || is_empty (held_by own))) ≡ true
       → has_no_group run b ≡ true
   no_group_where alone none =
@@ -164,16 +172,20 @@ module _ {W : Type 0} (run : Run W) (ends : ℕ → Ends) (b : ℕ) (node : Node
       (ap₂ ltb (held_count alone) (sym law.shape.size_is) ∙ both.0)
       (ap₂ (λ (complete none : Bool). not complete || none) (completed_as alone) (held_as alone) ∙ both.1)
 
-  -- what is left of a batch's messages, of a join's and of all others', when it could make nothing more
+  -- a batched join has a group, as its marks tell
+  abbrev has_group_here : Bool
+  has_group_here = has_group_at own.size (are_complete (length own.ports) node.journal) own.ports
+
+  -- what is left of a batch's messages, of a join's, of a batched join's and of all others', when it could make nothing more
   abbrev made_all_as : BlockKind → Bool
   made_all_as k =
       cond (is_batch k)
       (ltb (length (held_by own)) own.size && (not (has_complete 0 node.journal) || is_empty (held_by own)))
-      (cond (is_join k) (not (has_tuple own.ports)) (holds_nothing own.ports))
+      (cond (is_join k) (not (has_tuple own.ports)) (cond (is_batched_join k) (not has_group_here) (holds_nothing own.ports)))
 
   -- a block of its kind that could make nothing more rests
   rests_by : (k : BlockKind) → is_kept_kind k ≡ true → own.kind ≡ k → made_all_as k ≡ true → rests_as run k b ≡ true
-  rests_by Batch there is none = no_group_where (ap is_join is) none
+  rests_by Batch there is none = no_group_where (ap has_ports is) none
   rests_by Buffer there is none = none_held run ends b node law part none
   rests_by Action there is none = none_held run ends b node law part none
   rests_by Transform there is none = none_held run ends b node law part none
@@ -182,6 +194,13 @@ module _ {W : Type 0} (run : Run W) (ends : ℕ → Ends) (b : ℕ) (node : Node
   rests_by Join there is none =
       ap (has_no_row run b) law.shape.takes_freely
       ∙ (join_seen run ends b node law part (ap is_join is)).rests (not-true (has_tuple own.ports) none)
+  rests_by BatchedJoin there is none =
+      let batched = ap is_batched_join is in
+      let size : own.size ≡ group_size run b = law.shape.size_is in
+      (groups_rest W run b node (as_ports run ends b node law part batched)).rests
+      (subst (λ (n : ℕ). 0 < n) size (law.shape.some_group batched))
+      (subst (λ (n : ℕ). has_group_at n (are_complete (length own.ports) node.journal) own.ports ≡ false) size
+      (not-true has_group_here none))
   rests_by _ there is none = absurd (cc)
 
   rests_where : has_made_all own node.journal ≡ true → rests run b ≡ true
@@ -190,9 +209,9 @@ module _ {W : Type 0} (run : Run W) (ends : ℕ → Ends) (b : ℕ) (node : Node
       (rests_by kind built law.shape.kind_is (ap made_all_as (sym law.shape.kind_is) ∙ none))
 
   -- it holds nothing
-  nothing_held_where : holds_nothing own.ports ≡ true → (batch join : Bool) → is_batch own.kind ≡ batch → is_join own.kind ≡ join
-      → has_made_all own node.journal ≡ true
-  nothing_held_where none true join is joins =
+  nothing_held_where : holds_nothing own.ports ≡ true → (batch join batched : Bool) → is_batch own.kind ≡ batch
+      → is_join own.kind ≡ join → is_batched_join own.kind ≡ batched → has_made_all own node.journal ≡ true
+  nothing_held_where none true join batched is joins groups =
       let empty : is_empty (held_by own) ≡ true =
       every_tells (λ (port : PortState). is_empty port.waiting) own.ports (fresh_port None) 0 none law.shape.some_port in
       let held = nothing_in (held_by own) empty in
@@ -200,29 +219,37 @@ module _ {W : Type 0} (run : Run W) (ends : ℕ → Ends) (b : ℕ) (node : Node
       rw is (and_from (ltb (length (held_by own)) own.size) (not (has_complete 0 node.journal) || is_empty (held_by own))
       (ap (λ (vs : List Value). ltb (length vs) own.size) held ∙ lt-ltb 0 own.size some)
       (or_right (not (has_complete 0 node.journal)) (is_empty (held_by own)) empty))
-  nothing_held_where none false true is joins = rw (is, joins) (no_first own.ports law.shape.some_port none)
-  nothing_held_where none false false is joins = rw (is, joins) none
+  nothing_held_where none false true batched is joins groups = rw (is, joins) (no_first own.ports law.shape.some_port none)
+  nothing_held_where none false false true is joins groups =
+      rw (is, joins, groups) (no_group_of_none own.size (are_complete (length own.ports) node.journal) own.ports none)
+  nothing_held_where none false false false is joins groups = rw (is, joins, groups) none
 
   -- it could make nothing more, and goes on
-  made_all_where : own.stopped ≡ None → (batch join : Bool) → is_batch own.kind ≡ batch → is_join own.kind ≡ join
-      → cond batch (not (has_group own)) (cond join (not (has_tuple own.ports)) (holds_nothing own.ports)) ≡ true
+  made_all_where : own.stopped ≡ None → (batch join batched : Bool) → is_batch own.kind ≡ batch → is_join own.kind ≡ join
+      → is_batched_join own.kind ≡ batched
+      → cond batch (not (has_group own)) (cond join (not (has_tuple own.ports))
+      (cond batched (not (has_group_of_ports own)) (holds_nothing own.ports))) ≡ true
       → has_made_all own node.journal ≡ true
-  made_all_where going true join is joins done =
+  made_all_where going true join batched is joins groups done =
       let left =
       no_group_left (held_by own) own.size (leb own.size (length (held_by own)))
       (has_port_ended (port_at 0 own).refusing) (has_complete 0 node.journal) (law.shape.some_size is) refl
       (λ unended. (open_goes_on run.layout run.meaning b own node.journal law.ends 0 law.shape.some_port unended).1) done in
       rw is left
-  made_all_where going false true is joins done = rw (is, joins) done
-  made_all_where going false false is joins done = rw (is, joins) done
+  made_all_where going false true batched is joins groups done = rw (is, joins) done
+  made_all_where going false false true is joins groups done =
+      rw (is, joins, groups) (ap not (sym (group_told run.layout run.meaning b own node.journal law.ends going)) ∙ done)
+  made_all_where going false false false is joins groups done = rw (is, joins, groups) done
 
   marked : (how : Outcome) → own.stopped ≡ Some how → outcome_in node.journal ≡ Some how
   marked how e = sym law.ends.stopped_is ∙ e
 
   worked_where : (stopped : Option Outcome) → own.stopped ≡ stopped → rests run b ≡ true
   worked_where None e =
-      rests_where (made_all_where e (is_batch own.kind) (is_join own.kind) refl refl (worked_off run.layout run.meaning b node law nothing rest quiet e))
-  worked_where (Some Done) e = rests_where (nothing_held_where (law.ends.done_empty e).0 (is_batch own.kind) (is_join own.kind) refl refl)
+      rests_where (made_all_where e (is_batch own.kind) (is_join own.kind) (is_batched_join own.kind) refl refl refl
+      (worked_off run.layout run.meaning b node law nothing rest quiet e))
+  worked_where (Some Done) e = rests_where (nothing_held_where (law.ends.done_empty e).0 (is_batch own.kind) (is_join own.kind)
+      (is_batched_join own.kind) refl refl refl)
   worked_where (Some (Faulted n)) e =
       ⊎_elim
       (λ fault.
@@ -306,8 +333,7 @@ module _ {W : Type 0} (run : Run W) (ends : ℕ → Ends) (b : ℕ) (node : Node
         full_at port.capacity port.load (coming port)
         (no_coming run.layout run.meaning b node law nothing rest quiet p port_there) order.room full in
         let load_here : port.load ≡ load run b p =
-        law.load.load p port_there (ap is_some (sym planned.capacity) ∙ here.0)
-        ∙ sym (load_is run ends b node law part p (ap is_some (sym planned.capacity) ∙ here.0)) in
+        sym (load_is run ends b node law part p port_there (ap is_some (sym planned.capacity) ∙ here.0)) in
         or_left (is_full_with run (block_of run b).capacity (load run b p))
         (is_reserving (block_of run b) && lacks_an_offer run ends b)
         (ap₂ (is_full_with run) (sym planned.capacity) (sym load_here) ∙ here.1)
@@ -421,7 +447,7 @@ module _ {W : Type 0} (run : Run W) (ends : ℕ → Ends) (b : ℕ) (node : Node
             (λ k. is_one_taker k ≡ true → admits_head run l (head_as run b l false k) ≡ true
             → admits_head run l (first_left (left_at run b)) ≡ true)
             (λ _ same. same) (λ _ same. same) (λ _ same. same) (λ _ same. same) (λ _ same. same) (λ _ same. same)
-            (λ sharing. absurd (cc))
+            (λ sharing. absurd (cc)) (λ _ same. same)
             kind built (ap is_one_taker (sym law.shape.kind_is) ∙ shares) e,
       )
 

@@ -14,7 +14,7 @@ use Rattle.flow_link.proofs.ListTests.{every_below, front_without}
 use Rattle.flow_intake.specs.Port.{PortState, fresh_port}
 use Rattle.flow_outlet.specs.Fits.{weight_of}
 use Rattle.flow_outlet.specs.Outlet.{is_empty as has_none}
-use Rattle.flow_block.specs.Block.{port_at, held_by, is_join}
+use Rattle.flow_block.specs.Block.{port_at, held_by, is_join, is_batched_join}
 use Rattle.flow_block.specs.Node.{NodeState}
 use Rattle.flow_block.specs.NodeLaw.{NodeLaw, WeighsAs, PartlyGiven, weighed, rows_weighed, places_out}
 use Rattle.flow_block.specs.NodeSeen.{IsNodeOf}
@@ -25,9 +25,10 @@ use Rattle.flow_block.proofs.CopiesIdle.{left_is_shared, none_copied}
 use Rattle.flow_block.proofs.KindsBuilt.{by_kind, planned_kept}
 use Rattle.flow_block.proofs.TestsTell.{every_tells, none_left}
 use Rattle.flow_block.proofs.WeightsOfResults.{weight_weighed, weight_rows, weight_partial}
-use Rattle.flow_block.specs.TuplesSeen.{JoinSeen}
+use Rattle.flow_block.specs.TuplesSeen.{JoinSeen, IsPortsOf}
 use Rattle.flow_block.proofs.TuplesSeen.{joins_are_parts}
-use Rattle.flow_block.proofs.Joins.{join_shares}
+use Rattle.flow_block.proofs.Joins.{join_shares, batched_is, batched_shares}
+use Rattle.flow_block.proofs.GroupsRest.{groups_rest}
 
 module _ {W : Type 0} (run : Run W) (ends : ℕ → Ends) (b : ℕ) (node : NodeState)
     (law : NodeLaw run.layout run.meaning b node) (part : IsNodeOf run ends b node) where
@@ -57,7 +58,7 @@ module _ {W : Type 0} (run : Run W) (ends : ℕ → Ends) (b : ℕ) (node : Node
   complete_is alone =
       by_kind (λ kind. is_join kind ≡ false
       → is_complete_as run kind b ≡ every (λ p. has_complete p (marks_of run b)) (ports_of run b))
-      (λ e. refl) (λ e. refl) (λ e. refl) (λ e. refl) (λ e. refl) (λ e. absurd (cc)) (λ e. refl)
+      (λ e. refl) (λ e. refl) (λ e. refl) (λ e. refl) (λ e. refl) (λ e. absurd (cc)) (λ e. refl) (λ e. refl)
       (block_of run b).kind (planned_kept run.layout run.meaning b node.block law.shape) alone
 
   pub is_joining : is_join (block_of run b).kind ≡ is_join node.block.kind
@@ -123,27 +124,51 @@ module _ {W : Type 0} (run : Run W) (ends : ℕ → Ends) (b : ℕ) (node : Node
         ∙ sym (ap weight_of partial.groups_are
         ∙ weight_partial (block_of run b).capacity (length (gave node.journal)) works.results limited)
 
-    load_by : (p : ℕ) → is_some (block_of run b).capacity ≡ true
+    -- of all but a batched join
+    load_by : is_batched_join node.block.kind ≡ false → (p : ℕ) → is_some (block_of run b).capacity ≡ true
         → load run b p ≡ length (port_at p node.block).waiting + weight_of node.block.exits.groups
-    load_by p limited =
-        by_kind (λ kind. is_one_taker kind ≡ true → LoadIs p kind) (λ _. load_of_left p limited) (λ _. load_of_left p limited)
-        (λ _. load_of_left p limited)
-        (λ _ partial. ap₂ (λ (held : List Value) (left : ℕ). length held + left) (held_is p) (part_left_is limited partial))
-        (λ _. load_of_rows p limited) (λ _. load_of_left p limited) (λ sharing. absurd (cc)) (block_of run b).kind
-        (planned_kept run.layout run.meaning b node.block law.shape) (ap is_one_taker (sym law.shape.kind_is) ∙ shares)
+    load_by grouped p limited =
+        by_kind (λ kind. is_one_taker kind ≡ true → is_batched_join kind ≡ false → LoadIs p kind)
+        (λ _ _. load_of_left p limited) (λ _ _. load_of_left p limited) (λ _ _. load_of_left p limited)
+        (λ _ _ partial. ap₂ (λ (held : List Value) (left : ℕ). length held + left) (held_is p) (part_left_is limited partial))
+        (λ _ _. load_of_rows p limited) (λ _ _. load_of_left p limited) (λ sharing _. absurd (cc)) (λ _ grouped. absurd (cc))
+        (block_of run b).kind (planned_kept run.layout run.meaning b node.block law.shape)
+        (ap is_one_taker (sym law.shape.kind_is) ∙ shares) (ap is_batched_join (sym law.shape.kind_is) ∙ grouped)
         (subst (λ (kind : BlockKind). WeighsAs (block_makes run.layout run.meaning b) kind (block_of run b).capacity
         (took node.journal) (held_by node.block) (gave node.journal) node.block.exits.left node.block.exits.next
-        node.block.exits.groups) law.shape.kind_is law.load.groups)
+        node.block.exits.groups) law.shape.kind_is (law.load grouped).groups)
 
-  pub load_is : (p : ℕ) → is_some (block_of run b).capacity ≡ true
+  places_are : is_batched_join node.block.kind ≡ false → (p : ℕ) → is_some (block_of run b).capacity ≡ true
       → load run b p ≡ length (port_at p node.block).waiting + places_out node.block
-  load_is p limited = by_sharing (is_one_taker node.block.kind) refl
+  places_are grouped p limited = by_sharing (is_one_taker node.block.kind) refl
     where
       by_sharing : (sharing : Bool) → is_one_taker node.block.kind ≡ sharing
           → load run b p ≡ length (port_at p node.block).waiting + places_out node.block
       by_sharing true shares =
           let none = none_copied run.layout run.meaning b node law shares in
-          load_by shares p limited ∙ omega (arith, none)
+          load_by shares grouped p limited ∙ omega (arith, none)
       by_sharing false copying =
           let none = (none_shared run ends b node law part copying).1 in
           (copier_seen run ends b node law part copying).load p ∙ omega (arith, none)
+
+  -- a batched join as a part of the run
+  pub as_ports : is_batched_join node.block.kind ≡ true → IsPortsOf run b node
+  as_ports batched = record {
+    trace = part.trace;
+    count = law.shape.port_count_is;
+    shares = batched_shares node.block.kind batched;
+  }
+
+  pub is_grouping : is_batched_join (block_of run b).kind ≡ is_batched_join node.block.kind
+  is_grouping = ap is_batched_join (sym law.shape.kind_is)
+
+  pub load_is : (p : ℕ) → p < length node.block.ports → is_some (block_of run b).capacity ≡ true
+      → load run b p ≡ (port_at p node.block).load
+  load_is p there limited = by_groups (is_batched_join node.block.kind) refl
+    where
+      by_groups : (batched : Bool) → is_batched_join node.block.kind ≡ batched → load run b p ≡ (port_at p node.block).load
+      by_groups true batched =
+          ap (λ (kind : BlockKind). load_as run b kind p) (batched_is (block_of run b).kind (is_grouping ∙ batched))
+          ∙ (groups_rest W run b node (as_ports batched)).load (law.group_load batched) p there
+          (ap is_some (law.shape.ports p there).capacity ∙ limited)
+      by_groups false grouped = places_are grouped p limited ∙ sym ((law.load grouped).load p there limited)

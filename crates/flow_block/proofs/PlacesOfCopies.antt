@@ -1,5 +1,5 @@
 -- Each link over which copies go has its end at its place, and each end has a link of its own.
-use Rattle.std.proofs.Common.{◌≡◌, ◌≢◌, ℕ, ◌<◌, ◌==◌, true, false, List, length, get_or, map, refl, ap, sym, ◌∙◌, subst, arith, ne_eqb}
+use Rattle.std.proofs.Common.{◌≡◌, ◌≢◌, ℕ, ◌<◌, ◌==◌, false, List, length, get_or, map, ap, sym, ◌∙◌, subst, arith, ne_eqb}
 use Rattle.std.proofs.Math.ListN.{get_or-map}
 use Rattle.std.proofs.lemmas.List as lists
 use Rattle.flow_link.specs.declared.plan.LinkSource.TheVariants.{Block}

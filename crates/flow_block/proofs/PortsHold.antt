@@ -19,12 +19,11 @@ use Rattle.flow_intake.proofs.CallsKeepOrder.{moves_keep}
 use Rattle.flow_outlet.specs.Fits.{weight_of}
 use Rattle.flow_outlet.specs.Outlet.{head_of, weight_at, gives}
 use Rattle.flow_outlet.proofs.OutletFits.{weight_stays}
-use Rattle.flow_link.proofs.ListTests.{never_both}
-use Rattle.flow_link.specs.Plan.{is_broadcast}
+use Rattle.flow_block.proofs.RoomBack.{back_at, each_after_back, back_fits}
 use Rattle.flow_block.specs.Copies.{copy_place, CopyCall, after_copy, copies_left}
-use Rattle.flow_block.proofs.CopiesIdle.{no_copy_at}
-use Rattle.flow_block.specs.Block.{BlockState, port_in, held_by, made_of, yields, keeps_results, makes_of, takes_group, copies_next}
-use Rattle.flow_block.specs.Node.{NodeState, NodeCall, hand_at, in_link_at, out_link_at, takes_in, gives_from, copies_by, marks_copy}
+use Rattle.flow_block.proofs.CopiesIdle.{copies_at}
+use Rattle.flow_block.specs.Block.{BlockState, port_in, held_by, made_of, yields, keeps_results, makes_of, takes_group, copies_next, is_batched_join}
+use Rattle.flow_block.specs.Node.{NodeState, NodeCall, hand_at, in_link_at, out_link_at, takes_in, gives_from, copies_by, marks_copy, order_in}
 use Rattle.flow_block.specs.NodeLaw.{NodeLaw, ShapeLaw, PortsLaw, LoadLaw, places_out}
 use Rattle.flow_spread.specs.Spread.{puts}
 use Rattle.flow_block.specs.NodeKeeps.{InAt, MayCall, after_call, PortsKept}
@@ -33,9 +32,12 @@ use Rattle.flow_block.specs.Planned.{block_makes}
 use Rattle.flow_block.proofs.CopiesLeave.{took_by_copy_at, left_by_copy}
 use Rattle.flow_block.proofs.GoingOn.{may_complete_tells, may_fault_tells, may_finish_tells}
 use Rattle.flow_block.proofs.JournalTells.{took_same, took_here}
-use Rattle.flow_block.proofs.KindsBuilt.{makes_by}
+use Rattle.flow_block.proofs.KindsBuilt.{makes_by, next_by}
 use Rattle.flow_block.proofs.PortsChange.{each_after_one, each_after_all}
 use Rattle.flow_block.proofs.TestsTell.{every_tells}
+use Rattle.flow_block.proofs.GroupPorts.{each_after_group}
+use Rattle.flow_block.proofs.Joins.{copies_unbatched}
+use Rattle.flow_group.specs.Group.{takes_first}
 
 -- how many messages a port took, when the journal has one more mark
 took_as_many : (q : ℕ) (journal : List Mark) (mark : Mark) → taken_by_mark (λ port link. port == q) mark ≡ []
@@ -66,6 +68,10 @@ made_fits : (capacity : Option ℕ) (load : ℕ) (waiting : List Value) (value :
 made_fits None load waiting value first counts = omega arith
 made_fits (Some c) load [] value first counts = absurd (cc)
 made_fits (Some c) load (message ∷ waiting) value first counts = let fits = counts refl in omega arith
+
+nothing_fits : (limited : Bool) (room : ℕ) → cond limited 0 0 ≤ room
+nothing_fits true room = omega arith
+nothing_fits false room = omega arith
 
 fewer_fits : (limited : Bool) (now room : ℕ) → cond limited 1 0 ≤ room → cond limited (1 - now) 0 ≤ room
 fewer_fits true now room fits = omega (arith, fits)
@@ -143,20 +149,23 @@ module _ {W : Type 0} (layout : Layout W) (meaning : ℕ → Value → Result (L
   make_keeps (Some value) block journal first law =
       yield_keeps (made_of block.kind (block_makes layout meaning b) value) value block journal first law
 
+  -- messages that waited go into a group
+  group_taken : (count n : ℕ) (port : PortState) → PortLaw facts n port → PortLaw facts n (takes_first count port)
+  group_taken count n port old = record {
+    each = old.each;
+    distinct = old.distinct;
+    known = old.known;
+    room = old.room;
+    took = old.took;
+    waits = λ there. let enough = old.waits there in rw (length-drop count port.waiting) (omega (arith, enough));
+  }
+
   -- it makes a row
   row_keeps : (count : ℕ) (block : BlockState) (journal : List Mark) → PortsLaw layout meaning b block journal
       → AreInOrder journal (set block.ports 0 (takes_group count (port_in block.ports 0)))
   row_keeps count block journal law =
       let port = port_in block.ports 0 in
-      one_port block.ports journal 0 (takes_group count port) law
-      (λ old. record {
-        each = old.each;
-        distinct = old.distinct;
-        known = old.known;
-        room = old.room;
-        took = old.took;
-        waits = λ there. let enough = old.waits there in rw (length-drop count port.waiting) (omega (arith, enough));
-      })
+      one_port block.ports journal 0 (takes_group count port) law (group_taken count (taken journal 0) port)
 
   take_keeps : (p k : ℕ) (hand : Option Value) (node : NodeState) → InAt is_hand p k node
       → PortsLaw layout meaning b node.block node.journal
@@ -170,33 +179,57 @@ module _ {W : Type 0} (layout : Layout W) (meaning : ℕ → Value → Result (L
       (λ old. subst (λ (n : ℕ). PortLaw facts n (closes k value port)) (sym (took_one_more p link value node.journal))
       (moves_keep.closed facts (taken node.journal p) port old k value at.place at.stands))
 
-  give_keeps : (k : ℕ) (head : Option Value) (node : NodeState) → head_of node.block.exits ≡ head
-      → NodeLaw layout meaning b node
-      → PortsLaw layout meaning b (gives_from k head node).block (gives_from k head node).journal
-  give_keeps k None node head law = law.ports
-  give_keeps k (Some value) node head law =
+  -- what is wholly given of what was put comes back whole; of a batched join nothing does, but the room of rows
+  room_fits : (node : NodeState) (k : ℕ) → NodeLaw layout meaning b node → (q : ℕ) → q < length node.block.ports
+      → (batched : Bool) → is_batched_join node.block.kind ≡ batched
+      → cond (is_some (port_in node.block.ports q).capacity) (gives k node.block.exits).room 0
+      ≤ (port_in node.block.ports q).load - length (port_in node.block.ports q).waiting
+  room_fits node k law q below false grouped =
       let exits = node.block.exits in
-      let load : LoadLaw layout meaning b node.block node.journal = law.load in
+      let port = port_in node.block.ports q in
+      let load : LoadLaw layout meaning b node.block node.journal = law.load grouped in
       let shape : ShapeLaw layout meaning b node.block = law.shape in
       let capacity = (block_in layout.blocks b).capacity in
       let back = weight_stays exits.next exits.groups in
       let none = load.no_room in
       let count : exits.room + weight_at exits.next exits.groups ≤ weight_of exits.groups = omega (arith, back, none) in
-      let mark = Gave (out_link_at k node) value in
-      each_port node.block.ports node.journal (node.journal ++ mark ∷ []) (gives_room (gives k exits).room) law.ports
-      (λ q. took_as_many q node.journal mark refl)
-      (λ q below old.
-      let port = port_in node.block.ports q in
-      moves_keep.give_room facts (taken node.journal q) port old (gives k exits).room
-      (rw (shape.ports q below).capacity
+      rw (shape.ports q below).capacity
       (given_fits capacity (gives k exits).room port.load (length port.waiting) (places_out node.block)
-      (omega (arith, count)) (load.load q below))))
+      (omega (arith, count)) (load.load q below))
+  room_fits node k law q below true batched =
+      let exits = node.block.exits in
+      let port = port_in node.block.ports q in
+      let load = law.group_load batched in
+      let no_room = load.no_room in
+      let no_weight : weight_at exits.next exits.groups ≡ 0 = ap (weight_at exits.next) load.no_groups in
+      let none : (gives k exits).room ≡ 0 = omega (arith, no_room, no_weight) in
+      rw none (nothing_fits (is_some port.capacity) (port.load - length port.waiting))
+
+  give_keeps : (k : ℕ) (head : Option Value) (node : NodeState) → head_of node.block.exits ≡ head
+      → NodeLaw layout meaning b node
+      → PortsLaw layout meaning b (gives_from k head node).block (gives_from k head node).journal
+  give_keeps k None node head law = law.ports
+  give_keeps k (Some value) node head law =
+      let block = node.block in
+      let later = node.journal ++ Gave (out_link_at k node) value ∷ [] in
+      let back : ℕ → PortState → ℕ = back_at (gives k block.exits) block.copies block.kind (head_of block.exits) in
+      each_after_back (gives k block.exits) block.copies block.kind (head_of block.exits)
+      (λ q port. PortLaw facts (taken later q) port) block.ports
+      (λ q below.
+      let port = port_in block.ports q in
+      let fits =
+      back_fits (gives k block.exits) block.copies block.kind (head_of block.exits) port.capacity q port
+      (room_fits node k law q below (is_batched_join block.kind) refl) in
+      subst (λ (n : ℕ). PortLaw facts n (gives_room (back q port) port))
+      (sym (took_as_many q node.journal (Gave (out_link_at k node) value) refl))
+      (moves_keep.give_room facts (taken node.journal q) port (law.ports q below) (back q port) fits))
 
   -- what it copies goes over a link, and the room that it takes no more comes back
   copy_keeps : (call : CopyCall) (node : NodeState) → copy_place call < length node.block.copies.ends
       → NodeLaw layout meaning b node → PortsLaw layout meaning b (copies_by call node).block (copies_by call node).journal
   copy_keeps call node there law =
-      let load : LoadLaw layout meaning b node.block node.journal = law.load in
+      let load : LoadLaw layout meaning b node.block node.journal =
+      law.load (copies_unbatched node.block.kind (copies_at layout meaning b node law (copy_place call) there)) in
       let shape : ShapeLaw layout meaning b node.block = law.shape in
       let capacity = (block_in layout.blocks b).capacity in
       let copies = node.block.copies in
@@ -275,12 +308,17 @@ module _ {W : Type 0} (layout : Layout W) (meaning : ℕ → Value → Result (L
   call_keeps node (NodeCall.copy call) law may = copy_keeps call node may.place law
   call_keeps node NodeCall.begin law may = law.ports
   call_keeps node NodeCall.make law may =
+      next_by (λ (new : NodeState). PortsLaw layout meaning b new.block new.journal) (block_makes layout meaning b) node
+      (λ batched.
+      each_after_group node.block.size (order_in node) (λ q port. PortLaw facts (taken node.journal q) port) node.block.ports
+      (λ q count below. group_taken count (taken node.journal q) (port_in node.block.ports q) (law.ports q below)))
+      (λ grouped.
       makes_by (λ new. PortsLaw layout meaning b new node.journal) (block_makes layout meaning b) node.block
       (λ batch. row_keeps node.block.size node.block node.journal law.ports)
       (λ join. each_port node.block.ports node.journal node.journal takes_next law.ports (λ q. refl)
       (λ q below old. moves_keep.take_next facts (taken node.journal q) (port_in node.block.ports q) old))
       (λ broadcast. copied_keeps (first_of (held_by node.block)) node.block node.journal refl law.ports)
-      (λ other alone single. make_keeps (first_of (held_by node.block)) node.block node.journal refl law.ports)
+      (λ other alone single. make_keeps (first_of (held_by node.block)) node.block node.journal refl law.ports))
   call_keeps node (NodeCall.complete p) law may =
       let port = port_in node.block.ports p in
       let none = (may_complete_tells p node.block may.completes).none_comes in

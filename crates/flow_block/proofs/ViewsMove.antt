@@ -1,5 +1,5 @@
 -- Each call moves the view of its own end as the laws of one link have it, and no other end's.
-use Rattle.std.proofs.Common.{false, unwrap_or, ◌≡◌, ◌≢◌, ℕ, ◌-◌, ◌<◌, ◌==◌, cond, Bool, true, List, [], ◌∷◌, ◌++◌, length, set, Option, Some, None, is_some, Result, Ok, Err, refl, ap, sym, ◌∙◌, subst, eq-eqb}
+use Rattle.std.proofs.Common.{unwrap_or, ◌≡◌, ◌≢◌, ℕ, ◌-◌, ◌<◌, ◌==◌, cond, Bool, true, List, [], ◌∷◌, ◌++◌, length, set, Option, Some, None, is_some, Result, Ok, Err, refl, ap, sym, ◌∙◌, subst, eq-eqb}
 use Rattle.std.proofs.lemmas.List.{get_or-set_same, get_or-set_other}
 use Rattle.flow_value.specs.declared.value.Value.{Value}
 use Rattle.flow_value.specs.declared.when.When.{When}
@@ -35,17 +35,20 @@ use Rattle.flow_block.proofs.CopiesIdle.{no_copy_at, copies_at}
 use Rattle.flow_block.proofs.CopiesMove.{copies_move_views, puts_move_none}
 use Rattle.flow_block.specs.Block.{BlockState, port_at, with_port, with_jobs, begins, made_of, keeps_results, yields, makes_of, makes, makes_row, takes_group, copies_next, held_by, stops_by}
 use Rattle.flow_block.specs.Jobs.{JobsState, begins as one_more}
-use Rattle.flow_block.specs.Node.{NodeState, NodeCall, with_block, with_exits, marks, hand_at, in_link_at, out_link_at, takes_in, gives_from, view_of_in, view_of_out, in_view, out_view, copy_view}
+use Rattle.flow_block.specs.Node.{NodeState, NodeCall, with_block, with_exits, marks, hand_at, in_link_at, out_link_at, takes_in, gives_from, view_of_in, view_of_out, in_view, out_view, copy_view, order_in, makes_next}
 use Rattle.flow_block.specs.NodeKeeps.{after_call}
 use Rattle.flow_block.specs.NodeLaw.{NodeLaw}
 use Rattle.flow_block.specs.Peeks.{is_pending}
 use Rattle.flow_block.specs.Planned.{block_makes}
 use Rattle.flow_block.specs.ViewsMove.{message_at, IsAboutIn, IsAboutOut, OthersStay, ViewsMove, CallsMoveViews}
 use Rattle.flow_block.proofs.JournalTells.{took_same, gave_same, took_here, gave_here}
-use Rattle.flow_block.proofs.KindsBuilt.{makes_by}
+use Rattle.flow_block.proofs.KindsBuilt.{makes_by, next_by}
 use Rattle.flow_block.proofs.PlacesOfLinks.{links_in_differ, links_out_differ, shares_at}
 use Rattle.flow_block.proofs.PortsChange.{kept_at_one, port_of_map, end_there, end_elsewhere, kept_at_all}
+use Rattle.flow_block.proofs.RoomBack.{port_back}
 use Rattle.flow_block.proofs.TestsTell.{some_is}
+use Rattle.flow_block.proofs.GroupPorts.{kept_by_group}
+use Rattle.flow_block.specs.Groups.{makes_group}
 
 -- one end of a link into a node stands at a place, and all others as they did
 record OneInMoves (node new : NodeState) (p k : ℕ) (end : EndState) : Type 0 where
@@ -178,7 +181,6 @@ module _ {W : Type 0} (layout : Layout W) (meaning : ℕ → Value → Result (L
       let mark = Gave l value in
       let end = given_end node.block.exits.next (end_at node.block.exits k) in
       let one = one_out node k (gives k node.block.exits) end there refl in
-      let room = (gives k node.block.exits).room in
       record {
         moved = record {
           value = value;
@@ -189,7 +191,7 @@ module _ {W : Type 0} (layout : Layout W) (meaning : ℕ → Value → Result (L
         others = record {
           ins = λ q j small near apart.
               ap (λ (port : PortState). view_of_in (node.journal ++ mark ∷ []) (end_in j port.ends))
-              (port_of_map (gives_room room) node.block.ports q small)
+              (port_back (gives k node.block.exits) node.block.copies node.block.kind (head_of node.block.exits) node.block.ports q small)
               ∙ ap (knows_in (end_in j (port_at q node.block).ends))
               (took_same (λ port link. link == in_link_at q j node) node.journal mark refl);
           outs = λ j near other.
@@ -278,8 +280,15 @@ copied_stays (Some value) block none =
       ins = λ p below.
           kept_at_one (λ (port : PortState). port.ends) block.ports 0 p (gives_room room (takes_next (port_at 0 block))) refl;
       outs = refl;
-      copies = λ k there. puts_move_none value (record { block = block; journal = [] }) k there none;
+      copies = λ k there. puts_move_none value (record { block = block; journal = []; grouped = 0 }) k there none;
     }
+
+group_stays : (size weight : ℕ) (order : List ℕ) (block : BlockState) → EndsStay block (makes_group size weight order block)
+group_stays size weight order block = record {
+  ins = λ p below. kept_by_group size order (λ (port : PortState). port.ends) block.ports p (λ count port. refl);
+  outs = refl;
+  copies = λ k there. refl;
+}
 
 making_stays : (result : Value → Result (List Value) ℕ) (block : BlockState)
     → (is_broadcast block.kind ≡ true → none_waits block.copies ≡ true) → EndsStay block (makes result block)
@@ -292,6 +301,15 @@ making_stays result block none =
     })
     (λ broadcast. copied_stays (first_of (held_by block)) block (none broadcast))
     (λ other alone single. first_stays result (first_of (held_by block)) block)
+
+making_moves : (result : Value → Result (List Value) ℕ) (node : NodeState)
+    → (is_broadcast node.block.kind ≡ true → none_waits node.block.copies ≡ true) → NoneMoves node (makes_next result node)
+making_moves result node none =
+    next_by (λ (new : NodeState). NoneMoves node new) result node
+    (λ batched.
+    let stay = group_stays node.block.size 0 (order_in node) node.block in
+    record { ins = stay.ins; outs = stay.outs; copies = stay.copies; taken = λ l. refl; given = λ l. refl })
+    (λ grouped. none_moves node (makes result node.block) (making_stays result node.block none))
 
 jobs_stay : (block : BlockState) (change : JobsState → JobsState) → EndsStay block (with_jobs change block)
 jobs_stay block change = record { ins = λ p below. refl; outs = refl; copies = λ k there. refl }
@@ -439,8 +457,7 @@ calls_move_views W layout meaning b node NodeCall.begin law may =
     record { moved = tt; others = others_stay NodeCall.begin node (after_call layout meaning b NodeCall.begin node) none }
 calls_move_views W layout meaning b node NodeCall.make law may =
     let new = after_call layout meaning b NodeCall.make node in
-    let stay = making_stays (block_makes layout meaning b) node.block (λ broadcast. may_copy_next node.block broadcast may.waits) in
-    let none = none_moves node new.block stay in
+    let none = making_moves (block_makes layout meaning b) node (λ broadcast. may_copy_next node.block broadcast may.waits) in
     record { moved = tt; others = others_stay NodeCall.make node new none }
 calls_move_views W layout meaning b node (NodeCall.complete p) law may =
     let new = after_call layout meaning b (NodeCall.complete p) node in

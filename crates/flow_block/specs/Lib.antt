@@ -6,7 +6,13 @@ pub mod Copies
 pub mod CopiesSeen
 pub mod Fresh
 pub mod FreshGroups
+pub mod GroupsLaw
+pub mod Groups
 pub mod GroupsKeep
+pub mod GroupsLoad
+pub mod GroupsOrdered
+pub mod GroupsPeek
+pub mod GroupsRest
 pub mod GroupsSeen
 pub mod Input
 pub mod InputKeeps

@@ -21,13 +21,13 @@ use Rattle.flow_link.proofs.LooksKeepOrder.{looks_keep}
 use Rattle.flow_intake.specs.Calls.{first_of}
 use Rattle.flow_outlet.specs.Outlet.{lacks_ids}
 use Rattle.flow_group.specs.Tuple.{tuple_of}
-use Rattle.flow_block.specs.Block.{BlockState, held_by, is_batch, is_join, row_of, next_group, put_of, put_next}
+use Rattle.flow_block.specs.Block.{held_by, is_batch, is_join, row_of, next_group, put_of, is_batched_join}
 use Rattle.flow_block.specs.Input.{input_view}
 use Rattle.flow_block.specs.InputKeeps.{InputsKeep}
 use Rattle.flow_block.specs.Jobs.{Slot}
 use Rattle.flow_block.specs.JobsEnd.{JobsEndWell, after_job}
 use Rattle.flow_block.specs.NextMoves.{NextMovesMay}
-use Rattle.flow_block.specs.Node.{NodeState, NodeCall, in_view, source_view}
+use Rattle.flow_block.specs.Node.{NodeState, NodeCall, in_view, source_view, puts_next, next_group_in}
 use Rattle.flow_block.specs.NodeKeeps.{NodesKept, MayCall}
 use Rattle.flow_block.specs.NodeLaw.{NodeLaw}
 use Rattle.flow_block.specs.Peeks.{lacks_next, may_work, may_make, may_end, next_fault}
@@ -35,7 +35,7 @@ use Rattle.flow_block.specs.Planned.{in_place, out_place, block_makes}
 use Rattle.flow_block.specs.ViewsMove.{CallsMoveViews, IsAboutIn, IsAboutOut, IsAboutCopy}
 use Rattle.flow_link.proofs.ListTests.{never_both}
 use Rattle.flow_block.proofs.CopiesIdle.{broadcast_copies}
-use Rattle.flow_block.proofs.Joins.{broadcast_unjoined}
+use Rattle.flow_block.proofs.Joins.{broadcast_unjoined, broadcast_unbatched}
 use Rattle.flow_block.proofs.KindsBuilt.{broadcast_single}
 use Rattle.flow_core.specs.Events.{NetEvent, MayHappen, HasIds, LinkMay, is_of_source, node_after, source_call, in_call}
 use Rattle.flow_core.specs.Events.{input_call, input_after, with_node, with_line, source_peek, target_peek, peek_by}
@@ -55,23 +55,24 @@ use Rattle.flow_core.proofs.PlacesOfLinks.{entry_there, exit_there, copy_there, 
 use Rattle.flow_core.proofs.SourcesByKind.{shared_next, copied_next}
 
 -- there is an id left for what a block makes, over its exits or for its element
-record IdsLeft (result : Value → Result (List Value) ℕ) (block : BlockState) : Type 0 where
-  ids : lacks_ids (put_next result block) block.exits ≡ false
-  copy_id : is_broadcast block.kind ≡ true → block.copies.id + 1 < 2 ^ 59
+record IdsLeft (result : Value → Result (List Value) ℕ) (node : NodeState) : Type 0 where
+  ids : lacks_ids (puts_next result node) node.block.exits ≡ false
+  copy_id : is_broadcast node.block.kind ≡ true → node.block.copies.id + 1 < 2 ^ 59
 
-none_put : (batch join broadcast : Bool) (row tuple other : List Value) → batch ≡ false → join ≡ false → broadcast ≡ true
-    → cond batch row (cond join tuple (cond broadcast [] other)) ≡ []
-none_put batch join broadcast row tuple other single alone copies = rw (single, alone, copies) refl
+none_put : (batched batch join broadcast : Bool) (group row tuple other : List Value) → batched ≡ false → batch ≡ false
+    → join ≡ false → broadcast ≡ true → cond batched group (cond batch row (cond join tuple (cond broadcast [] other))) ≡ []
+none_put batched batch join broadcast group row tuple other plain single alone copies = rw (plain, single, alone, copies) refl
 
 ids_left : {W : Type 0} (layout : Layout W) (meaning : ℕ → Value → Result (List Value) ℕ) (b : ℕ) (node : NodeState)
     → NodeLaw layout meaning b node → (broadcast : Bool) → is_broadcast node.block.kind ≡ broadcast
-    → lacks_next (block_makes layout meaning b) node.block ≡ false → IdsLeft (block_makes layout meaning b) node.block
+    → lacks_next (block_makes layout meaning b) node ≡ false → IdsLeft (block_makes layout meaning b) node
 ids_left layout meaning b node law true copies ids =
     let block = node.block in
     let copier = law.copies.copier (broadcast_copies block.kind copies) in
-    let nothing = none_put (is_batch block.kind) (is_join block.kind) (is_broadcast block.kind) (row_of (next_group block) ∷ [])
-    (tuple_of block.ports ∷ []) (put_of block.kind (block_makes layout meaning b) (first_of (held_by block)))
-    (broadcast_single block.kind copies) (broadcast_unjoined block.kind copies) copies in
+    let nothing = none_put (is_batched_join block.kind) (is_batch block.kind) (is_join block.kind) (is_broadcast block.kind)
+    (next_group_in node ∷ []) (row_of (next_group block) ∷ []) (tuple_of block.ports ∷ [])
+    (put_of block.kind (block_makes layout meaning b) (first_of (held_by block)))
+    (broadcast_unbatched block.kind copies) (broadcast_single block.kind copies) (broadcast_unjoined block.kind copies) copies in
     let left : leb (2 ^ 59) (block.copies.id + 1) ≡ false = rw copies at ids in
     record {
       ids = ap (λ (values : List Value). lacks_ids values block.exits) nothing ∙ ap (lacks_ids []) copier.idle_exits;
@@ -79,7 +80,7 @@ ids_left layout meaning b node law true copies ids =
     }
 ids_left layout meaning b node law false shares ids =
     let block = node.block in
-    let lacks : Bool = lacks_ids (put_next (block_makes layout meaning b) block) block.exits in
+    let lacks : Bool = lacks_ids (puts_next (block_makes layout meaning b) node) block.exits in
     record {
       ids = sym (ap (λ (copies : Bool). cond copies (leb (2 ^ 59) (block.copies.id + 1)) lacks) shares) ∙ ids;
       copy_id = λ broadcast. absurd (never_both (is_broadcast block.kind) broadcast shares);

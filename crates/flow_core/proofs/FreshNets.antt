@@ -1,7 +1,7 @@
 -- A network in which nothing has happened is in order.
-use Rattle.std.proofs.Common.{◌≡◌, ℕ, zero, suc, ◌<◌, leb, cond, Bool, true, false, ◌&&◌, unwrap_or, Option, Some, is_some, List, [], ◌∷◌, length, get_or, map, None, refl, ap, sym, subst, ◌∙◌, arith}
+use Rattle.std.proofs.Common.{◌≡◌, ℕ, zero, suc, ◌<◌, leb, cond, Bool, true, false, ◌&&◌, ◌||◌, unwrap_or, Option, Some, is_some, List, [], ◌∷◌, length, get_or, map, None, refl, ap, sym, subst, ◌∙◌, arith}
 use Rattle.std.proofs.lemmas.List.{get_or-map, get_or-replicate, length-map, length-replicate}
-use Rattle.std.proofs.lemmas.Bool.{and_parts, leb-true}
+use Rattle.std.proofs.lemmas.Bool.{and_parts, leb-true, or_left, or_right}
 use Rattle.flow_value.specs.declared.value.Value.{Value}
 use Rattle.flow_link.specs.declared.draft.BlockDef.{BlockDef}
 use Rattle.flow_link.specs.declared.draft.BlockKind.{BlockKind}
@@ -25,14 +25,13 @@ use Rattle.flow_outlet.specs.End.{fresh_end, no_end}
 use Rattle.flow_spread.specs.declared.end.CopyEnd.{CopyEnd}
 use Rattle.flow_spread.specs.End.{fresh_end as fresh_copy, no_end as no_copy}
 use Rattle.flow_block.specs.Copies.{shared_rules, copied_rules}
-use Rattle.flow_block.specs.Block.{is_batch}
+use Rattle.flow_block.specs.Block.{is_batch, is_batched_join}
 use Rattle.flow_block.specs.Fresh.{FreshInOrder}
 use Rattle.flow_block.specs.Input.{fresh_input, no_input, input_view}
 use Rattle.flow_block.specs.InputKeeps.{InputLaw, InputsKeep}
 use Rattle.flow_block.specs.Node.{in_view, out_view, copy_view, source_view, view_of_in, view_of_out}
 use Rattle.flow_block.specs.NodeLaw.{NodeLaw}
 use Rattle.flow_block.specs.Planned.{fresh_node, port_of_plan, links_from, links_to, rule_of, in_place, out_place, input_place}
-use Rattle.flow_block.proofs.KindsBuilt.{built_kept}
 use Rattle.flow_core.specs.Keeps.{LineKeeps}
 use Rattle.flow_core.specs.State.{NetState, fresh_net, fresh_line, source_from, target_from, no_node}
 use Rattle.flow_core.specs.Statements.{FreshKeeps}
@@ -59,13 +58,16 @@ some_between : (size : Option ℕ) → is_some size ≡ true → is_in 1 4096 si
 some_between None there e = absurd (cc)
 some_between (Some n) there e = let low = leb-true 1 n (and_parts (leb 1 n) (leb n 4096) e).0 in omega (arith, low)
 
-size_required : (kind : BlockKind) (there : Bool) → is_batch kind ≡ true → allows (size_rule kind) there ≡ true → there ≡ true
+size_required : (kind : BlockKind) (there : Bool) → is_batch kind || is_batched_join kind ≡ true
+    → allows (size_rule kind) there ≡ true → there ≡ true
 size_required Batch true batch e = refl
 size_required Batch false batch e = absurd (cc)
+size_required BatchedJoin true batch e = refl
+size_required BatchedJoin false batch e = absurd (cc)
 size_required _ there batch e = absurd (cc)
 
-some_size : {W : Type 0} (block : BlockDef W) → options_fit block ≡ true → is_batch block.kind ≡ true
-    → 0 < unwrap_or block.size 0
+some_size : {W : Type 0} (block : BlockDef W) → options_fit block ≡ true
+    → is_batch block.kind || is_batched_join block.kind ≡ true → 0 < unwrap_or block.size 0
 some_size block fit batch =
     let both = and_parts (is_name block.name && keys_fit block) (ranges_fit block) fit in
     let keys = (and_parts (is_name block.name) (keys_fit block) both.0).1 in
@@ -180,10 +182,13 @@ fresh_keeps blocks inputs layout meaning runs posted count = record {
   nodes = λ b here.
       subst (NodeLaw layout meaning b)
       (sym (mapped_at (fresh_node layout) (length layout.blocks) b no_node here))
-      (blocks layout meaning b (built_kept (block_in layout.blocks b).kind (runs.built b here))
+      (blocks layout meaning b (runs.kept b here)
       (some_port (block_in layout.blocks b) (runs.well_formed.options b here)) (runs.freely b here)
       (some_lane (block_in layout.blocks b) (runs.well_formed.options b here))
-      (some_size (block_in layout.blocks b) (runs.well_formed.options b here)));
+      (λ batch. some_size (block_in layout.blocks b) (runs.well_formed.options b here)
+      (or_left (is_batch (block_in layout.blocks b).kind) (is_batched_join (block_in layout.blocks b).kind) batch))
+      (λ batched. some_size (block_in layout.blocks b) (runs.well_formed.options b here)
+      (or_right (is_batch (block_in layout.blocks b).kind) (is_batched_join (block_in layout.blocks b).kind) batched)));
   inputs = λ b here is.
       holds_mapped InputLaw fresh_input posted (input_place layout b) no_input
       (inputs.fresh nothing_posted) inputs.fresh;

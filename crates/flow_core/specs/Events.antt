@@ -205,7 +205,7 @@ module _ {W : Type 0} (layout : Layout W) (meaning : ℕ → Value → Result (L
   -- there is an id for each message that comes out: a block's outputs, and what an input offers
   abbrev pub HasIds : NetEvent → NetState → Type 0
   HasIds (NetEvent.at_link l (move.Offer id)) net = id < 2 ^ 59
-  HasIds (NetEvent.make b) net = lacks_next (block_makes layout meaning b) (node_at net b).block ≡ false
+  HasIds (NetEvent.make b) net = lacks_next (block_makes layout meaning b) (node_at net b) ≡ false
   HasIds (NetEvent.end_job b ticket) net =
       lacks_ids (put_at_end (block_makes layout meaning b) ticket (node_at net b).block) (node_at net b).block.exits ≡ false
   HasIds _ net = Unit {0}

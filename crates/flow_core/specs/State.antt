@@ -38,6 +38,7 @@ abbrev pub no_node : NodeState
 no_node = record {
   block = fresh_block Buffer 1 0 [] [];
   journal = [];
+  grouped = 0;
 }
 
 abbrev pub node_at : NetState → ℕ → NodeState

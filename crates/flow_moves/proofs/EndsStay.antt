@@ -9,7 +9,6 @@ use Rattle.flow_link.specs.declared.plan.LinkSource.TheVariants.{Block, Input}
 use Rattle.flow_link.specs.declared.plan.LinkTarget.{LinkTarget}
 use Rattle.flow_link.specs.declared.plan.LinkTarget.TheVariants.{Port, Exit}
 use Rattle.flow_intake.specs.Port.{PortState}
-use Rattle.flow_intake.specs.Calls.{gives_room}
 use Rattle.flow_outlet.specs.Outlet.{head_of, gives}
 use Rattle.flow_link.specs.Plan.{is_one_taker}
 use Rattle.flow_block.specs.Copies.{CopyCall, copies_left, after_copy}
@@ -17,6 +16,7 @@ use Rattle.flow_block.specs.Node.{NodeState, hand_at, gives_from, takes_in, copi
 use Rattle.flow_block.specs.NodeKeeps.{InAt, any_stage}
 use Rattle.flow_block.proofs.PortsChange.{port_of_map}
 use Rattle.flow_core.specs.Events.{out_call, copy_call, source_call, in_call, is_of_source, slot_after, with_line}
+use Rattle.flow_block.proofs.RoomBack.{length_back, port_back}
 use Rattle.flow_core.specs.State.{NetState, LineState, node_at, no_node}
 use Rattle.flow_core.proofs.PlacesTell.{element_set}
 use Rattle.flow_moves.specs.Calls.{called, handed, left_in_slot, slot_after_source}
@@ -28,11 +28,14 @@ gives_stay : (k : ℕ) (head : Option Value) (node : NodeState) (p j : ℕ) → 
     → InAt any_stage p j (gives_from k head node)
 gives_stay k None node p j there = there
 gives_stay k (Some value) node p j there =
-    let change = gives_room (gives k node.block.exits).room in
+    let block = node.block in
+    let given = gives k block.exits in
+    let head = head_of block.exits in
     record {
-      port = subst (λ (count : ℕ). p < count) (sym (length-map node.block.ports change)) there.port;
+      port = subst (λ (count : ℕ). p < count) (sym (length_back given block.copies block.kind head block.ports)) there.port;
       place =
-          subst (λ (port : PortState). j < length port.ends) (sym (port_of_map change node.block.ports p there.port)) there.place;
+          subst (λ (port : PortState). j < length port.ends)
+          (sym (port_back given block.copies block.kind head block.ports p there.port)) there.place;
       stands = refl;
     }
 
