@@ -3,8 +3,6 @@ use Rattle.std.proofs.Common.{◌≡◌, ℕ, ◌<◌, ◌==◌, Bool, true, fal
 use Rattle.std.proofs.lemmas.Bool.{and_parts}
 use Rattle.std.proofs.lemmas.List.{get_or-set_same}
 use Rattle.flow_value.specs.declared.value.Value.{Value}
-use Rattle.flow_link.specs.declared.draft.BlockKind.{BlockKind}
-use Rattle.flow_link.specs.declared.draft.BlockKind.TheVariants.{Broadcast}
 use Rattle.flow_link.specs.declared.phase.LinkEnd.{LinkEnd}
 use Rattle.flow_link.specs.declared.stage.TargetStage.{TargetStage}
 use Rattle.flow_link.specs.declared.stage.TargetStage.TheVariants as target
@@ -18,7 +16,7 @@ use Rattle.flow_intake.specs.Calls.{first_of, is_offered, is_posted, is_postpone
 use Rattle.flow_intake.specs.Ended.{fault_seen, fault_at_ends}
 use Rattle.flow_outlet.proofs.OffersInOrder.{offers_in_order}
 use Rattle.flow_spread.specs.Spread.{is_spread_free}
-use Rattle.flow_block.specs.Block.{BlockState, port_at, port_in, held_by, is_batch, is_join}
+use Rattle.flow_block.specs.Block.{BlockState, port_at, port_in, held_by, is_batch, is_join, has_ports}
 use Rattle.flow_block.specs.Copier.{Copier}
 use Rattle.flow_block.specs.Copies.{may_put, none_waits}
 use Rattle.flow_block.specs.Jobs.{begins}
@@ -30,24 +28,32 @@ use Rattle.flow_block.proofs.CopierHolds.{no_exit_at, ports_change, port_changes
 use Rattle.flow_block.proofs.FaultsSeen.{StaysSeen, stays_at_ends, stays_at_ports, seen_by_looks, unseen_where}
 use Rattle.flow_block.proofs.GoingOn.{may_work_tells, may_fault_tells, may_finish_tells}
 use Rattle.flow_block.proofs.JournalTells.{gave_same, took_here}
-use Rattle.flow_block.proofs.Joins.{broadcast_unjoined}
-use Rattle.flow_block.proofs.KindsBuilt.{makes_by}
-
-no_batch : (kind : BlockKind) → is_broadcast kind ≡ true → is_batch kind ≡ false
-no_batch Broadcast e = refl
-no_batch _ e = absurd (cc)
+use Rattle.flow_block.proofs.Joins.{broadcast_unjoined, batched_is, broadcast_at_one, broadcast_unbatched}
+use Rattle.flow_block.proofs.KindsBuilt.{broadcast_single, makes_by, next_by}
 
 free_to_copy : (group some free : Bool) → cond false group (some && (not true || free)) ≡ true → free ≡ true
 free_to_copy group true free e = e
 free_to_copy group false free e = absurd (cc)
 
 -- what goes on to make its next outputs may copy
-may_copy_tells : (block : BlockState) → is_broadcast block.kind ≡ true → may_work block ≡ true → is_spread_free block.copies ≡ true
-may_copy_tells block broadcast may =
+may_put_tells : (block : BlockState) → is_broadcast block.kind ≡ true → may_work block ≡ true → may_put block.copies ≡ true
+may_put_tells block broadcast may =
     let goes = and_parts (is_none block.stopped && is_none block.fault) (has_next block) may in
-    let next = rw (no_batch block.kind broadcast, broadcast_unjoined block.kind broadcast, broadcast) at goes.1 in
-    (and_parts (is_spread_free block.copies) (none_waits block.copies)
-    (free_to_copy (has_group block) _ (may_put block.copies) next)).0
+    let next = rw (
+      broadcast_single block.kind broadcast,
+      broadcast_unjoined block.kind broadcast,
+      broadcast_unbatched block.kind broadcast,
+      broadcast,
+    ) at goes.1 in
+    free_to_copy (has_group block) _ (may_put block.copies) next
+
+pub may_copy_tells : (block : BlockState) → is_broadcast block.kind ≡ true → may_work block ≡ true → is_spread_free block.copies ≡ true
+may_copy_tells block broadcast may =
+    (and_parts (is_spread_free block.copies) (none_waits block.copies) (may_put_tells block broadcast may)).0
+
+pub may_copy_next : (block : BlockState) → is_broadcast block.kind ≡ true → may_work block ≡ true → none_waits block.copies ≡ true
+may_copy_next block broadcast may =
+    (and_parts (is_spread_free block.copies) (none_waits block.copies) (may_put_tells block broadcast may)).1
 
 module _ {W : Type 0} (layout : Layout W) (meaning : ℕ → Value → Result (List Value) ℕ) (b : ℕ) (node : NodeState)
     (law : Copier layout b node.block node.journal) where
@@ -118,15 +124,19 @@ module _ {W : Type 0} (layout : Layout W) (meaning : ℕ → Value → Result (L
   call_keeps (NodeCall.look_in p k phase) may alone copying =
       end_moves p k (port_looks k phase (port_at p block)) _ refl refl (seen_by_looks (port_stage k (port_at p block)) phase)
   call_keeps (NodeCall.look_out k phase) may alone copying = none_out k may.place
-  call_keeps (NodeCall.copy call) may alone copying = copy_keeps layout b block node.journal law call may
+  call_keeps (NodeCall.copy call) may alone copying = copy_keeps layout b block node.journal law node.grouped call may
   call_keeps NodeCall.begin may alone copying = jobs_change layout b block node.journal law (begins block.jobs)
   call_keeps NodeCall.make may alone copying =
+      next_by (λ (new : NodeState). Copier layout b new.block new.journal) (block_makes layout meaning b) node
+      (λ batched. never_both (has_ports block.kind) (ap has_ports (batched_is block.kind batched))
+      (broadcast_at_one block.kind copying))
+      (λ grouped.
       makes_by (λ new. Copier layout b new node.journal) (block_makes layout meaning b) block
-      (λ batch. never_both (is_batch block.kind) batch (no_batch block.kind copying))
+      (λ batch. never_both (is_batch block.kind) batch (broadcast_single block.kind copying))
       (λ join. never_both (is_join block.kind) join (broadcast_unjoined block.kind copying))
       (λ broadcast. put_keeps layout b block node.journal law (first_of (held_by block)) refl alone
       (may_work_tells block may.waits).going (may_copy_tells block copying may.waits) (may.copy_id copying))
-      (λ other alone single. never_both (is_broadcast block.kind) copying single)
+      (λ other alone single. never_both (is_broadcast block.kind) copying single))
   call_keeps (NodeCall.complete p) may alone copying =
       complete_keeps layout b block node.journal law p (Complete p) refl (λ test. refl)
   call_keeps (NodeCall.fault number) may alone copying =

@@ -10,17 +10,17 @@ use Rattle.flow_link.proofs.ListTests.{never_both}
 use Rattle.flow_intake.specs.Calls.{first_of}
 use Rattle.flow_outlet.specs.Outlet.{head_of}
 use Rattle.flow_spread.specs.Spread.{fresh_spread}
-use Rattle.flow_block.specs.Block.{BlockState, held_by, made_of, keeps_results, yields, makes_of}
+use Rattle.flow_block.specs.Block.{BlockState, held_by, made_of, keeps_results, yields, makes_of, copies_next}
 use Rattle.flow_block.specs.Copies.{copy_place}
 use Rattle.flow_block.specs.Node.{NodeState, NodeCall, hand_at, takes_in, gives_from}
 use Rattle.flow_block.specs.NodeKeeps.{MayCall, after_call, CopiesKept}
 use Rattle.flow_block.specs.NodeLaw.{NodeLaw, CopiesLaw}
 use Rattle.flow_block.specs.Planned.{block_makes}
-use Rattle.flow_block.proofs.CopiesIdle.{no_copy_at, none_broadcast}
+use Rattle.flow_block.proofs.CopiesIdle.{no_copy_at, never_broadcast}
 use Rattle.flow_block.proofs.CopierKept.{call_keeps as copier_kept}
-use Rattle.flow_block.proofs.KindsBuilt.{has_one_port, makes_by}
+use Rattle.flow_block.proofs.KindsBuilt.{has_one_port, makes_by, next_by}
 use Rattle.flow_block.proofs.ShapeHolds.{shape_kept}
-use Rattle.flow_block.proofs.Joins.{copies_unjoined}
+use Rattle.flow_block.proofs.Joins.{copies_at_one}
 
 -- what shares its messages out copies none, whatever it makes
 record SameCopies (before after : BlockState) : Type 0 where
@@ -56,17 +56,26 @@ module _ {W : Type 0} (layout : Layout W) (meaning : ℕ → Value → Result (L
   give_keeps k None node law = law
   give_keeps k (Some value) node law = law
 
+  copied_keeps : (first : Option Value) (node : NodeState) → is_broadcast node.block.kind ≡ true → IsIdle (copies_next first node.block)
+  copied_keeps None node broadcast shares = never_both (is_broadcast node.block.kind) broadcast (never_broadcast node.block.kind shares)
+  copied_keeps (Some value) node broadcast shares =
+      never_both (is_broadcast node.block.kind) broadcast (never_broadcast node.block.kind shares)
+
   idle_keeps : (node : NodeState) (call : NodeCall) → NodeLaw layout meaning b node → MayCall layout meaning b call node
       → IsIdle (after_call layout meaning b call node).block
   idle_keeps node (NodeCall.close p k) law may = take_keeps p k (hand_at p k node) node law.copies.idle
   idle_keeps node (NodeCall.give k) law may = give_keeps k (head_of node.block.exits) node law.copies.idle
-  idle_keeps node (NodeCall.copy call) law may = absurd (no_copy_at layout meaning b node law (copy_place call) may.place)
+  idle_keeps node (NodeCall.copy call) law may = λ shares. absurd (no_copy_at layout meaning b node law shares (copy_place call) may.place)
   idle_keeps node NodeCall.make law may =
+      next_by (λ (new : NodeState). IsIdle new.block) (block_makes layout meaning b) node
+      (λ batched. law.copies.idle)
+      (λ grouped.
       makes_by IsIdle (block_makes layout meaning b) node.block
       (λ batch. law.copies.idle)
       (λ join. law.copies.idle)
-      (λ broadcast. never_both (is_broadcast node.block.kind) broadcast (none_broadcast node.block.kind law.shape.built))
-      (λ other alone single. stays node.block _ (next_same (block_makes layout meaning b) (first_of (held_by node.block)) node.block) law.copies.idle)
+      (λ broadcast. copied_keeps (first_of (held_by node.block)) node broadcast)
+      (λ other alone single. stays node.block _
+      (next_same (block_makes layout meaning b) (first_of (held_by node.block)) node.block) law.copies.idle))
   idle_keeps node call law may = law.copies.idle
 
   -- its kind stays
@@ -90,7 +99,7 @@ module _ {W : Type 0} (layout : Layout W) (meaning : ℕ → Value → Result (L
     copier = λ copying.
         let copied = kind_stays node call law may copying in
         copier_kept layout meaning b node (law.copies.copier copied) call may
-        (has_one_port layout meaning b node.block law.shape (copies_unjoined node.block.kind copied))
+        (has_one_port layout meaning b node.block law.shape (copies_at_one node.block.kind copied))
         (copies_over node.block.kind law.shape.built copied);
   }
 

@@ -26,7 +26,7 @@ use Rattle.flow_block.specs.NodeRests.{rests_out, rests_in}
 
 -- Ends out
 
-rests_away : (stage : SourceStage) → rests_out stage ≡ true → is_away stage ≡ is_waiting stage
+pub rests_away : (stage : SourceStage) → rests_out stage ≡ true → is_away stage ≡ is_waiting stage
 rests_away source.Free e = refl
 rests_away (source.Waiting i) e = refl
 rests_away source.Refused e = refl

@@ -1,5 +1,5 @@
 -- Each call keeps what a node says of how it ends.
-use Rattle.std.proofs.Common.{◌≡◌, ℕ, ◌<◌, leb, ltb, ◌==◌, ◌⊎◌, cond, not, ◌&&◌, ◌||◌, Bool, true, false, List, [], ◌∷◌, ◌++◌, length, set, map, Option, Some, None, is_some, Result, Ok, Err, refl, ap, sym, ◌∙◌, inl, inr, ⊎_elim, arith, eq-eqb, eqb-true, subst, suc, ap₂}
+use Rattle.std.proofs.Common.{◌≡◌, ℕ, ◌<◌, leb, ltb, ◌==◌, ◌⊎◌, cond, not, ◌&&◌, ◌||◌, Bool, true, false, List, [], ◌∷◌, ◌++◌, length, set, map, Option, Some, None, is_some, Result, Ok, Err, refl, ap, sym, ◌∙◌, inl, inr, ⊎_elim, arith, eq-eqb, eqb-true, subst, suc, ap₂, ◌-◌}
 use Rattle.std.proofs.lemmas.Bool.{or_cases, ne_eqb, and_from, or_left, or_right, leb-false, lt-ltb, and_parts}
 use Rattle.std.proofs.lemmas.List.{length-map, length-set}
 use Rattle.flow_value.specs.declared.value.Value.{Value}
@@ -22,27 +22,33 @@ use Rattle.flow_intake.specs.PortLaw.{has_ended as has_port_ended}
 use Rattle.flow_intake.specs.Calls.{message_of, is_offered, is_posted, is_postponed, is_arrived, may_be_refused, first_of, refused_by, wants, turns_down, postpones, refuses, consumes, opens, closes, looks as port_looks, takes_next, gives_room, port_closes, port_fails}
 use Rattle.flow_intake.proofs.CountsOfEnds.{hand_comes}
 use Rattle.flow_outlet.specs.Outlet.{OutletState, is_empty, head_of, gives, prepares, offers, denies, withdraws, ends_link, looks as exit_looks, is_at_rest, end_at, stage_at}
-use Rattle.flow_link.proofs.ListTests.{never_both}
-use Rattle.flow_link.specs.Plan.{is_broadcast}
-use Rattle.flow_block.specs.Copies.{copy_place}
-use Rattle.flow_block.proofs.CopiesIdle.{no_copy_at, none_broadcast}
-use Rattle.flow_block.specs.Block.{BlockState, port_in, port_at, with_port, with_jobs, held_by, made_of, fails, puts_out, yields, keeps_results, makes_of, is_batch, takes_group, makes_row, gives_out, stops_by, is_join, makes_tuple}
+use Rattle.flow_block.specs.Copies.{CopyCall, after_copy, copies_left}
+use Rattle.flow_block.proofs.CopiesIdle.{copies_at}
+use Rattle.flow_block.specs.Block.{BlockState, port_in, port_at, with_port, with_jobs, held_by, made_of, fails, puts_out, yields, keeps_results, makes_of, is_batch, takes_group, makes_row, gives_out, stops_by, is_join, makes_tuple, copies_next, with_copies, is_batched_join}
 use Rattle.flow_block.specs.Jobs.{JobsState, begins, works_off}
-use Rattle.flow_block.specs.Node.{NodeState, NodeCall, takes_in, gives_from, in_link_at, out_link_at}
-use Rattle.flow_block.specs.NodeKeeps.{EndsKept, MayCall, InAt, MayGive, MayCompletePort, after_call}
+use Rattle.flow_block.specs.Node.{NodeState, NodeCall, takes_in, gives_from, in_link_at, out_link_at, copies_by, order_in}
+use Rattle.flow_block.specs.NodeKeeps.{EndsKept, MayCall, InAt, MayGive, MayCompletePort, after_call, MayCopy}
 use Rattle.flow_block.specs.NodeLaw.{NodeLaw, ShapeLaw, EndsLaw, has_made_all, is_fault_seen, stops_at, outcome_in, have_completed}
-use Rattle.flow_block.specs.Peeks.{fault_at_ports, holds_nothing, has_group, is_worked_off, next_fault, may_finish, all_ended}
+use Rattle.flow_block.specs.Peeks.{fault_at_ports, holds_nothing, has_group, is_worked_off, next_fault, may_finish, all_ended, has_group_of_ports}
+use Rattle.flow_spread.specs.Spread.{SpreadState, link_at, puts}
+use Rattle.flow_block.proofs.CopierHolds.{copy_goes_on}
+use Rattle.flow_block.proofs.CopiesLeave.{marks_by_copy, held_by_copy}
 use Rattle.flow_block.specs.Planned.{block_makes}
 use Rattle.flow_block.proofs.FaultsSeen.{sees_at, seen_at_ports, cause_tells}
 use Rattle.flow_block.proofs.GoingOn.{open_goes_on, away_goes_on, rest_stays, wanted_away, wish_away, waiting_away, look_stays_home, may_work_tells, may_complete_tells, may_fault_tells, may_finish_tells}
 use Rattle.flow_block.proofs.JournalTells.{goes_on, not_faulted_so, outcome_more, ended_no_more, complete_where, ended_by_complete, ended_by_fault, ended_by_done}
 use Rattle.flow_group.specs.Tuple.{has_run_dry, has_tuple, is_join_complete, all_ended as ports_ended}
 use Rattle.std.specs.List.{list_any}
-use Rattle.flow_block.proofs.KindsBuilt.{makes_by}
+use Rattle.flow_block.proofs.KindsBuilt.{makes_by, next_by}
 use Rattle.flow_block.proofs.PortEnds.{PortEnds, StageGoes, end_moves, port_closed, port_failed, unseen_goes, refuses_so, look_goes}
 use Rattle.flow_block.proofs.PortsChange.{kept_at_one, kept_at_all, each_after_one, each_after_all}
+use Rattle.flow_block.proofs.RoomBack.{back_at, each_after_back}
 use Rattle.flow_block.proofs.TestsTell.{every_tells, some_last, some_set, every_set, some_map, every_map, none_left}
 use Rattle.flow_block.proofs.Joins.{tuple_at_one, tuple_at_all}
+use Rattle.flow_block.proofs.GroupPorts.{each_after_group, waiting_at_one, waiting_at_all}
+use Rattle.flow_block.proofs.GroupsTold.{group_told}
+use Rattle.flow_block.specs.Groups.{makes_group, has_group_at, waiting_in_all}
+use Rattle.flow_block.specs.GroupsLaw.{are_complete}
 use Rattle.flow_link.proofs.RoundsOfWalks.{some_here_below}
 
 -- The block
@@ -60,8 +66,20 @@ record BlockEnds (kind : BlockKind) (made_all : Bool) (ports : List PortState) (
 
 made_all_same : (block after : BlockState) (journal later : List Mark) → after.kind ≡ block.kind → after.size ≡ block.size
     → held_by after ≡ held_by block → holds_nothing after.ports ≡ holds_nothing block.ports
-    → has_tuple after.ports ≡ has_tuple block.ports → has_complete 0 later ≡ has_complete 0 journal → has_made_all after later ≡ has_made_all block journal
-made_all_same block after journal later kind size held holds tuple complete = rw (kind, size, held, holds, tuple, complete) refl
+    → has_tuple after.ports ≡ has_tuple block.ports
+    → has_group_at block.size (are_complete (length after.ports) later) after.ports
+    ≡ has_group_at block.size (are_complete (length block.ports) journal) block.ports
+    → has_complete 0 later ≡ has_complete 0 journal → has_made_all after later ≡ has_made_all block journal
+made_all_same block after journal later kind size held holds tuple group complete =
+    rw (kind, size, held, holds, tuple, group, complete) refl
+
+-- as many wait, and the same ports have completed
+group_as : (size : ℕ) (journal : List Mark) (ports after : List PortState) → length after ≡ length ports
+    → waiting_in_all after ≡ waiting_in_all ports
+    → has_group_at size (are_complete (length after) journal) after
+    ≡ has_group_at size (are_complete (length ports) journal) ports
+group_as size journal ports after count waits =
+    ap₂ (λ (many : ℕ) (ended : Bool). ltb 0 many && (leb size many || ended)) waits (ap (λ (n : ℕ). are_complete n journal) count)
 
 -- of a complete join one port has ended
 record HasEnded (ports : List PortState) : Type 0 where
@@ -171,6 +189,25 @@ port_moves kind made_all ports exits fault stopped journal p port law waiting se
       faulted_by = law.faulted_by;
     }
 
+-- all ports change, and hold what they held
+ports_move : (kind : BlockKind) (made_all : Bool) (ports : List PortState) (exits : OutletState) (fault : Option ℕ) (stopped : Option Outcome)
+    (journal : List Mark) (change : PortState → PortState) → ((port : PortState) → (change port).waiting ≡ port.waiting)
+    → ((number : ℕ) (port : PortState) → sees_at number (change port) ≡ sees_at number port)
+    → BlockEnds kind made_all ports exits fault stopped journal → BlockEnds kind made_all (map change ports) exits fault stopped journal
+ports_move kind made_all ports exits fault stopped journal change waits seen law =
+    let holds = every_map (λ (q : PortState). is_empty q.waiting) change ports (λ q. ap is_empty (waits q)) in
+    record {
+      stopped_is = law.stopped_is;
+      at_rest = law.at_rest;
+      done_empty = λ is. let empty = law.done_empty is in (holds ∙ empty.0, empty.1);
+      done_complete = λ is. rw (length-map ports change) (law.done_complete is);
+      fault_cause = λ number is.
+          ⊎_elim (λ own. inl own)
+          (λ there. inr (some_map (λ (q : PortState). sees_at number q) change ports (seen number) ∙ there))
+          (law.fault_cause number is);
+      faulted_by = law.faulted_by;
+    }
+
 module _ {W : Type 0} (layout : Layout W) (meaning : ℕ → Value → Result (List Value) ℕ) (b : ℕ) where
   abbrev Ends : BlockState → List Mark → Type 0
   Ends block journal = EndsLaw layout meaning b block journal
@@ -232,7 +269,10 @@ module _ {W : Type 0} (layout : Layout W) (meaning : ℕ → Value → Result (L
       let holds = every_set (λ (q : PortState). is_empty q.waiting) block.ports p port (fresh_port None) (ap is_empty waiting) in
       let held = kept_at_one (λ (q : PortState). q.waiting) block.ports p 0 port waiting in
       let tuple = tuple_at_one block.ports p port waiting in
-      let made = made_all_same block (record block { ports = set block.ports p port }) journal journal refl refl held holds tuple refl in
+      let group = group_as block.size journal block.ports (set block.ports p port) (length-set block.ports p port)
+      (waiting_at_one block.ports p port waiting) in
+      let made = made_all_same block (record block { ports = set block.ports p port }) journal journal refl refl held holds tuple
+      group refl in
       both (record block { ports = set block.ports p port }) journal
       (each_after_one (PortEndsBy block.fault journal) block.ports p port
       (λ there. rw (refusing, ends)
@@ -314,12 +354,14 @@ module _ {W : Type 0} (layout : Layout W) (meaning : ℕ → Value → Result (L
       let none = away_goes_on layout meaning b block node.journal law.ends k away in
       let mark = Gave (out_link_at k node) value in
       let nothing : EndsNothing mark = record { complete = λ q. refl; fault = refl; done = refl; goes_on = refl } in
-      let change = gives_room (gives k block.exits).room in
       both (gives_out k block) (node.journal ++ mark ∷ [])
-      (each_after_all (PortEndsBy block.fault (node.journal ++ mark ∷ [])) change block.ports
-      (λ q there. port_marked block.fault node.journal mark nothing q (change (port_in block.ports q))
+      (each_after_back (gives k block.exits) block.copies block.kind (head_of block.exits) (PortEndsBy block.fault (node.journal ++ mark ∷ [])) block.ports
+      (λ q there.
+      let port = port_in block.ports q in
+      port_marked block.fault node.journal mark nothing q
+      (gives_room (back_at (gives k block.exits) block.copies block.kind (head_of block.exits) q port) port)
       (each_port block node.journal law.ends q there)))
-      (going_ends block.kind _ (map change block.ports) (gives_out k block).exits block.fault block.stopped
+      (going_ends block.kind _ (gives_out k block).ports (gives_out k block).exits block.fault block.stopped
       (node.journal ++ mark ∷ []) none
       (going_marked node.journal mark nothing (sym law.ends.stopped_is ∙ none)))
 
@@ -337,6 +379,54 @@ module _ {W : Type 0} (layout : Layout W) (meaning : ℕ → Value → Result (L
       (going_ends block.kind _ (set block.ports 0 (change (port_at 0 block))) exits block.fault block.stopped journal none
       (sym law.stopped_is ∙ none))
 
+  -- what it copies is another message
+  copies_change : (block : BlockState) (journal : List Mark) → Ends block journal → (copies : SpreadState)
+      → Ends (record block { copies = copies }) journal
+  copies_change block journal law copies = both (record block { copies = copies }) journal (each_port block journal law) (whole block journal law)
+
+  copied_next : (first : Option Value) (block : BlockState) (journal : List Mark) → Ends block journal → block.stopped ≡ None
+      → Ends (copies_next first block) journal
+  copied_next None block journal law none = law
+  copied_next (Some value) block journal law none =
+      let change : PortState → PortState = λ port. gives_room (1 - copies_left (puts value block.copies)) (takes_next port) in
+      copies_change (with_port 0 change block) journal
+      (works_on block journal law change block.exits block.jobs block.recorded refl refl none) (puts value block.copies)
+
+  -- what it copies goes over a link
+  copied_out : (node : NodeState) → NodeLaw layout meaning b node → (call : CopyCall) → MayCopy call node
+      → Ends (copies_by call node).block (copies_by call node).journal
+  copied_out node law call may =
+      let block = node.block in
+      let copies = after_copy call block.copies in
+      let new = with_copies copies block in
+      let change = gives_room (copies_left block.copies - copies_left copies) in
+      let ports = map change block.ports in
+      let holds = every_map (λ (q : PortState). is_empty q.waiting) change block.ports (λ q. refl) in
+      let made = made_all_same block new node.journal node.journal refl refl (held_by_copy copies block) holds
+      (tuple_at_all change block.ports (λ q. refl))
+      (group_as block.size node.journal block.ports ports (length-map block.ports change)
+      (waiting_at_all change block.ports (λ q. refl)))
+      refl in
+      marks_by_copy (λ journal. Ends new journal) call block.copies node.journal
+      (both new node.journal
+      (each_after_all (PortEndsBy block.fault node.journal) change block.ports
+      (λ q there. each_port block node.journal law.ends q there))
+      (subst (λ (all : Bool). BlockEnds block.kind all ports block.exits block.fault block.stopped node.journal) (sym made)
+      (ports_move block.kind (has_made_all block node.journal) block.ports block.exits block.fault block.stopped node.journal change (λ q. refl)
+      (λ number q. refl) (whole block node.journal law.ends))))
+      (λ k is value.
+      let gives : MayCopy (CopyCall.give k) node = subst (λ (by : CopyCall). MayCopy by node) is may in
+      let copier = law.copies.copier (copies_at layout meaning b node law k gives.place) in
+      let none = copy_goes_on layout b block node.journal copier k gives.place gives.stands in
+      let mark = Gave (link_at block.copies k).rule.id value in
+      let nothing : EndsNothing mark = record { complete = λ q. refl; fault = refl; done = refl; goes_on = refl } in
+      both new (node.journal ++ mark ∷ [])
+      (each_after_all (PortEndsBy block.fault (node.journal ++ mark ∷ [])) change block.ports
+      (λ q there. port_marked block.fault node.journal mark nothing q (change (port_in block.ports q))
+      (each_port block node.journal law.ends q there)))
+      (going_ends _ _ ports block.exits block.fault block.stopped (node.journal ++ mark ∷ []) none
+      (going_marked node.journal mark nothing (sym law.ends.stopped_is ∙ none))))
+
   -- it works on a message of each port
   pub works_on_each : (block : BlockState) (journal : List Mark) → Ends block journal
       → (change : PortState → PortState) (exits : OutletState) → ((port : PortState) → (change port).refusing ≡ port.refusing)
@@ -347,6 +437,16 @@ module _ {W : Type 0} (layout : Layout W) (meaning : ℕ → Value → Result (L
       (each_after_all (PortEndsBy block.fault journal) change block.ports
       (λ q there. rw (refusing (port_in block.ports q), ends (port_in block.ports q)) (each_port block journal law q there)))
       (going_ends block.kind _ (map change block.ports) exits block.fault block.stopped journal none (sym law.stopped_is ∙ none))
+
+  -- it makes a group
+  works_on_group : (block : BlockState) (journal : List Mark) → Ends block journal → (size weight : ℕ) (order : List ℕ)
+      → block.stopped ≡ None → Ends (makes_group size weight order block) journal
+  works_on_group block journal law size weight order none =
+      let new = makes_group size weight order block in
+      both new journal
+      (each_after_group size order (PortEndsBy block.fault journal) block.ports
+      (λ q count there. each_port block journal law q there))
+      (going_ends block.kind _ new.ports new.exits block.fault block.stopped journal none (sym law.stopped_is ∙ none))
 
   kept_as : (kind : BlockKind) (values : List Value) (block : BlockState) (journal : List Mark) → Ends block journal
       → block.stopped ≡ None
@@ -433,23 +533,35 @@ module _ {W : Type 0} (layout : Layout W) (meaning : ℕ → Value → Result (L
 
   -- it could make nothing more, and stops
   made_all_by : (block : BlockState) (journal later : List Mark) → ShapeLaw layout meaning b block → Ends block journal
-      → (how : Outcome) → has_complete 0 later ≡ has_complete 0 journal
-      → (batch join : Bool) → is_batch block.kind ≡ batch → is_join block.kind ≡ join
-      → cond batch (not (has_group block)) (cond join (not (has_tuple block.ports)) (holds_nothing block.ports)) ≡ true
+      → block.stopped ≡ None → (how : Outcome) → ((p : ℕ) → has_complete p later ≡ has_complete p journal)
+      → (batch join batched : Bool) → is_batch block.kind ≡ batch → is_join block.kind ≡ join
+      → is_batched_join block.kind ≡ batched
+      → cond batch (not (has_group block)) (cond join (not (has_tuple block.ports))
+      (cond batched (not (has_group_of_ports block)) (holds_nothing block.ports))) ≡ true
       → has_made_all (stops_by how block) later ≡ true
-  made_all_by block journal later shape law how same true join is joins done =
+  made_all_by block journal later shape law going how same true join batched is joins groups done =
       let there = shape.some_port in
       let held = kept_at_all (λ (port : PortState). port.waiting) port_closes block.ports 0 (λ port. refl) in
       let left =
       no_group_left (held_by block) block.size (leb block.size (length (held_by block)))
       (has_port_ended (port_at 0 block).refusing) (has_complete 0 journal) (shape.some_size is) refl
       (λ unended. (open_goes_on layout meaning b block journal law 0 there unended).1) done in
-      rw (is, held, same) left
-  made_all_by block journal later shape law how same false true is joins done =
+      rw (is, held, same 0) left
+  made_all_by block journal later shape law going how same false true batched is joins groups done =
       rw (is, joins, tuple_at_all port_closes block.ports (λ port. refl)) done
-  made_all_by block journal later shape law how same false false is joins done =
+  made_all_by block journal later shape law going how same false false true is joins groups done =
+      let closed = map port_closes block.ports in
+      let complete : are_complete (length closed) later ≡ are_complete (length block.ports) journal =
+      ap (λ (count : ℕ). are_complete count later) (length-map block.ports port_closes)
+      ∙ every_same (λ p. has_complete p later) (λ p. has_complete p journal) (below (length block.ports)) same in
+      let group : has_group_at block.size (are_complete (length closed) later) closed ≡ has_group_of_ports block =
+      ap₂ (λ (many : ℕ) (ended : Bool). ltb 0 many && (leb block.size many || ended))
+      (waiting_at_all port_closes block.ports (λ port. refl)) complete
+      ∙ sym (group_told layout meaning b block journal law going) in
+      rw (is, joins, groups) (ap not group ∙ done)
+  made_all_by block journal later shape law going how same false false false is joins groups done =
       let holds = every_map (λ (q : PortState). is_empty q.waiting) port_closes block.ports (λ q. refl) in
-      rw (is, joins) (holds ∙ done)
+      rw (is, joins, groups) (holds ∙ done)
 
   faulted : (block : BlockState) (journal : List Mark) → ShapeLaw layout meaning b block → Ends block journal
       → (number : ℕ) → next_fault block ≡ Some number
@@ -488,9 +600,9 @@ module _ {W : Type 0} (layout : Layout W) (meaning : ℕ → Value → Result (L
             let same : number ≡ other = cc in
             ⊎_elim (λ own. inl (own ∙ ap Some same)) (λ seen. inr (
               seen.none,
-              made_all_by block journal later shape law (outcome.Faulted number)
-                  (some_no_more (is_complete_mark 0) journal mark refl) (is_batch block.kind) (is_join block.kind) refl refl
-                  seen.empty,
+              made_all_by block journal later shape law none (outcome.Faulted number)
+                  (λ p. some_no_more (is_complete_mark p) journal mark refl) (is_batch block.kind) (is_join block.kind)
+                  (is_batched_join block.kind) refl refl refl seen.empty,
             )) cause;
       })
 
@@ -634,17 +746,20 @@ module _ {W : Type 0} (layout : Layout W) (meaning : ℕ → Value → Result (L
       exits_go node.block node.journal law.ends (exit_looks k phase node.block.exits) refl
       (rest_stays node.block.exits.ends k (record end { stage = source_looks end.stage phase })
       (look_stays_home end.stage phase))
-  after_each node (NodeCall.copy call) law may = absurd (no_copy_at layout meaning b node law (copy_place call) may.place)
+  after_each node (NodeCall.copy call) law may = copied_out node law call may
   after_each node NodeCall.begin law may = jobs_change node.block node.journal law.ends begins
   after_each node NodeCall.make law may =
       let block = node.block in
       let going = (may_work_tells block may.waits).going in
+      next_by (λ (new : NodeState). Ends new.block new.journal) (block_makes layout meaning b) node
+      (λ batched. works_on_group block node.journal law.ends block.size 0 (order_in node) going)
+      (λ grouped.
       makes_by (λ new. Ends new node.journal) (block_makes layout meaning b) block
       (λ batch. works_on block node.journal law.ends (takes_group block.size) (makes_row block).exits block.jobs
       block.recorded refl refl going)
       (λ join. works_on_each block node.journal law.ends takes_next (makes_tuple block).exits (λ port. refl) (λ port. refl) going)
-      (λ broadcast. never_both (is_broadcast block.kind) broadcast (none_broadcast block.kind law.shape.built))
-      (λ other alone single. made_next (first_of (held_by block)) block node.journal law.ends going)
+      (λ broadcast. copied_next (first_of (held_by block)) block node.journal law.ends going)
+      (λ other alone single. made_next (first_of (held_by block)) block node.journal law.ends going))
   after_each node (NodeCall.complete p) law may = completed node law p may
   after_each node (NodeCall.fault number) law may = faulted node.block node.journal law.shape law.ends number may
   after_each node NodeCall.finish law may = finished node.block node.journal law.shape.some_port law.ends may

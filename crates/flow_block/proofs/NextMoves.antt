@@ -38,6 +38,8 @@ use Rattle.flow_block.specs.Node.{NodeState}
 use Rattle.flow_block.specs.NodeKeeps.{InAt, IsOpen, MayPostpone}
 use Rattle.flow_block.specs.NodeLaw.{NodeLaw}
 use Rattle.flow_block.specs.Peeks.{is_held_up, could_stop, fault_cause, fault_at_ports, is_worked_off, is_pending}
+use Rattle.flow_block.proofs.CopiesIdle.{copies_at}
+use Rattle.flow_block.proofs.CopiesGoOn.{next_copies_may}
 use Rattle.flow_block.proofs.EndsTell.{none_come}
 use Rattle.flow_block.proofs.FaultsSeen.{cause_pending}
 use Rattle.flow_block.proofs.PlacesOfLinks.{end_in_is, count_in, few_enter}
@@ -403,9 +405,10 @@ module _ {W : Type 0} (layout : Layout W) (meaning : ℕ → Value
         let wrong : is_own (Some next) ≡ true = ap is_own (sym e) ∙ own in cc)
 
 pub next_moves_may : {W : Type 0} → NextMovesMay W
-next_moves_may layout meaning b node well here law = (
+next_moves_may {W} layout meaning b node well here law = (
   λ p k next port_there place_there e.
       by_stage layout meaning b node well here law p k port_there place_there (port_stage k (port_at p node.block))
       refl next e,
   λ k next there e. by_source layout meaning b node law k there next e,
+  λ k next there e. next_copies_may W layout b node (law.copies.copier (copies_at layout meaning b node law k there)) k next there e,
 )

@@ -12,6 +12,7 @@ use Rattle.flow_block.proofs.PortsHold.{ports_kept}
 use Rattle.flow_block.proofs.RowsHold.{rows_kept}
 use Rattle.flow_block.proofs.ShapeHolds.{shape_kept}
 use Rattle.flow_block.proofs.TuplesHold.{tuples_kept_so}
+use Rattle.flow_block.proofs.GroupsHold.{groups_kept_so, group_load_kept}
 
 pub nodes_kept : (W : Type 0) → NodesKept W
 nodes_kept W layout meaning b node call law may = record {
@@ -25,6 +26,8 @@ nodes_kept W layout meaning b node call law may = record {
   tuples = tuples_kept_so W layout meaning b node call law may;
   jobs = jobs_kept W layout meaning b node call law may;
   load = load_kept W layout meaning b node call law may;
+  groups = groups_kept_so W layout meaning b node call law may;
+  group_load = group_load_kept W layout meaning b node call law may;
   marks = marks_kept W layout meaning b node call law may;
   ends = ends_kept W layout meaning b node call law may;
 }

@@ -34,12 +34,19 @@ use Rattle.flow_outlet.specs.declared.group.Group.{Group}
 use Rattle.flow_spread.specs.Spread.{fresh_spread}
 use Rattle.flow_group.specs.Tuple.{held_at, has_tuple}
 use Rattle.flow_group.specs.Tuples.{TuplesLaw}
-use Rattle.flow_block.specs.Block.{BlockState, port_at, held_by, is_batch, is_join}
+use Rattle.flow_block.specs.Block.{BlockState, port_at, held_by, is_batch, is_join, is_batched_join}
 use Rattle.flow_block.specs.Copier.{Copier}
+use Rattle.flow_block.specs.Copies.{copies_left, shared_rules}
 use Rattle.flow_block.specs.Jobs.{AreOf, is_front_back}
 use Rattle.flow_block.specs.Node.{NodeState}
 use Rattle.flow_block.specs.Peeks.{is_pending, holds_nothing}
 use Rattle.flow_block.specs.Planned.{lanes_of, size_of, links_to, links_from, rule_of, block_makes}
+use Rattle.flow_block.specs.Groups.{has_group_at}
+use Rattle.flow_block.specs.GroupsLaw.{are_complete, OrderedGroups, LoadByPort}
+
+-- the places of what it has not wholly given
+abbrev pub places_out : BlockState → ℕ
+places_out block = weight_of block.exits.groups + copies_left block.copies
 
 -- the source knows that this link is refused
 abbrev pub refuses_over : List OutEnd → ℕ → Bool
@@ -138,12 +145,15 @@ KeepsTuples block journal =
     TuplesLaw (length block.ports) (λ p. took_at p journal) (gave journal ++ block.exits.left) (held_at block.ports)
 
 -- it could make nothing more of what it held when it stopped: a batch held less than a row, and nothing if its port had
--- completed before; a join held nothing at one of its ports
+-- completed before; a join held nothing at one of its ports; a batched join had no group
 abbrev pub has_made_all : BlockState → List Mark → Bool
 has_made_all block journal =
     cond (is_batch block.kind)
     (ltb (length (held_by block)) block.size && (not (has_complete 0 journal) || is_empty (held_by block)))
-    (cond (is_join block.kind) (not (has_tuple block.ports)) (holds_nothing block.ports))
+    (cond (is_join block.kind) (not (has_tuple block.ports))
+    (cond (is_batched_join block.kind)
+    (not (has_group_at block.size (are_complete (length block.ports) journal) block.ports))
+    (holds_nothing block.ports)))
 
 -- these ports have completed; of a join, that is done and holds nothing, one has
 abbrev pub have_completed : BlockKind → ℕ → List Mark → Bool
@@ -177,11 +187,13 @@ module _ {W : Type 0} (layout : Layout W) (meaning : ℕ → Value → Result (L
     pub kind_is : block.kind ≡ (block_in layout.blocks b).kind
     pub size_is : block.size ≡ size_of layout b
     pub some_size : is_batch block.kind ≡ true → 0 < block.size
+    pub some_group : is_batched_join block.kind ≡ true → 0 < block.size
     pub port_count_is : length block.ports ≡ port_count (block_in layout.blocks b)
     pub some_port : 0 < length block.ports
     pub takes_freely : is_reserving (block_in layout.blocks b) ≡ false
     pub ports : (p : ℕ) → p < length block.ports → PortAsPlanned p (port_at p block)
-    pub rules : map (λ (end : OutEnd). end.rule) block.exits.ends ≡ map (rule_of layout) (links_from layout b)
+    -- the links over which it shares its messages out; where it copies them, there is none
+    pub rules : map (λ (end : OutEnd). end.rule) block.exits.ends ≡ shared_rules block.kind (map (rule_of layout) (links_from layout b))
 
   -- each port is in order
   abbrev pub PortsLaw : BlockState → List Mark → Type 0
@@ -227,13 +239,13 @@ module _ {W : Type 0} (layout : Layout W) (meaning : ℕ → Value → Result (L
     -- tickets count the messages
     pub counted : has_work block.kind ≡ true → block.jobs.first + length (held_by block) ≡ length (took journal)
 
-  -- a place is taken by each message that it holds or has not wholly given
+  -- a place is taken by each message that it holds or has not wholly given, and by the element while a link owes it
   pub record LoadLaw (block : BlockState) (journal : List Mark) : Type 0 where
     pub groups : WeighsAs (block_makes layout meaning b) block.kind (block_in layout.blocks b).capacity (took journal)
         (held_by block) (gave journal) block.exits.left block.exits.next block.exits.groups
     pub no_room : block.exits.room ≡ 0
     pub load : (p : ℕ) → p < length block.ports → is_some (block_in layout.blocks b).capacity ≡ true
-        → (port_at p block).load ≡ length (port_at p block).waiting + weight_of block.exits.groups
+        → (port_at p block).load ≡ length (port_at p block).waiting + places_out block
 
   -- its marks are of its own links and ports, and nothing follows an end
   pub record MarksLaw (journal : List Mark) : Type 0 where
@@ -268,11 +280,14 @@ module _ {W : Type 0} (layout : Layout W) (meaning : ℕ → Value → Result (L
     pub ports : PortsLaw node.block node.journal
     pub exits : ExitsLaw node.block
     pub copies : CopiesLaw node.block node.journal
-    pub gave : GaveLaw node.block.exits node.journal
+    pub gave : is_one_taker node.block.kind ≡ true → GaveLaw node.block.exits node.journal
     pub makes : MakesLaw node.block node.journal
     pub rows : KeepsRows node.block node.journal
     pub tuples : is_join node.block.kind ≡ true → KeepsTuples node.block node.journal
     pub jobs : JobsLaw node.block node.journal
-    pub load : LoadLaw node.block node.journal
+    pub load : is_batched_join node.block.kind ≡ false → LoadLaw node.block node.journal
+    -- a batched join cuts what it took into groups, and counts at each port what they have from there
+    pub groups : is_batched_join node.block.kind ≡ true → OrderedGroups node
+    pub group_load : is_batched_join node.block.kind ≡ true → LoadByPort node.block
     pub marks : MarksLaw node.journal
     pub ends : EndsLaw node.block node.journal

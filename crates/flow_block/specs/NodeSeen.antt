@@ -5,7 +5,7 @@ use Rattle.flow_link.specs.declared.plan.LinkSource.TheVariants.{Block}
 use Rattle.flow_link.specs.declared.plan.LinkTarget.TheVariants.{Port}
 use Rattle.flow_link.specs.Composes.{Ends, NodeKeeps}
 use Rattle.flow_link.specs.Trace.{Run, link_of, trace_of}
-use Rattle.flow_block.specs.Node.{NodeState, in_view, out_view, node_trace}
+use Rattle.flow_block.specs.Node.{NodeState, in_view, source_view, node_trace}
 use Rattle.flow_block.specs.NodeLaw.{NodeLaw}
 use Rattle.flow_block.specs.Planned.{in_place, out_place}
 
@@ -13,7 +13,7 @@ module _ {W : Type 0} (run : Run W) (ends : ℕ → Ends) where
   pub record IsNodeOf (b : ℕ) (node : NodeState) : Type 0 where
     pub trace : trace_of run b ≡ node_trace node
     pub sources : (l : ℕ) → l < length run.layout.links → (link_of run l).source ≡ Block b
-        → (ends l).source ≡ out_view (out_place run.layout b l) node
+        → (ends l).source ≡ source_view (out_place run.layout b l) node
     pub targets : (l p : ℕ) → l < length run.layout.links → (link_of run l).target ≡ Port b p
         → (ends l).target ≡ in_view p (in_place run.layout b p l) node
 

@@ -77,6 +77,7 @@ module _ {W : Type 0} (layout : Layout W) where
       stopped = None;
     };
     journal = [];
+    grouped = 0;
   }
 
   -- what a block makes of one message

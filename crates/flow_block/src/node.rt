@@ -35,6 +35,8 @@ use std::marker::Model;
 pub struct Node {
     pub(crate) journal: Vec<Mark>,
     pub(crate) block: Block,
+    /// How many of its marks are no younger than those of the messages that are in groups, if it is a batched join.
+    pub(crate) grouped: usize,
 }
 
 impl Model for Node {
@@ -49,7 +51,7 @@ impl Model for Node {
 
     ghost coded = { Prim.hlevel (codes, mark.the_row.coded, content.the_row.coded) };
 
-    ghost view = { λ n. record { block = n.block; journal = n.journal.items } };
+    ghost view = { λ n. record { block = n.block; journal = n.journal.items; grouped = n.grouped } };
 
     ghost invariant = { λ n. vec_len n.journal + marks_due n.block ≤ vec_capacity n.journal };
 }
@@ -58,11 +60,12 @@ impl Node {
     /// A node with this block, for which nothing is under way, and with an empty journal.
     pub fn new(alloc: Global, block: Block) -> Node
         requires { marks_due block ≡ 0 }
-        ensures { result ≡ record { block = block; journal = [] } }
+        ensures { result ≡ record { block = block; journal = []; grouped = 0 } }
     {
         Node {
             journal: Vec::new(alloc),
             block,
+            grouped: 0,
         }
     }
 

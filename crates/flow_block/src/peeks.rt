@@ -7,7 +7,7 @@ ghost use Rattle.flow_intake.specs.PortLaw.{has_ended};
 ghost use Rattle.flow_link.specs.Plan.{has_work, is_broadcast};
 ghost use Rattle.flow_outlet.specs.End.{is_waiting};
 ghost use Rattle.flow_outlet.specs.Outlet.{out_move, stage_at, is_empty};
-ghost use Rattle.flow_block.specs.Block.{port_at, port_in, is_batch, is_join};
+ghost use Rattle.flow_block.specs.Block.{port_at, port_in, is_batch, is_join, is_batched_join};
 ghost use Rattle.flow_block.specs.Peeks.{may_work, may_make, may_begin, may_end, may_complete, next_fault, is_held_up, may_finish, could_stop};
 ghost use Rattle.flow_spread.specs.Spread.{out_move as copy_move};
 ghost use Rattle.flow_block.specs.Peeks.{may_copy, is_copy_held_up, would_copy, has_all_given, is_copied_out, is_out_at_rest};
@@ -35,6 +35,8 @@ impl Block {
             self.has_group()
         } else if is_join(self.kind) {
             has_tuple(&self.ports)
+        } else if is_batched_join(self.kind) {
+            self.has_group_of_ports()
         } else {
             holds_first(&self.ports) && self.may_copy()
         }
@@ -70,13 +72,15 @@ impl Block {
             !self.has_group()
         } else if is_join(self.kind) {
             !has_tuple(&self.ports)
+        } else if is_batched_join(self.kind) {
+            !self.has_group_of_ports()
         } else {
             holds_nothing(&self.ports)
         }
     }
 
     /// Whether it would make its next outputs: it has no function, and hands on the message that it holds first, or makes
-    /// a row or a tuple of those that it holds.
+    /// a row, a tuple or a group of those that it holds.
     pub fn may_make(&self) -> bool
         ensures { result ≡ may_make self.now }
     {
@@ -293,6 +297,13 @@ fn is_join(kind: BlockKind) -> bool
     ensures { result ≡ is_join kind }
 {
     kind == BlockKind::Join
+}
+
+/// Whether blocks of this kind make groups of the messages of all their ports.
+fn is_batched_join(kind: BlockKind) -> bool
+    ensures { result ≡ is_batched_join kind }
+{
+    kind == BlockKind::BatchedJoin
 }
 
 /// Whether blocks of this kind copy each message to all their links, over the last one.
