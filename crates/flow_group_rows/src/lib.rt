@@ -2,6 +2,8 @@
 #![tactic(auto)]
 
 #[cfg(test)]
+mod batched_joins;
+#[cfg(test)]
 mod check;
 #[cfg(test)]
 mod drawn;

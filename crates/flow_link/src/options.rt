@@ -83,6 +83,7 @@ fn is_built_kind(kind: BlockKind) -> bool
             | BlockKind::TransformMany
             | BlockKind::Batch
             | BlockKind::Join
+            | BlockKind::BatchedJoin
     )
 }
 

@@ -73,7 +73,6 @@ const TEXTS: &str = r#"
 # Kinds that are not built yet.
 4 WrongType block 0 | block = [{name = "a", kind = "broadcast"}]
 4 WrongType block 0 | block = [{name = "a", kind = "write_once"}]
-4 WrongType block 0 | block = [{name = "a", kind = "batched_join"}]
 4 WrongType block 0 | block = [{name = "a", kind = "buffer", input = "true"}]
 4 WrongType block 0 | block = [{name = "a", kind = "action", work = "id"}]
 4 WrongType block 0 | block = [{name = "a", kind = "action", work = ["id", 2]}]

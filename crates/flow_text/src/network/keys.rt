@@ -171,6 +171,7 @@ pub(super) fn kind_of(word: &str) -> Option<BlockKind>
         "transform_many" => Some(BlockKind::TransformMany),
         "batch" => Some(BlockKind::Batch),
         "join" => Some(BlockKind::Join),
+        "batched_join" => Some(BlockKind::BatchedJoin),
         _ => None,
     }
 }
