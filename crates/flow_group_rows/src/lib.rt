@@ -6,6 +6,8 @@ mod batched_joins;
 #[cfg(test)]
 mod check;
 #[cfg(test)]
+mod copies;
+#[cfg(test)]
 mod drawn;
 #[cfg(test)]
 mod joins;

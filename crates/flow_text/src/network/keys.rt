@@ -166,6 +166,7 @@ pub(super) fn kind_of(word: &str) -> Option<BlockKind>
 {
     match word {
         "buffer" => Some(BlockKind::Buffer),
+        "broadcast" => Some(BlockKind::Broadcast),
         "action" => Some(BlockKind::Action),
         "transform" => Some(BlockKind::Transform),
         "transform_many" => Some(BlockKind::TransformMany),
