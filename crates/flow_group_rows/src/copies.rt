@@ -57,3 +57,35 @@ in,1 in,2
 fn copies_meet_in_a_join(rt: HostRuntime) -> Result<(), Fail> {
     check_cases(&rt, rt.alloc(), PAIRED)
 }
+
+const WRITE_ONCES: &str = r#"
+write once takes one
+w* write_once, a action(), w => a
+w,7 w,8 w,9
+1 block w done ; input ["8","9"] ; port 0 ["7"] ; held 0 [] ; link 0 ["7"] ; left [] ; block a done ; record ["7"] ; quiet
+
+one value for each link
+w* write_once, a action(), b action(), c action(), w => a, w => b, w -> c
+w,7
+1 block w done ; input [] ; link 0 ["7"] ; link 1 ["7"] ; link 2 ["7"] ; left [] ; block a done ; record ["7"] ; block b done ; record ["7"] ; block c open ; record ["7"] ; quiet
+
+a source keeps what is declined
+in* buffer, w write_once, a action(), in => w, w => a
+in,7 in,8 in,9
+1 block in completing ; left ["8","9"] ; block w done ; port 0 ["7"] ; held 0 [] ; left [] ; block a done ; record ["7"] ; quiet
+
+a link that does not admit it
+in* buffer, t transform(int), w write_once, a action(), b action(), in => t, t => w, w => a when even, w => b
+in,7
+0 block t done ; block w done ; left [] ; block a done ; record [] ; block b done ; record [7] ; quiet
+
+completed before a value came
+in* buffer, w write_once, a action(), in => w, w => a
+none
+0 block in done ; block w done ; port 0 [] ; left [] ; block a done ; record [] ; quiet
+"#;
+
+#[test]
+fn write_once_blocks_take_one(rt: HostRuntime) -> Result<(), Fail> {
+    check_cases(&rt, rt.alloc(), WRITE_ONCES)
+}

@@ -79,6 +79,7 @@ fn is_built_kind(kind: BlockKind) -> bool
         kind,
         BlockKind::Buffer
             | BlockKind::Broadcast
+            | BlockKind::WriteOnce
             | BlockKind::Action
             | BlockKind::Transform
             | BlockKind::TransformMany

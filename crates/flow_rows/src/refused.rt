@@ -70,8 +70,7 @@ const TEXTS: &str = r#"
 4 WrongType block 0 | block = [{name = "a", kind = 1}]
 4 WrongType block 0 | block = [{name = "a", kind = "Buffer"}]
 4 WrongType block 0 | block = [{name = "a", kind = "transfrom"}]
-# Kinds that are not built yet.
-4 WrongType block 0 | block = [{name = "a", kind = "write_once"}]
+4 WrongType block 0 | block = [{name = "a", kind = "writeonce"}]
 4 WrongType block 0 | block = [{name = "a", kind = "buffer", input = "true"}]
 4 WrongType block 0 | block = [{name = "a", kind = "action", work = "id"}]
 4 WrongType block 0 | block = [{name = "a", kind = "action", work = ["id", 2]}]
@@ -113,6 +112,7 @@ const TEXTS: &str = r#"
 8 Plan 6 BadOption block 0 | block = [{name = "a", kind = "buffer", lanes = 1}]
 8 Plan 6 BadOption block 0 | block = [{name = "a", kind = "buffer", ports = 1}]
 8 Plan 6 BadOption block 0 | block = [{name = "a", kind = "broadcast", work = []}]
+8 Plan 6 BadOption block 0 | block = [{name = "a", kind = "write_once", capacity = 1}]
 8 Plan 6 BadOption block 0 | block = [{name = "a", kind = "broadcast", capacity = 0}]
 8 Plan 4 Port link 0 | block = [{name = "a", kind = "buffer"}, {name = "b", kind = "broadcast"}] ; link = [{from = "a", to = "b", port = 1}]
 8 Plan 6 BadOption block 0 | block = [{name = "a", kind = "action", work = [], lanes = 0}]
