@@ -20,7 +20,7 @@ use Rattle.flow_block.specs.Block.{BlockState, port_at, port_in, held_by, is_bat
 use Rattle.flow_block.specs.Copier.{Copier}
 use Rattle.flow_block.specs.Copies.{may_put, none_waits}
 use Rattle.flow_block.specs.Jobs.{begins}
-use Rattle.flow_block.specs.Node.{NodeState, NodeCall, hand_at, in_link_at, takes_in}
+use Rattle.flow_block.specs.Node.{NodeState, NodeCall, hand_at, in_link_at, holds_in}
 use Rattle.flow_block.specs.NodeKeeps.{MayCall, after_call}
 use Rattle.flow_block.specs.Peeks.{may_work, has_group, has_next}
 use Rattle.flow_block.specs.Planned.{block_makes}
@@ -75,7 +75,7 @@ module _ {W : Type 0} (layout : Layout W) (meaning : ℕ → Value → Result (L
 
   take_keeps : (p k : ℕ) (hand : Option Value) → p < length block.ports → length block.ports ≡ 1
       → is_hand (port_stage k (port_at p block)) ≡ true
-      → Copier layout b (takes_in p k hand node).block (takes_in p k hand node).journal
+      → Copier layout b (holds_in p k hand node).block (holds_in p k hand node).journal
   take_keeps p k None here alone in_hand = law
   take_keeps p k (Some value) here alone in_hand =
       let new = closes k value (port_at p block) in

@@ -12,7 +12,7 @@ use Rattle.flow_outlet.specs.Outlet.{head_of}
 use Rattle.flow_spread.specs.Spread.{fresh_spread}
 use Rattle.flow_block.specs.Block.{BlockState, held_by, made_of, keeps_results, yields, makes_of, copies_next}
 use Rattle.flow_block.specs.Copies.{copy_place}
-use Rattle.flow_block.specs.Node.{NodeState, NodeCall, hand_at, takes_in, gives_from}
+use Rattle.flow_block.specs.Node.{NodeState, NodeCall, hand_at, holds_in, gives_from}
 use Rattle.flow_block.specs.NodeKeeps.{MayCall, after_call, CopiesKept}
 use Rattle.flow_block.specs.NodeLaw.{NodeLaw, CopiesLaw}
 use Rattle.flow_block.specs.Planned.{block_makes}
@@ -48,7 +48,7 @@ module _ {W : Type 0} (layout : Layout W) (meaning : ℕ → Value → Result (L
   stays : (before after : BlockState) → SameCopies before after → IsIdle before → IsIdle after
   stays before after same law shares = same.copies ∙ law (ap is_one_taker (sym same.kind) ∙ shares)
 
-  take_keeps : (p k : ℕ) (hand : Option Value) (node : NodeState) → IsIdle node.block → IsIdle (takes_in p k hand node).block
+  take_keeps : (p k : ℕ) (hand : Option Value) (node : NodeState) → IsIdle node.block → IsIdle (holds_in p k hand node).block
   take_keeps p k None node law = law
   take_keeps p k (Some value) node law = law
 

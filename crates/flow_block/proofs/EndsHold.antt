@@ -24,11 +24,11 @@ use Rattle.flow_intake.proofs.CountsOfEnds.{hand_comes}
 use Rattle.flow_outlet.specs.Outlet.{OutletState, is_empty, head_of, gives, prepares, offers, denies, withdraws, ends_link, looks as exit_looks, is_at_rest, end_at, stage_at}
 use Rattle.flow_link.proofs.ListTests.{never_both}
 use Rattle.flow_link.specs.Plan.{is_broadcast}
-use Rattle.flow_block.specs.Copies.{copy_place, CopyCall, after_copy, copies_left}
+use Rattle.flow_block.specs.Copies.{copy_place, CopyCall, after_copy, copies_weight}
 use Rattle.flow_block.proofs.CopiesIdle.{no_copy_at, copies_at}
 use Rattle.flow_block.specs.Block.{BlockState, port_in, port_at, with_port, with_jobs, held_by, made_of, fails, puts_out, yields, keeps_results, makes_of, is_batch, takes_group, makes_row, gives_out, stops_by, is_join, makes_tuple, copies_next, with_copies}
 use Rattle.flow_block.specs.Jobs.{JobsState, begins, works_off}
-use Rattle.flow_block.specs.Node.{NodeState, NodeCall, takes_in, gives_from, in_link_at, out_link_at, copies_by}
+use Rattle.flow_block.specs.Node.{NodeState, NodeCall, holds_in, gives_from, in_link_at, out_link_at, copies_by}
 use Rattle.flow_block.specs.NodeKeeps.{EndsKept, MayCall, InAt, MayGive, MayCompletePort, after_call, MayCopy}
 use Rattle.flow_block.specs.NodeLaw.{NodeLaw, ShapeLaw, EndsLaw, has_made_all, is_fault_seen, stops_at, outcome_in, have_completed}
 use Rattle.flow_block.specs.Peeks.{fault_at_ports, holds_nothing, has_group, is_worked_off, next_fault, may_finish, all_ended}
@@ -302,7 +302,7 @@ module _ {W : Type 0} (layout : Layout W) (meaning : ℕ → Value → Result (L
 
   taken_in : (node : NodeState) → NodeLaw layout meaning b node → (p k : ℕ) (value : Option Value)
       → InAt is_hand p k node
-      → Ends (takes_in p k value node).block (takes_in p k value node).journal
+      → Ends (holds_in p k value node).block (holds_in p k value node).journal
   taken_in node law p k None at = law.ends
   taken_in node law p k (Some value) at =
       let block = node.block in
@@ -368,7 +368,7 @@ module _ {W : Type 0} (layout : Layout W) (meaning : ℕ → Value → Result (L
       → Ends (copies_next first block) journal
   copied_next None block journal law none = law
   copied_next (Some value) block journal law none =
-      let change : PortState → PortState = λ port. gives_room (1 - copies_left (puts value block.copies)) (takes_next port) in
+      let change : PortState → PortState = λ port. gives_room (1 - copies_weight (puts value block.copies)) (takes_next port) in
       copies_change (with_port 0 change block) journal
       (works_on block journal law change block.exits block.jobs block.recorded refl refl none) (puts value block.copies)
 
@@ -379,7 +379,7 @@ module _ {W : Type 0} (layout : Layout W) (meaning : ℕ → Value → Result (L
       let block = node.block in
       let copies = after_copy call block.copies in
       let new = with_copies copies block in
-      let change = gives_room (copies_left block.copies - copies_left copies) in
+      let change = gives_room (copies_weight block.copies - copies_weight copies) in
       let ports = map change block.ports in
       let holds = every_map (λ (q : PortState). is_empty q.waiting) change block.ports (λ q. refl) in
       let made = made_all_same block new node.journal node.journal refl refl (held_by_copy copies block) holds

@@ -27,7 +27,7 @@ use Rattle.flow_spread.specs.End.{fresh_end as fresh_copy, end_in as copy_in, ow
 use Rattle.flow_spread.specs.Spread.{fresh_spread}
 use Rattle.flow_block.specs.Block.{port_in, held_by, is_batch}
 use Rattle.flow_block.specs.Copier.{Copier, CopiedOver}
-use Rattle.flow_block.specs.Copies.{shared_rules, copied_rules, fresh_copies, copies_left}
+use Rattle.flow_block.specs.Copies.{shared_rules, copied_rules, fresh_copies, copies_weight}
 use Rattle.flow_block.specs.Fresh.{FreshInOrder}
 use Rattle.flow_block.specs.NodeLaw.{NodeLaw, is_kept, MakesAs, WeighsAs, PortAsPlanned, GaveOver, weighed, rows_weighed, partly_weighed, places_out}
 use Rattle.flow_block.specs.Peeks.{is_pending}
@@ -195,7 +195,7 @@ fresh_in_order W layout meaning b built some freely lane size =
     let rules = map (rule_of layout) (links_from layout b) in
     let shared = shared_rules block.kind rules in
     let node = fresh_node layout b in
-    let none_copied : copies_left node.block.copies ≡ 0 =
+    let none_copied : copies_weight node.block.copies ≡ 0 =
     ap (λ (count : ℕ). cond (count == 0) 0 1) (none_counts owes_it (copied_rules block.kind rules) (λ rule. refl)) in
     record {
       shape = record {

@@ -36,7 +36,7 @@ use Rattle.flow_outlet.proofs.StagesTell.{number_same}
 use Rattle.flow_block.specs.Copies.{copy_place}
 use Rattle.flow_block.proofs.CopiesIdle.{no_copy_at}
 use Rattle.flow_block.specs.Block.{BlockState, copies_next, made_of, keeps_results, yields, makes_of, held_by}
-use Rattle.flow_block.specs.Node.{NodeState, NodeCall, hand_at, takes_in, gives_from}
+use Rattle.flow_block.specs.Node.{NodeState, NodeCall, hand_at, holds_in, gives_from}
 use Rattle.flow_block.specs.NodeLaw.{NodeLaw, ShapeLaw, GaveLaw, GaveOver, refuses_over, run_seen_by}
 use Rattle.flow_block.specs.NodeKeeps.{MayCall, after_call, GaveKept}
 use Rattle.flow_block.specs.Planned.{is_out_of, rule_of, out_place, block_makes}
@@ -294,7 +294,7 @@ module _ {W : Type 0} (layout : Layout W) (meaning : ℕ → Value → Result (L
 
   closes_keep : (node : NodeState) (p k : ℕ) (hand : Option Value)
       → GaveLaw layout meaning b node.block.exits node.journal
-      → GaveLaw layout meaning b (takes_in p k hand node).block.exits (takes_in p k hand node).journal
+      → GaveLaw layout meaning b (holds_in p k hand node).block.exits (holds_in p k hand node).journal
   closes_keep node p k None law = law
   closes_keep node p k (Some value) law =
       quiet_mark node.block.exits node.journal (Took p _ value) (λ test. refl) (λ all. refl) law

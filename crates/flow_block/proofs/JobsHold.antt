@@ -27,7 +27,7 @@ use Rattle.flow_block.proofs.CopiesIdle.{no_copy_at}
 use Rattle.flow_block.specs.Block.{BlockState, port_at, with_port, begins, held_by, made_of, yields, keeps_results, makes_of, is_batch, makes_row, stops_by, is_join, makes_tuple, copies_it, copies_next}
 use Rattle.flow_block.proofs.CopiesLeave.{took_by_copy, held_by_copy}
 use Rattle.flow_block.specs.Jobs.{Slot, is_front_back, AreOf}
-use Rattle.flow_block.specs.Node.{NodeState, NodeCall, takes_in, gives_from, copies_by, in_link_at, out_link_at}
+use Rattle.flow_block.specs.Node.{NodeState, NodeCall, holds_in, gives_from, copies_by, in_link_at, out_link_at}
 use Rattle.flow_block.specs.NodeKeeps.{JobsKept, MayCall, after_call}
 use Rattle.flow_block.specs.NodeLaw.{NodeLaw, JobsLaw}
 use Rattle.flow_block.specs.Peeks.{may_work, may_begin}
@@ -154,9 +154,9 @@ module _ {W : Type 0} (layout : Layout W) (meaning : ℕ → Value → Result (L
 
   taken_by : (node : NodeState) → NodeLaw layout meaning b node → (p k : ℕ) (value : Value)
       → p < length node.block.ports → (join : Bool) → is_join node.block.kind ≡ join
-      → Jobs (takes_in p k (Some value) node).block (takes_in p k (Some value) node).journal
+      → Jobs (holds_in p k (Some value) node).block (holds_in p k (Some value) node).journal
   taken_by node law p k value below true join =
-      handed_on node.block (takes_in p k (Some value) node).block node.journal (takes_in p k (Some value) node).journal refl refl
+      handed_on node.block (holds_in p k (Some value) node).block node.journal (holds_in p k (Some value) node).journal refl refl
       (join_idle node.block.kind join) law.jobs
   taken_by node law p k value below false alone =
       let one = has_one_port layout meaning b node.block law.shape alone in
@@ -183,7 +183,7 @@ module _ {W : Type 0} (layout : Layout W) (meaning : ℕ → Value → Result (L
 
   taken_in : (node : NodeState) → NodeLaw layout meaning b node → (p k : ℕ) (value : Option Value)
       → p < length node.block.ports
-      → Jobs (takes_in p k value node).block (takes_in p k value node).journal
+      → Jobs (holds_in p k value node).block (holds_in p k value node).journal
   taken_in node law p k None below = law.jobs
   taken_in node law p k (Some value) below = taken_by node law p k value below (is_join node.block.kind) refl
 

@@ -13,6 +13,7 @@ pub mod CopiesLeave
 pub mod CopiesMove
 pub mod CopiesRest
 pub mod CopiesSeen
+pub mod CopiesTaken
 pub mod CopiesTested
 pub mod CourseMore
 pub mod EndsAtRest

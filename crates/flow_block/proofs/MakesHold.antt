@@ -27,7 +27,7 @@ use Rattle.flow_block.proofs.CopiesIdle.{no_copy_at, copies_at, broadcast_copies
 use Rattle.flow_block.specs.Block.{BlockState, port_at, with_port, with_jobs, held_by, made_of, puts_out, put_by_kind, yields, keeps_results, makes_of, is_batch, row_of, takes_group, makes_row, stops_by, is_join, makes_tuple, copies_next}
 use Rattle.flow_block.proofs.CopiesLeave.{held_by_copy}
 use Rattle.flow_block.specs.Jobs.{JobsState, begins, works_off}
-use Rattle.flow_block.specs.Node.{NodeState, NodeCall, takes_in, gives_from, copies_by, in_link_at, out_link_at}
+use Rattle.flow_block.specs.Node.{NodeState, NodeCall, holds_in, gives_from, copies_by, in_link_at, out_link_at}
 use Rattle.flow_block.specs.NodeKeeps.{MakesKept, MayCall, after_call}
 use Rattle.flow_block.specs.NodeLaw.{NodeLaw, MakesLaw, MakesAs, FaultsOn}
 use Rattle.flow_block.specs.Planned.{block_makes}
@@ -188,7 +188,7 @@ module _ {W : Type 0} (layout : Layout W) (meaning : ℕ → Value → Result (L
 
   taken_by : (node : NodeState) → NodeLaw layout meaning b node → (p k : ℕ) (value : Value)
       → p < length node.block.ports → (join : Bool) → is_join node.block.kind ≡ join
-      → MakesLaw layout meaning b (takes_in p k (Some value) node).block (takes_in p k (Some value) node).journal
+      → MakesLaw layout meaning b (holds_in p k (Some value) node).block (holds_in p k (Some value) node).journal
   taken_by node law p k value below true join = record {
     makes = join_makes (block_makes layout meaning b) node.block.kind _ _ _ _ _ join;
     fault_is = λ number is.
@@ -214,7 +214,7 @@ module _ {W : Type 0} (layout : Layout W) (meaning : ℕ → Value → Result (L
 
   taken_in : (node : NodeState) → NodeLaw layout meaning b node → (p k : ℕ) (value : Option Value)
       → p < length node.block.ports
-      → MakesLaw layout meaning b (takes_in p k value node).block (takes_in p k value node).journal
+      → MakesLaw layout meaning b (holds_in p k value node).block (holds_in p k value node).journal
   taken_in node law p k None below = law.makes
   taken_in node law p k (Some value) below = taken_by node law p k value below (is_join node.block.kind) refl
 

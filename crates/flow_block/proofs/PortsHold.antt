@@ -21,10 +21,10 @@ use Rattle.flow_outlet.specs.Outlet.{head_of, weight_at, gives}
 use Rattle.flow_outlet.proofs.OutletFits.{weight_stays}
 use Rattle.flow_link.proofs.ListTests.{never_both}
 use Rattle.flow_link.specs.Plan.{is_broadcast}
-use Rattle.flow_block.specs.Copies.{copy_place, CopyCall, after_copy, copies_left}
+use Rattle.flow_block.specs.Copies.{copy_place, CopyCall, after_copy, copies_weight}
 use Rattle.flow_block.proofs.CopiesIdle.{no_copy_at}
 use Rattle.flow_block.specs.Block.{BlockState, port_in, held_by, made_of, yields, keeps_results, makes_of, takes_group, copies_next}
-use Rattle.flow_block.specs.Node.{NodeState, NodeCall, hand_at, in_link_at, out_link_at, takes_in, gives_from, copies_by, marks_copy}
+use Rattle.flow_block.specs.Node.{NodeState, NodeCall, hand_at, in_link_at, out_link_at, holds_in, gives_from, copies_by, marks_copy}
 use Rattle.flow_block.specs.NodeLaw.{NodeLaw, ShapeLaw, PortsLaw, LoadLaw, places_out}
 use Rattle.flow_spread.specs.Spread.{puts}
 use Rattle.flow_block.specs.NodeKeeps.{InAt, MayCall, after_call, PortsKept}
@@ -160,7 +160,7 @@ module _ {W : Type 0} (layout : Layout W) (meaning : ℕ → Value → Result (L
 
   take_keeps : (p k : ℕ) (hand : Option Value) (node : NodeState) → InAt is_hand p k node
       → PortsLaw layout meaning b node.block node.journal
-      → PortsLaw layout meaning b (takes_in p k hand node).block (takes_in p k hand node).journal
+      → PortsLaw layout meaning b (holds_in p k hand node).block (holds_in p k hand node).journal
   take_keeps p k None node at law = law
   take_keeps p k (Some value) node at law =
       let port = port_in node.block.ports p in
@@ -200,7 +200,7 @@ module _ {W : Type 0} (layout : Layout W) (meaning : ℕ → Value → Result (L
       let shape : ShapeLaw layout meaning b node.block = law.shape in
       let capacity = (block_in layout.blocks b).capacity in
       let copies = node.block.copies in
-      let back = copies_left copies - copies_left (after_copy call copies) in
+      let back = copies_weight copies - copies_weight (after_copy call copies) in
       let less = left_by_copy call copies there in
       each_port node.block.ports node.journal (marks_copy call copies node.journal) (gives_room back) law.ports
       (λ q. ap length (took_by_copy_at call copies node.journal q))
@@ -216,7 +216,7 @@ module _ {W : Type 0} (layout : Layout W) (meaning : ℕ → Value → Result (L
   copied_keeps None block journal first law = law
   copied_keeps (Some value) block journal first law =
       let port = port_in block.ports 0 in
-      let now = copies_left (puts value block.copies) in
+      let now = copies_weight (puts value block.copies) in
       one_port block.ports journal 0 (gives_room (1 - now) (takes_next port)) law
       (λ old.
       moves_keep.give_room facts (taken journal 0) (takes_next port) (moves_keep.take_next facts (taken journal 0) port old) (1 - now)

@@ -1,5 +1,5 @@
 -- Room that is to come back stays room that the ports gave out, whatever a block does.
-use Rattle.std.proofs.Common.{◌≡◌, ℕ, zero, suc, ◌+◌, ◌-◌, ◌<◌, ◌≤◌, ◌^◌, ◌==◌, true, cond, List, [], ◌∷◌, ◌++◌, length, set, get_or, take, drop, map, Option, Some, None, is_some, refl, ap, arith, subst, sym}
+use Rattle.std.proofs.Common.{◌≡◌, ℕ, zero, suc, ◌+◌, ◌-◌, ◌<◌, ◌≤◌, ◌^◌, ◌==◌, Bool, true, false, cond, List, [], ◌∷◌, ◌++◌, length, set, get_or, take, drop, map, Option, Some, None, is_some, refl, ap, arith, subst, sym}
 use Rattle.std.proofs.lemmas.Bool.{and_parts}
 use Rattle.std.proofs.lemmas.List.{length-append, get_or_read, take-append-drop}
 use Rattle.flow_value.specs.declared.value.Value.{Value}
@@ -10,9 +10,10 @@ use Rattle.flow_outlet.specs.Outlet.{OutletState, is_empty, fresh_outlet, puts, 
 use Rattle.flow_outlet.specs.declared.ends.LinkRule.{LinkRule}
 use Rattle.flow_outlet.proofs.OutletFits.{weight_stays, room_put}
 use Rattle.flow_link.specs.declared.draft.BlockKind.{BlockKind}
+use Rattle.flow_link.specs.Plan.{is_write_once}
 use Rattle.flow_spread.specs.End.{owes_it}
 use Rattle.flow_spread.proofs.CountsOfEnds.{none_counts}
-use Rattle.flow_block.specs.Copies.{shared_rules, copied_rules, fresh_copies, copies_left}
+use Rattle.flow_block.specs.Copies.{shared_rules, copied_rules, fresh_copies, copies_left, weight_by, copies_weight}
 use Rattle.flow_block.specs.Block.{port_in, unit_weight, group_weight, takes_group}
 use Rattle.flow_block.specs.BlockFits.{GaveOut, AllGaveOut, BlockFits, weight_out}
 use Rattle.flow_block.specs.Peeks.{holds_nothing}
@@ -124,12 +125,20 @@ all_fresh (port ∷ ports) none =
     let both = and_parts (is_empty port.waiting) (holds_nothing ports) none in
     (none_out port.capacity port.waiting port.load both.0, all_fresh ports both.1)
 
+no_element : (once : Bool) (left : ℕ) → left ≡ 0 → weight_by once false left ≡ 0
+no_element true left none = refl
+no_element false left none = none
+
+pub weighs_fresh : (kind : BlockKind) (rules : List LinkRule) → copies_weight (fresh_copies kind rules) ≡ 0
+weighs_fresh kind rules =
+    no_element (is_write_once kind) (copies_left (fresh_copies kind rules))
+    (ap (λ (count : ℕ). cond (count == 0) 0 1) (none_counts owes_it (copied_rules kind rules) (λ rule. refl)))
+
 -- nothing is put yet
 pub fits_fresh : (ports : List PortState) (kind : BlockKind) (rules : List LinkRule) → holds_nothing ports ≡ true
-    → BlockFits ports (fresh_outlet (shared_rules kind rules) 1) (copies_left (fresh_copies kind rules))
+    → BlockFits ports (fresh_outlet (shared_rules kind rules) 1) (copies_weight (fresh_copies kind rules))
 fits_fresh ports kind rules none =
-    let nobody : copies_left (fresh_copies kind rules) ≡ 0 =
-    ap (λ (count : ℕ). cond (count == 0) 0 1) (none_counts owes_it (copied_rules kind rules) (λ rule. refl)) in
+    let nobody = weighs_fresh kind rules in
     rw nobody (record { room = all_fresh ports none; few = omega arith })
 
 -- The message that waits longest is taken on

@@ -24,7 +24,7 @@ use Rattle.flow_link.specs.Plan.{is_broadcast}
 use Rattle.flow_block.specs.Copies.{copy_place}
 use Rattle.flow_block.proofs.CopiesIdle.{no_copy_at}
 use Rattle.flow_block.specs.Block.{BlockState, port_at, with_port, held_by, is_batch, row_of, next_group, makes_row, copies_next, stops_by}
-use Rattle.flow_block.specs.Node.{NodeState, NodeCall, takes_in, gives_from, in_link_at, out_link_at}
+use Rattle.flow_block.specs.Node.{NodeState, NodeCall, holds_in, gives_from, in_link_at, out_link_at}
 use Rattle.flow_block.specs.NodeKeeps.{RowsKept, MayCall, MayCompletePort, InAt, after_call}
 use Rattle.flow_block.specs.NodeLaw.{NodeLaw, KeepsRows, RowsLaw, is_whole}
 use Rattle.flow_block.specs.Peeks.{has_group}
@@ -141,7 +141,7 @@ given_out node law k (Some value) head batch =
 module _ {W : Type 0} (layout : Layout W) (meaning : ℕ → Value → Result (List Value) ℕ) (b : ℕ) where
   taken_in : (node : NodeState) → NodeLaw layout meaning b node → (p k : ℕ) (value : Option Value)
       → InAt is_hand p k node
-      → KeepsRows (takes_in p k value node).block (takes_in p k value node).journal
+      → KeepsRows (holds_in p k value node).block (holds_in p k value node).journal
   taken_in node law p k None at batch = law.rows batch
   taken_in node law p k (Some value) at batch =
       let block = node.block in

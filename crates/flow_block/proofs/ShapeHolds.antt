@@ -14,9 +14,9 @@ use Rattle.flow_outlet.specs.declared.ends.OutEnd.{OutEnd}
 use Rattle.flow_outlet.specs.End.{end_in, no_end}
 use Rattle.flow_outlet.specs.Outlet.{head_of, gives}
 use Rattle.flow_spread.specs.Spread.{puts}
-use Rattle.flow_block.specs.Copies.{after_copy, copies_left}
+use Rattle.flow_block.specs.Copies.{after_copy, copies_weight}
 use Rattle.flow_block.specs.Block.{BlockState, port_in, held_by, copies_next, made_of, yields, keeps_results, makes_of, takes_group}
-use Rattle.flow_block.specs.Node.{NodeState, NodeCall, hand_at, takes_in, gives_from}
+use Rattle.flow_block.specs.Node.{NodeState, NodeCall, hand_at, holds_in, gives_from}
 use Rattle.flow_block.specs.NodeLaw.{ShapeLaw, PortAsPlanned}
 use Rattle.flow_block.specs.NodeKeeps.{after_call, ShapeKept}
 use Rattle.flow_block.specs.Planned.{block_makes}
@@ -175,12 +175,12 @@ module _ {W : Type 0} (layout : Layout W) (meaning : ℕ → Value → Result (L
       → ShapeLaw layout meaning b (copies_next held block)
   copy_keeps None block law = law
   copy_keeps (Some value) block law =
-      let room = 1 - copies_left (puts value block.copies) in
+      let room = 1 - copies_weight (puts value block.copies) in
       one_port block _ 0 (λ port. gives_room room (takes_next port)) (λ port. record { links = refl; capacity = refl; reserves = refl })
       refl refl refl refl law
 
   take_keeps : (p k : ℕ) (hand : Option Value) (node : NodeState) → ShapeLaw layout meaning b node.block
-      → ShapeLaw layout meaning b (takes_in p k hand node).block
+      → ShapeLaw layout meaning b (holds_in p k hand node).block
   take_keeps p k None node law = law
   take_keeps p k (Some value) node law =
       one_port node.block _ p (closes k value) (closes_same k value) refl refl refl refl law
@@ -219,7 +219,7 @@ module _ {W : Type 0} (layout : Layout W) (meaning : ℕ → Value → Result (L
   call_keeps node (NodeCall.look_out k phase) law =
       exits_move node.block _ refl refl refl (rules_stay node.block.exits.ends k _ refl) law
   call_keeps node (NodeCall.copy call) law =
-      let room = copies_left node.block.copies - copies_left (after_copy call node.block.copies) in
+      let room = copies_weight node.block.copies - copies_weight (after_copy call node.block.copies) in
       each_port node.block _ (gives_room room) (gives_room_same room) refl refl refl refl law
   call_keeps node NodeCall.begin law = exits_move node.block _ refl refl refl refl law
   call_keeps node NodeCall.make law =

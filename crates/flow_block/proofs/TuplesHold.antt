@@ -21,7 +21,7 @@ use Rattle.flow_group.proofs.JournalsTell.{journals_tell}
 use Rattle.flow_group.proofs.TuplesKeep.{tuples_kept, held_by_take}
 use Rattle.flow_link.specs.Plan.{is_broadcast}
 use Rattle.flow_block.specs.Block.{is_batch, held_by, BlockState, port_at, with_port, stops_by, is_join, makes_tuple}
-use Rattle.flow_block.specs.Node.{NodeState, NodeCall, takes_in, gives_from, in_link_at, out_link_at}
+use Rattle.flow_block.specs.Node.{NodeState, NodeCall, holds_in, gives_from, in_link_at, out_link_at}
 use Rattle.flow_block.specs.NodeKeeps.{MayCall, after_call, TuplesKept}
 use Rattle.flow_block.specs.NodeLaw.{NodeLaw, KeepsTuples}
 use Rattle.flow_block.specs.Planned.{block_makes}
@@ -97,7 +97,7 @@ given_out node law k (Some value) head =
 
 -- a message is taken
 taken_in : (node : NodeState) → KeepsTuples node.block node.journal → (p k : ℕ) (value : Option Value)
-    → KeepsTuples (takes_in p k value node).block (takes_in p k value node).journal
+    → KeepsTuples (holds_in p k value node).block (holds_in p k value node).journal
 taken_in node law p k None = law
 taken_in node law p k (Some value) =
     let block = node.block in

@@ -29,13 +29,13 @@ use Rattle.flow_outlet.proofs.LawKept.{gives_in_order}
 use Rattle.flow_outlet.proofs.OffersInOrder.{offers_in_order}
 use Rattle.flow_link.specs.Plan.{is_broadcast}
 use Rattle.flow_spread.specs.Spread.{link_at as link_over, puts}
-use Rattle.flow_block.specs.Copies.{copy_place, copies_left, none_waits}
+use Rattle.flow_block.specs.Copies.{copy_place, copies_weight, none_waits}
 use Rattle.flow_block.proofs.CopierKept.{may_copy_next}
 use Rattle.flow_block.proofs.CopiesIdle.{no_copy_at, copies_at}
 use Rattle.flow_block.proofs.CopiesMove.{copies_move_views, puts_move_none}
 use Rattle.flow_block.specs.Block.{BlockState, port_at, with_port, with_jobs, begins, made_of, keeps_results, yields, makes_of, makes, makes_row, takes_group, copies_next, held_by, stops_by}
 use Rattle.flow_block.specs.Jobs.{JobsState, begins as one_more}
-use Rattle.flow_block.specs.Node.{NodeState, NodeCall, with_block, with_exits, marks, hand_at, in_link_at, out_link_at, takes_in, gives_from, view_of_in, view_of_out, in_view, out_view, copy_view}
+use Rattle.flow_block.specs.Node.{NodeState, NodeCall, with_block, with_exits, marks, hand_at, in_link_at, out_link_at, holds_in, gives_from, view_of_in, view_of_out, in_view, out_view, copy_view}
 use Rattle.flow_block.specs.NodeKeeps.{after_call}
 use Rattle.flow_block.specs.NodeLaw.{NodeLaw}
 use Rattle.flow_block.specs.Peeks.{is_pending}
@@ -141,7 +141,7 @@ module _ {W : Type 0} (layout : Layout W) (meaning : ℕ → Value → Result (L
   -- a message is taken: the mark names the link of the end that had it in hand
   closed : (p k : ℕ) (value : Value) → p < length node.block.ports → k < length (port_at p node.block).ends
       → hand_at p k node ≡ Some value
-      → ViewsMove (NodeCall.close p k) node (takes_in p k (Some value) node)
+      → ViewsMove (NodeCall.close p k) node (holds_in p k (Some value) node)
   closed p k value below there in_hand =
       let l = in_link_at p k node in
       let mark = Took p l value in
@@ -273,7 +273,7 @@ row_stays block = record {
 copied_stays : (first : Option Value) (block : BlockState) → none_waits block.copies ≡ true → EndsStay block (copies_next first block)
 copied_stays None block none = record { ins = λ p below. refl; outs = refl; copies = λ k there. refl }
 copied_stays (Some value) block none =
-    let room = 1 - copies_left (puts value block.copies) in
+    let room = 1 - copies_weight (puts value block.copies) in
     record {
       ins = λ p below.
           kept_at_one (λ (port : PortState). port.ends) block.ports 0 p (gives_room room (takes_next (port_at 0 block))) refl;
@@ -372,7 +372,7 @@ calls_move_views W layout meaning b node (NodeCall.open_with p k value) law may 
     }
 calls_move_views W layout meaning b node (NodeCall.close p k) law may =
     let in_hand = some_is (hand_at p k node) (((law.ports p may.port).each k may.place).hand ∙ may.stands) in
-    subst (λ (hand : Option Value). ViewsMove (NodeCall.close p k) node (takes_in p k hand node)) (sym in_hand.1)
+    subst (λ (hand : Option Value). ViewsMove (NodeCall.close p k) node (holds_in p k hand node)) (sym in_hand.1)
     (closed layout meaning b node law p k in_hand.0 may.port may.place in_hand.1)
 calls_move_views W layout meaning b node (NodeCall.offer k) law may =
     let o = node.block.exits in

@@ -17,7 +17,7 @@ use Rattle.flow_outlet.specs.declared.ends.OutEnd.{OutEnd}
 use Rattle.flow_outlet.specs.History.{listed}
 use Rattle.flow_spread.specs.Spread.{SpreadState, link_at, left_of}
 use Rattle.flow_link.specs.Plan.{is_one_taker}
-use Rattle.flow_block.specs.Block.{BlockState, port_at, with_port, begins, makes, gives_out, with_copies, stops_by}
+use Rattle.flow_block.specs.Block.{BlockState, port_at, with_port, copies_taken, begins, makes, gives_out, with_copies, stops_by}
 use Rattle.flow_block.specs.Copies.{CopyCall, after_copy}
 
 pub record NodeState : Type 0 where
@@ -71,10 +71,14 @@ in_link_at p k node = link_in k (port_at p node.block).ends
 abbrev pub out_link_at : ℕ → NodeState → ℕ
 out_link_at k node = (end_at node.block.exits k).rule.id
 
--- the message in hand becomes the block's
+-- the message in hand becomes the block's, which holds it
+abbrev pub holds_in : ℕ → ℕ → Option Value → NodeState → NodeState
+holds_in p k None node = node
+holds_in p k (Some value) node = marks (Took p (in_link_at p k node) value) (with_block (with_port p (closes k value) node.block) node)
+
+-- or copies it at once
 abbrev pub takes_in : ℕ → ℕ → Option Value → NodeState → NodeState
-takes_in p k None node = node
-takes_in p k (Some value) node = marks (Took p (in_link_at p k node) value) (with_block (with_port p (closes k value) node.block) node)
+takes_in p k hand node = with_block (copies_taken (holds_in p k hand node).block) (holds_in p k hand node)
 
 -- the head goes over the link
 abbrev pub gives_from : ℕ → Option Value → NodeState → NodeState
