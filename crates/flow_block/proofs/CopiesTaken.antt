@@ -1,13 +1,29 @@
 -- What a taking makes of a block: it holds what it took, or copies it at once.
-use Rattle.std.proofs.Common.{◌≡◌, ℕ, ◌+◌, ◌^◌, ◌<◌, ◌≤◌, ◌==◌, Bool, true, false, not, ◌&&◌, ltb, length, Option, Some, None, refl, arith, eqb-true, ltb-true}
-use Rattle.std.proofs.lemmas.Bool.{and_parts}
-use Rattle.flow_link.specs.Plan.{is_write_once}
+use Rattle.std.proofs.Common.{◌≡◌, ℕ, ◌+◌, ◌^◌, ◌<◌, ◌≤◌, ◌==◌, Bool, true, false, not, ◌&&◌, ltb, List, [], length, Option, Some, None, is_none, Result, refl, arith, eqb-true, ltb-true}
+use Rattle.std.proofs.lemmas.Bool.{and_parts, false_from_ne_true}
+use Rattle.flow_value.specs.declared.value.Value.{Value}
+use Rattle.flow_link.specs.declared.trace.Mark.{Mark}
+use Rattle.flow_link.specs.declared.draft.BlockKind.{BlockKind}
+use Rattle.flow_link.specs.declared.draft.BlockKind.TheVariants.{WriteOnce}
+use Rattle.flow_link.specs.Plan.{is_write_once, is_broadcast, is_one_taker}
 use Rattle.flow_outlet.specs.Outlet.{is_empty}
 use Rattle.flow_spread.specs.Spread.{is_spread_free}
 use Rattle.flow_intake.specs.Calls.{first_of}
+use Rattle.flow_link.specs.Layout.{Layout}
+use Rattle.flow_block.proofs.Joins.{copies_unjoined}
+use Rattle.flow_block.proofs.KindsBuilt.{copying_single}
+use Rattle.flow_block.proofs.CopiesIdle.{once_copies}
+use Rattle.flow_block.specs.Peeks.{may_work, has_next}
+use Rattle.flow_block.specs.NodeLaw.{NodeLaw}
 use Rattle.flow_block.specs.Block.{BlockState, held_by, copies_next, copies_at_once, copies_where, copies_taken}
 use Rattle.flow_block.specs.JournalFits.{marks_due}
+use Rattle.flow_block.specs.Node.{NodeState, holds_in, takes_in}
 use Rattle.flow_block.proofs.CopiesFit.{due_copy_next}
+
+-- what copies and is no broadcast takes one message in all
+pub copies_once : (kind : BlockKind) → is_one_taker kind ≡ false → is_broadcast kind ≡ false → is_write_once kind ≡ true
+copies_once WriteOnce copying many = refl
+copies_once _ copying many = absurd (cc)
 
 -- what is there where it copies at once
 pub record CopiesAtOnce (block : BlockState) : Type 0 where
@@ -48,6 +64,37 @@ taken_where P block true is held copied = copied (at_once_tells block is)
 pub taken_keeps : (P : BlockState → Type 0) (block : BlockState) → P block
     → (CopiesAtOnce block → P (copies_next (first_of (held_by block)) block)) → P (copies_taken block)
 taken_keeps P block held copied = taken_where P block (copies_at_once block) refl held copied
+
+-- it never has something to make
+pub none_next : (block : BlockState) → is_write_once block.kind ≡ true → (is_write_once block.kind ≡ true → held_by block ≡ [])
+    → may_work block ≡ true → ⊥
+none_next block once none may =
+    let copying = once_copies block.kind once in
+    let goes = and_parts (is_none block.stopped && is_none block.fault) (has_next block) may in
+    let never : false ≡ true = rw (copying_single block.kind copying, copies_unjoined block.kind copying, none once) at goes.1 in
+    absurd (cc)
+
+pub makes_many : {W : Type 0} (layout : Layout W) (meaning : ℕ → Value → Result (List Value) ℕ) (b : ℕ) (node : NodeState)
+    → NodeLaw layout meaning b node → may_work node.block ≡ true → is_write_once node.block.kind ≡ false
+makes_many layout meaning b node law may =
+    false_from_ne_true (is_write_once node.block.kind) (λ once. none_next node.block once law.none_held may)
+
+-- of a node, whose marks tell of the message either way
+pub taken_in_keeps : (P : BlockState → List Mark → Type 0) (p k : ℕ) (hand : Option Value) (node : NodeState)
+    → let held = holds_in p k hand node in
+    P held.block held.journal → (CopiesAtOnce held.block → P (copies_next (first_of (held_by held.block)) held.block) held.journal)
+    → P (takes_in p k hand node).block (takes_in p k hand node).journal
+taken_in_keeps P p k hand node kept copied =
+    let held = holds_in p k hand node in
+    taken_keeps (λ new. P new held.journal) held.block kept copied
+
+pub held_stopped : (p k : ℕ) (hand : Option Value) (node : NodeState) → (holds_in p k hand node).block.stopped ≡ node.block.stopped
+held_stopped p k None node = refl
+held_stopped p k (Some value) node = refl
+
+pub held_kind : (p k : ℕ) (hand : Option Value) (node : NodeState) → (holds_in p k hand node).block.kind ≡ node.block.kind
+held_kind p k None node = refl
+held_kind p k (Some value) node = refl
 
 pub due_taken : (block : BlockState) → marks_due (copies_taken block) ≤ marks_due block
 due_taken block =

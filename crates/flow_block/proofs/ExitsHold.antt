@@ -33,6 +33,7 @@ use Rattle.flow_block.specs.NodeLaw.{ExitsLaw, is_kept}
 use Rattle.flow_block.specs.NodeKeeps.{MayCall, after_call, ExitsKept}
 use Rattle.flow_block.specs.Peeks.{fault_at_ports, is_pending}
 use Rattle.flow_block.specs.Planned.{block_makes}
+use Rattle.flow_block.proofs.CopiesTaken.{taken_in_keeps}
 use Rattle.flow_block.proofs.EndsTell.{none_kept_by_looks}
 use Rattle.flow_block.proofs.FaultsSeen.{StaysSeen, stays_at_ends, stays_at_ports, seen_over_ports, seen_by_looks, unseen_where}
 use Rattle.flow_block.proofs.GoingOn.{may_fault_tells, may_finish_tells}
@@ -242,7 +243,11 @@ module _ {W : Type 0} (layout : Layout W) (meaning : ℕ → Value → Result (L
       end_offers node.block law p k (consumes k (port_at p node.block)) _ refl is_postponed (λ how. refl) may.0.stands
   exits_keep node (NodeCall.open_with p k value) law may =
       end_offers node.block law p k (opens k value (port_at p node.block)) _ refl is_arrived (λ how. refl) may.stands
-  exits_keep node (NodeCall.close p k) law may = closes_keep node p k (hand_at p k node) may.stands law
+  exits_keep node (NodeCall.close p k) law may =
+      let held = holds_in p k (hand_at p k node) node in
+      let kept = closes_keep node p k (hand_at p k node) may.stands law in
+      taken_in_keeps (λ new journal. ExitsLaw layout meaning b new) p k (hand_at p k node) node kept
+      (λ at_once. copy_keeps held.block kept (first_of (held_by held.block)))
   exits_keep node (NodeCall.offer k) law may =
       let o = node.block.exits in
       exits_change node.block law (offers k (prepares o)) k _ ((offers_in_order.named o k).0 may.next).there refl refl

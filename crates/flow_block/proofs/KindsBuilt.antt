@@ -3,10 +3,10 @@
 use Rattle.std.proofs.Common.{◌≡◌, ℕ, Bool, true, false, cond, length, [], ◌∷◌, Option, Some, None, Result, Ok, Err, refl, ap, sym, ◌∙◌, List}
 use Rattle.flow_value.specs.declared.value.Value.{Value}
 use Rattle.flow_link.specs.declared.draft.BlockKind.{BlockKind}
-use Rattle.flow_link.specs.declared.draft.BlockKind.TheVariants.{Buffer, Broadcast, Action, Transform, TransformMany, Batch, Join}
+use Rattle.flow_link.specs.declared.draft.BlockKind.TheVariants.{Buffer, Broadcast, WriteOnce, Action, Transform, TransformMany, Batch, Join}
 use Rattle.flow_link.specs.Layout.{Layout}
 use Rattle.flow_link.specs.NotBuilt.{is_built_kind}
-use Rattle.flow_link.specs.Plan.{block_in, ports_by_kind, has_work, is_broadcast, is_one_taker}
+use Rattle.flow_link.specs.Plan.{block_in, ports_by_kind, has_work, is_broadcast, is_write_once, is_one_taker}
 use Rattle.flow_block.specs.Kinds.{is_kept_kind}
 use Rattle.flow_intake.specs.Calls.{first_of}
 use Rattle.flow_block.specs.Block.{BlockState, held_by, is_batch, is_join, made_of, makes_row, makes_tuple, keeps_results, yields, copies_next, makes_of, makes_other, makes}
@@ -22,17 +22,19 @@ built_kept Batch e = refl
 built_kept Join e = refl
 built_kept _ e = absurd (cc)
 
--- what holds of buffers, actions, both transforms, batches, joins and broadcasts holds of each kind that is kept in order
-pub by_kind : (P : BlockKind → Type 0) → P Buffer → P Action → P Transform → P TransformMany → P Batch → P Join → P Broadcast
+-- what holds of buffers, actions, both transforms, batches, joins, broadcasts and what takes one message in all holds of each kind
+-- that is kept in order
+pub by_kind : (P : BlockKind → Type 0) → P Buffer → P Action → P Transform → P TransformMany → P Batch → P Join → P Broadcast → P WriteOnce
     → (kind : BlockKind) → is_kept_kind kind ≡ true → P kind
-by_kind P buffer action transform many batch join broadcast Buffer e = buffer
-by_kind P buffer action transform many batch join broadcast Broadcast e = broadcast
-by_kind P buffer action transform many batch join broadcast Action e = action
-by_kind P buffer action transform many batch join broadcast Transform e = transform
-by_kind P buffer action transform many batch join broadcast TransformMany e = many
-by_kind P buffer action transform many batch join broadcast Batch e = batch
-by_kind P buffer action transform many batch join broadcast Join e = join
-by_kind P buffer action transform many batch join broadcast _ e = absurd (cc)
+by_kind P buffer action transform many batch join broadcast once Buffer e = buffer
+by_kind P buffer action transform many batch join broadcast once Broadcast e = broadcast
+by_kind P buffer action transform many batch join broadcast once WriteOnce e = once
+by_kind P buffer action transform many batch join broadcast once Action e = action
+by_kind P buffer action transform many batch join broadcast once Transform e = transform
+by_kind P buffer action transform many batch join broadcast once TransformMany e = many
+by_kind P buffer action transform many batch join broadcast once Batch e = batch
+by_kind P buffer action transform many batch join broadcast once Join e = join
+by_kind P buffer action transform many batch join broadcast once _ e = absurd (cc)
 
 -- it makes what it makes of one message after another
 abbrev pub is_of_one : BlockKind → Bool
@@ -43,12 +45,12 @@ is_of_one TransformMany = true
 is_of_one _ = false
 
 pub of_one : (kind : BlockKind) → is_kept_kind kind ≡ true → is_batch kind ≡ false → is_join kind ≡ false → is_broadcast kind ≡ false
-    → is_of_one kind ≡ true
-of_one Buffer kept single alone shared = refl
-of_one Action kept single alone shared = refl
-of_one Transform kept single alone shared = refl
-of_one TransformMany kept single alone shared = refl
-of_one _ kept single alone shared = absurd (cc)
+    → is_write_once kind ≡ false → is_of_one kind ≡ true
+of_one Buffer kept single alone shared many = refl
+of_one Action kept single alone shared many = refl
+of_one Transform kept single alone shared many = refl
+of_one TransformMany kept single alone shared many = refl
+of_one _ kept single alone shared many = absurd (cc)
 
 -- a batch has no function
 pub batch_idle : (kind : BlockKind) → is_batch kind ≡ true → has_work kind ≡ false
@@ -59,6 +61,17 @@ batch_idle _ e = absurd (cc)
 pub batch_shares : (kind : BlockKind) → is_batch kind ≡ true → is_one_taker kind ≡ true
 batch_shares Batch e = refl
 batch_shares _ e = absurd (cc)
+
+-- nor has what copies its messages, which makes no rows
+pub copying_idle : (kind : BlockKind) → is_one_taker kind ≡ false → has_work kind ≡ false
+copying_idle Broadcast e = refl
+copying_idle WriteOnce e = refl
+copying_idle _ e = absurd (cc)
+
+pub copying_single : (kind : BlockKind) → is_one_taker kind ≡ false → is_batch kind ≡ false
+copying_single Broadcast e = refl
+copying_single WriteOnce e = refl
+copying_single _ e = absurd (cc)
 
 -- nor has a broadcast
 pub broadcast_idle : (kind : BlockKind) → is_broadcast kind ≡ true → has_work kind ≡ false
@@ -126,5 +139,5 @@ module _ {W : Type 0} (layout : Layout W) (meaning : ℕ → Value → Result (L
   has_one_port alone =
       shape.port_count_is
       ∙ by_kind (λ kind. is_join kind ≡ false → ports_by_kind kind (block_in layout.blocks b).ports ≡ 1)
-      (λ e. refl) (λ e. refl) (λ e. refl) (λ e. refl) (λ e. refl) (λ e. absurd (cc)) (λ e. refl)
+      (λ e. refl) (λ e. refl) (λ e. refl) (λ e. refl) (λ e. refl) (λ e. absurd (cc)) (λ e. refl) (λ e. refl)
       (block_in layout.blocks b).kind planned_kept (ap is_join (sym shape.kind_is) ∙ alone)

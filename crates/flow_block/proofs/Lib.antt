@@ -54,6 +54,7 @@ pub mod NodesKept
 pub mod NodesRest
 pub mod NodesSeen
 pub mod NothingToDo
+pub mod OnceHolds
 pub mod PassesOfNodes
 pub mod PlacesNamed
 pub mod PlacesOfCopies
@@ -75,3 +76,4 @@ pub mod TuplesSeen
 pub mod TuplesHold
 pub mod ViewsMove
 pub mod WeightsOfResults
+pub mod WrittenOnce

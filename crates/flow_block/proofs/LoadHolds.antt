@@ -25,7 +25,8 @@ use Rattle.flow_outlet.proofs.OutletFits.{weight_stays, room_put}
 use Rattle.flow_link.proofs.ListTests.{never_both}
 use Rattle.flow_link.specs.Plan.{is_broadcast}
 use Rattle.flow_block.specs.Copies.{copy_place, CopyCall, after_copy, copies_weight}
-use Rattle.flow_block.proofs.CopiesIdle.{no_copy_at, copies_at, broadcast_copies}
+use Rattle.flow_block.proofs.CopiesTaken.{taken_in_keeps, makes_many}
+use Rattle.flow_block.proofs.CopiesIdle.{no_copy_at, copies_at, broadcast_copies, once_copies}
 use Rattle.flow_block.specs.Block.{BlockState, port_in, port_at, with_port, with_jobs, held_by, unit_weight, made_of, puts_out, fails, yields, keeps_results, makes_of, is_batch, row_of, next_group, group_weight, takes_group, makes_row, stops_by, is_join, makes_tuple, copies_next}
 use Rattle.flow_spread.specs.Spread.{puts}
 use Rattle.flow_block.proofs.CopiesLeave.{at_most_one, free_is_given, left_by_copy}
@@ -34,7 +35,7 @@ use Rattle.flow_block.specs.Node.{NodeState, NodeCall, hand_at, in_link_at, out_
 use Rattle.flow_block.specs.NodeLaw.{NodeLaw, ShapeLaw, LoadLaw, WeighsAs, places_out, rows_weighed}
 use Rattle.flow_block.specs.NodeKeeps.{MayCall, after_call, LoadKept}
 use Rattle.flow_block.specs.Peeks.{may_work}
-use Rattle.flow_block.specs.Planned.{block_makes}
+use Rattle.flow_block.specs.Planned.{block_makes, room_of}
 use Rattle.flow_block.proofs.GroupsOfRows.{group_there, group_tells}
 use Rattle.flow_block.proofs.CopierKept.{may_copy_tells}
 use Rattle.flow_block.proofs.GoingOn.{may_work_tells}
@@ -174,7 +175,7 @@ one_goes (message ∷ waiting) value first = omega arith
 
 module _ {W : Type 0} (layout : Layout W) (meaning : ℕ → Value → Result (List Value) ℕ) (b : ℕ) where
   abbrev limit : Option ℕ
-  limit = (block_in layout.blocks b).capacity
+  limit = room_of (block_in layout.blocks b)
 
   -- what is counted at a port, where so many messages are left
   abbrev Loads : ℕ → ℕ → PortState → Type 0
@@ -557,7 +558,11 @@ module _ {W : Type 0} (layout : Layout W) (meaning : ℕ → Value → Result (L
   call_keeps node (NodeCall.open_with p k value) law may =
       one_moves node.block node.journal node.journal p (opens k value) refl refl refl refl law.load
   call_keeps node (NodeCall.close p k) law may =
-      take_keeps p k (hand_at p k node) node may.port law.shape law.load
+      let held = holds_in p k (hand_at p k node) node in
+      let kept = take_keeps p k (hand_at p k node) node may.port law.shape law.load in
+      taken_in_keeps (LoadLaw layout meaning b) p k (hand_at p k node) node kept
+      (λ at_once. copied_next (first_of (held_by held.block)) held.block held.journal refl at_once.alone
+      (once_copies held.block.kind at_once.once) (free_is_given held.block.copies at_once.free) kept)
   call_keeps node (NodeCall.offer k) law may =
       exits_move node (offers k (prepares node.block.exits)) refl refl refl refl law.load
   call_keeps node (NodeCall.give k) law may =
@@ -591,7 +596,7 @@ module _ {W : Type 0} (layout : Layout W) (meaning : ℕ → Value → Result (L
       (broadcast_copies block.kind broadcast) (none_copied_yet block broadcast may.waits) law.load)
       (λ other alone single. make_keeps (first_of (held_by block)) block node.journal refl
       (λ many. (law.gave (many_shares block.kind many)).next_is) (has_one_port layout meaning b block law.shape alone) law.shape law.load
-      (of_one block.kind law.shape.built other alone single) other)
+      (of_one block.kind law.shape.built other alone single (makes_many layout meaning b node law may.waits)) other)
   call_keeps node (NodeCall.complete p) law may =
       one_moves node.block node.journal (node.journal ++ Complete p ∷ []) p port_closes refl refl
       (took_no_more node.journal (Complete p) refl) (gave_no_more node.journal (Complete p) refl) law.load

@@ -23,7 +23,8 @@ use Rattle.flow_outlet.specs.Outlet.{OutletState, first_of as first_left, rest_o
 use Rattle.flow_link.proofs.ListTests.{never_both}
 use Rattle.flow_link.specs.Plan.{is_broadcast, is_one_taker}
 use Rattle.flow_block.specs.Copies.{copy_place, CopyCall, after_copy}
-use Rattle.flow_block.proofs.CopiesIdle.{no_copy_at, copies_at, broadcast_copies}
+use Rattle.flow_block.proofs.CopiesTaken.{taken_in_keeps, makes_many}
+use Rattle.flow_block.proofs.CopiesIdle.{no_copy_at, copies_at, broadcast_copies, once_copies}
 use Rattle.flow_block.specs.Block.{BlockState, port_at, with_port, with_jobs, held_by, made_of, puts_out, put_by_kind, yields, keeps_results, makes_of, is_batch, row_of, takes_group, makes_row, stops_by, is_join, makes_tuple, copies_next}
 use Rattle.flow_block.proofs.CopiesLeave.{held_by_copy}
 use Rattle.flow_block.specs.Jobs.{JobsState, begins, works_off}
@@ -33,7 +34,7 @@ use Rattle.flow_block.specs.NodeLaw.{NodeLaw, MakesLaw, MakesAs, FaultsOn}
 use Rattle.flow_block.specs.Planned.{block_makes}
 use Rattle.flow_block.proofs.GoingOn.{may_work_tells}
 use Rattle.flow_block.proofs.Joins.{join_idle, join_makes, batch_unjoined}
-use Rattle.flow_block.proofs.KindsBuilt.{is_of_one, of_one, has_one_port, makes_by}
+use Rattle.flow_block.proofs.KindsBuilt.{is_of_one, of_one, has_one_port, makes_by, copying_idle}
 use Rattle.flow_block.proofs.PortsChange.{kept_at_one, kept_at_all}
 
 -- What is taken, given and made
@@ -393,13 +394,12 @@ module _ {W : Type 0} (layout : Layout W) (meaning : ℕ → Value → Result (L
     fault_is = λ number is. rw (held_by_copy (after_copy call node.block.copies) node.block) (law.fault_is number is);
   }
 
-  copied_next : (first : Option Value) (block : BlockState) (journal : List Mark) → block.fault ≡ None
-      → is_one_taker block.kind ≡ false → MakesLaw layout meaning b block journal
+  copied_next : (first : Option Value) (block : BlockState) (journal : List Mark) → is_one_taker block.kind ≡ false → MakesLaw layout meaning b block journal
       → MakesLaw layout meaning b (copies_next first block) journal
-  copied_next None block journal none copying law = law
-  copied_next (Some value) block journal none copying law = record {
+  copied_next None block journal copying law = law
+  copied_next (Some value) block journal copying law = record {
     makes = makes_copied (block_makes layout meaning b) block.kind _ _ _ _ _ copying;
-    fault_is = λ number is. absurd (let never : None ≡ Some number = sym none ∙ is in cc);
+    fault_is = λ number is. never_both (has_work block.kind) (law.fault_is number is).works (copying_idle block.kind copying);
   }
 
   after_each : (node : NodeState) (call : NodeCall) → NodeLaw layout meaning b node → MayCall layout meaning b call node
@@ -411,7 +411,13 @@ module _ {W : Type 0} (layout : Layout W) (meaning : ℕ → Value → Result (L
   after_each node (NodeCall.refuse p k) law may = port_stays node law.makes p (refuses k) refl
   after_each node (NodeCall.consume p k) law may = port_stays node law.makes p (consumes k) refl
   after_each node (NodeCall.open_with p k value) law may = port_stays node law.makes p (opens k value) refl
-  after_each node (NodeCall.close p k) law may = taken_in node law p k (hand_in k (port_at p node.block).ends) may.port
+  after_each node (NodeCall.close p k) law may =
+      let hand = hand_in k (port_at p node.block).ends in
+      let held = holds_in p k hand node in
+      let kept = taken_in node law p k hand may.port in
+      taken_in_keeps (MakesLaw layout meaning b) p k hand node kept
+      (λ at_once. copied_next (first_of (held_by held.block)) held.block held.journal
+      (once_copies held.block.kind at_once.once) kept)
   after_each node (NodeCall.give k) law may = given_out node law.makes k (head_of node.block.exits) refl
   after_each node (NodeCall.look_in p k phase) law may = port_stays node law.makes p (port_looks k phase) refl
   after_each node (NodeCall.copy call) law may = copied_out call node (copies_at layout meaning b node law (copy_place call) may.place) law.makes
@@ -423,9 +429,9 @@ module _ {W : Type 0} (layout : Layout W) (meaning : ℕ → Value → Result (L
       makes_by (λ new. MakesLaw layout meaning b new node.journal) (block_makes layout meaning b) block
       (λ batch. row_made block node.journal (one (batch_unjoined block.kind batch)) none block.kind refl batch law.makes)
       (λ join. tuple_made block node.journal join none)
-      (λ broadcast. copied_next (first_of (held_by block)) block node.journal none (broadcast_copies block.kind broadcast) law.makes)
+      (λ broadcast. copied_next (first_of (held_by block)) block node.journal (broadcast_copies block.kind broadcast) law.makes)
       (λ other alone single. made_next block node.journal (held_by block) refl (one alone) none
-      (of_one block.kind law.shape.built other alone single) other law.makes)
+      (of_one block.kind law.shape.built other alone single (makes_many layout meaning b node law may.waits)) other law.makes)
   after_each node (NodeCall.complete p) law may =
       stays node.block (with_port p port_closes node.block) node.journal (node.journal ++ Complete p ∷ []) law.makes
       refl (kept_at_one (λ port. port.waiting) node.block.ports p 0 (port_closes (port_at p node.block)) refl)

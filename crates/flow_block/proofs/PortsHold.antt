@@ -22,6 +22,7 @@ use Rattle.flow_outlet.proofs.OutletFits.{weight_stays}
 use Rattle.flow_link.proofs.ListTests.{never_both}
 use Rattle.flow_link.specs.Plan.{is_broadcast}
 use Rattle.flow_block.specs.Copies.{copy_place, CopyCall, after_copy, copies_weight}
+use Rattle.flow_block.proofs.CopiesTaken.{taken_in_keeps}
 use Rattle.flow_block.proofs.CopiesIdle.{no_copy_at}
 use Rattle.flow_block.specs.Block.{BlockState, port_in, held_by, made_of, yields, keeps_results, makes_of, takes_group, copies_next}
 use Rattle.flow_block.specs.Node.{NodeState, NodeCall, hand_at, in_link_at, out_link_at, holds_in, gives_from, copies_by, marks_copy}
@@ -29,7 +30,7 @@ use Rattle.flow_block.specs.NodeLaw.{NodeLaw, ShapeLaw, PortsLaw, LoadLaw, place
 use Rattle.flow_spread.specs.Spread.{puts}
 use Rattle.flow_block.specs.NodeKeeps.{InAt, MayCall, after_call, PortsKept}
 use Rattle.flow_block.specs.Peeks.{nothing_comes}
-use Rattle.flow_block.specs.Planned.{block_makes}
+use Rattle.flow_block.specs.Planned.{block_makes, room_of}
 use Rattle.flow_block.proofs.CopiesLeave.{took_by_copy_at, left_by_copy}
 use Rattle.flow_block.proofs.GoingOn.{may_complete_tells, may_fault_tells, may_finish_tells}
 use Rattle.flow_block.proofs.JournalTells.{took_same, took_here}
@@ -178,7 +179,7 @@ module _ {W : Type 0} (layout : Layout W) (meaning : ℕ → Value → Result (L
       let exits = node.block.exits in
       let load : LoadLaw layout meaning b node.block node.journal = law.load in
       let shape : ShapeLaw layout meaning b node.block = law.shape in
-      let capacity = (block_in layout.blocks b).capacity in
+      let capacity = room_of (block_in layout.blocks b) in
       let back = weight_stays exits.next exits.groups in
       let none = load.no_room in
       let count : exits.room + weight_at exits.next exits.groups ≤ weight_of exits.groups = omega (arith, back, none) in
@@ -198,7 +199,7 @@ module _ {W : Type 0} (layout : Layout W) (meaning : ℕ → Value → Result (L
   copy_keeps call node there law =
       let load : LoadLaw layout meaning b node.block node.journal = law.load in
       let shape : ShapeLaw layout meaning b node.block = law.shape in
-      let capacity = (block_in layout.blocks b).capacity in
+      let capacity = room_of (block_in layout.blocks b) in
       let copies = node.block.copies in
       let back = copies_weight copies - copies_weight (after_copy call copies) in
       let less = left_by_copy call copies there in
@@ -261,7 +262,11 @@ module _ {W : Type 0} (layout : Layout W) (meaning : ℕ → Value → Result (L
       let port = port_in node.block.ports p in
       one_port node.block.ports node.journal p (opens k value port) law.ports
       (λ old. moves_keep.opened facts (taken node.journal p) port old k value may.place may.stands)
-  call_keeps node (NodeCall.close p k) law may = take_keeps p k (hand_at p k node) node may law.ports
+  call_keeps node (NodeCall.close p k) law may =
+      let held = holds_in p k (hand_at p k node) node in
+      let kept = take_keeps p k (hand_at p k node) node may law.ports in
+      taken_in_keeps (PortsLaw layout meaning b) p k (hand_at p k node) node kept
+      (λ at_once. copied_keeps (first_of (held_by held.block)) held.block held.journal refl kept)
   call_keeps node (NodeCall.offer k) law may = law.ports
   call_keeps node (NodeCall.give k) law may = give_keeps k (head_of node.block.exits) node refl law
   call_keeps node (NodeCall.deny k) law may = law.ports

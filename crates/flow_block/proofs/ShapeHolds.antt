@@ -20,6 +20,7 @@ use Rattle.flow_block.specs.Node.{NodeState, NodeCall, hand_at, holds_in, gives_
 use Rattle.flow_block.specs.NodeLaw.{ShapeLaw, PortAsPlanned}
 use Rattle.flow_block.specs.NodeKeeps.{after_call, ShapeKept}
 use Rattle.flow_block.specs.Planned.{block_makes}
+use Rattle.flow_block.proofs.CopiesTaken.{taken_in_keeps}
 use Rattle.flow_block.proofs.KindsBuilt.{makes_by}
 use Rattle.flow_block.proofs.PortsChange.{each_after_one, each_after_all}
 
@@ -103,6 +104,7 @@ module _ {W : Type 0} (layout : Layout W) (meaning : ℕ → Value → Result (L
     kind_is = kind ∙ law.kind_is;
     size_is = size ∙ law.size_is;
     some_size = rw (kind, size) law.some_size;
+    no_capacity = rw kind law.no_capacity;
     port_count_is = rw (ports, length-set before.ports p (change (port_in before.ports p))) law.port_count_is;
     some_port = rw (ports, length-set before.ports p (change (port_in before.ports p))) law.some_port;
     takes_freely = law.takes_freely;
@@ -124,6 +126,7 @@ module _ {W : Type 0} (layout : Layout W) (meaning : ℕ → Value → Result (L
     kind_is = kind ∙ law.kind_is;
     size_is = size ∙ law.size_is;
     some_size = rw (kind, size) law.some_size;
+    no_capacity = rw kind law.no_capacity;
     port_count_is = rw (ports, length-map before.ports change) law.port_count_is;
     some_port = rw (ports, length-map before.ports change) law.some_port;
     takes_freely = law.takes_freely;
@@ -143,6 +146,7 @@ module _ {W : Type 0} (layout : Layout W) (meaning : ℕ → Value → Result (L
     kind_is = kind ∙ law.kind_is;
     size_is = size ∙ law.size_is;
     some_size = rw (kind, size) law.some_size;
+    no_capacity = rw kind law.no_capacity;
     port_count_is = rw ports law.port_count_is;
     some_port = rw ports law.some_port;
     takes_freely = law.takes_freely;
@@ -204,7 +208,11 @@ module _ {W : Type 0} (layout : Layout W) (meaning : ℕ → Value → Result (L
   call_keeps node (NodeCall.consume p k) law = one_port node.block _ p (consumes k) (consumes_same k) refl refl refl refl law
   call_keeps node (NodeCall.open_with p k value) law =
       one_port node.block _ p (opens k value) (opens_same k value) refl refl refl refl law
-  call_keeps node (NodeCall.close p k) law = take_keeps p k (hand_at p k node) node law
+  call_keeps node (NodeCall.close p k) law =
+      let held = holds_in p k (hand_at p k node) node in
+      let kept = take_keeps p k (hand_at p k node) node law in
+      taken_in_keeps (λ new journal. ShapeLaw layout meaning b new) p k (hand_at p k node) node kept
+      (λ at_once. copy_keeps (first_of (held_by held.block)) held.block kept)
   call_keeps node (NodeCall.offer k) law =
       exits_move node.block _ refl refl refl (rules_stay node.block.exits.ends k _ refl) law
   call_keeps node (NodeCall.give k) law = give_keeps k (head_of node.block.exits) node law
