@@ -6,14 +6,14 @@ use Rattle.flow_link.specs.declared.draft.BlockKind.TheVariants.{Broadcast, Writ
 use Rattle.flow_link.specs.Plan.{is_broadcast, is_one_taker}
 use Rattle.flow_link.specs.Layout.{Layout}
 use Rattle.flow_intake.proofs.CountsOfEnds.{hand_comes}
-use Rattle.flow_intake.specs.Port.{is_hand}
+use Rattle.flow_intake.specs.Port.{stage_at as port_stage, is_hand}
 use Rattle.flow_block.proofs.GoingOn.{open_goes_on}
 use Rattle.flow_block.specs.Kinds.{is_kept_kind}
 use Rattle.flow_link.proofs.ListTests.{never_both}
 use Rattle.flow_intake.specs.Calls.{first_of}
 use Rattle.flow_outlet.specs.Outlet.{head_of}
 use Rattle.flow_spread.specs.Spread.{fresh_spread}
-use Rattle.flow_block.specs.Block.{BlockState, held_by, made_of, keeps_results, yields, makes_of, copies_next}
+use Rattle.flow_block.specs.Block.{BlockState, held_by, made_of, keeps_results, yields, makes_of, copies_next, port_at}
 use Rattle.flow_block.specs.Copies.{copy_place}
 use Rattle.flow_block.specs.Node.{NodeState, NodeCall, hand_at, holds_in, gives_from}
 use Rattle.flow_block.specs.NodeKeeps.{MayCall, after_call, CopiesKept, InAt}

@@ -26,6 +26,7 @@ use Rattle.flow_link.proofs.ListTests.{never_both}
 use Rattle.flow_link.specs.Plan.{is_broadcast, is_write_once}
 use Rattle.flow_link.specs.JournalGrows.{taken_by_mark}
 use Rattle.flow_link.proofs.JournalsGrow.{took_more}
+use Rattle.flow_intake.specs.Ended.{has_seen_completion}
 use Rattle.flow_block.proofs.CopiesTaken.{taken_in_keeps, held_stopped}
 use Rattle.flow_block.proofs.WrittenOnce.{written_tells}
 use Rattle.flow_block.specs.Copies.{copy_place, CopyCall, after_copy, copies_weight}

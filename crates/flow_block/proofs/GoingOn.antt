@@ -1,5 +1,5 @@
 -- What tells that a block goes on: what it may do by itself, an open port, or a link with something under way.
-use Rattle.std.proofs.Common.{◌≡◌, ℕ, zero, suc, ◌+◌, ◌<◌, ltb, ◌==◌, cond, Bool, true, false, not, ◌&&◌, List, [], ◌∷◌, length, set, Option, Some, None, is_none, is_some, Result, refl, sym, ◌∙◌, arith, eq-eqb, eqb-true}
+use Rattle.std.proofs.Common.{◌≡◌, ℕ, zero, suc, ◌+◌, ◌<◌, ltb, ◌==◌, cond, Bool, true, false, not, ◌&&◌, List, [], ◌∷◌, length, set, Option, Some, None, is_none, is_some, Result, refl, sym, ◌∙◌, arith, eq-eqb, eqb-true, ◌||◌}
 use Rattle.std.proofs.lemmas.Bool.{not-true, and_parts, false_from_ne_true}
 use Rattle.flow_value.specs.declared.value.Value.{Value}
 use Rattle.flow_link.specs.declared.stage.SourceStage.{SourceStage}

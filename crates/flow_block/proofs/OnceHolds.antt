@@ -81,7 +81,8 @@ module _ {W : Type 0} (layout : Layout W) (meaning : ℕ → Value → Result (L
 
       none_weighs : copies_weight block.copies ≡ 0
       none_weighs =
-          let one : 1 ≤ coming port = count_there is_coming port.ends k at.place comes in
+          let counted = count_there is_coming port.ends k at.place in
+          let one : 1 ≤ coming port = rw comes at counted in
           let fits : port.load + coming port ≤ 1 =
           subst (λ (room : Option ℕ). IsWithin room (port.load + coming port)) ((law.shape.ports p at.port).capacity ∙ room_is)
           (law.ports p at.port).room in

@@ -60,7 +60,8 @@ module _ (pending : Bool) (copies : SpreadState) (law : SpreadLaw 1 pending None
   unconcerned k there =
       let end = end_at copies k in
       neither (speaks end.link.stage) end.owes (λ concerned.
-      let admitted = OnTrue_at (law.each k there).admitted concerned in
+      let admitted : admits_head end.link.rule.when copies.element ≡ true =
+      OnTrue_at concerned (law.each k there).admitted in
       let never : false ≡ true = sym (none_admitted end.link.rule.when copies.element none) ∙ admitted in
       cc)
 
