@@ -1,12 +1,12 @@
 -- What a run tells of a node that it has: what the node holds, its own fault, whether it is complete, and its load.
-use Rattle.std.proofs.Common.{◌≡◌, ℕ, ◌+◌, ◌-◌, ◌<◌, true, List, [], length, take, get_or, is_some, Some, refl, ap, ap₂, sym, ◌∙◌, subst, arith, None, false, Bool}
+use Rattle.std.proofs.Common.{◌≡◌, ℕ, ◌+◌, ◌-◌, ◌<◌, true, List, [], length, take, get_or, is_some, Some, refl, ap, ap₂, sym, ◌∙◌, subst, arith, None, false, Bool, ◌||◌, ◌&&◌, ◌∷◌}
 use Rattle.std.proofs.Math.ListN.{get_or-map}
 use Rattle.flow_value.specs.declared.value.Value.{Value}
 use Rattle.flow_link.specs.declared.draft.BlockKind.{BlockKind}
 use Rattle.flow_link.specs.declared.trace.Mark.{Mark}
 use Rattle.flow_link.specs.Composes.{Ends}
 use Rattle.flow_link.specs.Endings.{first_fault, fault_by_kind, fault_of, own_fault, is_complete, is_complete_as}
-use Rattle.flow_link.specs.Lists.{every, is_empty}
+use Rattle.flow_link.specs.Lists.{every, is_empty, below}
 use Rattle.flow_link.specs.Making.{results_of, block_result, worked, part_left, load, load_as, all_items}
 use Rattle.flow_link.specs.Plan.{has_work, port_count, is_one_taker}
 use Rattle.flow_link.specs.Trace.{BlockTrace, Run, took, gave, has_complete, partly_left, block_of, marks_of, held_at, left_at, ports_of}
@@ -16,18 +16,26 @@ use Rattle.flow_outlet.specs.Fits.{weight_of}
 use Rattle.flow_outlet.specs.Outlet.{is_empty as has_none}
 use Rattle.flow_block.specs.Block.{port_at, held_by, is_join}
 use Rattle.flow_block.specs.Node.{NodeState}
-use Rattle.flow_block.specs.NodeLaw.{NodeLaw, WeighsAs, PartlyGiven, weighed, rows_weighed, places_out}
+use Rattle.flow_block.specs.NodeLaw.{NodeLaw, WeighsAs, PartlyGiven, weighed, rows_weighed, places_out, has_its_message}
 use Rattle.flow_block.specs.NodeSeen.{IsNodeOf}
 use Rattle.flow_block.specs.Peeks.{holds_nothing}
 use Rattle.flow_block.specs.Planned.{block_makes}
 use Rattle.flow_block.proofs.CopierOf.{copier_seen, none_shared}
 use Rattle.flow_block.proofs.CopiesIdle.{left_is_shared, none_copied}
-use Rattle.flow_block.proofs.KindsBuilt.{by_kind, planned_kept}
+use Rattle.flow_block.proofs.KindsBuilt.{by_kind, planned_kept, has_one_port}
 use Rattle.flow_block.proofs.TestsTell.{every_tells, none_left}
 use Rattle.flow_block.proofs.WeightsOfResults.{weight_weighed, weight_rows, weight_partial}
 use Rattle.flow_block.specs.TuplesSeen.{JoinSeen}
 use Rattle.flow_block.proofs.TuplesSeen.{joins_are_parts}
 use Rattle.flow_block.proofs.Joins.{join_shares}
+
+or_none : (all : Bool) → all ≡ (all || false)
+or_none true = refl
+or_none false = refl
+
+and_one : (all : Bool) → all ≡ (all && true)
+and_one true = refl
+and_one false = refl
 
 module _ {W : Type 0} (run : Run W) (ends : ℕ → Ends) (b : ℕ) (node : NodeState)
     (law : NodeLaw run.layout run.meaning b node) (part : IsNodeOf run ends b node) where
@@ -52,12 +60,20 @@ module _ {W : Type 0} (run : Run W) (ends : ℕ → Ends) (b : ℕ) (node : Node
       ∙ ap (first_fault run b) (held_is 0 ∙ has.held_is)
       ∙ ap fault_of has.fails
 
+  -- a block with one port that has the run's ports completes when that does, or when it has all that it takes
   pub complete_is : is_join (block_of run b).kind ≡ false
-      → is_complete run b ≡ every (λ p. has_complete p (marks_of run b)) (ports_of run b)
+      → is_complete run b ≡ (every (λ p. has_complete p (marks_of run b)) (ports_of run b)
+      || has_its_message (block_of run b).kind (marks_of run b))
   complete_is alone =
-      by_kind (λ kind. is_join kind ≡ false
-      → is_complete_as run kind b ≡ every (λ p. has_complete p (marks_of run b)) (ports_of run b))
-      (λ e. refl) (λ e. refl) (λ e. refl) (λ e. refl) (λ e. refl) (λ e. absurd (cc)) (λ e. refl)
+      let all = every (λ p. has_complete p (marks_of run b)) (ports_of run b) in
+      let alone_here : is_join node.block.kind ≡ false = ap is_join law.shape.kind_is ∙ alone in
+      let one : ports_of run b ≡ 0 ∷ [] =
+      ap below (sym law.shape.port_count_is ∙ has_one_port run.layout run.meaning b node.block law.shape alone_here) in
+      by_kind (λ kind. is_join kind ≡ false → is_complete_as run kind b ≡ (all || has_its_message kind (marks_of run b)))
+      (λ e. or_none all) (λ e. or_none all) (λ e. or_none all) (λ e. or_none all) (λ e. or_none all) (λ e. absurd (cc))
+      (λ e. or_none all)
+      (λ e. ap (λ (first : Bool). first || not (has_none (took (marks_of run b)))) (and_one (has_complete 0 (marks_of run b)))
+      ∙ ap (λ (ps : List ℕ). every (λ p. has_complete p (marks_of run b)) ps || not (has_none (took (marks_of run b)))) (sym one))
       (block_of run b).kind (planned_kept run.layout run.meaning b node.block law.shape) alone
 
   pub is_joining : is_join (block_of run b).kind ≡ is_join node.block.kind

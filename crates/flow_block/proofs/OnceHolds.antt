@@ -14,9 +14,7 @@ use Rattle.flow_outlet.specs.Outlet.{is_empty}
 use Rattle.flow_spread.specs.Spread.{SpreadState, is_spread_free, puts}
 use Rattle.flow_link.specs.declared.draft.BlockKind.{BlockKind}
 use Rattle.flow_link.specs.declared.draft.BlockKind.TheVariants.{WriteOnce}
-use Rattle.flow_link.specs.declared.trace.Outcome.{Outcome}
 use Rattle.flow_outlet.specs.Fits.{weight_of}
-use Rattle.flow_spread.specs.Law.{SpreadLaw}
 use Rattle.flow_block.specs.Copier.{Copier}
 use Rattle.flow_block.specs.Block.{BlockState, port_in, port_at, with_port, held_by, copies_next, copies_at_once, copies_where}
 use Rattle.flow_block.specs.Copies.{after_copy, copies_weight}
@@ -27,13 +25,12 @@ use Rattle.flow_block.specs.Planned.{room_by, room_of}
 use Rattle.flow_block.proofs.CopiesIdle.{once_copies}
 use Rattle.flow_block.proofs.CopiesLeave.{held_by_copy}
 use Rattle.flow_block.proofs.CopiesTaken.{none_next, taken_keeps}
-use Rattle.flow_block.proofs.GoingOn.{open_goes_on}
 use Rattle.flow_block.proofs.Joins.{copies_unjoined}
 use Rattle.flow_block.proofs.KindsBuilt.{has_one_port}
 use Rattle.flow_block.proofs.PortsChange.{kept_at_one, kept_at_all}
 use Rattle.flow_block.proofs.ShapeHolds.{shape_kept}
-use Rattle.flow_block.proofs.WrittenOnce.{MayPutFirst, may_put_first, no_element}
-use Rattle.flow_block.proofs.CopierHolds.{copies_lawful, no_exit_at}
+use Rattle.flow_block.proofs.WrittenOnce.{MayPutFirst, may_put_yet}
+use Rattle.flow_block.proofs.CopierHolds.{no_exit_at}
 
 -- it has room for one
 room_once : (kind : BlockKind) (capacity : Option ℕ) → is_write_once kind ≡ true → room_by kind capacity ≡ Some 1
@@ -74,11 +71,6 @@ module _ {W : Type 0} (layout : Layout W) (meaning : ℕ → Value → Result (L
       comes : is_coming (port_stage k port) ≡ true
       comes = hand_comes (port_stage k port) at.stands
 
-      going : block.stopped ≡ None
-      going =
-          law.ends.stopped_is
-          ∙ (open_goes_on layout meaning b block node.journal law.ends p at.port (((law.ports p at.port).each k at.place).coming comes)).0
-
       none_weighs : copies_weight block.copies ≡ 0
       none_weighs =
           let counted = count_there is_coming port.ends k at.place in
@@ -91,11 +83,7 @@ module _ {W : Type 0} (layout : Layout W) (meaning : ℕ → Value → Result (L
           omega (arith, one, fits, counts)
 
       may_put : MayPutFirst block.copies
-      may_put =
-          may_put_first copier.pending block.copies
-          (subst (λ (stopped : Option Outcome). SpreadLaw 1 copier.pending stopped block.copies) going
-          (copies_lawful layout b block node.journal copier))
-          (no_element layout b block node.journal copier once none_weighs)
+      may_put = may_put_yet layout b block node.journal copier once none_weighs
 
       -- it copies it at once
       module _ (value : Value) where

@@ -1,5 +1,5 @@
 -- A block that takes one message in all: what is known of it before it took that, and after.
-use Rattle.std.proofs.Common.{◌≡◌, ℕ, zero, suc, ◌+◌, ◌^◌, ◌<◌, ◌≤◌, ◌==◌, Bool, true, false, cond, not, ◌&&◌, ◌||◌, List, [], ◌∷◌, ◌++◌, length, Option, Some, None, is_some, Result, refl, ap, sym, ◌∙◌, arith, eq-eqb}
+use Rattle.std.proofs.Common.{◌≡◌, ℕ, zero, suc, ◌+◌, ◌^◌, ◌<◌, ◌≤◌, ◌==◌, Bool, true, false, cond, not, ◌&&◌, ◌||◌, List, [], ◌∷◌, ◌++◌, length, Option, Some, None, is_some, Result, refl, ap, ap₂, sym, ◌∙◌, arith, eq-eqb}
 use Rattle.std.proofs.lemmas.Bool.{and_parts, and_from, OnTrue_at}
 use Rattle.flow_value.specs.When.{admits}
 use Rattle.flow_value.specs.declared.when.When.{When}
@@ -18,12 +18,17 @@ use Rattle.flow_spread.specs.declared.end.CopyEnd.{CopyEnd}
 use Rattle.flow_spread.specs.End.{count_of, owes_it, is_busy, is_busy_at, is_waiting_at, end_in}
 use Rattle.flow_spread.specs.Law.{SpreadLaw, speaks, concerns_it}
 use Rattle.flow_spread.specs.Spread.{SpreadState, end_at, is_spread_free}
+use Rattle.flow_link.proofs.ListTests.{never_both}
+use Rattle.flow_link.specs.declared.trace.Outcome.{Outcome}
+use Rattle.flow_block.proofs.TestsTell.{none_unless}
+use Rattle.flow_block.proofs.CopiesIdle.{once_copies}
+use Rattle.flow_block.specs.Node.{NodeState}
 use Rattle.flow_block.specs.Block.{BlockState, held_by}
 use Rattle.flow_block.specs.Copier.{Copier}
 use Rattle.flow_block.specs.Copies.{copies_left, weight_by, copies_weight, none_waits}
-use Rattle.flow_block.specs.NodeLaw.{has_its_message}
+use Rattle.flow_block.specs.NodeLaw.{has_its_message, NodeLaw}
 use Rattle.flow_block.specs.Peeks.{is_written}
-use Rattle.flow_block.proofs.CopiesCalled.{NewestOf, elements, newest_is, once_is}
+use Rattle.flow_block.proofs.CopiesCalled.{NewestOf, elements, newest_is, once_is, count_is}
 use Rattle.flow_block.proofs.CopierHolds.{copies_lawful}
 
 -- Before it took its message
@@ -55,7 +60,8 @@ neither false false never = (refl, refl)
 neither true owes never = absurd (never refl)
 neither false true never = absurd (never refl)
 
-module _ (pending : Bool) (copies : SpreadState) (law : SpreadLaw 1 pending None copies) (none : copies.element ≡ None) where
+module _ (pending : Bool) (stopped : Option Outcome) (copies : SpreadState) (law : SpreadLaw 1 pending stopped copies)
+    (none : copies.element ≡ None) where
   unconcerned : (k : ℕ) → k < length copies.ends → (speaks (end_at copies k).link.stage ≡ false) × ((end_at copies k).owes ≡ false)
   unconcerned k there =
       let end = end_at copies k in
@@ -84,17 +90,17 @@ unset : (once : Bool) (element : Option Value) → element ≡ None → not (onc
 unset true element none = rw none refl
 unset false element none = refl
 
-pub may_put_first : (pending : Bool) (copies : SpreadState) → SpreadLaw 1 pending None copies → copies.element ≡ None
-    → MayPutFirst copies
-may_put_first pending copies law none =
-    let owes = eq-eqb (count_of owes_it copies.ends) 0 (none_owes pending copies law none) in
-    let busy = eq-eqb (count_of is_busy_at copies.ends) 0 (none_busy pending copies law none) in
+pub may_put_first : (pending : Bool) (stopped : Option Outcome) (copies : SpreadState) → SpreadLaw 1 pending stopped copies
+    → copies.element ≡ None → MayPutFirst copies
+may_put_first pending stopped copies law none =
+    let owes = eq-eqb (count_of owes_it copies.ends) 0 (none_owes pending stopped copies law none) in
+    let busy = eq-eqb (count_of is_busy_at copies.ends) 0 (none_busy pending stopped copies law none) in
     record {
       free = and_from (count_of owes_it copies.ends == 0 && count_of is_busy_at copies.ends == 0)
           (not (copies.once && is_some copies.element))
           (and_from (count_of owes_it copies.ends == 0) (count_of is_busy_at copies.ends == 0) owes busy)
           (unset copies.once copies.element none);
-      waits = eq-eqb (count_of is_waiting_at copies.ends) 0 (none_waiting pending copies law none);
+      waits = eq-eqb (count_of is_waiting_at copies.ends) 0 (none_waiting pending stopped copies law none);
       ids = omega (arith, law.none_yet none);
     }
 
@@ -112,6 +118,10 @@ some_taken older held None some = absurd (cc)
 some_taken [] held (Some value) some = refl
 some_taken (first ∷ older) held (Some value) some = refl
 
+none_in : (values : List Value) → length values ≡ 0 → values ≡ []
+none_in [] e = refl
+none_in (value ∷ values) e = absurd (omega (arith, e))
+
 module _ {W : Type 0} (layout : Layout W) (b : ℕ) (block : BlockState) (journal : List Mark) (c : Copier layout b block journal) where
   -- where it counts nothing, it has none
   pub no_element : is_write_once block.kind ≡ true → copies_weight block.copies ≡ 0 → block.copies.element ≡ None
@@ -124,8 +134,58 @@ module _ {W : Type 0} (layout : Layout W) (b : ℕ) (block : BlockState) (journa
       ap (λ (taken : List Value). is_empty taken) (c.took_is ∙ ap (λ (put : List Value). put ++ held_by block) (sym newest.newest))
       ∙ some_taken newest.older (held_by block) block.copies.element some
 
+  -- then it may take its first
+  pub may_put_yet : is_write_once block.kind ≡ true → copies_weight block.copies ≡ 0 → MayPutFirst block.copies
+  may_put_yet once none =
+      may_put_first c.pending block.stopped block.copies (copies_lawful layout b block journal c) (no_element once none)
+
+  none_before : block.copies.element ≡ None → elements layout b block journal c ≡ []
+  none_before none =
+      let law = copies_lawful layout b block journal c in
+      none_in (elements layout b block journal c) (omega (arith, count_is layout b block journal c, law.none_yet none))
+
+  -- what took its message and holds none has its element
+  pub written_back : has_its_message block.kind journal ≡ true → held_by block ≡ [] → is_written block ≡ true
+  written_back has none =
+      let both = and_parts (is_write_once block.kind) (not (is_empty (took journal))) has in
+      and_from (is_write_once block.kind) (is_some block.copies.element) both.0
+      (some_where (is_some block.copies.element) refl (not_so (is_empty (took journal)) both.1))
+    where
+      not_so : (so : Bool) → not so ≡ true → so ≡ false
+      not_so false e = refl
+      not_so true e = absurd (cc)
+
+      some_where : (some : Bool) → is_some block.copies.element ≡ some → is_empty (took journal) ≡ false → some ≡ true
+      some_where true is taken = refl
+      some_where false is taken =
+          let nothing : took journal ≡ [] =
+          c.took_is ∙ ap₂ (λ (put held : List Value). put ++ held) (none_before (none_unless block.copies.element is)) none in
+          never_both (is_empty (took journal)) (ap (λ (taken : List Value). is_empty taken) nothing) taken
+
   -- what has its element took it
   pub written_tells : is_written block ≡ true → has_its_message block.kind journal ≡ true
   written_tells written =
       let both = and_parts (is_write_once block.kind) (is_some block.copies.element) written in
       and_from (is_write_once block.kind) (not (is_empty (took journal))) both.0 (ap not (has_taken both.1))
+
+-- Of a node in order
+
+same_tests : (a b : Bool) → (a ≡ true → b ≡ true) → (b ≡ true → a ≡ true) → a ≡ b
+same_tests true b there back = sym (there refl)
+same_tests false true there back = back refl
+same_tests false false there back = refl
+
+module _ {W : Type 0} (layout : Layout W) (meaning : ℕ → Value → Result (List Value) ℕ) (b : ℕ) (node : NodeState)
+    (law : NodeLaw layout meaning b node) where
+  -- its marks tell that it took its message just where it has its element
+  pub message_is : has_its_message node.block.kind node.journal ≡ is_written node.block
+  message_is =
+      let of_once : is_write_once node.block.kind ≡ true → Copier layout b node.block node.journal =
+      λ once. law.copies.copier (once_copies node.block.kind once) in
+      same_tests (has_its_message node.block.kind node.journal) (is_written node.block)
+      (λ has.
+      let once = (and_parts (is_write_once node.block.kind) (not (is_empty (took node.journal))) has).0 in
+      written_back layout b node.block node.journal (of_once once) has (law.none_held once))
+      (λ written.
+      let once = (and_parts (is_write_once node.block.kind) (is_some node.block.copies.element) written).0 in
+      written_tells layout b node.block node.journal (of_once once) written)
