@@ -1,12 +1,14 @@
 -- What holds of each kind that is kept in order: it has one port, if it is no join, and makes rows, tuples or something of its
 -- first message.
-use Rattle.std.proofs.Common.{◌≡◌, ℕ, Bool, true, false, cond, length, [], ◌∷◌, Option, Some, None, Result, Ok, Err, refl, ap, sym, ◌∙◌, List}
+use Rattle.std.proofs.Common.{◌≡◌, ℕ, Bool, true, false, cond, length, [], ◌∷◌, Option, Some, None, Result, Ok, Err, refl, ap, sym, ◌∙◌, subst, is_some, List}
 use Rattle.flow_value.specs.declared.value.Value.{Value}
 use Rattle.flow_link.specs.declared.draft.BlockKind.{BlockKind}
 use Rattle.flow_link.specs.declared.draft.BlockKind.TheVariants.{Buffer, Broadcast, WriteOnce, Action, Transform, TransformMany, Batch, Join}
 use Rattle.flow_link.specs.Layout.{Layout}
 use Rattle.flow_link.specs.NotBuilt.{is_built_kind}
 use Rattle.flow_link.specs.Plan.{block_in, ports_by_kind, has_work, is_broadcast, is_write_once, is_one_taker}
+use Rattle.flow_link.specs.LinkOk.{IsWithin}
+use Rattle.flow_block.specs.Planned.{room_by, room_of}
 use Rattle.flow_block.specs.Kinds.{is_kept_kind}
 use Rattle.flow_intake.specs.Calls.{first_of}
 use Rattle.flow_block.specs.Block.{BlockState, held_by, is_batch, is_join, made_of, makes_row, makes_tuple, keeps_results, yields, copies_next, makes_of, makes_other, makes}
@@ -130,8 +132,36 @@ pub made_kind : (result : Value → Result (List Value) ℕ) (first : Option Val
 made_kind result None block = refl
 made_kind result (Some value) block = yields_kind (made_of block.kind result value) block
 
+-- the room of a block is its capacity, but for what takes one message in all, which has none
+pub room_shared : (kind : BlockKind) (capacity : Option ℕ) → is_write_once kind ≡ false → room_by kind capacity ≡ capacity
+room_shared WriteOnce capacity many = absurd (cc)
+room_shared _ capacity many = refl
+
+room_where : (kind : BlockKind) (capacity : Option ℕ) → (is_write_once kind ≡ true → capacity ≡ None) → is_some capacity ≡ true
+    → room_by kind capacity ≡ capacity
+room_where WriteOnce None none there = absurd (cc)
+room_where WriteOnce (Some room) none there = absurd (let never : Some room ≡ None = none refl in cc)
+room_where _ capacity none there = refl
+
+within_where : (kind : BlockKind) (capacity : Option ℕ) (count : ℕ) → (is_write_once kind ≡ true → capacity ≡ None)
+    → IsWithin (room_by kind capacity) count → IsWithin capacity count
+within_where WriteOnce capacity count none within = subst (λ (room : Option ℕ). IsWithin room count) (sym (none refl)) tt
+within_where _ capacity count none within = within
+
 module _ {W : Type 0} (layout : Layout W) (meaning : ℕ → Value → Result (List Value) ℕ) (b : ℕ) (block : BlockState)
     (shape : ShapeLaw layout meaning b block) where
+  unlimited : is_write_once (block_in layout.blocks b).kind ≡ true → (block_in layout.blocks b).capacity ≡ None
+  unlimited once = shape.no_capacity (ap is_write_once shape.kind_is ∙ once)
+
+  pub room_kept : is_some (block_in layout.blocks b).capacity ≡ true
+      → room_of (block_in layout.blocks b) ≡ (block_in layout.blocks b).capacity
+  room_kept there = room_where (block_in layout.blocks b).kind (block_in layout.blocks b).capacity unlimited there
+
+  pub within_capacity : (count : ℕ) → IsWithin (room_of (block_in layout.blocks b)) count
+      → IsWithin (block_in layout.blocks b).capacity count
+  within_capacity count within =
+      within_where (block_in layout.blocks b).kind (block_in layout.blocks b).capacity count unlimited within
+
   pub planned_kept : is_kept_kind (block_in layout.blocks b).kind ≡ true
   planned_kept = ap is_kept_kind (sym shape.kind_is) ∙ shape.built
 

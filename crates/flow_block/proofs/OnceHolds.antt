@@ -33,7 +33,7 @@ use Rattle.flow_block.proofs.WrittenOnce.{MayPutFirst, may_put_yet}
 use Rattle.flow_block.proofs.CopierHolds.{no_exit_at}
 
 -- it has room for one
-room_once : (kind : BlockKind) (capacity : Option ℕ) → is_write_once kind ≡ true → room_by kind capacity ≡ Some 1
+pub room_once : (kind : BlockKind) (capacity : Option ℕ) → is_write_once kind ≡ true → room_by kind capacity ≡ Some 1
 room_once WriteOnce capacity once = refl
 room_once _ capacity once = absurd (cc)
 

@@ -162,11 +162,22 @@ module _ {W : Type 0} (layout : Layout W) (b : ℕ) (block : BlockState) (journa
           c.took_is ∙ ap₂ (λ (put held : List Value). put ++ held) (none_before (none_unless block.copies.element is)) none in
           never_both (is_empty (took journal)) (ap (λ (taken : List Value). is_empty taken) nothing) taken
 
+  -- what overwrites its element counts it while it is left
+  pub weight_left : is_write_once block.kind ≡ false → copies_weight block.copies ≡ copies_left block.copies
+  weight_left many =
+      ap (λ (once : Bool). weight_by once (is_some block.copies.element) (copies_left block.copies))
+      (once_is layout b block journal c ∙ many)
+
   -- what has its element took it
   pub written_tells : is_written block ≡ true → has_its_message block.kind journal ≡ true
   written_tells written =
       let both = and_parts (is_write_once block.kind) (is_some block.copies.element) written in
       and_from (is_write_once block.kind) (not (is_empty (took journal))) both.0 (ap not (has_taken both.1))
+
+weighs_one : (once some : Bool) (left : ℕ) → once ≡ true → some ≡ true → weight_by once some left ≡ 1
+weighs_one true true left once some = refl
+weighs_one true false left once some = absurd (cc)
+weighs_one false some left once is = absurd (cc)
 
 -- Of a node in order
 
@@ -177,6 +188,29 @@ same_tests false false there back = refl
 
 module _ {W : Type 0} (layout : Layout W) (meaning : ℕ → Value → Result (List Value) ℕ) (b : ℕ) (node : NodeState)
     (law : NodeLaw layout meaning b node) where
+  -- and it counts
+  pub written_weighs : is_written node.block ≡ true → copies_weight node.block.copies ≡ 1
+  written_weighs written =
+      let copies = node.block.copies in
+      let both = and_parts (is_write_once node.block.kind) (is_some copies.element) written in
+      let copier = law.copies.copier (once_copies node.block.kind both.0) in
+      weighs_one copies.once (is_some copies.element) (copies_left copies)
+      (once_is layout b node.block node.journal copier ∙ both.0) both.1
+
+  -- what counts of it is there
+  pub weighs_written : is_write_once node.block.kind ≡ true → 1 ≤ copies_weight node.block.copies → is_written node.block ≡ true
+  weighs_written once counts =
+      let copies = node.block.copies in
+      let copier = law.copies.copier (once_copies node.block.kind once) in
+      and_from (is_write_once node.block.kind) (is_some copies.element) once
+      (counted copies.once (is_some copies.element) (copies_left copies)
+      (once_is layout b node.block node.journal copier ∙ once) counts)
+    where
+      counted : (once some : Bool) (left : ℕ) → once ≡ true → 1 ≤ weight_by once some left → some ≡ true
+      counted true true left is counts = refl
+      counted true false left is counts = absurd (omega (arith, counts))
+      counted false some left is counts = absurd (cc)
+
   -- its marks tell that it took its message just where it has its element
   pub message_is : has_its_message node.block.kind node.journal ≡ is_written node.block
   message_is =
