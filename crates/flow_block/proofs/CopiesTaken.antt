@@ -1,5 +1,5 @@
 -- What a taking makes of a block: it holds what it took, or copies it at once.
-use Rattle.std.proofs.Common.{◌≡◌, ℕ, ◌+◌, ◌^◌, ◌<◌, ◌≤◌, ◌==◌, Bool, true, false, not, ◌&&◌, ltb, List, [], length, Option, Some, None, is_none, Result, refl, arith, eqb-true, ltb-true}
+use Rattle.std.proofs.Common.{◌≡◌, ℕ, ◌+◌, ◌^◌, ◌<◌, ◌≤◌, ◌==◌, Bool, true, false, not, ◌&&◌, ltb, List, [], length, Option, Some, None, is_none, Result, refl, ap, ◌∙◌, arith, eqb-true, ltb-true}
 use Rattle.std.proofs.lemmas.Bool.{and_parts, false_from_ne_true}
 use Rattle.flow_value.specs.declared.value.Value.{Value}
 use Rattle.flow_link.specs.declared.trace.Mark.{Mark}
@@ -17,7 +17,7 @@ use Rattle.flow_block.specs.Peeks.{may_work, has_next}
 use Rattle.flow_block.specs.NodeLaw.{NodeLaw}
 use Rattle.flow_block.specs.Block.{BlockState, held_by, copies_next, copies_at_once, copies_where, copies_taken}
 use Rattle.flow_block.specs.JournalFits.{marks_due}
-use Rattle.flow_block.specs.Node.{NodeState, holds_in, takes_in}
+use Rattle.flow_block.specs.Node.{NodeState, holds_in, takes_in, with_block}
 use Rattle.flow_block.proofs.CopiesFit.{due_copy_next}
 
 -- what copies and is no broadcast takes one message in all
@@ -95,6 +95,16 @@ held_stopped p k (Some value) node = refl
 pub held_kind : (p k : ℕ) (hand : Option Value) (node : NodeState) → (holds_in p k hand node).block.kind ≡ node.block.kind
 held_kind p k None node = refl
 held_kind p k (Some value) node = refl
+
+-- another block holds it
+taken_as : (block : BlockState) → is_write_once block.kind ≡ false → copies_taken block ≡ block
+taken_as block many = rw many refl
+
+pub taken_as_held : (p k : ℕ) (hand : Option Value) (node : NodeState) → is_write_once node.block.kind ≡ false
+    → takes_in p k hand node ≡ holds_in p k hand node
+taken_as_held p k hand node many =
+    let held = holds_in p k hand node in
+    ap (λ (block : BlockState). with_block block held) (taken_as held.block (ap is_write_once (held_kind p k hand node) ∙ many))
 
 pub due_taken : (block : BlockState) → marks_due (copies_taken block) ≤ marks_due block
 due_taken block =
