@@ -17,7 +17,7 @@ use Rattle.flow_block.specs.NextCopies.{next_copy}
 use Rattle.flow_block.specs.NextMoves.{next_in, next_out}
 use Rattle.flow_block.specs.Node.{NodeState}
 use Rattle.flow_block.specs.NodeLaw.{NodeLaw}
-use Rattle.flow_block.specs.NodeSeen.{IsNodeOf}
+use Rattle.flow_block.specs.NodeSeen.{IsNodeOf, EachMayCarry}
 use Rattle.flow_block.specs.Peeks.{may_make, may_begin, may_end, may_complete, next_fault, may_finish}
 
 -- nothing that it could do
@@ -71,11 +71,6 @@ pub record NoneReserve (node : NodeState) : Type 0 where
   pub copies : (k : ℕ) → k < length node.block.copies.ends → is_asked (copy_stage node.block.copies k) ≡ false
 
 module _ (W : Type 0) where
-  -- each link out of a block may carry something
-  abbrev pub EachMayCarry : Run W → ℕ → Type 0
-  EachMayCarry run b =
-      (l : ℕ) → l < length run.layout.links → (link_of run l).source ≡ Block b → is_used_up (link_of run l).max [] ≡ false
-
   -- what is known of a node of a run
   abbrev pub OfEachNode : ((run : Run W) → (ℕ → Ends) → ℕ → NodeState → Type 0) → Type 0
   OfEachNode P =
