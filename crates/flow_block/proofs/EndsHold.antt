@@ -463,7 +463,7 @@ module _ {W : Type 0} (layout : Layout W) (meaning : ℕ → Value → Result (L
   works_on_group block journal law size weight order none =
       let new = makes_group size weight order block in
       both new journal
-      (each_after_group size order (PortEndsBy block.fault journal) block.ports
+      (each_after_group size order (PortEndsBy block.kind block.fault journal) block.ports
       (λ q count there. each_port block journal law q there))
       (going_ends block.kind _ new.ports new.exits block.fault block.stopped journal none (sym law.stopped_is ∙ none))
 

@@ -57,7 +57,7 @@ use Rattle.flow_block.proofs.FaultsSeen.{not_seen_at_ends, not_seen_at_ports}
 use Rattle.flow_block.proofs.GoingOn.{open_goes_on}
 use Rattle.flow_block.proofs.JournalTells.{stopped_tells, fault_marked, faulted_marked, none_stopped, stopped_ends, ended_by_complete, ended_is_complete, complete_where}
 use Rattle.flow_block.proofs.KindsBuilt.{by_kind, planned_kept, has_one_port, room_shared}
-use Rattle.flow_block.proofs.NodesSeen.{held_is, none_held, own_fault_is, complete_is, load_is}
+use Rattle.flow_block.proofs.NodesSeen.{held_is, none_held, own_fault_is, load_is}
 use Rattle.flow_block.proofs.NothingToDo.{not_pending, worked_off, none_seen, no_coming, free_at, waiting_goes, not_admitted, not_finished, left_where}
 use Rattle.flow_block.proofs.PlacesOfLinks.{end_in_of, end_out_of}
 use Rattle.flow_block.proofs.TestsTell.{every_tells, every_where, some_where}

@@ -204,6 +204,7 @@ module _ {W : Type 0} (layout : Layout W) (meaning : ℕ → Value → Result (L
     size_is = law.size_is;
     some_size = law.some_size;
     some_group = law.some_group;
+    no_capacity = law.no_capacity;
     port_count_is = length_back (gives k block.exits) block.copies block.kind (head_of block.exits) block.ports ∙ law.port_count_is;
     some_port =
         subst (λ (count : ℕ). 0 < count)
@@ -233,6 +234,7 @@ module _ {W : Type 0} (layout : Layout W) (meaning : ℕ → Value → Result (L
     size_is = law.size_is;
     some_size = law.some_size;
     some_group = law.some_group;
+    no_capacity = law.no_capacity;
     port_count_is = length_by_group size order block.ports ∙ law.port_count_is;
     some_port = subst (λ (count : ℕ). 0 < count) (sym (length_by_group size order block.ports)) law.some_port;
     takes_freely = law.takes_freely;
