@@ -1,5 +1,5 @@
 -- A move of one end of a link leaves the other end where it is, also where both are of one block.
-use Rattle.std.proofs.Common.{◌≡◌, ℕ, ◌<◌, length, List, Option, Some, None, Result, Ok, [], true, false, refl, sym, subst}
+use Rattle.std.proofs.Common.{◌≡◌, ℕ, ◌<◌, length, List, Option, Some, None, Result, Ok, [], true, false, refl, ap, ◌∙◌, sym, subst}
 use Rattle.std.proofs.lemmas.List.{length-set}
 use Rattle.flow_value.specs.declared.value.Value.{Value}
 use Rattle.flow_link.specs.declared.phase.Move.{Move}
@@ -9,8 +9,11 @@ use Rattle.flow_link.specs.declared.plan.LinkSource.TheVariants.{Block, Input}
 use Rattle.flow_link.specs.declared.plan.LinkTarget.{LinkTarget}
 use Rattle.flow_link.specs.declared.plan.LinkTarget.TheVariants.{Port, Exit}
 use Rattle.flow_intake.specs.Port.{PortState}
-use Rattle.flow_outlet.specs.Outlet.{head_of, gives}
-use Rattle.flow_block.specs.Node.{NodeState, hand_at, gives_from, takes_in}
+use Rattle.flow_intake.specs.Calls.{first_of}
+use Rattle.flow_outlet.specs.Outlet.{head_of, gives, OutletState}
+use Rattle.flow_block.proofs.CopiesTaken.{taken_keeps}
+use Rattle.flow_block.specs.Block.{BlockState, copies_next, held_by}
+use Rattle.flow_block.specs.Node.{NodeState, hand_at, gives_from, takes_in, holds_in}
 use Rattle.flow_block.specs.NodeKeeps.{InAt, any_stage}
 use Rattle.flow_block.proofs.RoomBack.{length_back, port_back}
 use Rattle.flow_core.specs.Events.{out_call, in_call, is_of_source, slot_after, with_line}
@@ -46,10 +49,22 @@ out_stays result k (move.End how) node p j there = record { port = there.port; p
 out_stays result k _ node p j there = there
 
 -- so do all ends of links out of it when it takes
+held_stay : (p k : ℕ) (hand : Option Value) (node : NodeState) → (holds_in p k hand node).block.exits ≡ node.block.exits
+held_stay p k None node = refl
+held_stay p k (Some value) node = refl
+
+copied_stay : (first : Option Value) (block : BlockState) → (copies_next first block).exits ≡ block.exits
+copied_stay None block = refl
+copied_stay (Some value) block = refl
+
 takes_stay : (p k : ℕ) (hand : Option Value) (node : NodeState)
     → length (takes_in p k hand node).block.exits.ends ≡ length node.block.exits.ends
-takes_stay p k None node = refl
-takes_stay p k (Some value) node = refl
+takes_stay p k hand node =
+    let held = holds_in p k hand node in
+    let kept = held_stay p k hand node in
+    ap (λ (exits : OutletState). length exits.ends)
+    (taken_keeps (λ new. new.exits ≡ node.block.exits) held.block kept
+    (λ at_once. copied_stay (first_of (held_by held.block)) held.block ∙ kept))
 
 opens_stay : (result : Value → Result (List Value) ℕ) (p k : ℕ) (slot : Option Value) (node : NodeState)
     → length (called result (in_call p k slot move.Open) node).block.exits.ends ≡ length node.block.exits.ends
