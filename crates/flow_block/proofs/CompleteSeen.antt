@@ -12,11 +12,10 @@ use Rattle.flow_block.proofs.WrittenOnce.{message_is}
 use Rattle.flow_block.proofs.NodesSeen.{complete_by_port}
 use Rattle.flow_block.specs.Block.{port_in, port_at, is_join}
 use Rattle.flow_block.specs.Node.{NodeState, node_trace}
-use Rattle.flow_block.specs.NodeLaw.{NodeLaw, outcome_in, has_its_message}
+use Rattle.flow_block.specs.NodeLaw.{NodeLaw, has_its_message}
 use Rattle.flow_block.specs.Peeks.{all_ended, is_complete, is_written}
 use Rattle.flow_block.proofs.JournalTells.{ended_by_complete, complete_where}
 use Rattle.flow_block.proofs.Joins.{join_shares}
-use Rattle.flow_block.proofs.KindsBuilt.{by_kind, planned_kept}
 use Rattle.flow_block.proofs.NodesAreLawful.{join_is}
 use Rattle.flow_block.proofs.TuplesSeen.{joins_are_parts}
 

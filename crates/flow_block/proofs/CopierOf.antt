@@ -12,9 +12,7 @@ use Rattle.flow_outlet.specs.Fits.{weight_of}
 use Rattle.flow_outlet.specs.Outlet.{OutletState, is_empty}
 use Rattle.flow_spread.specs.Spread.{is_at_rest, only_waits}
 use Rattle.flow_block.specs.Block.{BlockState, held_by}
-use Rattle.flow_block.specs.Copies.{copies_left}
 use Rattle.flow_block.specs.CopiesSeen.{IsCopierOf, CopierSeen, CopierStill, CopierRests}
-use Rattle.flow_block.specs.Kinds.{is_kept_kind}
 use Rattle.flow_block.specs.Node.{NodeState, source_view, copy_view}
 use Rattle.flow_block.specs.NodeLaw.{NodeLaw}
 use Rattle.flow_block.specs.NodeRests.{HasNothingToDo, EndsRest}
@@ -24,7 +22,6 @@ use Rattle.flow_block.specs.Planned.{out_place}
 use Rattle.flow_block.proofs.CopiesIdle.{copies_idle, never_broadcast}
 use Rattle.flow_block.proofs.CopiesRest.{copiers_rest, copiers_are_still}
 use Rattle.flow_block.proofs.CopiesSeen.{copiers_are_parts}
-use Rattle.flow_block.proofs.KindsBuilt.{by_kind}
 
 pub makes_copies : {W : Type 0} (run : Run W) (ends : ℕ → Ends) (b : ℕ) (kind : BlockKind) → is_one_taker kind ≡ false
     → makes_as run b kind ≡ true → NodeMakes run ends b kind

@@ -2,13 +2,12 @@
 use Rattle.std.proofs.Common.{◌≡◌, ℕ, true, false, List, [], ◌∷◌, Option, Some, None, Result, Ok, Err, refl, sym, ap, ◌∙◌}
 use Rattle.flow_value.specs.declared.value.Value.{Value}
 use Rattle.flow_link.specs.declared.draft.BlockKind.{BlockKind}
-use Rattle.flow_link.specs.declared.draft.BlockKind.TheVariants.{Broadcast, WriteOnce, Action}
-use Rattle.flow_link.specs.Plan.{is_broadcast, is_one_taker}
+use Rattle.flow_link.specs.declared.draft.BlockKind.TheVariants.{Action}
+use Rattle.flow_link.specs.Plan.{is_one_taker}
 use Rattle.flow_link.specs.Layout.{Layout}
 use Rattle.flow_intake.proofs.CountsOfEnds.{hand_comes}
 use Rattle.flow_intake.specs.Port.{stage_at as port_stage, is_hand}
 use Rattle.flow_block.proofs.GoingOn.{open_goes_on}
-use Rattle.flow_block.specs.Kinds.{is_kept_kind}
 use Rattle.flow_link.proofs.ListTests.{never_both}
 use Rattle.flow_intake.specs.Calls.{first_of}
 use Rattle.flow_outlet.specs.Outlet.{head_of}
@@ -20,7 +19,7 @@ use Rattle.flow_block.specs.NodeKeeps.{MayCall, after_call, CopiesKept, InAt}
 use Rattle.flow_block.specs.NodeLaw.{NodeLaw, CopiesLaw}
 use Rattle.flow_block.specs.Planned.{block_makes}
 use Rattle.flow_block.proofs.CopiesTaken.{taken_in_keeps}
-use Rattle.flow_block.proofs.CopiesIdle.{no_copy_at, never_broadcast, broadcast_copies, once_copies}
+use Rattle.flow_block.proofs.CopiesIdle.{no_copy_at, broadcast_copies, once_copies}
 use Rattle.flow_block.proofs.CopierKept.{call_keeps as copier_kept}
 use Rattle.flow_block.proofs.KindsBuilt.{has_one_port, makes_by, next_by}
 use Rattle.flow_block.proofs.ShapeHolds.{shape_kept}

@@ -1,5 +1,5 @@
 -- A node in which nothing has happened is in order.
-use Rattle.std.proofs.Common.{◌≡◌, ℕ, zero, suc, ◌+◌, ◌<◌, ◌==◌, cond, Bool, true, false, List, [], ◌∷◌, length, map, Option, Some, None, is_some, Result, refl, ap, sym, ◌∙◌, subst, arith, ◌&&◌}
+use Rattle.std.proofs.Common.{◌≡◌, ℕ, zero, suc, ◌+◌, ◌<◌, cond, Bool, true, false, List, [], ◌∷◌, length, map, Option, Some, None, is_some, Result, refl, ap, sym, ◌∙◌, subst, arith, ◌&&◌}
 use Rattle.std.proofs.lemmas.Bool.{or_right}
 use Rattle.std.proofs.lemmas.List.{length-map}
 use Rattle.flow_value.specs.declared.value.Value.{Value}
@@ -21,9 +21,8 @@ use Rattle.flow_outlet.specs.declared.ends.OutEnd.{OutEnd}
 use Rattle.flow_outlet.specs.End.{fresh_end as fresh_out, end_in as out_in}
 use Rattle.flow_outlet.proofs.LawKept.{calls_keep_law}
 use Rattle.flow_outlet.specs.Outlet.{is_empty, fresh_outlet}
-use Rattle.flow_spread.proofs.CountsOfEnds.{none_counts}
 use Rattle.flow_spread.specs.Copied.{Course}
-use Rattle.flow_spread.specs.End.{fresh_end as fresh_copy, end_in as copy_in, owes_it}
+use Rattle.flow_spread.specs.End.{fresh_end as fresh_copy, end_in as copy_in}
 use Rattle.flow_spread.specs.Spread.{fresh_spread}
 use Rattle.flow_block.specs.Block.{port_in, held_by, is_batch}
 use Rattle.flow_block.proofs.RoomFits.{weighs_fresh}

@@ -22,7 +22,6 @@ use Rattle.flow_outlet.specs.declared.group.Group.{Group}
 use Rattle.flow_outlet.specs.Fits.{weight_of}
 use Rattle.flow_outlet.specs.Outlet.{OutletState, head_of, groups_with, groups_after, room_with, gives, prepares, offers, denies, withdraws, ends_link, looks as exit_looks, is_empty}
 use Rattle.flow_outlet.proofs.OutletFits.{weight_stays, room_put}
-use Rattle.flow_link.proofs.ListTests.{never_both}
 use Rattle.flow_link.specs.Plan.{is_broadcast}
 use Rattle.flow_block.specs.Copies.{copy_place, CopyCall, after_copy, copies_left, copies_weight}
 use Rattle.flow_block.proofs.CopiesIdle.{copies_at, broadcast_copies, no_copy_at, once_copies}

@@ -31,7 +31,7 @@ use Rattle.flow_block.proofs.OnceHolds.{room_once}
 use Rattle.flow_block.proofs.WrittenOnce.{message_is, written_weighs}
 use Rattle.flow_block.specs.Kinds.{is_kept_kind}
 use Rattle.flow_link.proofs.RoundsOfWalks.{some_here_below}
-use Rattle.flow_link.proofs.ListTests.{never_both, or_not, every_below, every_weaker_below, length_numbers, or_others, same_values_where}
+use Rattle.flow_link.proofs.ListTests.{or_not, every_below, every_weaker_below, length_numbers, or_others, same_values_where}
 use Rattle.flow_intake.specs.Port.{EndState, PortState, end_in, fresh_end, fresh_port, coming as coming_at, is_coming as is_coming_at}
 use Rattle.flow_intake.specs.PortLaw.{has_ended as has_port_ended}
 use Rattle.flow_intake.specs.Ended.{is_completion}

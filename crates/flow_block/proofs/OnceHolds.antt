@@ -1,5 +1,5 @@
 -- Each call leaves a block that takes one message in all without a message that it holds: what it takes it copies at once.
-use Rattle.std.proofs.Common.{◌≡◌, ℕ, ◌+◌, ◌-◌, ◌^◌, ◌<◌, ◌≤◌, ◌==◌, Bool, true, false, not, ◌&&◌, ltb, List, [], ◌∷◌, ◌++◌, length, map, drop, set, Option, Some, None, is_some, Result, refl, ap, sym, ◌∙◌, subst, arith, eq-eqb, lt-ltb}
+use Rattle.std.proofs.Common.{◌≡◌, ℕ, ◌+◌, ◌-◌, ◌^◌, ◌≤◌, ◌==◌, Bool, true, not, ◌&&◌, ltb, List, [], ◌∷◌, ◌++◌, length, drop, set, Option, Some, None, is_some, Result, refl, ap, sym, ◌∙◌, subst, arith, eq-eqb, lt-ltb}
 use Rattle.std.proofs.lemmas.Bool.{and_from}
 use Rattle.std.proofs.lemmas.List.{length-set, get_or-set_same}
 use Rattle.flow_value.specs.declared.value.Value.{Value}
@@ -11,14 +11,14 @@ use Rattle.flow_intake.specs.Port.{PortState, fresh_port, coming, is_coming, is_
 use Rattle.flow_intake.specs.Calls.{first_of, wants, turns_down, postpones, refuses, consumes, opens, closes, looks as port_looks, takes_next, port_closes, gives_room}
 use Rattle.flow_intake.proofs.CountsOfEnds.{count_there, hand_comes}
 use Rattle.flow_outlet.specs.Outlet.{is_empty}
-use Rattle.flow_spread.specs.Spread.{SpreadState, is_spread_free, puts}
+use Rattle.flow_spread.specs.Spread.{is_spread_free, puts}
 use Rattle.flow_link.specs.declared.draft.BlockKind.{BlockKind}
 use Rattle.flow_link.specs.declared.draft.BlockKind.TheVariants.{WriteOnce}
 use Rattle.flow_outlet.specs.Fits.{weight_of}
 use Rattle.flow_block.specs.Copier.{Copier}
 use Rattle.flow_block.specs.Block.{BlockState, port_in, port_at, with_port, held_by, copies_next, copies_at_once, copies_where}
 use Rattle.flow_block.specs.Copies.{after_copy, copies_weight}
-use Rattle.flow_block.specs.Node.{NodeState, NodeCall, holds_in, takes_in, hand_at}
+use Rattle.flow_block.specs.Node.{NodeState, NodeCall, takes_in, hand_at}
 use Rattle.flow_block.specs.NodeKeeps.{NoneHeldKept, MayCall, InAt, after_call}
 use Rattle.flow_block.specs.NodeLaw.{NodeLaw}
 use Rattle.flow_block.specs.Planned.{room_by, room_of}

@@ -1,7 +1,6 @@
 -- A block that takes one message in all: what is known of it before it took that, and after.
-use Rattle.std.proofs.Common.{◌≡◌, ℕ, zero, suc, ◌+◌, ◌^◌, ◌<◌, ◌≤◌, ◌==◌, Bool, true, false, cond, not, ◌&&◌, ◌||◌, List, [], ◌∷◌, ◌++◌, length, Option, Some, None, is_some, Result, refl, ap, ap₂, sym, ◌∙◌, arith, eq-eqb}
+use Rattle.std.proofs.Common.{◌≡◌, ℕ, suc, ◌+◌, ◌^◌, ◌<◌, ◌≤◌, ◌==◌, Bool, true, false, not, ◌&&◌, ◌||◌, List, [], ◌∷◌, ◌++◌, length, Option, Some, None, is_some, Result, refl, ap, ap₂, sym, ◌∙◌, arith, eq-eqb}
 use Rattle.std.proofs.lemmas.Bool.{and_parts, and_from, OnTrue_at}
-use Rattle.flow_value.specs.When.{admits}
 use Rattle.flow_value.specs.declared.when.When.{When}
 use Rattle.flow_value.specs.declared.value.Value.{Value}
 use Rattle.flow_link.specs.declared.stage.SourceStage.{SourceStage}
@@ -16,7 +15,7 @@ use Rattle.flow_outlet.specs.Law.{admits_head}
 use Rattle.flow_outlet.specs.Outlet.{is_empty}
 use Rattle.flow_spread.specs.declared.end.CopyEnd.{CopyEnd}
 use Rattle.flow_spread.specs.End.{count_of, owes_it, is_busy, is_busy_at, is_waiting_at, end_in}
-use Rattle.flow_spread.specs.Law.{SpreadLaw, speaks, concerns_it}
+use Rattle.flow_spread.specs.Law.{SpreadLaw, speaks}
 use Rattle.flow_spread.specs.Spread.{SpreadState, end_at, is_spread_free}
 use Rattle.flow_link.proofs.ListTests.{never_both}
 use Rattle.flow_link.specs.declared.trace.Outcome.{Outcome}
@@ -28,7 +27,7 @@ use Rattle.flow_block.specs.Copier.{Copier}
 use Rattle.flow_block.specs.Copies.{copies_left, weight_by, copies_weight, none_waits}
 use Rattle.flow_block.specs.NodeLaw.{has_its_message, NodeLaw}
 use Rattle.flow_block.specs.Peeks.{is_written}
-use Rattle.flow_block.proofs.CopiesCalled.{NewestOf, elements, newest_is, once_is, count_is}
+use Rattle.flow_block.proofs.CopiesCalled.{elements, newest_is, once_is, count_is}
 use Rattle.flow_block.proofs.CopierHolds.{copies_lawful}
 
 -- Before it took its message

@@ -1,6 +1,5 @@
 -- A node that has nothing to do is still, and it rests when its links do.
-use Rattle.std.specs.Prelude.{◌≡◌, ℕ, ◌<◌, Bool, true, false, [], length, None}
-use Rattle.flow_link.specs.declared.plan.LinkSource.TheVariants.{Block}
+use Rattle.std.specs.Prelude.{◌≡◌, ℕ, ◌<◌, Bool, true, false, length, None}
 use Rattle.flow_link.specs.declared.plan.LinkTarget.TheVariants.{Port}
 use Rattle.flow_link.specs.declared.stage.SourceStage.{SourceStage}
 use Rattle.flow_link.specs.declared.stage.SourceStage.TheVariants as source
@@ -8,7 +7,7 @@ use Rattle.flow_link.specs.declared.stage.TargetStage.{TargetStage}
 use Rattle.flow_link.specs.declared.stage.TargetStage.TheVariants as target
 use Rattle.flow_link.specs.Composes.{Ends}
 use Rattle.flow_link.specs.RestsByParts.{NodeIsStill, NodeRests}
-use Rattle.flow_link.specs.Trace.{Run, link_of, is_used_up}
+use Rattle.flow_link.specs.Trace.{Run, link_of}
 use Rattle.flow_intake.specs.Port.{stage_at as port_stage}
 use Rattle.flow_outlet.specs.Outlet.{stage_at}
 use Rattle.flow_spread.specs.Spread.{stage_at as copy_stage}
