@@ -68,7 +68,8 @@ still_complete block p true joins complete =
 still_complete block p false joins complete =
     let after = with_port p port_closes block in
     rw joins (⊎_elim
-    (λ all. or_left (all_ended after.ports) (is_written block) (still_every block.ports p (port_closes (port_at p block)) refl all))
+    (λ all. or_left (all_ended after.ports) (is_written block)
+    (still_every block.ports p (port_closes (port_at p block)) refl all))
     (λ written. or_right (all_ended after.ports) (is_written block) written)
     (or_cases (all_ended block.ports) (is_written block) (rw joins at complete)))
 

@@ -60,7 +60,8 @@ module _ {W : Type 0} (run : Run W) (b : ℕ) (node : NodeState) (law : NodeLaw 
       (λ p small. ap (λ (q : ℕ). has_complete q node.journal) (from_none p) ∙ sym (ended_is p small))
 
   complete_by : (join : Bool) → is_join node.block.kind ≡ join
-      → is_run_complete run b ≡ cond join (is_join_complete node.block.ports) (all_ended node.block.ports || is_written node.block)
+      → is_run_complete run b
+      ≡ cond join (is_join_complete node.block.ports) (all_ended node.block.ports || is_written node.block)
   complete_by true joins =
       ap (λ (k : BlockKind). is_complete_as run k b) (join_is kind (ap is_join (sym law.shape.kind_is) ∙ joins))
       ∙ (joins_are_parts W run b node (record {

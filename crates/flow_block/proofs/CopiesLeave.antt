@@ -81,5 +81,5 @@ free_is_given copies free =
 -- the block holds what it held
 pub held_by_copy : (copies : SpreadState) (block : BlockState) → held_by (with_copies copies block) ≡ held_by block
 held_by_copy copies block =
-    kept_at_all (λ (port : PortState). port.waiting) (gives_room (copies_weight block.copies - copies_weight copies)) block.ports 0
-    (λ port. refl)
+    kept_at_all (λ (port : PortState). port.waiting) (gives_room (copies_weight block.copies - copies_weight copies))
+    block.ports 0 (λ port. refl)

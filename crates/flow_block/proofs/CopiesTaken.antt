@@ -87,13 +87,15 @@ makes_many layout meaning b node law may =
 -- of a node, whose marks tell of the message either way
 pub taken_in_keeps : (P : BlockState → List Mark → Type 0) (p k : ℕ) (hand : Option Value) (node : NodeState)
     → let held = holds_in p k hand node in
-    P held.block held.journal → (CopiesAtOnce held.block → P (copies_next (first_of (held_by held.block)) held.block) held.journal)
+    P held.block held.journal
+    → (CopiesAtOnce held.block → P (copies_next (first_of (held_by held.block)) held.block) held.journal)
     → P (takes_in p k hand node).block (takes_in p k hand node).journal
 taken_in_keeps P p k hand node kept copied =
     let held = holds_in p k hand node in
     taken_keeps (λ new. P new held.journal) held.block kept copied
 
-pub held_stopped : (p k : ℕ) (hand : Option Value) (node : NodeState) → (holds_in p k hand node).block.stopped ≡ node.block.stopped
+pub held_stopped : (p k : ℕ) (hand : Option Value) (node : NodeState)
+    → (holds_in p k hand node).block.stopped ≡ node.block.stopped
 held_stopped p k None node = refl
 held_stopped p k (Some value) node = refl
 

@@ -263,7 +263,8 @@ module _ {W : Type 0} (layout : Layout W) (meaning : ℕ → Value → Result (L
     done_empty = law.done_empty;
     done_complete = law.done_complete;
     complete_cause = λ p small is none.
-        (ports p small).complete_cause (and_from (has_complete p journal) (not (has_its_message block.kind journal)) is (ap not none));
+        (ports p small).complete_cause
+        (and_from (has_complete p journal) (not (has_its_message block.kind journal)) is (ap not none));
     fault_cause = law.fault_cause;
     faulted_by = law.faulted_by;
   }
@@ -318,8 +319,8 @@ module _ {W : Type 0} (layout : Layout W) (meaning : ℕ → Value → Result (L
     done : is_done_mark mark ≡ false
     goes_on : stops_at mark ≡ None
 
-  port_marked : (kind : BlockKind) (fault : Option ℕ) (journal : List Mark) (mark : Mark) → EndsNothing mark → (p : ℕ) (port : PortState)
-      → PortEndsBy kind fault journal p port → PortEndsBy kind fault (journal ++ mark ∷ []) p port
+  port_marked : (kind : BlockKind) (fault : Option ℕ) (journal : List Mark) (mark : Mark) → EndsNothing mark
+      → (p : ℕ) (port : PortState) → PortEndsBy kind fault journal p port → PortEndsBy kind fault (journal ++ mark ∷ []) p port
   port_marked kind fault journal mark nothing p port law =
       rw (ended_no_more p journal mark (nothing.complete p) nothing.fault nothing.done)
       (fewer_complete fault (has_ended p journal) (completes_by kind p journal) (completes_by kind p (journal ++ mark ∷ []))
@@ -333,8 +334,9 @@ module _ {W : Type 0} (layout : Layout W) (meaning : ℕ → Value → Result (L
   still_going : (node : NodeState) → NodeLaw layout meaning b node → (p k : ℕ) → InAt is_hand p k node → node.block.stopped ≡ None
   still_going node law p k at =
       let comes = hand_comes (port_stage k (port_at p node.block)) at.stands in
-      law.ends.stopped_is
-      ∙ (open_goes_on layout meaning b node.block node.journal law.ends p at.port (((law.ports p at.port).each k at.place).coming comes)).0
+      let goes = open_goes_on layout meaning b node.block node.journal law.ends p at.port
+      (((law.ports p at.port).each k at.place).coming comes) in
+      law.ends.stopped_is ∙ goes.0
 
   taken_in : (node : NodeState) → NodeLaw layout meaning b node → (p k : ℕ) (value : Option Value)
       → InAt is_hand p k node
@@ -548,8 +550,8 @@ module _ {W : Type 0} (layout : Layout W) (meaning : ℕ → Value → Result (L
           → PortEndsBy kind fault journal q port → PortEndsBy kind fault (journal ++ Complete p ∷ []) q port
       other_marked kind fault journal p q port other law =
           rw (ended_no_more q journal (Complete p) other refl refl)
-          (fewer_complete fault (has_ended q journal) (completes_by kind q journal) (completes_by kind q (journal ++ Complete p ∷ []))
-          port.refusing port.ends (completes_more kind q journal (Complete p) other) law)
+          (fewer_complete fault (has_ended q journal) (completes_by kind q journal)
+          (completes_by kind q (journal ++ Complete p ∷ [])) port.refusing port.ends (completes_more kind q journal (Complete p) other) law)
 
   -- all its ports close
   ports_close : (block : BlockState) (journal later : List Mark) → Ends block journal

@@ -251,7 +251,8 @@ fresh_in_order W layout meaning b built some freely lane size group unlimited =
             [] [] 1 []) (sym (nothing_held layout b (below (port_count block))))
             (weighs_nothing (block_makes layout meaning b) block.kind (room_of block) 1);
         no_room = refl;
-        load = each_port layout b (λ p port. is_some (room_of block) ≡ true → port.load ≡ length port.waiting + places_out node.block)
+        load = each_port layout b
+            (λ p port. is_some (room_of block) ≡ true → port.load ≡ length port.waiting + places_out node.block)
             (λ p some. omega (arith, none_copied));
       };
       groups = λ batched. (groups_begin W layout b).groups;

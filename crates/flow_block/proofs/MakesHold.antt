@@ -404,7 +404,8 @@ module _ {W : Type 0} (layout : Layout W) (meaning : ℕ → Value → Result (L
     fault_is = λ number is. rw (held_by_copy (after_copy call node.block.copies) node.block) (law.fault_is number is);
   }
 
-  copied_next : (first : Option Value) (block : BlockState) (journal : List Mark) → is_one_taker block.kind ≡ false → MakesLaw layout meaning b block journal
+  copied_next : (first : Option Value) (block : BlockState) (journal : List Mark) → is_one_taker block.kind ≡ false
+      → MakesLaw layout meaning b block journal
       → MakesLaw layout meaning b (copies_next first block) journal
   copied_next None block journal copying law = law
   copied_next (Some value) block journal copying law = record {

@@ -132,7 +132,8 @@ no_room_by : (kind : BlockKind) (capacity : Option ℕ) → not (is_write_once k
 no_room_by WriteOnce capacity many none = absurd (cc)
 no_room_by _ capacity many none = none
 
-no_room_of : {W : Type 0} (block : BlockDef W) → not (is_write_once block.kind) ≡ true → block.capacity ≡ None → room_of block ≡ None
+no_room_of : {W : Type 0} (block : BlockDef W) → not (is_write_once block.kind) ≡ true → block.capacity ≡ None
+    → room_of block ≡ None
 no_room_of block many none = no_room_by block.kind block.capacity many none
 
 -- what is postponed may be put off
@@ -204,7 +205,8 @@ module _ {W : Type 0} (layout : Layout W) (meaning : ℕ → Value → Result (L
     not_the_first sole none =
         let load : port.load ≡ 0 = let took = kept.took in omega (arith, took, none) in
         let nothing = none_come port.ends (λ j small. ap is_coming (alone sole j small)) in
-        let range = room_in_range (block_in layout.blocks b) (capacity_in_range (block_in layout.blocks b) (well.options b here)) in
+        let planned = block_in layout.blocks b in
+        let range = room_in_range planned (capacity_in_range planned (well.options b here)) in
         let capacity = (law.shape.ports p port_there).capacity in
         let room = room_at_first port.load (coming port) port.capacity load nothing
         (subst (λ (c : Option ℕ). is_in 1 2147483647 c ≡ true) (sym capacity) range) in

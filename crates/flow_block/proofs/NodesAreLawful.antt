@@ -222,8 +222,10 @@ module _ {W : Type 0} (run : Run W) (ends : ℕ → Ends) (b : ℕ) (node : Node
   complete_so false joins nothing completed =
       let message = has_its_message node.block.kind node.journal in
       complete_by_port run b node law (is_joining run ends b node law is ∙ joins)
-      ∙ of_marks (λ marks. (every (λ p. has_complete p marks) (ports_of run b) || has_its_message (block_of run b).kind marks) ≡ true)
-      (subst (λ (kind : BlockKind). (every (λ p. has_complete p node.journal) (ports_of run b) || has_its_message kind node.journal) ≡ true)
+      ∙ of_marks (λ marks.
+      (every (λ p. has_complete p marks) (ports_of run b) || has_its_message (block_of run b).kind marks) ≡ true)
+      (subst (λ (kind : BlockKind).
+      (every (λ p. has_complete p node.journal) (ports_of run b) || has_its_message kind node.journal) ≡ true)
       law.shape.kind_is
       (subst (λ (n : ℕ). (every (λ p. has_complete p node.journal) (below n) || message) ≡ true) law.shape.port_count_is
       (ap (λ (join : Bool). cond join (some (λ p. has_complete p node.journal) (below (length node.block.ports)))

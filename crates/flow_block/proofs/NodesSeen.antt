@@ -179,7 +179,8 @@ module _ {W : Type 0} (run : Run W) (ends : ℕ → Ends) (b : ℕ) (node : Node
           load_by shares grouped p limited ∙ omega (arith, none)
       by_sharing false copying =
           let none = (none_shared run ends b node law part copying).1 in
-          let many = false_from_ne_true (is_write_once node.block.kind) (λ once. limited_never (law.shape.no_capacity once) limited) in
+          let many =
+          false_from_ne_true (is_write_once node.block.kind) (λ once. limited_never (law.shape.no_capacity once) limited) in
           let left = weight_left run.layout b node.block node.journal (law.copies.copier copying) many in
           (copier_seen run ends b node law part copying).load p ∙ omega (arith, none, left)
 

@@ -45,7 +45,8 @@ copied_holds block value alone holds =
     let change : PortState → PortState = λ port. gives_room (1 - copies_weight (puts value block.copies)) (takes_next port) in
     let goes : (port_in (set block.ports 0 (change port)) 0).waiting ≡ drop 1 (held_by block) =
     ap (λ (q : PortState). q.waiting) (get_or-set_same block.ports 0 (change port) (fresh_port None) (omega (arith, alone))) in
-    subst (λ (first : Option Value). held_by (copies_next first block) ≡ []) (sym (ap (λ (held : List Value). first_of held) holds))
+    subst (λ (first : Option Value). held_by (copies_next first block) ≡ [])
+    (sym (ap (λ (held : List Value). first_of held) holds))
     (goes ∙ ap (λ (held : List Value). drop 1 held) holds)
 
 module _ {W : Type 0} (layout : Layout W) (meaning : ℕ → Value → Result (List Value) ℕ) (b : ℕ) where
@@ -61,7 +62,8 @@ module _ {W : Type 0} (layout : Layout W) (meaning : ℕ → Value → Result (L
 
     room_is : room_of (block_in layout.blocks b) ≡ Some 1
     room_is =
-        room_once (block_in layout.blocks b).kind (block_in layout.blocks b).capacity (ap is_write_once (sym law.shape.kind_is) ∙ once)
+        let planned = block_in layout.blocks b in
+        room_once planned.kind planned.capacity (ap is_write_once (sym law.shape.kind_is) ∙ once)
 
     -- a message that comes to it is the first, and finds nothing that is copied
     module _ (p k : ℕ) (at : InAt is_hand p k node) where
@@ -96,7 +98,8 @@ module _ {W : Type 0} (layout : Layout W) (meaning : ℕ → Value → Result (L
         holds : held_by held ≡ value ∷ []
         holds =
             let first : p ≡ 0 = omega (arith, at.port, alone) in
-            let there = ap (λ (q : PortState). q.waiting) (get_or-set_same block.ports p (closes k value port) (fresh_port None) at.port) in
+            let there =
+            ap (λ (q : PortState). q.waiting) (get_or-set_same block.ports p (closes k value port) (fresh_port None) at.port) in
             ap (λ (q : ℕ). (port_in (set block.ports p (closes k value port)) q).waiting) (sym first) ∙ there
             ∙ ap (λ (q : ℕ). (port_in block.ports q).waiting ++ value ∷ []) first
             ∙ ap (λ (values : List Value). values ++ value ∷ []) (law.none_held once)
@@ -129,7 +132,8 @@ module _ {W : Type 0} (layout : Layout W) (meaning : ℕ → Value → Result (L
         → (port_in (set block.ports p port) 0).waiting ≡ []
     at_one p port same = kept_at_one (λ (q : PortState). q.waiting) block.ports p 0 port same ∙ law.none_held once
 
-    call_keeps : (call : NodeCall) → MayCall layout meaning b call node → held_by (after_call layout meaning b call node).block ≡ []
+    call_keeps : (call : NodeCall) → MayCall layout meaning b call node
+        → held_by (after_call layout meaning b call node).block ≡ []
     call_keeps (NodeCall.want p k) may = at_one p (wants k (port_at p block)) refl
     call_keeps (NodeCall.turn_down p k) may = at_one p (turns_down k (port_at p block)) refl
     call_keeps (NodeCall.postpone p k) may = at_one p (postpones k (port_at p block)) refl

@@ -119,7 +119,8 @@ port_failed fault number ended complete refusing ends law = record {
 abbrev pub completes_by : BlockKind → ℕ → List Mark → Bool
 completes_by kind p journal = has_complete p journal && not (has_its_message kind journal)
 
-pub completes_tells : (complete its_message : Bool) → (complete && not its_message) ≡ true → (complete ≡ true) × (its_message ≡ false)
+pub completes_tells : (complete its_message : Bool) → (complete && not its_message) ≡ true
+    → (complete ≡ true) × (its_message ≡ false)
 completes_tells true false e = (refl, refl)
 completes_tells true true e = absurd (cc)
 completes_tells false its_message e = absurd (cc)
@@ -131,11 +132,12 @@ message_before false before more e = refl
 message_before true [] more e = refl
 message_before true (value ∷ before) more e = absurd (cc)
 
-pub unwritten_before : (kind : BlockKind) (journal : List Mark) (mark : Mark) → has_its_message kind (journal ++ mark ∷ []) ≡ false
-    → has_its_message kind journal ≡ false
+pub unwritten_before : (kind : BlockKind) (journal : List Mark) (mark : Mark)
+    → has_its_message kind (journal ++ mark ∷ []) ≡ false → has_its_message kind journal ≡ false
 unwritten_before kind journal mark none =
     message_before (is_write_once kind) (took journal) (taken_by_mark (λ port link. true) mark)
-    (ap (λ (taken : List Value). is_write_once kind && not (is_empty taken)) (sym (took_more (λ port link. true) journal mark)) ∙ none)
+    (ap (λ (taken : List Value). is_write_once kind && not (is_empty taken))
+    (sym (took_more (λ port link. true) journal mark)) ∙ none)
 
 pub completes_more : (kind : BlockKind) (p : ℕ) (journal : List Mark) (mark : Mark) → is_complete_mark p mark ≡ false
     → completes_by kind p (journal ++ mark ∷ []) ≡ true → completes_by kind p journal ≡ true

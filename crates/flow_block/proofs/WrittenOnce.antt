@@ -61,7 +61,8 @@ neither false true never = absurd (never refl)
 
 module _ (pending : Bool) (stopped : Option Outcome) (copies : SpreadState) (law : SpreadLaw 1 pending stopped copies)
     (none : copies.element ≡ None) where
-  unconcerned : (k : ℕ) → k < length copies.ends → (speaks (end_at copies k).link.stage ≡ false) × ((end_at copies k).owes ≡ false)
+  unconcerned : (k : ℕ) → k < length copies.ends
+      → (speaks (end_at copies k).link.stage ≡ false) × ((end_at copies k).owes ≡ false)
   unconcerned k there =
       let end = end_at copies k in
       neither (speaks end.link.stage) end.owes (λ concerned.
@@ -77,7 +78,8 @@ module _ (pending : Bool) (stopped : Option Outcome) (copies : SpreadState) (law
   none_busy = none_counted is_busy_at copies.ends (λ k there. busy_speaks (end_at copies k).link.stage (unconcerned k there).0)
 
   none_waiting : count_of is_waiting_at copies.ends ≡ 0
-  none_waiting = none_counted is_waiting_at copies.ends (λ k there. waiting_speaks (end_at copies k).link.stage (unconcerned k there).0)
+  none_waiting =
+      none_counted is_waiting_at copies.ends (λ k there. waiting_speaks (end_at copies k).link.stage (unconcerned k there).0)
 
 -- what has no element yet may take its first
 pub record MayPutFirst (copies : SpreadState) : Type 0 where
@@ -121,16 +123,19 @@ none_in : (values : List Value) → length values ≡ 0 → values ≡ []
 none_in [] e = refl
 none_in (value ∷ values) e = absurd (omega (arith, e))
 
-module _ {W : Type 0} (layout : Layout W) (b : ℕ) (block : BlockState) (journal : List Mark) (c : Copier layout b block journal) where
+module _ {W : Type 0} (layout : Layout W) (b : ℕ) (block : BlockState) (journal : List Mark)
+    (c : Copier layout b block journal) where
   -- where it counts nothing, it has none
   pub no_element : is_write_once block.kind ≡ true → copies_weight block.copies ≡ 0 → block.copies.element ≡ None
   no_element once none =
-      weighs_nothing block.copies.once block.copies.element (copies_left block.copies) (once_is layout b block journal c ∙ once) none
+      weighs_nothing block.copies.once block.copies.element (copies_left block.copies)
+      (once_is layout b block journal c ∙ once) none
 
   has_taken : is_some block.copies.element ≡ true → is_empty (took journal) ≡ false
   has_taken some =
       let newest = newest_is layout b block journal c in
-      ap (λ (taken : List Value). is_empty taken) (c.took_is ∙ ap (λ (put : List Value). put ++ held_by block) (sym newest.newest))
+      ap (λ (taken : List Value). is_empty taken)
+      (c.took_is ∙ ap (λ (put : List Value). put ++ held_by block) (sym newest.newest))
       ∙ some_taken newest.older (held_by block) block.copies.element some
 
   -- then it may take its first

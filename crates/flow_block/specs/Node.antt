@@ -78,7 +78,8 @@ out_link_at k node = (end_at node.block.exits k).rule.id
 -- the message in hand becomes the block's, which holds it
 abbrev pub holds_in : ℕ → ℕ → Option Value → NodeState → NodeState
 holds_in p k None node = node
-holds_in p k (Some value) node = marks (Took p (in_link_at p k node) value) (with_block (with_port p (closes k value) node.block) node)
+holds_in p k (Some value) node =
+    marks (Took p (in_link_at p k node) value) (with_block (with_port p (closes k value) node.block) node)
 
 -- or copies it at once
 abbrev pub takes_in : ℕ → ℕ → Option Value → NodeState → NodeState

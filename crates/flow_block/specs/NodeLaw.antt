@@ -274,8 +274,8 @@ module _ {W : Type 0} (layout : Layout W) (meaning : ℕ → Value → Result (L
     pub done_empty : block.stopped ≡ Some Done → (holds_nothing block.ports ≡ true) × (block.exits.left ≡ [])
     pub done_complete : is_done journal ≡ true → have_completed block.kind (length block.ports) journal ≡ true
     -- each end has a cause that it has seen; a port also completes where the block has all that it takes
-    pub complete_cause : (p : ℕ) → p < length block.ports → has_complete p journal ≡ true → has_its_message block.kind journal ≡ false
-        → has_seen_completion (port_at p block).ends ≡ true
+    pub complete_cause : (p : ℕ) → p < length block.ports → has_complete p journal ≡ true
+        → has_its_message block.kind journal ≡ false → has_seen_completion (port_at p block).ends ≡ true
     pub fault_cause : (number : ℕ) → has_fault number journal ≡ true
         → (block.fault ≡ Some number) ⊎ (some (λ (port : PortState). some (λ (end : EndState). is_fault_seen number end) port.ends) block.ports ≡ true)
     -- a fault that came over a link stops it only when it could make nothing more

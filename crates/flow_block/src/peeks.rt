@@ -10,7 +10,8 @@ ghost use Rattle.flow_outlet.specs.Outlet.{out_move, stage_at, is_empty};
 ghost use Rattle.flow_block.specs.Block.{port_at, port_in, is_batch, is_join, is_batched_join};
 ghost use Rattle.flow_block.specs.Peeks.{may_work, may_make, may_begin, may_end, may_complete, next_fault, is_held_up, may_finish, could_stop};
 ghost use Rattle.flow_spread.specs.Spread.{out_move as copy_move};
-ghost use Rattle.flow_block.specs.Peeks.{may_copy, is_written, is_copy_held_up, would_copy, has_all_given, is_copied_out, is_out_at_rest};
+ghost use Rattle.flow_block.specs.Peeks.{may_copy, is_written, is_copy_held_up, would_copy, has_all_given};
+ghost use Rattle.flow_block.specs.Peeks.{is_copied_out, is_out_at_rest};
 ghost use Rattle.flow_block.specs.Peeks.{fault_cause, fault_at_ports, is_pending, has_group, has_next, is_worked_off, is_complete};
 
 use crate::block::Block;

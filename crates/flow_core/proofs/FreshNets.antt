@@ -102,7 +102,8 @@ third true true false d e f g h all = absurd (cc)
 third true false c d e f g h all = absurd (cc)
 third false b c d e f g h all = absurd (cc)
 
-no_capacity : {W : Type 0} (block : BlockDef W) → options_fit block ≡ true → is_write_once block.kind ≡ true → block.capacity ≡ None
+no_capacity : {W : Type 0} (block : BlockDef W) → options_fit block ≡ true → is_write_once block.kind ≡ true
+    → block.capacity ≡ None
 no_capacity block fit once =
     let both = and_parts (is_name block.name && keys_fit block) (ranges_fit block) fit in
     let keys = (and_parts (is_name block.name) (keys_fit block) both.0).1 in
