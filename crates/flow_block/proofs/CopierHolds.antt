@@ -38,7 +38,7 @@ use Rattle.flow_spread.specs.Spread.{SpreadState, end_at, link_at, stage_at, cha
 use Rattle.flow_spread.proofs.LawKept.{calls_keep_law, law_tells}
 use Rattle.flow_block.specs.Block.{BlockState, port_in, held_by, with_copies, copies_next, copies_it, stops_by}
 use Rattle.flow_block.specs.Copier.{Copier, CopiedOver, copier_start, course_of}
-use Rattle.flow_block.specs.Copies.{CopyCall, after_copy, copies_left}
+use Rattle.flow_block.specs.Copies.{CopyCall, after_copy, copies_left, copies_weight}
 use Rattle.flow_block.specs.Jobs.{JobsState}
 use Rattle.flow_block.specs.Node.{marks_copy, marks_copied}
 use Rattle.flow_block.specs.NodeKeeps.{MayCopy}
@@ -230,7 +230,7 @@ module _ {W : Type 0} (layout : Layout W) (b : ℕ) where
         → ((k : ℕ) → k < length block.copies.ends → CopiedOver later (link_at copies k))
         → Copier layout b (with_copies copies block) later
     copies_move copies later more pending rules allowed leads faults none taken gave each =
-        let change = gives_room (copies_left block.copies - copies_left copies) in
+        let change = gives_room (copies_weight block.copies - copies_weight copies) in
         let seen = seen_over_ports change (λ port. refl) block.ports in
         let held : (port_in (map change block.ports) 0).waiting ≡ held_by block =
         kept_at_all (λ (port : PortState). port.waiting) change block.ports 0 (λ port. refl) in
@@ -400,7 +400,7 @@ module _ {W : Type 0} (layout : Layout W) (b : ℕ) where
     put_keeps None is alone going free ids = c
     put_keeps (Some value) is alone going free ids =
         let copies = block.copies in
-        let change : PortState → PortState = λ port. gives_room (1 - copies_left (puts value copies)) (takes_next port) in
+        let change : PortState → PortState = λ port. gives_room (1 - copies_weight (puts value copies)) (takes_next port) in
         let port = port_in block.ports 0 in
         let held : (port_in (set block.ports 0 (change port)) 0).waiting ≡ drop 1 (held_by block) =
         ap (λ (q : PortState). q.waiting) (get_or-set_same block.ports 0 (change port) (fresh_port None) (omega (arith, alone))) in

@@ -12,9 +12,7 @@ use Rattle.flow_outlet.specs.Fits.{weight_of}
 use Rattle.flow_outlet.specs.Outlet.{OutletState, is_empty}
 use Rattle.flow_spread.specs.Spread.{is_at_rest, only_waits}
 use Rattle.flow_block.specs.Block.{BlockState, held_by}
-use Rattle.flow_block.specs.Copies.{copies_left}
 use Rattle.flow_block.specs.CopiesSeen.{IsCopierOf, CopierSeen, CopierStill, CopierRests}
-use Rattle.flow_block.specs.Kinds.{is_kept_kind}
 use Rattle.flow_block.specs.Node.{NodeState, source_view, copy_view}
 use Rattle.flow_block.specs.NodeLaw.{NodeLaw}
 use Rattle.flow_block.specs.NodeRests.{HasNothingToDo, EndsRest}
@@ -24,17 +22,16 @@ use Rattle.flow_block.specs.Planned.{out_place}
 use Rattle.flow_block.proofs.CopiesIdle.{copies_idle, never_broadcast}
 use Rattle.flow_block.proofs.CopiesRest.{copiers_rest, copiers_are_still}
 use Rattle.flow_block.proofs.CopiesSeen.{copiers_are_parts}
-use Rattle.flow_block.proofs.KindsBuilt.{by_kind}
-
--- the kinds that are kept in order put each message over the last one, if they copy
-pub never_once : (kind : BlockKind) → is_kept_kind kind ≡ true → is_write_once kind ≡ false
-never_once kind kept = by_kind (λ k. is_write_once k ≡ false) refl refl refl refl refl refl refl refl kind kept
 
 pub makes_copies : {W : Type 0} (run : Run W) (ends : ℕ → Ends) (b : ℕ) (kind : BlockKind) → is_one_taker kind ≡ false
     → makes_as run b kind ≡ true → NodeMakes run ends b kind
 makes_copies run ends b Broadcast copying makes = makes
 makes_copies run ends b WriteOnce copying makes = makes
 makes_copies run ends b _ copying makes = absurd (cc)
+
+broadcast_many : (kind : BlockKind) → is_broadcast kind ≡ true → is_write_once kind ≡ false
+broadcast_many Broadcast e = refl
+broadcast_many _ e = absurd (cc)
 
 pub view_is_copied : (k : ℕ) (node : NodeState) → is_one_taker node.block.kind ≡ false → source_view k node ≡ copy_view k node
 view_is_copied k node copying = rw copying refl
@@ -43,7 +40,6 @@ view_is_copied k node copying = rw copying refl
 pub record CopiesQuiet (block : BlockState) : Type 0 where
   pub only_waits : only_waits block.copies ≡ true
   pub at_rest : is_copy_held_up block ≡ true → is_at_rest block.copies ≡ true
-  pub none_left : block.stopped ≡ None → copies_left block.copies ≡ 0
   pub may_copy : block.stopped ≡ None → is_empty (held_by block) ≡ false → may_copy block ≡ true
 
 pub quiet_where_shared : {W : Type 0} (layout : Layout W) (meaning : ℕ → Value → Result (List Value) ℕ) (b : ℕ) (node : NodeState)
@@ -53,7 +49,6 @@ quiet_where_shared layout meaning b node law shares =
     record {
       only_waits = ap only_waits idle;
       at_rest = λ held_up. ap is_at_rest idle;
-      none_left = λ going. ap copies_left idle;
       may_copy = λ going some. rw (never_broadcast node.block.kind shares) refl;
     }
 
@@ -81,17 +76,16 @@ module _ {W : Type 0} (run : Run W) (ends : ℕ → Ends) (b : ℕ) (node : Node
   pub quiet_where_copied : HasNothingToDo node → EndsRest node → CopiesQuiet node.block
   quiet_where_copied nothing rest =
       let rests = copier_rests nothing rest in
-      let once = never_once node.block.kind law.shape.built in
       record {
         only_waits = rests.only_waits;
         at_rest = rests.at_rest;
-        none_left = rests.none_left once;
-        may_copy = λ going some. or_so (is_broadcast node.block.kind) _ (rests.may_put once going some);
+        may_copy = λ going some. may_where (is_broadcast node.block.kind) refl rests going some;
       }
     where
-      or_so : (broadcast free : Bool) → free ≡ true → (not broadcast || free) ≡ true
-      or_so true free e = e
-      or_so false free e = refl
+      may_where : (broadcast : Bool) → is_broadcast node.block.kind ≡ broadcast → CopierRests run ends b node
+          → node.block.stopped ≡ None → is_empty (held_by node.block) ≡ false → may_copy node.block ≡ true
+      may_where true is rests going some = rw is (rests.may_put (broadcast_many node.block.kind is) going some)
+      may_where false is rests going some = rw is refl
 
   pub none_shared : (node.block.exits.left ≡ []) × (weight_of node.block.exits.groups ≡ 0)
   none_shared =

@@ -10,7 +10,7 @@ use Rattle.flow_intake.specs.Port.{PortState}
 use Rattle.flow_spread.specs.End.{count_of, owes_it, is_busy_at}
 use Rattle.flow_spread.specs.Spread.{SpreadState, link_at, is_spread_free}
 use Rattle.flow_block.specs.Block.{BlockState, held_by, with_copies}
-use Rattle.flow_block.specs.Copies.{CopyCall, after_copy, copy_place, copies_left}
+use Rattle.flow_block.specs.Copies.{CopyCall, after_copy, copy_place, copies_left, weight_by, copies_weight}
 use Rattle.flow_block.specs.Node.{marks_copied, marks_copy}
 use Rattle.flow_block.proofs.CopiesFit.{offer_left, look_left, give_left, hold_left, withdraw_left, end_left}
 use Rattle.flow_block.proofs.JournalTells.{took_same}
@@ -47,7 +47,7 @@ module _ (call : CopyCall) (copies : SpreadState) (journal : List Mark) where
 
 -- no link comes to owe the element
 pub left_by_copy : (call : CopyCall) (copies : SpreadState) → copy_place call < length copies.ends
-    → copies_left (after_copy call copies) ≤ copies_left copies
+    → copies_weight (after_copy call copies) ≤ copies_weight copies
 left_by_copy (CopyCall.offer k) copies here = offer_left copies k here
 left_by_copy (CopyCall.look k phase) copies here = look_left copies k here phase
 left_by_copy (CopyCall.give k) copies here = give_left copies k here
@@ -55,23 +55,31 @@ left_by_copy (CopyCall.hold k) copies here = hold_left copies k here
 left_by_copy (CopyCall.withdraw k) copies here = withdraw_left copies k here
 left_by_copy (CopyCall.end_link k how) copies here = end_left copies k here how
 
-pub at_most_one : (copies : SpreadState) → copies_left copies ≤ 1
-at_most_one copies = by_test (count_of owes_it copies.ends == 0)
+pub at_most_one : (copies : SpreadState) → copies_weight copies ≤ 1
+at_most_one copies = by_test copies.once (is_some copies.element) (count_of owes_it copies.ends == 0)
   where
-    by_test : (none : Bool) → cond none 0 1 ≤ 1
-    by_test true = omega arith
-    by_test false = omega arith
+    by_test : (once some none : Bool) → weight_by once some (cond none 0 1) ≤ 1
+    by_test true true none = omega arith
+    by_test true false none = omega arith
+    by_test false some true = omega arith
+    by_test false some false = omega arith
+
+-- what copies each message over the last one counts while it is left; what takes one in all counts it from then on
+weighs_none : (once some : Bool) (left : ℕ) → not (once && some) ≡ true → left ≡ 0 → weight_by once some left ≡ 0
+weighs_none true true left apart none = absurd (cc)
+weighs_none true false left apart none = refl
+weighs_none false some left apart none = none
 
 -- where another element may be put, nothing is left of the last
-pub free_is_given : (copies : SpreadState) → is_spread_free copies ≡ true → copies_left copies ≡ 0
+pub free_is_given : (copies : SpreadState) → is_spread_free copies ≡ true → copies_weight copies ≡ 0
 free_is_given copies free =
     let none = count_of owes_it copies.ends == 0 in
     let both = and_parts (none && count_of is_busy_at copies.ends == 0) (not (copies.once && is_some copies.element)) free in
     let nobody = (and_parts none (count_of is_busy_at copies.ends == 0) both.0).0 in
-    ap (λ (so : Bool). cond so 0 1) nobody
+    weighs_none copies.once (is_some copies.element) (copies_left copies) both.1 (ap (λ (so : Bool). cond so 0 1) nobody)
 
 -- the block holds what it held
 pub held_by_copy : (copies : SpreadState) (block : BlockState) → held_by (with_copies copies block) ≡ held_by block
 held_by_copy copies block =
-    kept_at_all (λ (port : PortState). port.waiting) (gives_room (copies_left block.copies - copies_left copies)) block.ports 0
-    (λ port. refl)
+    kept_at_all (λ (port : PortState). port.waiting) (gives_room (copies_weight block.copies - copies_weight copies))
+    block.ports 0 (λ port. refl)

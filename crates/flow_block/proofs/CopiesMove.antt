@@ -25,7 +25,7 @@ use Rattle.flow_spread.proofs.CountsOfEnds.{none_there}
 use Rattle.flow_spread.proofs.LawKept.{law_tells, end_mapped}
 use Rattle.flow_block.specs.Block.{with_copies, port_at}
 use Rattle.flow_block.specs.Copier.{Copier}
-use Rattle.flow_block.specs.Copies.{CopyCall, copy_place, copies_left}
+use Rattle.flow_block.specs.Copies.{CopyCall, copy_place, copies_weight}
 use Rattle.flow_block.specs.NextCopies.{CopiesMoveViews, PutsMoveNone}
 use Rattle.flow_block.specs.Node.{NodeState, NodeCall, view_of_in, view_of_out, in_link_at, copy_view, marks_copied, copies_by}
 use Rattle.flow_block.specs.NodeKeeps.{MayCopy}
@@ -78,7 +78,7 @@ module _ (node : NodeState) where
   others_stay : (call : CopyCall) (k : ℕ) (s : SpreadState) (link : OutEnd) → copy_place call ≡ k → OneMoves copies s k link
       → OthersStay (NodeCall.copy call) node (with_spread s node.journal)
   others_stay call k s link place one =
-      let room = copies_left copies - copies_left s in
+      let room = copies_weight copies - copies_weight s in
       record {
         ins = λ p j below there apart.
             ap (λ (port : PortState). view_of_in node.journal (end_in j port.ends))
@@ -99,7 +99,7 @@ module _ {W : Type 0} (layout : Layout W) (b : ℕ) (node : NodeState) (c : Copi
       let mark = Gave l value in
       let link = given_end old.id (link_at old k) in
       let one = one_moves old k (moved link false (end_at old k)) there in
-      let room = copies_left old - copies_left (gives k old) in
+      let room = copies_weight old - copies_weight (gives k old) in
       record {
         moved = record {
           value = value;

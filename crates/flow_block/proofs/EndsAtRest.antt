@@ -121,7 +121,7 @@ unrefused : (refusing : Option Refusal) (consumes : Option Move)
 unrefused None consumes e = (refl, e)
 unrefused (Some why) consumes e = absurd (cc)
 
-waiting_queue : (place : ℕ) (port : PortState) (stage : TargetStage) → is_postponed stage ≡ true
+pub waiting_queue : (place : ℕ) (port : PortState) (stage : TargetStage) → is_postponed stage ≡ true
     → move_in place port stage ≡ None
     → (port.refusing ≡ None) × (is_place place (next_place port) ≡ false)
 waiting_queue place port (target.Postponed i) e none =

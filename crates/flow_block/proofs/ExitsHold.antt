@@ -26,13 +26,14 @@ use Rattle.flow_outlet.proofs.OffersInOrder.{offers_in_order}
 use Rattle.flow_outlet.proofs.OneEndChanges.{each_set}
 use Rattle.flow_link.specs.Plan.{is_broadcast}
 use Rattle.flow_spread.specs.Spread.{puts}
-use Rattle.flow_block.specs.Copies.{after_copy, copies_left}
+use Rattle.flow_block.specs.Copies.{after_copy, copies_left, copies_weight}
 use Rattle.flow_block.specs.Block.{BlockState, port_at, copies_next, unit_weight, made_of, keeps_results, yields, makes_of, put_by_kind, put_of, values_of_result, row_of, next_group, group_weight, takes_group, makes_row, is_batch, gives_out, stops_by, held_by, is_join, makes_tuple, comes_back, is_batched_join}
-use Rattle.flow_block.specs.Node.{NodeState, NodeCall, hand_at, takes_in, gives_from, order_in, next_group_in}
+use Rattle.flow_block.specs.Node.{NodeState, NodeCall, hand_at, takes_in, gives_from, order_in, next_group_in, holds_in}
 use Rattle.flow_block.specs.NodeLaw.{ExitsLaw, is_kept}
 use Rattle.flow_block.specs.NodeKeeps.{MayCall, after_call, ExitsKept}
 use Rattle.flow_block.specs.Peeks.{fault_at_ports, is_pending}
 use Rattle.flow_block.specs.Planned.{block_makes}
+use Rattle.flow_block.proofs.CopiesTaken.{taken_in_keeps}
 use Rattle.flow_block.proofs.EndsTell.{none_kept_by_looks}
 use Rattle.flow_block.proofs.FaultsSeen.{StaysSeen, stays_at_ends, stays_at_ports, seen_over_ports, seen_by_looks, unseen_where}
 use Rattle.flow_block.proofs.GoingOn.{may_fault_tells, may_finish_tells}
@@ -198,7 +199,7 @@ module _ {W : Type 0} (layout : Layout W) (meaning : ℕ → Value → Result (L
     copy_keeps : (value : Option Value) → ExitsLaw layout meaning b (copies_next value block)
     copy_keeps None = law
     copy_keeps (Some value) = record {
-      law = (port_stays 0 (gives_room (1 - copies_left (puts value block.copies)) (takes_next (port_at 0 block))) refl).law;
+      law = (port_stays 0 (gives_room (1 - copies_weight (puts value block.copies)) (takes_next (port_at 0 block))) refl).law;
       none_kept = law.none_kept;
     }
 
@@ -230,7 +231,7 @@ module _ {W : Type 0} (layout : Layout W) (meaning : ℕ → Value → Result (L
 
   closes_keep : (node : NodeState) (p k : ℕ) (hand : Option Value)
       → is_hand (port_stage k (port_at p node.block)) ≡ true
-      → ExitsLaw layout meaning b node.block → ExitsLaw layout meaning b (takes_in p k hand node).block
+      → ExitsLaw layout meaning b node.block → ExitsLaw layout meaning b (holds_in p k hand node).block
   closes_keep node p k None in_hand law = law
   closes_keep node p k (Some value) in_hand law =
       end_offers node.block law p k (closes k value (port_at p node.block)) _ refl is_hand (λ how. refl) in_hand
@@ -257,7 +258,11 @@ module _ {W : Type 0} (layout : Layout W) (meaning : ℕ → Value → Result (L
       end_offers node.block law p k (consumes k (port_at p node.block)) _ refl is_postponed (λ how. refl) may.0.stands
   exits_keep node (NodeCall.open_with p k value) law may =
       end_offers node.block law p k (opens k value (port_at p node.block)) _ refl is_arrived (λ how. refl) may.stands
-  exits_keep node (NodeCall.close p k) law may = closes_keep node p k (hand_at p k node) may.stands law
+  exits_keep node (NodeCall.close p k) law may =
+      let held = holds_in p k (hand_at p k node) node in
+      let kept = closes_keep node p k (hand_at p k node) may.stands law in
+      taken_in_keeps (λ new journal. ExitsLaw layout meaning b new) p k (hand_at p k node) node kept
+      (λ at_once. copy_keeps held.block kept (first_of (held_by held.block)))
   exits_keep node (NodeCall.offer k) law may =
       let o = node.block.exits in
       exits_change node.block law (offers k (prepares o)) k _ ((offers_in_order.named o k).0 may.next).there refl refl
@@ -283,7 +288,7 @@ module _ {W : Type 0} (layout : Layout W) (meaning : ℕ → Value → Result (L
       (none_kept_by_looks (stage_at o k) phase (law.none_kept k may.place))
       (calls_keep_law.look (is_pending node.block) node.block.stopped o law.law k may.place phase may.put_off)
   exits_keep node (NodeCall.copy call) law may =
-      let room = copies_left node.block.copies - copies_left (after_copy call node.block.copies) in
+      let room = copies_weight node.block.copies - copies_weight (after_copy call node.block.copies) in
       record { law = (room_comes node.block law room).law; none_kept = law.none_kept }
   exits_keep node NodeCall.begin law may = record { law = law.law; none_kept = law.none_kept }
   exits_keep node NodeCall.make law may =

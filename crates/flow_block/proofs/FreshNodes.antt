@@ -1,5 +1,5 @@
 -- A node in which nothing has happened is in order.
-use Rattle.std.proofs.Common.{◌≡◌, ℕ, zero, suc, ◌+◌, ◌<◌, ◌==◌, cond, Bool, true, false, List, [], ◌∷◌, length, map, Option, Some, None, is_some, Result, refl, ap, sym, ◌∙◌, subst, arith, ◌&&◌}
+use Rattle.std.proofs.Common.{◌≡◌, ℕ, zero, suc, ◌+◌, ◌<◌, cond, Bool, true, false, List, [], ◌∷◌, length, map, Option, Some, None, is_some, Result, refl, ap, sym, ◌∙◌, subst, arith, ◌&&◌}
 use Rattle.std.proofs.lemmas.Bool.{or_right}
 use Rattle.std.proofs.lemmas.List.{length-map}
 use Rattle.flow_value.specs.declared.value.Value.{Value}
@@ -21,17 +21,17 @@ use Rattle.flow_outlet.specs.declared.ends.OutEnd.{OutEnd}
 use Rattle.flow_outlet.specs.End.{fresh_end as fresh_out, end_in as out_in}
 use Rattle.flow_outlet.proofs.LawKept.{calls_keep_law}
 use Rattle.flow_outlet.specs.Outlet.{is_empty, fresh_outlet}
-use Rattle.flow_spread.proofs.CountsOfEnds.{none_counts}
 use Rattle.flow_spread.specs.Copied.{Course}
-use Rattle.flow_spread.specs.End.{fresh_end as fresh_copy, end_in as copy_in, owes_it}
+use Rattle.flow_spread.specs.End.{fresh_end as fresh_copy, end_in as copy_in}
 use Rattle.flow_spread.specs.Spread.{fresh_spread}
-use Rattle.flow_block.specs.Block.{port_in, held_by}
+use Rattle.flow_block.specs.Block.{port_in, held_by, is_batch}
+use Rattle.flow_block.proofs.RoomFits.{weighs_fresh}
 use Rattle.flow_block.specs.Copier.{Copier, CopiedOver}
-use Rattle.flow_block.specs.Copies.{shared_rules, copied_rules, fresh_copies, copies_left}
+use Rattle.flow_block.specs.Copies.{shared_rules, copied_rules, fresh_copies, copies_weight}
 use Rattle.flow_block.specs.Fresh.{FreshInOrder}
 use Rattle.flow_block.specs.NodeLaw.{is_kept, MakesAs, WeighsAs, PortAsPlanned, GaveOver, weighed, rows_weighed, partly_weighed, places_out}
 use Rattle.flow_block.specs.Peeks.{is_pending}
-use Rattle.flow_block.specs.Planned.{block_makes, links_to, links_from, rule_of, port_of_plan, fresh_node}
+use Rattle.flow_block.specs.Planned.{block_makes, links_to, links_from, rule_of, port_of_plan, fresh_node, lanes_of, size_of, room_of}
 use Rattle.flow_block.proofs.FreshGroups.{fresh_tuples}
 use Rattle.flow_block.proofs.PlacesOfCopies.{rule_at_end}
 use Rattle.flow_block.proofs.EndsTell.{none_come}
@@ -143,7 +143,7 @@ module _ {W : Type 0} (layout : Layout W) (b : ℕ) where
         none_come (map fresh_end (links_to layout b p))
         (λ k small. in_ends_fresh (links_to layout b p) (λ (end : EndState). is_coming end.stage ≡ false)
         (λ l. refl) k) in
-        rw none (within_none (block_in layout.blocks b).capacity);
+        rw none (within_none (room_of (block_in layout.blocks b)));
     waits = λ some. omega arith;
     took = omega arith;
   }
@@ -191,13 +191,12 @@ fresh_copier layout b copying =
     }
 
 pub fresh_in_order : (W : Type 0) → FreshInOrder W
-fresh_in_order W layout meaning b built some freely lane size group =
+fresh_in_order W layout meaning b built some freely lane size group unlimited =
     let block = block_in layout.blocks b in
     let rules = map (rule_of layout) (links_from layout b) in
     let shared = shared_rules block.kind rules in
     let node = fresh_node layout b in
-    let none_copied : copies_left node.block.copies ≡ 0 =
-    ap (λ (count : ℕ). cond (count == 0) 0 1) (none_counts owes_it (copied_rules block.kind rules) (λ rule. refl)) in
+    let none_copied : copies_weight node.block.copies ≡ 0 = weighs_fresh block.kind rules in
     record {
       shape = record {
         built = built;
@@ -205,6 +204,7 @@ fresh_in_order W layout meaning b built some freely lane size group =
         size_is = refl;
         some_size = size;
         some_group = group;
+        no_capacity = unlimited;
         port_count_is = count_is layout b;
         some_port = subst (λ (count : ℕ). 0 < count) (sym (count_is layout b)) some;
         takes_freely = freely;
@@ -221,6 +221,7 @@ fresh_in_order W layout meaning b built some freely lane size group =
         idle = fresh_shared block.kind rules;
         copier = fresh_copier layout b;
       };
+      none_held = λ once. nothing_held layout b (below (port_count block));
       gave = λ shares. record {
         each = out_ends_fresh shared (GaveOver layout meaning b [])
             (λ rule. record { admitted = refl; counted = λ some. refl });
@@ -246,11 +247,12 @@ fresh_in_order W layout meaning b built some freely lane size group =
             ap (λ (held : List Value). 0 + length held) (nothing_held layout b (below (port_count block)));
       };
       load = λ grouped. record {
-        groups = subst (λ (held : List Value). WeighsAs (block_makes layout meaning b) block.kind block.capacity [] held
+        groups = subst (λ (held : List Value). WeighsAs (block_makes layout meaning b) block.kind (room_of block) [] held
             [] [] 1 []) (sym (nothing_held layout b (below (port_count block))))
-            (weighs_nothing (block_makes layout meaning b) block.kind block.capacity 1);
+            (weighs_nothing (block_makes layout meaning b) block.kind (room_of block) 1);
         no_room = refl;
-        load = each_port layout b (λ p port. is_some block.capacity ≡ true → port.load ≡ length port.waiting + places_out node.block)
+        load = each_port layout b
+            (λ p port. is_some (room_of block) ≡ true → port.load ≡ length port.waiting + places_out node.block)
             (λ p some. omega (arith, none_copied));
       };
       groups = λ batched. (groups_begin W layout b).groups;
@@ -268,7 +270,7 @@ fresh_in_order W layout meaning b built some freely lane size group =
         at_rest = λ e. absurd (cc);
         done_empty = λ e. absurd (cc);
         done_complete = λ e. absurd (cc);
-        complete_cause = λ p small e. absurd (cc);
+        complete_cause = λ p small e none. absurd (cc);
         fault_cause = λ number e. absurd (cc);
         faulted_by = λ number e. absurd (cc);
       };

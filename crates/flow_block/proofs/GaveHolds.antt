@@ -34,9 +34,10 @@ use Rattle.flow_outlet.proofs.OffersInOrder.{offers_in_order}
 use Rattle.flow_outlet.proofs.OneEndChanges.{each_set}
 use Rattle.flow_outlet.proofs.StagesTell.{number_same}
 use Rattle.flow_block.specs.Copies.{copy_place}
+use Rattle.flow_block.proofs.CopiesTaken.{taken_in_keeps}
 use Rattle.flow_block.proofs.CopiesIdle.{no_copy_at}
 use Rattle.flow_block.specs.Block.{BlockState, copies_next, made_of, keeps_results, yields, makes_of, held_by}
-use Rattle.flow_block.specs.Node.{NodeState, NodeCall, hand_at, takes_in, gives_from}
+use Rattle.flow_block.specs.Node.{NodeState, NodeCall, hand_at, holds_in, gives_from}
 use Rattle.flow_block.specs.NodeLaw.{NodeLaw, ShapeLaw, GaveLaw, GaveOver, refuses_over, run_seen_by}
 use Rattle.flow_block.specs.NodeKeeps.{MayCall, after_call, GaveKept}
 use Rattle.flow_block.specs.Planned.{is_out_of, rule_of, out_place, block_makes}
@@ -287,14 +288,14 @@ module _ {W : Type 0} (layout : Layout W) (meaning : ℕ → Value → Result (L
   make_keeps block journal result None law = law
   make_keeps block journal result (Some value) law = result_keeps block journal (made_of block.kind result value) law
 
-  law_of_copy : (first : Option Value) (node : NodeState) → GaveLaw layout meaning b node.block.exits node.journal
-      → GaveLaw layout meaning b (copies_next first node.block).exits node.journal
-  law_of_copy None node law = law
-  law_of_copy (Some value) node law = law
+  law_of_copy : (first : Option Value) (block : BlockState) (journal : List Mark) → GaveLaw layout meaning b block.exits journal
+      → GaveLaw layout meaning b (copies_next first block).exits journal
+  law_of_copy None block journal law = law
+  law_of_copy (Some value) block journal law = law
 
   closes_keep : (node : NodeState) (p k : ℕ) (hand : Option Value)
       → GaveLaw layout meaning b node.block.exits node.journal
-      → GaveLaw layout meaning b (takes_in p k hand node).block.exits (takes_in p k hand node).journal
+      → GaveLaw layout meaning b (holds_in p k hand node).block.exits (holds_in p k hand node).journal
   closes_keep node p k None law = law
   closes_keep node p k (Some value) law =
       quiet_mark node.block.exits node.journal (Took p _ value) (λ test. refl) (λ all. refl) law
@@ -317,7 +318,11 @@ module _ {W : Type 0} (layout : Layout W) (meaning : ℕ → Value → Result (L
   gave_keep node (NodeCall.refuse p k) law may shares gave = gave
   gave_keep node (NodeCall.consume p k) law may shares gave = gave
   gave_keep node (NodeCall.open_with p k value) law may shares gave = gave
-  gave_keep node (NodeCall.close p k) law may shares gave = closes_keep node p k (hand_at p k node) gave
+  gave_keep node (NodeCall.close p k) law may shares gave =
+      let held = holds_in p k (hand_at p k node) node in
+      let kept = closes_keep node p k (hand_at p k node) gave in
+      taken_in_keeps (λ new journal. GaveLaw layout meaning b new.exits journal) p k (hand_at p k node) node kept
+      (λ at_once. law_of_copy (first_of (held_by held.block)) held.block held.journal kept)
   gave_keep node (NodeCall.offer k) law may shares gave =
       let o = node.block.exits in
       let next = (offers_in_order.named o k).0 may.next in
@@ -348,7 +353,7 @@ module _ {W : Type 0} (layout : Layout W) (meaning : ℕ → Value → Result (L
       makes_by (λ new. GaveLaw layout meaning b new.exits node.journal) (block_makes layout meaning b) node.block
       (λ batch. record { each = gave.each; next_is = gave.next_is; in_order = gave.in_order })
       (λ join. record { each = gave.each; next_is = gave.next_is; in_order = gave.in_order })
-      (λ broadcast. law_of_copy (first_of (held_by node.block)) node gave)
+      (λ broadcast. law_of_copy (first_of (held_by node.block)) node.block node.journal gave)
       (λ other alone single. make_keeps node.block node.journal (block_makes layout meaning b)
       (first_of (held_by node.block)) gave))
   gave_keep node (NodeCall.complete p) law may shares gave =

@@ -1,5 +1,5 @@
 -- What tells that a block goes on: what it may do by itself, an open port, or a link with something under way.
-use Rattle.std.proofs.Common.{◌≡◌, ℕ, zero, suc, ◌+◌, ◌<◌, ltb, ◌==◌, cond, Bool, true, false, not, ◌&&◌, List, [], ◌∷◌, length, set, Option, Some, None, is_none, is_some, Result, refl, sym, ◌∙◌, arith, eq-eqb, eqb-true}
+use Rattle.std.proofs.Common.{◌≡◌, ℕ, zero, suc, ◌+◌, ◌<◌, ltb, ◌==◌, cond, Bool, true, false, not, ◌&&◌, List, [], ◌∷◌, length, set, Option, Some, None, is_none, is_some, Result, refl, sym, ◌∙◌, arith, eq-eqb, eqb-true, ◌||◌}
 use Rattle.std.proofs.lemmas.Bool.{not-true, and_parts, false_from_ne_true}
 use Rattle.flow_value.specs.declared.value.Value.{Value}
 use Rattle.flow_link.specs.declared.stage.SourceStage.{SourceStage}
@@ -22,7 +22,7 @@ use Rattle.flow_link.specs.declared.draft.BlockKind.TheVariants.{Join, BatchedJo
 use Rattle.flow_group.specs.Tuple.{has_tuple}
 use Rattle.flow_block.specs.Block.{BlockState, port_at, held_by, is_batch, is_join, is_batched_join}
 use Rattle.flow_block.specs.Copies.{copies_left}
-use Rattle.flow_block.specs.Peeks.{could_stop, is_out_at_rest, is_copied_out, may_copy, has_group, has_next, may_work, may_begin, may_make, may_complete, next_fault, may_finish, fault_cause, nothing_comes, holds_nothing, is_complete, has_group_of_ports}
+use Rattle.flow_block.specs.Peeks.{could_stop, is_out_at_rest, is_copied_out, may_copy, has_group, has_next, may_work, may_begin, may_make, may_complete, next_fault, may_finish, fault_cause, nothing_comes, holds_nothing, is_complete, has_group_of_ports, all_ended, is_written}
 use Rattle.flow_block.specs.NodeLaw.{EndsLaw, outcome_in}
 use Rattle.flow_block.proofs.JournalTells.{open_tells}
 use Rattle.flow_block.proofs.TestsTell.{none_is, none_unless}
@@ -163,13 +163,13 @@ may_make_tells block e =
 pub record MayComplete (p : ℕ) (block : BlockState) : Type 0 where
   pub open_port : has_ended (port_at p block).refusing ≡ false
   pub none_comes : coming (port_at p block) ≡ 0
-  pub completion : has_seen_completion (port_at p block).ends ≡ true
+  pub completion : (has_seen_completion (port_at p block).ends || is_written block) ≡ true
 
 pub may_complete_tells : (p : ℕ) (block : BlockState) → may_complete p block ≡ true → MayComplete p block
 may_complete_tells p block e =
     let open_port = not (has_ended (port_at p block).refusing) in
     let empty = coming (port_at p block) == 0 in
-    let outer = and_parts (open_port && empty) (has_seen_completion (port_at p block).ends) e in
+    let outer = and_parts (open_port && empty) (has_seen_completion (port_at p block).ends || is_written block) e in
     let inner = and_parts open_port empty outer.0 in
     record {
       open_port = not-true (has_ended (port_at p block).refusing) inner.0;

@@ -9,17 +9,18 @@ use Rattle.flow_block.specs.Copies.{copy_place}
 use Rattle.flow_block.specs.GroupsKeep.{MayCallBatched}
 use Rattle.flow_block.specs.GroupsLaw.{are_complete, OrderedGroups, LoadByPort}
 use Rattle.flow_block.specs.GroupsOrdered.{after_in_order}
-use Rattle.flow_block.specs.Node.{NodeState, NodeCall, with_block, order_in, makes_next_group}
+use Rattle.flow_block.specs.Node.{NodeState, NodeCall, with_block, hand_at, order_in, makes_next_group}
 use Rattle.flow_block.specs.NodeKeeps.{MayCall, after_call, GroupsKept, GroupLoadKept}
 use Rattle.flow_block.specs.NodeLaw.{NodeLaw}
 use Rattle.flow_block.specs.Planned.{block_makes}
 use Rattle.flow_block.proofs.CopiesIdle.{no_copy_at}
+use Rattle.flow_block.proofs.CopiesTaken.{taken_as_held}
 use Rattle.flow_block.proofs.GoingOn.{open_goes_on, may_work_tells}
 use Rattle.flow_block.proofs.GroupsLoad.{groups_keep_load}
 use Rattle.flow_block.proofs.GroupsOrdered.{groups_ordered}
 use Rattle.flow_block.proofs.GroupsPeek.{ports_tell_groups}
 use Rattle.flow_block.proofs.GroupsTold.{group_told}
-use Rattle.flow_block.proofs.Joins.{batched_shares}
+use Rattle.flow_block.proofs.Joins.{batched_shares, batched_takes_many}
 use Rattle.flow_block.proofs.ShapeHolds.{same_kind}
 
 module _ {W : Type 0} (layout : Layout W) (meaning : ℕ → Value → Result (List Value) ℕ) (b : ℕ) where
@@ -48,6 +49,8 @@ module _ {W : Type 0} (layout : Layout W) (meaning : ℕ → Value → Result (L
       ap (λ (grouped : Bool). cond grouped (makes_next_group node)
       (with_block (makes (block_makes layout meaning b) node.block) node))
       (sym batched)
+  after_same node (NodeCall.close p k) batched =
+      sym (taken_as_held p k (hand_at p k node) node (batched_takes_many node.block.kind batched))
   after_same node call batched = refl
 
   batched_before : (node : NodeState) (call : NodeCall) → NodeLaw layout meaning b node → MayCall layout meaning b call node

@@ -19,13 +19,13 @@ use Rattle.flow_group.specs.Tuple.{held_at}
 use Rattle.flow_group.proofs.GroupsCut.{groups_tell, as_many_taken}
 use Rattle.flow_group.proofs.PortsTaken.{ports_taken}
 use Rattle.flow_block.specs.Block.{BlockState, port_in, port_at, is_batched_join, row_count, room_at, gives_out, stops_by}
-use Rattle.flow_block.specs.Copies.{copies_left}
+use Rattle.flow_block.specs.Copies.{copies_weight}
 use Rattle.flow_block.specs.Groups.{makes_group}
 use Rattle.flow_block.specs.GroupsLaw.{are_complete, rows_left, LoadByPort, OrderedGroups}
 use Rattle.flow_block.specs.GroupsKeep.{MayCallBatched}
 use Rattle.flow_block.specs.GroupsLoad.{GroupsKeepLoad}
 use Rattle.flow_block.specs.GroupsOrdered.{after_in_order}
-use Rattle.flow_block.specs.Node.{NodeState, NodeCall, takes_in, gives_from, hand_at, order_in}
+use Rattle.flow_block.specs.Node.{NodeState, NodeCall, holds_in, gives_from, hand_at, order_in}
 use Rattle.flow_block.specs.Planned.{block_makes}
 use Rattle.flow_block.proofs.PortsChange.{each_after_one, each_after_all}
 use Rattle.flow_block.proofs.RoomBack.{back_at, each_after_back}
@@ -116,7 +116,7 @@ one_port block p port law same = record {
       (λ there. same (law.load p there)) (λ q there other. law.load q there);
 }
 
-taken_in : (node : NodeState) (p k : ℕ) (value : Option Value) → LoadByPort node.block → LoadByPort (takes_in p k value node).block
+taken_in : (node : NodeState) (p k : ℕ) (value : Option Value) → LoadByPort node.block → LoadByPort (holds_in p k value node).block
 taken_in node p k None law = law
 taken_in node p k (Some value) law =
     let port = port_in node.block.ports p in
@@ -144,7 +144,7 @@ module _ (block : BlockState) (k : ℕ) (head : Value) (left : List Value) (left
       let room = law.no_room in
       omega (arith, none, room)
 
-  no_weight_then : weight_of (gives k block.exits).groups + copies_left block.copies ≡ 0
+  no_weight_then : weight_of (gives k block.exits).groups + copies_weight block.copies ≡ 0
   no_weight_then =
       let none : weight_of (gives k block.exits).groups ≡ 0 = ap weight_of no_groups_then in
       let copies = law.no_copies in
@@ -159,7 +159,7 @@ module _ (block : BlockState) (k : ℕ) (head : Value) (left : List Value) (left
       → back_at (gives k block.exits) block.copies block.kind (head_of block.exits) q port
       ≡ 0 + min (row_weight (row_at q head)) (port.load - length port.waiting - 0 - 0)
   back_is q port =
-      ap (λ (room : ℕ). room_at room (weight_of (gives k block.exits).groups + copies_left block.copies)
+      ap (λ (room : ℕ). room_at room (weight_of (gives k block.exits).groups + copies_weight block.copies)
       (row_count block.kind (head_of block.exits) q) port) no_room_then
       ∙ ap (λ (weight : ℕ). room_at 0 weight (row_count block.kind (head_of block.exits) q) port) no_weight_then
       ∙ ap (λ (count : ℕ). room_at 0 0 count port) (counts_are q)

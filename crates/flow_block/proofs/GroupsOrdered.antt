@@ -15,7 +15,7 @@ use Rattle.flow_block.specs.Groups.{ports_in, marks_until}
 use Rattle.flow_block.specs.GroupsLaw.{KeepsGroups, OrderedGroups, WholeBefore}
 use Rattle.flow_block.specs.GroupsKeep.{MayCallBatched, after_at_batched, order_after, order_taken}
 use Rattle.flow_block.specs.GroupsOrdered.{after_in_order, GroupsOrdered}
-use Rattle.flow_block.specs.Node.{NodeState, NodeCall, takes_in, gives_from, hand_at, order_in}
+use Rattle.flow_block.specs.Node.{NodeState, NodeCall, holds_in, gives_from, hand_at, order_in}
 use Rattle.flow_block.specs.Planned.{block_makes}
 use Rattle.flow_block.proofs.GroupsSeen.{whole_stand}
 use Rattle.flow_block.proofs.GroupsStand.{groups_stand}
@@ -133,7 +133,7 @@ module _ {W : Type 0} (layout : Layout W) (meaning : ℕ → Value → Result (L
   as_it_was node within = record { within = within; order_is = refl }
 
   taken : (node : NodeState) → node.grouped ≤ length node.journal → (p k : ℕ) (value : Option Value)
-      → IsOrdered (takes_in p k value node) (order_taken p value (order_in node))
+      → IsOrdered (holds_in p k value node) (order_taken p value (order_in node))
   taken node within p k None = as_it_was node within
   taken node within p k (Some value) = marked node.grouped node.journal (Took p _ value) within
 
@@ -178,8 +178,8 @@ module _ {W : Type 0} (layout : Layout W) (meaning : ℕ → Value → Result (L
   at_port p change block = length-set block.ports p (change (port_at p block))
 
   taken_same : (node : NodeState) (p k : ℕ) (value : Option Value)
-      → ((takes_in p k value node).block.size ≡ node.block.size)
-      × (length (takes_in p k value node).block.ports ≡ length node.block.ports)
+      → ((holds_in p k value node).block.size ≡ node.block.size)
+      × (length (holds_in p k value node).block.ports ≡ length node.block.ports)
   taken_same node p k None = (refl, refl)
   taken_same node p k (Some value) = (refl, at_port p (closes k value) node.block)
 

@@ -15,7 +15,7 @@ use Rattle.flow_intake.specs.Port.{PortState}
 use Rattle.flow_spread.specs.End.{owes_it}
 use Rattle.flow_spread.proofs.CountsOfEnds.{none_counts}
 use Rattle.flow_block.specs.Block.{port_in, port_at}
-use Rattle.flow_block.specs.Copies.{copied_rules, copies_left}
+use Rattle.flow_block.specs.Copies.{copies_weight}
 use Rattle.flow_block.specs.GroupsLaw.{are_complete, LoadByPort}
 use Rattle.flow_block.specs.Groups.{waiting_in_all, has_group_at}
 use Rattle.flow_block.specs.GroupsRest.{GroupsRestInRuns, FreshInOrder, GroupsBegin}
@@ -24,6 +24,7 @@ use Rattle.flow_block.specs.Planned.{port_of_plan, fresh_node, rule_of, links_fr
 use Rattle.flow_block.specs.TuplesSeen.{IsPortsOf}
 use Rattle.flow_block.proofs.FreshGroups.{fresh_groups}
 use Rattle.flow_block.proofs.GroupsSeen.{marks_are, left_is, held_is, numbers_are}
+use Rattle.flow_block.proofs.RoomFits.{weighs_fresh}
 
 -- Sums over the ports
 
@@ -125,11 +126,8 @@ module _ {W : Type 0} (layout : Layout W) (b : ℕ) where
   nothing_counts (q ∷ ps) zero = refl
   nothing_counts (q ∷ ps) (suc p) = nothing_counts ps p
 
-  nobody_owes : copies_left (fresh_node layout b).block.copies ≡ 0
-  nobody_owes =
-      let kind = (block_in layout.blocks b).kind in
-      ap (λ (count : ℕ). cond (count == 0) 0 1)
-      (none_counts owes_it (copied_rules kind (map (rule_of layout) (links_from layout b))) (λ rule. refl))
+  nothing_weighs : copies_weight (fresh_node layout b).block.copies ≡ 0
+  nothing_weighs = weighs_fresh (block_in layout.blocks b).kind (map (rule_of layout) (links_from layout b))
 
   begins : FreshInOrder layout b
   begins =
@@ -140,7 +138,7 @@ module _ {W : Type 0} (layout : Layout W) (b : ℕ) where
         load = record {
           no_groups = refl;
           no_room = refl;
-          no_copies = nobody_owes;
+          no_copies = nothing_weighs;
           load = λ p there limited. nothing_counts (below (port_count (block_in layout.blocks b))) p;
         };
       }

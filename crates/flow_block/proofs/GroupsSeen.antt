@@ -22,7 +22,7 @@ use Rattle.flow_group.proofs.GroupsKeep.{groups_kept}
 use Rattle.flow_block.specs.Block.{port_at}
 use Rattle.flow_block.specs.GroupsKeep.{MayCallBatched, after_at_batched}
 use Rattle.flow_block.specs.GroupsSeen.{WholeStand, BatchedJoinsAreParts}
-use Rattle.flow_block.specs.Node.{NodeState, NodeCall, takes_in, gives_from, in_link_at, out_link_at}
+use Rattle.flow_block.specs.Node.{NodeState, NodeCall, takes_in, gives_from, in_link_at, out_link_at, holds_in}
 use Rattle.flow_block.specs.Planned.{block_makes}
 use Rattle.flow_block.specs.TuplesSeen.{IsPortsOf}
 use Rattle.flow_block.proofs.GroupsOfRows.{none_before, passes_before, every_of}
@@ -40,7 +40,7 @@ module _ (size : ℕ) where
   none_given count journal mark none law = λ p there. ap (every (is_whole size)) (none_before p journal mark none) ∙ law p there
 
   taken_in : (node : NodeState) (count p k : ℕ) (value : Option Value) → WholeBefore count size node.journal
-      → WholeBefore count size (takes_in p k value node).journal
+      → WholeBefore count size (holds_in p k value node).journal
   taken_in node count p k None law = law
   taken_in node count p k (Some value) law = none_given count node.journal (Took p (in_link_at p k node) value) refl law
 

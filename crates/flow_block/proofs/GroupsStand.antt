@@ -28,7 +28,7 @@ use Rattle.flow_group.proofs.TuplesKeep.{held_by_take}
 use Rattle.flow_block.specs.Block.{BlockState, port_at, with_port, stops_by}
 use Rattle.flow_block.specs.Groups.{makes_group}
 use Rattle.flow_block.specs.GroupsKeep.{order_taken, order_after, after_at_batched, MayTake, MayCallBatched, GroupsStand}
-use Rattle.flow_block.specs.Node.{NodeState, NodeCall, takes_in, gives_from, in_link_at, out_link_at}
+use Rattle.flow_block.specs.Node.{NodeState, NodeCall, takes_in, gives_from, in_link_at, out_link_at, holds_in}
 use Rattle.flow_block.specs.Planned.{block_makes}
 use Rattle.flow_block.proofs.PortsChange.{kept_at_one, kept_at_all}
 use Rattle.flow_block.proofs.RoomBack.{length_back, kept_back}
@@ -139,7 +139,7 @@ module _ (size : ℕ) (some : 0 < size) (order : List ℕ) where
 
   -- a message is taken
   taken_in : (node : NodeState) → Keeps node.block node.journal → (p k : ℕ) → MayTake p k node → (value : Option Value)
-      → KeepsGroups size (order_taken p value order) (takes_in p k value node).block (takes_in p k value node).journal
+      → KeepsGroups size (order_taken p value order) (holds_in p k value node).block (holds_in p k value node).journal
   taken_in node law p k may None = law
   taken_in node law p k may (Some value) =
       let block = node.block in

@@ -204,6 +204,7 @@ module _ {W : Type 0} (kept : NodesKept W) (layout : Layout W) (meaning : ℕ �
           idle = law.copies.idle;
           copier = λ copying. jobs_change layout b block journal (law.copies.copier copying) (change block.jobs);
         };
+        none_held = law.none_held;
         gave = law.gave;
         makes = makes_stay layout meaning b (record { block = block; journal = journal; grouped = grouped }) law.makes change;
         rows = law.rows;

@@ -4,7 +4,7 @@ use Rattle.flow_value.specs.declared.value.Value.{Value}
 use Rattle.flow_link.specs.declared.draft.BlockKind.{BlockKind}
 use Rattle.flow_link.specs.declared.draft.BlockKind.TheVariants.{Broadcast, WriteOnce, Action, Transform, TransformMany, Batch, Join, BatchedJoin}
 use Rattle.flow_link.specs.Lists.{is_empty}
-use Rattle.flow_link.specs.Plan.{has_work, is_broadcast, is_one_taker}
+use Rattle.flow_link.specs.Plan.{has_work, is_broadcast, is_write_once, is_one_taker}
 use Rattle.flow_intake.specs.Port.{PortState}
 use Rattle.flow_outlet.specs.declared.group.Group.{Group}
 use Rattle.flow_group.specs.Tuple.{has_first, has_tuple}
@@ -104,6 +104,10 @@ batched_unjoined _ e = absurd (cc)
 pub batched_shares : (kind : BlockKind) → is_batched_join kind ≡ true → is_one_taker kind ≡ true
 batched_shares BatchedJoin e = refl
 batched_shares _ e = absurd (cc)
+
+pub batched_takes_many : (kind : BlockKind) → is_batched_join kind ≡ true → is_write_once kind ≡ false
+batched_takes_many BatchedJoin e = refl
+batched_takes_many _ e = absurd (cc)
 
 pub works_unbatched : (kind : BlockKind) → has_work kind ≡ true → is_batched_join kind ≡ false
 works_unbatched BatchedJoin e = absurd (cc)

@@ -1,12 +1,14 @@
 -- What holds of each kind that is kept in order: it has one port, if it joins nothing, and makes rows, tuples, groups or
 -- something of its first message.
-use Rattle.std.proofs.Common.{◌≡◌, ℕ, Bool, true, false, cond, length, [], ◌∷◌, Option, Some, None, Result, Ok, Err, refl, ap, sym, ◌∙◌, List}
+use Rattle.std.proofs.Common.{◌≡◌, ℕ, Bool, true, false, cond, length, [], ◌∷◌, Option, Some, None, Result, Ok, Err, refl, ap, sym, ◌∙◌, subst, is_some, List}
 use Rattle.flow_value.specs.declared.value.Value.{Value}
 use Rattle.flow_link.specs.declared.draft.BlockKind.{BlockKind}
-use Rattle.flow_link.specs.declared.draft.BlockKind.TheVariants.{Buffer, Broadcast, Action, Transform, TransformMany, Batch, Join, BatchedJoin}
+use Rattle.flow_link.specs.declared.draft.BlockKind.TheVariants.{Buffer, Broadcast, WriteOnce, Action, Transform, TransformMany, Batch, Join, BatchedJoin}
 use Rattle.flow_link.specs.Layout.{Layout}
 use Rattle.flow_link.specs.NotBuilt.{is_built_kind}
-use Rattle.flow_link.specs.Plan.{block_in, ports_by_kind, has_work, is_broadcast, is_one_taker}
+use Rattle.flow_link.specs.Plan.{block_in, ports_by_kind, has_work, is_broadcast, is_write_once, is_one_taker}
+use Rattle.flow_link.specs.LinkOk.{IsWithin}
+use Rattle.flow_block.specs.Planned.{room_by, room_of}
 use Rattle.flow_block.specs.Kinds.{is_kept_kind}
 use Rattle.flow_intake.specs.Calls.{first_of}
 use Rattle.flow_block.specs.Block.{BlockState, held_by, is_batch, is_join, made_of, makes_row, makes_tuple, keeps_results, yields, copies_next, makes_of, makes_other, makes, is_batched_join, has_ports}
@@ -23,19 +25,19 @@ built_kept Batch e = refl
 built_kept Join e = refl
 built_kept _ e = absurd (cc)
 
--- what holds of buffers, actions, both transforms, batches, joins, broadcasts and batched joins holds of each kind that is kept
--- in order
+-- what holds of buffers, actions, both transforms, batches, joins, broadcasts, what takes one message in all and batched joins
+-- holds of each kind that is kept in order
 pub by_kind : (P : BlockKind → Type 0) → P Buffer → P Action → P Transform → P TransformMany → P Batch → P Join → P Broadcast
-    → P BatchedJoin → (kind : BlockKind) → is_kept_kind kind ≡ true → P kind
-by_kind P buffer action transform many batch join broadcast batched Buffer e = buffer
-by_kind P buffer action transform many batch join broadcast batched Broadcast e = broadcast
-by_kind P buffer action transform many batch join broadcast batched Action e = action
-by_kind P buffer action transform many batch join broadcast batched Transform e = transform
-by_kind P buffer action transform many batch join broadcast batched TransformMany e = many
-by_kind P buffer action transform many batch join broadcast batched Batch e = batch
-by_kind P buffer action transform many batch join broadcast batched Join e = join
-by_kind P buffer action transform many batch join broadcast batched BatchedJoin e = batched
-by_kind P buffer action transform many batch join broadcast batched _ e = absurd (cc)
+    → P WriteOnce → P BatchedJoin → (kind : BlockKind) → is_kept_kind kind ≡ true → P kind
+by_kind P buffer action transform many batch join broadcast once batched Buffer e = buffer
+by_kind P buffer action transform many batch join broadcast once batched Broadcast e = broadcast
+by_kind P buffer action transform many batch join broadcast once batched WriteOnce e = once
+by_kind P buffer action transform many batch join broadcast once batched Action e = action
+by_kind P buffer action transform many batch join broadcast once batched Transform e = transform
+by_kind P buffer action transform many batch join broadcast once batched TransformMany e = many
+by_kind P buffer action transform many batch join broadcast once batched Batch e = batch
+by_kind P buffer action transform many batch join broadcast once batched Join e = join
+by_kind P buffer action transform many batch join broadcast once batched BatchedJoin e = batched
 
 -- it makes what it makes of one message after another
 abbrev pub is_of_one : BlockKind → Bool
@@ -46,12 +48,12 @@ is_of_one TransformMany = true
 is_of_one _ = false
 
 pub of_one : (kind : BlockKind) → is_kept_kind kind ≡ true → is_batched_join kind ≡ false → is_batch kind ≡ false
-    → is_join kind ≡ false → is_broadcast kind ≡ false → is_of_one kind ≡ true
-of_one Buffer kept grouped single alone shared = refl
-of_one Action kept grouped single alone shared = refl
-of_one Transform kept grouped single alone shared = refl
-of_one TransformMany kept grouped single alone shared = refl
-of_one _ kept grouped single alone shared = absurd (cc)
+    → is_join kind ≡ false → is_broadcast kind ≡ false → is_write_once kind ≡ false → is_of_one kind ≡ true
+of_one Buffer kept grouped single alone shared many = refl
+of_one Action kept grouped single alone shared many = refl
+of_one Transform kept grouped single alone shared many = refl
+of_one TransformMany kept grouped single alone shared many = refl
+of_one _ kept grouped single alone shared many = absurd (cc)
 
 -- a batch has no function
 pub batch_idle : (kind : BlockKind) → is_batch kind ≡ true → has_work kind ≡ false
@@ -62,6 +64,17 @@ batch_idle _ e = absurd (cc)
 pub batch_shares : (kind : BlockKind) → is_batch kind ≡ true → is_one_taker kind ≡ true
 batch_shares Batch e = refl
 batch_shares _ e = absurd (cc)
+
+-- nor has what copies its messages, which makes no rows
+pub copying_idle : (kind : BlockKind) → is_one_taker kind ≡ false → has_work kind ≡ false
+copying_idle Broadcast e = refl
+copying_idle WriteOnce e = refl
+copying_idle _ e = absurd (cc)
+
+pub copying_single : (kind : BlockKind) → is_one_taker kind ≡ false → is_batch kind ≡ false
+copying_single Broadcast e = refl
+copying_single WriteOnce e = refl
+copying_single _ e = absurd (cc)
 
 -- nor has a broadcast
 pub broadcast_idle : (kind : BlockKind) → is_broadcast kind ≡ true → has_work kind ≡ false
@@ -134,8 +147,36 @@ pub made_kind : (result : Value → Result (List Value) ℕ) (first : Option Val
 made_kind result None block = refl
 made_kind result (Some value) block = yields_kind (made_of block.kind result value) block
 
+-- the room of a block is its capacity, but for what takes one message in all, which has none
+pub room_shared : (kind : BlockKind) (capacity : Option ℕ) → is_write_once kind ≡ false → room_by kind capacity ≡ capacity
+room_shared WriteOnce capacity many = absurd (cc)
+room_shared _ capacity many = refl
+
+room_where : (kind : BlockKind) (capacity : Option ℕ) → (is_write_once kind ≡ true → capacity ≡ None) → is_some capacity ≡ true
+    → room_by kind capacity ≡ capacity
+room_where WriteOnce None none there = absurd (cc)
+room_where WriteOnce (Some room) none there = absurd (let never : Some room ≡ None = none refl in cc)
+room_where _ capacity none there = refl
+
+within_where : (kind : BlockKind) (capacity : Option ℕ) (count : ℕ) → (is_write_once kind ≡ true → capacity ≡ None)
+    → IsWithin (room_by kind capacity) count → IsWithin capacity count
+within_where WriteOnce capacity count none within = subst (λ (room : Option ℕ). IsWithin room count) (sym (none refl)) tt
+within_where _ capacity count none within = within
+
 module _ {W : Type 0} (layout : Layout W) (meaning : ℕ → Value → Result (List Value) ℕ) (b : ℕ) (block : BlockState)
     (shape : ShapeLaw layout meaning b block) where
+  unlimited : is_write_once (block_in layout.blocks b).kind ≡ true → (block_in layout.blocks b).capacity ≡ None
+  unlimited once = shape.no_capacity (ap is_write_once shape.kind_is ∙ once)
+
+  pub room_kept : is_some (block_in layout.blocks b).capacity ≡ true
+      → room_of (block_in layout.blocks b) ≡ (block_in layout.blocks b).capacity
+  room_kept there = room_where (block_in layout.blocks b).kind (block_in layout.blocks b).capacity unlimited there
+
+  pub within_capacity : (count : ℕ) → IsWithin (room_of (block_in layout.blocks b)) count
+      → IsWithin (block_in layout.blocks b).capacity count
+  within_capacity count within =
+      within_where (block_in layout.blocks b).kind (block_in layout.blocks b).capacity count unlimited within
+
   pub planned_kept : is_kept_kind (block_in layout.blocks b).kind ≡ true
   planned_kept = ap is_kept_kind (sym shape.kind_is) ∙ shape.built
 
@@ -143,5 +184,5 @@ module _ {W : Type 0} (layout : Layout W) (meaning : ℕ → Value → Result (L
   has_one_port alone =
       shape.port_count_is
       ∙ by_kind (λ kind. has_ports kind ≡ false → ports_by_kind kind (block_in layout.blocks b).ports ≡ 1)
-      (λ e. refl) (λ e. refl) (λ e. refl) (λ e. refl) (λ e. refl) (λ e. absurd (cc)) (λ e. refl) (λ e. absurd (cc))
+      (λ e. refl) (λ e. refl) (λ e. refl) (λ e. refl) (λ e. refl) (λ e. absurd (cc)) (λ e. refl) (λ e. refl) (λ e. absurd (cc))
       (block_in layout.blocks b).kind planned_kept (ap has_ports (sym shape.kind_is) ∙ alone)

@@ -13,6 +13,7 @@ pub mod CopiesLeave
 pub mod CopiesMove
 pub mod CopiesRest
 pub mod CopiesSeen
+pub mod CopiesTaken
 pub mod CopiesTested
 pub mod CourseMore
 pub mod EndsAtRest
@@ -62,6 +63,7 @@ pub mod NodesKept
 pub mod NodesRest
 pub mod NodesSeen
 pub mod NothingToDo
+pub mod OnceHolds
 pub mod PassesOfNodes
 pub mod PlacesNamed
 pub mod PlacesOfCopies
@@ -84,3 +86,4 @@ pub mod TuplesSeen
 pub mod TuplesHold
 pub mod ViewsMove
 pub mod WeightsOfResults
+pub mod WrittenOnce

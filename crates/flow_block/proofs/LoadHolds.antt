@@ -22,20 +22,20 @@ use Rattle.flow_outlet.specs.declared.group.Group.{Group}
 use Rattle.flow_outlet.specs.Fits.{weight_of}
 use Rattle.flow_outlet.specs.Outlet.{OutletState, head_of, groups_with, groups_after, room_with, gives, prepares, offers, denies, withdraws, ends_link, looks as exit_looks, is_empty}
 use Rattle.flow_outlet.proofs.OutletFits.{weight_stays, room_put}
-use Rattle.flow_link.proofs.ListTests.{never_both}
 use Rattle.flow_link.specs.Plan.{is_broadcast}
-use Rattle.flow_block.specs.Copies.{copy_place, CopyCall, after_copy, copies_left}
-use Rattle.flow_block.proofs.CopiesIdle.{copies_at, broadcast_copies}
+use Rattle.flow_block.specs.Copies.{copy_place, CopyCall, after_copy, copies_left, copies_weight}
+use Rattle.flow_block.proofs.CopiesIdle.{copies_at, broadcast_copies, no_copy_at, once_copies}
 use Rattle.flow_block.proofs.RoomBack.{back_plain, kept_back, each_after_back}
 use Rattle.flow_block.specs.Block.{BlockState, port_in, port_at, with_port, with_jobs, held_by, unit_weight, made_of, puts_out, fails, yields, keeps_results, makes_of, is_batch, row_of, next_group, group_weight, takes_group, makes_row, stops_by, is_join, makes_tuple, copies_next, is_batched_join}
+use Rattle.flow_block.proofs.CopiesTaken.{taken_in_keeps, makes_many}
 use Rattle.flow_spread.specs.Spread.{puts}
 use Rattle.flow_block.proofs.CopiesLeave.{at_most_one, free_is_given, left_by_copy}
 use Rattle.flow_block.specs.Jobs.{JobsState, begins, works_off}
-use Rattle.flow_block.specs.Node.{NodeState, NodeCall, hand_at, in_link_at, out_link_at, takes_in, gives_from, copies_by}
+use Rattle.flow_block.specs.Node.{NodeState, NodeCall, hand_at, in_link_at, out_link_at, holds_in, gives_from, copies_by}
 use Rattle.flow_block.specs.NodeLaw.{NodeLaw, ShapeLaw, LoadLaw, WeighsAs, places_out, rows_weighed}
 use Rattle.flow_block.specs.NodeKeeps.{MayCall, after_call, LoadKept}
 use Rattle.flow_block.specs.Peeks.{may_work}
-use Rattle.flow_block.specs.Planned.{block_makes}
+use Rattle.flow_block.specs.Planned.{block_makes, room_of}
 use Rattle.flow_block.proofs.GroupsOfRows.{group_there, group_tells}
 use Rattle.flow_block.proofs.CopierKept.{may_copy_tells}
 use Rattle.flow_block.proofs.GoingOn.{may_work_tells}
@@ -57,7 +57,7 @@ weighs_copied result WriteOnce capacity taken held given taken' held' given' lef
 weighs_copied result _ capacity taken held given taken' held' given' left next groups copying weighs = absurd (cc)
 
 -- what goes on to copy another message has nothing left of the last one
-none_copied_yet : (block : BlockState) → is_broadcast block.kind ≡ true → may_work block ≡ true → copies_left block.copies ≡ 0
+none_copied_yet : (block : BlockState) → is_broadcast block.kind ≡ true → may_work block ≡ true → copies_weight block.copies ≡ 0
 none_copied_yet block broadcast may = free_is_given block.copies (may_copy_tells block broadcast may)
 
 many_shares : (kind : BlockKind) → is_many kind ≡ true → is_one_taker kind ≡ true
@@ -176,7 +176,7 @@ one_goes (message ∷ waiting) value first = omega arith
 
 module _ {W : Type 0} (layout : Layout W) (meaning : ℕ → Value → Result (List Value) ℕ) (b : ℕ) where
   abbrev limit : Option ℕ
-  limit = (block_in layout.blocks b).capacity
+  limit = room_of (block_in layout.blocks b)
 
   -- what is counted at a port, where so many messages are left
   abbrev Loads : ℕ → ℕ → PortState → Type 0
@@ -434,7 +434,7 @@ module _ {W : Type 0} (layout : Layout W) (meaning : ℕ → Value → Result (L
       → ShapeLaw layout meaning b node.block → is_batched_join node.block.kind ≡ false
       → LoadLaw layout meaning b node.block node.journal
       → (join : Bool) → is_join node.block.kind ≡ join
-      → let new = takes_in p k (Some value) node in
+      → let new = holds_in p k (Some value) node in
       weighs node.block.kind (took new.journal) (held_by new.block) (gave new.journal) node.block.exits.left
       node.block.exits.next node.block.exits.groups
   taken_weighs p k value node below shape grouped law true join =
@@ -458,7 +458,7 @@ module _ {W : Type 0} (layout : Layout W) (meaning : ℕ → Value → Result (L
   take_keeps : (p k : ℕ) (hand : Option Value) (node : NodeState) → p < length node.block.ports
       → ShapeLaw layout meaning b node.block → is_batched_join node.block.kind ≡ false
       → LoadLaw layout meaning b node.block node.journal
-      → LoadLaw layout meaning b (takes_in p k hand node).block (takes_in p k hand node).journal
+      → LoadLaw layout meaning b (holds_in p k hand node).block (holds_in p k hand node).journal
   take_keeps p k None node below shape grouped law = law
   take_keeps p k (Some value) node below shape grouped law =
       let block = node.block in
@@ -495,7 +495,7 @@ module _ {W : Type 0} (layout : Layout W) (meaning : ℕ → Value → Result (L
             (gave node.journal) exits.left exits.next exits.groups value next head law.groups);
         no_room = refl;
         load = each_after_back (gives k exits) block.copies block.kind (head_of exits)
-            (Loads (weight_of (groups_after exits.next exits.groups) + copies_left block.copies)) block.ports
+            (Loads (weight_of (groups_after exits.next exits.groups) + copies_weight block.copies)) block.ports
             (λ q below there.
             let all = law.load q below there in
             let none = law.no_room in
@@ -510,8 +510,8 @@ module _ {W : Type 0} (layout : Layout W) (meaning : ℕ → Value → Result (L
   copied_out call node there copying law =
       let block = node.block in
       let exits = block.exits in
-      let now = copies_left (after_copy call block.copies) in
-      let back = copies_left block.copies - now in
+      let now = copies_weight (after_copy call block.copies) in
+      let back = copies_weight block.copies - now in
       let less = left_by_copy call block.copies there in
       record {
         groups = weighs_copied (block_makes layout meaning b) block.kind limit _ _ _ _ _ _ exits.left exits.next exits.groups copying law.groups;
@@ -522,13 +522,13 @@ module _ {W : Type 0} (layout : Layout W) (meaning : ℕ → Value → Result (L
 
   -- the message that waits longest is copied from now on
   copied_next : (first : Option Value) (block : BlockState) (journal : List Mark) → first_of (held_by block) ≡ first
-      → length block.ports ≡ 1 → is_one_taker block.kind ≡ false → copies_left block.copies ≡ 0
+      → length block.ports ≡ 1 → is_one_taker block.kind ≡ false → copies_weight block.copies ≡ 0
       → LoadLaw layout meaning b block journal → LoadLaw layout meaning b (copies_next first block) journal
   copied_next None block journal first alone copying none law = law
   copied_next (Some value) block journal first alone copying none law =
       let port = port_at 0 block in
       let exits = block.exits in
-      let now = copies_left (puts value block.copies) in
+      let now = copies_weight (puts value block.copies) in
       let few = at_most_one (puts value block.copies) in
       record {
         groups = weighs_copied (block_makes layout meaning b) block.kind limit _ _ _ _ _ _ exits.left exits.next exits.groups copying law.groups;
@@ -566,7 +566,11 @@ module _ {W : Type 0} (layout : Layout W) (meaning : ℕ → Value → Result (L
   call_keeps node (NodeCall.open_with p k value) law grouped may =
       one_moves node.block node.journal node.journal p (opens k value) refl refl refl refl (law.load grouped)
   call_keeps node (NodeCall.close p k) law grouped may =
-      take_keeps p k (hand_at p k node) node may.port law.shape grouped (law.load grouped)
+      let held = holds_in p k (hand_at p k node) node in
+      let kept = take_keeps p k (hand_at p k node) node may.port law.shape grouped (law.load grouped) in
+      taken_in_keeps (LoadLaw layout meaning b) p k (hand_at p k node) node kept
+      (λ at_once. copied_next (first_of (held_by held.block)) held.block held.journal refl at_once.alone
+      (once_copies held.block.kind at_once.once) (free_is_given held.block.copies at_once.free) kept)
   call_keeps node (NodeCall.offer k) law grouped may =
       exits_move node (offers k (prepares node.block.exits)) refl refl refl refl (law.load grouped)
   call_keeps node (NodeCall.give k) law grouped may =
@@ -602,9 +606,9 @@ module _ {W : Type 0} (layout : Layout W) (meaning : ℕ → Value → Result (L
       (has_one_port layout meaning b block law.shape (broadcast_at_one block.kind broadcast))
       (broadcast_copies block.kind broadcast) (none_copied_yet block broadcast may.waits) (law.load grouped))
       (λ other alone single. make_keeps (first_of (held_by block)) block node.journal refl
-      (λ many. (law.gave (many_shares block.kind many)).next_is) (has_one_port layout meaning b block law.shape (others_at_one block.kind grouped alone))
-      law.shape (law.load grouped)
-      (of_one block.kind law.shape.built grouped other alone single) other))
+      (λ many. (law.gave (many_shares block.kind many)).next_is)
+      (has_one_port layout meaning b block law.shape (others_at_one block.kind grouped alone)) law.shape (law.load grouped)
+      (of_one block.kind law.shape.built grouped other alone single (makes_many layout meaning b node law may.waits)) other))
   call_keeps node (NodeCall.complete p) law grouped may =
       one_moves node.block node.journal (node.journal ++ Complete p ∷ []) p port_closes refl refl
       (took_no_more node.journal (Complete p) refl) (gave_no_more node.journal (Complete p) refl) (law.load grouped)

@@ -23,17 +23,18 @@ use Rattle.flow_outlet.specs.Outlet.{OutletState, first_of as first_left, rest_o
 use Rattle.flow_link.proofs.ListTests.{never_both}
 use Rattle.flow_link.specs.Plan.{is_one_taker}
 use Rattle.flow_block.specs.Copies.{copy_place, CopyCall, after_copy}
-use Rattle.flow_block.proofs.CopiesIdle.{copies_at, broadcast_copies}
+use Rattle.flow_block.proofs.CopiesIdle.{copies_at, broadcast_copies, no_copy_at, once_copies}
 use Rattle.flow_block.specs.Block.{BlockState, port_at, with_port, with_jobs, held_by, made_of, puts_out, put_by_kind, yields, keeps_results, makes_of, is_batch, row_of, takes_group, makes_row, stops_by, is_join, makes_tuple, copies_next, has_ports, is_batched_join}
 use Rattle.flow_block.proofs.CopiesLeave.{held_by_copy}
 use Rattle.flow_block.specs.Jobs.{JobsState, begins, works_off}
-use Rattle.flow_block.specs.Node.{NodeState, NodeCall, takes_in, gives_from, copies_by, in_link_at, out_link_at, order_in}
+use Rattle.flow_block.specs.Node.{NodeState, NodeCall, takes_in, gives_from, copies_by, in_link_at, out_link_at, order_in, holds_in}
+use Rattle.flow_block.proofs.CopiesTaken.{taken_in_keeps, makes_many}
 use Rattle.flow_block.specs.NodeKeeps.{MakesKept, MayCall, after_call}
 use Rattle.flow_block.specs.NodeLaw.{NodeLaw, MakesLaw, MakesAs, FaultsOn}
 use Rattle.flow_block.specs.Planned.{block_makes}
 use Rattle.flow_block.proofs.GoingOn.{may_work_tells}
-use Rattle.flow_block.proofs.Joins.{join_makes, ports_make, ports_idle, batch_at_one, others_at_one, batched_is}
-use Rattle.flow_block.proofs.KindsBuilt.{is_of_one, of_one, has_one_port, makes_by, next_by}
+use Rattle.flow_block.proofs.Joins.{join_makes, ports_make, ports_idle, batch_at_one, others_at_one, batched_is, join_idle, batch_unjoined}
+use Rattle.flow_block.proofs.KindsBuilt.{is_of_one, of_one, has_one_port, makes_by, next_by, copying_idle}
 use Rattle.flow_block.proofs.PortsChange.{kept_at_one, kept_at_all}
 use Rattle.flow_block.proofs.RoomBack.{kept_back}
 use Rattle.flow_block.specs.Groups.{makes_group}
@@ -190,7 +191,7 @@ module _ {W : Type 0} (layout : Layout W) (meaning : ℕ → Value → Result (L
 
   taken_by : (node : NodeState) → NodeLaw layout meaning b node → (p k : ℕ) (value : Value)
       → p < length node.block.ports → (many : Bool) → has_ports node.block.kind ≡ many
-      → MakesLaw layout meaning b (takes_in p k (Some value) node).block (takes_in p k (Some value) node).journal
+      → MakesLaw layout meaning b (holds_in p k (Some value) node).block (holds_in p k (Some value) node).journal
   taken_by node law p k value below true many = record {
     makes = ports_make (block_makes layout meaning b) node.block.kind _ _ _ _ _ many;
     fault_is = λ number is.
@@ -216,7 +217,7 @@ module _ {W : Type 0} (layout : Layout W) (meaning : ℕ → Value → Result (L
 
   taken_in : (node : NodeState) → NodeLaw layout meaning b node → (p k : ℕ) (value : Option Value)
       → p < length node.block.ports
-      → MakesLaw layout meaning b (takes_in p k value node).block (takes_in p k value node).journal
+      → MakesLaw layout meaning b (holds_in p k value node).block (holds_in p k value node).journal
   taken_in node law p k None below = law.makes
   taken_in node law p k (Some value) below = taken_by node law p k value below (has_ports node.block.kind) refl
 
@@ -403,13 +404,13 @@ module _ {W : Type 0} (layout : Layout W) (meaning : ℕ → Value → Result (L
     fault_is = λ number is. rw (held_by_copy (after_copy call node.block.copies) node.block) (law.fault_is number is);
   }
 
-  copied_next : (first : Option Value) (block : BlockState) (journal : List Mark) → block.fault ≡ None
-      → is_one_taker block.kind ≡ false → MakesLaw layout meaning b block journal
+  copied_next : (first : Option Value) (block : BlockState) (journal : List Mark) → is_one_taker block.kind ≡ false
+      → MakesLaw layout meaning b block journal
       → MakesLaw layout meaning b (copies_next first block) journal
-  copied_next None block journal none copying law = law
-  copied_next (Some value) block journal none copying law = record {
+  copied_next None block journal copying law = law
+  copied_next (Some value) block journal copying law = record {
     makes = makes_copied (block_makes layout meaning b) block.kind _ _ _ _ _ copying;
-    fault_is = λ number is. absurd (let never : None ≡ Some number = sym none ∙ is in cc);
+    fault_is = λ number is. never_both (has_work block.kind) (law.fault_is number is).works (copying_idle block.kind copying);
   }
 
   after_each : (node : NodeState) (call : NodeCall) → NodeLaw layout meaning b node → MayCall layout meaning b call node
@@ -421,7 +422,13 @@ module _ {W : Type 0} (layout : Layout W) (meaning : ℕ → Value → Result (L
   after_each node (NodeCall.refuse p k) law may = port_stays node law.makes p (refuses k) refl
   after_each node (NodeCall.consume p k) law may = port_stays node law.makes p (consumes k) refl
   after_each node (NodeCall.open_with p k value) law may = port_stays node law.makes p (opens k value) refl
-  after_each node (NodeCall.close p k) law may = taken_in node law p k (hand_in k (port_at p node.block).ends) may.port
+  after_each node (NodeCall.close p k) law may =
+      let hand = hand_in k (port_at p node.block).ends in
+      let held = holds_in p k hand node in
+      let kept = taken_in node law p k hand may.port in
+      taken_in_keeps (MakesLaw layout meaning b) p k hand node kept
+      (λ at_once. copied_next (first_of (held_by held.block)) held.block held.journal
+      (once_copies held.block.kind at_once.once) kept)
   after_each node (NodeCall.give k) law may = given_out node law.makes k (head_of node.block.exits) refl
   after_each node (NodeCall.look_in p k phase) law may = port_stays node law.makes p (port_looks k phase) refl
   after_each node (NodeCall.copy call) law may = copied_out call node (copies_at layout meaning b node law (copy_place call) may.place) law.makes
@@ -436,9 +443,10 @@ module _ {W : Type 0} (layout : Layout W) (meaning : ℕ → Value → Result (L
       makes_by (λ new. MakesLaw layout meaning b new node.journal) (block_makes layout meaning b) block
       (λ batch. row_made block node.journal (one (batch_at_one block.kind batch)) none block.kind refl batch law.makes)
       (λ join. tuple_made block node.journal join none)
-      (λ broadcast. copied_next (first_of (held_by block)) block node.journal none (broadcast_copies block.kind broadcast) law.makes)
+      (λ broadcast. copied_next (first_of (held_by block)) block node.journal (broadcast_copies block.kind broadcast) law.makes)
       (λ other alone single. made_next block node.journal (held_by block) refl (one (others_at_one block.kind grouped alone)) none
-      (of_one block.kind law.shape.built grouped other alone single) other law.makes))
+      (of_one block.kind law.shape.built grouped other alone single (makes_many layout meaning b node law may.waits)) other
+      law.makes))
   after_each node (NodeCall.complete p) law may =
       stays node.block (with_port p port_closes node.block) node.journal (node.journal ++ Complete p ∷ []) law.makes
       refl (kept_at_one (λ port. port.waiting) node.block.ports p 0 (port_closes (port_at p node.block)) refl)

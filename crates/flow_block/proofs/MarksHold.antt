@@ -20,7 +20,7 @@ use Rattle.flow_block.proofs.CopierHolds.{copy_goes_on}
 use Rattle.flow_block.proofs.CopiesIdle.{copies_at}
 use Rattle.flow_block.proofs.CopiesLeave.{marks_by_copy}
 use Rattle.flow_block.specs.Block.{port_at}
-use Rattle.flow_block.specs.Node.{NodeState, NodeCall, takes_in, gives_from, copies_by, in_link_at, out_link_at}
+use Rattle.flow_block.specs.Node.{NodeState, NodeCall, holds_in, gives_from, copies_by, in_link_at, out_link_at}
 use Rattle.flow_block.specs.NodeKeeps.{InAt, MayCopy, MayGive, MayCompletePort, MarksKept, MayCall, after_call}
 use Rattle.flow_block.specs.NodeLaw.{NodeLaw, MarksLaw, outcome_in, run_seen_by}
 use Rattle.flow_block.specs.Planned.{is_into, is_out_of, block_makes}
@@ -73,7 +73,7 @@ module _ {W : Type 0} (layout : Layout W) (meaning : ℕ → Value → Result (L
   -- a message that is in hand comes into a port that has not ended
   taken_in : (node : NodeState) → NodeLaw layout meaning b node → (p k : ℕ) (value : Option Value)
       → InAt is_hand p k node
-      → MarksLaw layout meaning b (takes_in p k value node).journal
+      → MarksLaw layout meaning b (holds_in p k value node).journal
   taken_in node law p k None at = law.marks
   taken_in node law p k (Some value) at =
       let end = (law.ports p at.port).each k at.place in

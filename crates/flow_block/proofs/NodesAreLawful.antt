@@ -24,12 +24,14 @@ use Rattle.flow_link.specs.Lists.{every, some, below, is_empty, same_values, num
 use Rattle.flow_link.specs.Making.{outputs, load, group_size, all_items, are_groups, row_weight, before_complete, whole_until, join_makes, batched_join_makes}
 use Rattle.flow_link.specs.Plan.{begins_at, ends_at, ends_at_port, is_one_taker, is_reserving, is_steady, port_count, is_write_once}
 use Rattle.flow_link.specs.Stage.{source_stage_of, target_stage_of, refusal_of}
-use Rattle.flow_link.specs.Trace.{BlockTrace, Run, took, gave, gave_over, took_over, has_complete, has_fault, has_ended, is_done, is_faulted, is_used_up, is_cut, block_of, link_of, link_numbers, trace_of, marks_of, held_at, left_at, ports_of, given_by}
+use Rattle.flow_link.specs.Trace.{BlockTrace, Run, took, gave, gave_over, took_over, has_complete, has_fault, has_ended, is_done, is_faulted, is_used_up, is_cut, block_of, link_of, link_numbers, trace_of, marks_of, held_at, left_at, ports_of, given_by, took_at}
 use Rattle.flow_link.specs.Views as views
 use Rattle.flow_link.specs.Worked.{WorkedInto}
+use Rattle.flow_block.proofs.OnceHolds.{room_once}
+use Rattle.flow_block.proofs.WrittenOnce.{message_is, written_weighs}
 use Rattle.flow_block.specs.Kinds.{is_kept_kind}
 use Rattle.flow_link.proofs.RoundsOfWalks.{some_here_below}
-use Rattle.flow_link.proofs.ListTests.{never_both, or_not, every_below, every_weaker_below, length_numbers, or_others, same_values_where}
+use Rattle.flow_link.proofs.ListTests.{or_not, every_below, every_weaker_below, length_numbers, or_others, same_values_where}
 use Rattle.flow_intake.specs.Port.{EndState, PortState, end_in, fresh_end, fresh_port, coming as coming_at, is_coming as is_coming_at}
 use Rattle.flow_intake.specs.PortLaw.{has_ended as has_port_ended}
 use Rattle.flow_intake.specs.Ended.{is_completion}
@@ -40,21 +42,22 @@ use Rattle.flow_outlet.specs.Law.{is_refused}
 use Rattle.flow_outlet.specs.Outlet.{end_at, end_of}
 use Rattle.flow_block.specs.Block.{port_at, held_by, is_batch, is_join, port_in, is_batched_join}
 use Rattle.flow_block.specs.Node.{NodeState, in_view, out_view, order_in}
-use Rattle.flow_block.specs.NodeLaw.{NodeLaw, MakesAs, RowsLaw, is_whole, RefusesFor as RefusesBy, refuses_over, run_seen_by, is_fault_seen, have_completed}
-use Rattle.flow_block.specs.NodeSeen.{IsNodeOf, NodesAreLawful}
+use Rattle.flow_block.specs.NodeLaw.{NodeLaw, MakesAs, RowsLaw, is_whole, RefusesFor as RefusesBy, refuses_over, run_seen_by, is_fault_seen, have_completed, has_its_message}
+use Rattle.flow_block.specs.NodeSeen.{IsNodeOf, NodesAreLawful, EachMayCarry}
 use Rattle.flow_block.specs.Planned.{out_place, in_place, block_makes}
 use Rattle.flow_block.specs.CopiesSeen.{CopierSeen}
-use Rattle.flow_block.proofs.CopierOf.{copier_seen, makes_copies, never_once}
-use Rattle.flow_block.proofs.CopiesIdle.{left_is_shared, view_is_shared}
+use Rattle.flow_block.proofs.CopierOf.{copier_seen, makes_copies}
+use Rattle.flow_block.proofs.CopiesIdle.{left_is_shared, view_is_shared, once_copies}
 use Rattle.flow_block.proofs.EndsTell.{ended_complete, ended_fault, ended_plain, used_up_told, ended_stage, refused_told, spoken_is_out, refusal_told, coming_told, completion_told, fault_told}
 use Rattle.flow_block.proofs.JournalTells.{stopped_tells, every_mark, complete_own, done_outcome, done_marked, fault_marked, passed_by}
-use Rattle.flow_block.proofs.KindsBuilt.{by_kind, planned_kept}
-use Rattle.flow_block.proofs.NodesSeen.{held_is, none_held, own_fault_is, complete_is, load_is, is_joining, join_seen, is_grouping, as_ports}
+use Rattle.flow_block.proofs.KindsBuilt.{by_kind, planned_kept, room_kept, within_capacity}
+use Rattle.flow_block.proofs.NodesSeen.{held_is, none_held, own_fault_is, load_is, is_joining, join_seen, is_grouping, as_ports, complete_by_port}
 use Rattle.flow_block.proofs.PlacesOfLinks.{IsEndIn, HasEndOut, end_in_is, end_in_of, end_out_is, end_out_of, count_of_links, there_at_port, there_at_block, source_there}
 use Rattle.flow_block.proofs.TestsTell.{some_tells, every_tells}
 use Rattle.flow_block.specs.Peeks.{holds_nothing}
 use Rattle.flow_block.proofs.GroupsSeen.{batched_joins_are_parts}
 use Rattle.flow_block.specs.GroupsLaw.{KeepsGroups, WholeBefore}
+use Rattle.flow_block.proofs.Joins.{copies_unbatched}
 
 -- what is left of rows that are all whole is whole
 every_behind : (test : Value → Bool) (front rest : List Value) → every test (front ++ rest) ≡ true → every test rest ≡ true
@@ -97,6 +100,10 @@ found_below : (test : ℕ → Bool) (count : ℕ) → some test (below count) �
 found_below test count e =
     let found = holds_from test 0 count e in record { place = found.0; there = omega (arith, found.1); holds = found.2 }
 
+some_there : (values : List Value) → 0 < length values → not (is_empty values) ≡ true
+some_there [] there = absurd (omega (arith, there))
+some_there (value ∷ values) there = refl
+
 pub join_is : (kind : BlockKind) → is_join kind ≡ true → kind ≡ Join
 join_is Join e = refl
 join_is _ e = absurd (cc)
@@ -108,7 +115,8 @@ none_waits ports p none there = every_tells (λ (port : PortState). is_empty por
 module _ {W : Type 0} (run : Run W) (ends : ℕ → Ends) (b : ℕ) (node : NodeState)
     (law : NodeLaw run.layout run.meaning b node) (is : IsNodeOf run ends b node)
     (known : (l p : ℕ) → l < length run.layout.links → (link_of run l).target ≡ Port b p
-    → p < length node.block.ports) where
+    → p < length node.block.ports)
+    (carries : is_write_once node.block.kind ≡ true → EachMayCarry run b) where
   abbrev ends_of : ℕ → List EndState
   ends_of p = (port_at p node.block).ends
 
@@ -185,8 +193,9 @@ module _ {W : Type 0} (run : Run W) (ends : ℕ → Ends) (b : ℕ) (node : Node
       let kept = (port_at p node.block).load + coming_at (port_at p node.block) in
       fits run (block_of run b).capacity (load run b p + coming run ends b p) kept
       (place_taken p there)
+      (within_capacity run.layout run.meaning b node.block law.shape kept
       (subst (λ (capacity : Option ℕ). IsWithin capacity kept) (law.shape.ports p there).capacity
-      (law.ports p there).room))
+      (law.ports p there).room)))
 
   level_so : takes_level run b ≡ true
   level_so =
@@ -198,7 +207,8 @@ module _ {W : Type 0} (run : Run W) (ends : ℕ → Ends) (b : ℕ) (node : Node
   complete_so true joins nothing completed =
       let one : some (λ p. has_complete p node.journal) (below (length node.block.ports)) ≡ true =
       ap (λ (join : Bool). cond join (some (λ p. has_complete p node.journal) (below (length node.block.ports)))
-      (every (λ p. has_complete p node.journal) (below (length node.block.ports)))) (sym joins) ∙ completed in
+      (every (λ p. has_complete p node.journal) (below (length node.block.ports))
+      || has_its_message node.block.kind node.journal)) (sym joins) ∙ completed in
       let all : ℕ → Bool = λ p. has_complete p (marks_of run b) && is_empty (held_at run b p) in
       let first = found_below (λ p. has_complete p node.journal) (length node.block.ports) one in
       ap (λ (kind : BlockKind). is_complete_as run kind b) (join_is (block_of run b).kind (is_joining run ends b node law is ∙ joins))
@@ -210,18 +220,38 @@ module _ {W : Type 0} (run : Run W) (ends : ℕ → Ends) (b : ℕ) (node : Node
       (ap is_empty (held_is run ends b node law is first.place)
       ∙ none_waits node.block.ports first.place nothing first.there)))
   complete_so false joins nothing completed =
-      complete_is run ends b node law is (is_joining run ends b node law is ∙ joins)
-      ∙ of_marks (λ marks. every (λ p. has_complete p marks) (ports_of run b) ≡ true)
-      (subst (λ (n : ℕ). every (λ p. has_complete p node.journal) (below n) ≡ true) law.shape.port_count_is
+      let message = has_its_message node.block.kind node.journal in
+      complete_by_port run b node law (is_joining run ends b node law is ∙ joins)
+      ∙ of_marks (λ marks.
+      (every (λ p. has_complete p marks) (ports_of run b) || has_its_message (block_of run b).kind marks) ≡ true)
+      (subst (λ (kind : BlockKind).
+      (every (λ p. has_complete p node.journal) (ports_of run b) || has_its_message kind node.journal) ≡ true)
+      law.shape.kind_is
+      (subst (λ (n : ℕ). (every (λ p. has_complete p node.journal) (below n) || message) ≡ true) law.shape.port_count_is
       (ap (λ (join : Bool). cond join (some (λ p. has_complete p node.journal) (below (length node.block.ports)))
-      (every (λ p. has_complete p node.journal) (below (length node.block.ports)))) (sym joins) ∙ completed))
+      (every (λ p. has_complete p node.journal) (below (length node.block.ports)) || message)) (sym joins) ∙ completed)))
 
-  completion_seen : (p : ℕ) → has_complete p node.journal ≡ true → has_seen_cause run ends b (Complete p) ≡ true
-  completion_seen p e =
-      let own = ltb-true p (length (ports_of run b)) (complete_own run b p node.journal law.marks.own e) in
-      let there = port_there p (omega (arith, own, length_numbers 0 (port_count (block_of run b)))) in
+  -- a block that takes one message in all completes by that
+  message_seen : (p : ℕ) → p < length node.block.ports → has_its_message node.block.kind node.journal ≡ true
+      → (is_write_once (block_of run b).kind && not (is_empty (took_at p (marks_of run b)))) ≡ true
+  message_seen p there has =
+      let written = sym (message_is run.layout run.meaning b node law) ∙ has in
+      let once = (and_parts (is_write_once node.block.kind) (is_some node.block.copies.element) written).0 in
+      let room = room_once (block_of run b).kind (block_of run b).capacity (ap is_write_once (sym law.shape.kind_is) ∙ once) in
+      let grouped = copies_unbatched node.block.kind (once_copies node.block.kind once) in
+      let counts = (law.load grouped).load p there (ap is_some room) in
+      let one = written_weighs run.layout run.meaning b node law written in
+      let taken : 0 < length (took_at p node.journal) = omega (arith, counts, one, (law.ports p there).took) in
+      and_from (is_write_once (block_of run b).kind) (not (is_empty (took_at p (marks_of run b))))
+      (ap is_write_once (sym law.shape.kind_is) ∙ once)
+      (of_marks (λ marks. not (is_empty (took_at p marks)) ≡ true) (some_there (took_at p node.journal) taken))
+
+  by_message : (p : ℕ) → p < length node.block.ports → has_complete p node.journal ≡ true → (message : Bool)
+      → has_its_message node.block.kind node.journal ≡ message → has_seen_cause run ends b (Complete p) ≡ true
+  by_message p there e true has = or_right (some (completes_over p) (link_numbers run)) _ (message_seen p there has)
+  by_message p there e false has =
       let at = some_tells (λ (end : EndState). is_completion end.stage) (ends_of p) (fresh_end 0)
-      (law.ends.complete_cause p there e) in
+      (law.ends.complete_cause p there e has) in
       let end = end_into p at.place in
       let link = into_is p at.place there at.there in
       or_left (some (completes_over p) (link_numbers run)) _
@@ -229,6 +259,12 @@ module _ {W : Type 0} (run : Run W) (ends : ℕ → Ends) (b : ℕ) (node : Node
       (and_from (ends_at_port b p (link_of run end.link).target) (has_seen_completion (ends end.link).target.stage)
       (there_at_port b p (link_of run end.link).target link.leads)
       (ap has_seen_completion (seen_stage p at.place there at.there) ∙ completion_told end.stage end.hand at.passes)))
+
+  completion_seen : (p : ℕ) → has_complete p node.journal ≡ true → has_seen_cause run ends b (Complete p) ≡ true
+  completion_seen p e =
+      let own = ltb-true p (length (ports_of run b)) (complete_own run b p node.journal law.marks.own e) in
+      let there = port_there p (omega (arith, own, length_numbers 0 (port_count (block_of run b)))) in
+      by_message p there e (has_its_message node.block.kind node.journal) refl
 
   fault_came : (number : ℕ)
       → some (λ (port : PortState). some (λ (end : EndState). is_fault_seen number end) port.ends) node.block.ports
@@ -386,7 +422,7 @@ module _ {W : Type 0} (run : Run W) (ends : ℕ → Ends) (b : ℕ) (node : Node
     copies_shared : copies_as (as_seen run ends) b (block_of run b).kind ≡ true
     copies_shared =
         by_kind (λ kind. is_one_taker kind ≡ true → copies_as (as_seen run ends) b kind ≡ true) (λ _. refl) (λ _. refl) (λ _. refl)
-        (λ _. refl) (λ _. refl) (λ _. refl) (λ sharing. absurd (cc)) (λ _. refl) (block_of run b).kind plain
+        (λ _. refl) (λ _. refl) (λ _. refl) (λ sharing. absurd (cc)) (λ sharing. absurd (cc)) (λ _. refl) (block_of run b).kind plain
         (ap is_one_taker (sym law.shape.kind_is) ∙ shares)
 
     -- its ends of the links out of it
@@ -519,7 +555,7 @@ module _ {W : Type 0} (run : Run W) (ends : ℕ → Ends) (b : ℕ) (node : Node
   copies_so : (sharing : Bool) → is_one_taker node.block.kind ≡ sharing → copies_as (as_seen run ends) b (block_of run b).kind ≡ true
   copies_so true shares = copies_shared shares
   copies_so false copying =
-      (copying_seen copying).copies (λ once. never_both (is_write_once node.block.kind) once (never_once node.block.kind law.shape.built))
+      (copying_seen copying).copies (λ once. record { none_held = law.none_held once; carries = carries once })
 
   order_seen_so : (sharing : Bool) → is_one_taker node.block.kind ≡ sharing → keeps_link_order (as_seen run ends) b ≡ true
   order_seen_so true shares = order_shared shares
@@ -563,4 +599,4 @@ module _ {W : Type 0} (run : Run W) (ends : ℕ → Ends) (b : ℕ) (node : Node
   }
 
 pub nodes_are_lawful : (W : Type 0) → NodesAreLawful W
-nodes_are_lawful W run ends b node there law is known = node_keeps run ends b node law is known
+nodes_are_lawful W run ends b node there law is known carries = node_keeps run ends b node law is known carries

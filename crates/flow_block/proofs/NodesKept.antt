@@ -8,6 +8,7 @@ use Rattle.flow_block.proofs.JobsHold.{jobs_kept}
 use Rattle.flow_block.proofs.LoadHolds.{load_kept}
 use Rattle.flow_block.proofs.MakesHold.{makes_kept}
 use Rattle.flow_block.proofs.MarksHold.{marks_kept}
+use Rattle.flow_block.proofs.OnceHolds.{none_held_kept}
 use Rattle.flow_block.proofs.PortsHold.{ports_kept}
 use Rattle.flow_block.proofs.RowsHold.{rows_kept}
 use Rattle.flow_block.proofs.ShapeHolds.{shape_kept}
@@ -20,6 +21,7 @@ nodes_kept W layout meaning b node call law may = record {
   ports = ports_kept W layout meaning b node call law may;
   exits = exits_kept W layout meaning b node call law may;
   copies = copies_kept W layout meaning b node call law may;
+  none_held = none_held_kept W layout meaning b node call law may;
   gave = gave_kept W layout meaning b node call law may;
   makes = makes_kept W layout meaning b node call law may;
   rows = rows_kept W layout meaning b node call law may;

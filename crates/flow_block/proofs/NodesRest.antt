@@ -1,9 +1,9 @@
 -- A node that has nothing to do rests when its links do.
-use Rattle.std.proofs.Common.{◌≡◌, ℕ, ◌+◌, ◌<◌, ◌≤◌, Bool, true, false, not, ltb, leb, ◌==◌, ◌&&◌, ◌||◌, cond, List, [], ◌∷◌, length, map, sum, is_some, Option, Some, None, refl, ap, ap₂, sym, subst, ◌∙◌, ⊎_elim, arith, eq-eqb}
+use Rattle.std.proofs.Common.{◌≡◌, ℕ, ◌+◌, ◌<◌, ◌≤◌, Bool, true, false, not, ltb, leb, ◌==◌, ◌&&◌, ◌||◌, cond, List, [], ◌∷◌, length, map, sum, is_some, Option, Some, None, refl, ap, ap₂, sym, subst, ◌∙◌, ⊎_elim, arith, eq-eqb, eqb-true}
 use Rattle.std.proofs.lemmas.Bool.{or_cases, ltb-false, lt-ltb, and_from, and_parts, or_left, or_right, false_from_ne_true, not-true}
 use Rattle.flow_value.specs.declared.value.Value.{Value}
 use Rattle.flow_link.specs.declared.draft.BlockKind.{BlockKind}
-use Rattle.flow_link.specs.declared.draft.BlockKind.TheVariants.{Join, Buffer, Broadcast, Action, Transform, TransformMany, Batch, BatchedJoin}
+use Rattle.flow_link.specs.declared.draft.BlockKind.TheVariants.{Join, Buffer, Broadcast, Action, Transform, TransformMany, Batch, BatchedJoin, WriteOnce}
 use Rattle.flow_link.specs.declared.plan.LinkSource.TheVariants.{Block}
 use Rattle.flow_link.specs.declared.plan.LinkTarget.TheVariants.{Port}
 use Rattle.flow_link.specs.declared.stage.SourceStage.TheVariants as source
@@ -16,12 +16,16 @@ use Rattle.flow_link.specs.Facts.{facts_in}
 use Rattle.flow_link.specs.LinkOk.{IsWithin}
 use Rattle.flow_link.specs.Lists.{every, below, is_empty as is_none_left}
 use Rattle.flow_link.specs.Making.{load, group_size}
-use Rattle.flow_link.specs.Plan.{port_count, is_broadcast, is_one_taker, is_reserving}
+use Rattle.flow_link.specs.Plan.{port_count, is_broadcast, is_one_taker, is_reserving, ports_by_kind, is_write_once}
 use Rattle.flow_link.specs.Quiet.{has_served_all, first_of as first_left, has_this_fault, faulted_by_itself, rests, rests_as, held_in_all, holds_nothing as run_holds_nothing, all_completed, has_no_group, is_done_if_can, head_as, head_from, admits_head, is_full_with}
 use Rattle.flow_link.specs.RestsByParts.{OutletRests, KindRests, NodeRests, is_over as is_view_over, is_postponed as is_view_postponed, has_seen_end, has_to_wait, lacks_an_offer}
 use Rattle.flow_link.specs.Stage.{source_stage_of, target_stage_of}
 use Rattle.flow_link.specs.Trace.{BlockTrace, Run, gave_over, given_by, given_over, took_at, has_complete, has_fault, has_ended, is_faulted, is_done, is_used_up, is_cut as is_run_cut, block_of, link_of, marks_of, held_at, left_at, ports_of}
 use Rattle.flow_link.specs.Views.{SourceStage as SourceViewStage, SourceView, TargetView}
+use Rattle.flow_block.specs.Copies.{copies_left}
+use Rattle.flow_block.proofs.Joins.{copies_unjoined, copies_unbatched, copies_at_one}
+use Rattle.flow_block.proofs.OnceHolds.{room_once}
+use Rattle.flow_block.proofs.WrittenOnce.{message_is, weighs_written}
 use Rattle.flow_block.specs.Kinds.{is_kept_kind}
 use Rattle.flow_link.proofs.ListTests.{never_both, passes_below, unless_done}
 use Rattle.flow_intake.specs.Port.{EndState, PortState, fresh_port, fresh_end, hand_in, stage_at as port_stage, coming, has_room, is_below}
@@ -34,26 +38,26 @@ use Rattle.flow_outlet.specs.declared.ends.LinkRule.{LinkRule}
 use Rattle.flow_outlet.proofs.StagesTell.{waits_for}
 use Rattle.flow_block.specs.Block.{BlockState, port_at, held_by, is_batch, is_join, is_batched_join, has_ports}
 use Rattle.flow_block.specs.Node.{NodeState}
-use Rattle.flow_block.specs.NodeLaw.{NodeLaw, has_made_all, outcome_in}
+use Rattle.flow_block.specs.NodeLaw.{NodeLaw, has_made_all, outcome_in, has_its_message}
 use Rattle.flow_block.specs.NodeRests.{HasNothingToDo, EndsRest, NodesRest}
 use Rattle.flow_block.specs.NodeSeen.{IsNodeOf}
-use Rattle.flow_block.specs.Peeks.{holds_nothing, has_group, is_complete as is_complete_here, is_pending, has_group_of_ports}
+use Rattle.flow_block.specs.Peeks.{holds_nothing, has_group, is_complete as is_complete_here, is_pending, has_group_of_ports, all_ended, is_written}
 use Rattle.flow_block.proofs.NodesAreLawful.{join_is}
-use Rattle.flow_block.proofs.NodesSeen.{join_seen, is_joining, as_ports}
+use Rattle.flow_block.proofs.NodesSeen.{join_seen, is_joining, as_ports, complete_by_port}
 use Rattle.flow_group.specs.Tuple.{has_tuple}
 use Rattle.flow_link.specs.Quiet.{has_no_row}
 use Rattle.flow_block.specs.Planned.{rule_of, out_place, in_place}
 use Rattle.flow_block.specs.CopiesSeen.{MayCarry, CopierRests}
-use Rattle.flow_block.proofs.CopierOf.{CopiesQuiet, copies_quiet, copier_rests, none_shared}
-use Rattle.flow_block.proofs.CopiesIdle.{left_is_shared, view_is_shared, never_broadcast}
-use Rattle.flow_block.proofs.EndsAtRest.{over_unless, not_cut, not_stopped, no_room_where}
+use Rattle.flow_block.proofs.CopierOf.{CopiesQuiet, copies_quiet, copier_rests, none_shared, copier_seen}
+use Rattle.flow_block.proofs.CopiesIdle.{left_is_shared, view_is_shared, never_broadcast, once_copies, none_copied}
+use Rattle.flow_block.proofs.EndsAtRest.{over_unless, not_cut, not_stopped, no_room_where, waiting_queue}
 use Rattle.flow_block.proofs.EndsHold.{no_group_left}
 use Rattle.flow_block.proofs.EndsTell.{limit_is, no_room_left, free_back, postponed_back, end_back}
 use Rattle.flow_block.proofs.FaultsSeen.{not_seen_at_ends, not_seen_at_ports}
 use Rattle.flow_block.proofs.GoingOn.{open_goes_on}
-use Rattle.flow_block.proofs.JournalTells.{stopped_tells, fault_marked, faulted_marked, none_stopped, stopped_ends, ended_by_complete, ended_is_complete}
-use Rattle.flow_block.proofs.KindsBuilt.{by_kind, planned_kept, has_one_port}
-use Rattle.flow_block.proofs.NodesSeen.{held_is, none_held, own_fault_is, complete_is, load_is}
+use Rattle.flow_block.proofs.JournalTells.{stopped_tells, fault_marked, faulted_marked, none_stopped, stopped_ends, ended_by_complete, ended_is_complete, complete_where}
+use Rattle.flow_block.proofs.KindsBuilt.{by_kind, planned_kept, has_one_port, room_shared}
+use Rattle.flow_block.proofs.NodesSeen.{held_is, none_held, own_fault_is, load_is}
 use Rattle.flow_block.proofs.NothingToDo.{not_pending, worked_off, none_seen, no_coming, free_at, waiting_goes, not_admitted, not_finished, left_where}
 use Rattle.flow_block.proofs.PlacesOfLinks.{end_in_of, end_out_of}
 use Rattle.flow_block.proofs.TestsTell.{every_tells, every_where, some_where}
@@ -191,6 +195,7 @@ module _ {W : Type 0} (run : Run W) (ends : ℕ → Ends) (b : ℕ) (node : Node
   rests_by Transform there is none = none_held run ends b node law part none
   rests_by TransformMany there is none = none_held run ends b node law part none
   rests_by Broadcast there is none = none_held run ends b node law part none
+  rests_by WriteOnce there is none = none_held run ends b node law part none
   rests_by Join there is none =
       ap (has_no_row run b) law.shape.takes_freely
       ∙ (join_seen run ends b node law part (ap is_join is)).rests (not-true (has_tuple own.ports) none)
@@ -201,7 +206,6 @@ module _ {W : Type 0} (run : Run W) (ends : ℕ → Ends) (b : ℕ) (node : Node
       (subst (λ (n : ℕ). 0 < n) size (law.shape.some_group batched))
       (subst (λ (n : ℕ). has_group_at n (are_complete (length own.ports) node.journal) own.ports ≡ false) size
       (not-true has_group_here none))
-  rests_by _ there is none = absurd (cc)
 
   rests_where : has_made_all own node.journal ≡ true → rests run b ≡ true
   rests_where none =
@@ -264,6 +268,17 @@ module _ {W : Type 0} (run : Run W) (ends : ℕ → Ends) (b : ℕ) (node : Node
   going_where f d =
       law.ends.stopped_is ∙ none_stopped node.journal f d
 
+  -- its ports have ended where they have completed
+  ended_where_told : every (λ q. has_complete q (marks_of run b)) (ports_of run b) ≡ true → all_ended own.ports ≡ true
+  ended_where_told each =
+      (every_where (λ (port : PortState). has_port_ended port.refusing) own.ports (fresh_port None) (λ p small.
+      let complete =
+      passes_below (λ q. has_complete q (marks_of run b)) (port_count (block_of run b)) p each
+      (omega (arith, law.shape.port_count_is)) in
+      let complete_here : has_complete p node.journal ≡ true = ap (has_complete p) (sym marks_are) ∙ complete in
+      law.ends.ended_is p small
+      ∙ ended_by_complete p node.journal complete_here))
+
   -- where all is told, it is complete
   complete_where_told : own.stopped ≡ None → is_complete run b ≡ true → (join : Bool) → is_join own.kind ≡ join
       → is_complete_here own ≡ true
@@ -274,15 +289,17 @@ module _ {W : Type 0} (run : Run W) (ends : ℕ → Ends) (b : ℕ) (node : Node
       (sym ((join_seen run ends b node law part joins).complete ends_so)
       ∙ ap (λ (k : BlockKind). is_complete_as run k b) (sym (join_is kind (is_joining run ends b node law part ∙ joins))) ∙ e)
   complete_where_told going e false joins =
-      rw joins
-      (every_where (λ (port : PortState). has_port_ended port.refusing) own.ports (fresh_port None) (λ p small.
-      let complete =
-      passes_below (λ q. has_complete q (marks_of run b)) (port_count (block_of run b)) p
-      (sym (complete_is run ends b node law part (is_joining run ends b node law part ∙ joins)) ∙ e)
-      (omega (arith, law.shape.port_count_is)) in
-      let complete_here : has_complete p node.journal ≡ true = ap (has_complete p) (sym marks_are) ∙ complete in
-      law.ends.ended_is p small
-      ∙ ended_by_complete p node.journal complete_here))
+      let told = sym (complete_by_port run b node law (is_joining run ends b node law part ∙ joins)) ∙ e in
+      let all = every (λ q. has_complete q (marks_of run b)) (ports_of run b) in
+      rw joins (⊎_elim
+      (λ each. or_left (all_ended own.ports) (is_written own) (ended_where_told each))
+      (λ has. or_right (all_ended own.ports) (is_written own)
+      (sym (message_is run.layout run.meaning b node law) ∙ of_marks_back has))
+      (or_cases all (has_its_message kind (marks_of run b)) told))
+    where
+      of_marks_back : has_its_message kind (marks_of run b) ≡ true → has_its_message own.kind node.journal ≡ true
+      of_marks_back has =
+          ap₂ has_its_message law.shape.kind_is (sym marks_are) ∙ has
 
   none_held_here : every (λ p. is_none_left (held_at run b p)) (ports_of run b) ≡ true → holds_nothing own.ports ≡ true
   none_held_here none =
@@ -311,6 +328,12 @@ module _ {W : Type 0} (run : Run W) (ends : ℕ → Ends) (b : ℕ) (node : Node
     target_is : (ends l).target.stage ≡ target_stage_of (port_stage in_at port) (hand_in in_at port.ends)
     target_is = ap (λ (view : TargetView Value). view.stage) (part.targets l p small to)
 
+    none_waits_here : is_write_once own.kind ≡ true → length port.waiting ≡ 0
+    none_waits_here once =
+        let alone = has_one_port run.layout run.meaning b own law.shape (copies_at_one own.kind (once_copies own.kind once)) in
+        let first : 0 ≡ p = omega (arith, alone, port_there) in
+        ap (λ (q : ℕ). length (port_at q own).waiting) (sym first) ∙ ap (λ (held : List Value). length held) (law.none_held once)
+
     full_at : (capacity : Option ℕ) (taken more : ℕ) → more ≡ 0 → IsWithin capacity (taken + more)
         → is_below (taken + more) capacity ≡ false
         → (is_some capacity ≡ true) × (is_full_with run capacity taken ≡ true)
@@ -318,6 +341,27 @@ module _ {W : Type 0} (run : Run W) (ends : ℕ → Ends) (b : ℕ) (node : Node
     full_at (Some capacity) taken more none within full =
         let past : capacity ≤ taken + more = ltb-false (taken + more) capacity full in
         (refl, eq-eqb taken capacity (omega arith))
+
+    -- no offer waits at what took its one message: its port has completed
+    never_waits : is_write_once own.kind ≡ true → port.refusing ≡ None → has_room port ≡ false → ⊥
+    never_waits once open_port full =
+        let planned = law.shape.ports p port_there in
+        let order = law.ports p port_there in
+        let room = room_once kind (block_of run b).capacity (ap is_write_once (sym law.shape.kind_is) ∙ once) in
+        let none = no_coming run.layout run.meaning b node law nothing rest quiet p port_there in
+        let here = full_at port.capacity port.load (coming port) none order.room full in
+        let taken = eqb-true port.load 1
+        (subst (λ (capacity : Option ℕ). is_full_with run capacity port.load ≡ true) (planned.capacity ∙ room) here.1) in
+        let grouped = copies_unbatched own.kind (once_copies own.kind once) in
+        let counts = (law.load grouped).load p port_there (ap is_some room) in
+        let empty = none_waits_here once in
+        let weights = (none_shared run ends b node law part (once_copies own.kind once)).1 in
+        let written = weighs_written run.layout run.meaning b node law once (omega (arith, taken, counts, empty, weights)) in
+        let ended =
+        ended_already (has_port_ended port.refusing) (coming port == 0) (has_seen_completion port.ends || is_written own)
+        (eq-eqb (coming port) 0 none) (or_right (has_seen_completion port.ends) (is_written own) written)
+        (nothing.completes p port_there) in
+        never_both (has_port_ended port.refusing) ended (ap has_port_ended open_port)
 
     put_off_so : is_view_postponed (ends l).target.stage ≡ true → has_to_wait run ends b p ≡ true
     put_off_so e =
@@ -332,11 +376,16 @@ module _ {W : Type 0} (run : Run W) (ends : ℕ → Ends) (b : ℕ) (node : Node
         let here =
         full_at port.capacity port.load (coming port)
         (no_coming run.layout run.meaning b node law nothing rest quiet p port_there) order.room full in
+        let open_port =
+        (waiting_queue in_at port (port_stage in_at port) waits (nothing.ins p in_at port_there end_there)).0 in
+        let many = false_from_ne_true (is_write_once own.kind) (λ once. never_waits once open_port full) in
+        let capacity : port.capacity ≡ (block_of run b).capacity =
+        planned.capacity ∙ room_shared kind (block_of run b).capacity (ap is_write_once (sym law.shape.kind_is) ∙ many) in
         let load_here : port.load ≡ load run b p =
-        sym (load_is run ends b node law part p port_there (ap is_some (sym planned.capacity) ∙ here.0)) in
+        sym (load_is run ends b node law part p port_there (ap is_some (sym capacity) ∙ here.0)) in
         or_left (is_full_with run (block_of run b).capacity (load run b p))
         (is_reserving (block_of run b) && lacks_an_offer run ends b)
-        (ap₂ (is_full_with run) (sym planned.capacity) (sym load_here) ∙ here.1)
+        (ap₂ (is_full_with run) (sym capacity) (sym load_here) ∙ here.1)
 
     completed : is_completion (port_stage in_at port) ≡ true → has_ended p (marks_of run b) ≡ true
     completed e =
@@ -345,8 +394,8 @@ module _ {W : Type 0} (run : Run W) (ends : ℕ → Ends) (b : ℕ) (node : Node
         let none : (coming port == 0) ≡ true =
         eq-eqb (coming port) 0 (no_coming run.layout run.meaning b node law nothing rest quiet p port_there) in
         let ended =
-        ended_already (has_port_ended port.refusing) (coming port == 0) (has_seen_completion port.ends) none seen
-        (nothing.completes p port_there) in
+        ended_already (has_port_ended port.refusing) (coming port == 0) (has_seen_completion port.ends || is_written own) none
+        (or_left (has_seen_completion port.ends) (is_written own) seen) (nothing.completes p port_there) in
         ap (has_ended p) marks_are ∙ sym (law.ends.ended_is p port_there) ∙ ended
 
     faulted : (stopped : Option Outcome) → own.stopped ≡ stopped → is_some (fault_seen (port_stage in_at port)) ≡ true
@@ -447,7 +496,7 @@ module _ {W : Type 0} (run : Run W) (ends : ℕ → Ends) (b : ℕ) (node : Node
             (λ k. is_one_taker k ≡ true → admits_head run l (head_as run b l false k) ≡ true
             → admits_head run l (first_left (left_at run b)) ≡ true)
             (λ _ same. same) (λ _ same. same) (λ _ same. same) (λ _ same. same) (λ _ same. same) (λ _ same. same)
-            (λ sharing. absurd (cc)) (λ _ same. same)
+            (λ sharing. absurd (cc)) (λ sharing. absurd (cc)) (λ _ same. same)
             kind built (ap is_one_taker (sym law.shape.kind_is) ∙ shares) e,
       )
 
@@ -498,6 +547,14 @@ module _ {W : Type 0} (run : Run W) (ends : ℕ → Ends) (b : ℕ) (node : Node
   left_gone true shares none = ap is_empty (sym (left_is shares) ∙ nothing_where (left_at run b) none)
   left_gone false copying none = ap is_empty (none_shared run ends b node law part copying).0
 
+  copied_gone : (sharing : Bool) → is_one_taker own.kind ≡ sharing → is_none_left (left_at run b) ≡ true
+      → copies_left own.copies ≡ 0
+  copied_gone true shares none = none_copied run.layout run.meaning b node law shares
+  copied_gone false copying none =
+      sym (copier_seen run ends b node law part copying).left
+      ∙ ap (λ (left : List Value). length left)
+      (sym (ap (λ (t : BlockTrace). t.left) part.trace) ∙ nothing_where (left_at run b) none)
+
   served_so : (sharing : Bool) → is_one_taker own.kind ≡ sharing → has_served_all run b ≡ true
   served_so true shares = served_shared shares
   served_so false copying = (rests_copied copying).served
@@ -518,7 +575,7 @@ module _ {W : Type 0} (run : Run W) (ends : ℕ → Ends) (b : ℕ) (node : Node
       and_parts (every (λ p. is_none_left (held_at run b p)) (ports_of run b)) (is_none_left (left_at run b)) none in
       not_finished run.layout run.meaning b node law nothing rest quiet going
       (complete_where_told going complete (is_join own.kind) refl) (none_held_here parts.0)
-      (left_gone (is_one_taker own.kind) refl parts.1))
+      (left_gone (is_one_taker own.kind) refl parts.1) (copied_gone (is_one_taker own.kind) refl parts.1))
 
   kind_rests : KindRests run ends b
   kind_rests = record {

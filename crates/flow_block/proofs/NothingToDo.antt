@@ -242,8 +242,8 @@ module _ {W : Type 0} (layout : Layout W) (meaning : ℕ → Value → Result (L
 
   -- it could finish, if it held nothing, had nothing left and were complete
   pub not_finished : block.stopped ≡ None → is_complete block ≡ true → holds_nothing block.ports ≡ true
-      → is_empty exits.left ≡ true → ⊥
-  not_finished going ended none left =
+      → is_empty exits.left ≡ true → copies_left block.copies ≡ 0 → ⊥
+  not_finished going ended none left copied =
       let at_rest : is_at_rest exits ≡ true =
       none_away exits.ends rest.outs (λ k small.
       false_from_ne_true (is_waiting (stage_at exits k))
@@ -252,7 +252,7 @@ module _ {W : Type 0} (layout : Layout W) (meaning : ℕ → Value → Result (L
       and_from (is_complete block && holds_nothing block.ports && is_empty exits.left) (copies_left block.copies == 0)
       (and_from (is_complete block && holds_nothing block.ports) (is_empty exits.left)
       (and_from (is_complete block) (holds_nothing block.ports) ended none) left)
-      (ap (λ (left : ℕ). left == 0) (quiet.none_left going)) in
+      (ap (λ (left : ℕ). left == 0) copied) in
       let copy_held_up : is_copy_held_up block ≡ true =
       or_right (would_copy block) _
       (and_from (could_stop block && spread_only_waits block.copies) (is_some (fault_cause block) || has_all_given block)
@@ -265,5 +265,5 @@ module _ {W : Type 0} (layout : Layout W) (meaning : ℕ → Value → Result (L
       (is_at_rest exits)
       (could going) ended none left at_rest)
       (and_from (copies_left block.copies == 0) (is_spread_at_rest block.copies)
-      (ap (λ (left : ℕ). left == 0) (quiet.none_left going)) (quiet.at_rest copy_held_up)))
+      (ap (λ (left : ℕ). left == 0) copied) (quiet.at_rest copy_held_up)))
       nothing.finishes

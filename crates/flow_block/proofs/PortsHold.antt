@@ -20,15 +20,18 @@ use Rattle.flow_outlet.specs.Fits.{weight_of}
 use Rattle.flow_outlet.specs.Outlet.{head_of, weight_at, gives}
 use Rattle.flow_outlet.proofs.OutletFits.{weight_stays}
 use Rattle.flow_block.proofs.RoomBack.{back_at, each_after_back, back_fits}
-use Rattle.flow_block.specs.Copies.{copy_place, CopyCall, after_copy, copies_left}
-use Rattle.flow_block.proofs.CopiesIdle.{copies_at}
+use Rattle.flow_block.specs.Copies.{copy_place, CopyCall, after_copy, copies_left, copies_weight}
+use Rattle.flow_block.proofs.CopiesIdle.{copies_at, no_copy_at}
 use Rattle.flow_block.specs.Block.{BlockState, port_in, held_by, made_of, yields, keeps_results, makes_of, takes_group, copies_next, is_batched_join}
-use Rattle.flow_block.specs.Node.{NodeState, NodeCall, hand_at, in_link_at, out_link_at, takes_in, gives_from, copies_by, marks_copy, order_in}
+use Rattle.flow_block.specs.Node.{NodeState, NodeCall, hand_at, in_link_at, out_link_at, takes_in, gives_from, copies_by, marks_copy, order_in, holds_in}
+use Rattle.flow_link.proofs.ListTests.{never_both}
+use Rattle.flow_link.specs.Plan.{is_broadcast}
+use Rattle.flow_block.proofs.CopiesTaken.{taken_in_keeps}
 use Rattle.flow_block.specs.NodeLaw.{NodeLaw, ShapeLaw, PortsLaw, LoadLaw, places_out}
 use Rattle.flow_spread.specs.Spread.{puts}
 use Rattle.flow_block.specs.NodeKeeps.{InAt, MayCall, after_call, PortsKept}
 use Rattle.flow_block.specs.Peeks.{nothing_comes}
-use Rattle.flow_block.specs.Planned.{block_makes}
+use Rattle.flow_block.specs.Planned.{block_makes, room_of}
 use Rattle.flow_block.proofs.CopiesLeave.{took_by_copy_at, left_by_copy}
 use Rattle.flow_block.proofs.GoingOn.{may_complete_tells, may_fault_tells, may_finish_tells}
 use Rattle.flow_block.proofs.JournalTells.{took_same, took_here}
@@ -169,7 +172,7 @@ module _ {W : Type 0} (layout : Layout W) (meaning : ℕ → Value → Result (L
 
   take_keeps : (p k : ℕ) (hand : Option Value) (node : NodeState) → InAt is_hand p k node
       → PortsLaw layout meaning b node.block node.journal
-      → PortsLaw layout meaning b (takes_in p k hand node).block (takes_in p k hand node).journal
+      → PortsLaw layout meaning b (holds_in p k hand node).block (holds_in p k hand node).journal
   take_keeps p k None node at law = law
   take_keeps p k (Some value) node at law =
       let port = port_in node.block.ports p in
@@ -189,7 +192,7 @@ module _ {W : Type 0} (layout : Layout W) (meaning : ℕ → Value → Result (L
       let port = port_in node.block.ports q in
       let load : LoadLaw layout meaning b node.block node.journal = law.load grouped in
       let shape : ShapeLaw layout meaning b node.block = law.shape in
-      let capacity = (block_in layout.blocks b).capacity in
+      let capacity = room_of (block_in layout.blocks b) in
       let back = weight_stays exits.next exits.groups in
       let none = load.no_room in
       let count : exits.room + weight_at exits.next exits.groups ≤ weight_of exits.groups = omega (arith, back, none) in
@@ -231,9 +234,9 @@ module _ {W : Type 0} (layout : Layout W) (meaning : ℕ → Value → Result (L
       let load : LoadLaw layout meaning b node.block node.journal =
       law.load (copies_unbatched node.block.kind (copies_at layout meaning b node law (copy_place call) there)) in
       let shape : ShapeLaw layout meaning b node.block = law.shape in
-      let capacity = (block_in layout.blocks b).capacity in
+      let capacity = room_of (block_in layout.blocks b) in
       let copies = node.block.copies in
-      let back = copies_left copies - copies_left (after_copy call copies) in
+      let back = copies_weight copies - copies_weight (after_copy call copies) in
       let less = left_by_copy call copies there in
       each_port node.block.ports node.journal (marks_copy call copies node.journal) (gives_room back) law.ports
       (λ q. ap length (took_by_copy_at call copies node.journal q))
@@ -249,7 +252,7 @@ module _ {W : Type 0} (layout : Layout W) (meaning : ℕ → Value → Result (L
   copied_keeps None block journal first law = law
   copied_keeps (Some value) block journal first law =
       let port = port_in block.ports 0 in
-      let now = copies_left (puts value block.copies) in
+      let now = copies_weight (puts value block.copies) in
       one_port block.ports journal 0 (gives_room (1 - now) (takes_next port)) law
       (λ old.
       moves_keep.give_room facts (taken journal 0) (takes_next port) (moves_keep.take_next facts (taken journal 0) port old) (1 - now)
@@ -294,7 +297,11 @@ module _ {W : Type 0} (layout : Layout W) (meaning : ℕ → Value → Result (L
       let port = port_in node.block.ports p in
       one_port node.block.ports node.journal p (opens k value port) law.ports
       (λ old. moves_keep.opened facts (taken node.journal p) port old k value may.place may.stands)
-  call_keeps node (NodeCall.close p k) law may = take_keeps p k (hand_at p k node) node may law.ports
+  call_keeps node (NodeCall.close p k) law may =
+      let held = holds_in p k (hand_at p k node) node in
+      let kept = take_keeps p k (hand_at p k node) node may law.ports in
+      taken_in_keeps (PortsLaw layout meaning b) p k (hand_at p k node) node kept
+      (λ at_once. copied_keeps (first_of (held_by held.block)) held.block held.journal refl kept)
   call_keeps node (NodeCall.offer k) law may = law.ports
   call_keeps node (NodeCall.give k) law may = give_keeps k (head_of node.block.exits) node refl law
   call_keeps node (NodeCall.deny k) law may = law.ports

@@ -9,7 +9,7 @@ use Rattle.flow_outlet.specs.Fits.{weight_of}
 use Rattle.flow_outlet.specs.Outlet.{OutletState}
 use Rattle.flow_spread.specs.Spread.{SpreadState}
 use Rattle.flow_block.specs.Block.{port_in, is_batched_join, row_count, room_at, gives_each, comes_back}
-use Rattle.flow_block.specs.Copies.{copies_left}
+use Rattle.flow_block.specs.Copies.{copies_weight}
 use Rattle.flow_block.specs.JournalFits.{port_due, ports_due}
 use Rattle.flow_block.specs.Peeks.{fault_at_ports}
 use Rattle.flow_block.proofs.RoomFits.{no_rows}
@@ -58,22 +58,22 @@ rows_fit room weight count load waiting fits = omega (arith, fits)
 module _ (exits : OutletState) (copies : SpreadState) (kind : BlockKind) (head : Option Value) where
   -- how much comes back at a port
   abbrev pub back_at : ℕ → PortState → ℕ
-  back_at q port = room_at exits.room (weight_of exits.groups + copies_left copies) (row_count kind head q) port
+  back_at q port = room_at exits.room (weight_of exits.groups + copies_weight copies) (row_count kind head q) port
 
   pub length_back : (ports : List PortState) → length (comes_back exits copies kind head ports) ≡ length ports
-  length_back ports = length_each exits.room (weight_of exits.groups + copies_left copies) (row_count kind head) 0 ports
+  length_back ports = length_each exits.room (weight_of exits.groups + copies_weight copies) (row_count kind head) 0 ports
 
   pub kept_back : {A : Type 0} (f : PortState → A) (ports : List PortState) (q : ℕ)
       → ((back : ℕ) (port : PortState) → f (gives_room back port) ≡ f port)
       → f (port_in (comes_back exits copies kind head ports) q) ≡ f (port_in ports q)
   kept_back f ports q same =
-      kept_at_each exits.room (weight_of exits.groups + copies_left copies) (row_count kind head) f 0 ports q same
+      kept_at_each exits.room (weight_of exits.groups + copies_weight copies) (row_count kind head) f 0 ports q same
 
   pub port_back : (ports : List PortState) (q : ℕ) → q < length ports
       → port_in (comes_back exits copies kind head ports) q ≡ gives_room (back_at q (port_in ports q)) (port_in ports q)
   port_back ports q there =
       let same : 0 + q ≡ q = omega arith in
-      port_of_each exits.room (weight_of exits.groups + copies_left copies) (row_count kind head) 0 ports q there
+      port_of_each exits.room (weight_of exits.groups + copies_weight copies) (row_count kind head) 0 ports q there
       ∙ ap (λ (p : ℕ). gives_room (back_at p (port_in ports q)) (port_in ports q)) same
 
   pub each_after_back : (P : ℕ → PortState → Type 0) (ports : List PortState)
@@ -84,11 +84,11 @@ module _ (exits : OutletState) (copies : SpreadState) (kind : BlockKind) (head :
       subst (λ (port : PortState). P q port) (sym (port_back ports q below)) (each q below)
 
   pub due_back : (ports : List PortState) → ports_due (comes_back exits copies kind head ports) ≡ ports_due ports
-  due_back ports = due_each exits.room (weight_of exits.groups + copies_left copies) (row_count kind head) 0 ports
+  due_back ports = due_each exits.room (weight_of exits.groups + copies_weight copies) (row_count kind head) 0 ports
 
   pub seen_over_back : (ports : List PortState)
       → fault_at_ports (comes_back exits copies kind head ports) ≡ fault_at_ports ports
-  seen_over_back ports = seen_each exits.room (weight_of exits.groups + copies_left copies) (row_count kind head) 0 ports
+  seen_over_back ports = seen_each exits.room (weight_of exits.groups + copies_weight copies) (row_count kind head) 0 ports
 
   -- where no group is given, the same room comes back at each port
   pub back_plain : is_batched_join kind ≡ false → (q : ℕ) (port : PortState) → back_at q port ≡ exits.room
@@ -100,5 +100,5 @@ module _ (exits : OutletState) (copies : SpreadState) (kind : BlockKind) (head :
       → cond (is_some capacity) (back_at q port) 0 ≤ port.load - length port.waiting
   back_fits None q port fits = omega arith
   back_fits (Some limit) q port fits =
-      rows_fit exits.room (weight_of exits.groups + copies_left copies) (row_count kind head q) port.load (length port.waiting)
+      rows_fit exits.room (weight_of exits.groups + copies_weight copies) (row_count kind head q) port.load (length port.waiting)
       fits

@@ -1,5 +1,5 @@
 -- Room that is to come back stays room that the ports gave out, whatever a block does.
-use Rattle.std.proofs.Common.{◌≡◌, false, ℕ, zero, suc, ◌+◌, ◌-◌, ◌<◌, ◌≤◌, min, ◌^◌, ◌==◌, true, cond, List, [], ◌∷◌, ◌++◌, length, set, get_or, take, drop, map, Option, Some, None, is_some, refl, ap, arith, subst, sym, ◌∙◌}
+use Rattle.std.proofs.Common.{◌≡◌, false, ℕ, zero, suc, ◌+◌, ◌-◌, ◌<◌, ◌≤◌, min, ◌^◌, ◌==◌, true, cond, List, [], ◌∷◌, ◌++◌, length, set, get_or, take, drop, map, Option, Some, None, is_some, refl, ap, arith, subst, sym, ◌∙◌, Bool}
 use Rattle.std.proofs.lemmas.Bool.{and_parts}
 use Rattle.std.proofs.lemmas.List.{length-append, get_or_read, take-append-drop}
 use Rattle.flow_value.specs.declared.value.Value.{Value}
@@ -11,10 +11,11 @@ use Rattle.flow_outlet.specs.declared.ends.LinkRule.{LinkRule}
 use Rattle.flow_outlet.proofs.OutletFits.{weight_stays, room_put}
 use Rattle.flow_link.specs.declared.draft.BlockKind.{BlockKind}
 use Rattle.flow_link.specs.declared.draft.BlockKind.TheVariants.{BatchedJoin}
+use Rattle.flow_link.specs.Plan.{is_write_once}
 use Rattle.flow_spread.specs.End.{owes_it}
 use Rattle.flow_spread.specs.Spread.{SpreadState}
 use Rattle.flow_spread.proofs.CountsOfEnds.{none_counts}
-use Rattle.flow_block.specs.Copies.{shared_rules, copied_rules, fresh_copies, copies_left}
+use Rattle.flow_block.specs.Copies.{shared_rules, copied_rules, fresh_copies, copies_left, weight_by, copies_weight}
 use Rattle.flow_block.specs.Block.{port_in, unit_weight, group_weight, takes_group, is_batched_join, row_count, room_at, gives_each, comes_back}
 use Rattle.flow_block.specs.BlockFits.{GaveOut, AllGaveOut, BlockFits, weight_out}
 use Rattle.flow_block.specs.Peeks.{holds_nothing}
@@ -167,21 +168,21 @@ pub out_beside : (capacity : Option ℕ) (room weight count : ℕ) (waiting : Li
 out_beside None room weight count waiting load out = omega arith
 out_beside (Some limit) room weight count waiting load out = omega (arith, out)
 
-module _ {ports : List PortState} {exits : OutletState} (copies : SpreadState) (fits : BlockFits ports exits (copies_left copies)) (k : ℕ) where
+module _ {ports : List PortState} {exits : OutletState} (copies : SpreadState) (fits : BlockFits ports exits (copies_weight copies)) (k : ℕ) where
   -- the room that comes with what is given was given out
-  pub back_given : AllGaveOut (weight_out (gives k exits) (copies_left copies)) ports
+  pub back_given : AllGaveOut (weight_out (gives k exits) (copies_weight copies)) ports
   back_given =
-      let same : weight_out exits (copies_left copies) ≡ weight_out (gives k exits) (copies_left copies) =
+      let same : weight_out exits (copies_weight copies) ≡ weight_out (gives k exits) (copies_weight copies) =
       omega (arith, weight_stays exits.next exits.groups) in
       subst (λ (weight : ℕ). AllGaveOut weight ports) same fits.room
 
   pub fits_back : (kind : BlockKind) (head : Option Value)
-      → BlockFits (comes_back (gives k exits) copies kind head ports) (record (gives k exits) { room = 0 }) (copies_left copies)
+      → BlockFits (comes_back (gives k exits) copies kind head ports) (record (gives k exits) { room = 0 }) (copies_weight copies)
   fits_back kind head =
       let given = gives k exits in
-      let weight = weight_of given.groups + copies_left copies in
-      let same : weight_out given (copies_left copies) ≡ given.room + weight = omega arith in
-      let rest : 0 + weight_of given.groups + copies_left copies ≡ weight = omega arith in
+      let weight = weight_of given.groups + copies_weight copies in
+      let same : weight_out given (copies_weight copies) ≡ given.room + weight = omega arith in
+      let rest : 0 + weight_of given.groups + copies_weight copies ≡ weight = omega arith in
       let few = fits.few in
       let all = subst (λ (weight : ℕ). AllGaveOut weight ports) same back_given in
       record {
@@ -202,12 +203,20 @@ all_fresh (port ∷ ports) none =
     let both = and_parts (is_empty port.waiting) (holds_nothing ports) none in
     (none_out port.capacity port.waiting port.load both.0, all_fresh ports both.1)
 
+no_element : (once : Bool) (left : ℕ) → left ≡ 0 → weight_by once false left ≡ 0
+no_element true left none = refl
+no_element false left none = none
+
+pub weighs_fresh : (kind : BlockKind) (rules : List LinkRule) → copies_weight (fresh_copies kind rules) ≡ 0
+weighs_fresh kind rules =
+    no_element (is_write_once kind) (copies_left (fresh_copies kind rules))
+    (ap (λ (count : ℕ). cond (count == 0) 0 1) (none_counts owes_it (copied_rules kind rules) (λ rule. refl)))
+
 -- nothing is put yet
 pub fits_fresh : (ports : List PortState) (kind : BlockKind) (rules : List LinkRule) → holds_nothing ports ≡ true
-    → BlockFits ports (fresh_outlet (shared_rules kind rules) 1) (copies_left (fresh_copies kind rules))
+    → BlockFits ports (fresh_outlet (shared_rules kind rules) 1) (copies_weight (fresh_copies kind rules))
 fits_fresh ports kind rules none =
-    let nobody : copies_left (fresh_copies kind rules) ≡ 0 =
-    ap (λ (count : ℕ). cond (count == 0) 0 1) (none_counts owes_it (copied_rules kind rules) (λ rule. refl)) in
+    let nobody = weighs_fresh kind rules in
     rw nobody (record { room = all_fresh ports none; few = omega arith })
 
 -- The message that waits longest is taken on

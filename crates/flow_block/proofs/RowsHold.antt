@@ -20,11 +20,12 @@ use Rattle.flow_intake.specs.PortLaw.{has_ended as has_port_ended}
 use Rattle.flow_intake.specs.Calls.{first_of, wants, turns_down, postpones, refuses, consumes, opens, closes, looks as port_looks, port_closes}
 use Rattle.flow_intake.proofs.CountsOfEnds.{hand_comes}
 use Rattle.flow_outlet.specs.Outlet.{OutletState, first_of as first_left, rest_of, is_empty, head_of, gives, prepares, offers, denies, withdraws, ends_link, looks as exit_looks}
-use Rattle.flow_link.specs.Plan.{is_broadcast}
+use Rattle.flow_link.specs.Plan.{is_one_taker}
 use Rattle.flow_block.specs.Copies.{copy_place}
-use Rattle.flow_block.proofs.CopiesIdle.{no_copy_at}
+use Rattle.flow_block.proofs.CopiesTaken.{taken_in_keeps}
+use Rattle.flow_block.proofs.CopiesIdle.{no_copy_at, broadcast_copies, once_copies}
 use Rattle.flow_block.specs.Block.{BlockState, port_at, with_port, held_by, is_batch, row_of, next_group, makes_row, copies_next, stops_by}
-use Rattle.flow_block.specs.Node.{NodeState, NodeCall, takes_in, gives_from, in_link_at, out_link_at}
+use Rattle.flow_block.specs.Node.{NodeState, NodeCall, holds_in, gives_from, in_link_at, out_link_at}
 use Rattle.flow_block.specs.NodeKeeps.{RowsKept, MayCall, MayCompletePort, InAt, after_call}
 use Rattle.flow_block.specs.NodeLaw.{NodeLaw, KeepsRows, RowsLaw, is_whole}
 use Rattle.flow_block.specs.Peeks.{has_group}
@@ -32,7 +33,7 @@ use Rattle.flow_block.specs.Planned.{block_makes}
 use Rattle.flow_block.proofs.GroupsOfRows.{none_before, passes_before, groups_more, every_of, group_there, group_fits, whole_or_last, group_tells}
 use Rattle.flow_block.proofs.GoingOn.{may_work_tells, may_complete_tells, open_goes_on}
 use Rattle.flow_block.proofs.JournalTells.{complete_where}
-use Rattle.flow_block.proofs.KindsBuilt.{has_one_port, batch_shares, broadcast_single, made_kind, makes_by, next_by}
+use Rattle.flow_block.proofs.KindsBuilt.{has_one_port, batch_shares, broadcast_single, made_kind, makes_by, next_by, copying_single}
 use Rattle.flow_block.proofs.PortsChange.{kept_at_one, kept_at_all}
 use Rattle.flow_block.proofs.Joins.{join_alone, batched_alone, batch_at_one}
 use Rattle.flow_block.proofs.RoomBack.{kept_back}
@@ -144,7 +145,7 @@ given_out node law k (Some value) head batch =
 module _ {W : Type 0} (layout : Layout W) (meaning : ℕ → Value → Result (List Value) ℕ) (b : ℕ) where
   taken_in : (node : NodeState) → NodeLaw layout meaning b node → (p k : ℕ) (value : Option Value)
       → InAt is_hand p k node
-      → KeepsRows (takes_in p k value node).block (takes_in p k value node).journal
+      → KeepsRows (holds_in p k value node).block (holds_in p k value node).journal
   taken_in node law p k None at batch = law.rows batch
   taken_in node law p k (Some value) at batch =
       let block = node.block in
@@ -216,11 +217,11 @@ module _ {W : Type 0} (layout : Layout W) (meaning : ℕ → Value → Result (L
             (or_same (leb size (length held)) (has_port_ended port.refusing) (has_complete 0 journal) closes_so tells.1) weighs whole);
       }
 
-  no_rows : (first : Option Value) (block : BlockState) (journal : List Mark) → is_broadcast block.kind ≡ true
+  no_rows : (first : Option Value) (block : BlockState) (journal : List Mark) → is_one_taker block.kind ≡ false
       → KeepsRows (copies_next first block) journal
-  no_rows None block journal broadcast batch = never_both (is_batch block.kind) batch (broadcast_single block.kind broadcast)
-  no_rows (Some value) block journal broadcast batch =
-      never_both (is_batch block.kind) batch (broadcast_single block.kind broadcast)
+  no_rows None block journal copying batch = never_both (is_batch block.kind) batch (copying_single block.kind copying)
+  no_rows (Some value) block journal copying batch =
+      never_both (is_batch block.kind) batch (copying_single block.kind copying)
 
   after_each : (node : NodeState) (call : NodeCall) → NodeLaw layout meaning b node → MayCall layout meaning b call node
       → KeepsRows (after_call layout meaning b call node).block (after_call layout meaning b call node).journal
@@ -230,7 +231,11 @@ module _ {W : Type 0} (layout : Layout W) (meaning : ℕ → Value → Result (L
   after_each node (NodeCall.refuse p k) law may = port_stays node law.rows p (refuses k) refl
   after_each node (NodeCall.consume p k) law may = port_stays node law.rows p (consumes k) refl
   after_each node (NodeCall.open_with p k value) law may = port_stays node law.rows p (opens k value) refl
-  after_each node (NodeCall.close p k) law may = taken_in node law p k (hand_in k (port_at p node.block).ends) may
+  after_each node (NodeCall.close p k) law may =
+      let hand = hand_in k (port_at p node.block).ends in
+      let held = holds_in p k hand node in
+      taken_in_keeps KeepsRows p k hand node (taken_in node law p k hand may)
+      (λ at_once. no_rows (first_of (held_by held.block)) held.block held.journal (once_copies held.block.kind at_once.once))
   after_each node (NodeCall.give k) law may = given_out node law.rows k (head_of node.block.exits) refl
   after_each node (NodeCall.look_in p k phase) law may = port_stays node law.rows p (port_looks k phase) refl
   after_each node (NodeCall.copy call) law may =
@@ -243,7 +248,7 @@ module _ {W : Type 0} (layout : Layout W) (meaning : ℕ → Value → Result (L
       makes_by (λ new. KeepsRows new node.journal) (block_makes layout meaning b) node.block
       (λ batch. let tells = may_work_tells node.block may.waits in row_made node law tells.going (tells.group batch))
       (λ join batch. never_both (is_batch node.block.kind) batch (join_alone node.block.kind join))
-      (λ broadcast. no_rows (first_of (held_by node.block)) node.block node.journal broadcast)
+      (λ broadcast. no_rows (first_of (held_by node.block)) node.block node.journal (broadcast_copies node.block.kind broadcast))
       (λ other alone single batch. never_both (is_batch node.block.kind)
       (ap is_batch (sym (made_kind (block_makes layout meaning b) (first_of (held_by node.block)) node.block)) ∙ batch) other))
   after_each node (NodeCall.complete p) law may = completed node law p may

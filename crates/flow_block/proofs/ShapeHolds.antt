@@ -14,13 +14,14 @@ use Rattle.flow_outlet.specs.declared.ends.OutEnd.{OutEnd}
 use Rattle.flow_outlet.specs.End.{end_in, no_end}
 use Rattle.flow_outlet.specs.Outlet.{head_of, gives}
 use Rattle.flow_spread.specs.Spread.{puts}
-use Rattle.flow_block.specs.Copies.{after_copy, copies_left}
+use Rattle.flow_block.specs.Copies.{after_copy, copies_left, copies_weight}
 use Rattle.flow_block.specs.Block.{BlockState, port_in, held_by, copies_next, made_of, yields, keeps_results, makes_of, takes_group, gives_out}
-use Rattle.flow_block.specs.Node.{NodeState, NodeCall, hand_at, takes_in, gives_from, order_in}
+use Rattle.flow_block.specs.Node.{NodeState, NodeCall, hand_at, takes_in, gives_from, order_in, holds_in}
 use Rattle.flow_block.specs.NodeLaw.{ShapeLaw, PortAsPlanned, NodeLaw}
 use Rattle.flow_block.specs.NodeKeeps.{after_call, ShapeKept, MayCall}
 use Rattle.flow_block.specs.Planned.{block_makes}
 use Rattle.flow_block.proofs.KindsBuilt.{makes_by, next_by}
+use Rattle.flow_block.proofs.CopiesTaken.{taken_in_keeps}
 use Rattle.flow_block.proofs.PortsChange.{each_after_one, each_after_all}
 use Rattle.flow_block.proofs.RoomBack.{back_at, length_back, each_after_back}
 use Rattle.flow_block.proofs.GroupPorts.{length_by_group, each_after_group}
@@ -108,6 +109,7 @@ module _ {W : Type 0} (layout : Layout W) (meaning : ℕ → Value → Result (L
     size_is = size ∙ law.size_is;
     some_size = rw (kind, size) law.some_size;
     some_group = rw (kind, size) law.some_group;
+    no_capacity = rw kind law.no_capacity;
     port_count_is = rw (ports, length-set before.ports p (change (port_in before.ports p))) law.port_count_is;
     some_port = rw (ports, length-set before.ports p (change (port_in before.ports p))) law.some_port;
     takes_freely = law.takes_freely;
@@ -130,6 +132,7 @@ module _ {W : Type 0} (layout : Layout W) (meaning : ℕ → Value → Result (L
     size_is = size ∙ law.size_is;
     some_size = rw (kind, size) law.some_size;
     some_group = rw (kind, size) law.some_group;
+    no_capacity = rw kind law.no_capacity;
     port_count_is = rw (ports, length-map before.ports change) law.port_count_is;
     some_port = rw (ports, length-map before.ports change) law.some_port;
     takes_freely = law.takes_freely;
@@ -150,6 +153,7 @@ module _ {W : Type 0} (layout : Layout W) (meaning : ℕ → Value → Result (L
     size_is = size ∙ law.size_is;
     some_size = rw (kind, size) law.some_size;
     some_group = rw (kind, size) law.some_group;
+    no_capacity = rw kind law.no_capacity;
     port_count_is = rw ports law.port_count_is;
     some_port = rw ports law.some_port;
     takes_freely = law.takes_freely;
@@ -182,12 +186,12 @@ module _ {W : Type 0} (layout : Layout W) (meaning : ℕ → Value → Result (L
       → ShapeLaw layout meaning b (copies_next held block)
   copy_keeps None block law = law
   copy_keeps (Some value) block law =
-      let room = 1 - copies_left (puts value block.copies) in
+      let room = 1 - copies_weight (puts value block.copies) in
       one_port block _ 0 (λ port. gives_room room (takes_next port)) (λ port. record { links = refl; capacity = refl; reserves = refl })
       refl refl refl refl law
 
   take_keeps : (p k : ℕ) (hand : Option Value) (node : NodeState) → ShapeLaw layout meaning b node.block
-      → ShapeLaw layout meaning b (takes_in p k hand node).block
+      → ShapeLaw layout meaning b (holds_in p k hand node).block
   take_keeps p k None node law = law
   take_keeps p k (Some value) node law =
       one_port node.block _ p (closes k value) (closes_same k value) refl refl refl refl law
@@ -200,6 +204,7 @@ module _ {W : Type 0} (layout : Layout W) (meaning : ℕ → Value → Result (L
     size_is = law.size_is;
     some_size = law.some_size;
     some_group = law.some_group;
+    no_capacity = law.no_capacity;
     port_count_is = length_back (gives k block.exits) block.copies block.kind (head_of block.exits) block.ports ∙ law.port_count_is;
     some_port =
         subst (λ (count : ℕ). 0 < count)
@@ -229,6 +234,7 @@ module _ {W : Type 0} (layout : Layout W) (meaning : ℕ → Value → Result (L
     size_is = law.size_is;
     some_size = law.some_size;
     some_group = law.some_group;
+    no_capacity = law.no_capacity;
     port_count_is = length_by_group size order block.ports ∙ law.port_count_is;
     some_port = subst (λ (count : ℕ). 0 < count) (sym (length_by_group size order block.ports)) law.some_port;
     takes_freely = law.takes_freely;
@@ -251,7 +257,11 @@ module _ {W : Type 0} (layout : Layout W) (meaning : ℕ → Value → Result (L
   call_keeps node (NodeCall.consume p k) law = one_port node.block _ p (consumes k) (consumes_same k) refl refl refl refl law
   call_keeps node (NodeCall.open_with p k value) law =
       one_port node.block _ p (opens k value) (opens_same k value) refl refl refl refl law
-  call_keeps node (NodeCall.close p k) law = take_keeps p k (hand_at p k node) node law
+  call_keeps node (NodeCall.close p k) law =
+      let held = holds_in p k (hand_at p k node) node in
+      let kept = take_keeps p k (hand_at p k node) node law in
+      taken_in_keeps (λ new journal. ShapeLaw layout meaning b new) p k (hand_at p k node) node kept
+      (λ at_once. copy_keeps (first_of (held_by held.block)) held.block kept)
   call_keeps node (NodeCall.offer k) law =
       exits_move node.block _ refl refl refl (rules_stay node.block.exits.ends k _ refl) law
   call_keeps node (NodeCall.give k) law = give_keeps k (head_of node.block.exits) node law
@@ -266,7 +276,7 @@ module _ {W : Type 0} (layout : Layout W) (meaning : ℕ → Value → Result (L
   call_keeps node (NodeCall.look_out k phase) law =
       exits_move node.block _ refl refl refl (rules_stay node.block.exits.ends k _ refl) law
   call_keeps node (NodeCall.copy call) law =
-      let room = copies_left node.block.copies - copies_left (after_copy call node.block.copies) in
+      let room = copies_weight node.block.copies - copies_weight (after_copy call node.block.copies) in
       each_port node.block _ (gives_room room) (gives_room_same room) refl refl refl refl law
   call_keeps node NodeCall.begin law = exits_move node.block _ refl refl refl refl law
   call_keeps node NodeCall.make law =

@@ -19,14 +19,16 @@ use Rattle.flow_group.specs.Tuple.{held_at, has_tuple, tuple_of}
 use Rattle.flow_group.specs.Tuples.{only_at}
 use Rattle.flow_group.proofs.JournalsTell.{journals_tell}
 use Rattle.flow_group.proofs.TuplesKeep.{tuples_kept, held_by_take}
-use Rattle.flow_block.specs.Block.{is_batch, BlockState, port_at, with_port, stops_by, is_join, makes_tuple}
-use Rattle.flow_block.specs.Node.{NodeState, NodeCall, takes_in, gives_from, in_link_at, out_link_at}
+use Rattle.flow_block.specs.Block.{is_batch, BlockState, port_at, with_port, stops_by, is_join, makes_tuple, held_by}
+use Rattle.flow_block.specs.Node.{NodeState, NodeCall, takes_in, gives_from, in_link_at, out_link_at, holds_in}
+use Rattle.flow_link.specs.Plan.{is_broadcast}
 use Rattle.flow_block.specs.NodeKeeps.{MayCall, after_call, TuplesKept}
 use Rattle.flow_block.specs.NodeLaw.{NodeLaw, KeepsTuples}
 use Rattle.flow_block.specs.Planned.{block_makes}
-use Rattle.flow_block.proofs.CopiesIdle.{no_copy_at}
+use Rattle.flow_block.proofs.CopiesTaken.{taken_in_keeps, held_kind}
+use Rattle.flow_block.proofs.CopiesIdle.{no_copy_at, once_copies}
 use Rattle.flow_block.proofs.GoingOn.{may_work_tells}
-use Rattle.flow_block.proofs.Joins.{join_alone, join_shares, broadcast_unjoined, batched_unjoined}
+use Rattle.flow_block.proofs.Joins.{join_alone, join_shares, broadcast_unjoined, batched_unjoined, copies_unjoined}
 use Rattle.flow_block.proofs.KindsBuilt.{makes_by, next_by}
 use Rattle.flow_block.proofs.ShapeHolds.{shape_kept}
 use Rattle.flow_block.proofs.PortsChange.{kept_at_one, kept_at_all}
@@ -98,7 +100,7 @@ given_out node law k (Some value) head =
 
 -- a message is taken
 taken_in : (node : NodeState) → KeepsTuples node.block node.journal → (p k : ℕ) (value : Option Value)
-    → KeepsTuples (takes_in p k value node).block (takes_in p k value node).journal
+    → KeepsTuples (holds_in p k value node).block (holds_in p k value node).journal
 taken_in node law p k None = law
 taken_in node law p k (Some value) =
     let block = node.block in
@@ -139,7 +141,12 @@ module _ {W : Type 0} (layout : Layout W) (meaning : ℕ → Value → Result (L
   after_each node (NodeCall.refuse p k) whole join law may = port_stays node law p (refuses k) refl
   after_each node (NodeCall.consume p k) whole join law may = port_stays node law p (consumes k) refl
   after_each node (NodeCall.open_with p k value) whole join law may = port_stays node law p (opens k value) refl
-  after_each node (NodeCall.close p k) whole join law may = taken_in node law p k (hand_in k (port_at p node.block).ends)
+  after_each node (NodeCall.close p k) whole join law may =
+      let hand = hand_in k (port_at p node.block).ends in
+      let held = holds_in p k hand node in
+      taken_in_keeps KeepsTuples p k hand node (taken_in node law p k hand)
+      (λ at_once. never_both (is_join held.block.kind) (ap is_join (held_kind p k hand node) ∙ join)
+      (copies_unjoined held.block.kind (once_copies held.block.kind at_once.once)))
   after_each node (NodeCall.offer k) whole join law may = exits_stay node law (offers k (prepares node.block.exits)) refl
   after_each node (NodeCall.give k) whole join law may = given_out node law k (head_of node.block.exits) refl
   after_each node (NodeCall.deny k) whole join law may = exits_stay node law (denies k node.block.exits) refl

@@ -1,5 +1,5 @@
 -- Each call moves the view of its own end as the laws of one link have it, and no other end's.
-use Rattle.std.proofs.Common.{unwrap_or, ◌≡◌, ◌≢◌, ℕ, ◌-◌, ◌<◌, ◌==◌, cond, Bool, true, List, [], ◌∷◌, ◌++◌, length, set, Option, Some, None, is_some, Result, Ok, Err, refl, ap, sym, ◌∙◌, subst, eq-eqb}
+use Rattle.std.proofs.Common.{unwrap_or, ◌≡◌, ◌≢◌, ℕ, ◌-◌, ◌<◌, ◌==◌, cond, Bool, true, List, [], ◌∷◌, ◌++◌, length, set, Option, Some, None, is_some, Result, Ok, Err, refl, ap, sym, ◌∙◌, subst, eq-eqb, false, arith, length-set}
 use Rattle.std.proofs.lemmas.List.{get_or-set_same, get_or-set_other}
 use Rattle.flow_value.specs.declared.value.Value.{Value}
 use Rattle.flow_value.specs.declared.when.When.{When}
@@ -29,13 +29,16 @@ use Rattle.flow_outlet.proofs.LawKept.{gives_in_order}
 use Rattle.flow_outlet.proofs.OffersInOrder.{offers_in_order}
 use Rattle.flow_link.specs.Plan.{is_broadcast}
 use Rattle.flow_spread.specs.Spread.{link_at as link_over, puts}
-use Rattle.flow_block.specs.Copies.{copy_place, copies_left, none_waits}
+use Rattle.flow_block.proofs.CopiesLeave.{free_is_given}
+use Rattle.flow_block.proofs.CopiesTaken.{taken_keeps}
+use Rattle.flow_block.proofs.WrittenOnce.{may_put_yet}
+use Rattle.flow_block.specs.Copies.{copy_place, copies_weight, none_waits}
 use Rattle.flow_block.proofs.CopierKept.{may_copy_next}
-use Rattle.flow_block.proofs.CopiesIdle.{no_copy_at, copies_at}
+use Rattle.flow_block.proofs.CopiesIdle.{no_copy_at, copies_at, once_copies}
 use Rattle.flow_block.proofs.CopiesMove.{copies_move_views, puts_move_none}
 use Rattle.flow_block.specs.Block.{BlockState, port_at, with_port, with_jobs, begins, made_of, keeps_results, yields, makes_of, makes, makes_row, takes_group, copies_next, held_by, stops_by}
 use Rattle.flow_block.specs.Jobs.{JobsState, begins as one_more}
-use Rattle.flow_block.specs.Node.{NodeState, NodeCall, with_block, with_exits, marks, hand_at, in_link_at, out_link_at, takes_in, gives_from, view_of_in, view_of_out, in_view, out_view, copy_view, order_in, makes_next}
+use Rattle.flow_block.specs.Node.{NodeState, NodeCall, with_block, with_exits, marks, hand_at, in_link_at, out_link_at, takes_in, gives_from, view_of_in, view_of_out, in_view, out_view, copy_view, order_in, makes_next, holds_in}
 use Rattle.flow_block.specs.NodeKeeps.{after_call}
 use Rattle.flow_block.specs.NodeLaw.{NodeLaw}
 use Rattle.flow_block.specs.Peeks.{is_pending}
@@ -144,7 +147,7 @@ module _ {W : Type 0} (layout : Layout W) (meaning : ℕ → Value → Result (L
   -- a message is taken: the mark names the link of the end that had it in hand
   closed : (p k : ℕ) (value : Value) → p < length node.block.ports → k < length (port_at p node.block).ends
       → hand_at p k node ≡ Some value
-      → ViewsMove (NodeCall.close p k) node (takes_in p k (Some value) node)
+      → ViewsMove (NodeCall.close p k) node (holds_in p k (Some value) node)
   closed p k value below there in_hand =
       let l = in_link_at p k node in
       let mark = Took p l value in
@@ -275,7 +278,7 @@ row_stays block = record {
 copied_stays : (first : Option Value) (block : BlockState) → none_waits block.copies ≡ true → EndsStay block (copies_next first block)
 copied_stays None block none = record { ins = λ p below. refl; outs = refl; copies = λ k there. refl }
 copied_stays (Some value) block none =
-    let room = 1 - copies_left (puts value block.copies) in
+    let room = 1 - copies_weight (puts value block.copies) in
     record {
       ins = λ p below.
           kept_at_one (λ (port : PortState). port.ends) block.ports 0 p (gives_room room (takes_next (port_at 0 block))) refl;
@@ -328,6 +331,25 @@ stopping_stays block how =
       outs = refl;
       copies = λ k there. refl;
     }
+
+-- where no end moves after that, a message is taken all the same
+views_after : (p k : ℕ) (node held new : NodeState) → p < length held.block.ports
+    → length held.block.ports ≡ length node.block.ports → length held.block.copies.ends ≡ length node.block.copies.ends
+    → NoneMoves held new → ViewsMove (NodeCall.close p k) node held → ViewsMove (NodeCall.close p k) node new
+views_after p k node held new below ports copies none moves = record {
+  moved = record {
+    value = moves.moved.value;
+    in_hand = moves.moved.in_hand;
+    view = view_in_stays held new none p k below ∙ moves.moved.view;
+  };
+  others = record {
+    ins = λ q j small near apart.
+        view_in_stays held new none q j (omega (arith, small, ports)) ∙ moves.others.ins q j small near apart;
+    outs = λ j near other. view_out_stays held new none j ∙ moves.others.outs j near other;
+    copies = λ j near other.
+        copy_view_stays held new none j (omega (arith, near, copies)) ∙ moves.others.copies j near other;
+  };
+}
 
 head_there : (when : When) (head : Option Value) → admits_head when head ≡ true → is_some head ≡ true
 head_there when None e = absurd (cc)
@@ -390,8 +412,19 @@ calls_move_views W layout meaning b node (NodeCall.open_with p k value) law may 
     }
 calls_move_views W layout meaning b node (NodeCall.close p k) law may =
     let in_hand = some_is (hand_at p k node) (((law.ports p may.port).each k may.place).hand ∙ may.stands) in
+    let value = in_hand.0 in
+    let held = holds_in p k (Some value) node in
+    let moves = closed layout meaning b node law p k value may.port may.place in_hand.1 in
     subst (λ (hand : Option Value). ViewsMove (NodeCall.close p k) node (takes_in p k hand node)) (sym in_hand.1)
-    (closed layout meaning b node law p k in_hand.0 may.port may.place in_hand.1)
+    (taken_keeps (λ new. ViewsMove (NodeCall.close p k) node (with_block new held)) held.block moves
+    (λ at_once.
+    let once = at_once.once in
+    let copier = law.copies.copier (once_copies node.block.kind once) in
+    let waits = (may_put_yet layout b node.block node.journal copier once (free_is_given node.block.copies at_once.free)).waits in
+    let same = length-set node.block.ports p (closes k value (port_at p node.block)) in
+    let new = copies_next (first_of (held_by held.block)) held.block in
+    views_after p k node held (with_block new held) (omega (arith, may.port, same)) same refl
+    (none_moves held new (copied_stays (first_of (held_by held.block)) held.block waits)) moves))
 calls_move_views W layout meaning b node (NodeCall.offer k) law may =
     let o = node.block.exits in
     let there = ((offers_in_order.named o k).0 may.next).there in

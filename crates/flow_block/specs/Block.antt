@@ -1,6 +1,6 @@
 -- A block as plain data, and what its calls make of it: each block takes messages at its ports, makes something of them, and
 -- gives that over its exits.
-use Rattle.std.specs.Prelude.{ℕ, suc, ◌+◌, ◌-◌, min, Bool, true, false, cond, List, [], ◌∷◌, ◌++◌, length, get_or, set, map, take, drop, Option, Some, None, is_none, Result, Ok, Err, pos}
+use Rattle.std.specs.Prelude.{ℕ, suc, ◌+◌, ◌-◌, min, Bool, true, false, cond, List, [], ◌∷◌, ◌++◌, length, get_or, set, map, take, drop, Option, Some, None, is_none, Result, Ok, Err, pos, ◌^◌, ◌==◌, ltb, not, ◌&&◌}
 use Rattle.flow_value.specs.View.{items_from}
 use Rattle.flow_value.specs.declared.value.Value.{Value}
 use Rattle.flow_value.specs.declared.value.Value.TheVariants.{Int, Row}
@@ -8,14 +8,14 @@ use Rattle.flow_link.specs.declared.draft.BlockKind.{BlockKind}
 use Rattle.flow_link.specs.declared.draft.BlockKind.TheVariants.{Buffer, Action, Batch, Join, BatchedJoin}
 use Rattle.flow_link.specs.Making.{items_of, row_weight}
 use Rattle.flow_link.specs.declared.trace.Outcome.{Outcome}
-use Rattle.flow_link.specs.Plan.{is_broadcast}
+use Rattle.flow_link.specs.Plan.{is_broadcast, is_write_once}
 use Rattle.flow_intake.specs.Port.{PortState, fresh_port}
 use Rattle.flow_intake.specs.Calls.{first_of, takes_next, gives_room, port_closes, port_fails}
 use Rattle.flow_group.specs.Tuple.{tuple_of, takes_tuple}
-use Rattle.flow_outlet.specs.Outlet.{OutletState, puts, gives, head_of}
+use Rattle.flow_outlet.specs.Outlet.{OutletState, puts, gives, head_of, is_empty}
 use Rattle.flow_outlet.specs.Fits.{weight_of}
-use Rattle.flow_spread.specs.Spread.{SpreadState, puts as copies_put}
-use Rattle.flow_block.specs.Copies.{copies_left}
+use Rattle.flow_spread.specs.Spread.{SpreadState, puts as copies_put, is_spread_free}
+use Rattle.flow_block.specs.Copies.{copies_left, copies_weight}
 use Rattle.flow_block.specs.Jobs.{JobsState, Slot, begins as one_more, brings, works_off, comes_out, place_of}
 
 pub record BlockState : Type 0 where
@@ -130,16 +130,29 @@ makes_tuple block = record block {
   exits = puts (tuple_of block.ports ∷ []) (unit_weight (port_at 0 block).capacity) block.exits;
 }
 
--- the message is what it copies from now on. Where no link is to have it, its room comes back at once
+-- the message is what it copies from now on. Where it counts nothing, its room comes back at once
 abbrev pub copies_it : Value → BlockState → BlockState
 copies_it value block =
-    record (with_port 0 (λ port. gives_room (1 - copies_left (copies_put value block.copies)) (takes_next port)) block) {
+    record (with_port 0 (λ port. gives_room (1 - copies_weight (copies_put value block.copies)) (takes_next port)) block) {
       copies = copies_put value block.copies;
     }
 
 abbrev pub copies_next : Option Value → BlockState → BlockState
 copies_next None block = block
 copies_next (Some value) block = copies_it value block
+
+-- a block that takes one message in all copies it when it takes it, if all that this needs is there
+abbrev pub copies_at_once : BlockState → Bool
+copies_at_once block =
+    is_write_once block.kind && length block.ports == 1 && not (is_empty (held_by block)) && is_spread_free block.copies
+    && ltb (block.copies.id + 1) (2 ^ 59)
+
+abbrev pub copies_where : Bool → BlockState → BlockState
+copies_where true block = copies_next (first_of (held_by block)) block
+copies_where false block = block
+
+abbrev pub copies_taken : BlockState → BlockState
+copies_taken block = copies_where (copies_at_once block) block
 
 -- it makes what it makes of the message that it holds first, and a broadcast copies that message
 abbrev pub makes_other : (Value → Result (List Value) ℕ) → BlockState → BlockState
@@ -235,7 +248,7 @@ gives_each room weight counts p (port ∷ ports) =
 -- join that of its messages
 abbrev pub comes_back : OutletState → SpreadState → BlockKind → Option Value → List PortState → List PortState
 comes_back exits copies kind head ports =
-    gives_each exits.room (weight_of exits.groups + copies_left copies) (row_count kind head) 0 ports
+    gives_each exits.room (weight_of exits.groups + copies_weight copies) (row_count kind head) 0 ports
 
 -- it gives its head over the exit at a place, and room comes back
 abbrev pub gives_out : ℕ → BlockState → BlockState
@@ -244,11 +257,11 @@ gives_out k block = record block {
   ports = comes_back (gives k block.exits) block.copies block.kind (head_of block.exits) block.ports;
 }
 
--- its end of a link over which copies go comes to stand elsewhere. Where nobody owes the element any more, its room comes back
+-- its end of a link over which copies go comes to stand elsewhere. Where the element counts no more, its room comes back
 abbrev pub with_copies : SpreadState → BlockState → BlockState
 with_copies copies block = record block {
   copies = copies;
-  ports = map (gives_room (copies_left block.copies - copies_left copies)) block.ports;
+  ports = map (gives_room (copies_weight block.copies - copies_weight copies)) block.ports;
 }
 
 abbrev pub stops_by : Outcome → BlockState → BlockState

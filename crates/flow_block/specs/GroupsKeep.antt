@@ -7,7 +7,7 @@ use Rattle.flow_link.specs.Trace.{has_complete}
 use Rattle.flow_intake.specs.Port.{is_hand}
 use Rattle.flow_group.specs.Group.{has_group}
 use Rattle.flow_block.specs.Groups.{makes_group}
-use Rattle.flow_block.specs.Node.{NodeState, NodeCall, with_block, hand_at, after}
+use Rattle.flow_block.specs.Node.{NodeState, NodeCall, with_block, hand_at, after, holds_in}
 use Rattle.flow_block.specs.NodeKeeps.{InAt, MayCall}
 use Rattle.flow_block.specs.Planned.{block_makes}
 use Rattle.flow_block.specs.GroupsLaw.{are_complete, KeepsGroups}
@@ -18,10 +18,11 @@ order_taken p None order = order
 order_taken p (Some _) order = order ++ p ∷ []
 
 module _ (size weight : ℕ) where
-  -- what becomes of a batched join's node by a call, whatever weight a group has: it makes groups, and does all else as each
-  -- node does
+  -- what becomes of a batched join's node by a call, whatever weight a group has: it makes groups, holds what it takes, and
+  -- does all else as each node does
   abbrev pub after_at_batched : (Value → Result (List Value) ℕ) → List ℕ → NodeCall → NodeState → NodeState
   after_at_batched result order NodeCall.make node = with_block (makes_group size weight order node.block) node
+  after_at_batched result order (NodeCall.close p k) node = holds_in p k (hand_at p k node) node
   after_at_batched result order call node = after result call node
 
   -- and of the order of what is in no group

@@ -9,7 +9,7 @@ use Rattle.flow_link.specs.Trace.{gave, has_complete}
 use Rattle.flow_group.specs.Groups.{GroupsLaw, is_whole}
 use Rattle.flow_group.specs.Tuple.{held_at}
 use Rattle.flow_block.specs.Block.{BlockState, port_at}
-use Rattle.flow_block.specs.Copies.{copies_left}
+use Rattle.flow_block.specs.Copies.{copies_weight}
 use Rattle.flow_block.specs.Node.{NodeState, order_in}
 
 -- a node with so many ports has a mark Complete of each
@@ -40,6 +40,6 @@ pub record LoadByPort (block : BlockState) : Type 0 where
   -- a group has no weight: its room is that of its rows
   pub no_groups : block.exits.groups ≡ []
   pub no_room : block.exits.room ≡ 0
-  pub no_copies : copies_left block.copies ≡ 0
+  pub no_copies : copies_weight block.copies ≡ 0
   pub load : (p : ℕ) → p < length block.ports → is_some (port_at p block).capacity ≡ true
       → (port_at p block).load ≡ length (port_at p block).waiting + rows_left p block.exits.left

@@ -18,7 +18,7 @@ use Rattle.flow_outlet.specs.History.{listed}
 use Rattle.flow_spread.specs.Spread.{SpreadState, link_at, left_of}
 use Rattle.flow_link.specs.Plan.{is_one_taker}
 use Rattle.flow_group.specs.Group.{group_of}
-use Rattle.flow_block.specs.Block.{BlockState, port_at, with_port, begins, makes, put_next, gives_out, with_copies, stops_by, is_batched_join}
+use Rattle.flow_block.specs.Block.{BlockState, port_at, with_port, begins, makes, put_next, gives_out, with_copies, stops_by, is_batched_join, copies_taken}
 use Rattle.flow_block.specs.Copies.{CopyCall, after_copy}
 use Rattle.flow_block.specs.Groups.{makes_group, ports_in, marks_until}
 
@@ -75,10 +75,15 @@ in_link_at p k node = link_in k (port_at p node.block).ends
 abbrev pub out_link_at : ℕ → NodeState → ℕ
 out_link_at k node = (end_at node.block.exits k).rule.id
 
--- the message in hand becomes the block's
+-- the message in hand becomes the block's, which holds it
+abbrev pub holds_in : ℕ → ℕ → Option Value → NodeState → NodeState
+holds_in p k None node = node
+holds_in p k (Some value) node =
+    marks (Took p (in_link_at p k node) value) (with_block (with_port p (closes k value) node.block) node)
+
+-- or copies it at once
 abbrev pub takes_in : ℕ → ℕ → Option Value → NodeState → NodeState
-takes_in p k None node = node
-takes_in p k (Some value) node = marks (Took p (in_link_at p k node) value) (with_block (with_port p (closes k value) node.block) node)
+takes_in p k hand node = with_block (copies_taken (holds_in p k hand node).block) (holds_in p k hand node)
 
 -- the head goes over the link
 abbrev pub gives_from : ℕ → Option Value → NodeState → NodeState

@@ -1,5 +1,5 @@
 -- When each call of a node may be made, and that it keeps the node in order.
-use Rattle.std.specs.Prelude.{◌≡◌, ℕ, ◌+◌, ◌^◌, ◌<◌, Bool, true, false, List, length, Some, None, is_some, is_none, Result}
+use Rattle.std.specs.Prelude.{◌≡◌, ℕ, ◌+◌, ◌^◌, ◌<◌, Bool, true, false, List, [], length, Some, None, is_some, is_none, Result}
 use Rattle.std.specs.Bool.{OnTrue}
 use Rattle.flow_value.specs.declared.value.Value.{Value}
 use Rattle.flow_link.specs.declared.phase.LinkEnd.{LinkEnd}
@@ -18,11 +18,11 @@ use Rattle.flow_intake.specs.Calls.{is_offered, is_posted, is_postponed, is_arri
 use Rattle.flow_outlet.specs.End.{is_free, is_waiting, speaks_of}
 use Rattle.flow_outlet.specs.Law.{is_put_off}
 use Rattle.flow_outlet.specs.Outlet.{end_at, stage_at, may_offer, may_give, is_wish, end_of, lacks_ids}
-use Rattle.flow_link.specs.Plan.{is_broadcast, is_one_taker}
+use Rattle.flow_link.specs.Plan.{is_broadcast, is_write_once, is_one_taker}
 use Rattle.flow_spread.specs.Law.{MayPutOff as MayPutOffOver}
 use Rattle.flow_spread.specs.Spread.{may_offer as may_offer_copy, may_give as may_give_copy, is_asked_by}
 use Rattle.flow_spread.specs.Spread as spread
-use Rattle.flow_block.specs.Block.{port_at, is_join, is_batched_join}
+use Rattle.flow_block.specs.Block.{port_at, is_join, is_batched_join, held_by, put_next}
 use Rattle.flow_block.specs.Copies.{CopyCall, copy_place}
 use Rattle.flow_block.specs.Node.{NodeState, NodeCall, in_link_at, after, puts_next}
 use Rattle.flow_block.specs.NodeLaw.{NodeLaw, ShapeLaw, PortsLaw, ExitsLaw, CopiesLaw, GaveLaw, MakesLaw, KeepsRows, KeepsTuples, JobsLaw, LoadLaw, MarksLaw, EndsLaw}
@@ -152,6 +152,9 @@ module _ (W : Type 0) where
 
   abbrev pub CopiesKept : Type 0
   CopiesKept = AtEachBlock (λ layout meaning b node. CopiesLaw layout meaning b node.block node.journal)
+
+  abbrev pub NoneHeldKept : Type 0
+  NoneHeldKept = AtEachBlock (λ layout meaning b node. is_write_once node.block.kind ≡ true → held_by node.block ≡ [])
 
   abbrev pub GaveKept : Type 0
   GaveKept = AtEachBlock (λ layout meaning b node.

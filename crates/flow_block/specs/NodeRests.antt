@@ -1,6 +1,5 @@
 -- A node that has nothing to do is still, and it rests when its links do.
-use Rattle.std.specs.Prelude.{◌≡◌, ℕ, ◌<◌, Bool, true, false, [], length, None}
-use Rattle.flow_link.specs.declared.plan.LinkSource.TheVariants.{Block}
+use Rattle.std.specs.Prelude.{◌≡◌, ℕ, ◌<◌, Bool, true, false, length, None}
 use Rattle.flow_link.specs.declared.plan.LinkTarget.TheVariants.{Port}
 use Rattle.flow_link.specs.declared.stage.SourceStage.{SourceStage}
 use Rattle.flow_link.specs.declared.stage.SourceStage.TheVariants as source
@@ -8,7 +7,7 @@ use Rattle.flow_link.specs.declared.stage.TargetStage.{TargetStage}
 use Rattle.flow_link.specs.declared.stage.TargetStage.TheVariants as target
 use Rattle.flow_link.specs.Composes.{Ends}
 use Rattle.flow_link.specs.RestsByParts.{NodeIsStill, NodeRests}
-use Rattle.flow_link.specs.Trace.{Run, link_of, is_used_up}
+use Rattle.flow_link.specs.Trace.{Run, link_of}
 use Rattle.flow_intake.specs.Port.{stage_at as port_stage}
 use Rattle.flow_outlet.specs.Outlet.{stage_at}
 use Rattle.flow_spread.specs.Spread.{stage_at as copy_stage}
@@ -17,7 +16,7 @@ use Rattle.flow_block.specs.NextCopies.{next_copy}
 use Rattle.flow_block.specs.NextMoves.{next_in, next_out}
 use Rattle.flow_block.specs.Node.{NodeState}
 use Rattle.flow_block.specs.NodeLaw.{NodeLaw}
-use Rattle.flow_block.specs.NodeSeen.{IsNodeOf}
+use Rattle.flow_block.specs.NodeSeen.{IsNodeOf, EachMayCarry}
 use Rattle.flow_block.specs.Peeks.{may_make, may_begin, may_end, may_complete, next_fault, may_finish}
 
 -- nothing that it could do
@@ -71,11 +70,6 @@ pub record NoneReserve (node : NodeState) : Type 0 where
   pub copies : (k : ℕ) → k < length node.block.copies.ends → is_asked (copy_stage node.block.copies k) ≡ false
 
 module _ (W : Type 0) where
-  -- each link out of a block may carry something
-  abbrev pub EachMayCarry : Run W → ℕ → Type 0
-  EachMayCarry run b =
-      (l : ℕ) → l < length run.layout.links → (link_of run l).source ≡ Block b → is_used_up (link_of run l).max [] ≡ false
-
   -- what is known of a node of a run
   abbrev pub OfEachNode : ((run : Run W) → (ℕ → Ends) → ℕ → NodeState → Type 0) → Type 0
   OfEachNode P =

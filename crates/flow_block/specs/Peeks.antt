@@ -2,7 +2,7 @@
 use Rattle.std.specs.Prelude.{ℕ, ◌+◌, ◌^◌, ◌==◌, leb, ltb, Bool, not, ◌&&◌, ◌||◌, cond, List, [], ◌∷◌, length, Option, None, is_some, is_none, Result}
 use Rattle.flow_value.specs.declared.value.Value.{Value}
 use Rattle.flow_link.specs.Lists.{every}
-use Rattle.flow_link.specs.Plan.{has_work, is_broadcast}
+use Rattle.flow_link.specs.Plan.{has_work, is_broadcast, is_write_once}
 use Rattle.flow_intake.specs.Port.{PortState, coming}
 use Rattle.flow_intake.specs.Ended.{first_some, has_seen_completion, fault_at_ends}
 use Rattle.flow_intake.specs.PortLaw.{has_ended}
@@ -83,10 +83,15 @@ may_begin block =
 abbrev pub may_end : ℕ → BlockState → Bool
 may_end ticket block = is_none block.stopped && is_out ticket block.jobs
 
--- the port is open, completion came over a link, and no message is on its way into the port
+-- it takes one message in all, and has it
+abbrev pub is_written : BlockState → Bool
+is_written block = is_write_once block.kind && is_some block.copies.element
+
+-- the port is open, completion came over a link or the block has all that it takes, and no message is on its way into the port
 abbrev pub may_complete : ℕ → BlockState → Bool
 may_complete p block =
-    not (has_ended (port_at p block).refusing) && coming (port_at p block) == 0 && has_seen_completion (port_at p block).ends
+    not (has_ended (port_at p block).refusing) && coming (port_at p block) == 0
+    && (has_seen_completion (port_at p block).ends || is_written block)
 
 -- the fault by which it would stop: its own, or one that it has seen, once it could make nothing more of what it took
 abbrev pub fault_cause : BlockState → Option ℕ
@@ -107,9 +112,10 @@ next_fault block = cond (could_stop block && is_out_at_rest block) (fault_cause 
 abbrev pub is_held_up : BlockState → Bool
 is_held_up block = could_stop block && only_waits block.exits && is_some (fault_cause block)
 
--- its ports have completed; a join is complete, too, when a completed port has no message that waits for partners
+-- its ports have completed; a join is complete, too, when a completed port has no message that waits for partners, and what takes
+-- one message in all when it has that
 abbrev pub is_complete : BlockState → Bool
-is_complete block = cond (is_join block.kind) (is_join_complete block.ports) (all_ended block.ports)
+is_complete block = cond (is_join block.kind) (is_join_complete block.ports) (all_ended block.ports || is_written block)
 
 -- it is complete, and has nothing to work on and nothing to give
 abbrev pub has_all_given : BlockState → Bool

@@ -164,7 +164,8 @@ impl Node {
         self.block.open(port as usize, place, parcel);
     }
 
-    /// Makes the message the block's own that it has in hand from the link at this place, and marks that it took it.
+    /// Makes the message the block's own that it has in hand from the link at this place, and marks that it took it. A
+    /// block that takes one message in all copies it from then on.
     pub fn close(&mut self, port: u32, place: usize)
         requires port { port < length self.old.block.ports }
         requires place { place < length (port_at port self.old.block).ends }
@@ -174,6 +175,7 @@ impl Node {
         let link = self.block.in_link(port as usize, place);
         let value = self.block.close(port as usize, place);
         self.journal.push_reserved(Mark::Took(port, link, value));
+        self.block.copy_taken();
     }
 
     /// Looks at the phase of the link into it at this place.

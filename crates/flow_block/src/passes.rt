@@ -100,6 +100,7 @@ impl Node {
         let link = self.block.in_link(port as usize, place);
         let value = self.block.receive(port as usize, place, parcel);
         self.journal.push_reserved(Mark::Took(port, link, value));
+        self.block.copy_taken();
     }
 }
 

@@ -9,10 +9,10 @@ ghost use Rattle.flow_link.specs.declared.draft.BlockKind.TheVariants.{BatchedJo
 ghost use Rattle.flow_value.specs.declared.value.Value.TheVariants.{Int};
 ghost use Rattle.flow_block.specs.Block.{unit_weight, group_weight, takes_group, is_batched_join, row_count, gives_each, comes_back};
 ghost use Rattle.flow_block.specs.BlockFits.{AllGaveOut, weight_out};
-ghost use Rattle.flow_block.specs.Copies.{copies_left};
+ghost use Rattle.flow_block.specs.Copies.{copies_weight};
 ghost use Rattle.flow_block.specs.JournalFits.{ports_due};
 
-use crate::copies::copies_left;
+use crate::copies::copies_weight;
 use flow_intake::Intake;
 use flow_link::BlockKind;
 use flow_outlet::{Outlet, OutletFault};
@@ -203,13 +203,13 @@ pub(crate) fn bring_back(
     kind: BlockKind,
     head: &Value,
 )
-    requires { AllGaveOut (weight_out exits.old (copies_left copies.now)) ports.old.items }
+    requires { AllGaveOut (weight_out exits.old (copies_weight copies.now)) ports.old.items }
     ensures told { exits.new ≡ record exits.old { room = 0 } }
     ensures back { ports.new.items ≡ comes_back exits.old copies.now kind (Some head.now) ports.old.items }
 {
     let room = exits.room_back();
     if is_batched_join(kind) {
-        let weight = exits.weight() as u64 + copies_left(copies) as u64;
+        let weight = exits.weight() as u64 + copies_weight(copies) as u64;
         give_rows(ports, room, weight, head);
     } else {
         give_room(ports, room);

@@ -5,7 +5,7 @@ use Rattle.std.proofs.lemmas.Bool.{and_parts, leb-true, or_left, or_right}
 use Rattle.flow_value.specs.declared.value.Value.{Value}
 use Rattle.flow_link.specs.declared.draft.BlockDef.{BlockDef}
 use Rattle.flow_link.specs.declared.draft.BlockKind.{BlockKind}
-use Rattle.flow_link.specs.declared.draft.BlockKind.TheVariants.{Batch, Join, BatchedJoin}
+use Rattle.flow_link.specs.declared.draft.BlockKind.TheVariants.{Batch, Join, BatchedJoin, WriteOnce}
 use Rattle.flow_link.specs.declared.plan.LinkSource.{LinkSource}
 use Rattle.flow_link.specs.declared.plan.LinkSource.TheVariants.{Block, Input}
 use Rattle.flow_link.specs.declared.plan.LinkTarget.{LinkTarget}
@@ -14,7 +14,7 @@ use Rattle.flow_link.specs.Facts.{facts_in}
 use Rattle.flow_link.specs.Layout.{Layout}
 use Rattle.flow_link.specs.Lists.{below}
 use Rattle.flow_link.specs.LooksKeep.{fresh_source, fresh_target}
-use Rattle.flow_link.specs.Plan.{block_in, link_in, port_count, ports_by_kind, is_one_taker}
+use Rattle.flow_link.specs.Plan.{block_in, link_in, port_count, ports_by_kind, is_one_taker, is_write_once}
 use Rattle.flow_link.specs.Views.{SourceView}
 use Rattle.flow_link.specs.PlanFaults.{is_name, is_in, allows, input_rule, output_rule, capacity_rule, work_rule, lanes_rule, size_rule, ports_rule, greedy_rule, keys_fit, ranges_fit, options_fit}
 use Rattle.flow_link.specs.Trace.{InputTrace, nothing_posted}
@@ -88,6 +88,30 @@ some_size block fit batch =
     let most = and_parts (front && sized) ported all.0 in
     some_between block.size (size_required block.kind (is_some block.size) batch (and_parts front sized most.0).1)
     (and_parts (capacity && lanes) size outer.0).1
+
+-- what takes one message in all has no capacity
+capacity_free : (kind : BlockKind) (capacity : Option ℕ) → is_write_once kind ≡ true
+    → allows (capacity_rule kind) (is_some capacity) ≡ true → capacity ≡ None
+capacity_free WriteOnce None once e = refl
+capacity_free WriteOnce (Some n) once e = absurd (cc)
+capacity_free _ capacity once e = absurd (cc)
+
+third : (a b c d e f g h : Bool) → (a && b && c && d && e && f && g && h) ≡ true → c ≡ true
+third true true true d e f g h all = refl
+third true true false d e f g h all = absurd (cc)
+third true false c d e f g h all = absurd (cc)
+third false b c d e f g h all = absurd (cc)
+
+no_capacity : {W : Type 0} (block : BlockDef W) → options_fit block ≡ true → is_write_once block.kind ≡ true
+    → block.capacity ≡ None
+no_capacity block fit once =
+    let both = and_parts (is_name block.name && keys_fit block) (ranges_fit block) fit in
+    let keys = (and_parts (is_name block.name) (keys_fit block) both.0).1 in
+    capacity_free block.kind block.capacity once
+    (third (allows (input_rule block.kind) block.input) (allows (output_rule block.kind) block.output)
+    (allows (capacity_rule block.kind) (is_some block.capacity)) (allows (work_rule block.kind) (is_some block.work))
+    (allows (lanes_rule block.kind) (is_some block.lanes)) (allows (size_rule block.kind) (is_some block.size))
+    (allows (ports_rule block.kind) (is_some block.ports)) (allows (greedy_rule block.kind) (is_some block.greedy)) keys)
 
 -- each block has a port
 port_by_kind : (kind : BlockKind) (ports : Option ℕ) → is_in 2 3 ports ≡ true → 0 < ports_by_kind kind ports
@@ -188,7 +212,8 @@ fresh_keeps blocks inputs layout meaning runs posted count = record {
       (λ batch. some_size (block_in layout.blocks b) (runs.well_formed.options b here)
       (or_left (is_batch (block_in layout.blocks b).kind) (is_batched_join (block_in layout.blocks b).kind) batch))
       (λ batched. some_size (block_in layout.blocks b) (runs.well_formed.options b here)
-      (or_right (is_batch (block_in layout.blocks b).kind) (is_batched_join (block_in layout.blocks b).kind) batched)));
+      (or_right (is_batch (block_in layout.blocks b).kind) (is_batched_join (block_in layout.blocks b).kind) batched))
+      (no_capacity (block_in layout.blocks b) (runs.well_formed.options b here)));
   inputs = λ b here is.
       holds_mapped InputLaw fresh_input posted (input_place layout b) no_input
       (inputs.fresh nothing_posted) inputs.fresh;

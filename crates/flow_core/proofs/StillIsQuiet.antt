@@ -48,7 +48,7 @@ use Rattle.flow_core.specs.Events.{NetEvent, is_of_source, peek_by, source_peek,
 use Rattle.flow_core.specs.Keeps.{IsRun, NetKeeps}
 use Rattle.flow_core.specs.State.{NetState, node_at, input_at, ends_of, source_from, target_from, run_of_net}
 use Rattle.flow_core.specs.Statements.{IsStill, StillIsQuiet}
-use Rattle.flow_core.proofs.KeptIsLawful.{input_law, is_input, is_node, parts_keep, port_of_link}
+use Rattle.flow_core.proofs.KeptIsLawful.{input_law, is_input, is_node, parts_keep, port_of_link, may_carry}
 use Rattle.flow_core.proofs.LinksTakeFreely.{takes_freely}
 use Rattle.flow_core.proofs.NextIsAllowed.{of_source, of_target, next_is_allowed}
 use Rattle.flow_core.proofs.StagesShow.{source_shows, source_shown, target_shows, target_shown}
@@ -57,13 +57,6 @@ use Rattle.flow_core.proofs.StagesShow.{source_shows, source_shown, target_shows
 none_where : {A : Type 0} (x : Option A) → ((a : A) → x ≡ Some a → ⊥) → x ≡ None
 none_where None h = refl
 none_where (Some a) h = absurd (h a refl)
-
--- a link whose number of messages is in its range may carry one
-may_carry : (max : Option ℕ) → is_in 1 2147483647 max ≡ true → is_used_up max [] ≡ false
-may_carry None e = refl
-may_carry (Some max) e =
-    let some = leb-true 1 max (and_parts (leb 1 max) (leb max 2147483647) e).0 in
-    number_below 0 max (omega (arith, some))
 
 -- No end asks for a message or keeps one where nothing reserves
 

@@ -1,5 +1,5 @@
 -- A move of one end of a link leaves the other end where it is, also where both are of one block.
-use Rattle.std.proofs.Common.{◌≡◌, ℕ, ◌<◌, ◌-◌, cond, length, List, Option, Some, None, Result, Ok, [], Bool, true, false, refl, sym, subst}
+use Rattle.std.proofs.Common.{◌≡◌, ℕ, ◌<◌, ◌-◌, cond, length, List, Option, Some, None, Result, Ok, [], Bool, true, false, refl, sym, subst, ap, ◌∙◌}
 use Rattle.std.proofs.lemmas.List.{length-set, length-map}
 use Rattle.flow_value.specs.declared.value.Value.{Value}
 use Rattle.flow_link.specs.declared.phase.Move.{Move}
@@ -9,10 +9,14 @@ use Rattle.flow_link.specs.declared.plan.LinkSource.TheVariants.{Block, Input}
 use Rattle.flow_link.specs.declared.plan.LinkTarget.{LinkTarget}
 use Rattle.flow_link.specs.declared.plan.LinkTarget.TheVariants.{Port, Exit}
 use Rattle.flow_intake.specs.Port.{PortState}
-use Rattle.flow_outlet.specs.Outlet.{head_of, gives}
+use Rattle.flow_outlet.specs.Outlet.{head_of, gives, OutletState}
 use Rattle.flow_link.specs.Plan.{is_one_taker}
 use Rattle.flow_block.specs.Copies.{CopyCall, copies_left, after_copy}
-use Rattle.flow_block.specs.Node.{NodeState, hand_at, gives_from, takes_in, copies_by}
+use Rattle.flow_block.specs.Node.{NodeState, with_block, hand_at, gives_from, takes_in, copies_by, holds_in}
+use Rattle.flow_spread.specs.End.{takes_up}
+use Rattle.flow_intake.specs.Calls.{first_of}
+use Rattle.flow_block.proofs.CopiesTaken.{taken_keeps}
+use Rattle.flow_block.specs.Block.{BlockState, copies_next, held_by}
 use Rattle.flow_block.specs.NodeKeeps.{InAt, any_stage}
 use Rattle.flow_block.proofs.PortsChange.{port_of_map}
 use Rattle.flow_core.specs.Events.{out_call, copy_call, source_call, in_call, is_of_source, slot_after, with_line}
@@ -74,10 +78,21 @@ exit_stays result k next node p j true there = out_stays result k next node p j 
 exit_stays result k next node p j false there = copy_stays result k next node p j there
 
 -- so do all ends of links out of it when it takes
-takes_stay : (p k : ℕ) (hand : Option Value) (node : NodeState)
-    → exit_count (takes_in p k hand node) ≡ exit_count node
-takes_stay p k None node = refl
-takes_stay p k (Some value) node = refl
+held_stay : (p k : ℕ) (hand : Option Value) (node : NodeState) → exit_count (holds_in p k hand node) ≡ exit_count node
+held_stay p k None node = refl
+held_stay p k (Some value) node = refl
+
+first_stays : (first : Option Value) (node : NodeState) → exit_count (with_block (copies_next first node.block) node) ≡ exit_count node
+first_stays None node = refl
+first_stays (Some value) node =
+    ap (cond (is_one_taker node.block.kind) (length node.block.exits.ends)) (length-map node.block.copies.ends (takes_up value))
+
+takes_stay : (p k : ℕ) (hand : Option Value) (node : NodeState) → exit_count (takes_in p k hand node) ≡ exit_count node
+takes_stay p k hand node =
+    let held = holds_in p k hand node in
+    let kept = held_stay p k hand node in
+    taken_keeps (λ new. exit_count (with_block new held) ≡ exit_count node) held.block kept
+    (λ at_once. first_stays (first_of (held_by held.block)) held ∙ kept)
 
 opens_stay : (result : Value → Result (List Value) ℕ) (p k : ℕ) (slot : Option Value) (node : NodeState)
     → exit_count (called result (in_call p k slot move.Open) node) ≡ exit_count node
