@@ -64,7 +64,7 @@ module _ {W : Type 0} (layout : Layout W) (meaning : ℕ → Value → Result (L
 -- a message that is handed on
 module _ {W : Type 0} (layout : Layout W) (meaning : ℕ → Value → Result (List Value) ℕ) (old : NetState) (b : ℕ) where
   abbrev lacks_made : (Value → Result (List Value) ℕ) → Bool
-  lacks_made makes = lacks_next makes (node_at old b).block
+  lacks_made makes = lacks_next makes (node_at old b)
 
   pub unmade_may_not : ((makes : Value → Result (List Value) ℕ) → lacks_made makes ≡ true)
       → MayHappen layout meaning (NetEvent.make b) old → ⊥
