@@ -22,17 +22,15 @@ use Rattle.flow_intake.specs.PortLaw.{has_ended as has_port_ended}
 use Rattle.flow_intake.specs.Calls.{message_of, is_offered, is_posted, is_postponed, is_arrived, may_be_refused, first_of, refused_by, wants, turns_down, postpones, refuses, consumes, opens, closes, looks as port_looks, takes_next, gives_room, port_closes, port_fails}
 use Rattle.flow_intake.proofs.CountsOfEnds.{hand_comes}
 use Rattle.flow_outlet.specs.Outlet.{OutletState, is_empty, head_of, gives, prepares, offers, denies, withdraws, ends_link, looks as exit_looks, is_at_rest, end_at, stage_at}
-use Rattle.flow_block.specs.Copies.{CopyCall, after_copy, copies_left, copy_place, copies_weight}
-use Rattle.flow_block.proofs.CopiesIdle.{copies_at, no_copy_at, once_copies}
+use Rattle.flow_block.specs.Copies.{CopyCall, after_copy, copies_weight}
+use Rattle.flow_block.proofs.CopiesIdle.{copies_at, once_copies}
 use Rattle.flow_block.specs.Block.{BlockState, port_in, port_at, with_port, with_jobs, held_by, made_of, fails, puts_out, yields, keeps_results, makes_of, is_batch, takes_group, makes_row, gives_out, stops_by, is_join, makes_tuple, copies_next, with_copies, is_batched_join}
 use Rattle.flow_block.specs.Jobs.{JobsState, begins, works_off}
-use Rattle.flow_block.specs.Node.{NodeState, NodeCall, takes_in, gives_from, in_link_at, out_link_at, copies_by, order_in, holds_in}
+use Rattle.flow_block.specs.Node.{NodeState, NodeCall, gives_from, in_link_at, out_link_at, copies_by, order_in, holds_in}
 use Rattle.flow_block.specs.NodeKeeps.{EndsKept, MayCall, InAt, MayGive, MayCompletePort, after_call, MayCopy}
 use Rattle.flow_block.specs.NodeLaw.{NodeLaw, ShapeLaw, EndsLaw, has_made_all, is_fault_seen, stops_at, outcome_in, have_completed, has_its_message}
 use Rattle.flow_block.specs.Peeks.{fault_at_ports, holds_nothing, has_group, is_worked_off, next_fault, may_finish, all_ended, has_group_of_ports, is_written}
-use Rattle.flow_link.specs.Plan.{is_broadcast, is_write_once}
-use Rattle.flow_link.specs.JournalGrows.{taken_by_mark}
-use Rattle.flow_link.proofs.JournalsGrow.{took_more}
+use Rattle.flow_link.specs.Plan.{is_write_once}
 use Rattle.flow_intake.specs.Ended.{has_seen_completion}
 use Rattle.flow_block.proofs.CopiesTaken.{taken_in_keeps, held_stopped}
 use Rattle.flow_block.proofs.WrittenOnce.{written_tells}
