@@ -29,7 +29,7 @@ use Rattle.flow_block.proofs.CopierHolds.{no_exit_at, ports_change, port_changes
 use Rattle.flow_block.proofs.FaultsSeen.{StaysSeen, stays_at_ends, stays_at_ports, seen_by_looks, unseen_where}
 use Rattle.flow_block.proofs.GoingOn.{may_work_tells, may_fault_tells, may_finish_tells}
 use Rattle.flow_block.proofs.JournalTells.{gave_same, took_here}
-use Rattle.flow_block.proofs.Joins.{broadcast_unjoined, batched_is, broadcast_at_one, broadcast_unbatched, copies_unjoined, copies_at_one}
+use Rattle.flow_block.proofs.Joins.{broadcast_unjoined, batched_is, broadcast_unbatched, copies_unjoined, copies_at_one}
 use Rattle.flow_block.proofs.KindsBuilt.{broadcast_single, makes_by, next_by, copying_single}
 
 free_to_copy : (group some free : Bool) → cond false group (some && (not true || free)) ≡ true → free ≡ true

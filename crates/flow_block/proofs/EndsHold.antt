@@ -1,5 +1,5 @@
 -- Each call keeps what a node says of how it ends.
-use Rattle.std.proofs.Common.{◌≡◌, ℕ, ◌<◌, leb, ltb, ◌==◌, ◌⊎◌, cond, not, ◌&&◌, ◌||◌, Bool, true, false, List, [], ◌∷◌, ◌++◌, length, set, map, Option, Some, None, is_some, Result, Ok, Err, refl, ap, sym, ◌∙◌, inl, inr, ⊎_elim, arith, eq-eqb, eqb-true, subst, suc, ap₂, ◌-◌}
+use Rattle.std.proofs.Common.{◌≡◌, ℕ, ◌<◌, leb, ltb, ◌==◌, ◌⊎◌, cond, not, ◌&&◌, ◌||◌, Bool, true, false, List, [], ◌∷◌, ◌++◌, length, set, map, Option, Some, None, is_some, Result, Ok, Err, refl, ap, sym, ◌∙◌, inl, inr, ⊎_elim, arith, eq-eqb, eqb-true, subst, ap₂, ◌-◌}
 use Rattle.std.proofs.lemmas.Bool.{or_cases, ne_eqb, and_from, or_left, or_right, leb-false, lt-ltb, and_parts, false_from_ne_true}
 use Rattle.std.proofs.lemmas.List.{length-map, length-set}
 use Rattle.flow_value.specs.declared.value.Value.{Value}
@@ -22,17 +22,15 @@ use Rattle.flow_intake.specs.PortLaw.{has_ended as has_port_ended}
 use Rattle.flow_intake.specs.Calls.{message_of, is_offered, is_posted, is_postponed, is_arrived, may_be_refused, first_of, refused_by, wants, turns_down, postpones, refuses, consumes, opens, closes, looks as port_looks, takes_next, gives_room, port_closes, port_fails}
 use Rattle.flow_intake.proofs.CountsOfEnds.{hand_comes}
 use Rattle.flow_outlet.specs.Outlet.{OutletState, is_empty, head_of, gives, prepares, offers, denies, withdraws, ends_link, looks as exit_looks, is_at_rest, end_at, stage_at}
-use Rattle.flow_block.specs.Copies.{CopyCall, after_copy, copies_left, copy_place, copies_weight}
-use Rattle.flow_block.proofs.CopiesIdle.{copies_at, no_copy_at, once_copies}
+use Rattle.flow_block.specs.Copies.{CopyCall, after_copy, copies_weight}
+use Rattle.flow_block.proofs.CopiesIdle.{copies_at, once_copies}
 use Rattle.flow_block.specs.Block.{BlockState, port_in, port_at, with_port, with_jobs, held_by, made_of, fails, puts_out, yields, keeps_results, makes_of, is_batch, takes_group, makes_row, gives_out, stops_by, is_join, makes_tuple, copies_next, with_copies, is_batched_join}
 use Rattle.flow_block.specs.Jobs.{JobsState, begins, works_off}
-use Rattle.flow_block.specs.Node.{NodeState, NodeCall, takes_in, gives_from, in_link_at, out_link_at, copies_by, order_in, holds_in}
+use Rattle.flow_block.specs.Node.{NodeState, NodeCall, gives_from, in_link_at, out_link_at, copies_by, order_in, holds_in}
 use Rattle.flow_block.specs.NodeKeeps.{EndsKept, MayCall, InAt, MayGive, MayCompletePort, after_call, MayCopy}
 use Rattle.flow_block.specs.NodeLaw.{NodeLaw, ShapeLaw, EndsLaw, has_made_all, is_fault_seen, stops_at, outcome_in, have_completed, has_its_message}
 use Rattle.flow_block.specs.Peeks.{fault_at_ports, holds_nothing, has_group, is_worked_off, next_fault, may_finish, all_ended, has_group_of_ports, is_written}
-use Rattle.flow_link.specs.Plan.{is_broadcast, is_write_once}
-use Rattle.flow_link.specs.JournalGrows.{taken_by_mark}
-use Rattle.flow_link.proofs.JournalsGrow.{took_more}
+use Rattle.flow_link.specs.Plan.{is_write_once}
 use Rattle.flow_intake.specs.Ended.{has_seen_completion}
 use Rattle.flow_block.proofs.CopiesTaken.{taken_in_keeps, held_stopped}
 use Rattle.flow_block.proofs.WrittenOnce.{written_tells}
@@ -43,8 +41,8 @@ use Rattle.flow_block.specs.Planned.{block_makes}
 use Rattle.flow_block.proofs.FaultsSeen.{sees_at, seen_at_ports, cause_tells}
 use Rattle.flow_block.proofs.GoingOn.{open_goes_on, away_goes_on, rest_stays, wanted_away, wish_away, waiting_away, look_stays_home, may_work_tells, may_complete_tells, may_fault_tells, may_finish_tells}
 use Rattle.flow_block.proofs.JournalTells.{goes_on, not_faulted_so, outcome_more, ended_no_more, complete_where, ended_by_complete, ended_by_fault, ended_by_done}
-use Rattle.flow_group.specs.Tuple.{has_run_dry, has_tuple, is_join_complete, all_ended as ports_ended}
-use Rattle.std.specs.List.{list_any}
+use Rattle.flow_group.specs.Tuple.{has_tuple, is_join_complete}
+use Rattle.flow_block.proofs.JoinsEnd.{join_has_ended}
 use Rattle.flow_block.proofs.KindsBuilt.{makes_by, next_by}
 use Rattle.flow_block.proofs.PortEnds.{PortEnds, StageGoes, end_moves, port_closed, port_failed, unseen_goes, refuses_so, look_goes, completes_by, completes_tells, unwritten_before, completes_more, fewer_complete, seen_unless}
 use Rattle.flow_block.proofs.PortsChange.{kept_at_one, kept_at_all, each_after_one, each_after_all}
@@ -86,33 +84,6 @@ group_as : (size : ℕ) (journal : List Mark) (ports after : List PortState) →
     ≡ has_group_at size (are_complete (length ports) journal) ports
 group_as size journal ports after count waits =
     ap₂ (λ (many : ℕ) (ended : Bool). ltb 0 many && (leb size many || ended)) waits (ap (λ (n : ℕ). are_complete n journal) count)
-
--- of a complete join one port has ended
-record HasEnded (ports : List PortState) : Type 0 where
-  place : ℕ
-  there : place < length ports
-  ended : has_port_ended (port_in ports place).refusing ≡ true
-
-one_on : (port : PortState) (ports : List PortState) → HasEnded ports → HasEnded (port ∷ ports)
-one_on port ports has = record { place = suc has.place; there = omega (arith, has.there); ended = has.ended }
-
-dry_has_ended : (ports : List PortState) → list_any has_run_dry ports ≡ true → HasEnded ports
-dry_has_ended [] e = absurd (cc)
-dry_has_ended (port ∷ ports) e =
-    ⊎_elim
-    (λ here. record { place = 0; there = omega arith; ended = (and_parts (has_port_ended port.refusing) (is_empty port.waiting) here).0 })
-    (λ later. one_on port ports (dry_has_ended ports later))
-    (or_cases (has_run_dry port) (list_any has_run_dry ports) e)
-
-all_have_ended : (ports : List PortState) → 0 < length ports → ports_ended ports ≡ true → HasEnded ports
-all_have_ended [] there e = absurd (omega (arith, there))
-all_have_ended (port ∷ ports) there e =
-    record { place = 0; there = omega arith; ended = (and_parts (has_port_ended port.refusing) (ports_ended ports) e).0 }
-
-join_has_ended : (ports : List PortState) → 0 < length ports → is_join_complete ports ≡ true → HasEnded ports
-join_has_ended ports there e =
-    ⊎_elim (λ all. all_have_ended ports there all) (λ dry. dry_has_ended ports dry)
-    (or_cases (ports_ended ports) (list_any has_run_dry ports) e)
 
 -- the same ports have completed
 every_same : (test other : ℕ → Bool) (ps : List ℕ) → ((p : ℕ) → test p ≡ other p) → every test ps ≡ every other ps

@@ -26,9 +26,9 @@ use Rattle.flow_outlet.proofs.OffersInOrder.{offers_in_order}
 use Rattle.flow_outlet.proofs.OneEndChanges.{each_set}
 use Rattle.flow_link.specs.Plan.{is_broadcast}
 use Rattle.flow_spread.specs.Spread.{puts}
-use Rattle.flow_block.specs.Copies.{after_copy, copies_left, copies_weight}
+use Rattle.flow_block.specs.Copies.{after_copy, copies_weight}
 use Rattle.flow_block.specs.Block.{BlockState, port_at, copies_next, unit_weight, made_of, keeps_results, yields, makes_of, put_by_kind, put_of, values_of_result, row_of, next_group, group_weight, takes_group, makes_row, is_batch, gives_out, stops_by, held_by, is_join, makes_tuple, comes_back, is_batched_join}
-use Rattle.flow_block.specs.Node.{NodeState, NodeCall, hand_at, takes_in, gives_from, order_in, next_group_in, holds_in}
+use Rattle.flow_block.specs.Node.{NodeState, NodeCall, hand_at, gives_from, order_in, next_group_in, holds_in}
 use Rattle.flow_block.specs.NodeLaw.{ExitsLaw, is_kept}
 use Rattle.flow_block.specs.NodeKeeps.{MayCall, after_call, ExitsKept}
 use Rattle.flow_block.specs.Peeks.{fault_at_ports, is_pending}

@@ -24,14 +24,14 @@ use Rattle.flow_outlet.specs.Outlet.{is_empty, fresh_outlet}
 use Rattle.flow_spread.specs.Copied.{Course}
 use Rattle.flow_spread.specs.End.{fresh_end as fresh_copy, end_in as copy_in}
 use Rattle.flow_spread.specs.Spread.{fresh_spread}
-use Rattle.flow_block.specs.Block.{port_in, held_by, is_batch}
+use Rattle.flow_block.specs.Block.{port_in, held_by}
 use Rattle.flow_block.proofs.RoomFits.{weighs_fresh}
 use Rattle.flow_block.specs.Copier.{Copier, CopiedOver}
 use Rattle.flow_block.specs.Copies.{shared_rules, copied_rules, fresh_copies, copies_weight}
 use Rattle.flow_block.specs.Fresh.{FreshInOrder}
 use Rattle.flow_block.specs.NodeLaw.{is_kept, MakesAs, WeighsAs, PortAsPlanned, GaveOver, weighed, rows_weighed, partly_weighed, places_out}
 use Rattle.flow_block.specs.Peeks.{is_pending}
-use Rattle.flow_block.specs.Planned.{block_makes, links_to, links_from, rule_of, port_of_plan, fresh_node, lanes_of, size_of, room_of}
+use Rattle.flow_block.specs.Planned.{block_makes, links_to, links_from, rule_of, port_of_plan, fresh_node, room_of}
 use Rattle.flow_block.proofs.FreshGroups.{fresh_tuples}
 use Rattle.flow_block.proofs.PlacesOfCopies.{rule_at_end}
 use Rattle.flow_block.proofs.EndsTell.{none_come}

@@ -22,7 +22,7 @@ use Rattle.flow_link.specs.declared.draft.BlockKind.TheVariants.{Join, BatchedJo
 use Rattle.flow_group.specs.Tuple.{has_tuple}
 use Rattle.flow_block.specs.Block.{BlockState, port_at, held_by, is_batch, is_join, is_batched_join}
 use Rattle.flow_block.specs.Copies.{copies_left}
-use Rattle.flow_block.specs.Peeks.{could_stop, is_out_at_rest, is_copied_out, may_copy, has_group, has_next, may_work, may_begin, may_make, may_complete, next_fault, may_finish, fault_cause, nothing_comes, holds_nothing, is_complete, has_group_of_ports, all_ended, is_written}
+use Rattle.flow_block.specs.Peeks.{could_stop, is_out_at_rest, is_copied_out, may_copy, has_group, has_next, may_work, may_begin, may_make, may_complete, next_fault, may_finish, fault_cause, nothing_comes, holds_nothing, is_complete, has_group_of_ports, is_written}
 use Rattle.flow_block.specs.NodeLaw.{EndsLaw, outcome_in}
 use Rattle.flow_block.proofs.JournalTells.{open_tells}
 use Rattle.flow_block.proofs.TestsTell.{none_is, none_unless}

@@ -1,5 +1,5 @@
 -- What a run tells of a batched join's load and rest, and how one begins.
-use Rattle.std.proofs.Common.{◌≡◌, ℕ, zero, suc, ◌+◌, ◌<◌, ◌==◌, leb, ltb, not, cond, Bool, true, false, ◌&&◌, ◌||◌, List, [], ◌∷◌, length, map, sum, is_some, refl, ap, ap₂, sym, ◌∙◌, arith}
+use Rattle.std.proofs.Common.{◌≡◌, ℕ, zero, suc, ◌+◌, ◌<◌, leb, ltb, not, Bool, true, false, ◌&&◌, ◌||◌, List, [], ◌∷◌, length, map, sum, is_some, refl, ap, ap₂, sym, ◌∙◌, arith}
 use Rattle.std.proofs.lemmas.Bool.{and_from, ltb-false, lt-ltb, leb-false}
 use Rattle.std.proofs.lemmas.List.Sums.{sum-map, sum_by-cons}
 use Rattle.flow_value.specs.declared.value.Value.{Value}
@@ -12,8 +12,6 @@ use Rattle.flow_link.specs.Quiet.{held_in_all, holds_nothing, all_completed, has
 use Rattle.flow_link.specs.Trace.{Run, has_complete, held_at}
 use Rattle.flow_link.specs.declared.trace.Mark.{Mark}
 use Rattle.flow_intake.specs.Port.{PortState}
-use Rattle.flow_spread.specs.End.{owes_it}
-use Rattle.flow_spread.proofs.CountsOfEnds.{none_counts}
 use Rattle.flow_block.specs.Block.{port_in, port_at}
 use Rattle.flow_block.specs.Copies.{copies_weight}
 use Rattle.flow_block.specs.GroupsLaw.{are_complete, LoadByPort}

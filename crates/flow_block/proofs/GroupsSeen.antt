@@ -22,7 +22,7 @@ use Rattle.flow_group.proofs.GroupsKeep.{groups_kept}
 use Rattle.flow_block.specs.Block.{port_at}
 use Rattle.flow_block.specs.GroupsKeep.{MayCallBatched, after_at_batched}
 use Rattle.flow_block.specs.GroupsSeen.{WholeStand, BatchedJoinsAreParts}
-use Rattle.flow_block.specs.Node.{NodeState, NodeCall, takes_in, gives_from, in_link_at, out_link_at, holds_in}
+use Rattle.flow_block.specs.Node.{NodeState, NodeCall, gives_from, in_link_at, out_link_at, holds_in}
 use Rattle.flow_block.specs.Planned.{block_makes}
 use Rattle.flow_block.specs.TuplesSeen.{IsPortsOf}
 use Rattle.flow_block.proofs.GroupsOfRows.{none_before, passes_before, every_of}

@@ -28,7 +28,7 @@ use Rattle.flow_group.proofs.TuplesKeep.{held_by_take}
 use Rattle.flow_block.specs.Block.{BlockState, port_at, with_port, stops_by}
 use Rattle.flow_block.specs.Groups.{makes_group}
 use Rattle.flow_block.specs.GroupsKeep.{order_taken, order_after, after_at_batched, MayTake, MayCallBatched, GroupsStand}
-use Rattle.flow_block.specs.Node.{NodeState, NodeCall, takes_in, gives_from, in_link_at, out_link_at, holds_in}
+use Rattle.flow_block.specs.Node.{NodeState, NodeCall, gives_from, in_link_at, out_link_at, holds_in}
 use Rattle.flow_block.specs.Planned.{block_makes}
 use Rattle.flow_block.proofs.PortsChange.{kept_at_one, kept_at_all}
 use Rattle.flow_block.proofs.RoomBack.{length_back, kept_back}

@@ -21,19 +21,19 @@ use Rattle.flow_link.proofs.OneMoreMark.{took_no_more, took_by_took, took_by_gav
 use Rattle.flow_intake.specs.Port.{PortState, fresh_port, hand_in}
 use Rattle.flow_intake.specs.Calls.{first_of, wants, turns_down, postpones, refuses, consumes, opens, closes, looks as port_looks, takes_next, gives_room, port_closes, port_fails}
 use Rattle.flow_outlet.specs.Outlet.{OutletState, head_of, gives}
-use Rattle.flow_link.specs.Plan.{is_broadcast, is_one_taker}
-use Rattle.flow_block.specs.Copies.{after_copy, copy_place}
-use Rattle.flow_block.specs.Block.{BlockState, port_at, with_port, begins, held_by, made_of, yields, keeps_results, makes_of, is_batch, makes_row, stops_by, makes_tuple, copies_it, copies_next, has_ports, is_join}
+use Rattle.flow_link.specs.Plan.{is_one_taker}
+use Rattle.flow_block.specs.Copies.{after_copy}
+use Rattle.flow_block.specs.Block.{BlockState, port_at, with_port, begins, held_by, made_of, yields, keeps_results, makes_of, is_batch, makes_row, stops_by, makes_tuple, copies_it, copies_next, has_ports}
 use Rattle.flow_block.proofs.CopiesLeave.{took_by_copy, held_by_copy}
 use Rattle.flow_block.specs.Jobs.{Slot, is_front_back, AreOf}
-use Rattle.flow_block.specs.Node.{NodeState, NodeCall, takes_in, gives_from, copies_by, in_link_at, out_link_at, makes_next_group, holds_in}
+use Rattle.flow_block.specs.Node.{NodeState, NodeCall, gives_from, copies_by, in_link_at, out_link_at, makes_next_group, holds_in}
 use Rattle.flow_block.proofs.CopiesTaken.{taken_in_keeps, makes_many}
 use Rattle.flow_block.proofs.CopiesIdle.{broadcast_copies, once_copies}
 use Rattle.flow_block.specs.NodeKeeps.{JobsKept, MayCall, after_call}
 use Rattle.flow_block.specs.NodeLaw.{NodeLaw, JobsLaw}
 use Rattle.flow_block.specs.Peeks.{may_work, may_begin}
 use Rattle.flow_block.specs.Planned.{block_makes}
-use Rattle.flow_block.proofs.KindsBuilt.{is_of_one, of_one, has_one_port, batch_idle, makes_by, broadcast_idle, next_by, copying_idle}
+use Rattle.flow_block.proofs.KindsBuilt.{is_of_one, of_one, has_one_port, batch_idle, makes_by, next_by, copying_idle}
 use Rattle.flow_block.proofs.PortsChange.{kept_at_one, kept_at_all}
 use Rattle.flow_block.proofs.Joins.{join_idle, ports_idle, others_at_one, batched_idle}
 use Rattle.flow_block.proofs.RoomBack.{kept_back}

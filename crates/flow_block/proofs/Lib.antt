@@ -49,6 +49,7 @@ pub mod JobsRecorded
 pub mod JobsRest
 pub mod JournalTells
 pub mod Joins
+pub mod JoinsEnd
 pub mod KindsBuilt
 pub mod LoadHolds
 pub mod MakesHold

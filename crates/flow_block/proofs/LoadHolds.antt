@@ -23,8 +23,8 @@ use Rattle.flow_outlet.specs.Fits.{weight_of}
 use Rattle.flow_outlet.specs.Outlet.{OutletState, head_of, groups_with, groups_after, room_with, gives, prepares, offers, denies, withdraws, ends_link, looks as exit_looks, is_empty}
 use Rattle.flow_outlet.proofs.OutletFits.{weight_stays, room_put}
 use Rattle.flow_link.specs.Plan.{is_broadcast}
-use Rattle.flow_block.specs.Copies.{copy_place, CopyCall, after_copy, copies_left, copies_weight}
-use Rattle.flow_block.proofs.CopiesIdle.{copies_at, broadcast_copies, no_copy_at, once_copies}
+use Rattle.flow_block.specs.Copies.{copy_place, CopyCall, after_copy, copies_weight}
+use Rattle.flow_block.proofs.CopiesIdle.{copies_at, broadcast_copies, once_copies}
 use Rattle.flow_block.proofs.RoomBack.{back_plain, kept_back, each_after_back}
 use Rattle.flow_block.specs.Block.{BlockState, port_in, port_at, with_port, with_jobs, held_by, unit_weight, made_of, puts_out, fails, yields, keeps_results, makes_of, is_batch, row_of, next_group, group_weight, takes_group, makes_row, stops_by, is_join, makes_tuple, copies_next, is_batched_join}
 use Rattle.flow_block.proofs.CopiesTaken.{taken_in_keeps, makes_many}
@@ -47,6 +47,7 @@ use Rattle.flow_block.proofs.Joins.{join_alone, join_single, join_weighs, batch_
 use Rattle.flow_block.proofs.ShapeHolds.{same_kind}
 use Rattle.flow_group.specs.Tuple.{has_first, has_tuple, tuple_of}
 use Rattle.std.proofs.lemmas.Bool.{and_parts}
+use Rattle.flow_link.proofs.ListTests.{never_both}
 
 -- of a block that copies nothing is weighed that it put out
 weighs_copied : (result : Value → Result (List Value) ℕ) (kind : BlockKind) (capacity : Option ℕ)

@@ -23,17 +23,17 @@ use Rattle.flow_outlet.specs.Outlet.{OutletState, first_of as first_left, rest_o
 use Rattle.flow_link.proofs.ListTests.{never_both}
 use Rattle.flow_link.specs.Plan.{is_one_taker}
 use Rattle.flow_block.specs.Copies.{copy_place, CopyCall, after_copy}
-use Rattle.flow_block.proofs.CopiesIdle.{copies_at, broadcast_copies, no_copy_at, once_copies}
+use Rattle.flow_block.proofs.CopiesIdle.{copies_at, broadcast_copies, once_copies}
 use Rattle.flow_block.specs.Block.{BlockState, port_at, with_port, with_jobs, held_by, made_of, puts_out, put_by_kind, yields, keeps_results, makes_of, is_batch, row_of, takes_group, makes_row, stops_by, is_join, makes_tuple, copies_next, has_ports, is_batched_join}
 use Rattle.flow_block.proofs.CopiesLeave.{held_by_copy}
 use Rattle.flow_block.specs.Jobs.{JobsState, begins, works_off}
-use Rattle.flow_block.specs.Node.{NodeState, NodeCall, takes_in, gives_from, copies_by, in_link_at, out_link_at, order_in, holds_in}
+use Rattle.flow_block.specs.Node.{NodeState, NodeCall, gives_from, copies_by, in_link_at, out_link_at, order_in, holds_in}
 use Rattle.flow_block.proofs.CopiesTaken.{taken_in_keeps, makes_many}
 use Rattle.flow_block.specs.NodeKeeps.{MakesKept, MayCall, after_call}
 use Rattle.flow_block.specs.NodeLaw.{NodeLaw, MakesLaw, MakesAs, FaultsOn}
 use Rattle.flow_block.specs.Planned.{block_makes}
 use Rattle.flow_block.proofs.GoingOn.{may_work_tells}
-use Rattle.flow_block.proofs.Joins.{join_makes, ports_make, ports_idle, batch_at_one, others_at_one, batched_is, join_idle, batch_unjoined}
+use Rattle.flow_block.proofs.Joins.{join_makes, ports_make, ports_idle, batch_at_one, others_at_one, batched_is}
 use Rattle.flow_block.proofs.KindsBuilt.{is_of_one, of_one, has_one_port, makes_by, next_by, copying_idle}
 use Rattle.flow_block.proofs.PortsChange.{kept_at_one, kept_at_all}
 use Rattle.flow_block.proofs.RoomBack.{kept_back}

@@ -50,7 +50,7 @@ use Rattle.flow_block.proofs.CopierOf.{copier_seen, makes_copies}
 use Rattle.flow_block.proofs.CopiesIdle.{left_is_shared, view_is_shared, once_copies}
 use Rattle.flow_block.proofs.EndsTell.{ended_complete, ended_fault, ended_plain, used_up_told, ended_stage, refused_told, spoken_is_out, refusal_told, coming_told, completion_told, fault_told}
 use Rattle.flow_block.proofs.JournalTells.{stopped_tells, every_mark, complete_own, done_outcome, done_marked, fault_marked, passed_by}
-use Rattle.flow_block.proofs.KindsBuilt.{by_kind, planned_kept, room_kept, within_capacity}
+use Rattle.flow_block.proofs.KindsBuilt.{by_kind, planned_kept, within_capacity}
 use Rattle.flow_block.proofs.NodesSeen.{held_is, none_held, own_fault_is, load_is, is_joining, join_seen, is_grouping, as_ports, complete_by_port}
 use Rattle.flow_block.proofs.PlacesOfLinks.{IsEndIn, HasEndOut, end_in_is, end_in_of, end_out_is, end_out_of, count_of_links, there_at_port, there_at_block, source_there}
 use Rattle.flow_block.proofs.TestsTell.{some_tells, every_tells}

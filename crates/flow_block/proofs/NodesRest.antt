@@ -16,14 +16,14 @@ use Rattle.flow_link.specs.Facts.{facts_in}
 use Rattle.flow_link.specs.LinkOk.{IsWithin}
 use Rattle.flow_link.specs.Lists.{every, below, is_empty as is_none_left}
 use Rattle.flow_link.specs.Making.{load, group_size}
-use Rattle.flow_link.specs.Plan.{port_count, is_broadcast, is_one_taker, is_reserving, ports_by_kind, is_write_once}
+use Rattle.flow_link.specs.Plan.{port_count, is_broadcast, is_one_taker, is_reserving, is_write_once}
 use Rattle.flow_link.specs.Quiet.{has_served_all, first_of as first_left, has_this_fault, faulted_by_itself, rests, rests_as, held_in_all, holds_nothing as run_holds_nothing, all_completed, has_no_group, is_done_if_can, head_as, head_from, admits_head, is_full_with}
 use Rattle.flow_link.specs.RestsByParts.{OutletRests, KindRests, NodeRests, is_over as is_view_over, is_postponed as is_view_postponed, has_seen_end, has_to_wait, lacks_an_offer}
 use Rattle.flow_link.specs.Stage.{source_stage_of, target_stage_of}
 use Rattle.flow_link.specs.Trace.{BlockTrace, Run, gave_over, given_by, given_over, took_at, has_complete, has_fault, has_ended, is_faulted, is_done, is_used_up, is_cut as is_run_cut, block_of, link_of, marks_of, held_at, left_at, ports_of}
 use Rattle.flow_link.specs.Views.{SourceStage as SourceViewStage, SourceView, TargetView}
 use Rattle.flow_block.specs.Copies.{copies_left}
-use Rattle.flow_block.proofs.Joins.{copies_unjoined, copies_unbatched, copies_at_one}
+use Rattle.flow_block.proofs.Joins.{copies_unbatched, copies_at_one}
 use Rattle.flow_block.proofs.OnceHolds.{room_once}
 use Rattle.flow_block.proofs.WrittenOnce.{message_is, weighs_written}
 use Rattle.flow_block.specs.Kinds.{is_kept_kind}
@@ -55,7 +55,7 @@ use Rattle.flow_block.proofs.EndsHold.{no_group_left}
 use Rattle.flow_block.proofs.EndsTell.{limit_is, no_room_left, free_back, postponed_back, end_back}
 use Rattle.flow_block.proofs.FaultsSeen.{not_seen_at_ends, not_seen_at_ports}
 use Rattle.flow_block.proofs.GoingOn.{open_goes_on}
-use Rattle.flow_block.proofs.JournalTells.{stopped_tells, fault_marked, faulted_marked, none_stopped, stopped_ends, ended_by_complete, ended_is_complete, complete_where}
+use Rattle.flow_block.proofs.JournalTells.{stopped_tells, fault_marked, faulted_marked, none_stopped, stopped_ends, ended_by_complete, ended_is_complete}
 use Rattle.flow_block.proofs.KindsBuilt.{by_kind, planned_kept, has_one_port, room_shared}
 use Rattle.flow_block.proofs.NodesSeen.{held_is, none_held, own_fault_is, load_is}
 use Rattle.flow_block.proofs.NothingToDo.{not_pending, worked_off, none_seen, no_coming, free_at, waiting_goes, not_admitted, not_finished, left_where}

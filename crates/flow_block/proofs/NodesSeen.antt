@@ -24,7 +24,7 @@ use Rattle.flow_block.specs.NodeSeen.{IsNodeOf}
 use Rattle.flow_block.specs.Peeks.{holds_nothing}
 use Rattle.flow_block.specs.Planned.{block_makes, room_of}
 use Rattle.flow_block.proofs.CopierOf.{copier_seen, none_shared}
-use Rattle.flow_block.proofs.CopiesIdle.{left_is_shared, none_copied, copies_idle, once_copies}
+use Rattle.flow_block.proofs.CopiesIdle.{left_is_shared, copies_idle, once_copies}
 use Rattle.flow_block.proofs.KindsBuilt.{by_kind, planned_kept, has_one_port, room_kept}
 use Rattle.flow_block.proofs.TestsTell.{every_tells, none_left}
 use Rattle.flow_block.proofs.WeightsOfResults.{weight_weighed, weight_rows, weight_partial}

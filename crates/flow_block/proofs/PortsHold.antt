@@ -20,12 +20,10 @@ use Rattle.flow_outlet.specs.Fits.{weight_of}
 use Rattle.flow_outlet.specs.Outlet.{head_of, weight_at, gives}
 use Rattle.flow_outlet.proofs.OutletFits.{weight_stays}
 use Rattle.flow_block.proofs.RoomBack.{back_at, each_after_back, back_fits}
-use Rattle.flow_block.specs.Copies.{copy_place, CopyCall, after_copy, copies_left, copies_weight}
-use Rattle.flow_block.proofs.CopiesIdle.{copies_at, no_copy_at}
+use Rattle.flow_block.specs.Copies.{copy_place, CopyCall, after_copy, copies_weight}
+use Rattle.flow_block.proofs.CopiesIdle.{copies_at}
 use Rattle.flow_block.specs.Block.{BlockState, port_in, held_by, made_of, yields, keeps_results, makes_of, takes_group, copies_next, is_batched_join}
-use Rattle.flow_block.specs.Node.{NodeState, NodeCall, hand_at, in_link_at, out_link_at, takes_in, gives_from, copies_by, marks_copy, order_in, holds_in}
-use Rattle.flow_link.proofs.ListTests.{never_both}
-use Rattle.flow_link.specs.Plan.{is_broadcast}
+use Rattle.flow_block.specs.Node.{NodeState, NodeCall, hand_at, in_link_at, out_link_at, gives_from, copies_by, marks_copy, order_in, holds_in}
 use Rattle.flow_block.proofs.CopiesTaken.{taken_in_keeps}
 use Rattle.flow_block.specs.NodeLaw.{NodeLaw, ShapeLaw, PortsLaw, LoadLaw, places_out}
 use Rattle.flow_spread.specs.Spread.{puts}

@@ -33,7 +33,7 @@ use Rattle.flow_block.specs.Planned.{block_makes}
 use Rattle.flow_block.proofs.GroupsOfRows.{none_before, passes_before, groups_more, every_of, group_there, group_fits, whole_or_last, group_tells}
 use Rattle.flow_block.proofs.GoingOn.{may_work_tells, may_complete_tells, open_goes_on}
 use Rattle.flow_block.proofs.JournalTells.{complete_where}
-use Rattle.flow_block.proofs.KindsBuilt.{has_one_port, batch_shares, broadcast_single, made_kind, makes_by, next_by, copying_single}
+use Rattle.flow_block.proofs.KindsBuilt.{has_one_port, batch_shares, made_kind, makes_by, next_by, copying_single}
 use Rattle.flow_block.proofs.PortsChange.{kept_at_one, kept_at_all}
 use Rattle.flow_block.proofs.Joins.{join_alone, batched_alone, batch_at_one}
 use Rattle.flow_block.proofs.RoomBack.{kept_back}

@@ -14,9 +14,9 @@ use Rattle.flow_outlet.specs.declared.ends.OutEnd.{OutEnd}
 use Rattle.flow_outlet.specs.End.{end_in, no_end}
 use Rattle.flow_outlet.specs.Outlet.{head_of, gives}
 use Rattle.flow_spread.specs.Spread.{puts}
-use Rattle.flow_block.specs.Copies.{after_copy, copies_left, copies_weight}
+use Rattle.flow_block.specs.Copies.{after_copy, copies_weight}
 use Rattle.flow_block.specs.Block.{BlockState, port_in, held_by, copies_next, made_of, yields, keeps_results, makes_of, takes_group, gives_out}
-use Rattle.flow_block.specs.Node.{NodeState, NodeCall, hand_at, takes_in, gives_from, order_in, holds_in}
+use Rattle.flow_block.specs.Node.{NodeState, NodeCall, hand_at, gives_from, order_in, holds_in}
 use Rattle.flow_block.specs.NodeLaw.{ShapeLaw, PortAsPlanned, NodeLaw}
 use Rattle.flow_block.specs.NodeKeeps.{after_call, ShapeKept, MayCall}
 use Rattle.flow_block.specs.Planned.{block_makes}

@@ -15,7 +15,7 @@ use Rattle.flow_group.specs.Tuple.{tuple_of, takes_tuple}
 use Rattle.flow_outlet.specs.Outlet.{OutletState, puts, gives, head_of, is_empty}
 use Rattle.flow_outlet.specs.Fits.{weight_of}
 use Rattle.flow_spread.specs.Spread.{SpreadState, puts as copies_put, is_spread_free}
-use Rattle.flow_block.specs.Copies.{copies_left, copies_weight}
+use Rattle.flow_block.specs.Copies.{copies_weight}
 use Rattle.flow_block.specs.Jobs.{JobsState, Slot, begins as one_more, brings, works_off, comes_out, place_of}
 
 pub record BlockState : Type 0 where

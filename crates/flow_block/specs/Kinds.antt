@@ -1,5 +1,5 @@
 -- The kinds of blocks that are kept in order here: those of which a plan may be made, and those whose plans are still to come.
-use Rattle.std.specs.Prelude.{Bool, true, false}
+use Rattle.std.specs.Prelude.{Bool, true}
 use Rattle.flow_link.specs.declared.draft.BlockKind.{BlockKind}
 use Rattle.flow_link.specs.declared.draft.BlockKind.TheVariants.{Buffer, Broadcast, Action, Transform, TransformMany, Batch, Join, BatchedJoin, WriteOnce}
 

@@ -22,7 +22,7 @@ use Rattle.flow_link.specs.Plan.{is_broadcast, is_write_once, is_one_taker}
 use Rattle.flow_spread.specs.Law.{MayPutOff as MayPutOffOver}
 use Rattle.flow_spread.specs.Spread.{may_offer as may_offer_copy, may_give as may_give_copy, is_asked_by}
 use Rattle.flow_spread.specs.Spread as spread
-use Rattle.flow_block.specs.Block.{port_at, is_join, is_batched_join, held_by, put_next}
+use Rattle.flow_block.specs.Block.{port_at, is_join, is_batched_join, held_by}
 use Rattle.flow_block.specs.Copies.{CopyCall, copy_place}
 use Rattle.flow_block.specs.Node.{NodeState, NodeCall, in_link_at, after, puts_next}
 use Rattle.flow_block.specs.NodeLaw.{NodeLaw, ShapeLaw, PortsLaw, ExitsLaw, CopiesLaw, GaveLaw, MakesLaw, KeepsRows, KeepsTuples, JobsLaw, LoadLaw, MarksLaw, EndsLaw}
