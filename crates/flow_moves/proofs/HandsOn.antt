@@ -12,7 +12,7 @@ use Rattle.flow_outlet.specs.Outlet.{is_empty, lacks_ids}
 use Rattle.flow_block.specs.Kinds.{is_kept_kind}
 use Rattle.flow_block.specs.Block.{BlockState, held_by, puts_out, makes_of, put_of}
 use Rattle.flow_block.specs.Node.{NodeState, with_block, makes_next}
-use Rattle.flow_block.specs.Peeks.{has_next, may_copy, may_work, may_make, lacks_next}
+use Rattle.flow_block.specs.Peeks.{has_next, may_work, may_make, lacks_next}
 
 abbrev pub OneMessageKind : BlockKind → Type 0
 OneMessageKind kind =
@@ -45,8 +45,8 @@ some_held (value ∷ rest) e = omega arith
 
 held_some : (block : BlockState) → block.kind ≡ Buffer → has_next block ≡ true → 0 < length (held_by block)
 held_some block is e =
-    let some : (not (is_empty (held_by block)) && may_copy block) ≡ true = rw is at e in
-    some_held (held_by block) (and_parts (not (is_empty (held_by block))) (may_copy block) some).0
+    let some : (not (is_empty (held_by block)) && true) ≡ true = rw is at e in
+    some_held (held_by block) (and_parts (not (is_empty (held_by block))) true some).0
 
 -- where it is told just when ids are used up, there are some left if all went well
 pub ids_left : {T : Type 0} (result : Result T OutletFault) (lacks : Bool) → (result ≡ Err Ids) ↔ (lacks ≡ true)
