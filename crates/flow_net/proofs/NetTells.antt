@@ -1,6 +1,6 @@
 -- What a network's parts tell is what its run has.
-use Rattle.std.proofs.Common.{◌≡◌, ℕ, ◌<◌, Bool, true, false, ◌||◌, List, [], ◌∷◌, length, get_or, Option, Some, None, Result}
-use Rattle.std.proofs.Common.{refl, ap, ap₂, sym, ◌∙◌, subst, arith}
+use Rattle.std.proofs.Common.{◌≡◌, ℕ, ◌<◌, Bool, true, false, List, [], ◌∷◌, length, get_or, Option, Some, None, Result}
+use Rattle.std.proofs.Common.{refl, ap, ap₂, sym, ◌∙◌, subst}
 use Rattle.std.proofs.Math.ListN.{get_or-map}
 use Rattle.std.proofs.Math.Bridge.{le_prop}
 use Rattle.std.proofs.Math.Logic.{∥∥₁_elim}
@@ -16,10 +16,9 @@ use Rattle.flow_link.specs.Endings.{stops, is_complete as is_run_complete}
 use Rattle.flow_link.specs.Layout.{Layout}
 use Rattle.flow_link.specs.Lists.{is_empty}
 use Rattle.flow_link.specs.Plan.{block_in, port_count, no_block}
-use Rattle.flow_link.specs.Trace.{Run, BlockTrace, InputTrace, has_ended, has_complete, is_faulted, is_done}
+use Rattle.flow_link.specs.Trace.{Run, BlockTrace, InputTrace, is_done}
 use Rattle.flow_link.specs.Trace.{trace_of, marks_of, left_at, held_at, input_of}
 use Rattle.flow_intake.specs.Port.{PortState, fresh_port}
-use Rattle.flow_intake.specs.PortLaw.{has_ended as has_port_ended}
 use Rattle.flow_block.specs.Block.{port_at}
 use Rattle.flow_block.specs.Input.{no_input, input_trace}
 use Rattle.flow_block.specs.Node.{left_in, node_trace}

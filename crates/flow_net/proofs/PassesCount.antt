@@ -29,6 +29,9 @@ use Rattle.flow_moves.specs.Ways.{moved_along, source_next}
 use Rattle.flow_moves.proofs.MerelyKept.{kept_after, line_count_is, passes_may}
 use Rattle.flow_moves.proofs.PassesHappen.{phase_then}
 use Rattle.flow_moves.proofs.PassesTell.{pass_tells, shared_tells}
+use Rattle.flow_net.specs.Dues.{event_of}
+use Rattle.flow_net.specs.declared.due.Due.{Due}
+use Rattle.flow_net.specs.declared.due.Due.TheVariants.{Link}
 use Rattle.flow_net.specs.Happened.{Happened}
 use Rattle.flow_net.specs.There.{IsDue}
 use Rattle.flow_net.proofs.EventsCount.{one_more_event}
@@ -119,6 +122,13 @@ module _ {W : Type 0} (layout : Layout W) (net : NetState) (l : ℕ) where
   due_is meaning i due passes =
       subst (λ (id : ℕ). IsDue layout meaning net (NetEvent.at_link l (Offer id)))
       (source_offers i (link_in layout.links l).source (pass_tells l (route_of layout l) net passes).carries due.enabled.peek) due
+
+  -- and so it is where a driver found it
+  pub found_due : (meaning : ℕ → Value → Result (List Value) ℕ) (event : Due) (i : ℕ) → event ≡ Link l (Offer i)
+      → IsDue layout meaning net (event_of event) → may_pass l (route_of layout l) net ≡ true
+      → IsDue layout meaning net (NetEvent.at_link l (Offer next_id_of))
+  found_due meaning event i is due passes =
+      due_is meaning i (subst (λ (e : Due). IsDue layout meaning net (event_of e)) is due) passes
 
 -- What is done
 
