@@ -1,6 +1,6 @@
 -- Where nothing may happen any more in a network in order, its run is quiet.
-use Rattle.std.proofs.Common.{◌≡◌, ℕ, ◌<◌, leb, leb-true, Bool, true, false, ◌||◌, List, [], length, Option, Some, None, is_some, Result, refl, ap, sym, ◌∙◌, arith, zero, suc}
-use Rattle.std.proofs.lemmas.Bool.{OnTrue_at, and_parts, false_from_ne_true, or_parts, ne_eqb}
+use Rattle.std.proofs.Common.{◌≡◌, ℕ, ◌<◌, leb, leb-true, Bool, true, false, ◌||◌, List, [], length, Option, Some, None, is_some, Result, refl, ap, sym, ◌∙◌, arith}
+use Rattle.std.proofs.lemmas.Bool.{OnTrue_at, and_parts, false_from_ne_true, or_parts}
 use Rattle.flow_value.specs.declared.value.Value.{Value}
 use Rattle.flow_link.specs.declared.phase.Move.{Move}
 use Rattle.flow_link.specs.declared.plan.Link.{Link}

@@ -8,6 +8,7 @@ use Rattle.flow_link.specs.declared.plan.LinkSource.{LinkSource}
 use Rattle.flow_link.specs.declared.plan.LinkSource.TheVariants.{Block, Input}
 use Rattle.flow_link.specs.declared.plan.LinkTarget.{LinkTarget}
 use Rattle.flow_link.specs.declared.plan.LinkTarget.TheVariants.{Port, Exit}
+use Rattle.flow_intake.specs.Calls.{gives_room}
 use Rattle.flow_intake.specs.Port.{PortState}
 use Rattle.flow_outlet.specs.Outlet.{head_of, gives, OutletState}
 use Rattle.flow_link.specs.Plan.{is_one_taker}
@@ -19,8 +20,8 @@ use Rattle.flow_block.proofs.CopiesTaken.{taken_keeps}
 use Rattle.flow_block.specs.Block.{BlockState, copies_next, held_by}
 use Rattle.flow_block.specs.NodeKeeps.{InAt, any_stage}
 use Rattle.flow_block.proofs.PortsChange.{port_of_map}
-use Rattle.flow_core.specs.Events.{out_call, copy_call, source_call, in_call, is_of_source, slot_after, with_line}
 use Rattle.flow_block.proofs.RoomBack.{length_back, port_back}
+use Rattle.flow_core.specs.Events.{out_call, copy_call, source_call, in_call, is_of_source, slot_after, with_line}
 use Rattle.flow_core.specs.State.{NetState, LineState, node_at, no_node}
 use Rattle.flow_core.proofs.PlacesTell.{element_set}
 use Rattle.flow_moves.specs.Calls.{called, handed, left_in_slot, slot_after_source}
