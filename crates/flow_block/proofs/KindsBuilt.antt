@@ -18,12 +18,14 @@ use Rattle.flow_block.specs.Node.{NodeState, with_block, makes_next_group, makes
 -- each kind of which a plan may be made is kept in order
 pub built_kept : (kind : BlockKind) → is_built_kind kind ≡ true → is_kept_kind kind ≡ true
 built_kept Buffer e = refl
+built_kept Broadcast e = refl
+built_kept WriteOnce e = refl
 built_kept Action e = refl
 built_kept Transform e = refl
 built_kept TransformMany e = refl
 built_kept Batch e = refl
 built_kept Join e = refl
-built_kept _ e = absurd (cc)
+built_kept BatchedJoin e = refl
 
 -- what holds of buffers, actions, both transforms, batches, joins, broadcasts, what takes one message in all and batched joins
 -- holds of each kind that is kept in order
