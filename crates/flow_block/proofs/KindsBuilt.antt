@@ -15,6 +15,7 @@ use Rattle.flow_block.specs.NodeLaw.{ShapeLaw}
 -- each kind of which a plan may be made is kept in order
 pub built_kept : (kind : BlockKind) → is_built_kind kind ≡ true → is_kept_kind kind ≡ true
 built_kept Buffer e = refl
+built_kept Broadcast e = refl
 built_kept Action e = refl
 built_kept Transform e = refl
 built_kept TransformMany e = refl

@@ -78,6 +78,7 @@ fn is_built_kind(kind: BlockKind) -> bool
     matches!(
         kind,
         BlockKind::Buffer
+            | BlockKind::Broadcast
             | BlockKind::Action
             | BlockKind::Transform
             | BlockKind::TransformMany
