@@ -1,6 +1,6 @@
 -- Where a source would offer a message, and the target takes it at once, each of the five events that take it over the link may
 -- happen in its turn.
-use Rattle.std.proofs.Common.{◌≡◌, ℕ, ◌<◌, Bool, true, false, cond, ◌&&◌, length, List, set, get_or, Option, Some, Result, is_some}
+use Rattle.std.proofs.Common.{◌≡◌, ℕ, ◌<◌, Bool, true, false, cond, length, List, set, get_or, Option, Some, Result, is_some}
 use Rattle.std.proofs.Common.{refl, sym, ap, ◌∙◌, subst}
 use Rattle.std.proofs.lemmas.List.{get_or-set_same, get_or-set_other, length-set}
 use Rattle.flow_value.specs.declared.value.Value.{Value}

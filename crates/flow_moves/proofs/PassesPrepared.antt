@@ -108,7 +108,6 @@ block_may node k shares may room =
       room = room_there (end_at o k).rule.max (end_at o k).given room;
     }
 
-
 abbrev with_parcel : InputState → InputState
 with_parcel input = record input { parcel = next_value input }
 

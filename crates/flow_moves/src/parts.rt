@@ -296,7 +296,11 @@ impl Parts {
             self.new ≡ source_looked makes phase route.now.source route.now.source_place self.old }
     {
         match route.source {
-            LinkSource::Block(block) => look_exit(&mut self.nodes[block], route.source_place, phase),
+            LinkSource::Block(block) => look_exit(
+                &mut self.nodes[block],
+                route.source_place,
+                phase,
+            ),
             LinkSource::Input(_) => self.inputs[route.source_place].look(phase),
         }
     }
