@@ -21,7 +21,7 @@ use Rattle.flow_link.proofs.LooksKeepOrder.{looks_keep}
 use Rattle.flow_intake.specs.Calls.{first_of}
 use Rattle.flow_outlet.specs.Outlet.{lacks_ids}
 use Rattle.flow_group.specs.Tuple.{tuple_of}
-use Rattle.flow_block.specs.Block.{BlockState, held_by, is_batch, is_join, row_of, next_group, put_of, is_batched_join}
+use Rattle.flow_block.specs.Block.{held_by, is_batch, is_join, row_of, next_group, put_of, is_batched_join}
 use Rattle.flow_block.specs.Input.{input_view}
 use Rattle.flow_block.specs.InputKeeps.{InputsKeep}
 use Rattle.flow_block.specs.Jobs.{Slot}
