@@ -1,6 +1,6 @@
 -- Where nothing may happen any more in a network in order, its run is quiet.
-use Rattle.std.proofs.Common.{◌≡◌, ℕ, ◌<◌, leb, leb-true, Bool, true, false, ◌||◌, List, [], length, Option, Some, None, is_some, Result, refl, ap, sym, ◌∙◌, arith}
-use Rattle.std.proofs.lemmas.Bool.{OnTrue_at, and_parts, false_from_ne_true, or_parts}
+use Rattle.std.proofs.Common.{◌≡◌, ℕ, ◌<◌, Bool, true, false, ◌||◌, List, length, Option, Some, None, is_some, Result, refl, ap, sym, ◌∙◌}
+use Rattle.std.proofs.lemmas.Bool.{OnTrue_at, false_from_ne_true, or_parts}
 use Rattle.flow_value.specs.declared.value.Value.{Value}
 use Rattle.flow_link.specs.declared.phase.Move.{Move}
 use Rattle.flow_link.specs.declared.plan.Link.{Link}
@@ -17,11 +17,10 @@ use Rattle.flow_link.specs.Layout.{Layout}
 use Rattle.flow_link.specs.LinkOk.{source_reserves, target_reserves}
 use Rattle.flow_link.specs.LooksKeep.{SeenAt}
 use Rattle.flow_link.specs.Plan.{link_in}
-use Rattle.flow_link.specs.PlanFaults.{is_in}
 use Rattle.flow_link.specs.Quiet.{Quiet}
 use Rattle.flow_link.specs.RestsByParts.{EndsAreStill, PartsRest, is_at_rest}
 use Rattle.flow_link.specs.Stage.{source_stage_of, target_stage_of}
-use Rattle.flow_link.specs.Trace.{Run, is_used_up}
+use Rattle.flow_link.specs.Trace.{Run}
 use Rattle.flow_link.specs.Views.{SourceStage, SourceView, TargetStage}
 use Rattle.flow_link.proofs.LinksAtRest.{links_rest}
 use Rattle.flow_link.proofs.LooksKeepOrder.{looks_keep}
