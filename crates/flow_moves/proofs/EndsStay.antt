@@ -12,7 +12,7 @@ use Rattle.flow_intake.specs.Calls.{gives_room}
 use Rattle.flow_intake.specs.Port.{PortState}
 use Rattle.flow_outlet.specs.Outlet.{head_of, gives, OutletState}
 use Rattle.flow_link.specs.Plan.{is_one_taker}
-use Rattle.flow_block.specs.Copies.{CopyCall, copies_left, after_copy}
+use Rattle.flow_block.specs.Copies.{CopyCall, copies_weight, after_copy}
 use Rattle.flow_block.specs.Node.{NodeState, with_block, hand_at, gives_from, takes_in, copies_by, holds_in}
 use Rattle.flow_spread.specs.End.{takes_up}
 use Rattle.flow_intake.specs.Calls.{first_of}
@@ -56,7 +56,7 @@ out_stays result k _ node p j there = there
 -- and when its element goes on over a link
 copied_stays : (call : CopyCall) (node : NodeState) (p j : ℕ) → InAt any_stage p j node → InAt any_stage p j (copies_by call node)
 copied_stays call node p j there =
-    let change = gives_room (copies_left node.block.copies - copies_left (after_copy call node.block.copies)) in
+    let change = gives_room (copies_weight node.block.copies - copies_weight (after_copy call node.block.copies)) in
     record {
       port = subst (λ (count : ℕ). p < count) (sym (length-map node.block.ports change)) there.port;
       place =

@@ -4,12 +4,11 @@ use Rattle.std.proofs.lemmas.Bool.{true≢false, and_parts, not-true}
 use Rattle.flow_value.specs.declared.value.Value.{Value}
 use Rattle.flow_link.specs.declared.draft.BlockKind.{BlockKind}
 use Rattle.flow_link.specs.declared.draft.BlockKind.TheVariants.{Buffer, WriteOnce, Action, Transform, TransformMany}
-use Rattle.flow_link.specs.Plan.{has_work}
+use Rattle.flow_link.specs.Plan.{has_work, is_write_once}
 use Rattle.flow_intake.specs.Calls.{first_of}
 use Rattle.flow_outlet.specs.declared.fault.OutletFault.{OutletFault}
 use Rattle.flow_outlet.specs.declared.fault.OutletFault.TheVariants.{Ids}
 use Rattle.flow_outlet.specs.Outlet.{is_empty, lacks_ids}
-use Rattle.flow_block.specs.Kinds.{is_kept_kind}
 use Rattle.flow_block.specs.Block.{BlockState, held_by, puts_out, makes_of, put_of}
 use Rattle.flow_block.specs.Node.{NodeState, with_block, makes_next}
 use Rattle.flow_block.specs.Peeks.{has_next, may_work, may_make, lacks_next}
@@ -21,13 +20,13 @@ OneMessageKind kind =
 works_not : (kind other : BlockKind) → has_work kind ≡ false → has_work other ≡ true → kind ≡ other → kind ≡ Buffer
 works_not kind other idle works e = absurd (true≢false (sym works ∙ ap has_work (sym e) ∙ idle))
 
--- of the kinds that make something of one message after another, only a buffer has no function
-buffer_is : (kind : BlockKind) → is_kept_kind kind ≡ true → has_work kind ≡ false → OneMessageKind kind → kind ≡ Buffer
-buffer_is kind kept idle (inl e) = e
-buffer_is kind kept idle (inr (inl e)) = absurd (true≢false (sym kept ∙ ap is_kept_kind e))
-buffer_is kind kept idle (inr (inr (inl e))) = works_not kind Action idle refl e
-buffer_is kind kept idle (inr (inr (inr (inl e)))) = works_not kind Transform idle refl e
-buffer_is kind kept idle (inr (inr (inr (inr e)))) = works_not kind TransformMany idle refl e
+-- of the kinds that take messages one after another, and hand each on or work on it, only a buffer has no function
+buffer_is : (kind : BlockKind) → is_write_once kind ≡ false → has_work kind ≡ false → OneMessageKind kind → kind ≡ Buffer
+buffer_is kind many idle (inl e) = e
+buffer_is kind many idle (inr (inl e)) = absurd (true≢false (ap is_write_once (sym e) ∙ many))
+buffer_is kind many idle (inr (inr (inl e))) = works_not kind Action idle refl e
+buffer_is kind many idle (inr (inr (inr (inl e)))) = works_not kind Transform idle refl e
+buffer_is kind many idle (inr (inr (inr (inr e)))) = works_not kind TransformMany idle refl e
 
 -- what it makes of the messages that it holds
 made_one : (result : Value → Result (List Value) ℕ) (block : BlockState) → block.kind ≡ Buffer → (held : List Value)
@@ -59,11 +58,11 @@ pub where_well : {T E : Type 0} {P Q : Type 0} (result : Result T E) → (P → 
 where_well (Ok x) leads holds = leads holds
 where_well (Err fault) leads holds = tt
 
-module _ (node : NodeState) (kept : is_kept_kind node.block.kind ≡ true) (may : may_make node.block ≡ true)
+module _ (node : NodeState) (many : is_write_once node.block.kind ≡ false) (may : may_make node.block ≡ true)
     (arm : OneMessageKind node.block.kind) where
   hands_on : node.block.kind ≡ Buffer
   hands_on =
-      buffer_is node.block.kind kept
+      buffer_is node.block.kind many
       (not-true (has_work node.block.kind) (and_parts (may_work node.block) (not (has_work node.block.kind)) may).1) arm
 
   held : 0 < length (held_by node.block)

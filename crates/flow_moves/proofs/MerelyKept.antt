@@ -15,6 +15,7 @@ use Rattle.flow_block.specs.Routes.{route_of}
 use Rattle.flow_block.specs.Block.{held_by}
 use Rattle.flow_block.specs.Jobs.{JobsState, is_out}
 use Rattle.flow_block.specs.Planned.{block_makes}
+use Rattle.flow_block.proofs.CopiesTaken.{makes_many}
 use Rattle.flow_block.proofs.JobsEnd.{none_out}
 use Rattle.flow_block.proofs.JobsHold.{begun_held}
 use Rattle.flow_block.proofs.Joins.{works_at_one}
@@ -52,6 +53,7 @@ planned_by layout meaning net keeps b low =
       alone = has_one_port layout meaning b block shape;
       some_port = shape.some_port;
       alone_at_work = λ works. has_one_port layout meaning b block shape (works_at_one block.kind works);
+      many = makes_many layout meaning b (node_at net b) (keeps.nodes b low);
       begun = begun_held (block_makes layout meaning b) (held_by block) block.jobs.slots jobs.results;
       drained = jobs.drained;
       works = λ ticket out.

@@ -3,7 +3,7 @@ ghost use Rattle.std.specs.Prelude.{◌≡◌, ◌≢◌, ℕ, ◌<◌, true, fa
 ghost use Rattle.std.specs.Prelude.{◌≤◌, ◌↔◌, None, OnOk, OnErr, IfErr};
 ghost use Rattle.flow_value.specs.declared.value.Value.{Value};
 ghost use Rattle.flow_link.specs.declared.draft.BlockKind.TheVariants.{Buffer};
-ghost use Rattle.flow_link.specs.Plan.{has_work};
+ghost use Rattle.flow_link.specs.Plan.{has_work, is_write_once};
 ghost use Rattle.flow_block.specs.Kinds.{is_kept_kind};
 ghost use Rattle.flow_outlet.specs.Outlet.{lacks_ids};
 ghost use Rattle.flow_outlet.specs.declared.fault.OutletFault.TheVariants.{Ids};
@@ -34,6 +34,7 @@ impl Parts {
             length (node_at self.old block).block.ports ≡ 1 }
         requires ports { 0 < length (node_at self.old block).block.ports }
         requires waits { may_make (node_at self.old block).block ≡ true }
+        requires many { is_write_once (node_at self.old block).block.kind ≡ false }
         requires built { is_kept_kind (node_at self.old block).block.kind ≡ true }
         ensures done { OnOk result ((result : Value → Result (List Value) ℕ) →
             self.new ≡ with_node block (after result NodeCall.make) self.old) }
@@ -178,6 +179,7 @@ fn make(node: &mut Node, alloc: Global) -> Result<(), OutletFault>
     requires alone { has_ports node.old.block.kind ≡ false → length node.old.block.ports ≡ 1 }
     requires ports { 0 < length node.old.block.ports }
     requires waits { may_make node.old.block ≡ true }
+    requires many { is_write_once node.old.block.kind ≡ false }
     requires built { is_kept_kind node.old.block.kind ≡ true }
     ensures done { OnOk result ((result : Value → Result (List Value) ℕ) →
         node.new ≡ after result NodeCall.make node.old) }

@@ -14,13 +14,13 @@ returns-in-Buffer c =
     record {
       done =
           where_well c.hand_on.result
-          (λ done (result : Value → Result (List Value) ℕ). done ∙ handed_is node c.requires.built c.requires.waits arm result)
+          (λ done (result : Value → Result (List Value) ℕ). done ∙ handed_is node c.requires.many c.requires.waits arm result)
           c.hand_on.ensures.done;
       ids =
           where_well c.hand_on.result
-          (λ left (result : Value → Result (List Value) ℕ). sym (lacks_is node c.requires.built c.requires.waits arm result) ∙ left)
+          (λ left (result : Value → Result (List Value) ℕ). sym (lacks_is node c.requires.many c.requires.waits arm result) ∙ left)
           (ids_left c.hand_on.result lacks c.hand_on.ensures.ids);
       kept = c.hand_on.ensures.kept;
       used_up = λ is result.
-          sym (lacks_is node c.requires.built c.requires.waits arm result) ∙ c.hand_on.ensures.ids.0 is;
+          sym (lacks_is node c.requires.many c.requires.waits arm result) ∙ c.hand_on.ensures.ids.0 is;
     }

@@ -15,3 +15,6 @@ overflow_cast-result g c =
     subst (λ (block : BlockState). length block.ports ≤ 3) (sym block_is)
     (few_ports now.plan (works_of g.W.Work.meaning (layout_of now.plan)) now.parts c.requires.kept c.args.number c.requires.known) in
     omega (arith, few, c.loop-port-test.true, c.port_count-port-end.ensures)
+
+pub loop-port-preserved : goal.loop-port-preserved
+loop-port-preserved g c = ?preserved
