@@ -9,7 +9,7 @@ pub returns-in-Buffer : goal.returns-in-Buffer
 returns-in-Buffer c =
     let node = c.args.node.now in
     let arm : OneMessageKind node.block.kind =
-        subst OneMessageKind (c.kind.ensures ∙ ap (λ (block : BlockState). block.kind) c.block.ensures) c.in-Buffer.is in
+    subst OneMessageKind (c.kind.ensures ∙ ap (λ (block : BlockState). block.kind) c.block.ensures) c.in-Buffer.is in
     let lacks = lacks_ids (take 1 (held_by node.block)) node.block.exits in
     record {
       done =
