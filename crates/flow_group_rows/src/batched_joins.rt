@@ -1,7 +1,7 @@
 //! Batched joins: groups of so many messages from all ports.
 use crate::drawn::{check_cases, read_case};
-use flow_net::{Net, Settled, State};
-use flow_trial::{Asked, do_first, in_order};
+use flow_net::{Net, Settled};
+use flow_trial::{Asked, came_to, do_first, in_order};
 use flow_value::Steps;
 use std::alloc::Global;
 use std::test::Fail;
@@ -82,7 +82,8 @@ fn one_source_may_be_done_before_the_other(rt: HostRuntime) -> Result<(), Fail> 
     let mut net = case.network(alloc)?;
     let choices = of_first(alloc, &net)?;
     assert!(rt; !do_first(alloc, &mut net, choices.as_slice())?);
-    assert!(rt; net.state(0) == State::Done && net.held(2, 0).len() == 2);
+    let waits = r#"block l done ; held 0 ["1","2"]"#;
+    assert!(rt; came_to(alloc, &net, &[waits])?.is_some());
     assert!(rt; net.settle(alloc, 10_000) == Ok(Settled::Quiet));
     assert!(rt; case.is_met(alloc, &net)?);
     Ok(())
