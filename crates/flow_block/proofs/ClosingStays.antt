@@ -1,9 +1,9 @@
 -- A block that has ended stays so when a port of it completes.
-use Rattle.std.proofs.Common.{◌≡◌, ℕ, zero, suc, ◌<◌, ◌==◌, ◌&&◌, ◌||◌, Bool, true, false, cond, List, [], ◌∷◌, length, set, Option, Some, None, is_none, refl, ap, ap₂, sym, ◌∙◌, ⊎_elim}
+use Rattle.std.proofs.Common.{◌≡◌, ℕ, zero, suc, ◌==◌, ◌&&◌, Bool, true, false, List, [], ◌∷◌, set, Option, Some, None, is_none, refl, ap, ◌∙◌, ⊎_elim}
 use Rattle.std.proofs.lemmas.Bool.{and_parts, and_from, or_cases, or_left, or_right}
-use Rattle.std.specs.List.{list_all, list_any}
+use Rattle.std.specs.List.{list_any}
 use Rattle.flow_link.specs.BlockCalls.{Stays}
-use Rattle.flow_link.specs.Lists.{every, is_empty}
+use Rattle.flow_link.specs.Lists.{is_empty}
 use Rattle.flow_link.specs.declared.trace.Outcome.{Outcome}
 use Rattle.flow_intake.specs.Calls.{port_closes}
 use Rattle.flow_intake.specs.Port.{PortState, fresh_port, coming}
@@ -11,7 +11,7 @@ use Rattle.flow_intake.specs.PortLaw.{has_ended}
 use Rattle.flow_outlet.specs.Outlet.{is_empty as none_left, is_at_rest}
 use Rattle.flow_group.specs.Tuple.{has_run_dry, is_join_complete, all_ended as ports_ended}
 use Rattle.flow_block.specs.Block.{BlockState, port_in, port_at, with_port, is_join}
-use Rattle.flow_block.specs.Peeks.{all_ended, could_stop, holds_nothing, is_complete, is_copied_out, may_finish, nothing_comes}
+use Rattle.flow_block.specs.Peeks.{all_ended, could_stop, holds_nothing, is_complete, is_copied_out, may_finish, nothing_comes, is_written}
 use Rattle.flow_block.specs.Traits.{ended_where, outcome_of}
 use Rattle.flow_block.proofs.GoingOn.{may_finish_tells}
 use Rattle.flow_block.proofs.TestsTell.{every_set}
@@ -66,7 +66,12 @@ still_complete : (block : BlockState) (p : ℕ) (join : Bool) → is_join block.
 still_complete block p true joins complete =
     rw joins (still_joined block.ports p (rw joins at complete))
 still_complete block p false joins complete =
-    rw joins (still_every block.ports p (port_closes (port_at p block)) refl (rw joins at complete))
+    let after = with_port p port_closes block in
+    rw joins (⊎_elim
+    (λ all. or_left (all_ended after.ports) (is_written block)
+    (still_every block.ports p (port_closes (port_at p block)) refl all))
+    (λ written. or_right (all_ended after.ports) (is_written block) written)
+    (or_cases (all_ended block.ports) (is_written block) (rw joins at complete)))
 
 still_finishes : (block : BlockState) (p : ℕ) → may_finish block ≡ true → may_finish (with_port p port_closes block) ≡ true
 still_finishes block p may =

@@ -1,5 +1,5 @@
 -- A block that goes on is complete just where its run tells so.
-use Rattle.std.proofs.Common.{◌≡◌, ℕ, suc, ◌+◌, ◌<◌, ◌&&◌, Bool, true, false, cond, List, [], ◌∷◌, length, None, refl, ap, ap₂, sym, ◌∙◌, arith}
+use Rattle.std.proofs.Common.{◌≡◌, ℕ, suc, ◌+◌, ◌<◌, ◌&&◌, Bool, true, false, cond, List, [], ◌∷◌, length, None, refl, ap, ap₂, sym, ◌∙◌, arith, ◌||◌}
 use Rattle.flow_link.specs.declared.draft.BlockKind.{BlockKind}
 use Rattle.flow_link.specs.declared.trace.Mark.{Mark}
 use Rattle.flow_link.specs.Endings.{is_complete as is_run_complete, is_complete_as}
@@ -8,13 +8,14 @@ use Rattle.flow_link.specs.Trace.{BlockTrace, Run, has_ended, has_complete, bloc
 use Rattle.flow_intake.specs.Port.{PortState}
 use Rattle.flow_intake.specs.PortLaw.{has_ended as has_port_ended}
 use Rattle.flow_group.specs.Tuple.{is_join_complete}
+use Rattle.flow_block.proofs.WrittenOnce.{message_is}
+use Rattle.flow_block.proofs.NodesSeen.{complete_by_port}
 use Rattle.flow_block.specs.Block.{port_in, port_at, is_join}
 use Rattle.flow_block.specs.Node.{NodeState, node_trace}
-use Rattle.flow_block.specs.NodeLaw.{NodeLaw, outcome_in}
-use Rattle.flow_block.specs.Peeks.{all_ended, is_complete}
+use Rattle.flow_block.specs.NodeLaw.{NodeLaw, has_its_message}
+use Rattle.flow_block.specs.Peeks.{all_ended, is_complete, is_written}
 use Rattle.flow_block.proofs.JournalTells.{ended_by_complete, complete_where}
 use Rattle.flow_block.proofs.Joins.{join_shares}
-use Rattle.flow_block.proofs.KindsBuilt.{by_kind, planned_kept}
 use Rattle.flow_block.proofs.NodesAreLawful.{join_is}
 use Rattle.flow_block.proofs.TuplesSeen.{joins_are_parts}
 
@@ -59,7 +60,8 @@ module _ {W : Type 0} (run : Run W) (b : ℕ) (node : NodeState) (law : NodeLaw 
       (λ p small. ap (λ (q : ℕ). has_complete q node.journal) (from_none p) ∙ sym (ended_is p small))
 
   complete_by : (join : Bool) → is_join node.block.kind ≡ join
-      → is_run_complete run b ≡ cond join (is_join_complete node.block.ports) (all_ended node.block.ports)
+      → is_run_complete run b
+      ≡ cond join (is_join_complete node.block.ports) (all_ended node.block.ports || is_written node.block)
   complete_by true joins =
       ap (λ (k : BlockKind). is_complete_as run k b) (join_is kind (ap is_join (sym law.shape.kind_is) ∙ joins))
       ∙ (joins_are_parts W run b node (record {
@@ -68,10 +70,9 @@ module _ {W : Type 0} (run : Run W) (b : ℕ) (node : NodeState) (law : NodeLaw 
         shares = join_shares node.block.kind joins;
       })).complete ended_is
   complete_by false joins =
-      by_kind (λ k. is_join k ≡ false → is_complete_as run k b ≡ every (λ p. has_complete p (marks_of run b)) (ports_of run b))
-      (λ e. refl) (λ e. refl) (λ e. refl) (λ e. refl) (λ e. refl) (λ e. absurd (cc))
-      kind (planned_kept run.layout run.meaning b node.block law.shape) (ap is_join (sym law.shape.kind_is) ∙ joins)
-      ∙ all_so
+      complete_by_port run b node law (ap is_join (sym law.shape.kind_is) ∙ joins)
+      ∙ ap₂ (λ (all its_message : Bool). all || its_message) all_so
+      (ap₂ has_its_message (sym law.shape.kind_is) marks_are ∙ message_is run.layout run.meaning b node law)
 
   pub complete_told : is_run_complete run b ≡ is_complete node.block
   complete_told = complete_by (is_join node.block.kind) refl

@@ -1,9 +1,8 @@
 -- Each call keeps a block in order that copies: what it does is one of its calls more, or none.
 use Rattle.std.proofs.Common.{◌≡◌, ◌≢◌, ℕ, ◌+◌, ◌-◌, ◌^◌, ◌<◌, ◌==◌, ◌||◌, ◌&&◌, Bool, true, false, cond, List, [], ◌∷◌, ◌++◌, length, get_or, set, map, drop, Option, Some, None, is_some, refl, ap, sym, ◌∙◌, subst, inl, inr, arith, append-nil, append_assoc, ne_eqb}
-use Rattle.std.proofs.lemmas.Bool.{cases_eq}
+use Rattle.std.proofs.lemmas.Bool.{cases_eq, false_from_ne_true}
 use Rattle.std.proofs.lemmas.List.{length-set, length-map, get_or-set_same, get_or-set_other}
 use Rattle.std.proofs.lemmas.List as lists
-use Rattle.std.proofs.Math.ListN.{get_or-map}
 use Rattle.std.proofs.Math.Seq.{map-set_same}
 use Rattle.flow_value.specs.When.{admits}
 use Rattle.flow_value.specs.declared.value.Value.{Value}
@@ -11,7 +10,7 @@ use Rattle.flow_value.specs.declared.when.When.{When}
 use Rattle.flow_link.specs.declared.phase.LinkEnd.{LinkEnd}
 use Rattle.flow_link.specs.declared.phase.Phase.{Phase}
 use Rattle.flow_link.specs.declared.stage.SourceStage.{SourceStage}
-use Rattle.flow_link.specs.declared.stage.SourceStage.TheVariants.{Out}
+use Rattle.flow_link.specs.declared.stage.SourceStage.TheVariants.{Out, Accepted, Wished, Claimed}
 use Rattle.flow_link.specs.declared.trace.Mark.{Mark}
 use Rattle.flow_link.specs.declared.trace.Mark.TheVariants.{Gave}
 use Rattle.flow_link.specs.declared.trace.Outcome.{Outcome}
@@ -28,35 +27,33 @@ use Rattle.flow_intake.specs.Ended.{fault_at_ends}
 use Rattle.flow_outlet.specs.declared.ends.LinkRule.{LinkRule}
 use Rattle.flow_outlet.specs.declared.ends.OutEnd.{OutEnd}
 use Rattle.flow_outlet.specs.ByLink.{forgotten_stage}
-use Rattle.flow_outlet.specs.End.{is_free, is_waiting}
+use Rattle.flow_outlet.specs.End.{is_free, is_waiting, is_away}
 use Rattle.flow_outlet.specs.Law.{admits_head}
 use Rattle.flow_outlet.specs.Outlet.{OutletState, end_of}
 use Rattle.flow_spread.specs.declared.end.CopyEnd.{CopyEnd}
 use Rattle.flow_spread.specs.Copied.{Call, Course, after_all, IsAllowed, AllAllowed, put_in, given_in}
 use Rattle.flow_spread.specs.End.{no_end, moved, takes_up, is_open, count_of, owes_it}
 use Rattle.flow_spread.specs.Law.{SpreadLaw}
-use Rattle.flow_spread.specs.Spread.{SpreadState, end_at, link_at, stage_at, changes, prepares, offers, puts, looks, gives, holds, withdraws, ends_link, may_offer, may_give, is_asked_by, asked_id, left_of, is_at_rest, is_spread_free}
+use Rattle.flow_spread.specs.Spread.{SpreadState, end_at, link_at, stage_at, changes, prepares, offers, puts, looks, gives, holds, withdraws, ends_link, may_offer, may_give, is_wanted, is_asked_by, asked_id, left_of, is_at_rest, is_spread_free}
 use Rattle.flow_spread.proofs.LawKept.{calls_keep_law, law_tells}
 use Rattle.flow_block.specs.Block.{BlockState, port_in, held_by, with_copies, copies_next, copies_it, stops_by}
 use Rattle.flow_block.specs.Copier.{Copier, CopiedOver, copier_start, course_of}
-use Rattle.flow_block.specs.Copies.{CopyCall, after_copy, copies_left}
+use Rattle.flow_block.specs.Copies.{CopyCall, after_copy, copies_left, copies_weight}
 use Rattle.flow_block.specs.Jobs.{JobsState}
 use Rattle.flow_block.specs.Node.{marks_copy, marks_copied}
 use Rattle.flow_block.specs.NodeKeeps.{MayCopy}
 use Rattle.flow_block.specs.Peeks.{is_pending, fault_at_ports}
-use Rattle.flow_block.specs.Planned.{is_out_of, links_from, rule_of, out_place}
+use Rattle.flow_block.specs.Planned.{links_from, rule_of}
 use Rattle.flow_block.proofs.CourseMore.{after_more, allowed_more, put_more, given_more, law_then}
 use Rattle.flow_block.proofs.FaultsSeen.{StaysSeen, stays_at_ports, seen_over_ports}
 use Rattle.flow_block.proofs.GaveHolds.{count_more}
 use Rattle.flow_block.proofs.JournalTells.{took_same, gave_same, gave_here}
-use Rattle.flow_block.proofs.PlacesOfNumbers.{stands_below}
+use Rattle.flow_block.proofs.PlacesOfCopies.{rule_at_end, count_copies, rule_at, copies_differ}
 use Rattle.flow_block.proofs.PortsChange.{kept_at_one, kept_at_all}
+use Rattle.flow_block.proofs.TestsTell.{none_unless}
 use Rattle.flow_outlet.proofs.StagesTell.{number_same}
 
 -- Lists of ends
-
-abbrev rule_at_end : CopyEnd → LinkRule
-rule_at_end end = end.link.rule
 
 rules_taken_up : (value : Value) (ends : List CopyEnd) → map rule_at_end (map (takes_up value) ends) ≡ map rule_at_end ends
 rules_taken_up value [] = refl
@@ -88,6 +85,12 @@ admits_it : (when : When) (element : Option Value) (value : Value) → element �
     → admits when value ≡ true
 admits_it when element value is e = rw is at e
 
+wanted_away : (id : ℕ) (stage : SourceStage) → is_wanted id stage ≡ true → is_away stage ≡ true
+wanted_away id (Accepted i) e = refl
+wanted_away id (Wished i) e = refl
+wanted_away id (Claimed i) e = refl
+wanted_away id _ e = absurd (cc)
+
 pub none_left : (copies : SpreadState) → copies_left copies ≡ 0 → left_of copies ≡ None
 none_left copies e = by_test (count_of owes_it copies.ends == 0) e
   where
@@ -111,6 +114,13 @@ module _ {W : Type 0} (layout : Layout W) (b : ℕ) where
     no_exit_at k there =
         let none : length block.exits.ends ≡ 0 = ap (λ (exits : OutletState). length exits.ends) c.idle_exits in
         omega (arith, none, there)
+
+    -- where something is under way over a link it has not stopped
+    pub copy_goes_on : (k : ℕ) → k < length block.copies.ends → may_give k block.copies ≡ true → block.stopped ≡ None
+    copy_goes_on k there may =
+        none_unless block.stopped (false_from_ne_true (is_some block.stopped) (λ stopped.
+        never_both (is_away (stage_at block.copies k)) (wanted_away block.copies.id (stage_at block.copies k) may)
+        ((copies_lawful.each k there).rests stopped)))
 
     pending_stays : (ports : List PortState) → StaysSeen (fault_at_ports block.ports) (fault_at_ports ports)
         → is_pending block ≡ true → (is_some block.fault || is_some (fault_at_ports ports)) ≡ true
@@ -220,7 +230,7 @@ module _ {W : Type 0} (layout : Layout W) (b : ℕ) where
         → ((k : ℕ) → k < length block.copies.ends → CopiedOver later (link_at copies k))
         → Copier layout b (with_copies copies block) later
     copies_move copies later more pending rules allowed leads faults none taken gave each =
-        let change = gives_room (copies_left block.copies - copies_left copies) in
+        let change = gives_room (copies_weight block.copies - copies_weight copies) in
         let seen = seen_over_ports change (λ port. refl) block.ports in
         let held : (port_in (map change block.ports) 0).waiting ≡ held_by block =
         kept_at_all (λ (port : PortState). port.waiting) change block.ports 0 (λ port. refl) in
@@ -321,30 +331,15 @@ module _ {W : Type 0} (layout : Layout W) (b : ℕ) where
           (twice (λ i link. CopiedOver journal link) (copied_on (Out copies.id) mine.declined) (c.each k here) c.each)
 
     -- its links, by their places
-    rule_is : (k : ℕ) → k < length block.copies.ends
+    pub rule_is : (k : ℕ) → k < length block.copies.ends
         → (k < length (links_from layout b)) × ((link_at block.copies k).rule ≡ rule_of layout (get_or (links_from layout b) k 0))
     rule_is k here =
-        let links = links_from layout b in
-        let count : length block.copies.ends ≡ length links =
-        sym (length-map block.copies.ends rule_at_end) ∙ ap length c.rules ∙ length-map links (rule_of layout) in
-        let small : k < length links = omega (arith, here, count) in (
-          small,
-          sym (get_or-map rule_at_end block.copies.ends k no_end)
-              ∙ ap (λ (rules : List LinkRule). get_or rules k no_end.link.rule) c.rules
-              ∙ lists.get_or-map (rule_of layout) links k 0 no_end.link.rule small,
-        )
+        let small : k < length (links_from layout b) = omega (arith, here, count_copies layout b block.copies c.rules) in
+        (small, rule_at layout b block.copies c.rules k small)
 
-    place_is : (k : ℕ) → k < length block.copies.ends → out_place layout b (link_at block.copies k).rule.id ≡ k
-    place_is k here =
-        let is = rule_is k here in
-        ap (λ (rule : LinkRule). out_place layout b rule.id) is.1
-        ∙ (stands_below (is_out_of layout b) (length layout.links) k is.0).before
-
-    differ : (j k : ℕ) → j < length block.copies.ends → k < length block.copies.ends → j ≢ k
+    pub differ : (j k : ℕ) → j < length block.copies.ends → k < length block.copies.ends → j ≢ k
         → (link_at block.copies k).rule.id == (link_at block.copies j).rule.id ≡ false
-    differ j k here there apart =
-        ne_eqb (link_at block.copies k).rule.id (link_at block.copies j).rule.id (λ same.
-        apart (sym (place_is j here) ∙ ap (out_place layout b) (sym same) ∙ place_is k there))
+    differ j k here there apart = copies_differ layout b block.copies c.rules j k here there apart
 
     -- the element goes over a link
     module _ (k : ℕ) (here : k < length block.copies.ends) (may : may_give k block.copies ≡ true) where
@@ -387,16 +382,16 @@ module _ {W : Type 0} (layout : Layout W) (b : ℕ) where
       give_keeps None is some = absurd (cc)
       give_keeps (Some value) is some = give_to value is
 
-    pub copy_keeps : (call : CopyCall) (law : MayCopy call (record { block = block; journal = journal }))
+    pub copy_keeps : (grouped : ℕ) (call : CopyCall) (law : MayCopy call (record { block = block; journal = journal; grouped = grouped }))
         → Copier layout b (with_copies (after_copy call block.copies) block) (marks_copy call block.copies journal)
-    copy_keeps (CopyCall.offer k) may = offer_keeps k may.place may.stands.0 may.stands.1
-    copy_keeps (CopyCall.look k phase) may = look_keeps k may.place phase (may.place, may.stands)
-    copy_keeps (CopyCall.give k) may =
+    copy_keeps grouped (CopyCall.offer k) may = offer_keeps k may.place may.stands.0 may.stands.1
+    copy_keeps grouped (CopyCall.look k phase) may = look_keeps k may.place phase (may.place, may.stands)
+    copy_keeps grouped (CopyCall.give k) may =
         let well = law_tells.given 1 c.pending block.stopped block.copies copies_lawful k may.place may.stands in
         give_keeps k may.place may.stands block.copies.element refl well.is_element
-    copy_keeps (CopyCall.hold k) may = hold_keeps k may.place may.stands
-    copy_keeps (CopyCall.withdraw k) may = withdraw_keeps k may.place (is_pending block) refl may.stands.0 may.stands.1
-    copy_keeps (CopyCall.end_link k how) may = end_keeps k may.place how may.stands.0 may.stands.1
+    copy_keeps grouped (CopyCall.hold k) may = hold_keeps k may.place may.stands
+    copy_keeps grouped (CopyCall.withdraw k) may = withdraw_keeps k may.place (is_pending block) refl may.stands.0 may.stands.1
+    copy_keeps grouped (CopyCall.end_link k how) may = end_keeps k may.place how may.stands.0 may.stands.1
 
     -- What it does by itself
 
@@ -405,7 +400,7 @@ module _ {W : Type 0} (layout : Layout W) (b : ℕ) where
     put_keeps None is alone going free ids = c
     put_keeps (Some value) is alone going free ids =
         let copies = block.copies in
-        let change : PortState → PortState = λ port. gives_room (1 - copies_left (puts value copies)) (takes_next port) in
+        let change : PortState → PortState = λ port. gives_room (1 - copies_weight (puts value copies)) (takes_next port) in
         let port = port_in block.ports 0 in
         let held : (port_in (set block.ports 0 (change port)) 0).waiting ≡ drop 1 (held_by block) =
         ap (λ (q : PortState). q.waiting) (get_or-set_same block.ports 0 (change port) (fresh_port None) (omega (arith, alone))) in

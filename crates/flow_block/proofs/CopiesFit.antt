@@ -1,5 +1,5 @@
 -- What each call at a link over which copies go makes of the room that the element takes, and of the number of marks that may follow.
-use Rattle.std.proofs.Common.{rules, ◌≡◌, ℕ, ◌+◌, ◌-◌, ◌<◌, ◌≤◌, ◌==◌, Bool, true, false, cond, ◌&&◌, length, set, Option, Some, None, refl, inl, inr, arith, eq-eqb, ne_eqb}
+use Rattle.std.proofs.Common.{rules, ◌≡◌, ℕ, ◌+◌, ◌-◌, ◌<◌, ◌≤◌, ◌==◌, Bool, true, false, cond, ◌&&◌, length, set, Option, Some, None, is_some, refl, inl, inr, arith, eq-eqb, ne_eqb}
 use Rattle.std.proofs.lemmas.Bool.{cases_eq}
 use Rattle.std.proofs.lemmas.List.{length-set}
 use Rattle.flow_value.specs.declared.value.Value.{Value}
@@ -16,7 +16,7 @@ use Rattle.flow_spread.specs.End.{count_of, owes_it, is_busy, is_busy_at, is_wai
 use Rattle.flow_spread.specs.Spread.{SpreadState, end_at, link_at, stage_at, changes, puts, prepares, offers, looks, may_give, is_wanted, gives, is_asked_by, holds, withdraws, ends_link}
 use Rattle.flow_spread.proofs.CountsOfEnds.{count_after_set, busy_taken_up, waiting_taken_up}
 use Rattle.flow_block.specs.Block.{BlockState, with_copies, copies_next}
-use Rattle.flow_block.specs.Copies.{copies_left}
+use Rattle.flow_block.specs.Copies.{copies_left, weight_by, copies_weight}
 use Rattle.flow_block.specs.JournalFits.{copies_due, marks_due}
 use Rattle.flow_block.proofs.MarksFit.{due_map, first_kept}
 
@@ -37,35 +37,40 @@ owes_less false before stays = omega arith
 owes_less true true stays = omega arith
 owes_less true false stays = absurd (let wrong : false ≡ true = stays refl in cc)
 
+by_weight : (once some : Bool) (now before : ℕ) → now ≤ before → weight_by once some now ≤ weight_by once some before
+by_weight true some now before less = omega arith
+by_weight false some now before less = less
+
 -- an end that does not come to owe
 pub left_less : (copies : SpreadState) (k : ℕ) (end : CopyEnd) → k < length copies.ends → (end.owes ≡ true → (end_at copies k).owes ≡ true)
-    → copies_left (changes k end copies) ≤ copies_left copies
+    → copies_weight (changes k end copies) ≤ copies_weight copies
 left_less copies k end here stays =
     let moved = count_after_set owes_it copies.ends k end here in
     let less = owes_less end.owes (end_at copies k).owes stays in
-    fewer_left (count_of owes_it (set copies.ends k end)) (count_of owes_it copies.ends) (omega (arith, moved, less))
+    by_weight copies.once (is_some copies.element) (copies_left (changes k end copies)) (copies_left copies)
+    (fewer_left (count_of owes_it (set copies.ends k end)) (count_of owes_it copies.ends) (omega (arith, moved, less)))
 
 first_true : (a b : Bool) → (a && b) ≡ true → a ≡ true
 first_true true b e = refl
 first_true false b e = absurd (cc)
 
 module _ (copies : SpreadState) (k : ℕ) (here : k < length copies.ends) where
-  pub look_left : (phase : Phase) → copies_left (looks k phase copies) ≤ copies_left copies
+  pub look_left : (phase : Phase) → copies_weight (looks k phase copies) ≤ copies_weight copies
   look_left phase = left_less copies k _ here (λ owes. first_true (end_at copies k).owes _ owes)
 
-  pub give_left : copies_left (gives k copies) ≤ copies_left copies
+  pub give_left : copies_weight (gives k copies) ≤ copies_weight copies
   give_left = left_less copies k _ here (λ owes. absurd (cc))
 
-  pub hold_left : copies_left (holds k copies) ≤ copies_left copies
+  pub hold_left : copies_weight (holds k copies) ≤ copies_weight copies
   hold_left = left_less copies k _ here (λ owes. owes)
 
-  pub withdraw_left : copies_left (withdraws k copies) ≤ copies_left copies
+  pub withdraw_left : copies_weight (withdraws k copies) ≤ copies_weight copies
   withdraw_left = left_less copies k _ here (λ owes. owes)
 
-  pub end_left : (how : LinkEnd) → copies_left (ends_link k how copies) ≤ copies_left copies
+  pub end_left : (how : LinkEnd) → copies_weight (ends_link k how copies) ≤ copies_weight copies
   end_left how = left_less copies k _ here (λ owes. owes)
 
-  pub offer_left : copies_left (offers k (prepares k copies)) ≤ copies_left copies
+  pub offer_left : copies_weight (offers k (prepares k copies)) ≤ copies_weight copies
   offer_left =
       let ready = prepares k copies in
       let there : k < length ready.ends = omega (arith, here, length-set copies.ends k (record (end_at copies k) { share = copies.element })) in
@@ -90,7 +95,7 @@ due_changes copies k end more fewer here change =
 pub due_copied : (copies : SpreadState) (block : BlockState) (more fewer : ℕ) → copies_due copies + fewer ≤ copies_due block.copies + more
     → marks_due (with_copies copies block) + fewer ≤ marks_due block + more
 due_copied copies block more fewer change =
-    omega (arith, change, due_map (gives_room (copies_left block.copies - copies_left copies)) block.ports (λ port. refl))
+    omega (arith, change, due_map (gives_room (copies_weight block.copies - copies_weight copies)) block.ports (λ port. refl))
 
 look_speaks : (stage : SourceStage) (phase : Phase)
     → cond (is_busy (source_looks stage phase)) 1 0 + cond (is_waiting (source_looks stage phase)) 1 0
@@ -149,5 +154,5 @@ due_puts value copies = omega (arith, busy_taken_up value copies.ends, waiting_t
 pub due_copy_next : (first : Option Value) (block : BlockState) → marks_due (copies_next first block) ≤ marks_due block
 due_copy_next None block = omega arith
 due_copy_next (Some value) block =
-    let change : PortState → PortState = λ port. gives_room (1 - copies_left (puts value block.copies)) (takes_next port) in
+    let change : PortState → PortState = λ port. gives_room (1 - copies_weight (puts value block.copies)) (takes_next port) in
     omega (arith, due_puts value block.copies, first_kept change block.ports (λ port. refl))

@@ -1,28 +1,31 @@
 -- A block that shares its messages out copies none: no link is there over which copies could go.
-use Rattle.std.proofs.Common.{◌≡◌, ℕ, ◌<◌, true, false, List, [], length, Result, refl, ap, arith}
+use Rattle.std.proofs.Common.{◌≡◌, ℕ, ◌<◌, Bool, true, false, List, [], length, Result, refl, ap, arith}
 use Rattle.flow_value.specs.declared.value.Value.{Value}
 use Rattle.flow_link.specs.declared.draft.BlockKind.{BlockKind}
+use Rattle.flow_link.specs.declared.draft.BlockKind.TheVariants.{Broadcast, WriteOnce}
 use Rattle.flow_link.specs.Layout.{Layout}
-use Rattle.flow_block.specs.Kinds.{is_kept_kind}
-use Rattle.flow_link.specs.Plan.{is_one_taker, is_broadcast}
+use Rattle.flow_link.specs.Plan.{is_one_taker, is_broadcast, is_write_once}
 use Rattle.flow_spread.specs.Spread.{SpreadState, fresh_spread, is_at_rest}
 use Rattle.flow_block.specs.Copies.{copies_left}
 use Rattle.flow_block.specs.Node.{NodeState, left_in, out_view, source_view}
 use Rattle.flow_block.specs.NodeLaw.{NodeLaw}
 use Rattle.flow_block.specs.Peeks.{may_copy}
-use Rattle.flow_block.proofs.KindsBuilt.{by_kind}
 
-pub none_broadcast : (kind : BlockKind) → is_kept_kind kind ≡ true → is_broadcast kind ≡ false
-none_broadcast kind built = by_kind (λ k. is_broadcast k ≡ false) refl refl refl refl refl refl kind built
+-- what shares its messages out is no broadcast
+pub never_broadcast : (kind : BlockKind) → is_one_taker kind ≡ true → is_broadcast kind ≡ false
+never_broadcast Broadcast shares = absurd (cc)
+never_broadcast _ shares = refl
 
-pub shares_out : (kind : BlockKind) → is_kept_kind kind ≡ true → is_one_taker kind ≡ true
-shares_out kind built = by_kind (λ k. is_one_taker k ≡ true) refl refl refl refl refl refl kind built
+pub broadcast_copies : (kind : BlockKind) → is_broadcast kind ≡ true → is_one_taker kind ≡ false
+broadcast_copies Broadcast broadcast = refl
+broadcast_copies _ broadcast = absurd (cc)
+
+pub once_copies : (kind : BlockKind) → is_write_once kind ≡ true → is_one_taker kind ≡ false
+once_copies WriteOnce once = refl
+once_copies _ once = absurd (cc)
 
 module _ {W : Type 0} (layout : Layout W) (meaning : ℕ → Value → Result (List Value) ℕ) (b : ℕ) (node : NodeState)
-    (law : NodeLaw layout meaning b node) where
-  pub shares : is_one_taker node.block.kind ≡ true
-  shares = shares_out node.block.kind law.shape.built
-
+    (law : NodeLaw layout meaning b node) (shares : is_one_taker node.block.kind ≡ true) where
   pub copies_idle : node.block.copies ≡ fresh_spread false [] 1
   copies_idle = law.copies.idle shares
 
@@ -38,10 +41,20 @@ module _ {W : Type 0} (layout : Layout W) (meaning : ℕ → Value → Result (L
       omega (arith, none, there)
 
   pub copies_freely : may_copy node.block ≡ true
-  copies_freely = rw (none_broadcast node.block.kind law.shape.built) refl
+  copies_freely = rw (never_broadcast node.block.kind shares) refl
 
   pub left_is_shared : left_in node.block ≡ node.block.exits.left
   left_is_shared = rw shares refl
 
   pub view_is_shared : (k : ℕ) → source_view k node ≡ out_view k node
   view_is_shared k = rw shares refl
+
+-- where there is a link over which copies go, the block copies
+module _ {W : Type 0} (layout : Layout W) (meaning : ℕ → Value → Result (List Value) ℕ) (b : ℕ) (node : NodeState)
+    (law : NodeLaw layout meaning b node) where
+  pub copies_at : (k : ℕ) → k < length node.block.copies.ends → is_one_taker node.block.kind ≡ false
+  copies_at k there = by_test (is_one_taker node.block.kind) refl
+    where
+      by_test : (sharing : Bool) → is_one_taker node.block.kind ≡ sharing → sharing ≡ false
+      by_test true is = absurd (no_copy_at layout meaning b node law is k there)
+      by_test false is = refl

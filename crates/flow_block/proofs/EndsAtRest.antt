@@ -26,7 +26,7 @@ use Rattle.flow_block.specs.NodeRests.{rests_out, rests_in}
 
 -- Ends out
 
-rests_away : (stage : SourceStage) → rests_out stage ≡ true → is_away stage ≡ is_waiting stage
+pub rests_away : (stage : SourceStage) → rests_out stage ≡ true → is_away stage ≡ is_waiting stage
 rests_away source.Free e = refl
 rests_away (source.Waiting i) e = refl
 rests_away source.Refused e = refl
@@ -121,7 +121,7 @@ unrefused : (refusing : Option Refusal) (consumes : Option Move)
 unrefused None consumes e = (refl, e)
 unrefused (Some why) consumes e = absurd (cc)
 
-waiting_queue : (place : ℕ) (port : PortState) (stage : TargetStage) → is_postponed stage ≡ true
+pub waiting_queue : (place : ℕ) (port : PortState) (stage : TargetStage) → is_postponed stage ≡ true
     → move_in place port stage ≡ None
     → (port.refusing ≡ None) × (is_place place (next_place port) ≡ false)
 waiting_queue place port (target.Postponed i) e none =

@@ -26,19 +26,24 @@ use Rattle.flow_outlet.proofs.OffersInOrder.{offers_in_order}
 use Rattle.flow_outlet.proofs.OneEndChanges.{each_set}
 use Rattle.flow_link.specs.Plan.{is_broadcast}
 use Rattle.flow_spread.specs.Spread.{puts}
-use Rattle.flow_block.specs.Copies.{after_copy, copies_left}
-use Rattle.flow_block.specs.Block.{BlockState, port_at, copies_next, unit_weight, made_of, keeps_results, yields, makes_of, put_by_kind, put_of, values_of_result, row_of, next_group, group_weight, takes_group, makes_row, is_batch, gives_out, stops_by, held_by, is_join, makes_tuple}
-use Rattle.flow_block.specs.Node.{NodeState, NodeCall, hand_at, takes_in, gives_from}
+use Rattle.flow_block.specs.Copies.{after_copy, copies_weight}
+use Rattle.flow_block.specs.Block.{BlockState, port_at, copies_next, unit_weight, made_of, keeps_results, yields, makes_of, put_by_kind, put_of, values_of_result, row_of, next_group, group_weight, takes_group, makes_row, is_batch, gives_out, stops_by, held_by, is_join, makes_tuple, comes_back, is_batched_join}
+use Rattle.flow_block.specs.Node.{NodeState, NodeCall, hand_at, gives_from, order_in, next_group_in, holds_in}
 use Rattle.flow_block.specs.NodeLaw.{ExitsLaw, is_kept}
 use Rattle.flow_block.specs.NodeKeeps.{MayCall, after_call, ExitsKept}
 use Rattle.flow_block.specs.Peeks.{fault_at_ports, is_pending}
 use Rattle.flow_block.specs.Planned.{block_makes}
+use Rattle.flow_block.proofs.CopiesTaken.{taken_in_keeps}
 use Rattle.flow_block.proofs.EndsTell.{none_kept_by_looks}
 use Rattle.flow_block.proofs.FaultsSeen.{StaysSeen, stays_at_ends, stays_at_ports, seen_over_ports, seen_by_looks, unseen_where}
 use Rattle.flow_block.proofs.GoingOn.{may_fault_tells, may_finish_tells}
-use Rattle.flow_block.proofs.KindsBuilt.{makes_by}
+use Rattle.flow_block.proofs.KindsBuilt.{makes_by, next_by}
 use Rattle.flow_group.specs.Tuple.{tuple_of}
 use Rattle.flow_block.proofs.Joins.{join_alone}
+use Rattle.flow_block.proofs.RoomBack.{seen_over_back}
+use Rattle.flow_block.proofs.GroupPorts.{seen_by_group}
+use Rattle.flow_block.specs.Groups.{makes_group}
+use Rattle.flow_group.specs.Group.{group_of}
 
 -- The law of the exits
 
@@ -174,6 +179,16 @@ module _ {W : Type 0} (layout : Layout W) (meaning : ℕ → Value → Result (L
       none_kept = law.none_kept;
     }
 
+    group_keeps : (size weight : ℕ) (order : List ℕ) → lacks_ids (group_of size order block.ports ∷ []) block.exits ≡ false
+        → ExitsLaw layout meaning b (makes_group size weight order block)
+    group_keeps size weight order fit = record {
+      law = calls_keep_law.put (is_pending (makes_group size weight order block)) block.stopped block.exits
+          (subst (λ (seen : Option ℕ). OutletLaw (is_some block.fault || is_some seen) block.stopped block.exits)
+          (sym (seen_by_group size order block.ports)) law.law)
+          (group_of size order block.ports ∷ []) weight fit;
+      none_kept = law.none_kept;
+    }
+
     -- room comes back to its ports
     room_comes : (room : ℕ) → ExitsLaw layout meaning b (record block { ports = map (gives_room room) block.ports })
     room_comes room =
@@ -184,7 +199,7 @@ module _ {W : Type 0} (layout : Layout W) (meaning : ℕ → Value → Result (L
     copy_keeps : (value : Option Value) → ExitsLaw layout meaning b (copies_next value block)
     copy_keeps None = law
     copy_keeps (Some value) = record {
-      law = (port_stays 0 (gives_room (1 - copies_left (puts value block.copies)) (takes_next (port_at 0 block))) refl).law;
+      law = (port_stays 0 (gives_room (1 - copies_weight (puts value block.copies)) (takes_next (port_at 0 block))) refl).law;
       none_kept = law.none_kept;
     }
 
@@ -195,10 +210,11 @@ module _ {W : Type 0} (layout : Layout W) (meaning : ℕ → Value → Result (L
         let end = end_at o k in
         let room = wanted_room o.next (is_some o.offer) end.stage end.rule.max end.given may
         (law.law.each k here).room in
-        let same = seen_over_ports (gives_room (gives k o).room) (λ port. refl) block.ports in
-        let over = ports_change (map (gives_room (gives k o).room) block.ports)
+        let back = comes_back (gives k o) block.copies block.kind (head_of o) block.ports in
+        let same = seen_over_back (gives k o) block.copies block.kind (head_of o) block.ports in
+        let over = ports_change back
         (λ seen. subst (λ (f : Option ℕ). is_some f ≡ true) (sym same) seen) in
-        let pending = is_some block.fault || is_some (fault_at_ports (map (gives_room (gives k o).room) block.ports)) in
+        let pending = is_some block.fault || is_some (fault_at_ports back) in
         record {
           law = calls_keep_law.room_back pending block.stopped (gives k o)
               (calls_keep_law.give pending block.stopped o over.law k here may room);
@@ -215,7 +231,7 @@ module _ {W : Type 0} (layout : Layout W) (meaning : ℕ → Value → Result (L
 
   closes_keep : (node : NodeState) (p k : ℕ) (hand : Option Value)
       → is_hand (port_stage k (port_at p node.block)) ≡ true
-      → ExitsLaw layout meaning b node.block → ExitsLaw layout meaning b (takes_in p k hand node).block
+      → ExitsLaw layout meaning b node.block → ExitsLaw layout meaning b (holds_in p k hand node).block
   closes_keep node p k None in_hand law = law
   closes_keep node p k (Some value) in_hand law =
       end_offers node.block law p k (closes k value (port_at p node.block)) _ refl is_hand (λ how. refl) in_hand
@@ -242,7 +258,11 @@ module _ {W : Type 0} (layout : Layout W) (meaning : ℕ → Value → Result (L
       end_offers node.block law p k (consumes k (port_at p node.block)) _ refl is_postponed (λ how. refl) may.0.stands
   exits_keep node (NodeCall.open_with p k value) law may =
       end_offers node.block law p k (opens k value (port_at p node.block)) _ refl is_arrived (λ how. refl) may.stands
-  exits_keep node (NodeCall.close p k) law may = closes_keep node p k (hand_at p k node) may.stands law
+  exits_keep node (NodeCall.close p k) law may =
+      let held = holds_in p k (hand_at p k node) node in
+      let kept = closes_keep node p k (hand_at p k node) may.stands law in
+      taken_in_keeps (λ new journal. ExitsLaw layout meaning b new) p k (hand_at p k node) node kept
+      (λ at_once. copy_keeps held.block kept (first_of (held_by held.block)))
   exits_keep node (NodeCall.offer k) law may =
       let o = node.block.exits in
       exits_change node.block law (offers k (prepares o)) k _ ((offers_in_order.named o k).0 may.next).there refl refl
@@ -268,7 +288,7 @@ module _ {W : Type 0} (layout : Layout W) (meaning : ℕ → Value → Result (L
       (none_kept_by_looks (stage_at o k) phase (law.none_kept k may.place))
       (calls_keep_law.look (is_pending node.block) node.block.stopped o law.law k may.place phase may.put_off)
   exits_keep node (NodeCall.copy call) law may =
-      let room = copies_left node.block.copies - copies_left (after_copy call node.block.copies) in
+      let room = copies_weight node.block.copies - copies_weight (after_copy call node.block.copies) in
       record { law = (room_comes node.block law room).law; none_kept = law.none_kept }
   exits_keep node NodeCall.begin law may = record { law = law.law; none_kept = law.none_kept }
   exits_keep node NodeCall.make law may =
@@ -278,18 +298,29 @@ module _ {W : Type 0} (layout : Layout W) (meaning : ℕ → Value → Result (L
       let tuple = tuple_of block.ports ∷ [] in
       let one = put_of block.kind result (first_of (held_by block)) in
       let other = cond (is_broadcast block.kind) [] one in
-      let fits : (batch : Bool) → is_batch block.kind ≡ batch
+      let next = cond (is_batch block.kind) row (cond (is_join block.kind) tuple other) in
+      let fits_node : (batched : Bool) → is_batched_join block.kind ≡ batched
+      → lacks_ids (cond batched (next_group_in node ∷ []) next) block.exits ≡ false =
+      λ batched is. ap (λ (kind : Bool). lacks_ids (cond kind (next_group_in node ∷ []) next) block.exits) (sym is) ∙ may.ids in
+      let fits : is_batched_join block.kind ≡ false → (batch : Bool) → is_batch block.kind ≡ batch
       → lacks_ids (cond batch row (cond (is_join block.kind) tuple other)) block.exits ≡ false =
-      λ batch is. ap (λ (kind : Bool). lacks_ids (cond kind row (cond (is_join block.kind) tuple other)) block.exits) (sym is) ∙ may.ids in
-      let fits_alone : (join : Bool) → is_join block.kind ≡ join → is_batch block.kind ≡ false
+      λ grouped batch is.
+      ap (λ (kind : Bool). lacks_ids (cond kind row (cond (is_join block.kind) tuple other)) block.exits) (sym is)
+      ∙ fits_node false grouped in
+      let fits_alone : is_batched_join block.kind ≡ false → (join : Bool) → is_join block.kind ≡ join
+      → is_batch block.kind ≡ false
       → lacks_ids (cond join tuple other) block.exits ≡ false =
-      λ join is single. ap (λ (kind : Bool). lacks_ids (cond kind tuple other) block.exits) (sym is) ∙ fits false single in
+      λ grouped join is single.
+      ap (λ (kind : Bool). lacks_ids (cond kind tuple other) block.exits) (sym is) ∙ fits grouped false single in
+      next_by (λ (new : NodeState). ExitsLaw layout meaning b new.block) result node
+      (λ batched. group_keeps block law block.size 0 (order_in node) (fits_node true batched))
+      (λ grouped.
       makes_by (ExitsLaw layout meaning b) result block
-      (λ batch. row_keeps block law (fits true batch))
-      (λ join. tuple_keeps block law (fits_alone true join (join_alone block.kind join)))
+      (λ batch. row_keeps block law (fits grouped true batch))
+      (λ join. tuple_keeps block law (fits_alone grouped true join (join_alone block.kind join)))
       (λ broadcast. copy_keeps block law (first_of (held_by block)))
       (λ single alone shared. make_keeps block law result (first_of (held_by block))
-      (ap (λ (kind : Bool). lacks_ids (cond kind [] one) block.exits) (sym shared) ∙ fits_alone false alone single))
+      (ap (λ (kind : Bool). lacks_ids (cond kind [] one) block.exits) (sym shared) ∙ fits_alone grouped false alone single)))
   exits_keep node (NodeCall.complete p) law may = port_stays node.block law p (port_closes (port_at p node.block)) refl
   exits_keep node (NodeCall.fault number) law may =
       stops_keep node.block law (outcome.Faulted number) (may_fault_tells node.block number may).going

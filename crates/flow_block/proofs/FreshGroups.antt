@@ -10,7 +10,7 @@ use Rattle.flow_group.specs.Tuples.{TuplesLaw}
 use Rattle.flow_group.proofs.GroupsKeep.{groups_kept}
 use Rattle.flow_group.proofs.TuplesKeep.{tuples_kept}
 use Rattle.flow_block.specs.FreshGroups.{FreshGroups}
-use Rattle.flow_block.specs.GroupsKeep.{are_complete}
+use Rattle.flow_block.specs.GroupsLaw.{are_complete}
 use Rattle.flow_block.specs.Planned.{port_of_plan}
 
 module _ {W : Type 0} (layout : Layout W) (b : ℕ) where

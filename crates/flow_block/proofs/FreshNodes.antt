@@ -1,5 +1,5 @@
 -- A node in which nothing has happened is in order.
-use Rattle.std.proofs.Common.{◌≡◌, ℕ, zero, suc, ◌+◌, ◌<◌, true, false, List, [], ◌∷◌, length, map, Option, Some, None, is_some, Result, refl, ap, sym, ◌∙◌, subst, arith, ◌&&◌}
+use Rattle.std.proofs.Common.{◌≡◌, ℕ, zero, suc, ◌+◌, ◌<◌, cond, Bool, true, false, List, [], ◌∷◌, length, map, Option, Some, None, is_some, Result, refl, ap, sym, ◌∙◌, subst, arith, ◌&&◌}
 use Rattle.std.proofs.lemmas.Bool.{or_right}
 use Rattle.std.proofs.lemmas.List.{length-map}
 use Rattle.flow_value.specs.declared.value.Value.{Value}
@@ -11,28 +11,31 @@ use Rattle.flow_link.specs.Facts.{facts_in}
 use Rattle.flow_link.specs.Layout.{Layout}
 use Rattle.flow_link.specs.LinkOk.{IsWithin}
 use Rattle.flow_link.specs.Lists.{numbers_from, below}
-use Rattle.flow_block.specs.Kinds.{is_kept_kind}
-use Rattle.flow_link.specs.Plan.{block_in, port_count, is_one_taker, is_reserving}
+use Rattle.flow_link.specs.Plan.{block_in, port_count, is_one_taker, is_write_once}
 use Rattle.flow_link.specs.Trace.{has_ended}
-use Rattle.flow_link.proofs.ListTests.{length_numbers, never_both}
+use Rattle.flow_link.proofs.ListTests.{length_numbers}
 use Rattle.flow_intake.specs.Port.{EndState, PortState, fresh_end, end_in, stage_at as port_stage, is_coming}
 use Rattle.flow_intake.specs.PortLaw.{InLaw, PortLaw, has_ended as has_port_ended}
 use Rattle.flow_outlet.specs.declared.ends.LinkRule.{LinkRule}
 use Rattle.flow_outlet.specs.declared.ends.OutEnd.{OutEnd}
 use Rattle.flow_outlet.specs.End.{fresh_end as fresh_out, end_in as out_in}
 use Rattle.flow_outlet.proofs.LawKept.{calls_keep_law}
-use Rattle.flow_outlet.specs.Outlet.{OutletState, is_empty, fresh_outlet}
-use Rattle.flow_spread.specs.Spread.{SpreadState, fresh_spread}
-use Rattle.flow_block.specs.Block.{port_in, held_by, is_batch}
-use Rattle.flow_block.specs.Copies.{shared_rules, fresh_copies}
+use Rattle.flow_outlet.specs.Outlet.{is_empty, fresh_outlet}
+use Rattle.flow_spread.specs.Copied.{Course}
+use Rattle.flow_spread.specs.End.{fresh_end as fresh_copy, end_in as copy_in}
+use Rattle.flow_spread.specs.Spread.{fresh_spread}
+use Rattle.flow_block.specs.Block.{port_in, held_by}
+use Rattle.flow_block.proofs.RoomFits.{weighs_fresh}
+use Rattle.flow_block.specs.Copier.{Copier, CopiedOver}
+use Rattle.flow_block.specs.Copies.{shared_rules, copied_rules, fresh_copies, copies_weight}
 use Rattle.flow_block.specs.Fresh.{FreshInOrder}
-use Rattle.flow_block.specs.Node.{NodeState}
-use Rattle.flow_block.specs.NodeLaw.{NodeLaw, is_kept, MakesAs, WeighsAs, PortAsPlanned, GaveOver, weighed, rows_weighed, partly_weighed}
+use Rattle.flow_block.specs.NodeLaw.{is_kept, MakesAs, WeighsAs, PortAsPlanned, GaveOver, weighed, rows_weighed, partly_weighed, places_out}
 use Rattle.flow_block.specs.Peeks.{is_pending}
-use Rattle.flow_block.specs.Planned.{lanes_of, size_of, block_makes, links_to, links_from, rule_of, port_of_plan, fresh_node}
+use Rattle.flow_block.specs.Planned.{block_makes, links_to, links_from, rule_of, port_of_plan, fresh_node, room_of}
 use Rattle.flow_block.proofs.FreshGroups.{fresh_tuples}
-use Rattle.flow_block.proofs.CopiesIdle.{shares_out}
+use Rattle.flow_block.proofs.PlacesOfCopies.{rule_at_end}
 use Rattle.flow_block.proofs.EndsTell.{none_come}
+use Rattle.flow_block.proofs.GroupsRest.{groups_begin}
 
 -- each end is a fresh one
 in_ends_fresh : (links : List ℕ) (P : EndState → Type 0) → ((l : ℕ) → P (fresh_end l)) → (k : ℕ)
@@ -140,54 +143,87 @@ module _ {W : Type 0} (layout : Layout W) (b : ℕ) where
         none_come (map fresh_end (links_to layout b p))
         (λ k small. in_ends_fresh (links_to layout b p) (λ (end : EndState). is_coming end.stage ≡ false)
         (λ l. refl) k) in
-        rw none (within_none (block_in layout.blocks b).capacity);
+        rw none (within_none (room_of (block_in layout.blocks b)));
     waits = λ some. omega arith;
     took = omega arith;
   }
 
 -- a block that shares its messages out copies none
-fresh_shared : (kind : BlockKind) (rules : List LinkRule) → is_one_taker kind ≡ true
-    → (shared_rules kind rules ≡ rules) × (fresh_copies kind rules ≡ fresh_spread false [] 1)
+fresh_shared : (kind : BlockKind) (rules : List LinkRule) → is_one_taker kind ≡ true → fresh_copies kind rules ≡ fresh_spread false [] 1
 fresh_shared Broadcast rules e = absurd (cc)
 fresh_shared WriteOnce rules e = absurd (cc)
-fresh_shared _ rules e = (refl, refl)
+fresh_shared _ rules e = refl
 
-abbrev fresh_with : {W : Type 0} (layout : Layout W) (b : ℕ) → OutletState → SpreadState → NodeState
-fresh_with layout b exits copies =
-    let node = fresh_node layout b in record node { block = record node.block { exits = exits; copies = copies } }
+-- each end over which copies go is a fresh one
+copy_ends_fresh : (rules : List LinkRule) (P : OutEnd → Type 0) → ((rule : LinkRule) → P (fresh_out rule)) → (k : ℕ)
+    → k < length (map fresh_copy rules) → P (copy_in (map fresh_copy rules) k).link
+copy_ends_fresh [] P each k there = absurd (omega (arith, there))
+copy_ends_fresh (rule ∷ rules) P each zero there = each rule
+copy_ends_fresh (rule ∷ rules) P each (suc k) there = copy_ends_fresh rules P each k (omega (arith, there))
 
-fresh_sharing : (W : Type 0) (layout : Layout W) (meaning : ℕ → Value → Result (List Value) ℕ) (b : ℕ)
-    → is_kept_kind (block_in layout.blocks b).kind ≡ true
-    → 0 < port_count (block_in layout.blocks b) → is_reserving (block_in layout.blocks b) ≡ false → 0 < lanes_of layout b → (is_batch (block_in layout.blocks b).kind ≡ true → 0 < size_of layout b)
-    → NodeLaw layout meaning b (fresh_with layout b (fresh_outlet (map (rule_of layout) (links_from layout b)) 1) (fresh_spread false [] 1))
-fresh_sharing W layout meaning b built some freely lane size =
+copy_rules_kept : (rules : List LinkRule) → map rule_at_end (map fresh_copy rules) ≡ rules
+copy_rules_kept [] = refl
+copy_rules_kept (rule ∷ rules) = ap (λ (rs : List LinkRule). rule ∷ rs) (copy_rules_kept rules)
+
+fresh_copier : {W : Type 0} (layout : Layout W) (b : ℕ) → is_one_taker (block_in layout.blocks b).kind ≡ false
+    → Copier layout b (fresh_node layout b).block []
+fresh_copier layout b copying =
     let rules = map (rule_of layout) (links_from layout b) in
-    let node = fresh_with layout b (fresh_outlet rules 1) (fresh_spread false [] 1) in
+    let kind = (block_in layout.blocks b).kind in
+    let node = fresh_node layout b in
+    record {
+      idle_exits = ap (λ (sharing : Bool). fresh_outlet (cond sharing rules []) 1) copying;
+      rules = copy_rules_kept (copied_rules kind rules) ∙ ap (λ (sharing : Bool). cond sharing [] rules) copying;
+      calls = [];
+      allowed = tt;
+      pending = false;
+      faults = λ e. absurd (cc);
+      leads_here = ap
+          (λ (sharing : Bool). let run : Course = record {
+            spread = fresh_spread (is_write_once kind) (cond sharing [] rules) 1;
+            pending = false;
+            stopped = None;
+          } in run) (sym copying);
+      took_is = sym (nothing_held layout b (below (port_count (block_in layout.blocks b))));
+      gave_is = λ k there. refl;
+      each = copy_ends_fresh (copied_rules kind rules) (CopiedOver [])
+          (λ rule. record { admitted = refl; counted = λ some. refl; some = λ more. absurd (omega (arith, more)) });
+    }
+
+pub fresh_in_order : (W : Type 0) → FreshInOrder W
+fresh_in_order W layout meaning b built some freely lane size group unlimited =
     let block = block_in layout.blocks b in
+    let rules = map (rule_of layout) (links_from layout b) in
+    let shared = shared_rules block.kind rules in
+    let node = fresh_node layout b in
+    let none_copied : copies_weight node.block.copies ≡ 0 = weighs_fresh block.kind rules in
     record {
       shape = record {
         built = built;
         kind_is = refl;
         size_is = refl;
         some_size = size;
+        some_group = group;
+        no_capacity = unlimited;
         port_count_is = count_is layout b;
         some_port = subst (λ (count : ℕ). 0 < count) (sym (count_is layout b)) some;
         takes_freely = freely;
         ports = each_port layout b (PortAsPlanned layout meaning b)
             (λ p. record { links = links_kept (links_to layout b p); capacity = refl; never_reserves = refl });
-        rules = rules_kept rules;
+        rules = rules_kept shared;
       };
       ports = each_port layout b (λ p port. PortLaw (facts_in layout) 0 port) (port_in_order layout b);
       exits = record {
-        law = calls_keep_law.fresh (is_pending node.block) None rules 1 (omega arith) (omega arith);
-        none_kept = out_ends_fresh rules (λ (end : OutEnd). is_kept end.stage ≡ false) (λ rule. refl);
+        law = calls_keep_law.fresh (is_pending node.block) None shared 1 (omega arith) (omega arith);
+        none_kept = out_ends_fresh shared (λ (end : OutEnd). is_kept end.stage ≡ false) (λ rule. refl);
       };
       copies = record {
-        idle = λ shares. refl;
-        copier = λ copying. never_both (is_one_taker block.kind) (shares_out block.kind built) copying;
+        idle = fresh_shared block.kind rules;
+        copier = fresh_copier layout b;
       };
-      gave = record {
-        each = out_ends_fresh rules (GaveOver layout meaning b [])
+      none_held = λ once. nothing_held layout b (below (port_count block));
+      gave = λ shares. record {
+        each = out_ends_fresh shared (GaveOver layout meaning b [])
             (λ rule. record { admitted = refl; counted = λ some. refl });
         next_is = refl;
         in_order = refl;
@@ -210,14 +246,17 @@ fresh_sharing W layout meaning b built some freely lane size =
         counted = λ works.
             ap (λ (held : List Value). 0 + length held) (nothing_held layout b (below (port_count block)));
       };
-      load = record {
-        groups = subst (λ (held : List Value). WeighsAs (block_makes layout meaning b) block.kind block.capacity [] held
+      load = λ grouped. record {
+        groups = subst (λ (held : List Value). WeighsAs (block_makes layout meaning b) block.kind (room_of block) [] held
             [] [] 1 []) (sym (nothing_held layout b (below (port_count block))))
-            (weighs_nothing (block_makes layout meaning b) block.kind block.capacity 1);
+            (weighs_nothing (block_makes layout meaning b) block.kind (room_of block) 1);
         no_room = refl;
-        load = each_port layout b (λ p port. is_some block.capacity ≡ true → port.load ≡ length port.waiting + 0)
-            (λ p some. refl);
+        load = each_port layout b
+            (λ p port. is_some (room_of block) ≡ true → port.load ≡ length port.waiting + places_out node.block)
+            (λ p some. omega (arith, none_copied));
       };
+      groups = λ batched. (groups_begin W layout b).groups;
+      group_load = λ batched. (groups_begin W layout b).load;
       marks = record { own = refl; last = refl; once = refl };
       ends = record {
         stopped_is = refl;
@@ -231,17 +270,8 @@ fresh_sharing W layout meaning b built some freely lane size =
         at_rest = λ e. absurd (cc);
         done_empty = λ e. absurd (cc);
         done_complete = λ e. absurd (cc);
-        complete_cause = λ p small e. absurd (cc);
+        complete_cause = λ p small e none. absurd (cc);
         fault_cause = λ number e. absurd (cc);
         faulted_by = λ number e. absurd (cc);
       };
     }
-
-pub fresh_in_order : (W : Type 0) → FreshInOrder W
-fresh_in_order W layout meaning b built some freely lane size =
-    let rules = map (rule_of layout) (links_from layout b) in
-    let same = fresh_shared (block_in layout.blocks b).kind rules (shares_out (block_in layout.blocks b).kind built) in
-    subst (λ (copies : SpreadState). NodeLaw layout meaning b (fresh_with layout b (fresh_outlet (shared_rules (block_in layout.blocks b).kind rules) 1) copies))
-    (sym same.1)
-    (subst (λ (shared : List LinkRule). NodeLaw layout meaning b (fresh_with layout b (fresh_outlet shared 1) (fresh_spread false [] 1)))
-    (sym same.0) (fresh_sharing W layout meaning b built some freely lane size))

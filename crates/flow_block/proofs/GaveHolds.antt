@@ -17,7 +17,7 @@ use Rattle.flow_link.specs.JournalGrows.{given_by_mark}
 use Rattle.flow_link.specs.Law.{is_passed, gives_in_order}
 use Rattle.flow_link.specs.Layout.{Layout}
 use Rattle.flow_link.specs.Lists.{every, below}
-use Rattle.flow_link.specs.Plan.{begins_at, link_in, no_link, is_steady}
+use Rattle.flow_link.specs.Plan.{begins_at, link_in, no_link, is_steady, is_one_taker}
 use Rattle.flow_link.specs.Trace.{Run, gave, gave_over, is_used_up}
 use Rattle.flow_link.proofs.JournalsGrow.{gave_more}
 use Rattle.flow_link.proofs.ListTests.{every_below, every_weaker, and_weaker, or_weaker, never_both}
@@ -34,16 +34,18 @@ use Rattle.flow_outlet.proofs.OffersInOrder.{offers_in_order}
 use Rattle.flow_outlet.proofs.OneEndChanges.{each_set}
 use Rattle.flow_outlet.proofs.StagesTell.{number_same}
 use Rattle.flow_block.specs.Copies.{copy_place}
+use Rattle.flow_block.proofs.CopiesTaken.{taken_in_keeps}
 use Rattle.flow_block.proofs.CopiesIdle.{no_copy_at}
 use Rattle.flow_block.specs.Block.{BlockState, copies_next, made_of, keeps_results, yields, makes_of, held_by}
-use Rattle.flow_block.specs.Node.{NodeState, NodeCall, hand_at, takes_in, gives_from}
+use Rattle.flow_block.specs.Node.{NodeState, NodeCall, hand_at, holds_in, gives_from}
 use Rattle.flow_block.specs.NodeLaw.{NodeLaw, ShapeLaw, GaveLaw, GaveOver, refuses_over, run_seen_by}
 use Rattle.flow_block.specs.NodeKeeps.{MayCall, after_call, GaveKept}
 use Rattle.flow_block.specs.Planned.{is_out_of, rule_of, out_place, block_makes}
 use Rattle.flow_block.proofs.EndsTell.{used_up_told}
 use Rattle.flow_block.proofs.JournalTells.{gave_same, gave_here, passed_by}
-use Rattle.flow_block.proofs.KindsBuilt.{makes_by}
-use Rattle.flow_block.proofs.PlacesOfLinks.{end_out_of, source_there, links_out_differ, earlier_out}
+use Rattle.flow_block.proofs.KindsBuilt.{makes_by, next_by}
+use Rattle.flow_block.proofs.PlacesOfLinks.{end_out_of, shares_at, source_there, links_out_differ, earlier_out}
+use Rattle.flow_block.proofs.ShapeHolds.{shape_kept}
 use Rattle.flow_block.proofs.TestsTell.{some_where, some_set}
 
 -- What the marks tell of an order
@@ -201,7 +203,7 @@ module _ {W : Type 0} (layout : Layout W) (meaning : ℕ → Value → Result (L
         → goes_past o.ends journal value (rule_of layout l) ≡ true
     past_at l low out =
         let begins = source_there b (link_in layout.links l).source out in
-        let has = end_out_of layout meaning b block shape l (begins_there layout.links b l out) begins in
+        let has = end_out_of layout meaning b block shape (shares_at layout meaning b block shape k here) l (begins_there layout.links b l out) begins in
         let j = out_place layout b l in
         let end = end_at o j in
         let id : end.rule.id ≡ l = ap (λ (rule : LinkRule). rule.id) has.rule_is in
@@ -286,71 +288,83 @@ module _ {W : Type 0} (layout : Layout W) (meaning : ℕ → Value → Result (L
   make_keeps block journal result None law = law
   make_keeps block journal result (Some value) law = result_keeps block journal (made_of block.kind result value) law
 
-  law_of_copy : (first : Option Value) (node : NodeState) → GaveLaw layout meaning b node.block.exits node.journal
-      → GaveLaw layout meaning b (copies_next first node.block).exits node.journal
-  law_of_copy None node law = law
-  law_of_copy (Some value) node law = law
+  law_of_copy : (first : Option Value) (block : BlockState) (journal : List Mark) → GaveLaw layout meaning b block.exits journal
+      → GaveLaw layout meaning b (copies_next first block).exits journal
+  law_of_copy None block journal law = law
+  law_of_copy (Some value) block journal law = law
 
   closes_keep : (node : NodeState) (p k : ℕ) (hand : Option Value)
       → GaveLaw layout meaning b node.block.exits node.journal
-      → GaveLaw layout meaning b (takes_in p k hand node).block.exits (takes_in p k hand node).journal
+      → GaveLaw layout meaning b (holds_in p k hand node).block.exits (holds_in p k hand node).journal
   closes_keep node p k None law = law
   closes_keep node p k (Some value) law =
       quiet_mark node.block.exits node.journal (Took p _ value) (λ test. refl) (λ all. refl) law
 
   gave_keeps : (node : NodeState) (k : ℕ) (head : Option Value) → NodeLaw layout meaning b node
-      → k < length node.block.exits.ends
+      → GaveLaw layout meaning b node.block.exits node.journal → k < length node.block.exits.ends
       → may_give k node.block.exits ≡ true → head_of node.block.exits ≡ head
       → GaveLaw layout meaning b (gives_from k head node).block.exits (gives_from k head node).journal
-  gave_keeps node k None law here may head = law.gave
-  gave_keeps node k (Some value) law here may head =
-      gives_keep node.block law.shape node.journal law.gave law.exits.law k here may value head
+  gave_keeps node k None law gave here may head = gave
+  gave_keeps node k (Some value) law gave here may head =
+      gives_keep node.block law.shape node.journal gave law.exits.law k here may value head
 
   gave_keep : (node : NodeState) (call : NodeCall) → NodeLaw layout meaning b node → MayCall layout meaning b call node
+      → is_one_taker node.block.kind ≡ true → GaveLaw layout meaning b node.block.exits node.journal
       → GaveLaw layout meaning b (after_call layout meaning b call node).block.exits
       (after_call layout meaning b call node).journal
-  gave_keep node (NodeCall.want p k) law may = law.gave
-  gave_keep node (NodeCall.turn_down p k) law may = law.gave
-  gave_keep node (NodeCall.postpone p k) law may = law.gave
-  gave_keep node (NodeCall.refuse p k) law may = law.gave
-  gave_keep node (NodeCall.consume p k) law may = law.gave
-  gave_keep node (NodeCall.open_with p k value) law may = law.gave
-  gave_keep node (NodeCall.close p k) law may = closes_keep node p k (hand_at p k node) law.gave
-  gave_keep node (NodeCall.offer k) law may =
+  gave_keep node (NodeCall.want p k) law may shares gave = gave
+  gave_keep node (NodeCall.turn_down p k) law may shares gave = gave
+  gave_keep node (NodeCall.postpone p k) law may shares gave = gave
+  gave_keep node (NodeCall.refuse p k) law may shares gave = gave
+  gave_keep node (NodeCall.consume p k) law may shares gave = gave
+  gave_keep node (NodeCall.open_with p k value) law may shares gave = gave
+  gave_keep node (NodeCall.close p k) law may shares gave =
+      let held = holds_in p k (hand_at p k node) node in
+      let kept = closes_keep node p k (hand_at p k node) gave in
+      taken_in_keeps (λ new journal. GaveLaw layout meaning b new.exits journal) p k (hand_at p k node) node kept
+      (λ at_once. law_of_copy (first_of (held_by held.block)) held.block held.journal kept)
+  gave_keep node (NodeCall.offer k) law may shares gave =
       let o = node.block.exits in
       let next = (offers_in_order.named o k).0 may.next in
-      end_moves o node.journal k _ _ _ _ next.there (none_refused is_free refl (stage_at o k) _ next.free) law.gave
-  gave_keep node (NodeCall.give k) law may =
-      gave_keeps node k (head_of node.block.exits) law may.place may.wanted refl
-  gave_keep node (NodeCall.deny k) law may =
+      end_moves o node.journal k _ _ _ _ next.there (none_refused is_free refl (stage_at o k) _ next.free) gave
+  gave_keep node (NodeCall.give k) law may shares gave =
+      gave_keeps node k (head_of node.block.exits) law gave may.place may.wanted refl
+  gave_keep node (NodeCall.deny k) law may shares gave =
       let o = node.block.exits in
-      end_moves o node.journal k _ _ _ _ may.place (none_refused is_wish refl (stage_at o k) _ may.stands) law.gave
-  gave_keep node (NodeCall.withdraw k) law may =
+      end_moves o node.journal k _ _ _ _ may.place (none_refused is_wish refl (stage_at o k) _ may.stands) gave
+  gave_keep node (NodeCall.withdraw k) law may shares gave =
       let o = node.block.exits in
       end_moves o node.journal k _ _ _ _ may.waits.place
-      (none_refused is_waiting refl (stage_at o k) _ may.waits.stands) law.gave
-  gave_keep node (NodeCall.end_link k how) law may =
+      (none_refused is_waiting refl (stage_at o k) _ may.waits.stands) gave
+  gave_keep node (NodeCall.end_link k how) law may shares gave =
       let o = node.block.exits in
       end_moves o node.journal k _ _ _ _ may.is_at_home.place
-      (none_refused is_free refl (stage_at o k) _ may.is_at_home.stands) law.gave
-  gave_keep node (NodeCall.look_in p k phase) law may = law.gave
-  gave_keep node (NodeCall.look_out k phase) law may =
+      (none_refused is_free refl (stage_at o k) _ may.is_at_home.stands) gave
+  gave_keep node (NodeCall.look_in p k phase) law may shares gave = gave
+  gave_keep node (NodeCall.look_out k phase) law may shares gave =
       let o = node.block.exits in
-      end_moves o node.journal k _ _ _ _ may.place (look_tells (stage_at o k) phase).refused law.gave
-  gave_keep node (NodeCall.copy call) law may = absurd (no_copy_at layout meaning b node law (copy_place call) may.place)
-  gave_keep node NodeCall.begin law may = law.gave
-  gave_keep node NodeCall.make law may =
+      end_moves o node.journal k _ _ _ _ may.place (look_tells (stage_at o k) phase).refused gave
+  gave_keep node (NodeCall.copy call) law may shares gave = absurd (no_copy_at layout meaning b node law shares (copy_place call) may.place)
+  gave_keep node NodeCall.begin law may shares gave = gave
+  gave_keep node NodeCall.make law may shares gave =
+      next_by (λ (new : NodeState). GaveLaw layout meaning b new.block.exits new.journal) (block_makes layout meaning b) node
+      (λ batched. record { each = gave.each; next_is = gave.next_is; in_order = gave.in_order })
+      (λ grouped.
       makes_by (λ new. GaveLaw layout meaning b new.exits node.journal) (block_makes layout meaning b) node.block
-      (λ batch. record { each = law.gave.each; next_is = law.gave.next_is; in_order = law.gave.in_order })
-      (λ join. record { each = law.gave.each; next_is = law.gave.next_is; in_order = law.gave.in_order })
-      (λ broadcast. law_of_copy (first_of (held_by node.block)) node law.gave)
-      (λ other alone single. make_keeps node.block node.journal (block_makes layout meaning b) (first_of (held_by node.block)) law.gave)
-  gave_keep node (NodeCall.complete p) law may =
-      quiet_mark node.block.exits node.journal (Complete p) (λ test. refl) (λ all. refl) law.gave
-  gave_keep node (NodeCall.fault number) law may =
-      quiet_mark node.block.exits node.journal (Fault number) (λ test. refl) (λ all. refl) law.gave
-  gave_keep node NodeCall.finish law may =
-      quiet_mark node.block.exits node.journal Done (λ test. refl) (λ all. refl) law.gave
+      (λ batch. record { each = gave.each; next_is = gave.next_is; in_order = gave.in_order })
+      (λ join. record { each = gave.each; next_is = gave.next_is; in_order = gave.in_order })
+      (λ broadcast. law_of_copy (first_of (held_by node.block)) node.block node.journal gave)
+      (λ other alone single. make_keeps node.block node.journal (block_makes layout meaning b)
+      (first_of (held_by node.block)) gave))
+  gave_keep node (NodeCall.complete p) law may shares gave =
+      quiet_mark node.block.exits node.journal (Complete p) (λ test. refl) (λ all. refl) gave
+  gave_keep node (NodeCall.fault number) law may shares gave =
+      quiet_mark node.block.exits node.journal (Fault number) (λ test. refl) (λ all. refl) gave
+  gave_keep node NodeCall.finish law may shares gave =
+      quiet_mark node.block.exits node.journal Done (λ test. refl) (λ all. refl) gave
 
 pub gave_kept : (W : Type 0) → GaveKept W
-gave_kept W layout meaning b node call law may = gave_keep layout meaning b node call law may
+gave_kept W layout meaning b node call law may shares =
+    let after = shape_kept W layout meaning b node call law may in
+    let before = ap is_one_taker (law.shape.kind_is ∙ sym after.kind_is) ∙ shares in
+    gave_keep layout meaning b node call law may before (law.gave before)

@@ -1,5 +1,5 @@
 -- What tells that a block goes on: what it may do by itself, an open port, or a link with something under way.
-use Rattle.std.proofs.Common.{◌≡◌, ℕ, zero, suc, ◌+◌, ◌<◌, ltb, ◌==◌, cond, Bool, true, false, not, ◌&&◌, List, [], ◌∷◌, length, set, Option, Some, None, is_none, is_some, Result, refl, sym, ◌∙◌, arith, eq-eqb, eqb-true}
+use Rattle.std.proofs.Common.{◌≡◌, ℕ, zero, suc, ◌+◌, ◌<◌, ltb, ◌==◌, cond, Bool, true, false, not, ◌&&◌, List, [], ◌∷◌, length, set, Option, Some, None, is_none, is_some, Result, refl, sym, ◌∙◌, arith, eq-eqb, eqb-true, ◌||◌}
 use Rattle.std.proofs.lemmas.Bool.{not-true, and_parts, false_from_ne_true}
 use Rattle.flow_value.specs.declared.value.Value.{Value}
 use Rattle.flow_link.specs.declared.stage.SourceStage.{SourceStage}
@@ -18,11 +18,11 @@ use Rattle.flow_outlet.specs.declared.ends.OutEnd.{OutEnd}
 use Rattle.flow_outlet.specs.End.{is_away, is_waiting, count_at, end_in}
 use Rattle.flow_outlet.specs.Outlet.{is_empty, is_wanted, is_wish, is_at_rest, stage_at}
 use Rattle.flow_spread.specs.Spread.{is_at_rest as is_spread_at_rest}
-use Rattle.flow_link.specs.declared.draft.BlockKind.TheVariants.{Join}
+use Rattle.flow_link.specs.declared.draft.BlockKind.TheVariants.{Join, BatchedJoin}
 use Rattle.flow_group.specs.Tuple.{has_tuple}
-use Rattle.flow_block.specs.Block.{BlockState, port_at, held_by, is_batch, is_join}
+use Rattle.flow_block.specs.Block.{BlockState, port_at, held_by, is_batch, is_join, is_batched_join}
 use Rattle.flow_block.specs.Copies.{copies_left}
-use Rattle.flow_block.specs.Peeks.{could_stop, is_out_at_rest, is_copied_out, may_copy, has_group, has_next, may_work, may_begin, may_make, may_complete, next_fault, may_finish, fault_cause, nothing_comes, all_ended, holds_nothing, is_complete}
+use Rattle.flow_block.specs.Peeks.{could_stop, is_out_at_rest, is_copied_out, may_copy, has_group, has_next, may_work, may_begin, may_make, may_complete, next_fault, may_finish, fault_cause, nothing_comes, holds_nothing, is_complete, has_group_of_ports, is_written}
 use Rattle.flow_block.specs.NodeLaw.{EndsLaw, outcome_in}
 use Rattle.flow_block.proofs.JournalTells.{open_tells}
 use Rattle.flow_block.proofs.TestsTell.{none_is, none_unless}
@@ -91,6 +91,14 @@ single_join : (kind : BlockKind) → is_join kind ≡ true → is_batch kind ≡
 single_join Join e = refl
 single_join _ e = absurd (cc)
 
+single_batched : (kind : BlockKind) → is_batched_join kind ≡ true → is_batch kind ≡ false
+single_batched BatchedJoin e = refl
+single_batched _ e = absurd (cc)
+
+unjoined_batched : (kind : BlockKind) → is_batched_join kind ≡ true → is_join kind ≡ false
+unjoined_batched BatchedJoin e = refl
+unjoined_batched _ e = absurd (cc)
+
 pub record MayMake (block : BlockState) : Type 0 where
   pub going : block.stopped ≡ None
   pub no_fault : block.fault ≡ None
@@ -98,6 +106,8 @@ pub record MayMake (block : BlockState) : Type 0 where
   pub group : is_batch block.kind ≡ true → has_group block ≡ true
   -- a join has a tuple to make
   pub tuple : is_join block.kind ≡ true → has_tuple block.ports ≡ true
+  -- a batched join has a group to make
+  pub groups : is_batched_join block.kind ≡ true → has_group_of_ports block ≡ true
 
 next_of_batch : (batch : Bool) (group some : Bool) → cond batch group some ≡ true → batch ≡ true → group ≡ true
 next_of_batch true group some e is = e
@@ -109,18 +119,32 @@ next_of_join false true group tuple some e single is = e
 next_of_join false false group tuple some e single is = absurd (cc)
 next_of_join true join group tuple some e single is = absurd (cc)
 
+next_of_batched : (batch join batched : Bool) (group tuple groups some : Bool)
+    → cond batch group (cond join tuple (cond batched groups some)) ≡ true
+    → batch ≡ false → join ≡ false → batched ≡ true → groups ≡ true
+next_of_batched false false true group tuple groups some e single alone is = e
+next_of_batched false false false group tuple groups some e single alone is = absurd (cc)
+next_of_batched false true batched group tuple groups some e single alone is = absurd (cc)
+next_of_batched true join batched group tuple groups some e single alone is = absurd (cc)
+
 pub may_work_tells : (block : BlockState) → may_work block ≡ true → MayMake block
 may_work_tells block e =
     let outer = and_parts (is_none block.stopped && is_none block.fault) (has_next block) e in
     let inner = and_parts (is_none block.stopped) (is_none block.fault) outer.0 in
+    let some = not (is_empty (held_by block)) && may_copy block in
+    let other = cond (is_batched_join block.kind) (has_group_of_ports block) some in
     record {
       going = none_is block.stopped inner.0;
       no_fault = none_is block.fault inner.1;
-      group = next_of_batch (is_batch block.kind) (has_group block)
-          (cond (is_join block.kind) (has_tuple block.ports) (not (is_empty (held_by block)) && may_copy block)) outer.1;
+      group =
+          next_of_batch (is_batch block.kind) (has_group block) (cond (is_join block.kind) (has_tuple block.ports) other) outer.1;
       tuple = λ join.
-          next_of_join (is_batch block.kind) (is_join block.kind) (has_group block) (has_tuple block.ports)
-          (not (is_empty (held_by block)) && may_copy block) outer.1 (single_join block.kind join) join;
+          next_of_join (is_batch block.kind) (is_join block.kind) (has_group block) (has_tuple block.ports) other outer.1
+          (single_join block.kind join) join;
+      groups = λ batched.
+          next_of_batched (is_batch block.kind) (is_join block.kind) (is_batched_join block.kind) (has_group block)
+          (has_tuple block.ports) (has_group_of_ports block) some outer.1 (single_batched block.kind batched)
+          (unjoined_batched block.kind batched) batched;
     }
 
 pub may_begin_tells : (block : BlockState) → may_begin block ≡ true → MayMake block
@@ -139,13 +163,13 @@ may_make_tells block e =
 pub record MayComplete (p : ℕ) (block : BlockState) : Type 0 where
   pub open_port : has_ended (port_at p block).refusing ≡ false
   pub none_comes : coming (port_at p block) ≡ 0
-  pub completion : has_seen_completion (port_at p block).ends ≡ true
+  pub completion : (has_seen_completion (port_at p block).ends || is_written block) ≡ true
 
 pub may_complete_tells : (p : ℕ) (block : BlockState) → may_complete p block ≡ true → MayComplete p block
 may_complete_tells p block e =
     let open_port = not (has_ended (port_at p block).refusing) in
     let empty = coming (port_at p block) == 0 in
-    let outer = and_parts (open_port && empty) (has_seen_completion (port_at p block).ends) e in
+    let outer = and_parts (open_port && empty) (has_seen_completion (port_at p block).ends || is_written block) e in
     let inner = and_parts open_port empty outer.0 in
     record {
       open_port = not-true (has_ended (port_at p block).refusing) inner.0;

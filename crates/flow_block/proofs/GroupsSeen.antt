@@ -20,15 +20,16 @@ use Rattle.flow_group.specs.Tuple.{held_at as waits_at}
 use Rattle.flow_group.proofs.GroupsCut.{groups_tell}
 use Rattle.flow_group.proofs.GroupsKeep.{groups_kept}
 use Rattle.flow_block.specs.Block.{port_at}
-use Rattle.flow_block.specs.GroupsKeep.{are_complete, KeepsGroups, MayCallBatched, after_at_batched}
-use Rattle.flow_block.specs.GroupsSeen.{WholeBefore, WholeStand, BatchedJoinsAreParts}
-use Rattle.flow_block.specs.Node.{NodeState, NodeCall, takes_in, gives_from, in_link_at, out_link_at}
+use Rattle.flow_block.specs.GroupsKeep.{MayCallBatched, after_at_batched}
+use Rattle.flow_block.specs.GroupsSeen.{WholeStand, BatchedJoinsAreParts}
+use Rattle.flow_block.specs.Node.{NodeState, NodeCall, gives_from, in_link_at, out_link_at, holds_in}
 use Rattle.flow_block.specs.Planned.{block_makes}
 use Rattle.flow_block.specs.TuplesSeen.{IsPortsOf}
 use Rattle.flow_block.proofs.GroupsOfRows.{none_before, passes_before, every_of}
 use Rattle.flow_block.proofs.GroupsStand.{one_unfinished}
 use Rattle.flow_block.proofs.TuplesSeen.{left_shared}
 use Rattle.flow_block.proofs.RowsHold.{other_side, not_both_so, given_back}
+use Rattle.flow_block.specs.GroupsLaw.{are_complete, KeepsGroups, WholeBefore}
 
 -- Each call
 
@@ -39,7 +40,7 @@ module _ (size : ℕ) where
   none_given count journal mark none law = λ p there. ap (every (is_whole size)) (none_before p journal mark none) ∙ law p there
 
   taken_in : (node : NodeState) (count p k : ℕ) (value : Option Value) → WholeBefore count size node.journal
-      → WholeBefore count size (takes_in p k value node).journal
+      → WholeBefore count size (holds_in p k value node).journal
   taken_in node count p k None law = law
   taken_in node count p k (Some value) law = none_given count node.journal (Took p (in_link_at p k node) value) refl law
 
@@ -111,20 +112,20 @@ module _ {W : Type 0} (run : Run W) (b : ℕ) (node : NodeState) (part : IsPorts
   abbrev ports : List PortState
   ports = node.block.ports
 
-  marks_are : marks_of run b ≡ node.journal
+  pub marks_are : marks_of run b ≡ node.journal
   marks_are = ap (λ (t : BlockTrace). t.journal) part.trace
 
-  left_is : left_at run b ≡ node.block.exits.left
+  pub left_is : left_at run b ≡ node.block.exits.left
   left_is = ap (λ (t : BlockTrace). t.left) part.trace ∙ left_shared node.block part.shares
 
-  held_is : (p : ℕ) → held_at run b p ≡ waits_at ports p
+  pub held_is : (p : ℕ) → held_at run b p ≡ waits_at ports p
   held_is p =
       ap (λ (t : BlockTrace). get_or t.held p []) part.trace ∙ get_or-map (λ (port : PortState). port.waiting) ports p (fresh_port None)
 
   outputs_are : gave node.journal ++ node.block.exits.left ≡ outputs run b
   outputs_are = sym (ap₂ (λ (marks : List Mark) (left : List Value). gave marks ++ left) marks_are left_is)
 
-  numbers_are : ports_of run b ≡ below (length ports)
+  pub numbers_are : ports_of run b ≡ below (length ports)
   numbers_are = ap below (sym part.count)
 
   abbrev size : ℕ

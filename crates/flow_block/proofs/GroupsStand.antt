@@ -15,7 +15,7 @@ use Rattle.flow_link.specs.Trace.{gave, has_complete, is_complete_mark}
 use Rattle.flow_link.proofs.ListTests.{every_weaker_below, never_both, passes_below}
 use Rattle.flow_link.proofs.OneMoreMark.{some_before, some_no_more, gave_no_more, gave_by_took, gave_by_gave}
 use Rattle.flow_intake.specs.Port.{PortState, hand_in}
-use Rattle.flow_intake.specs.Calls.{put_hand, wants, turns_down, postpones, refuses, consumes, opens, closes, looks as port_looks, gives_room, port_closes}
+use Rattle.flow_intake.specs.Calls.{put_hand, wants, turns_down, postpones, refuses, consumes, opens, closes, looks as port_looks, port_closes}
 use Rattle.flow_outlet.specs.Outlet.{OutletState, head_of, gives, prepares, offers, denies, withdraws, ends_link, looks as exit_looks}
 use Rattle.flow_group.specs.Group.{has_group, group_of}
 use Rattle.flow_group.specs.Groups.{GroupsLaw, arrival_at}
@@ -26,11 +26,14 @@ use Rattle.flow_group.proofs.GroupsKeep.{groups_kept}
 use Rattle.flow_group.proofs.JournalsTell.{journals_tell}
 use Rattle.flow_group.proofs.TuplesKeep.{held_by_take}
 use Rattle.flow_block.specs.Block.{BlockState, port_at, with_port, stops_by}
-use Rattle.flow_block.specs.GroupsKeep.{are_complete, KeepsGroups, makes_group, order_taken, order_after, after_at_batched, MayTake, MayCallBatched, GroupsStand}
-use Rattle.flow_block.specs.Node.{NodeState, NodeCall, takes_in, gives_from, in_link_at, out_link_at}
+use Rattle.flow_block.specs.Groups.{makes_group}
+use Rattle.flow_block.specs.GroupsKeep.{order_taken, order_after, after_at_batched, MayTake, MayCallBatched, GroupsStand}
+use Rattle.flow_block.specs.Node.{NodeState, NodeCall, gives_from, in_link_at, out_link_at, holds_in}
 use Rattle.flow_block.specs.Planned.{block_makes}
 use Rattle.flow_block.proofs.PortsChange.{kept_at_one, kept_at_all}
+use Rattle.flow_block.proofs.RoomBack.{length_back, kept_back}
 use Rattle.flow_block.proofs.RowsHold.{given_on}
+use Rattle.flow_block.specs.GroupsLaw.{are_complete, KeepsGroups}
 
 -- a port that is complete stays so, and one more mark but its Complete does not make it so
 complete_on : (count : ℕ) (journal : List Mark) (mark : Mark) → are_complete count journal ≡ true
@@ -122,14 +125,21 @@ module _ (size : ℕ) (some : 0 < size) (order : List ℕ) where
   given_out node law k (Some value) head =
       let block = node.block in
       let new = gives_from k (Some value) node in
-      ports_move node law new.block (gives_room (gives k block.exits).room) (Gave (out_link_at k node) value) refl (λ port. refl)
+      let mark = Gave (out_link_at k node) value in
+      stays block new.block node.journal (node.journal ++ mark ∷ []) law
+      (record {
+        as_many = length_back (gives k block.exits) block.copies block.kind (head_of block.exits) block.ports;
+        held = λ q there. kept_back (gives k block.exits) block.copies block.kind (head_of block.exits)
+            (λ (seen : PortState). seen.waiting) block.ports q (λ back port. refl);
+      })
+      (complete_on (length block.ports) node.journal mark)
       (ap (λ (given : List Value). given ++ new.block.exits.left) (gave_by_gave node.journal (out_link_at k node) value)
       ∙ given_on (gave node.journal) block.exits.left value head)
-      refl
+      (journals_tell.other node.journal mark refl)
 
   -- a message is taken
   taken_in : (node : NodeState) → Keeps node.block node.journal → (p k : ℕ) → MayTake p k node → (value : Option Value)
-      → KeepsGroups size (order_taken p value order) (takes_in p k value node).block (takes_in p k value node).journal
+      → KeepsGroups size (order_taken p value order) (holds_in p k value node).block (holds_in p k value node).journal
   taken_in node law p k may None = law
   taken_in node law p k may (Some value) =
       let block = node.block in

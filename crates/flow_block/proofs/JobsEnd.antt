@@ -16,10 +16,10 @@ use Rattle.flow_intake.specs.Calls.{first_of, takes_next, gives_room, port_fails
 use Rattle.flow_outlet.specs.End.{end_in as out_end}
 use Rattle.flow_outlet.specs.Outlet.{OutletState, lacks_ids, puts}
 use Rattle.flow_group.specs.Tuple.{tuple_of}
-use Rattle.flow_block.specs.Block.{BlockState, port_at, unit_weight, with_jobs, is_join, makes_tuple, job_message, held_by, put_by_kind, values_of_result, put_of, fails, keeps_results, yields, copies_next, makes_of, makes_other, row_of, next_group, makes_row, makes, yields_all, yields_where, put_where}
+use Rattle.flow_block.specs.Block.{BlockState, port_at, unit_weight, with_jobs, is_join, makes_tuple, job_message, held_by, put_by_kind, values_of_result, put_of, fails, keeps_results, yields, copies_next, makes_of, makes_other, row_of, next_group, makes_row, makes, yields_all, yields_where, put_where, put_next}
 use Rattle.flow_block.specs.Jobs.{Slot, JobsState, no_slot, place_of, is_out, is_front_back, brings, comes_out, AreOf}
 use Rattle.flow_block.specs.JobsEnd.{JobsEndWell, MayEndJob, EndsWell, ViewsStay, after_job, job_result}
-use Rattle.flow_block.specs.Node.{NodeState, NodeCall, with_block, view_of_in, view_of_out}
+use Rattle.flow_block.specs.Node.{NodeState, NodeCall, with_block, view_of_in, view_of_out, makes_next_group, next_group_in}
 use Rattle.flow_block.specs.NodeKeeps.{NodesKept, MayMake}
 use Rattle.flow_block.specs.NodeLaw.{NodeLaw}
 use Rattle.flow_block.specs.Planned.{block_makes}
@@ -34,7 +34,7 @@ use Rattle.flow_block.proofs.PortsChange.{kept_at_all}
 use Rattle.flow_block.proofs.ShapeHolds.{exits_move as shape_stays}
 use Rattle.flow_block.proofs.TestsTell.{none_is}
 use Rattle.flow_block.proofs.ViewsMove.{EndsStay, keeping_stays, yielding_stays}
-use Rattle.flow_block.proofs.Joins.{works_unjoined}
+use Rattle.flow_block.proofs.Joins.{works_unjoined, works_unbatched, works_at_one}
 
 -- Other slots, and slots of which nothing has come back
 
@@ -169,6 +169,7 @@ views_stay : (node : NodeState) (block : BlockState) → EndsStay node.block blo
 views_stay node block stay = record {
   ins = λ p k small near. ap (λ ends. view_of_in node.journal (end_in k ends)) (stay.ins p small);
   outs = λ k near. ap (λ ends. view_of_out node.journal (out_end ends k)) stay.outs;
+  copies = λ k near. ap (view_of_out node.journal) (stay.copies k near);
 }
 
 -- what it holds then
@@ -180,12 +181,12 @@ held_then _ [] block value rest one first =
     held_next block (λ port. gives_room 1 (takes_next port)) value rest one first (λ port. refl)
 held_then _ (made ∷ values) block value rest one first = held_next block takes_next value rest one first (λ port. refl)
 
-module _ {W : Type 0} (kept : NodesKept W) (layout : Layout W) (meaning : ℕ → Value → Result (List Value) ℕ) (b : ℕ) where
+module _ {W : Type 0} (kept : NodesKept W) (layout : Layout W) (meaning : ℕ → Value → Result (List Value) ℕ) (b grouped : ℕ) where
   abbrev result : Value → Result (List Value) ℕ
   result = block_makes layout meaning b
 
   abbrev InOrder : BlockState → List Mark → Type 0
-  InOrder block journal = NodeLaw layout meaning b (record { block = block; journal = journal })
+  InOrder block journal = NodeLaw layout meaning b (record { block = block; journal = journal; grouped = grouped })
 
   -- other slots, of which the law of jobs holds
   slots_stand : (block : BlockState) (journal : List Mark) (slots : List Slot) → InOrder block journal
@@ -203,8 +204,9 @@ module _ {W : Type 0} (kept : NodesKept W) (layout : Layout W) (meaning : ℕ �
           idle = law.copies.idle;
           copier = λ copying. jobs_change layout b block journal (law.copies.copier copying) (change block.jobs);
         };
+        none_held = law.none_held;
         gave = law.gave;
-        makes = makes_stay layout meaning b (record { block = block; journal = journal }) law.makes change;
+        makes = makes_stay layout meaning b (record { block = block; journal = journal; grouped = grouped }) law.makes change;
         rows = law.rows;
         tuples = law.tuples;
         jobs = record {
@@ -216,7 +218,18 @@ module _ {W : Type 0} (kept : NodesKept W) (layout : Layout W) (meaning : ℕ �
           drained = drained;
           counted = law.jobs.counted;
         };
-        load = load_stays layout meaning b block journal change law.load;
+        load = λ grouped. load_stays layout meaning b block journal change (law.load grouped);
+        groups = λ batched. let old = law.groups batched in record {
+          within = old.within;
+          groups = old.groups;
+          whole = old.whole;
+        };
+        group_load = λ batched. let old = law.group_load batched in record {
+          no_groups = old.no_groups;
+          no_room = old.no_room;
+          no_copies = old.no_copies;
+          load = old.load;
+        };
         marks = law.marks;
         ends = ends_stay layout meaning b block journal law.ends change;
       }
@@ -243,12 +256,22 @@ module _ {W : Type 0} (kept : NodesKept W) (layout : Layout W) (meaning : ℕ �
       → InOrder (yields made (with_slots (blank slots) block)) journal
   made_next block journal made value rest slots works going well held is ids law =
       let old = with_slots (blank slots) block in
-      let node : NodeState = record { block = old; journal = journal } in
+      let node : NodeState = record { block = old; journal = journal; grouped = grouped } in
       let may : MayMake result node = record {
-        waits = rw (going, well, works_alone block.kind works, works_unjoined block.kind works, held, works_shared block.kind works) refl;
+        waits = rw (
+          going,
+          well,
+          works_alone block.kind works,
+          works_unjoined block.kind works,
+          works_unbatched block.kind works,
+          held,
+          works_shared block.kind works,
+        ) refl;
         all_out = blank_out slots;
         copy_id = λ broadcast. absurd (never_both (is_broadcast block.kind) broadcast (works_shared block.kind works));
-        ids = ap (λ (batch : Bool). lacks_ids (cond batch (row_of (next_group old) ∷ [])
+        ids = ap (λ (batched : Bool). lacks_ids (cond batched (next_group_in node ∷ []) (put_next result old)) block.exits)
+            (works_unbatched block.kind works)
+            ∙ ap (λ (batch : Bool). lacks_ids (cond batch (row_of (next_group old) ∷ [])
             (cond (is_join block.kind) (tuple_of block.ports ∷ [])
             (cond (is_broadcast block.kind) [] (put_of block.kind result (first_of (held_by block)))))) block.exits)
             (works_alone block.kind works)
@@ -263,7 +286,10 @@ module _ {W : Type 0} (kept : NodesKept W) (layout : Layout W) (meaning : ℕ �
             ∙ ids;
       } in
       subst (λ (new : BlockState). InOrder new journal) (makes_so old made value rest works held is)
-      (kept layout meaning b node NodeCall.make law may)
+      (subst (λ (new : NodeState). NodeLaw layout meaning b new)
+      (ap (λ (batched : Bool). cond batched (makes_next_group node) (with_block (makes result old) node))
+      (works_unbatched block.kind works))
+      (kept layout meaning b node NodeCall.make law may))
 
   -- all that is there comes out in order
   out_keeps : (slots : List Slot) (block : BlockState) (journal : List Mark) (held : List Value)
@@ -301,7 +327,7 @@ module _ {W : Type 0} (kept : NodesKept W) (layout : Layout W) (meaning : ℕ �
       (ids_first kind values (comes_out slots) block.exits ids) law in
       let mid : InOrder (with_slots (blank slots) new) journal =
       subst (λ (block : BlockState). InOrder block journal) (keeps_slots kind values (blank all) block works) made in
-      let one = has_one_port layout meaning b (with_slots (blank all) block) law.shape (works_unjoined block.kind works) in
+      let one = has_one_port layout meaning b (with_slots (blank all) block) law.shape (works_at_one block.kind works) in
       subst (λ (block : BlockState). InOrder (yields_all slots block) journal) (sym (keeps_slots kind values all block works))
       (out_keeps slots new journal rest (held_then kind values block value rest one same)
       (ap has_work goes.kind ∙ works) (goes.stopped ∙ going) (goes.fault ∙ well) are.1
@@ -327,30 +353,31 @@ module _ {W : Type 0} (kept : NodesKept W) (layout : Layout W) (meaning : ℕ �
       (λ idle. absurd (never_both (has_work block.kind) works idle)) are
       (λ none. absurd (never_both (is_none block.fault) (ap is_none none) fails))
 
+module _ {W : Type 0} (kept : NodesKept W) (layout : Layout W) (meaning : ℕ → Value → Result (List Value) ℕ) (b : ℕ) where
   -- the result of a message comes back
-  end_keeps : (node : NodeState) (ticket : ℕ) → NodeLaw layout meaning b node → MayEndJob result ticket node
+  end_keeps : (node : NodeState) (ticket : ℕ) → NodeLaw layout meaning b node → MayEndJob (block_makes layout meaning b) ticket node
       → (works : Bool) → has_work node.block.kind ≡ works
-      → NodeLaw layout meaning b (after_job result ticket node)
+      → NodeLaw layout meaning b (after_job (block_makes layout meaning b) ticket node)
   end_keeps node ticket law may false idle =
       let out = (and_parts (is_none node.block.stopped) (is_out ticket node.block.jobs) may.out).1 in
       absurd (none_out ticket node.block.jobs (law.jobs.only_works idle) out)
   end_keeps node ticket law may true works =
       let block = node.block in
-      let made = job_result result ticket block in
+      let made = job_result (block_makes layout meaning b) ticket block in
       let k = place_of ticket block.jobs in
       let both = and_parts (is_none block.stopped) (is_out ticket block.jobs) may.out in
-      where_keeps block node.journal (set block.jobs.slots k (Some made)) (is_none block.fault) refl works
+      where_keeps kept layout meaning b node.grouped block node.journal (set block.jobs.slots k (Some made)) (is_none block.fault) refl works
       (none_is block.stopped both.0)
       (subst (λ (n : ℕ). n ≤ block.jobs.lanes) (sym (length-set block.jobs.slots k (Some made))) law.jobs.within)
-      (back_at result (held_by block) block.jobs.slots k made
-      (λ small. makes_by_work result block.kind (job_message ticket block) works) law.jobs.results)
+      (back_at (block_makes layout meaning b) (held_by block) block.jobs.slots k made
+      (λ small. makes_by_work (block_makes layout meaning b) block.kind (job_message ticket block) works) law.jobs.results)
       may.ids law
 
-  pub job_ends_well : (node : NodeState) (ticket : ℕ) → NodeLaw layout meaning b node → MayEndJob result ticket node
+  pub job_ends_well : (node : NodeState) (ticket : ℕ) → NodeLaw layout meaning b node → MayEndJob (block_makes layout meaning b) ticket node
       → EndsWell layout meaning b ticket node
   job_ends_well node ticket law may =
       let block = node.block in
-      let made = job_result result ticket block in
+      let made = job_result (block_makes layout meaning b) ticket block in
       let back = with_jobs (brings ticket made) block in
       let stay = where_stays (is_none block.fault) back in
       record {

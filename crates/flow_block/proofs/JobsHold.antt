@@ -21,19 +21,22 @@ use Rattle.flow_link.proofs.OneMoreMark.{took_no_more, took_by_took, took_by_gav
 use Rattle.flow_intake.specs.Port.{PortState, fresh_port, hand_in}
 use Rattle.flow_intake.specs.Calls.{first_of, wants, turns_down, postpones, refuses, consumes, opens, closes, looks as port_looks, takes_next, gives_room, port_closes, port_fails}
 use Rattle.flow_outlet.specs.Outlet.{OutletState, head_of, gives}
-use Rattle.flow_link.specs.Plan.{is_broadcast}
-use Rattle.flow_block.specs.Copies.{copy_place}
-use Rattle.flow_block.proofs.CopiesIdle.{no_copy_at, none_broadcast}
-use Rattle.flow_block.specs.Block.{BlockState, port_at, with_port, begins, held_by, made_of, yields, keeps_results, makes_of, is_batch, makes_row, stops_by, is_join, makes_tuple}
+use Rattle.flow_link.specs.Plan.{is_one_taker}
+use Rattle.flow_block.specs.Copies.{after_copy}
+use Rattle.flow_block.specs.Block.{BlockState, port_at, with_port, begins, held_by, made_of, yields, keeps_results, makes_of, is_batch, makes_row, stops_by, makes_tuple, copies_it, copies_next, has_ports}
+use Rattle.flow_block.proofs.CopiesLeave.{took_by_copy, held_by_copy}
 use Rattle.flow_block.specs.Jobs.{Slot, is_front_back, AreOf}
-use Rattle.flow_block.specs.Node.{NodeState, NodeCall, takes_in, gives_from, in_link_at, out_link_at}
+use Rattle.flow_block.specs.Node.{NodeState, NodeCall, gives_from, copies_by, in_link_at, out_link_at, makes_next_group, holds_in}
+use Rattle.flow_block.proofs.CopiesTaken.{taken_in_keeps, makes_many}
+use Rattle.flow_block.proofs.CopiesIdle.{broadcast_copies, once_copies}
 use Rattle.flow_block.specs.NodeKeeps.{JobsKept, MayCall, after_call}
 use Rattle.flow_block.specs.NodeLaw.{NodeLaw, JobsLaw}
 use Rattle.flow_block.specs.Peeks.{may_work, may_begin}
 use Rattle.flow_block.specs.Planned.{block_makes}
-use Rattle.flow_block.proofs.KindsBuilt.{is_of_one, of_one, has_one_port, batch_idle, makes_by}
+use Rattle.flow_block.proofs.KindsBuilt.{is_of_one, of_one, has_one_port, batch_idle, makes_by, next_by, copying_idle}
 use Rattle.flow_block.proofs.PortsChange.{kept_at_one, kept_at_all}
-use Rattle.flow_block.proofs.Joins.{join_idle}
+use Rattle.flow_block.proofs.Joins.{join_idle, ports_idle, others_at_one, batched_idle}
+use Rattle.flow_block.proofs.RoomBack.{kept_back}
 
 -- The results of the messages that are held first
 
@@ -152,11 +155,11 @@ module _ {W : Type 0} (layout : Layout W) (meaning : ℕ → Value → Result (L
   }
 
   taken_by : (node : NodeState) → NodeLaw layout meaning b node → (p k : ℕ) (value : Value)
-      → p < length node.block.ports → (join : Bool) → is_join node.block.kind ≡ join
-      → Jobs (takes_in p k (Some value) node).block (takes_in p k (Some value) node).journal
-  taken_by node law p k value below true join =
-      handed_on node.block (takes_in p k (Some value) node).block node.journal (takes_in p k (Some value) node).journal refl refl
-      (join_idle node.block.kind join) law.jobs
+      → p < length node.block.ports → (many : Bool) → has_ports node.block.kind ≡ many
+      → Jobs (holds_in p k (Some value) node).block (holds_in p k (Some value) node).journal
+  taken_by node law p k value below true many =
+      handed_on node.block (holds_in p k (Some value) node).block node.journal (holds_in p k (Some value) node).journal refl refl
+      (ports_idle node.block.kind many) law.jobs
   taken_by node law p k value below false alone =
       let one = has_one_port layout meaning b node.block law.shape alone in
       let first : p ≡ 0 = omega arith in
@@ -182,9 +185,9 @@ module _ {W : Type 0} (layout : Layout W) (meaning : ℕ → Value → Result (L
 
   taken_in : (node : NodeState) → NodeLaw layout meaning b node → (p k : ℕ) (value : Option Value)
       → p < length node.block.ports
-      → Jobs (takes_in p k value node).block (takes_in p k value node).journal
+      → Jobs (holds_in p k value node).block (holds_in p k value node).journal
   taken_in node law p k None below = law.jobs
-  taken_in node law p k (Some value) below = taken_by node law p k value below (is_join node.block.kind) refl
+  taken_in node law p k (Some value) below = taken_by node law p k value below (has_ports node.block.kind) refl
 
   given_out : (node : NodeState) → Jobs node.block node.journal → (k : ℕ) (value : Option Value)
       → Jobs (gives_from k value node).block (gives_from k value node).journal
@@ -192,7 +195,8 @@ module _ {W : Type 0} (layout : Layout W) (meaning : ℕ → Value → Result (L
   given_out node law k (Some value) =
       stays node.block (gives_from k (Some value) node).block node.journal (gives_from k (Some value) node).journal law
       refl refl
-      (kept_at_all (λ port. port.waiting) (gives_room (gives k node.block.exits).room) node.block.ports 0 (λ port. refl))
+      (kept_back (gives k node.block.exits) node.block.copies node.block.kind (head_of node.block.exits) (λ port. port.waiting)
+      node.block.ports 0 (λ back port. refl))
       refl (took_by_gave node.journal (out_link_at k node) value)
 
   -- all its ports close
@@ -302,6 +306,12 @@ module _ {W : Type 0} (layout : Layout W) (meaning : ℕ → Value → Result (L
   made_next block journal (value ∷ rest) is one built other out law =
       yielded block journal value rest (made_of block.kind (block_makes layout meaning b) value) one built other is out law
 
+  copied_next : (first : Option Value) (block : BlockState) (journal : List Mark) → is_one_taker block.kind ≡ false
+      → Jobs block journal → Jobs (copies_next first block) journal
+  copied_next None block journal copying law = law
+  copied_next (Some value) block journal copying law =
+      handed_on block (copies_it value block) journal journal refl refl (copying_idle block.kind copying) law
+
   after_each : (node : NodeState) (call : NodeCall) → NodeLaw layout meaning b node → MayCall layout meaning b call node
       → Jobs (after_call layout meaning b call node).block (after_call layout meaning b call node).journal
   after_each node (NodeCall.want p k) law may = port_stays node law.jobs p (wants k) refl
@@ -310,21 +320,35 @@ module _ {W : Type 0} (layout : Layout W) (meaning : ℕ → Value → Result (L
   after_each node (NodeCall.refuse p k) law may = port_stays node law.jobs p (refuses k) refl
   after_each node (NodeCall.consume p k) law may = port_stays node law.jobs p (consumes k) refl
   after_each node (NodeCall.open_with p k value) law may = port_stays node law.jobs p (opens k value) refl
-  after_each node (NodeCall.close p k) law may = taken_in node law p k (hand_in k (port_at p node.block).ends) may.port
+  after_each node (NodeCall.close p k) law may =
+      let hand = hand_in k (port_at p node.block).ends in
+      let held = holds_in p k hand node in
+      let kept = taken_in node law p k hand may.port in
+      taken_in_keeps Jobs p k hand node kept
+      (λ at_once. copied_next (first_of (held_by held.block)) held.block held.journal
+      (once_copies held.block.kind at_once.once) kept)
   after_each node (NodeCall.give k) law may = given_out node law.jobs k (head_of node.block.exits)
   after_each node (NodeCall.look_in p k phase) law may = port_stays node law.jobs p (port_looks k phase) refl
-  after_each node (NodeCall.copy call) law may = absurd (no_copy_at layout meaning b node law (copy_place call) may.place)
+  after_each node (NodeCall.copy call) law may =
+      stays node.block (copies_by call node).block node.journal (copies_by call node).journal law.jobs refl refl
+      (held_by_copy (after_copy call node.block.copies) node.block) refl (took_by_copy call node.block.copies node.journal)
   after_each node NodeCall.begin law may = begun node law.jobs may
   after_each node NodeCall.make law may =
+      next_by (λ (new : NodeState). Jobs new.block new.journal) (block_makes layout meaning b) node
+      (λ batched. handed_on node.block (makes_next_group node).block node.journal node.journal refl refl
+      (batched_idle node.block.kind batched) law.jobs)
+      (λ grouped.
       makes_by (λ new. Jobs new node.journal) (block_makes layout meaning b) node.block
       (λ batch. handed_on node.block (makes_row node.block) node.journal node.journal refl refl (batch_idle node.block.kind batch)
       law.jobs)
       (λ join. handed_on node.block (makes_tuple node.block) node.journal node.journal refl refl (join_idle node.block.kind join)
       law.jobs)
-      (λ broadcast. never_both (is_broadcast node.block.kind) broadcast (none_broadcast node.block.kind law.shape.built))
+      (λ broadcast. copied_next (first_of (held_by node.block)) node.block node.journal
+      (broadcast_copies node.block.kind broadcast) law.jobs)
       (λ other alone single. made_next node.block node.journal (held_by node.block) refl
-      (has_one_port layout meaning b node.block law.shape alone)
-      (of_one node.block.kind law.shape.built other alone single) other may.all_out law.jobs)
+      (has_one_port layout meaning b node.block law.shape (others_at_one node.block.kind grouped alone))
+      (of_one node.block.kind law.shape.built grouped other alone single (makes_many layout meaning b node law may.waits)) other
+      may.all_out law.jobs))
   after_each node (NodeCall.complete p) law may =
       stays node.block (with_port p port_closes node.block) node.journal (node.journal ++ Complete p ∷ []) law.jobs
       refl refl (kept_at_one (λ port. port.waiting) node.block.ports p 0 (port_closes (port_at p node.block)) refl)

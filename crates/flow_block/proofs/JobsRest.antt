@@ -1,11 +1,11 @@
--- A block other than a batch or a join that goes on, and has nothing to do by itself, holds nothing: it would begin with what it
--- holds, or its result would come back.
+-- A block other than a batch, a join or a batched join that goes on, and has nothing to do by itself, holds nothing: it would
+-- begin with what it holds, or its result would come back.
 use Rattle.std.proofs.Common.{◌≡◌, ℕ, ◌-◌, ◌<◌, ltb, leb, Bool, true, false, not, ◌&&◌, List, [], ◌∷◌, length, get_or, Some, None, is_none, refl, ap, arith, lt-ltb, le-leb}
 use Rattle.std.proofs.lemmas.Bool.{and_from}
 use Rattle.flow_value.specs.declared.value.Value.{Value}
 use Rattle.flow_link.specs.Plan.{has_work}
 use Rattle.flow_link.proofs.ListTests.{never_both}
-use Rattle.flow_block.specs.Block.{BlockState, held_by, is_batch, is_join}
+use Rattle.flow_block.specs.Block.{BlockState, held_by, is_batch, is_join, is_batched_join}
 use Rattle.flow_block.specs.Jobs.{Slot, JobsState, no_slot, is_out, is_front_back}
 use Rattle.flow_outlet.specs.Outlet.{is_empty}
 use Rattle.flow_block.specs.Peeks.{may_copy, has_next, may_work, may_make, may_begin, may_end}
@@ -19,14 +19,15 @@ front_out jobs slots is =
     (rw (is, at_first) refl)
 
 module _ (block : BlockState) (going : block.stopped ≡ None) (well : block.fault ≡ None) (other : is_batch block.kind ≡ false)
-    (alone : is_join block.kind ≡ false) (freely : may_copy block ≡ true) (lane : 0 < block.jobs.lanes)
+    (alone : is_join block.kind ≡ false) (grouped : is_batched_join block.kind ≡ false) (freely : may_copy block ≡ true)
+    (lane : 0 < block.jobs.lanes)
     (drained : is_front_back block.jobs.slots ≡ false)
     (makes : may_make block ≡ false) (begins : may_begin block ≡ false)
     (ends : (ticket : ℕ) → may_end ticket block ≡ false) where
   works_on : (value : Value) (rest : List Value) → held_by block ≡ value ∷ rest → may_work block ≡ true
   works_on value rest is =
       and_from (is_none block.stopped && is_none block.fault) (has_next block) (rw (going, well) refl)
-      (rw (other, alone) (and_from (not (is_empty (held_by block))) (may_copy block) (rw is refl) freely))
+      (rw (other, alone, grouped) (and_from (not (is_empty (held_by block))) (may_copy block) (rw is refl) freely))
 
   goes_on : (value : Value) (rest : List Value) → held_by block ≡ value ∷ rest
       → (works : Bool) → has_work block.kind ≡ works → (slots : List Slot) → block.jobs.slots ≡ slots → ⊥

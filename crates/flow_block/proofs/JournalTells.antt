@@ -121,6 +121,16 @@ complete_where p marks going e =
     by_first true b c eb ec e = refl
     by_first false b c eb ec e = absurd (cc)
 
+-- a port of a block that goes on has ended just where it has completed
+same_tests : (a b : Bool) → (a ≡ true → b ≡ true) → (b ≡ true → a ≡ true) → a ≡ b
+same_tests true b there back = sym (there refl)
+same_tests false true there back = back refl
+same_tests false false there back = refl
+
+pub ended_is_complete : (p : ℕ) (marks : List Mark) → outcome_in marks ≡ None → has_ended p marks ≡ has_complete p marks
+ended_is_complete p marks going =
+    same_tests (has_ended p marks) (has_complete p marks) (complete_where p marks going) (ended_by_complete p marks)
+
 -- Marks of a block's own
 
 -- a test that passes for the marks that do not end, and for those that end and are there

@@ -1,37 +1,45 @@
--- What holds of each kind that is kept in order: it has one port, if it is no join, and makes rows, tuples or something of its
--- first message.
-use Rattle.std.proofs.Common.{◌≡◌, ℕ, Bool, true, false, cond, length, [], ◌∷◌, Option, Some, None, Result, Ok, Err, refl, ap, sym, ◌∙◌, List}
+-- What holds of each kind that is kept in order: it has one port, if it joins nothing, and makes rows, tuples, groups or
+-- something of its first message.
+use Rattle.std.proofs.Common.{◌≡◌, ℕ, Bool, true, false, cond, length, [], ◌∷◌, Option, Some, None, Result, Ok, Err, refl, ap, sym, ◌∙◌, subst, is_some, List}
 use Rattle.flow_value.specs.declared.value.Value.{Value}
 use Rattle.flow_link.specs.declared.draft.BlockKind.{BlockKind}
-use Rattle.flow_link.specs.declared.draft.BlockKind.TheVariants.{Buffer, Action, Transform, TransformMany, Batch, Join}
+use Rattle.flow_link.specs.declared.draft.BlockKind.TheVariants.{Buffer, Broadcast, WriteOnce, Action, Transform, TransformMany, Batch, Join, BatchedJoin}
 use Rattle.flow_link.specs.Layout.{Layout}
 use Rattle.flow_link.specs.NotBuilt.{is_built_kind}
-use Rattle.flow_link.specs.Plan.{block_in, ports_by_kind, has_work, is_broadcast}
+use Rattle.flow_link.specs.Plan.{block_in, ports_by_kind, has_work, is_broadcast, is_write_once, is_one_taker}
+use Rattle.flow_link.specs.LinkOk.{IsWithin}
+use Rattle.flow_block.specs.Planned.{room_by, room_of}
 use Rattle.flow_block.specs.Kinds.{is_kept_kind}
 use Rattle.flow_intake.specs.Calls.{first_of}
-use Rattle.flow_block.specs.Block.{BlockState, held_by, is_batch, is_join, made_of, makes_row, makes_tuple, keeps_results, yields, copies_next, makes_of, makes_other, makes}
+use Rattle.flow_block.specs.Block.{BlockState, held_by, is_batch, is_join, made_of, makes_row, makes_tuple, keeps_results, yields, copies_next, makes_of, makes_other, makes, is_batched_join, has_ports}
 use Rattle.flow_block.specs.NodeLaw.{ShapeLaw}
+use Rattle.flow_block.specs.Node.{NodeState, with_block, makes_next_group, makes_next}
 
 -- each kind of which a plan may be made is kept in order
 pub built_kept : (kind : BlockKind) → is_built_kind kind ≡ true → is_kept_kind kind ≡ true
 built_kept Buffer e = refl
+built_kept Broadcast e = refl
+built_kept WriteOnce e = refl
 built_kept Action e = refl
 built_kept Transform e = refl
 built_kept TransformMany e = refl
 built_kept Batch e = refl
 built_kept Join e = refl
-built_kept _ e = absurd (cc)
+built_kept BatchedJoin e = refl
 
--- what holds of buffers, actions, both transforms, batches and joins holds of each kind that is kept in order
-pub by_kind : (P : BlockKind → Type 0) → P Buffer → P Action → P Transform → P TransformMany → P Batch → P Join → (kind : BlockKind)
-    → is_kept_kind kind ≡ true → P kind
-by_kind P buffer action transform many batch join Buffer e = buffer
-by_kind P buffer action transform many batch join Action e = action
-by_kind P buffer action transform many batch join Transform e = transform
-by_kind P buffer action transform many batch join TransformMany e = many
-by_kind P buffer action transform many batch join Batch e = batch
-by_kind P buffer action transform many batch join Join e = join
-by_kind P buffer action transform many batch join _ e = absurd (cc)
+-- what holds of buffers, actions, both transforms, batches, joins, broadcasts, what takes one message in all and batched joins
+-- holds of each kind that is kept in order
+pub by_kind : (P : BlockKind → Type 0) → P Buffer → P Action → P Transform → P TransformMany → P Batch → P Join → P Broadcast
+    → P WriteOnce → P BatchedJoin → (kind : BlockKind) → is_kept_kind kind ≡ true → P kind
+by_kind P buffer action transform many batch join broadcast once batched Buffer e = buffer
+by_kind P buffer action transform many batch join broadcast once batched Broadcast e = broadcast
+by_kind P buffer action transform many batch join broadcast once batched WriteOnce e = once
+by_kind P buffer action transform many batch join broadcast once batched Action e = action
+by_kind P buffer action transform many batch join broadcast once batched Transform e = transform
+by_kind P buffer action transform many batch join broadcast once batched TransformMany e = many
+by_kind P buffer action transform many batch join broadcast once batched Batch e = batch
+by_kind P buffer action transform many batch join broadcast once batched Join e = join
+by_kind P buffer action transform many batch join broadcast once batched BatchedJoin e = batched
 
 -- it makes what it makes of one message after another
 abbrev pub is_of_one : BlockKind → Bool
@@ -41,18 +49,44 @@ is_of_one Transform = true
 is_of_one TransformMany = true
 is_of_one _ = false
 
-pub of_one : (kind : BlockKind) → is_kept_kind kind ≡ true → is_batch kind ≡ false → is_join kind ≡ false → is_broadcast kind ≡ false
-    → is_of_one kind ≡ true
-of_one Buffer kept single alone shared = refl
-of_one Action kept single alone shared = refl
-of_one Transform kept single alone shared = refl
-of_one TransformMany kept single alone shared = refl
-of_one _ kept single alone shared = absurd (cc)
+pub of_one : (kind : BlockKind) → is_kept_kind kind ≡ true → is_batched_join kind ≡ false → is_batch kind ≡ false
+    → is_join kind ≡ false → is_broadcast kind ≡ false → is_write_once kind ≡ false → is_of_one kind ≡ true
+of_one Buffer kept grouped single alone shared many = refl
+of_one Action kept grouped single alone shared many = refl
+of_one Transform kept grouped single alone shared many = refl
+of_one TransformMany kept grouped single alone shared many = refl
+of_one _ kept grouped single alone shared many = absurd (cc)
 
 -- a batch has no function
 pub batch_idle : (kind : BlockKind) → is_batch kind ≡ true → has_work kind ≡ false
 batch_idle Batch e = refl
 batch_idle _ e = absurd (cc)
+
+-- and it shares its rows out
+pub batch_shares : (kind : BlockKind) → is_batch kind ≡ true → is_one_taker kind ≡ true
+batch_shares Batch e = refl
+batch_shares _ e = absurd (cc)
+
+-- nor has what copies its messages, which makes no rows
+pub copying_idle : (kind : BlockKind) → is_one_taker kind ≡ false → has_work kind ≡ false
+copying_idle Broadcast e = refl
+copying_idle WriteOnce e = refl
+copying_idle _ e = absurd (cc)
+
+pub copying_single : (kind : BlockKind) → is_one_taker kind ≡ false → is_batch kind ≡ false
+copying_single Broadcast e = refl
+copying_single WriteOnce e = refl
+copying_single _ e = absurd (cc)
+
+-- nor has a broadcast
+pub broadcast_idle : (kind : BlockKind) → is_broadcast kind ≡ true → has_work kind ≡ false
+broadcast_idle Broadcast e = refl
+broadcast_idle _ e = absurd (cc)
+
+-- and it makes no rows
+pub broadcast_single : (kind : BlockKind) → is_broadcast kind ≡ true → is_batch kind ≡ false
+broadcast_single Broadcast e = refl
+broadcast_single _ e = absurd (cc)
 
 pub works_alone : (kind : BlockKind) → has_work kind ≡ true → is_batch kind ≡ false
 works_alone Batch e = absurd (cc)
@@ -79,6 +113,20 @@ makes_by P result block of_row of_tuple of_copy of_other =
     made_as P (makes_tuple block) other (is_join block.kind) of_tuple (λ alone.
     made_as P (copies_next (first_of (held_by block)) block) made (is_broadcast block.kind) of_copy (of_other single alone)))
 
+-- of a batched join it is the node that makes the next group, and of all others the block
+node_as : (P : NodeState → Type 0) (group other : NodeState) (batched : Bool) → (batched ≡ true → P group)
+    → (batched ≡ false → P other) → P (cond batched group other)
+node_as P group other true of_group of_other = of_group refl
+node_as P group other false of_group of_other = of_other refl
+
+pub next_by : (P : NodeState → Type 0) (result : Value → Result (List Value) ℕ) (node : NodeState)
+    → (is_batched_join node.block.kind ≡ true → P (makes_next_group node))
+    → (is_batched_join node.block.kind ≡ false → P (with_block (makes result node.block) node))
+    → P (makes_next result node)
+next_by P result node of_group of_other =
+    node_as P (makes_next_group node) (with_block (makes result node.block) node) (is_batched_join node.block.kind) of_group
+    of_other
+
 pub works_shared : (kind : BlockKind) → has_work kind ≡ true → is_broadcast kind ≡ false
 works_shared Action e = refl
 works_shared Transform e = refl
@@ -101,14 +149,42 @@ pub made_kind : (result : Value → Result (List Value) ℕ) (first : Option Val
 made_kind result None block = refl
 made_kind result (Some value) block = yields_kind (made_of block.kind result value) block
 
+-- the room of a block is its capacity, but for what takes one message in all, which has none
+pub room_shared : (kind : BlockKind) (capacity : Option ℕ) → is_write_once kind ≡ false → room_by kind capacity ≡ capacity
+room_shared WriteOnce capacity many = absurd (cc)
+room_shared _ capacity many = refl
+
+room_where : (kind : BlockKind) (capacity : Option ℕ) → (is_write_once kind ≡ true → capacity ≡ None) → is_some capacity ≡ true
+    → room_by kind capacity ≡ capacity
+room_where WriteOnce None none there = absurd (cc)
+room_where WriteOnce (Some room) none there = absurd (let never : Some room ≡ None = none refl in cc)
+room_where _ capacity none there = refl
+
+within_where : (kind : BlockKind) (capacity : Option ℕ) (count : ℕ) → (is_write_once kind ≡ true → capacity ≡ None)
+    → IsWithin (room_by kind capacity) count → IsWithin capacity count
+within_where WriteOnce capacity count none within = subst (λ (room : Option ℕ). IsWithin room count) (sym (none refl)) tt
+within_where _ capacity count none within = within
+
 module _ {W : Type 0} (layout : Layout W) (meaning : ℕ → Value → Result (List Value) ℕ) (b : ℕ) (block : BlockState)
     (shape : ShapeLaw layout meaning b block) where
+  unlimited : is_write_once (block_in layout.blocks b).kind ≡ true → (block_in layout.blocks b).capacity ≡ None
+  unlimited once = shape.no_capacity (ap is_write_once shape.kind_is ∙ once)
+
+  pub room_kept : is_some (block_in layout.blocks b).capacity ≡ true
+      → room_of (block_in layout.blocks b) ≡ (block_in layout.blocks b).capacity
+  room_kept there = room_where (block_in layout.blocks b).kind (block_in layout.blocks b).capacity unlimited there
+
+  pub within_capacity : (count : ℕ) → IsWithin (room_of (block_in layout.blocks b)) count
+      → IsWithin (block_in layout.blocks b).capacity count
+  within_capacity count within =
+      within_where (block_in layout.blocks b).kind (block_in layout.blocks b).capacity count unlimited within
+
   pub planned_kept : is_kept_kind (block_in layout.blocks b).kind ≡ true
   planned_kept = ap is_kept_kind (sym shape.kind_is) ∙ shape.built
 
-  pub has_one_port : is_join block.kind ≡ false → length block.ports ≡ 1
+  pub has_one_port : has_ports block.kind ≡ false → length block.ports ≡ 1
   has_one_port alone =
       shape.port_count_is
-      ∙ by_kind (λ kind. is_join kind ≡ false → ports_by_kind kind (block_in layout.blocks b).ports ≡ 1)
-      (λ e. refl) (λ e. refl) (λ e. refl) (λ e. refl) (λ e. refl) (λ e. absurd (cc))
-      (block_in layout.blocks b).kind planned_kept (ap is_join (sym shape.kind_is) ∙ alone)
+      ∙ by_kind (λ kind. has_ports kind ≡ false → ports_by_kind kind (block_in layout.blocks b).ports ≡ 1)
+      (λ e. refl) (λ e. refl) (λ e. refl) (λ e. refl) (λ e. refl) (λ e. absurd (cc)) (λ e. refl) (λ e. refl) (λ e. absurd (cc))
+      (block_in layout.blocks b).kind planned_kept (ap has_ports (sym shape.kind_is) ∙ alone)

@@ -4,7 +4,7 @@ use Rattle.std.proofs.lemmas.List.{get_or-set_same, take-append-drop}
 use Rattle.flow_value.specs.View.{items_from, values_of, values_of-items_from}
 use Rattle.flow_value.specs.declared.value.Value.{Value}
 use Rattle.flow_link.specs.declared.draft.BlockKind.{BlockKind}
-use Rattle.flow_link.specs.declared.draft.BlockKind.TheVariants.{Buffer, Action, Transform, TransformMany, Batch}
+use Rattle.flow_link.specs.declared.draft.BlockKind.TheVariants.{Buffer, Broadcast, WriteOnce, Action, Transform, TransformMany, Batch}
 use Rattle.flow_link.specs.declared.trace.Mark.{Mark}
 use Rattle.flow_link.specs.declared.trace.Mark.TheVariants.{Complete, Fault, Done}
 use Rattle.flow_link.specs.declared.trace.Outcome.{Outcome}
@@ -21,19 +21,23 @@ use Rattle.flow_intake.specs.Port.{PortState, fresh_port, hand_in}
 use Rattle.flow_intake.specs.Calls.{first_of, wants, turns_down, postpones, refuses, consumes, opens, closes, looks as port_looks, takes_next, gives_room, port_closes, port_fails}
 use Rattle.flow_outlet.specs.Outlet.{OutletState, first_of as first_left, rest_of, head_of, gives, prepares, offers, denies, withdraws, ends_link, looks as exit_looks}
 use Rattle.flow_link.proofs.ListTests.{never_both}
-use Rattle.flow_link.specs.Plan.{is_broadcast}
-use Rattle.flow_block.specs.Copies.{copy_place}
-use Rattle.flow_block.proofs.CopiesIdle.{no_copy_at, none_broadcast}
-use Rattle.flow_block.specs.Block.{BlockState, port_at, with_port, with_jobs, held_by, made_of, puts_out, put_by_kind, yields, keeps_results, makes_of, is_batch, row_of, takes_group, makes_row, stops_by, is_join, makes_tuple}
+use Rattle.flow_link.specs.Plan.{is_one_taker}
+use Rattle.flow_block.specs.Copies.{copy_place, CopyCall, after_copy}
+use Rattle.flow_block.proofs.CopiesIdle.{copies_at, broadcast_copies, once_copies}
+use Rattle.flow_block.specs.Block.{BlockState, port_at, with_port, with_jobs, held_by, made_of, puts_out, put_by_kind, yields, keeps_results, makes_of, is_batch, row_of, takes_group, makes_row, stops_by, is_join, makes_tuple, copies_next, has_ports, is_batched_join}
+use Rattle.flow_block.proofs.CopiesLeave.{held_by_copy}
 use Rattle.flow_block.specs.Jobs.{JobsState, begins, works_off}
-use Rattle.flow_block.specs.Node.{NodeState, NodeCall, takes_in, gives_from, in_link_at, out_link_at}
+use Rattle.flow_block.specs.Node.{NodeState, NodeCall, gives_from, copies_by, in_link_at, out_link_at, order_in, holds_in}
+use Rattle.flow_block.proofs.CopiesTaken.{taken_in_keeps, makes_many}
 use Rattle.flow_block.specs.NodeKeeps.{MakesKept, MayCall, after_call}
 use Rattle.flow_block.specs.NodeLaw.{NodeLaw, MakesLaw, MakesAs, FaultsOn}
 use Rattle.flow_block.specs.Planned.{block_makes}
 use Rattle.flow_block.proofs.GoingOn.{may_work_tells}
-use Rattle.flow_block.proofs.Joins.{join_idle, join_makes, batch_unjoined}
-use Rattle.flow_block.proofs.KindsBuilt.{is_of_one, of_one, has_one_port, makes_by}
+use Rattle.flow_block.proofs.Joins.{join_makes, ports_make, ports_idle, batch_at_one, others_at_one, batched_is}
+use Rattle.flow_block.proofs.KindsBuilt.{is_of_one, of_one, has_one_port, makes_by, next_by, copying_idle}
 use Rattle.flow_block.proofs.PortsChange.{kept_at_one, kept_at_all}
+use Rattle.flow_block.proofs.RoomBack.{kept_back}
+use Rattle.flow_block.specs.Groups.{makes_group}
 
 -- What is taken, given and made
 
@@ -156,6 +160,13 @@ fails_so result Transform value number built other made = record { works = refl;
 fails_so result TransformMany value number built other made = record { works = refl; fails = made }
 fails_so result kind value number built other made = absurd (cc)
 
+-- of a block that copies, the law of copies tells what it makes
+makes_copied : (result : Value → Result (List Value) ℕ) (kind : BlockKind) (taken held given left recorded : List Value)
+    → is_one_taker kind ≡ false → MakesAs result kind taken held given left recorded
+makes_copied result Broadcast taken held given left recorded copying = tt
+makes_copied result WriteOnce taken held given left recorded copying = tt
+makes_copied result _ taken held given left recorded copying = absurd (cc)
+
 module _ {W : Type 0} (layout : Layout W) (meaning : ℕ → Value → Result (List Value) ℕ) (b : ℕ) where
   -- what the law reads is as it was
   stays : (block after : BlockState) (journal later : List Mark) → MakesLaw layout meaning b block journal
@@ -179,12 +190,12 @@ module _ {W : Type 0} (layout : Layout W) (meaning : ℕ → Value → Result (L
       refl refl refl refl refl
 
   taken_by : (node : NodeState) → NodeLaw layout meaning b node → (p k : ℕ) (value : Value)
-      → p < length node.block.ports → (join : Bool) → is_join node.block.kind ≡ join
-      → MakesLaw layout meaning b (takes_in p k (Some value) node).block (takes_in p k (Some value) node).journal
-  taken_by node law p k value below true join = record {
-    makes = join_makes (block_makes layout meaning b) node.block.kind _ _ _ _ _ join;
+      → p < length node.block.ports → (many : Bool) → has_ports node.block.kind ≡ many
+      → MakesLaw layout meaning b (holds_in p k (Some value) node).block (holds_in p k (Some value) node).journal
+  taken_by node law p k value below true many = record {
+    makes = ports_make (block_makes layout meaning b) node.block.kind _ _ _ _ _ many;
     fault_is = λ number is.
-        never_both (has_work node.block.kind) (law.makes.fault_is number is).works (join_idle node.block.kind join);
+        never_both (has_work node.block.kind) (law.makes.fault_is number is).works (ports_idle node.block.kind many);
   }
   taken_by node law p k value below false alone =
       let one = has_one_port layout meaning b node.block law.shape alone in
@@ -206,9 +217,9 @@ module _ {W : Type 0} (layout : Layout W) (meaning : ℕ → Value → Result (L
 
   taken_in : (node : NodeState) → NodeLaw layout meaning b node → (p k : ℕ) (value : Option Value)
       → p < length node.block.ports
-      → MakesLaw layout meaning b (takes_in p k value node).block (takes_in p k value node).journal
+      → MakesLaw layout meaning b (holds_in p k value node).block (holds_in p k value node).journal
   taken_in node law p k None below = law.makes
-  taken_in node law p k (Some value) below = taken_by node law p k value below (is_join node.block.kind) refl
+  taken_in node law p k (Some value) below = taken_by node law p k value below (has_ports node.block.kind) refl
 
   given_out : (node : NodeState) → MakesLaw layout meaning b node.block node.journal → (k : ℕ) (value : Option Value)
       → head_of node.block.exits ≡ value
@@ -216,8 +227,8 @@ module _ {W : Type 0} (layout : Layout W) (meaning : ℕ → Value → Result (L
   given_out node law k None first = law
   given_out node law k (Some value) first =
       let held =
-      kept_at_all (λ port. port.waiting) (gives_room (gives k node.block.exits).room) node.block.ports 0
-      (λ port. refl) in
+      kept_back (gives k node.block.exits) node.block.copies node.block.kind (head_of node.block.exits) (λ port. port.waiting) node.block.ports 0
+      (λ back port. refl) in
       let taken = took_by_gave node.journal (out_link_at k node) value in
       let given = gave_by_gave node.journal (out_link_at k node) value in
       record {
@@ -310,11 +321,11 @@ module _ {W : Type 0} (layout : Layout W) (meaning : ℕ → Value → Result (L
       put_so Buffer values block journal value rest same one none first
       (made_more Buffer block journal value rest values same other first made law)
   kept_as Transform block journal value rest values same built other one none first made law =
-      jobs_change (record { block = puts_out values block; journal = journal })
+      jobs_change (record { block = puts_out values block; journal = journal; grouped = 0 })
       (put_so Transform values block journal value rest same one none first
       (made_more Transform block journal value rest values same other first made law)) works_off
   kept_as TransformMany block journal value rest values same built other one none first made law =
-      jobs_change (record { block = puts_out values block; journal = journal })
+      jobs_change (record { block = puts_out values block; journal = journal; grouped = 0 })
       (put_so TransformMany values block journal value rest same one none first
       (made_more TransformMany block journal value rest values same other first made law)) works_off
   kept_as kind block journal value rest values same built other one none first made law = absurd (cc)
@@ -368,12 +379,38 @@ module _ {W : Type 0} (layout : Layout W) (meaning : ℕ → Value → Result (L
       }
   row_made block journal one none _ same batch law = absurd (cc)
 
+  -- it makes a group
+  group_made : (block : BlockState) (journal : List Mark) (size weight : ℕ) (order : List ℕ) → is_batched_join block.kind ≡ true
+      → block.fault ≡ None → MakesLaw layout meaning b (makes_group size weight order block) journal
+  group_made block journal size weight order batched none = record {
+    makes = ports_make (block_makes layout meaning b) block.kind _ _ _ _ _ (ap has_ports (batched_is block.kind batched));
+    fault_is = λ number is. absurd (let never : None ≡ Some number = sym none ∙ is in cc);
+  }
+
   -- it makes a tuple
   tuple_made : (block : BlockState) (journal : List Mark) → is_join block.kind ≡ true → block.fault ≡ None
       → MakesLaw layout meaning b (makes_tuple block) journal
   tuple_made block journal join none = record {
     makes = join_makes (block_makes layout meaning b) block.kind _ _ _ _ _ join;
     fault_is = λ number is. absurd (let never : None ≡ Some number = sym none ∙ is in cc);
+  }
+
+  -- what it copies
+  copied_out : (call : CopyCall) (node : NodeState) → is_one_taker node.block.kind ≡ false
+      → MakesLaw layout meaning b node.block node.journal
+      → MakesLaw layout meaning b (copies_by call node).block (copies_by call node).journal
+  copied_out call node copying law = record {
+    makes = makes_copied (block_makes layout meaning b) node.block.kind _ _ _ _ _ copying;
+    fault_is = λ number is. rw (held_by_copy (after_copy call node.block.copies) node.block) (law.fault_is number is);
+  }
+
+  copied_next : (first : Option Value) (block : BlockState) (journal : List Mark) → is_one_taker block.kind ≡ false
+      → MakesLaw layout meaning b block journal
+      → MakesLaw layout meaning b (copies_next first block) journal
+  copied_next None block journal copying law = law
+  copied_next (Some value) block journal copying law = record {
+    makes = makes_copied (block_makes layout meaning b) block.kind _ _ _ _ _ copying;
+    fault_is = λ number is. never_both (has_work block.kind) (law.fault_is number is).works (copying_idle block.kind copying);
   }
 
   after_each : (node : NodeState) (call : NodeCall) → NodeLaw layout meaning b node → MayCall layout meaning b call node
@@ -385,21 +422,31 @@ module _ {W : Type 0} (layout : Layout W) (meaning : ℕ → Value → Result (L
   after_each node (NodeCall.refuse p k) law may = port_stays node law.makes p (refuses k) refl
   after_each node (NodeCall.consume p k) law may = port_stays node law.makes p (consumes k) refl
   after_each node (NodeCall.open_with p k value) law may = port_stays node law.makes p (opens k value) refl
-  after_each node (NodeCall.close p k) law may = taken_in node law p k (hand_in k (port_at p node.block).ends) may.port
+  after_each node (NodeCall.close p k) law may =
+      let hand = hand_in k (port_at p node.block).ends in
+      let held = holds_in p k hand node in
+      let kept = taken_in node law p k hand may.port in
+      taken_in_keeps (MakesLaw layout meaning b) p k hand node kept
+      (λ at_once. copied_next (first_of (held_by held.block)) held.block held.journal
+      (once_copies held.block.kind at_once.once) kept)
   after_each node (NodeCall.give k) law may = given_out node law.makes k (head_of node.block.exits) refl
   after_each node (NodeCall.look_in p k phase) law may = port_stays node law.makes p (port_looks k phase) refl
-  after_each node (NodeCall.copy call) law may = absurd (no_copy_at layout meaning b node law (copy_place call) may.place)
+  after_each node (NodeCall.copy call) law may = copied_out call node (copies_at layout meaning b node law (copy_place call) may.place) law.makes
   after_each node NodeCall.begin law may = jobs_change node law.makes begins
   after_each node NodeCall.make law may =
       let block = node.block in
       let none = (may_work_tells block may.waits).no_fault in
-      let one : is_join block.kind ≡ false → length block.ports ≡ 1 = has_one_port layout meaning b block law.shape in
+      let one : has_ports block.kind ≡ false → length block.ports ≡ 1 = has_one_port layout meaning b block law.shape in
+      next_by (λ (new : NodeState). MakesLaw layout meaning b new.block new.journal) (block_makes layout meaning b) node
+      (λ batched. group_made block node.journal block.size 0 (order_in node) batched none)
+      (λ grouped.
       makes_by (λ new. MakesLaw layout meaning b new node.journal) (block_makes layout meaning b) block
-      (λ batch. row_made block node.journal (one (batch_unjoined block.kind batch)) none block.kind refl batch law.makes)
+      (λ batch. row_made block node.journal (one (batch_at_one block.kind batch)) none block.kind refl batch law.makes)
       (λ join. tuple_made block node.journal join none)
-      (λ broadcast. never_both (is_broadcast block.kind) broadcast (none_broadcast block.kind law.shape.built))
-      (λ other alone single. made_next block node.journal (held_by block) refl (one alone) none
-      (of_one block.kind law.shape.built other alone single) other law.makes)
+      (λ broadcast. copied_next (first_of (held_by block)) block node.journal (broadcast_copies block.kind broadcast) law.makes)
+      (λ other alone single. made_next block node.journal (held_by block) refl (one (others_at_one block.kind grouped alone)) none
+      (of_one block.kind law.shape.built grouped other alone single (makes_many layout meaning b node law may.waits)) other
+      law.makes))
   after_each node (NodeCall.complete p) law may =
       stays node.block (with_port p port_closes node.block) node.journal (node.journal ++ Complete p ∷ []) law.makes
       refl (kept_at_one (λ port. port.waiting) node.block.ports p 0 (port_closes (port_at p node.block)) refl)

@@ -13,10 +13,11 @@ use Rattle.flow_intake.specs.Port.{EndState, PortState, stage_at, is_offer, is_q
 use Rattle.flow_intake.specs.Calls.{is_offered, is_postponed, is_arrived, refused_by, prepared, wants, turns_down, postpones, refuses, consumes, opens, closes, looks, takes_next, gives_room, port_closes, port_fails}
 use Rattle.flow_intake.proofs.CountsOfEnds.{count_after_set, coming_is_owed, hand_comes}
 use Rattle.flow_intake.proofs.EndsInOrder.{look_tells}
-use Rattle.flow_outlet.specs.Outlet.{gives}
+use Rattle.flow_outlet.specs.Outlet.{gives, head_of}
 use Rattle.flow_block.specs.Block.{BlockState, port_in, port_at, with_port, gives_out, with_jobs, fails, keeps_results, yields_all, yields_where, ends_job, stops_by}
 use Rattle.flow_block.specs.Jobs.{Slot, brings}
 use Rattle.flow_block.specs.JournalFits.{port_due, ports_due, marks_due}
+use Rattle.flow_block.proofs.RoomBack.{due_back}
 
 due_set : (ports : List PortState) (p : ℕ) (port : PortState) → p < length ports
     → ports_due (set ports p port) + port_due (port_in ports p) ≡ ports_due ports + port_due port
@@ -126,7 +127,7 @@ due_map change (port ∷ ports) same = rw (same port, due_map change ports same)
 
 -- the head that is given is marked
 pub due_given : (k : ℕ) (block : BlockState) → is_some block.exits.parcel ≡ true → marks_due (gives_out k block) + 1 ≤ marks_due block
-due_given k block ready = rw ready (omega (arith, due_map (gives_room (gives k block.exits).room) block.ports (λ _. refl)))
+due_given k block ready = rw ready (omega (arith, due_back (gives k block.exits) block.copies block.kind (head_of block.exits) block.ports))
 
 pub due_failed : (number : ℕ) (block : BlockState) → marks_due (fails number block) ≡ marks_due block
 due_failed number block = rw (due_map port_fails block.ports (λ _. refl)) refl

@@ -14,16 +14,21 @@ use Rattle.flow_link.proofs.OneMoreMark.{every_more}
 use Rattle.flow_intake.specs.Port.{stage_at as port_stage, hand_in, is_hand}
 use Rattle.flow_intake.proofs.CountsOfEnds.{hand_comes}
 use Rattle.flow_outlet.specs.Outlet.{head_of, stage_at}
-use Rattle.flow_block.specs.Copies.{copy_place}
-use Rattle.flow_block.proofs.CopiesIdle.{no_copy_at}
+use Rattle.flow_spread.specs.Spread.{link_at}
+use Rattle.flow_block.specs.Copies.{CopyCall}
+use Rattle.flow_block.proofs.CopierHolds.{copy_goes_on}
+use Rattle.flow_block.proofs.CopiesIdle.{copies_at}
+use Rattle.flow_block.proofs.CopiesLeave.{marks_by_copy}
 use Rattle.flow_block.specs.Block.{port_at}
-use Rattle.flow_block.specs.Node.{NodeState, NodeCall, takes_in, gives_from, in_link_at, out_link_at}
-use Rattle.flow_block.specs.NodeKeeps.{InAt, MayGive, MayCompletePort, MarksKept, MayCall, after_call}
+use Rattle.flow_block.specs.Node.{NodeState, NodeCall, holds_in, gives_from, copies_by, in_link_at, out_link_at}
+use Rattle.flow_block.specs.NodeKeeps.{InAt, MayCopy, MayGive, MayCompletePort, MarksKept, MayCall, after_call}
 use Rattle.flow_block.specs.NodeLaw.{NodeLaw, MarksLaw, outcome_in, run_seen_by}
-use Rattle.flow_block.specs.Planned.{is_into, is_out_of}
+use Rattle.flow_block.specs.Planned.{is_into, is_out_of, block_makes}
 use Rattle.flow_block.proofs.GoingOn.{open_goes_on, away_goes_on, wanted_away, may_complete_tells, may_fault_tells, may_finish_tells}
 use Rattle.flow_block.proofs.JournalTells.{GoesWith, once_more, stops_more}
+use Rattle.flow_block.proofs.PlacesOfCopies.{copy_out_is}
 use Rattle.flow_block.proofs.PlacesOfLinks.{end_in_is, end_out_is, there_at_port, there_at_source}
+use Rattle.flow_block.proofs.KindsBuilt.{next_by}
 
 -- What a mark goes with
 
@@ -68,7 +73,7 @@ module _ {W : Type 0} (layout : Layout W) (meaning : ℕ → Value → Result (L
   -- a message that is in hand comes into a port that has not ended
   taken_in : (node : NodeState) → NodeLaw layout meaning b node → (p k : ℕ) (value : Option Value)
       → InAt is_hand p k node
-      → MarksLaw layout meaning b (takes_in p k value node).journal
+      → MarksLaw layout meaning b (holds_in p k value node).journal
   taken_in node law p k None at = law.marks
   taken_in node law p k (Some value) at =
       let end = (law.ports p at.port).each k at.place in
@@ -96,6 +101,23 @@ module _ {W : Type 0} (layout : Layout W) (meaning : ℕ → Value → Result (L
       (there_at_source b (link_in layout.links l).source link.begins))
       (sym law.ends.stopped_is ∙ goes) (gave_goes l value node.journal)
 
+  -- the element goes over one of its links
+  copied_out : (node : NodeState) → NodeLaw layout meaning b node → (call : CopyCall) → MayCopy call node
+      → MarksLaw layout meaning b (copies_by call node).journal
+  copied_out node law call may =
+      let copies = node.block.copies in
+      marks_by_copy (MarksLaw layout meaning b) call copies node.journal law.marks
+      (λ k is value.
+      let gives : MayCopy (CopyCall.give k) node = subst (λ (by : CopyCall). MayCopy by node) is may in
+      let copier = law.copies.copier (copies_at layout meaning b node law k gives.place) in
+      let goes = copy_goes_on layout b node.block node.journal copier k gives.place gives.stands in
+      let l = (link_at copies k).rule.id in
+      let link = copy_out_is layout b copies copier.rules k gives.place in
+      one_more node.journal (Gave l value) law.marks
+      (and_from (ltb l (length layout.links)) (is_out_of layout b l) (lt-ltb l (length layout.links) link.there)
+      (there_at_source b (link_in layout.links l).source link.begins))
+      (sym law.ends.stopped_is ∙ goes) (gave_goes l value node.journal))
+
   completed : (node : NodeState) → NodeLaw layout meaning b node → (p : ℕ) → MayCompletePort p node
       → MarksLaw layout meaning b (node.journal ++ Complete p ∷ [])
   completed node law p may =
@@ -119,7 +141,10 @@ module _ {W : Type 0} (layout : Layout W) (meaning : ℕ → Value → Result (L
   after_each node NodeCall.finish law may =
       one_more node.journal Done law.marks refl (sym law.ends.stopped_is ∙ (may_finish_tells node.block may).going)
       (done_goes node.journal)
-  after_each node (NodeCall.copy call) law may = absurd (no_copy_at layout meaning b node law (copy_place call) may.place)
+  after_each node (NodeCall.copy call) law may = copied_out node law call may
+  after_each node NodeCall.make law may =
+      next_by (λ (new : NodeState). MarksLaw layout meaning b new.journal) (block_makes layout meaning b) node
+      (λ batched. law.marks) (λ grouped. law.marks)
   after_each node call law may = law.marks
 
 pub marks_kept : (W : Type 0) → MarksKept W

@@ -32,12 +32,17 @@ use Rattle.flow_outlet.specs.End.{is_free, is_waiting, is_cut, speaks_of}
 use Rattle.flow_outlet.specs.Outlet.{OutletState, end_at, stage_at, end_of, end_by, may_offer, is_at as is_place_at, free_move, move_at as out_move_at, only_waits}
 use Rattle.flow_outlet.proofs.MovesAllowed.{moves_are_allowed}
 use Rattle.flow_outlet.proofs.OffersInOrder.{offers_in_order}
+use Rattle.flow_link.specs.declared.draft.BlockKind.{BlockKind}
+use Rattle.flow_link.specs.declared.draft.BlockKind.TheVariants.{WriteOnce}
+use Rattle.flow_block.specs.Planned.{room_by, room_of}
 use Rattle.flow_block.specs.Block.{BlockState, port_at}
 use Rattle.flow_block.specs.NextMoves.{NextMovesMay, MayMoveIn, MayMoveOut, next_out}
 use Rattle.flow_block.specs.Node.{NodeState}
 use Rattle.flow_block.specs.NodeKeeps.{InAt, IsOpen, MayPostpone}
 use Rattle.flow_block.specs.NodeLaw.{NodeLaw}
 use Rattle.flow_block.specs.Peeks.{is_held_up, could_stop, fault_cause, fault_at_ports, is_worked_off, is_pending}
+use Rattle.flow_block.proofs.CopiesIdle.{copies_at}
+use Rattle.flow_block.proofs.CopiesGoOn.{next_copies_may}
 use Rattle.flow_block.proofs.EndsTell.{none_come}
 use Rattle.flow_block.proofs.FaultsSeen.{cause_pending}
 use Rattle.flow_block.proofs.PlacesOfLinks.{end_in_is, count_in, few_enter}
@@ -111,6 +116,26 @@ capacity_in_range block fit =
     let two = and_parts (fits && is_in 1 16 block.lanes) (is_in 1 4096 block.size) three.0 in
     (and_parts fits (is_in 1 16 block.lanes) two.0).0
 
+-- so is its room
+room_by_range : (kind : BlockKind) (capacity : Option ℕ) → is_in 1 2147483647 capacity ≡ true
+    → is_in 1 2147483647 (room_by kind capacity) ≡ true
+room_by_range WriteOnce capacity fits = refl
+room_by_range _ capacity fits = fits
+
+room_in_range : {W : Type 0} (block : BlockDef W) → is_in 1 2147483647 block.capacity ≡ true
+    → is_in 1 2147483647 (room_of block) ≡ true
+room_in_range block fits = room_by_range block.kind block.capacity fits
+
+-- what has no capacity has room without end, unless it takes one message in all
+no_room_by : (kind : BlockKind) (capacity : Option ℕ) → not (is_write_once kind) ≡ true → capacity ≡ None
+    → room_by kind capacity ≡ None
+no_room_by WriteOnce capacity many none = absurd (cc)
+no_room_by _ capacity many none = none
+
+no_room_of : {W : Type 0} (block : BlockDef W) → not (is_write_once block.kind) ≡ true → block.capacity ≡ None
+    → room_of block ≡ None
+no_room_of block many none = no_room_by block.kind block.capacity many none
+
 -- what is postponed may be put off
 module _ {W : Type 0} (layout : Layout W) (meaning : ℕ → Value → Result (List Value) ℕ) (b : ℕ) (node : NodeState)
     (well : IsWellFormed layout.blocks layout.links) (here : b < length layout.blocks)
@@ -148,7 +173,7 @@ module _ {W : Type 0} (layout : Layout W) (meaning : ℕ → Value → Result (L
         let both = and_parts never (not (is_reserving planned)) at_once in
         let free = and_parts (is_none planned.capacity) (not (is_write_once planned.kind)) both.0 in
         let unbounded = none_is planned.capacity free.0 in
-        let capacity : port.capacity ≡ None = (law.shape.ports p port_there).capacity ∙ unbounded in
+        let capacity : port.capacity ≡ None = (law.shape.ports p port_there).capacity ∙ no_room_of planned free.1 unbounded in
         let room : has_room port ≡ true = ap (is_below (port.load + coming port)) capacity in
         let other = someone_waits layout (length (took_at p node.journal)) port kept
         (not_both (has_room port) (is_empty port.queue) no_room room) in
@@ -180,7 +205,8 @@ module _ {W : Type 0} (layout : Layout W) (meaning : ℕ → Value → Result (L
     not_the_first sole none =
         let load : port.load ≡ 0 = let took = kept.took in omega (arith, took, none) in
         let nothing = none_come port.ends (λ j small. ap is_coming (alone sole j small)) in
-        let range = capacity_in_range (block_in layout.blocks b) (well.options b here) in
+        let planned = block_in layout.blocks b in
+        let range = room_in_range planned (capacity_in_range planned (well.options b here)) in
         let capacity = (law.shape.ports p port_there).capacity in
         let room = room_at_first port.load (coming port) port.capacity load nothing
         (subst (λ (c : Option ℕ). is_in 1 2147483647 c ≡ true) (sym capacity) range) in
@@ -403,9 +429,10 @@ module _ {W : Type 0} (layout : Layout W) (meaning : ℕ → Value
         let wrong : is_own (Some next) ≡ true = ap is_own (sym e) ∙ own in cc)
 
 pub next_moves_may : {W : Type 0} → NextMovesMay W
-next_moves_may layout meaning b node well here law = (
+next_moves_may {W} layout meaning b node well here law = (
   λ p k next port_there place_there e.
       by_stage layout meaning b node well here law p k port_there place_there (port_stage k (port_at p node.block))
       refl next e,
   λ k next there e. by_source layout meaning b node law k there next e,
+  λ k next there e. next_copies_may W layout b node (law.copies.copier (copies_at layout meaning b node law k there)) k next there e,
 )

@@ -12,7 +12,7 @@ use Rattle.flow_link.specs.declared.stage.TargetStage.{TargetStage}
 use Rattle.flow_link.specs.declared.stage.TargetStage.TheVariants as target
 use Rattle.flow_link.specs.declared.trace.Outcome.{Outcome}
 use Rattle.flow_link.specs.Composes.{Ends}
-use Rattle.flow_link.specs.Plan.{begins_at}
+use Rattle.flow_link.specs.Plan.{begins_at, is_one_taker}
 use Rattle.flow_link.specs.RestsByParts.{NodeIsStill, is_to_hand_over, is_wished_for, is_to_receive, is_holding, is_out, has_offer_out}
 use Rattle.flow_link.specs.Stage.{source_stage_of, target_stage_of}
 use Rattle.flow_link.specs.Trace.{Run, link_of}
@@ -30,6 +30,8 @@ use Rattle.flow_block.specs.NodeRests.{HasNothingToDo, NoneReserve, NodesAreStil
 use Rattle.flow_block.specs.NodeSeen.{IsNodeOf}
 use Rattle.flow_block.specs.Peeks.{is_held_up}
 use Rattle.flow_block.specs.Planned.{out_place, in_place}
+use Rattle.flow_block.proofs.CopierOf.{copier_still}
+use Rattle.flow_block.proofs.CopiesIdle.{view_is_shared}
 use Rattle.flow_block.proofs.PlacesOfLinks.{end_in_of, end_out_is, end_out_of, there_at_source}
 use Rattle.flow_block.proofs.TestsTell.{some_is}
 
@@ -96,54 +98,68 @@ module _ {W : Type 0} (run : Run W) (ends : ℕ → Ends) (b : ℕ) (node : Node
   abbrev place : ℕ → ℕ
   place l = out_place run.layout b l
 
-  source_is : (l : ℕ) → l < length run.layout.links → (link_of run l).source ≡ Block b
-      → (ends l).source.stage ≡ source_stage_of (stage_at exits (place l))
-  source_is l small from = ap (λ (view : SourceView Value). view.stage) (part.sources l small from)
-
   target_is : (l p : ℕ) → l < length run.layout.links → (link_of run l).target ≡ Port b p
       → (ends l).target.stage ≡ target_stage_of (port_stage (in_place run.layout b p l) (port_at p node.block))
       (hand_in (in_place run.layout b p l) (port_at p node.block).ends)
   target_is l p small to = ap (λ (view : TargetView Value). view.stage) (part.targets l p small to)
 
-  there : (l : ℕ) → l < length run.layout.links → (link_of run l).source ≡ Block b → place l < length exits.ends
-  there l small from = (end_out_of run.layout run.meaning b node.block law.shape l small from).there
+  module _ (shares : is_one_taker node.block.kind ≡ true) where
+    source_is : (l : ℕ) → l < length run.layout.links → (link_of run l).source ≡ Block b
+        → (ends l).source.stage ≡ source_stage_of (stage_at exits (place l))
+    source_is l small from = ap (λ (view : SourceView Value). view.stage)
+        (part.sources l small from
+        ∙ view_is_shared run.layout run.meaning b node law shares (place l))
 
-  gives : (l : ℕ) → l < length run.layout.links → (link_of run l).source ≡ Block b
-      → is_to_hand_over (ends l).source.stage ≡ false
-  gives l small from =
-      let k = place l in
-      let near = there l small from in
-      ap is_to_hand_over (source_is l small from)
-      ∙ gives_nothing exits k node.block.stopped (is_held_up node.block) (stage_at exits k) (law.exits.none_kept k near)
-      (nothing.outs k near)
+    there : (l : ℕ) → l < length run.layout.links → (link_of run l).source ≡ Block b → place l < length exits.ends
+    there l small from = (end_out_of run.layout run.meaning b node.block law.shape shares l small from).there
 
-  offer_out : (j : ℕ) → exits.offer ≡ Some j → has_offer_out run ends b ≡ true
-  offer_out j e =
-      let near = law.exits.law.offer_there j e in
-      let link = end_out_is run.layout run.meaning b node.block law.shape j near in
-      let l = (end_at exits j).rule.id in
-      let out : is_out (source_stage_of (stage_at exits j)) ≡ true =
-      out_is_seen exits j node.block.stopped (is_held_up node.block) (stage_at exits j) (law.exits.law.offer_out j e)
-      (nothing.outs j near) in
-      let seen : is_out (ends l).source.stage ≡ true =
-      ap is_out (source_is l link.there link.begins)
-      ∙ ap (λ (k : ℕ). is_out (source_stage_of (stage_at exits k))) link.place ∙ out in
-      some_here_below (λ n. begins_at b (link_of run n).source && is_out (ends n).source.stage)
-      (length run.layout.links) l link.there
-      (and_from (begins_at b (link_of run l).source) (is_out (ends l).source.stage)
-      (there_at_source b (link_of run l).source link.begins) seen)
+    gives_shared : (l : ℕ) → l < length run.layout.links → (link_of run l).source ≡ Block b
+        → is_to_hand_over (ends l).source.stage ≡ false
+    gives_shared l small from =
+        let k = place l in
+        let near = there l small from in
+        ap is_to_hand_over (source_is l small from)
+        ∙ gives_nothing exits k node.block.stopped (is_held_up node.block) (stage_at exits k) (law.exits.none_kept k near)
+        (nothing.outs k near)
 
-  answers : (l : ℕ) → l < length run.layout.links → (link_of run l).source ≡ Block b
-      → is_wished_for (ends l).source.stage ≡ true
-      → has_offer_out run ends b ≡ true
-  answers l small from wished =
-      let k = place l in
-      let near = there l small from in
-      let offer = some_is exits.offer
-      (answers_late exits k node.block.stopped (is_held_up node.block) (stage_at exits k) (none.outs k near)
-      (nothing.outs k near)
-      (ap is_wished_for (sym (source_is l small from)) ∙ wished)) in
-      offer_out offer.0 offer.1
+    offer_out : (j : ℕ) → exits.offer ≡ Some j → has_offer_out run ends b ≡ true
+    offer_out j e =
+        let near = law.exits.law.offer_there j e in
+        let link = end_out_is run.layout run.meaning b node.block law.shape j near in
+        let l = (end_at exits j).rule.id in
+        let out : is_out (source_stage_of (stage_at exits j)) ≡ true =
+        out_is_seen exits j node.block.stopped (is_held_up node.block) (stage_at exits j) (law.exits.law.offer_out j e)
+        (nothing.outs j near) in
+        let seen : is_out (ends l).source.stage ≡ true =
+        ap is_out (source_is l link.there link.begins)
+        ∙ ap (λ (k : ℕ). is_out (source_stage_of (stage_at exits k))) link.place ∙ out in
+        some_here_below (λ n. begins_at b (link_of run n).source && is_out (ends n).source.stage)
+        (length run.layout.links) l link.there
+        (and_from (begins_at b (link_of run l).source) (is_out (ends l).source.stage)
+        (there_at_source b (link_of run l).source link.begins) seen)
+
+    answers_shared : (l : ℕ) → l < length run.layout.links → (link_of run l).source ≡ Block b
+        → is_wished_for (ends l).source.stage ≡ true
+        → has_offer_out run ends b ≡ true
+    answers_shared l small from wished =
+        let k = place l in
+        let near = there l small from in
+        let offer = some_is exits.offer
+        (answers_late exits k node.block.stopped (is_held_up node.block) (stage_at exits k) (none.outs k near)
+        (nothing.outs k near)
+        (ap is_wished_for (sym (source_is l small from)) ∙ wished)) in
+        offer_out offer.0 offer.1
+
+  gives : (sharing : Bool) → is_one_taker node.block.kind ≡ sharing → (l : ℕ) → l < length run.layout.links
+      → (link_of run l).source ≡ Block b → is_to_hand_over (ends l).source.stage ≡ false
+  gives true shares l small from = gives_shared shares l small from
+  gives false copying l small from = (copier_still run ends b node law part copying nothing).gives l small from
+
+  answers : (sharing : Bool) → is_one_taker node.block.kind ≡ sharing → (l : ℕ) → l < length run.layout.links
+      → (link_of run l).source ≡ Block b → is_wished_for (ends l).source.stage ≡ true → has_offer_out run ends b ≡ true
+  answers true shares l small from wished = answers_shared shares l small from wished
+  answers false copying l small from wished =
+      never_both (is_wished_for (ends l).source.stage) wished ((copier_still run ends b node law part copying nothing).answers l small from)
 
   is_in_place : (l p : ℕ) → l < length run.layout.links → (link_of run l).target ≡ Port b p
       → in_place run.layout b p l < length (port_at p node.block).ends
@@ -170,8 +186,8 @@ module _ {W : Type 0} (run : Run W) (ends : ℕ → Ends) (b : ℕ) (node : Node
 
   is_still : NodeIsStill run ends b
   is_still = record {
-    gives = gives;
-    answers = answers;
+    gives = gives (is_one_taker node.block.kind) refl;
+    answers = answers (is_one_taker node.block.kind) refl;
     receives = receives;
     claims = λ l p small to holds. never_both (is_holding (ends l).target.stage) holds (never_holds l p small to);
   }

@@ -8,10 +8,12 @@ use Rattle.flow_block.proofs.JobsHold.{jobs_kept}
 use Rattle.flow_block.proofs.LoadHolds.{load_kept}
 use Rattle.flow_block.proofs.MakesHold.{makes_kept}
 use Rattle.flow_block.proofs.MarksHold.{marks_kept}
+use Rattle.flow_block.proofs.OnceHolds.{none_held_kept}
 use Rattle.flow_block.proofs.PortsHold.{ports_kept}
 use Rattle.flow_block.proofs.RowsHold.{rows_kept}
 use Rattle.flow_block.proofs.ShapeHolds.{shape_kept}
 use Rattle.flow_block.proofs.TuplesHold.{tuples_kept_so}
+use Rattle.flow_block.proofs.GroupsHold.{groups_kept_so, group_load_kept}
 
 pub nodes_kept : (W : Type 0) → NodesKept W
 nodes_kept W layout meaning b node call law may = record {
@@ -19,12 +21,15 @@ nodes_kept W layout meaning b node call law may = record {
   ports = ports_kept W layout meaning b node call law may;
   exits = exits_kept W layout meaning b node call law may;
   copies = copies_kept W layout meaning b node call law may;
+  none_held = none_held_kept W layout meaning b node call law may;
   gave = gave_kept W layout meaning b node call law may;
   makes = makes_kept W layout meaning b node call law may;
   rows = rows_kept W layout meaning b node call law may;
   tuples = tuples_kept_so W layout meaning b node call law may;
   jobs = jobs_kept W layout meaning b node call law may;
   load = load_kept W layout meaning b node call law may;
+  groups = groups_kept_so W layout meaning b node call law may;
+  group_load = group_load_kept W layout meaning b node call law may;
   marks = marks_kept W layout meaning b node call law may;
   ends = ends_kept W layout meaning b node call law may;
 }

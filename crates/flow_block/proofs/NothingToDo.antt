@@ -1,6 +1,6 @@
 -- What a node that has nothing to do knows of itself, where its ends rest.
-use Rattle.std.proofs.Common.{◌≡◌, ℕ, ◌<◌, leb, Bool, true, false, cond, not, ◌==◌, ◌&&◌, ◌||◌, List, [], ◌∷◌, length, is_some, is_none, Option, Some, None, Result, refl, ap, ap₂, sym, subst, ◌∙◌, arith, eq-eqb}
-use Rattle.std.proofs.lemmas.Bool.{OnTrue_at, or_from, or_right, or_parts, and_from, false_from_ne_true}
+use Rattle.std.proofs.Common.{◌≡◌, ℕ, ◌<◌, Bool, true, false, cond, not, ◌==◌, ◌&&◌, ◌||◌, List, [], ◌∷◌, length, is_some, is_none, Option, Some, None, Result, refl, ap, ap₂, sym, subst, ◌∙◌, arith, eq-eqb}
+use Rattle.std.proofs.lemmas.Bool.{OnTrue_at, or_from, or_left, or_right, or_parts, and_from, false_from_ne_true}
 use Rattle.flow_value.specs.declared.value.Value.{Value}
 use Rattle.flow_value.specs.declared.when.When.{When}
 use Rattle.flow_link.specs.declared.stage.SourceStage.{SourceStage}
@@ -9,7 +9,6 @@ use Rattle.flow_link.specs.Layout.{Layout}
 use Rattle.flow_link.specs.Plan.{has_work}
 use Rattle.flow_link.proofs.ListTests.{never_both}
 use Rattle.flow_intake.specs.Port.{PortState, fresh_port, stage_at as port_stage, coming}
-use Rattle.flow_intake.specs.PortLaw.{has_ended as has_port_ended}
 use Rattle.flow_outlet.specs.End.{is_over, is_out, is_waiting, is_cut, is_closed, speaks_of, rejects}
 use Rattle.flow_outlet.specs.Law.{admits_head as admits}
 use Rattle.flow_outlet.specs.Order.{StopsAt}
@@ -18,22 +17,22 @@ use Rattle.flow_outlet.specs.declared.ends.OutEnd.{OutEnd}
 use Rattle.flow_outlet.proofs.OffersInOrder.{offers_in_order}
 use Rattle.flow_outlet.proofs.StagesTell.{free_is, at_itself}
 use Rattle.flow_outlet.proofs.TestsTell.{three_all}
-use Rattle.flow_block.specs.Block.{BlockState, port_at, held_by, is_batch, is_join}
+use Rattle.flow_block.specs.Block.{BlockState, port_at, held_by, is_batch, is_join, is_batched_join, has_ports}
 use Rattle.flow_block.specs.Node.{NodeState}
 use Rattle.flow_block.specs.NodeLaw.{NodeLaw}
 use Rattle.flow_block.specs.NodeRests.{HasNothingToDo, EndsRest}
-use Rattle.flow_spread.specs.Spread.{is_at_rest as is_spread_at_rest}
+use Rattle.flow_spread.specs.Spread.{is_at_rest as is_spread_at_rest, only_waits as spread_only_waits}
 use Rattle.flow_block.specs.Copies.{copies_left}
-use Rattle.flow_block.proofs.CopiesIdle.{copies_rest, copies_freely, none_copied}
-use Rattle.flow_block.specs.Peeks.{is_out_at_rest, is_copied_out, may_copy, fault_at_ports, holds_nothing, has_group, has_next, is_worked_off, may_work, may_make, nothing_comes, all_ended, is_pending, fault_cause, could_stop, next_fault, is_held_up, may_finish, is_complete}
+use Rattle.flow_block.specs.Peeks.{is_out_at_rest, is_copied_out, fault_at_ports, holds_nothing, has_group, has_next, is_worked_off, may_work, may_make, nothing_comes, is_pending, fault_cause, could_stop, next_fault, is_held_up, may_finish, is_complete, is_copy_held_up, would_copy, has_all_given, has_group_of_ports}
+use Rattle.flow_block.proofs.CopierOf.{CopiesQuiet}
 use Rattle.flow_block.proofs.EndsAtRest.{not_out, must_wait, away_waits, none_away, waiting_stays, free_stays, not_cut, not_coming}
 use Rattle.flow_block.proofs.EndsTell.{none_come}
 use Rattle.flow_block.proofs.FaultsSeen.{first_none}
 use Rattle.flow_block.proofs.GoingOn.{away_goes_on, waiting_away}
 use Rattle.flow_block.proofs.JobsRest.{holds_none}
-use Rattle.flow_block.proofs.Joins.{join_idle, join_alone}
+use Rattle.flow_block.proofs.Joins.{join_idle, join_alone, batched_alone, batched_unjoined, batched_idle, others_at_one}
 use Rattle.flow_block.proofs.KindsBuilt.{has_one_port, batch_idle}
-use Rattle.flow_block.proofs.TestsTell.{every_tells, every_where}
+use Rattle.flow_block.proofs.TestsTell.{every_where, none_left}
 use Rattle.flow_group.specs.Tuple.{has_tuple}
 
 offer_none : (offer : Option ℕ) → ((j : ℕ) → offer ≡ Some j → ⊥) → offer ≡ None
@@ -65,7 +64,8 @@ closed_unless end free cut = ap₂ (λ (over cut : Bool). over || cut) (ap is_ov
 -- What the node knows of itself
 
 module _ {W : Type 0} (layout : Layout W) (meaning : ℕ → Value → Result (List Value) ℕ) (b : ℕ) (node : NodeState)
-    (law : NodeLaw layout meaning b node) (nothing : HasNothingToDo node) (rest : EndsRest node) where
+    (law : NodeLaw layout meaning b node) (nothing : HasNothingToDo node) (rest : EndsRest node)
+    (quiet : CopiesQuiet node.block) where
   abbrev pub block : BlockState
   block = node.block
 
@@ -107,10 +107,15 @@ module _ {W : Type 0} (layout : Layout W) (meaning : ℕ → Value → Result (L
       none_away exits.ends rest.outs (λ k small.
       false_from_ne_true (is_waiting (stage_at exits k))
       (λ waits. never_both (is_held_up block) held_up (waiting_tells k small waits).0)) in
+      let copy_held_up : is_copy_held_up block ≡ true =
+      or_right (would_copy block) _
+      (and_from (could_stop block && spread_only_waits block.copies) (is_some (fault_cause block) || has_all_given block)
+      (and_from (could_stop block) (spread_only_waits block.copies) (could going) quiet.only_waits)
+      (or_left (is_some (fault_cause block)) (has_all_given block) (ap is_some e))) in
       let found : next_fault block ≡ fault_cause block =
       ap (λ (stops : Bool). cond stops (fault_cause block) None)
       (and_from (could_stop block) (is_out_at_rest block) (could going)
-      (and_from (is_at_rest exits) (is_spread_at_rest block.copies) at_rest (copies_rest layout meaning b node law))) in
+      (and_from (is_at_rest exits) (is_spread_at_rest block.copies) at_rest (quiet.at_rest copy_held_up))) in
       sym found ∙ nothing.faults
 
   no_cause : block.stopped ≡ None → fault_cause block ≡ None
@@ -119,60 +124,71 @@ module _ {W : Type 0} (layout : Layout W) (meaning : ℕ → Value → Result (L
   no_own_fault : block.stopped ≡ None → block.fault ≡ None
   no_own_fault going = (first_none block.fault _ (no_cause going)).0
 
-  no_held : block.stopped ≡ None → is_batch block.kind ≡ false → is_join block.kind ≡ false → held_by block ≡ []
-  no_held going other alone =
-      let well = no_own_fault going in
-      holds_none block going well other alone (copies_freely layout meaning b node law) law.jobs.some_lane (law.jobs.drained well) nothing.makes nothing.begins nothing.ends
+  no_held : block.stopped ≡ None → is_batch block.kind ≡ false → is_join block.kind ≡ false → is_batched_join block.kind ≡ false
+      → held_by block ≡ []
+  no_held going other alone grouped =
+      held_by_test (is_empty (held_by block)) refl going other alone grouped
+    where
+      held_by_test : (none : Bool) → is_empty (held_by block) ≡ none → block.stopped ≡ None → is_batch block.kind ≡ false
+          → is_join block.kind ≡ false → is_batched_join block.kind ≡ false → held_by block ≡ []
+      held_by_test true is going other alone grouped = none_left (held_by block) is
+      held_by_test false is going other alone grouped =
+          let well = no_own_fault going in
+          holds_none block going well other alone grouped (quiet.may_copy going is) law.jobs.some_lane (law.jobs.drained well)
+          nothing.makes nothing.begins nothing.ends
 
-  all_held : is_join block.kind ≡ false → is_empty (held_by block) ≡ true → holds_nothing block.ports ≡ true
+  all_held : has_ports block.kind ≡ false → is_empty (held_by block) ≡ true → holds_nothing block.ports ≡ true
   all_held alone none =
       every_where (λ (port : PortState). is_empty port.waiting) block.ports (fresh_port None) (λ p small.
       let first : 0 ≡ p = omega (arith, small, has_one_port layout meaning b block law.shape alone) in
       subst (λ (q : ℕ). is_empty (port_at q block).waiting ≡ true) first none)
 
-  -- a batch has no row to make
-  no_group : block.stopped ≡ None → is_batch block.kind ≡ true → has_group block ≡ false
-  no_group going batch =
-      false_from_ne_true (has_group block) (λ group.
+  -- it could make nothing more
+  nothing_next : block.stopped ≡ None → has_work block.kind ≡ false → has_next block ≡ false
+  nothing_next going idle =
+      false_from_ne_true (has_next block) (λ next.
       never_both (may_make block)
       (and_from (may_work block) (not (has_work block.kind))
       (and_from (is_none block.stopped && is_none block.fault) (has_next block)
-      (and_from (is_none block.stopped) (is_none block.fault) (ap is_none going) (ap is_none (no_own_fault going)))
-      (ap (λ (is : Bool). cond is (has_group block)
-      (cond (is_join block.kind) (has_tuple block.ports) (not (is_empty (held_by block)) && may_copy block))) batch ∙ group))
-      (ap not (batch_idle block.kind batch)))
+      (and_from (is_none block.stopped) (is_none block.fault) (ap is_none going) (ap is_none (no_own_fault going))) next)
+      (ap not idle))
       nothing.makes)
+
+  -- a batch has no row to make
+  no_group : block.stopped ≡ None → is_batch block.kind ≡ true → has_group block ≡ false
+  no_group going batch = rw batch at nothing_next going (batch_idle block.kind batch)
 
   -- a join has no tuple to make
   no_tuple : block.stopped ≡ None → is_join block.kind ≡ true → has_tuple block.ports ≡ false
-  no_tuple going join =
-      false_from_ne_true (has_tuple block.ports) (λ tuple.
-      never_both (may_make block)
-      (and_from (may_work block) (not (has_work block.kind))
-      (and_from (is_none block.stopped && is_none block.fault) (has_next block)
-      (and_from (is_none block.stopped) (is_none block.fault) (ap is_none going) (ap is_none (no_own_fault going)))
-      (ap₂ (λ (batch joins : Bool). cond batch (has_group block)
-      (cond joins (has_tuple block.ports) (not (is_empty (held_by block)) && may_copy block)))
-      (join_alone block.kind join) join ∙ tuple))
-      (ap not (join_idle block.kind join)))
-      nothing.makes)
+  no_tuple going join = rw (join_alone block.kind join, join) at nothing_next going (join_idle block.kind join)
+
+  -- a batched join has no group to make
+  no_group_of_ports : block.stopped ≡ None → is_batched_join block.kind ≡ true → has_group_of_ports block ≡ false
+  no_group_of_ports going batched =
+      rw (batched_alone block.kind batched, batched_unjoined block.kind batched, batched)
+      at nothing_next going (batched_idle block.kind batched)
 
   -- it has worked off what it holds
-  worked_off_by : block.stopped ≡ None → (batch join : Bool) → is_batch block.kind ≡ batch → is_join block.kind ≡ join
-      → cond batch (not (has_group block)) (cond join (not (has_tuple block.ports)) (holds_nothing block.ports)) ≡ true
-  worked_off_by going true join is joins = ap not (no_group going is)
-  worked_off_by going false true is joins = ap not (no_tuple going joins)
-  worked_off_by going false false is joins = all_held joins (ap is_empty (no_held going is joins))
+  worked_off_by : block.stopped ≡ None → (batch join batched : Bool) → is_batch block.kind ≡ batch → is_join block.kind ≡ join
+      → is_batched_join block.kind ≡ batched
+      → cond batch (not (has_group block)) (cond join (not (has_tuple block.ports))
+      (cond batched (not (has_group_of_ports block)) (holds_nothing block.ports))) ≡ true
+  worked_off_by going true join batched is joins groups = ap not (no_group going is)
+  worked_off_by going false true batched is joins groups = ap not (no_tuple going joins)
+  worked_off_by going false false true is joins groups = ap not (no_group_of_ports going groups)
+  worked_off_by going false false false is joins groups =
+      all_held (others_at_one block.kind groups joins) (ap is_empty (no_held going is joins groups))
 
   pub worked_off : block.stopped ≡ None → is_worked_off block ≡ true
-  worked_off going = worked_off_by going (is_batch block.kind) (is_join block.kind) refl refl
+  worked_off going =
+      worked_off_by going (is_batch block.kind) (is_join block.kind) (is_batched_join block.kind) refl refl refl
 
   pub none_seen : block.stopped ≡ None → fault_at_ports block.ports ≡ None
   none_seen going =
       ap (λ (none : Bool). cond none (fault_at_ports block.ports) None) (sym (worked_off going))
       ∙ (first_none block.fault (cond (is_worked_off block) (fault_at_ports block.ports) None) (no_cause going)).1
 
-  not_pending : block.stopped ≡ None → is_pending block ≡ false
+  pub not_pending : block.stopped ≡ None → is_pending block ≡ false
   not_pending going = ap₂ (λ (own seen : Option ℕ). is_some own || is_some seen) (no_own_fault going) (none_seen going)
 
   -- an offer that waits is the head's, of a block that has not stopped
@@ -226,12 +242,22 @@ module _ {W : Type 0} (layout : Layout W) (meaning : ℕ → Value → Result (L
 
   -- it could finish, if it held nothing, had nothing left and were complete
   pub not_finished : block.stopped ≡ None → is_complete block ≡ true → holds_nothing block.ports ≡ true
-      → is_empty exits.left ≡ true → ⊥
-  not_finished going ended none left =
+      → is_empty exits.left ≡ true → copies_left block.copies ≡ 0 → ⊥
+  not_finished going ended none left copied =
       let at_rest : is_at_rest exits ≡ true =
       none_away exits.ends rest.outs (λ k small.
       false_from_ne_true (is_waiting (stage_at exits k))
       (λ waits. never_both (is_empty exits.left) left (waiting_left k small waits))) in
+      let given : has_all_given block ≡ true =
+      and_from (is_complete block && holds_nothing block.ports && is_empty exits.left) (copies_left block.copies == 0)
+      (and_from (is_complete block && holds_nothing block.ports) (is_empty exits.left)
+      (and_from (is_complete block) (holds_nothing block.ports) ended none) left)
+      (ap (λ (left : ℕ). left == 0) copied) in
+      let copy_held_up : is_copy_held_up block ≡ true =
+      or_right (would_copy block) _
+      (and_from (could_stop block && spread_only_waits block.copies) (is_some (fault_cause block) || has_all_given block)
+      (and_from (could_stop block) (spread_only_waits block.copies) (could going) quiet.only_waits)
+      (or_right (is_some (fault_cause block)) (has_all_given block) given)) in
       never_both (may_finish block)
       (and_from (could_stop block && is_complete block && holds_nothing block.ports && is_empty exits.left && is_at_rest exits)
       (is_copied_out block.copies)
@@ -239,5 +265,5 @@ module _ {W : Type 0} (layout : Layout W) (meaning : ℕ → Value → Result (L
       (is_at_rest exits)
       (could going) ended none left at_rest)
       (and_from (copies_left block.copies == 0) (is_spread_at_rest block.copies)
-      (ap (λ (left : ℕ). left == 0) (none_copied layout meaning b node law)) (copies_rest layout meaning b node law)))
+      (ap (λ (left : ℕ). left == 0) copied) (quiet.at_rest copy_held_up)))
       nothing.finishes

@@ -10,9 +10,9 @@ use Rattle.flow_intake.specs.Port.{EndState, PortState, fresh_end, fresh_port, e
 use Rattle.flow_intake.specs.Calls.{put_stage, put_hand, wants, opens, closes, looks}
 use Rattle.flow_intake.specs.Receives.{takes_at_once, receives}
 use Rattle.flow_intake.proofs.ReceivesAtOnce.{takes_tells, received_at}
-use Rattle.flow_block.specs.Block.{BlockState, port_at, with_port}
+use Rattle.flow_block.specs.Block.{BlockState, port_at, with_port, copies_taken}
 use Rattle.flow_block.specs.JournalFits.{marks_due, port_due}
-use Rattle.flow_block.specs.Node.{NodeState, with_block, marks, takes_in, in_link_at, hand_at}
+use Rattle.flow_block.specs.Node.{NodeState, with_block, marks, takes_in, holds_in, in_link_at, hand_at}
 use Rattle.flow_block.specs.Passes.{on_port, takes_hand, receives_on}
 use Rattle.flow_block.proofs.MarksFit.{due_with, due_moved}
 
@@ -98,15 +98,21 @@ module _ (p k i : ℕ) (value : Value) (node : NodeState) (l : p < length node.b
   link_there =
       ap (λ (port : PortState). link_in k port.ends) port_is ∙ link_is k i value (port_at p node.block) there
 
-  pub receives_is : receives_on p k i value node
-      ≡ marks (Took p (in_link_at p k node) value) (with_block (with_port p (receives k i value) node.block) node)
-  receives_is =
-      opened_is
-      ∙ ap (λ (hand : Option Value). takes_in p k hand after_open) hand_there
-      ∙ ap (λ (link : ℕ). marks (Took p link value) (with_block (with_port p (closes k value) after_open.block) after_open))
+  abbrev received : NodeState
+  received = marks (Took p (in_link_at p k node) value) (with_block (with_port p (receives k i value) node.block) node)
+
+  held_is : holds_in p k (Some value) after_open ≡ received
+  held_is =
+      ap (λ (link : ℕ). marks (Took p link value) (with_block (with_port p (closes k value) after_open.block) after_open))
       link_there
       ∙ ap (λ (block : BlockState). marks (Took p (in_link_at p k node) value) (with_block block node))
       (with_twice p (opened k i value) (closes k value) node.block l)
+
+  pub receives_is : receives_on p k i value node ≡ with_block (copies_taken received.block) received
+  receives_is =
+      opened_is
+      ∙ ap (λ (hand : Option Value). takes_in p k hand after_open) hand_there
+      ∙ ap (λ (new : NodeState). with_block (copies_taken new.block) new) held_is
 
 -- the mark of the message is one that may follow
 pub due_receives : (p k i : ℕ) (value : Value) (block : BlockState) → p < length block.ports

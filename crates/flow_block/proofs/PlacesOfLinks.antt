@@ -12,7 +12,7 @@ use Rattle.flow_link.specs.declared.plan.LinkTarget.TheVariants.{Port, Exit}
 use Rattle.flow_link.specs.declared.stage.TargetStage.{TargetStage}
 use Rattle.flow_link.specs.Layout.{Layout}
 use Rattle.flow_link.specs.Lists.{numbers_from, below}
-use Rattle.flow_link.specs.Plan.{link_in, begins_at, ends_at, ends_at_port, links_into}
+use Rattle.flow_link.specs.Plan.{link_in, begins_at, ends_at, ends_at_port, links_into, is_one_taker}
 use Rattle.flow_intake.specs.Port.{EndState, end_in, fresh_end, count_at}
 use Rattle.flow_outlet.specs.declared.ends.LinkRule.{LinkRule}
 use Rattle.flow_outlet.specs.declared.ends.OutEnd.{OutEnd}
@@ -151,23 +151,40 @@ module _ {W : Type 0} (layout : Layout W) (meaning : ℕ → Value → Result (L
     pub place : out_place layout b l ≡ k
     pub rule_is : (end_at block.exits k).rule ≡ rule_of layout l
 
-  count_out : length block.exits.ends ≡ length (links_from layout b)
-  count_out =
-      sym (lists.length-map block.exits.ends (λ (end : OutEnd). end.rule)) ∙ ap length shape.rules
+  rules_by : (sharing : Bool) → is_one_taker block.kind ≡ sharing
+      → map (λ (end : OutEnd). end.rule) block.exits.ends ≡ cond sharing (map (rule_of layout) (links_from layout b)) []
+  rules_by sharing is =
+      shape.rules ∙ ap (λ (so : Bool). cond so (map (rule_of layout) (links_from layout b)) []) is
+
+  -- where there is an end over which messages are shared out, the block shares them
+  pub shares_at : (k : ℕ) → k < length block.exits.ends → is_one_taker block.kind ≡ true
+  shares_at k there = by_test (is_one_taker block.kind) refl
+    where
+      by_test : (sharing : Bool) → is_one_taker block.kind ≡ sharing → sharing ≡ true
+      by_test true is = refl
+      by_test false is =
+          let none : length block.exits.ends ≡ 0 =
+          sym (lists.length-map block.exits.ends (λ (end : OutEnd). end.rule)) ∙ ap length (rules_by false is) in
+          absurd (omega (arith, there, none))
+
+  count_out : is_one_taker block.kind ≡ true → length block.exits.ends ≡ length (links_from layout b)
+  count_out shares =
+      sym (lists.length-map block.exits.ends (λ (end : OutEnd). end.rule)) ∙ ap length (rules_by true shares)
       ∙ lists.length-map (links_from layout b) (rule_of layout)
 
-  rule_at : (k : ℕ) → k < length (links_from layout b)
+  rule_at : is_one_taker block.kind ≡ true → (k : ℕ) → k < length (links_from layout b)
       → (end_at block.exits k).rule ≡ rule_of layout (get_or (links_from layout b) k 0)
-  rule_at k small =
+  rule_at shares k small =
       sym (get_or-map (λ (end : OutEnd). end.rule) block.exits.ends k no_end)
-      ∙ ap (λ (rules : List LinkRule). get_or rules k no_end.rule) shape.rules
+      ∙ ap (λ (rules : List LinkRule). get_or rules k no_end.rule) (rules_by true shares)
       ∙ lists.get_or-map (rule_of layout) (links_from layout b) k 0 no_end.rule small
 
   pub end_out_is : (k : ℕ) → k < length block.exits.ends → IsEndOut k (end_at block.exits k).rule.id
   end_out_is k small =
-      let low : k < length (links_from layout b) = omega (arith, count_out) in
+      let shares = shares_at k small in
+      let low : k < length (links_from layout b) = omega (arith, small, count_out shares) in
       let stands = stands_below (is_out_of layout b) (length layout.links) k low in
-      let rule = rule_at k low in
+      let rule = rule_at shares k low in
       let is : IsEndOut k (get_or (links_from layout b) k 0) = record {
         there = stands.there;
         begins = source_there b (link_in layout.links (get_or (links_from layout b) k 0)).source stands.passes;
@@ -197,13 +214,14 @@ module _ {W : Type 0} (layout : Layout W) (meaning : ℕ → Value → Result (L
     pub there : out_place layout b l < length block.exits.ends
     pub rule_is : (end_at block.exits (out_place layout b l)).rule ≡ rule_of layout l
 
-  pub end_out_of : (l : ℕ) → l < length layout.links → (link_in layout.links l).source ≡ Block b → HasEndOut l
-  end_out_of l small begins =
+  pub end_out_of : is_one_taker block.kind ≡ true → (l : ℕ) → l < length layout.links → (link_in layout.links l).source ≡ Block b
+      → HasEndOut l
+  end_out_of shares l small begins =
       let has = place_below (is_out_of layout b) (length layout.links) l small
       (there_at_source b (link_in layout.links l).source begins) in
       record {
-        there = omega (arith, count_out, has.there);
-        rule_is = rule_at (out_place layout b l) has.there ∙ ap (rule_of layout) has.is_there;
+        there = omega (arith, count_out shares, has.there);
+        rule_is = rule_at shares (out_place layout b l) has.there ∙ ap (rule_of layout) has.is_there;
       }
 
   -- as many ends of a port stand so as links lead there of which that holds

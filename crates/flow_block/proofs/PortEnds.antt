@@ -1,6 +1,6 @@
 -- What a port says of its end, as one of its ends of links moves, it closes, or its block's function faults.
-use Rattle.std.proofs.Common.{◌≡◌, ℕ, ◌<◌, Bool, true, false, List, length, set, Option, Some, None, is_some, refl, ap, sym, ◌∙◌, inl, inr, arith}
-use Rattle.std.proofs.lemmas.Bool.{cases_eq}
+use Rattle.std.proofs.Common.{◌≡◌, ℕ, ◌<◌, Bool, true, false, List, length, set, Option, Some, None, is_some, refl, ap, sym, ◌∙◌, inl, inr, arith, ◌&&◌, ◌++◌, ◌||◌, not, ◌∷◌, []}
+use Rattle.std.proofs.lemmas.Bool.{cases_eq, and_from}
 use Rattle.std.proofs.lemmas.List.{length-set, get_or-set_same, get_or-set_other}
 use Rattle.flow_link.specs.declared.phase.Phase.{Phase}
 use Rattle.flow_link.specs.declared.phase.Phase.TheVariants.{Idle}
@@ -15,7 +15,16 @@ use Rattle.flow_intake.specs.Port.{EndState, stage_in, fresh_end}
 use Rattle.flow_intake.specs.PortLaw.{has_ended as has_port_ended}
 use Rattle.flow_intake.specs.Calls.{refused_by, failing_from}
 use Rattle.flow_intake.specs.Ended.{is_completion, fault_seen, has_seen_completion}
-use Rattle.flow_block.specs.NodeLaw.{RefusesFor}
+use Rattle.flow_link.specs.Plan.{is_write_once}
+use Rattle.flow_link.specs.Trace.{took, has_complete, is_complete_mark}
+use Rattle.flow_link.specs.JournalGrows.{taken_by_mark}
+use Rattle.flow_link.proofs.JournalsGrow.{took_more}
+use Rattle.flow_link.proofs.OneMoreMark.{some_no_more}
+use Rattle.flow_link.specs.declared.trace.Mark.{Mark}
+use Rattle.flow_link.specs.declared.draft.BlockKind.{BlockKind}
+use Rattle.flow_value.specs.declared.value.Value.{Value}
+use Rattle.flow_outlet.specs.Outlet.{is_empty}
+use Rattle.flow_block.specs.NodeLaw.{RefusesFor, has_its_message}
 use Rattle.flow_block.proofs.FaultsSeen.{Unseen, unseen_where}
 use Rattle.flow_block.proofs.TestsTell.{some_set}
 
@@ -103,6 +112,53 @@ port_failed fault number ended complete refusing ends law = record {
   refused = λ k small why is. refuses_failed refusing fault number why (law.refused k small why is);
   complete_cause = law.complete_cause;
 }
+
+-- What is told of the marks of a port that completes
+
+-- it has completed, and not since the block has all that it takes
+abbrev pub completes_by : BlockKind → ℕ → List Mark → Bool
+completes_by kind p journal = has_complete p journal && not (has_its_message kind journal)
+
+pub completes_tells : (complete its_message : Bool) → (complete && not its_message) ≡ true
+    → (complete ≡ true) × (its_message ≡ false)
+completes_tells true false e = (refl, refl)
+completes_tells true true e = absurd (cc)
+completes_tells false its_message e = absurd (cc)
+
+-- one more message taken ends nothing
+message_before : (once : Bool) (before more : List Value) → (once && not (is_empty (before ++ more))) ≡ false
+    → (once && not (is_empty before)) ≡ false
+message_before false before more e = refl
+message_before true [] more e = refl
+message_before true (value ∷ before) more e = absurd (cc)
+
+pub unwritten_before : (kind : BlockKind) (journal : List Mark) (mark : Mark)
+    → has_its_message kind (journal ++ mark ∷ []) ≡ false → has_its_message kind journal ≡ false
+unwritten_before kind journal mark none =
+    message_before (is_write_once kind) (took journal) (taken_by_mark (λ port link. true) mark)
+    (ap (λ (taken : List Value). is_write_once kind && not (is_empty taken))
+    (sym (took_more (λ port link. true) journal mark)) ∙ none)
+
+pub completes_more : (kind : BlockKind) (p : ℕ) (journal : List Mark) (mark : Mark) → is_complete_mark p mark ≡ false
+    → completes_by kind p (journal ++ mark ∷ []) ≡ true → completes_by kind p journal ≡ true
+completes_more kind p journal mark none e =
+    let tells = completes_tells (has_complete p (journal ++ mark ∷ [])) (has_its_message kind (journal ++ mark ∷ [])) e in
+    and_from (has_complete p journal) (not (has_its_message kind journal))
+    (sym (some_no_more (is_complete_mark p) journal mark none) ∙ tells.0) (ap not (unwritten_before kind journal mark tells.1))
+
+pub fewer_complete : (fault : Option ℕ) (ended complete now : Bool) (refusing : Option Refusal) (ends : List EndState)
+    → (now ≡ true → complete ≡ true) → PortEnds fault ended complete refusing ends → PortEnds fault ended now refusing ends
+fewer_complete fault ended complete now refusing ends fewer law = record {
+  ended_is = law.ended_is;
+  failed = law.failed;
+  own_fault = law.own_fault;
+  refused = law.refused;
+  complete_cause = λ is. law.complete_cause (fewer is);
+}
+
+pub seen_unless : (seen written : Bool) → (seen || written) ≡ true → written ≡ false → seen ≡ true
+seen_unless true written e none = refl
+seen_unless false written e none = sym none ∙ e
 
 -- What an end keeps where it moves
 

@@ -1,5 +1,5 @@
 -- Each call keeps a block's ports in order.
-use Rattle.std.proofs.Common.{◌≡◌, ◌≢◌, ℕ, ◌+◌, ◌-◌, ◌<◌, ◌≤◌, ◌==◌, cond, Bool, true, List, [], ◌∷◌, ◌++◌, length, map, set, drop, Option, Some, None, is_some, Result, Ok, Err, refl, ap, sym, ◌∙◌, subst, arith, ne_eqb, eq-eqb, eqb-true, length-append}
+use Rattle.std.proofs.Common.{◌≡◌, ◌≢◌, ℕ, ◌+◌, ◌-◌, ◌<◌, ◌≤◌, ◌==◌, cond, Bool, true, false, List, [], ◌∷◌, ◌++◌, length, map, set, drop, Option, Some, None, is_some, Result, Ok, Err, refl, ap, sym, ◌∙◌, subst, arith, ne_eqb, eq-eqb, eqb-true, length-append}
 use Rattle.std.proofs.lemmas.List.{length-drop}
 use Rattle.flow_value.specs.declared.value.Value.{Value}
 use Rattle.flow_link.specs.declared.draft.BlockKind.{BlockKind}
@@ -19,21 +19,26 @@ use Rattle.flow_intake.proofs.CallsKeepOrder.{moves_keep}
 use Rattle.flow_outlet.specs.Fits.{weight_of}
 use Rattle.flow_outlet.specs.Outlet.{head_of, weight_at, gives}
 use Rattle.flow_outlet.proofs.OutletFits.{weight_stays}
-use Rattle.flow_link.proofs.ListTests.{never_both}
-use Rattle.flow_link.specs.Plan.{is_broadcast}
-use Rattle.flow_block.specs.Copies.{copy_place}
-use Rattle.flow_block.proofs.CopiesIdle.{no_copy_at, none_broadcast}
-use Rattle.flow_block.specs.Block.{BlockState, port_in, held_by, made_of, yields, keeps_results, makes_of, takes_group}
-use Rattle.flow_block.specs.Node.{NodeState, NodeCall, hand_at, in_link_at, out_link_at, takes_in, gives_from}
-use Rattle.flow_block.specs.NodeLaw.{NodeLaw, ShapeLaw, PortsLaw, LoadLaw}
+use Rattle.flow_block.proofs.RoomBack.{back_at, each_after_back, back_fits}
+use Rattle.flow_block.specs.Copies.{copy_place, CopyCall, after_copy, copies_weight}
+use Rattle.flow_block.proofs.CopiesIdle.{copies_at}
+use Rattle.flow_block.specs.Block.{BlockState, port_in, held_by, made_of, yields, keeps_results, makes_of, takes_group, copies_next, is_batched_join}
+use Rattle.flow_block.specs.Node.{NodeState, NodeCall, hand_at, in_link_at, out_link_at, gives_from, copies_by, marks_copy, order_in, holds_in}
+use Rattle.flow_block.proofs.CopiesTaken.{taken_in_keeps}
+use Rattle.flow_block.specs.NodeLaw.{NodeLaw, ShapeLaw, PortsLaw, LoadLaw, places_out}
+use Rattle.flow_spread.specs.Spread.{puts}
 use Rattle.flow_block.specs.NodeKeeps.{InAt, MayCall, after_call, PortsKept}
 use Rattle.flow_block.specs.Peeks.{nothing_comes}
-use Rattle.flow_block.specs.Planned.{block_makes}
+use Rattle.flow_block.specs.Planned.{block_makes, room_of}
+use Rattle.flow_block.proofs.CopiesLeave.{took_by_copy_at, left_by_copy}
 use Rattle.flow_block.proofs.GoingOn.{may_complete_tells, may_fault_tells, may_finish_tells}
 use Rattle.flow_block.proofs.JournalTells.{took_same, took_here}
-use Rattle.flow_block.proofs.KindsBuilt.{makes_by}
+use Rattle.flow_block.proofs.KindsBuilt.{makes_by, next_by}
 use Rattle.flow_block.proofs.PortsChange.{each_after_one, each_after_all}
 use Rattle.flow_block.proofs.TestsTell.{every_tells}
+use Rattle.flow_block.proofs.GroupPorts.{each_after_group}
+use Rattle.flow_block.proofs.Joins.{copies_unbatched}
+use Rattle.flow_group.specs.Group.{takes_first}
 
 -- how many messages a port took, when the journal has one more mark
 took_as_many : (q : ℕ) (journal : List Mark) (mark : Mark) → taken_by_mark (λ port link. port == q) mark ≡ []
@@ -64,6 +69,14 @@ made_fits : (capacity : Option ℕ) (load : ℕ) (waiting : List Value) (value :
 made_fits None load waiting value first counts = omega arith
 made_fits (Some c) load [] value first counts = absurd (cc)
 made_fits (Some c) load (message ∷ waiting) value first counts = let fits = counts refl in omega arith
+
+nothing_fits : (limited : Bool) (room : ℕ) → cond limited 0 0 ≤ room
+nothing_fits true room = omega arith
+nothing_fits false room = omega arith
+
+fewer_fits : (limited : Bool) (now room : ℕ) → cond limited 1 0 ≤ room → cond limited (1 - now) 0 ≤ room
+fewer_fits true now room fits = omega (arith, fits)
+fewer_fits false now room fits = omega arith
 
 module _ {W : Type 0} (layout : Layout W) (meaning : ℕ → Value → Result (List Value) ℕ) (b : ℕ) where
   abbrev facts : ℕ → LinkFacts
@@ -137,24 +150,27 @@ module _ {W : Type 0} (layout : Layout W) (meaning : ℕ → Value → Result (L
   make_keeps (Some value) block journal first law =
       yield_keeps (made_of block.kind (block_makes layout meaning b) value) value block journal first law
 
+  -- messages that waited go into a group
+  group_taken : (count n : ℕ) (port : PortState) → PortLaw facts n port → PortLaw facts n (takes_first count port)
+  group_taken count n port old = record {
+    each = old.each;
+    distinct = old.distinct;
+    known = old.known;
+    room = old.room;
+    took = old.took;
+    waits = λ there. let enough = old.waits there in rw (length-drop count port.waiting) (omega (arith, enough));
+  }
+
   -- it makes a row
   row_keeps : (count : ℕ) (block : BlockState) (journal : List Mark) → PortsLaw layout meaning b block journal
       → AreInOrder journal (set block.ports 0 (takes_group count (port_in block.ports 0)))
   row_keeps count block journal law =
       let port = port_in block.ports 0 in
-      one_port block.ports journal 0 (takes_group count port) law
-      (λ old. record {
-        each = old.each;
-        distinct = old.distinct;
-        known = old.known;
-        room = old.room;
-        took = old.took;
-        waits = λ there. let enough = old.waits there in rw (length-drop count port.waiting) (omega (arith, enough));
-      })
+      one_port block.ports journal 0 (takes_group count port) law (group_taken count (taken journal 0) port)
 
   take_keeps : (p k : ℕ) (hand : Option Value) (node : NodeState) → InAt is_hand p k node
       → PortsLaw layout meaning b node.block node.journal
-      → PortsLaw layout meaning b (takes_in p k hand node).block (takes_in p k hand node).journal
+      → PortsLaw layout meaning b (holds_in p k hand node).block (holds_in p k hand node).journal
   take_keeps p k None node at law = law
   take_keeps p k (Some value) node at law =
       let port = port_in node.block.ports p in
@@ -164,27 +180,82 @@ module _ {W : Type 0} (layout : Layout W) (meaning : ℕ → Value → Result (L
       (λ old. subst (λ (n : ℕ). PortLaw facts n (closes k value port)) (sym (took_one_more p link value node.journal))
       (moves_keep.closed facts (taken node.journal p) port old k value at.place at.stands))
 
+  -- what is wholly given of what was put comes back whole; of a batched join nothing does, but the room of rows
+  room_fits : (node : NodeState) (k : ℕ) → NodeLaw layout meaning b node → (q : ℕ) → q < length node.block.ports
+      → (batched : Bool) → is_batched_join node.block.kind ≡ batched
+      → cond (is_some (port_in node.block.ports q).capacity) (gives k node.block.exits).room 0
+      ≤ (port_in node.block.ports q).load - length (port_in node.block.ports q).waiting
+  room_fits node k law q below false grouped =
+      let exits = node.block.exits in
+      let port = port_in node.block.ports q in
+      let load : LoadLaw layout meaning b node.block node.journal = law.load grouped in
+      let shape : ShapeLaw layout meaning b node.block = law.shape in
+      let capacity = room_of (block_in layout.blocks b) in
+      let back = weight_stays exits.next exits.groups in
+      let none = load.no_room in
+      let count : exits.room + weight_at exits.next exits.groups ≤ weight_of exits.groups = omega (arith, back, none) in
+      rw (shape.ports q below).capacity
+      (given_fits capacity (gives k exits).room port.load (length port.waiting) (places_out node.block)
+      (omega (arith, count)) (load.load q below))
+  room_fits node k law q below true batched =
+      let exits = node.block.exits in
+      let port = port_in node.block.ports q in
+      let load = law.group_load batched in
+      let no_room = load.no_room in
+      let no_weight : weight_at exits.next exits.groups ≡ 0 = ap (weight_at exits.next) load.no_groups in
+      let none : (gives k exits).room ≡ 0 = omega (arith, no_room, no_weight) in
+      rw none (nothing_fits (is_some port.capacity) (port.load - length port.waiting))
+
   give_keeps : (k : ℕ) (head : Option Value) (node : NodeState) → head_of node.block.exits ≡ head
       → NodeLaw layout meaning b node
       → PortsLaw layout meaning b (gives_from k head node).block (gives_from k head node).journal
   give_keeps k None node head law = law.ports
   give_keeps k (Some value) node head law =
-      let exits = node.block.exits in
-      let load : LoadLaw layout meaning b node.block node.journal = law.load in
+      let block = node.block in
+      let later = node.journal ++ Gave (out_link_at k node) value ∷ [] in
+      let back : ℕ → PortState → ℕ = back_at (gives k block.exits) block.copies block.kind (head_of block.exits) in
+      each_after_back (gives k block.exits) block.copies block.kind (head_of block.exits)
+      (λ q port. PortLaw facts (taken later q) port) block.ports
+      (λ q below.
+      let port = port_in block.ports q in
+      let fits =
+      back_fits (gives k block.exits) block.copies block.kind (head_of block.exits) port.capacity q port
+      (room_fits node k law q below (is_batched_join block.kind) refl) in
+      subst (λ (n : ℕ). PortLaw facts n (gives_room (back q port) port))
+      (sym (took_as_many q node.journal (Gave (out_link_at k node) value) refl))
+      (moves_keep.give_room facts (taken node.journal q) port (law.ports q below) (back q port) fits))
+
+  -- what it copies goes over a link, and the room that it takes no more comes back
+  copy_keeps : (call : CopyCall) (node : NodeState) → copy_place call < length node.block.copies.ends
+      → NodeLaw layout meaning b node → PortsLaw layout meaning b (copies_by call node).block (copies_by call node).journal
+  copy_keeps call node there law =
+      let load : LoadLaw layout meaning b node.block node.journal =
+      law.load (copies_unbatched node.block.kind (copies_at layout meaning b node law (copy_place call) there)) in
       let shape : ShapeLaw layout meaning b node.block = law.shape in
-      let capacity = (block_in layout.blocks b).capacity in
-      let back = weight_stays exits.next exits.groups in
-      let none = load.no_room in
-      let count : exits.room + weight_at exits.next exits.groups ≤ weight_of exits.groups = omega (arith, back, none) in
-      let mark = Gave (out_link_at k node) value in
-      each_port node.block.ports node.journal (node.journal ++ mark ∷ []) (gives_room (gives k exits).room) law.ports
-      (λ q. took_as_many q node.journal mark refl)
+      let capacity = room_of (block_in layout.blocks b) in
+      let copies = node.block.copies in
+      let back = copies_weight copies - copies_weight (after_copy call copies) in
+      let less = left_by_copy call copies there in
+      each_port node.block.ports node.journal (marks_copy call copies node.journal) (gives_room back) law.ports
+      (λ q. ap length (took_by_copy_at call copies node.journal q))
       (λ q below old.
       let port = port_in node.block.ports q in
-      moves_keep.give_room facts (taken node.journal q) port old (gives k exits).room
+      moves_keep.give_room facts (taken node.journal q) port old back
       (rw (shape.ports q below).capacity
-      (given_fits capacity (gives k exits).room port.load (length port.waiting) (weight_of exits.groups) count
-      (load.load q below))))
+      (given_fits capacity back port.load (length port.waiting) (places_out node.block) (omega (arith, less)) (load.load q below))))
+
+  -- the message that waits longest is copied from now on
+  copied_keeps : (first : Option Value) (block : BlockState) (journal : List Mark) → first_of (held_by block) ≡ first
+      → PortsLaw layout meaning b block journal → PortsLaw layout meaning b (copies_next first block) journal
+  copied_keeps None block journal first law = law
+  copied_keeps (Some value) block journal first law =
+      let port = port_in block.ports 0 in
+      let now = copies_weight (puts value block.copies) in
+      one_port block.ports journal 0 (gives_room (1 - now) (takes_next port)) law
+      (λ old.
+      moves_keep.give_room facts (taken journal 0) (takes_next port) (moves_keep.take_next facts (taken journal 0) port old) (1 - now)
+      (fewer_fits (is_some port.capacity) now (port.load - length (drop 1 port.waiting))
+      (made_fits port.capacity port.load port.waiting value first old.waits)))
 
   -- it stops
   stop_keeps : (ports : List PortState) (journal : List Mark) (mark : Mark)
@@ -224,7 +295,11 @@ module _ {W : Type 0} (layout : Layout W) (meaning : ℕ → Value → Result (L
       let port = port_in node.block.ports p in
       one_port node.block.ports node.journal p (opens k value port) law.ports
       (λ old. moves_keep.opened facts (taken node.journal p) port old k value may.place may.stands)
-  call_keeps node (NodeCall.close p k) law may = take_keeps p k (hand_at p k node) node may law.ports
+  call_keeps node (NodeCall.close p k) law may =
+      let held = holds_in p k (hand_at p k node) node in
+      let kept = take_keeps p k (hand_at p k node) node may law.ports in
+      taken_in_keeps (PortsLaw layout meaning b) p k (hand_at p k node) node kept
+      (λ at_once. copied_keeps (first_of (held_by held.block)) held.block held.journal refl kept)
   call_keeps node (NodeCall.offer k) law may = law.ports
   call_keeps node (NodeCall.give k) law may = give_keeps k (head_of node.block.exits) node refl law
   call_keeps node (NodeCall.deny k) law may = law.ports
@@ -235,15 +310,20 @@ module _ {W : Type 0} (layout : Layout W) (meaning : ℕ → Value → Result (L
       one_port node.block.ports node.journal p (looks k phase port) law.ports
       (λ old. moves_keep.look facts (taken node.journal p) port old k phase may.place)
   call_keeps node (NodeCall.look_out k phase) law may = law.ports
-  call_keeps node (NodeCall.copy call) law may = absurd (no_copy_at layout meaning b node law (copy_place call) may.place)
+  call_keeps node (NodeCall.copy call) law may = copy_keeps call node may.place law
   call_keeps node NodeCall.begin law may = law.ports
   call_keeps node NodeCall.make law may =
+      next_by (λ (new : NodeState). PortsLaw layout meaning b new.block new.journal) (block_makes layout meaning b) node
+      (λ batched.
+      each_after_group node.block.size (order_in node) (λ q port. PortLaw facts (taken node.journal q) port) node.block.ports
+      (λ q count below. group_taken count (taken node.journal q) (port_in node.block.ports q) (law.ports q below)))
+      (λ grouped.
       makes_by (λ new. PortsLaw layout meaning b new node.journal) (block_makes layout meaning b) node.block
       (λ batch. row_keeps node.block.size node.block node.journal law.ports)
       (λ join. each_port node.block.ports node.journal node.journal takes_next law.ports (λ q. refl)
       (λ q below old. moves_keep.take_next facts (taken node.journal q) (port_in node.block.ports q) old))
-      (λ broadcast. never_both (is_broadcast node.block.kind) broadcast (none_broadcast node.block.kind law.shape.built))
-      (λ other alone single. make_keeps (first_of (held_by node.block)) node.block node.journal refl law.ports)
+      (λ broadcast. copied_keeps (first_of (held_by node.block)) node.block node.journal refl law.ports)
+      (λ other alone single. make_keeps (first_of (held_by node.block)) node.block node.journal refl law.ports))
   call_keeps node (NodeCall.complete p) law may =
       let port = port_in node.block.ports p in
       let none = (may_complete_tells p node.block may.completes).none_comes in

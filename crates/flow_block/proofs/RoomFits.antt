@@ -1,5 +1,5 @@
 -- Room that is to come back stays room that the ports gave out, whatever a block does.
-use Rattle.std.proofs.Common.{◌≡◌, ℕ, zero, suc, ◌+◌, ◌-◌, ◌<◌, ◌≤◌, ◌^◌, ◌==◌, true, cond, List, [], ◌∷◌, ◌++◌, length, set, get_or, take, drop, map, Option, Some, None, is_some, refl, ap, arith, subst, sym}
+use Rattle.std.proofs.Common.{◌≡◌, false, ℕ, zero, suc, ◌+◌, ◌-◌, ◌<◌, ◌≤◌, min, ◌^◌, ◌==◌, true, cond, List, [], ◌∷◌, ◌++◌, length, set, get_or, take, drop, map, Option, Some, None, is_some, refl, ap, arith, subst, sym, ◌∙◌, Bool}
 use Rattle.std.proofs.lemmas.Bool.{and_parts}
 use Rattle.std.proofs.lemmas.List.{length-append, get_or_read, take-append-drop}
 use Rattle.flow_value.specs.declared.value.Value.{Value}
@@ -10,10 +10,13 @@ use Rattle.flow_outlet.specs.Outlet.{OutletState, is_empty, fresh_outlet, puts, 
 use Rattle.flow_outlet.specs.declared.ends.LinkRule.{LinkRule}
 use Rattle.flow_outlet.proofs.OutletFits.{weight_stays, room_put}
 use Rattle.flow_link.specs.declared.draft.BlockKind.{BlockKind}
+use Rattle.flow_link.specs.declared.draft.BlockKind.TheVariants.{BatchedJoin}
+use Rattle.flow_link.specs.Plan.{is_write_once}
 use Rattle.flow_spread.specs.End.{owes_it}
+use Rattle.flow_spread.specs.Spread.{SpreadState}
 use Rattle.flow_spread.proofs.CountsOfEnds.{none_counts}
-use Rattle.flow_block.specs.Copies.{shared_rules, copied_rules, fresh_copies, copies_left}
-use Rattle.flow_block.specs.Block.{port_in, unit_weight, group_weight, takes_group}
+use Rattle.flow_block.specs.Copies.{shared_rules, copied_rules, fresh_copies, copies_left, weight_by, copies_weight}
+use Rattle.flow_block.specs.Block.{port_in, unit_weight, group_weight, takes_group, is_batched_join, row_count, room_at, gives_each, comes_back}
 use Rattle.flow_block.specs.BlockFits.{GaveOut, AllGaveOut, BlockFits, weight_out}
 use Rattle.flow_block.specs.Peeks.{holds_nothing}
 
@@ -55,7 +58,7 @@ less_out : (capacity : Option ℕ) (waiting : List Value) (weight less load : �
 less_out None waiting weight less load fewer out = omega arith
 less_out (Some room) waiting weight less load fewer out = omega arith
 
-all_less : (weight less : ℕ) (ports : List PortState) → less ≤ weight → AllGaveOut weight ports → AllGaveOut less ports
+pub all_less : (weight less : ℕ) (ports : List PortState) → less ≤ weight → AllGaveOut weight ports → AllGaveOut less ports
 all_less weight less [] fewer all = tt
 all_less weight less (port ∷ ports) fewer all =
     (less_out port.capacity port.waiting weight less port.load fewer all.0, all_less weight less ports fewer all.1)
@@ -112,6 +115,82 @@ module _ {ports : List PortState} {exits : OutletState} {copied : ℕ} (fits : B
         few = omega (arith, fits.few, weights);
       }
 
+-- the room of a group's messages comes back beside it
+
+less_back : (capacity : Option ℕ) (waiting : List Value) (room weight count load : ℕ)
+    → cond (is_some capacity) (length waiting + (room + weight)) 0 ≤ load
+    → cond (is_some capacity) (length waiting + weight) 0 ≤ load - (room + min count (load - length waiting - room - weight))
+less_back None waiting room weight count load out = omega arith
+less_back (Some limit) waiting room weight count load out = omega (arith, out)
+
+pub each_back : (room weight : ℕ) (counts : ℕ → ℕ) (first : ℕ) (ports : List PortState) → AllGaveOut (room + weight) ports
+    → AllGaveOut weight (gives_each room weight counts first ports)
+each_back room weight counts first [] all = tt
+each_back room weight counts first (port ∷ ports) all = (
+  less_back port.capacity port.waiting room weight (counts first) port.load all.0,
+  each_back room weight counts (suc first) ports all.1,
+)
+
+pub no_rows : (kind : BlockKind) (head : Option Value) → is_batched_join kind ≡ false → (p : ℕ) → row_count kind head p ≡ 0
+no_rows BatchedJoin head other p = absurd (cc)
+no_rows _ head other p = refl
+
+pub rows_only : (kind : BlockKind) (head : Option Value) → is_batched_join kind ≡ true → row_count kind head ≡ row_count BatchedJoin head
+rows_only BatchedJoin head is = refl
+rows_only _ head is = absurd (cc)
+
+-- the port that comes next
+pub rest_out : (room weight place : ℕ) (ports : List PortState) (port : PortState) → place < length ports
+    → port ≡ get_or ports place port → AllGaveOut (room + weight) (drop place ports)
+    → GaveOut (room + weight) port × AllGaveOut (room + weight) (drop (place + 1) ports)
+rest_out room weight place [] port there is all = absurd (omega (arith, there))
+rest_out room weight zero (first ∷ ports) port there is all =
+    (subst (λ (port : PortState). GaveOut (room + weight) port) (sym is) all.0, all.1)
+rest_out room weight (suc place) (first ∷ ports) port there is all =
+    let one : suc place + 1 ≡ suc (place + 1) = omega arith in
+    rw one (rest_out room weight place ports port (omega (arith, there)) is all)
+
+-- where no group is given, the same room comes back at each port
+pub none_beside : (room weight : ℕ) (counts : ℕ → ℕ) (first : ℕ) (ports : List PortState) → ((p : ℕ) → counts p ≡ 0)
+    → map (gives_room room) ports ≡ gives_each room weight counts first ports
+none_beside room weight counts first [] none = refl
+none_beside room weight counts first (port ∷ ports) none =
+    let zero_count : counts first ≡ 0 = none first in
+    let same : room ≡ room_at room weight (counts first) port = rw zero_count (omega arith) in
+    ap (λ (back : ℕ). gives_room back port ∷ map (gives_room room) ports) same
+    ∙ ap (λ (rest : List PortState). gives_room (room_at room weight (counts first) port) port ∷ rest)
+    (none_beside room weight counts (suc first) ports none)
+
+-- a port has so much out
+pub out_beside : (capacity : Option ℕ) (room weight count : ℕ) (waiting : List Value) (load : ℕ)
+    → cond (is_some capacity) (length waiting + (room + weight)) 0 ≤ load
+    → cond (is_some capacity) (room + min count (load - length waiting - room - weight)) 0 ≤ load - length waiting
+out_beside None room weight count waiting load out = omega arith
+out_beside (Some limit) room weight count waiting load out = omega (arith, out)
+
+module _ {ports : List PortState} {exits : OutletState} (copies : SpreadState) (fits : BlockFits ports exits (copies_weight copies)) (k : ℕ) where
+  -- the room that comes with what is given was given out
+  pub back_given : AllGaveOut (weight_out (gives k exits) (copies_weight copies)) ports
+  back_given =
+      let same : weight_out exits (copies_weight copies) ≡ weight_out (gives k exits) (copies_weight copies) =
+      omega (arith, weight_stays exits.next exits.groups) in
+      subst (λ (weight : ℕ). AllGaveOut weight ports) same fits.room
+
+  pub fits_back : (kind : BlockKind) (head : Option Value)
+      → BlockFits (comes_back (gives k exits) copies kind head ports) (record (gives k exits) { room = 0 }) (copies_weight copies)
+  fits_back kind head =
+      let given = gives k exits in
+      let weight = weight_of given.groups + copies_weight copies in
+      let same : weight_out given (copies_weight copies) ≡ given.room + weight = omega arith in
+      let rest : 0 + weight_of given.groups + copies_weight copies ≡ weight = omega arith in
+      let few = fits.few in
+      let all = subst (λ (weight : ℕ). AllGaveOut weight ports) same back_given in
+      record {
+        room = subst (λ (weight : ℕ). AllGaveOut weight (comes_back given copies kind head ports)) (sym rest)
+            (each_back given.room weight (row_count kind head) 0 ports all);
+        few = omega (arith, few, weight_stays exits.next exits.groups);
+      }
+
 none_out : (capacity : Option ℕ) (waiting : List Value) (load : ℕ) → is_empty waiting ≡ true
     → cond (is_some capacity) (length waiting + (0 + 0 + 0)) 0 ≤ load
 none_out None waiting load none = omega arith
@@ -124,12 +203,20 @@ all_fresh (port ∷ ports) none =
     let both = and_parts (is_empty port.waiting) (holds_nothing ports) none in
     (none_out port.capacity port.waiting port.load both.0, all_fresh ports both.1)
 
+no_element : (once : Bool) (left : ℕ) → left ≡ 0 → weight_by once false left ≡ 0
+no_element true left none = refl
+no_element false left none = none
+
+pub weighs_fresh : (kind : BlockKind) (rules : List LinkRule) → copies_weight (fresh_copies kind rules) ≡ 0
+weighs_fresh kind rules =
+    no_element (is_write_once kind) (copies_left (fresh_copies kind rules))
+    (ap (λ (count : ℕ). cond (count == 0) 0 1) (none_counts owes_it (copied_rules kind rules) (λ rule. refl)))
+
 -- nothing is put yet
 pub fits_fresh : (ports : List PortState) (kind : BlockKind) (rules : List LinkRule) → holds_nothing ports ≡ true
-    → BlockFits ports (fresh_outlet (shared_rules kind rules) 1) (copies_left (fresh_copies kind rules))
+    → BlockFits ports (fresh_outlet (shared_rules kind rules) 1) (copies_weight (fresh_copies kind rules))
 fits_fresh ports kind rules none =
-    let nobody : copies_left (fresh_copies kind rules) ≡ 0 =
-    ap (λ (count : ℕ). cond (count == 0) 0 1) (none_counts owes_it (copied_rules kind rules) (λ rule. refl)) in
+    let nobody = weighs_fresh kind rules in
     rw nobody (record { room = all_fresh ports none; few = omega arith })
 
 -- The message that waits longest is taken on

@@ -1,5 +1,5 @@
 -- Each call keeps a block's kind, the links and capacities of its ports, and the rules of its exits.
-use Rattle.std.proofs.Common.{◌≡◌, ℕ, ◌-◌, List, [], ◌∷◌, map, set, Option, Some, None, Result, Ok, Err, refl, ◌∙◌}
+use Rattle.std.proofs.Common.{◌≡◌, ℕ, ◌-◌, ◌<◌, List, [], ◌∷◌, map, set, Option, Some, None, Result, Ok, Err, refl, subst, sym, ◌∙◌}
 use Rattle.std.proofs.Math.Seq.{map-set_same}
 use Rattle.std.proofs.lemmas.List.{length-set, length-map}
 use Rattle.flow_value.specs.declared.value.Value.{Value}
@@ -14,14 +14,19 @@ use Rattle.flow_outlet.specs.declared.ends.OutEnd.{OutEnd}
 use Rattle.flow_outlet.specs.End.{end_in, no_end}
 use Rattle.flow_outlet.specs.Outlet.{head_of, gives}
 use Rattle.flow_spread.specs.Spread.{puts}
-use Rattle.flow_block.specs.Copies.{after_copy, copies_left}
-use Rattle.flow_block.specs.Block.{BlockState, port_in, held_by, copies_next, made_of, yields, keeps_results, makes_of, takes_group}
-use Rattle.flow_block.specs.Node.{NodeState, NodeCall, hand_at, takes_in, gives_from}
-use Rattle.flow_block.specs.NodeLaw.{ShapeLaw, PortAsPlanned}
-use Rattle.flow_block.specs.NodeKeeps.{after_call, ShapeKept}
+use Rattle.flow_block.specs.Copies.{after_copy, copies_weight}
+use Rattle.flow_block.specs.Block.{BlockState, port_in, held_by, copies_next, made_of, yields, keeps_results, makes_of, takes_group, gives_out}
+use Rattle.flow_block.specs.Node.{NodeState, NodeCall, hand_at, gives_from, order_in, holds_in}
+use Rattle.flow_block.specs.NodeLaw.{ShapeLaw, PortAsPlanned, NodeLaw}
+use Rattle.flow_block.specs.NodeKeeps.{after_call, ShapeKept, MayCall}
 use Rattle.flow_block.specs.Planned.{block_makes}
-use Rattle.flow_block.proofs.KindsBuilt.{makes_by}
+use Rattle.flow_block.proofs.KindsBuilt.{makes_by, next_by}
+use Rattle.flow_block.proofs.CopiesTaken.{taken_in_keeps}
 use Rattle.flow_block.proofs.PortsChange.{each_after_one, each_after_all}
+use Rattle.flow_block.proofs.RoomBack.{back_at, length_back, each_after_back}
+use Rattle.flow_block.proofs.GroupPorts.{length_by_group, each_after_group}
+use Rattle.flow_block.specs.Groups.{makes_group}
+use Rattle.flow_group.specs.Group.{takes_first}
 
 -- what the plan says of a port stays
 record SamePort (before after : PortState) : Type 0 where
@@ -103,6 +108,8 @@ module _ {W : Type 0} (layout : Layout W) (meaning : ℕ → Value → Result (L
     kind_is = kind ∙ law.kind_is;
     size_is = size ∙ law.size_is;
     some_size = rw (kind, size) law.some_size;
+    some_group = rw (kind, size) law.some_group;
+    no_capacity = rw kind law.no_capacity;
     port_count_is = rw (ports, length-set before.ports p (change (port_in before.ports p))) law.port_count_is;
     some_port = rw (ports, length-set before.ports p (change (port_in before.ports p))) law.some_port;
     takes_freely = law.takes_freely;
@@ -111,7 +118,7 @@ module _ {W : Type 0} (layout : Layout W) (meaning : ℕ → Value → Result (L
         rw ports (each_after_one IsPlanned before.ports p (change port)
         (λ below. port_stays p port (change port) (same port) (law.ports p below))
         (λ q there other. law.ports q there));
-    rules = rw ends law.rules;
+    rules = rw (kind, ends) law.rules;
   }
 
   each_port : (before after : BlockState) (change : PortState → PortState)
@@ -124,6 +131,8 @@ module _ {W : Type 0} (layout : Layout W) (meaning : ℕ → Value → Result (L
     kind_is = kind ∙ law.kind_is;
     size_is = size ∙ law.size_is;
     some_size = rw (kind, size) law.some_size;
+    some_group = rw (kind, size) law.some_group;
+    no_capacity = rw kind law.no_capacity;
     port_count_is = rw (ports, length-map before.ports change) law.port_count_is;
     some_port = rw (ports, length-map before.ports change) law.some_port;
     takes_freely = law.takes_freely;
@@ -132,7 +141,7 @@ module _ {W : Type 0} (layout : Layout W) (meaning : ℕ → Value → Result (L
         (λ q below.
         let port = port_in before.ports q in
         port_stays q port (change port) (same port) (law.ports q below)));
-    rules = rules ∙ law.rules;
+    rules = rw kind (rules ∙ law.rules);
   }
 
   pub exits_move : (before after : BlockState) → after.kind ≡ before.kind → after.size ≡ before.size → after.ports ≡ before.ports
@@ -143,11 +152,13 @@ module _ {W : Type 0} (layout : Layout W) (meaning : ℕ → Value → Result (L
     kind_is = kind ∙ law.kind_is;
     size_is = size ∙ law.size_is;
     some_size = rw (kind, size) law.some_size;
+    some_group = rw (kind, size) law.some_group;
+    no_capacity = rw kind law.no_capacity;
     port_count_is = rw ports law.port_count_is;
     some_port = rw ports law.some_port;
     takes_freely = law.takes_freely;
     ports = rw ports law.ports;
-    rules = rules ∙ law.rules;
+    rules = rw kind (rules ∙ law.rules);
   }
 
   -- what it makes of a message
@@ -175,23 +186,65 @@ module _ {W : Type 0} (layout : Layout W) (meaning : ℕ → Value → Result (L
       → ShapeLaw layout meaning b (copies_next held block)
   copy_keeps None block law = law
   copy_keeps (Some value) block law =
-      let room = 1 - copies_left (puts value block.copies) in
+      let room = 1 - copies_weight (puts value block.copies) in
       one_port block _ 0 (λ port. gives_room room (takes_next port)) (λ port. record { links = refl; capacity = refl; reserves = refl })
       refl refl refl refl law
 
   take_keeps : (p k : ℕ) (hand : Option Value) (node : NodeState) → ShapeLaw layout meaning b node.block
-      → ShapeLaw layout meaning b (takes_in p k hand node).block
+      → ShapeLaw layout meaning b (holds_in p k hand node).block
   take_keeps p k None node law = law
   take_keeps p k (Some value) node law =
       one_port node.block _ p (closes k value) (closes_same k value) refl refl refl refl law
+
+  -- its head is given, and room comes back
+  room_back : (block : BlockState) (k : ℕ) → ShapeLaw layout meaning b block → ShapeLaw layout meaning b (gives_out k block)
+  room_back block k law = record {
+    built = law.built;
+    kind_is = law.kind_is;
+    size_is = law.size_is;
+    some_size = law.some_size;
+    some_group = law.some_group;
+    no_capacity = law.no_capacity;
+    port_count_is = length_back (gives k block.exits) block.copies block.kind (head_of block.exits) block.ports ∙ law.port_count_is;
+    some_port =
+        subst (λ (count : ℕ). 0 < count)
+        (sym (length_back (gives k block.exits) block.copies block.kind (head_of block.exits) block.ports)) law.some_port;
+    takes_freely = law.takes_freely;
+    ports =
+        each_after_back (gives k block.exits) block.copies block.kind (head_of block.exits) IsPlanned block.ports
+        (λ q below.
+        let port = port_in block.ports q in
+        let back = back_at (gives k block.exits) block.copies block.kind (head_of block.exits) q port in
+        port_stays q port (gives_room back port) (gives_room_same back port) (law.ports q below));
+    rules = rules_stay block.exits.ends k _ refl ∙ law.rules;
+  }
 
   give_keeps : (k : ℕ) (head : Option Value) (node : NodeState) → ShapeLaw layout meaning b node.block
       → ShapeLaw layout meaning b (gives_from k head node).block
   give_keeps k None node law = law
   give_keeps k (Some value) node law =
-      each_port node.block _ (gives_room (gives k node.block.exits).room)
-      (gives_room_same (gives k node.block.exits).room) refl refl refl
-      (rules_stay node.block.exits.ends k _ refl) law
+      room_back node.block k law
+
+  -- the next group is made
+  group_keeps : (size weight : ℕ) (order : List ℕ) (block : BlockState) → ShapeLaw layout meaning b block
+      → ShapeLaw layout meaning b (makes_group size weight order block)
+  group_keeps size weight order block law = record {
+    built = law.built;
+    kind_is = law.kind_is;
+    size_is = law.size_is;
+    some_size = law.some_size;
+    some_group = law.some_group;
+    no_capacity = law.no_capacity;
+    port_count_is = length_by_group size order block.ports ∙ law.port_count_is;
+    some_port = subst (λ (count : ℕ). 0 < count) (sym (length_by_group size order block.ports)) law.some_port;
+    takes_freely = law.takes_freely;
+    ports =
+        each_after_group size order IsPlanned block.ports
+        (λ q count below.
+        let port = port_in block.ports q in
+        port_stays q port (takes_first count port) (takes_group_same count port) (law.ports q below));
+    rules = law.rules;
+  }
 
   call_keeps : (node : NodeState) (call : NodeCall) → ShapeLaw layout meaning b node.block
       → ShapeLaw layout meaning b (after_call layout meaning b call node).block
@@ -204,7 +257,11 @@ module _ {W : Type 0} (layout : Layout W) (meaning : ℕ → Value → Result (L
   call_keeps node (NodeCall.consume p k) law = one_port node.block _ p (consumes k) (consumes_same k) refl refl refl refl law
   call_keeps node (NodeCall.open_with p k value) law =
       one_port node.block _ p (opens k value) (opens_same k value) refl refl refl refl law
-  call_keeps node (NodeCall.close p k) law = take_keeps p k (hand_at p k node) node law
+  call_keeps node (NodeCall.close p k) law =
+      let held = holds_in p k (hand_at p k node) node in
+      let kept = take_keeps p k (hand_at p k node) node law in
+      taken_in_keeps (λ new journal. ShapeLaw layout meaning b new) p k (hand_at p k node) node kept
+      (λ at_once. copy_keeps (first_of (held_by held.block)) held.block kept)
   call_keeps node (NodeCall.offer k) law =
       exits_move node.block _ refl refl refl (rules_stay node.block.exits.ends k _ refl) law
   call_keeps node (NodeCall.give k) law = give_keeps k (head_of node.block.exits) node law
@@ -219,15 +276,18 @@ module _ {W : Type 0} (layout : Layout W) (meaning : ℕ → Value → Result (L
   call_keeps node (NodeCall.look_out k phase) law =
       exits_move node.block _ refl refl refl (rules_stay node.block.exits.ends k _ refl) law
   call_keeps node (NodeCall.copy call) law =
-      let room = copies_left node.block.copies - copies_left (after_copy call node.block.copies) in
+      let room = copies_weight node.block.copies - copies_weight (after_copy call node.block.copies) in
       each_port node.block _ (gives_room room) (gives_room_same room) refl refl refl refl law
   call_keeps node NodeCall.begin law = exits_move node.block _ refl refl refl refl law
   call_keeps node NodeCall.make law =
+      next_by (λ (new : NodeState). ShapeLaw layout meaning b new.block) (block_makes layout meaning b) node
+      (λ batched. group_keeps node.block.size 0 (order_in node) node.block law)
+      (λ grouped.
       makes_by (ShapeLaw layout meaning b) (block_makes layout meaning b) node.block
       (λ batch. one_port node.block _ 0 (takes_group node.block.size) (takes_group_same node.block.size) refl refl refl refl law)
       (λ join. each_port node.block _ takes_next takes_next_same refl refl refl refl law)
       (λ broadcast. copy_keeps (first_of (held_by node.block)) node.block law)
-      (λ other alone single. make_keeps (first_of (held_by node.block)) node.block law)
+      (λ other alone single. make_keeps (first_of (held_by node.block)) node.block law))
   call_keeps node (NodeCall.complete p) law =
       one_port node.block _ p port_closes port_closes_same refl refl refl refl law
   call_keeps node (NodeCall.fault number) law =
@@ -237,3 +297,10 @@ module _ {W : Type 0} (layout : Layout W) (meaning : ℕ → Value → Result (L
 
 pub shape_kept : (W : Type 0) → ShapeKept W
 shape_kept W layout meaning b node call law may = call_keeps layout meaning b node call law.shape
+
+-- it stays of its kind
+pub same_kind : {W : Type 0} (layout : Layout W) (meaning : ℕ → Value → Result (List Value) ℕ) (b : ℕ) (node : NodeState)
+    (call : NodeCall) → NodeLaw layout meaning b node → MayCall layout meaning b call node
+    → node.block.kind ≡ (after_call layout meaning b call node).block.kind
+same_kind {W} layout meaning b node call law may =
+    let after = shape_kept W layout meaning b node call law may in law.shape.kind_is ∙ sym after.kind_is

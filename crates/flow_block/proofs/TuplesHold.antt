@@ -13,24 +13,25 @@ use Rattle.flow_link.specs.Making.{arrivals}
 use Rattle.flow_link.specs.Trace.{took_at, gave}
 use Rattle.flow_link.proofs.OneMoreMark.{gave_no_more, gave_by_took, gave_by_gave}
 use Rattle.flow_intake.specs.Port.{PortState, hand_in}
-use Rattle.flow_intake.specs.Calls.{put_hand, takes_next, wants, turns_down, postpones, refuses, consumes, opens, closes, looks as port_looks, gives_room, port_closes}
+use Rattle.flow_intake.specs.Calls.{put_hand, takes_next, wants, turns_down, postpones, refuses, consumes, opens, closes, looks as port_looks, port_closes}
 use Rattle.flow_outlet.specs.Outlet.{OutletState, head_of, gives, prepares, offers, denies, withdraws, ends_link, looks as exit_looks}
 use Rattle.flow_group.specs.Tuple.{held_at, has_tuple, tuple_of}
 use Rattle.flow_group.specs.Tuples.{only_at}
 use Rattle.flow_group.proofs.JournalsTell.{journals_tell}
 use Rattle.flow_group.proofs.TuplesKeep.{tuples_kept, held_by_take}
-use Rattle.flow_link.specs.Plan.{is_broadcast}
-use Rattle.flow_block.specs.Block.{is_batch, held_by, BlockState, port_at, with_port, stops_by, is_join, makes_tuple}
-use Rattle.flow_block.specs.Node.{NodeState, NodeCall, takes_in, gives_from, in_link_at, out_link_at}
+use Rattle.flow_block.specs.Block.{is_batch, BlockState, port_at, with_port, stops_by, is_join, makes_tuple}
+use Rattle.flow_block.specs.Node.{NodeState, NodeCall, gives_from, in_link_at, out_link_at, holds_in}
 use Rattle.flow_block.specs.NodeKeeps.{MayCall, after_call, TuplesKept}
 use Rattle.flow_block.specs.NodeLaw.{NodeLaw, KeepsTuples}
 use Rattle.flow_block.specs.Planned.{block_makes}
-use Rattle.flow_block.proofs.CopiesIdle.{no_copy_at}
+use Rattle.flow_block.proofs.CopiesTaken.{taken_in_keeps, held_kind}
+use Rattle.flow_block.proofs.CopiesIdle.{no_copy_at, once_copies}
 use Rattle.flow_block.proofs.GoingOn.{may_work_tells}
-use Rattle.flow_block.proofs.Joins.{join_alone, broadcast_unjoined}
-use Rattle.flow_block.proofs.KindsBuilt.{makes_by}
+use Rattle.flow_block.proofs.Joins.{join_alone, join_shares, broadcast_unjoined, batched_unjoined, copies_unjoined}
+use Rattle.flow_block.proofs.KindsBuilt.{makes_by, next_by}
 use Rattle.flow_block.proofs.ShapeHolds.{shape_kept}
 use Rattle.flow_block.proofs.PortsChange.{kept_at_one, kept_at_all}
+use Rattle.flow_block.proofs.RoomBack.{length_back, kept_back}
 use Rattle.flow_block.proofs.RowsHold.{given_on}
 use Rattle.flow_block.specs.Copies.{copy_place}
 use Rattle.flow_link.proofs.ListTests.{never_both}
@@ -89,15 +90,16 @@ given_out node law k (Some value) head =
     let block = node.block in
     let new = gives_from k (Some value) node in
     stays block new.block node.journal new.journal law
-    (length-map block.ports (gives_room (gives k block.exits).room))
-    (λ q. kept_at_all (λ (seen : PortState). seen.waiting) (gives_room (gives k block.exits).room) block.ports q (λ port. refl))
+    (length_back (gives k block.exits) block.copies block.kind (head_of block.exits) block.ports)
+    (λ q. kept_back (gives k block.exits) block.copies block.kind (head_of block.exits) (λ (seen : PortState). seen.waiting)
+    block.ports q (λ back port. refl))
     (ap (λ (given : List Value). given ++ new.block.exits.left) (gave_by_gave node.journal (out_link_at k node) value)
     ∙ given_on (gave node.journal) block.exits.left value head)
     (λ q. journals_tell.other_at q node.journal (Gave (out_link_at k node) value) refl)
 
 -- a message is taken
 taken_in : (node : NodeState) → KeepsTuples node.block node.journal → (p k : ℕ) (value : Option Value)
-    → KeepsTuples (takes_in p k value node).block (takes_in p k value node).journal
+    → KeepsTuples (holds_in p k value node).block (holds_in p k value node).journal
 taken_in node law p k None = law
 taken_in node law p k (Some value) =
     let block = node.block in
@@ -138,7 +140,12 @@ module _ {W : Type 0} (layout : Layout W) (meaning : ℕ → Value → Result (L
   after_each node (NodeCall.refuse p k) whole join law may = port_stays node law p (refuses k) refl
   after_each node (NodeCall.consume p k) whole join law may = port_stays node law p (consumes k) refl
   after_each node (NodeCall.open_with p k value) whole join law may = port_stays node law p (opens k value) refl
-  after_each node (NodeCall.close p k) whole join law may = taken_in node law p k (hand_in k (port_at p node.block).ends)
+  after_each node (NodeCall.close p k) whole join law may =
+      let hand = hand_in k (port_at p node.block).ends in
+      let held = holds_in p k hand node in
+      taken_in_keeps KeepsTuples p k hand node (taken_in node law p k hand)
+      (λ at_once. never_both (is_join held.block.kind) (ap is_join (held_kind p k hand node) ∙ join)
+      (copies_unjoined held.block.kind (once_copies held.block.kind at_once.once)))
   after_each node (NodeCall.offer k) whole join law may = exits_stay node law (offers k (prepares node.block.exits)) refl
   after_each node (NodeCall.give k) whole join law may = given_out node law k (head_of node.block.exits) refl
   after_each node (NodeCall.deny k) whole join law may = exits_stay node law (denies k node.block.exits) refl
@@ -146,15 +153,18 @@ module _ {W : Type 0} (layout : Layout W) (meaning : ℕ → Value → Result (L
   after_each node (NodeCall.end_link k how) whole join law may = exits_stay node law (ends_link k how node.block.exits) refl
   after_each node (NodeCall.look_in p k phase) whole join law may = port_stays node law p (port_looks k phase) refl
   after_each node (NodeCall.look_out k phase) whole join law may = exits_stay node law (exit_looks k phase node.block.exits) refl
-  after_each node (NodeCall.copy call) whole join law may = absurd (no_copy_at layout meaning b node whole (copy_place call) may.place)
+  after_each node (NodeCall.copy call) whole join law may = absurd (no_copy_at layout meaning b node whole (join_shares node.block.kind join) (copy_place call) may.place)
   after_each node NodeCall.begin whole join law may = law
   after_each node NodeCall.make whole join law may =
       let kind = node.block.kind in
+      next_by (λ (new : NodeState). KeepsTuples new.block new.journal) (block_makes layout meaning b) node
+      (λ batched. never_both (is_join kind) join (batched_unjoined kind batched))
+      (λ grouped.
       makes_by (λ new. KeepsTuples new node.journal) (block_makes layout meaning b) node.block
       (λ batch. never_both (is_batch kind) batch (join_alone kind join))
       (λ joins. tuple_made node law ((may_work_tells node.block may.waits).tuple join))
       (λ broadcast. never_both (is_join kind) join (broadcast_unjoined kind broadcast))
-      (λ other alone single. never_both (is_join kind) join alone)
+      (λ other alone single. never_both (is_join kind) join alone))
   after_each node (NodeCall.complete p) whole join law may = completed node law p
   after_each node (NodeCall.fault number) whole join law may = stops_so node law (outcome.Faulted number) (Fault number) refl refl
   after_each node NodeCall.finish whole join law may = stops_so node law outcome.Done Done refl refl

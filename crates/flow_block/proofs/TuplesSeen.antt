@@ -28,7 +28,7 @@ use Rattle.flow_block.proofs.WeightsOfResults.{weight_weighed}
 
 -- a test of ports by their places is one of the ports
 
-every_port : (test : PortState → Bool) (by_place : ℕ → Bool) (first : ℕ) (ports : List PortState)
+pub every_port : (test : PortState → Bool) (by_place : ℕ → Bool) (first : ℕ) (ports : List PortState)
     → ((p : ℕ) → p < length ports → by_place (first + p) ≡ test (port_in ports p))
     → every by_place (numbers_from first (length ports)) ≡ list_all test ports
 every_port test by_place first [] same = refl

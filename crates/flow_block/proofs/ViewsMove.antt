@@ -1,5 +1,5 @@
 -- Each call moves the view of its own end as the laws of one link have it, and no other end's.
-use Rattle.std.proofs.Common.{false, unwrap_or, ◌≡◌, ◌≢◌, ℕ, ◌<◌, ◌==◌, cond, Bool, true, List, [], ◌∷◌, ◌++◌, length, set, Option, Some, None, is_some, Result, Ok, Err, refl, ap, sym, ◌∙◌, subst, eq-eqb}
+use Rattle.std.proofs.Common.{unwrap_or, ◌≡◌, ◌≢◌, ℕ, ◌-◌, ◌<◌, ◌==◌, cond, Bool, true, List, [], ◌∷◌, ◌++◌, length, set, Option, Some, None, is_some, Result, Ok, Err, refl, ap, sym, ◌∙◌, subst, eq-eqb, arith, length-set}
 use Rattle.std.proofs.lemmas.List.{get_or-set_same, get_or-set_other}
 use Rattle.flow_value.specs.declared.value.Value.{Value}
 use Rattle.flow_value.specs.declared.when.When.{When}
@@ -28,23 +28,30 @@ use Rattle.flow_outlet.specs.Outlet.{OutletState, head_of, end_at, stage_at, giv
 use Rattle.flow_outlet.proofs.LawKept.{gives_in_order}
 use Rattle.flow_outlet.proofs.OffersInOrder.{offers_in_order}
 use Rattle.flow_link.specs.Plan.{is_broadcast}
-use Rattle.flow_link.proofs.ListTests.{never_both}
-use Rattle.flow_spread.specs.Spread.{link_at as link_over}
-use Rattle.flow_block.specs.Copies.{copy_place}
-use Rattle.flow_block.proofs.CopiesIdle.{no_copy_at, none_broadcast}
-use Rattle.flow_block.specs.Block.{BlockState, port_at, with_port, with_jobs, begins, made_of, keeps_results, yields, makes_of, makes, makes_row, takes_group, held_by, stops_by}
+use Rattle.flow_spread.specs.Spread.{link_at as link_over, puts}
+use Rattle.flow_block.proofs.CopiesLeave.{free_is_given}
+use Rattle.flow_block.proofs.CopiesTaken.{taken_keeps}
+use Rattle.flow_block.proofs.WrittenOnce.{may_put_yet}
+use Rattle.flow_block.specs.Copies.{copy_place, copies_weight, none_waits}
+use Rattle.flow_block.proofs.CopierKept.{may_copy_next}
+use Rattle.flow_block.proofs.CopiesIdle.{no_copy_at, copies_at, once_copies}
+use Rattle.flow_block.proofs.CopiesMove.{copies_move_views, puts_move_none}
+use Rattle.flow_block.specs.Block.{BlockState, port_at, with_port, with_jobs, begins, made_of, keeps_results, yields, makes_of, makes, makes_row, takes_group, copies_next, held_by, stops_by}
 use Rattle.flow_block.specs.Jobs.{JobsState, begins as one_more}
-use Rattle.flow_block.specs.Node.{NodeState, NodeCall, with_block, with_exits, marks, hand_at, in_link_at, out_link_at, takes_in, gives_from, view_of_in, view_of_out, in_view, out_view, copy_view}
+use Rattle.flow_block.specs.Node.{NodeState, NodeCall, with_block, with_exits, marks, hand_at, in_link_at, out_link_at, takes_in, gives_from, view_of_in, view_of_out, in_view, out_view, copy_view, order_in, makes_next, holds_in}
 use Rattle.flow_block.specs.NodeKeeps.{after_call}
 use Rattle.flow_block.specs.NodeLaw.{NodeLaw}
 use Rattle.flow_block.specs.Peeks.{is_pending}
 use Rattle.flow_block.specs.Planned.{block_makes}
 use Rattle.flow_block.specs.ViewsMove.{message_at, IsAboutIn, IsAboutOut, OthersStay, ViewsMove, CallsMoveViews}
 use Rattle.flow_block.proofs.JournalTells.{took_same, gave_same, took_here, gave_here}
-use Rattle.flow_block.proofs.KindsBuilt.{makes_by}
-use Rattle.flow_block.proofs.PlacesOfLinks.{links_in_differ, links_out_differ}
+use Rattle.flow_block.proofs.KindsBuilt.{makes_by, next_by}
+use Rattle.flow_block.proofs.PlacesOfLinks.{links_in_differ, links_out_differ, shares_at}
 use Rattle.flow_block.proofs.PortsChange.{kept_at_one, port_of_map, end_there, end_elsewhere, kept_at_all}
+use Rattle.flow_block.proofs.RoomBack.{port_back}
 use Rattle.flow_block.proofs.TestsTell.{some_is}
+use Rattle.flow_block.proofs.GroupPorts.{kept_by_group}
+use Rattle.flow_block.specs.Groups.{makes_group}
 
 -- one end of a link into a node stands at a place, and all others as they did
 record OneInMoves (node new : NodeState) (p k : ℕ) (end : EndState) : Type 0 where
@@ -140,7 +147,7 @@ module _ {W : Type 0} (layout : Layout W) (meaning : ℕ → Value → Result (L
   -- a message is taken: the mark names the link of the end that had it in hand
   closed : (p k : ℕ) (value : Value) → p < length node.block.ports → k < length (port_at p node.block).ends
       → hand_at p k node ≡ Some value
-      → ViewsMove (NodeCall.close p k) node (takes_in p k (Some value) node)
+      → ViewsMove (NodeCall.close p k) node (holds_in p k (Some value) node)
   closed p k value below there in_hand =
       let l = in_link_at p k node in
       let mark = Took p l value in
@@ -177,7 +184,6 @@ module _ {W : Type 0} (layout : Layout W) (meaning : ℕ → Value → Result (L
       let mark = Gave l value in
       let end = given_end node.block.exits.next (end_at node.block.exits k) in
       let one = one_out node k (gives k node.block.exits) end there refl in
-      let room = (gives k node.block.exits).room in
       record {
         moved = record {
           value = value;
@@ -188,7 +194,7 @@ module _ {W : Type 0} (layout : Layout W) (meaning : ℕ → Value → Result (L
         others = record {
           ins = λ q j small near apart.
               ap (λ (port : PortState). view_of_in (node.journal ++ mark ∷ []) (end_in j port.ends))
-              (port_of_map (gives_room room) node.block.ports q small)
+              (port_back (gives k node.block.exits) node.block.copies node.block.kind (head_of node.block.exits) node.block.ports q small)
               ∙ ap (knows_in (end_in j (port_at q node.block).ends))
               (took_same (λ port link. link == in_link_at q j node) node.journal mark refl);
           outs = λ j near other.
@@ -197,7 +203,7 @@ module _ {W : Type 0} (layout : Layout W) (meaning : ℕ → Value → Result (L
               ∙ ap (knows_out (end_at node.block.exits j))
               (gave_same (λ link. link == out_link_at j node) node.journal mark
               (ap (λ (same : Bool). cond same (value ∷ []) []) differs));
-          copies = λ j near other. absurd (no_copy_at layout meaning b node law j near);
+          copies = λ j near other. absurd (no_copy_at layout meaning b node law (shares_at layout meaning b node.block law.shape k there) j near);
         };
       }
 
@@ -268,17 +274,45 @@ row_stays block = record {
   copies = λ k there. refl;
 }
 
-making_stays : (result : Value → Result (List Value) ℕ) (block : BlockState) → is_broadcast block.kind ≡ false
-    → EndsStay block (makes result block)
-making_stays result block shares =
+-- the message that waits longest is copied from now on
+copied_stays : (first : Option Value) (block : BlockState) → none_waits block.copies ≡ true → EndsStay block (copies_next first block)
+copied_stays None block none = record { ins = λ p below. refl; outs = refl; copies = λ k there. refl }
+copied_stays (Some value) block none =
+    let room = 1 - copies_weight (puts value block.copies) in
+    record {
+      ins = λ p below.
+          kept_at_one (λ (port : PortState). port.ends) block.ports 0 p (gives_room room (takes_next (port_at 0 block))) refl;
+      outs = refl;
+      copies = λ k there. puts_move_none value (record { block = block; journal = []; grouped = 0 }) k there none;
+    }
+
+group_stays : (size weight : ℕ) (order : List ℕ) (block : BlockState) → EndsStay block (makes_group size weight order block)
+group_stays size weight order block = record {
+  ins = λ p below. kept_by_group size order (λ (port : PortState). port.ends) block.ports p (λ count port. refl);
+  outs = refl;
+  copies = λ k there. refl;
+}
+
+making_stays : (result : Value → Result (List Value) ℕ) (block : BlockState)
+    → (is_broadcast block.kind ≡ true → none_waits block.copies ≡ true) → EndsStay block (makes result block)
+making_stays result block none =
     makes_by (EndsStay block) result block (λ batch. row_stays block)
     (λ join. record {
       ins = λ p below. kept_at_all (λ (port : PortState). port.ends) takes_next block.ports p (λ port. refl);
       outs = refl;
       copies = λ k there. refl;
     })
-    (λ broadcast. never_both (is_broadcast block.kind) broadcast shares)
+    (λ broadcast. copied_stays (first_of (held_by block)) block (none broadcast))
     (λ other alone single. first_stays result (first_of (held_by block)) block)
+
+making_moves : (result : Value → Result (List Value) ℕ) (node : NodeState)
+    → (is_broadcast node.block.kind ≡ true → none_waits node.block.copies ≡ true) → NoneMoves node (makes_next result node)
+making_moves result node none =
+    next_by (λ (new : NodeState). NoneMoves node new) result node
+    (λ batched.
+    let stay = group_stays node.block.size 0 (order_in node) node.block in
+    record { ins = stay.ins; outs = stay.outs; copies = stay.copies; taken = λ l. refl; given = λ l. refl })
+    (λ grouped. none_moves node (makes result node.block) (making_stays result node.block none))
 
 jobs_stay : (block : BlockState) (change : JobsState → JobsState) → EndsStay block (with_jobs change block)
 jobs_stay block change = record { ins = λ p below. refl; outs = refl; copies = λ k there. refl }
@@ -297,6 +331,25 @@ stopping_stays block how =
       outs = refl;
       copies = λ k there. refl;
     }
+
+-- where no end moves after that, a message is taken all the same
+views_after : (p k : ℕ) (node held new : NodeState) → p < length held.block.ports
+    → length held.block.ports ≡ length node.block.ports → length held.block.copies.ends ≡ length node.block.copies.ends
+    → NoneMoves held new → ViewsMove (NodeCall.close p k) node held → ViewsMove (NodeCall.close p k) node new
+views_after p k node held new below ports copies none moves = record {
+  moved = record {
+    value = moves.moved.value;
+    in_hand = moves.moved.in_hand;
+    view = view_in_stays held new none p k below ∙ moves.moved.view;
+  };
+  others = record {
+    ins = λ q j small near apart.
+        view_in_stays held new none q j (omega (arith, small, ports)) ∙ moves.others.ins q j small near apart;
+    outs = λ j near other. view_out_stays held new none j ∙ moves.others.outs j near other;
+    copies = λ j near other.
+        copy_view_stays held new none j (omega (arith, near, copies)) ∙ moves.others.copies j near other;
+  };
+}
 
 head_there : (when : When) (head : Option Value) → admits_head when head ≡ true → is_some head ≡ true
 head_there when None e = absurd (cc)
@@ -359,8 +412,19 @@ calls_move_views W layout meaning b node (NodeCall.open_with p k value) law may 
     }
 calls_move_views W layout meaning b node (NodeCall.close p k) law may =
     let in_hand = some_is (hand_at p k node) (((law.ports p may.port).each k may.place).hand ∙ may.stands) in
+    let value = in_hand.0 in
+    let held = holds_in p k (Some value) node in
+    let moves = closed layout meaning b node law p k value may.port may.place in_hand.1 in
     subst (λ (hand : Option Value). ViewsMove (NodeCall.close p k) node (takes_in p k hand node)) (sym in_hand.1)
-    (closed layout meaning b node law p k in_hand.0 may.port may.place in_hand.1)
+    (taken_keeps (λ new. ViewsMove (NodeCall.close p k) node (with_block new held)) held.block moves
+    (λ at_once.
+    let once = at_once.once in
+    let copier = law.copies.copier (once_copies node.block.kind once) in
+    let waits = (may_put_yet layout b node.block node.journal copier once (free_is_given node.block.copies at_once.free)).waits in
+    let same = length-set node.block.ports p (closes k value (port_at p node.block)) in
+    let new = copies_next (first_of (held_by held.block)) held.block in
+    views_after p k node held (with_block new held) (omega (arith, may.port, same)) same refl
+    (none_moves held new (copied_stays (first_of (held_by held.block)) held.block waits)) moves))
 calls_move_views W layout meaning b node (NodeCall.offer k) law may =
     let o = node.block.exits in
     let there = ((offers_in_order.named o k).0 may.next).there in
@@ -419,14 +483,14 @@ calls_move_views W layout meaning b node (NodeCall.look_out k phase) law may =
           (source_looks_kept old.stage phase);
       others = others_out (NodeCall.look_out k phase) node k _ end (λ j apart. apart) one;
     }
-calls_move_views W layout meaning b node (NodeCall.copy call) law may = absurd (no_copy_at layout meaning b node law (copy_place call) may.place)
+calls_move_views W layout meaning b node (NodeCall.copy call) law may =
+    copies_move_views W layout b node (law.copies.copier (copies_at layout meaning b node law (copy_place call) may.place)) call may
 calls_move_views W layout meaning b node NodeCall.begin law may =
     let none = none_moves node (begins node.block) (jobs_stay node.block one_more) in
     record { moved = tt; others = others_stay NodeCall.begin node (after_call layout meaning b NodeCall.begin node) none }
 calls_move_views W layout meaning b node NodeCall.make law may =
     let new = after_call layout meaning b NodeCall.make node in
-    let stay = making_stays (block_makes layout meaning b) node.block (none_broadcast node.block.kind law.shape.built) in
-    let none = none_moves node new.block stay in
+    let none = making_moves (block_makes layout meaning b) node (λ broadcast. may_copy_next node.block broadcast may.waits) in
     record { moved = tt; others = others_stay NodeCall.make node new none }
 calls_move_views W layout meaning b node (NodeCall.complete p) law may =
     let new = after_call layout meaning b (NodeCall.complete p) node in

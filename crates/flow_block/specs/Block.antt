@@ -1,19 +1,21 @@
 -- A block as plain data, and what its calls make of it: each block takes messages at its ports, makes something of them, and
 -- gives that over its exits.
-use Rattle.std.specs.Prelude.{ℕ, ◌-◌, Bool, true, false, cond, List, [], ◌∷◌, ◌++◌, length, get_or, set, map, take, drop, Option, Some, None, is_none, Result, Ok, Err, pos}
+use Rattle.std.specs.Prelude.{ℕ, suc, ◌+◌, ◌-◌, min, Bool, true, false, cond, List, [], ◌∷◌, ◌++◌, length, get_or, set, map, take, drop, Option, Some, None, is_none, Result, Ok, Err, pos, ◌^◌, ◌==◌, ltb, not, ◌&&◌}
 use Rattle.flow_value.specs.View.{items_from}
 use Rattle.flow_value.specs.declared.value.Value.{Value}
 use Rattle.flow_value.specs.declared.value.Value.TheVariants.{Int, Row}
 use Rattle.flow_link.specs.declared.draft.BlockKind.{BlockKind}
-use Rattle.flow_link.specs.declared.draft.BlockKind.TheVariants.{Buffer, Action, Batch, Join}
+use Rattle.flow_link.specs.declared.draft.BlockKind.TheVariants.{Buffer, Action, Batch, Join, BatchedJoin}
+use Rattle.flow_link.specs.Making.{items_of, row_weight}
 use Rattle.flow_link.specs.declared.trace.Outcome.{Outcome}
-use Rattle.flow_link.specs.Plan.{is_broadcast}
+use Rattle.flow_link.specs.Plan.{is_broadcast, is_write_once}
 use Rattle.flow_intake.specs.Port.{PortState, fresh_port}
 use Rattle.flow_intake.specs.Calls.{first_of, takes_next, gives_room, port_closes, port_fails}
 use Rattle.flow_group.specs.Tuple.{tuple_of, takes_tuple}
-use Rattle.flow_outlet.specs.Outlet.{OutletState, puts, gives}
-use Rattle.flow_spread.specs.Spread.{SpreadState, puts as copies_put}
-use Rattle.flow_block.specs.Copies.{copies_left}
+use Rattle.flow_outlet.specs.Outlet.{OutletState, puts, gives, head_of, is_empty}
+use Rattle.flow_outlet.specs.Fits.{weight_of}
+use Rattle.flow_spread.specs.Spread.{SpreadState, puts as copies_put, is_spread_free}
+use Rattle.flow_block.specs.Copies.{copies_weight}
 use Rattle.flow_block.specs.Jobs.{JobsState, Slot, begins as one_more, brings, works_off, comes_out, place_of}
 
 pub record BlockState : Type 0 where
@@ -128,16 +130,29 @@ makes_tuple block = record block {
   exits = puts (tuple_of block.ports ∷ []) (unit_weight (port_at 0 block).capacity) block.exits;
 }
 
--- the message is what it copies from now on. Where no link is to have it, its room comes back at once
+-- the message is what it copies from now on. Where it counts nothing, its room comes back at once
 abbrev pub copies_it : Value → BlockState → BlockState
 copies_it value block =
-    record (with_port 0 (λ port. gives_room (1 - copies_left (copies_put value block.copies)) (takes_next port)) block) {
+    record (with_port 0 (λ port. gives_room (1 - copies_weight (copies_put value block.copies)) (takes_next port)) block) {
       copies = copies_put value block.copies;
     }
 
 abbrev pub copies_next : Option Value → BlockState → BlockState
 copies_next None block = block
 copies_next (Some value) block = copies_it value block
+
+-- a block that takes one message in all copies it when it takes it, if all that this needs is there
+abbrev pub copies_at_once : BlockState → Bool
+copies_at_once block =
+    is_write_once block.kind && length block.ports == 1 && not (is_empty (held_by block)) && is_spread_free block.copies
+    && ltb (block.copies.id + 1) (2 ^ 59)
+
+abbrev pub copies_where : Bool → BlockState → BlockState
+copies_where true block = copies_next (first_of (held_by block)) block
+copies_where false block = block
+
+abbrev pub copies_taken : BlockState → BlockState
+copies_taken block = copies_where (copies_at_once block) block
 
 -- it makes what it makes of the message that it holds first, and a broadcast copies that message
 abbrev pub makes_other : (Value → Result (List Value) ℕ) → BlockState → BlockState
@@ -203,18 +218,50 @@ job_message ticket block = get_or (held_by block) (place_of ticket block.jobs) (
 
 -- What it gives, and how it ends
 
--- it gives its head over the exit at a place; the room of what is wholly given comes back to the ports
+-- a batched join makes groups of the messages that came in first, whatever their ports
+abbrev pub is_batched_join : BlockKind → Bool
+is_batched_join BatchedJoin = true
+is_batched_join _ = false
+
+-- joins and batched joins take messages at several ports
+abbrev pub has_ports : BlockKind → Bool
+has_ports Join = true
+has_ports BatchedJoin = true
+has_ports _ = false
+
+-- how many messages of a group came in at a port; the groups of a batched join have no weight, but this room
+abbrev pub row_count : BlockKind → Option Value → ℕ → ℕ
+row_count BatchedJoin (Some group) p = row_weight (get_or (items_of group) p (Int (pos 0)))
+row_count _ _ p = 0
+
+-- so much room comes back at a port, and that of so many messages of a group, but no more than it has out besides a weight
+abbrev pub room_at : (room weight count : ℕ) → PortState → ℕ
+room_at room weight count port = room + min count (port.load - length port.waiting - room - weight)
+
+-- at each port, from this one on
+abbrev pub gives_each : (room weight : ℕ) → (ℕ → ℕ) → ℕ → List PortState → List PortState
+gives_each room weight counts p [] = []
+gives_each room weight counts p (port ∷ ports) =
+    gives_room (room_at room weight (counts p) port) port ∷ gives_each room weight counts (suc p) ports
+
+-- the room of a head that was given comes back to the ports: what is wholly given of what was put, and at each port of a batched
+-- join that of its messages
+abbrev pub comes_back : OutletState → SpreadState → BlockKind → Option Value → List PortState → List PortState
+comes_back exits copies kind head ports =
+    gives_each exits.room (weight_of exits.groups + copies_weight copies) (row_count kind head) 0 ports
+
+-- it gives its head over the exit at a place, and room comes back
 abbrev pub gives_out : ℕ → BlockState → BlockState
 gives_out k block = record block {
   exits = record (gives k block.exits) { room = 0 };
-  ports = map (gives_room (gives k block.exits).room) block.ports;
+  ports = comes_back (gives k block.exits) block.copies block.kind (head_of block.exits) block.ports;
 }
 
--- its end of a link over which copies go comes to stand elsewhere. Where nobody owes the element any more, its room comes back
+-- its end of a link over which copies go comes to stand elsewhere. Where the element counts no more, its room comes back
 abbrev pub with_copies : SpreadState → BlockState → BlockState
 with_copies copies block = record block {
   copies = copies;
-  ports = map (gives_room (copies_left block.copies - copies_left copies)) block.ports;
+  ports = map (gives_room (copies_weight block.copies - copies_weight copies)) block.ports;
 }
 
 abbrev pub stops_by : Outcome → BlockState → BlockState

@@ -1,5 +1,5 @@
 -- What a block that copies does with its element, as plain data: the weight of the element, and the calls at its links.
-use Rattle.std.specs.Prelude.{ℕ, ◌==◌, cond, Bool, ◌&&◌, List, []}
+use Rattle.std.specs.Prelude.{ℕ, ◌==◌, cond, Bool, true, false, ◌&&◌, List, [], is_some}
 use Rattle.flow_link.specs.declared.draft.BlockKind.{BlockKind}
 use Rattle.flow_link.specs.declared.phase.LinkEnd.{LinkEnd}
 use Rattle.flow_link.specs.declared.phase.Phase.{Phase}
@@ -21,6 +21,14 @@ fresh_copies kind rules = fresh_spread (is_write_once kind) (copied_rules kind r
 -- the element counts while somebody owes
 abbrev pub copies_left : SpreadState → ℕ
 copies_left copies = cond (count_of owes_it copies.ends == 0) 0 1
+
+-- what the element counts: it counts for good where no other one is to come
+abbrev pub weight_by : Bool → Bool → ℕ → ℕ
+weight_by true some left = cond some 1 0
+weight_by false some left = left
+
+abbrev pub copies_weight : SpreadState → ℕ
+copies_weight copies = weight_by copies.once (is_some copies.element) (copies_left copies)
 
 -- a new element may be put: nobody waits for the last one either
 abbrev pub none_waits : SpreadState → Bool

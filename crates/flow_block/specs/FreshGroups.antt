@@ -1,8 +1,7 @@
 -- A batched join in which nothing has happened: it has made nothing, and holds nothing.
 use Rattle.std.specs.Prelude.{ℕ, []}
 use Rattle.flow_link.specs.Layout.{Layout}
-use Rattle.flow_block.specs.GroupsKeep.{KeepsGroups}
-use Rattle.flow_block.specs.GroupsSeen.{WholeBefore}
+use Rattle.flow_block.specs.GroupsLaw.{KeepsGroups, WholeBefore}
 use Rattle.flow_block.specs.Planned.{fresh_node}
 
 abbrev pub FreshGroups : Type 0 → Type 0

@@ -1,23 +1,17 @@
 -- A batched join as a part of a run: no group of it is short while one of its ports is open, and what its node knows of its
 -- groups is what the laws of a run say of a batched join.
-use Rattle.std.specs.Prelude.{◌≡◌, ℕ, ◌<◌, true, List, length, Result}
+use Rattle.std.specs.Prelude.{◌≡◌, ℕ, true, List, length, Result}
 use Rattle.flow_value.specs.declared.value.Value.{Value}
 use Rattle.flow_link.specs.declared.draft.BlockKind.TheVariants.{BatchedJoin}
-use Rattle.flow_link.specs.declared.trace.Mark.{Mark}
 use Rattle.flow_link.specs.Endings.{is_complete_as}
 use Rattle.flow_link.specs.Layout.{Layout}
-use Rattle.flow_link.specs.Lists.{every}
-use Rattle.flow_link.specs.Making.{batched_join_makes, before_complete, group_size}
-use Rattle.flow_link.specs.Trace.{Run, gave}
-use Rattle.flow_group.specs.Groups.{is_whole}
-use Rattle.flow_block.specs.GroupsKeep.{are_complete, KeepsGroups, MayCallBatched, after_at_batched}
+use Rattle.flow_link.specs.Making.{batched_join_makes, group_size}
+use Rattle.flow_link.specs.Trace.{Run}
+use Rattle.flow_block.specs.GroupsKeep.{MayCallBatched, after_at_batched}
 use Rattle.flow_block.specs.Node.{NodeState, NodeCall}
 use Rattle.flow_block.specs.Planned.{block_makes}
 use Rattle.flow_block.specs.TuplesSeen.{IsPortsOf}
-
--- of so many ports: what was given before a port's Complete are whole groups
-abbrev pub WholeBefore : (count size : ℕ) → List Mark → Type 0
-WholeBefore count size journal = (p : ℕ) → p < count → every (is_whole size) (gave (before_complete p journal)) ≡ true
+use Rattle.flow_block.specs.GroupsLaw.{are_complete, KeepsGroups, WholeBefore}
 
 -- each call of a batched join keeps that
 abbrev pub WholeStand : Type 0 → Type 0

@@ -4,7 +4,7 @@ use Rattle.flow_value.specs.declared.value.Value.{Value}
 use Rattle.flow_link.specs.Layout.{Layout}
 use Rattle.flow_outlet.specs.Outlet.{lacks_ids}
 use Rattle.flow_block.specs.Block.{BlockState, port_at, made_of, job_message, ends_job, put_by_job}
-use Rattle.flow_block.specs.Node.{NodeState, with_block, in_view, out_view}
+use Rattle.flow_block.specs.Node.{NodeState, with_block, in_view, out_view, copy_view}
 use Rattle.flow_block.specs.NodeLaw.{NodeLaw}
 use Rattle.flow_block.specs.Peeks.{may_end}
 use Rattle.flow_block.specs.Planned.{block_makes}
@@ -29,6 +29,7 @@ module _ (result : Value → Result (List Value) ℕ) where
 pub record ViewsStay (node new : NodeState) : Type 0 where
   pub ins : (p k : ℕ) → p < length node.block.ports → k < length (port_at p node.block).ends → in_view p k new ≡ in_view p k node
   pub outs : (k : ℕ) → k < length node.block.exits.ends → out_view k new ≡ out_view k node
+  pub copies : (k : ℕ) → k < length node.block.copies.ends → copy_view k new ≡ copy_view k node
 
 module _ {W : Type 0} (layout : Layout W) (meaning : ℕ → Value → Result (List Value) ℕ) (b : ℕ) where
   pub record EndsWell (ticket : ℕ) (node : NodeState) : Type 0 where

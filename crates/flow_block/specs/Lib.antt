@@ -3,9 +3,16 @@ pub mod BlockFits
 pub mod Causes
 pub mod Copier
 pub mod Copies
+pub mod CopiesSeen
 pub mod Fresh
 pub mod FreshGroups
+pub mod GroupsLaw
+pub mod Groups
 pub mod GroupsKeep
+pub mod GroupsLoad
+pub mod GroupsOrdered
+pub mod GroupsPeek
+pub mod GroupsRest
 pub mod GroupsSeen
 pub mod Input
 pub mod InputKeeps
@@ -14,6 +21,7 @@ pub mod JobsEnd
 pub mod JobsOut
 pub mod JournalFits
 pub mod Kinds
+pub mod NextCopies
 pub mod NextMoves
 pub mod Node
 pub mod NodeKeeps

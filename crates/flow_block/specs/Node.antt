@@ -1,6 +1,6 @@
 -- A node of a network: a block with its journal. Its calls are its side of each move of a link, its looks, and what it does by
 -- itself.
-use Rattle.std.specs.Prelude.{ℕ, cond, List, [], ◌∷◌, ◌++◌, map, Option, Some, None, Result}
+use Rattle.std.specs.Prelude.{ℕ, ◌+◌, cond, List, [], ◌∷◌, ◌++◌, map, drop, Option, Some, None, Result}
 use Rattle.flow_value.specs.declared.value.Value.{Value}
 use Rattle.flow_link.specs.declared.phase.LinkEnd.{LinkEnd}
 use Rattle.flow_link.specs.declared.phase.Phase.{Phase}
@@ -17,12 +17,16 @@ use Rattle.flow_outlet.specs.declared.ends.OutEnd.{OutEnd}
 use Rattle.flow_outlet.specs.History.{listed}
 use Rattle.flow_spread.specs.Spread.{SpreadState, link_at, left_of}
 use Rattle.flow_link.specs.Plan.{is_one_taker}
-use Rattle.flow_block.specs.Block.{BlockState, port_at, with_port, begins, makes, gives_out, with_copies, stops_by}
+use Rattle.flow_group.specs.Group.{group_of}
+use Rattle.flow_block.specs.Block.{BlockState, port_at, with_port, begins, makes, put_next, gives_out, with_copies, stops_by, is_batched_join, copies_taken}
 use Rattle.flow_block.specs.Copies.{CopyCall, after_copy}
+use Rattle.flow_block.specs.Groups.{makes_group, ports_in, marks_until}
 
 pub record NodeState : Type 0 where
   pub block : BlockState
   pub journal : List Mark
+  -- how many of its marks are no younger than those of the messages that are in groups, if it is a batched join
+  pub grouped : ℕ
 
 -- a call of a node. The ends of its links are told by their places: those of the links into it by a port and a place there
 pub data NodeCall : Type 0 where
@@ -71,10 +75,15 @@ in_link_at p k node = link_in k (port_at p node.block).ends
 abbrev pub out_link_at : ℕ → NodeState → ℕ
 out_link_at k node = (end_at node.block.exits k).rule.id
 
--- the message in hand becomes the block's
+-- the message in hand becomes the block's, which holds it
+abbrev pub holds_in : ℕ → ℕ → Option Value → NodeState → NodeState
+holds_in p k None node = node
+holds_in p k (Some value) node =
+    marks (Took p (in_link_at p k node) value) (with_block (with_port p (closes k value) node.block) node)
+
+-- or copies it at once
 abbrev pub takes_in : ℕ → ℕ → Option Value → NodeState → NodeState
-takes_in p k None node = node
-takes_in p k (Some value) node = marks (Took p (in_link_at p k node) value) (with_block (with_port p (closes k value) node.block) node)
+takes_in p k hand node = with_block (copies_taken (holds_in p k hand node).block) (holds_in p k hand node)
 
 -- the head goes over the link
 abbrev pub gives_from : ℕ → Option Value → NodeState → NodeState
@@ -91,13 +100,35 @@ marks_copy (CopyCall.give k) copies journal = marks_copied (link_at copies k).ru
 marks_copy _ copies journal = journal
 
 abbrev pub copies_by : CopyCall → NodeState → NodeState
-copies_by call node = record {
+copies_by call node = record node {
   block = with_copies (after_copy call node.block.copies) node.block;
   journal = marks_copy call node.block.copies node.journal;
 }
 
+-- of a batched join, the ports of the messages that are in no group yet, in the order in which they came in: its journal says it
+abbrev pub order_in : NodeState → List ℕ
+order_in node = ports_in (drop node.grouped node.journal)
+
+-- the next group is there to be given, and its marks are those of a group. Its room comes back by its rows, so it has no weight
+abbrev pub makes_next_group : NodeState → NodeState
+makes_next_group node = record node {
+  block = makes_group node.block.size 0 (order_in node) node.block;
+  grouped = node.grouped + marks_until (drop node.grouped node.journal) node.block.size;
+}
+
+abbrev pub next_group_in : NodeState → Value
+next_group_in node = group_of node.block.size (order_in node) node.block.ports
+
 -- what a node makes of a message by its function
 module _ (result : Value → Result (List Value) ℕ) where
+  -- a batched join makes its next group, and each other block what it makes by itself
+  abbrev pub makes_next : NodeState → NodeState
+  makes_next node = cond (is_batched_join node.block.kind) (makes_next_group node) (with_block (makes result node.block) node)
+
+  -- what it would put into its exits by that
+  abbrev pub puts_next : NodeState → List Value
+  puts_next node = cond (is_batched_join node.block.kind) (next_group_in node ∷ []) (put_next result node.block)
+
   abbrev pub after : NodeCall → NodeState → NodeState
   after (NodeCall.want p k) node = with_block (with_port p (wants k) node.block) node
   after (NodeCall.turn_down p k) node = with_block (with_port p (turns_down k) node.block) node
@@ -115,7 +146,7 @@ module _ (result : Value → Result (List Value) ℕ) where
   after (NodeCall.look_out k phase) node = with_exits (exit_looks k phase node.block.exits) node
   after (NodeCall.copy call) node = copies_by call node
   after NodeCall.begin node = with_block (begins node.block) node
-  after NodeCall.make node = with_block (makes result node.block) node
+  after NodeCall.make node = makes_next node
   after (NodeCall.complete p) node = marks (Complete p) (with_block (with_port p port_closes node.block) node)
   after (NodeCall.fault number) node = marks (Fault number) (with_block (stops_by (outcome.Faulted number) node.block) node)
   after NodeCall.finish node = marks Done (with_block (stops_by outcome.Done node.block) node)
@@ -140,6 +171,10 @@ copy_view k node = view_of_out node.journal (link_at node.block.copies k)
 -- of a link out of it, whether it shares its messages or copies them
 abbrev pub source_view : ℕ → NodeState → SourceView Value
 source_view k node = cond (is_one_taker node.block.kind) (out_view k node) (copy_view k node)
+
+-- what it would give next: its head, or the element
+abbrev pub given_next : NodeState → Option Value
+given_next node = cond (is_one_taker node.block.kind) (head_of node.block.exits) node.block.copies.element
 
 -- what it has to give
 abbrev pub left_in : BlockState → List Value

@@ -1,5 +1,5 @@
 -- When each call of a node may be made, and that it keeps the node in order.
-use Rattle.std.specs.Prelude.{◌≡◌, ℕ, ◌+◌, ◌^◌, ◌<◌, Bool, true, false, List, length, Some, None, is_some, is_none, Result}
+use Rattle.std.specs.Prelude.{◌≡◌, ℕ, ◌+◌, ◌^◌, ◌<◌, Bool, true, false, List, [], length, Some, None, is_some, is_none, Result}
 use Rattle.std.specs.Bool.{OnTrue}
 use Rattle.flow_value.specs.declared.value.Value.{Value}
 use Rattle.flow_link.specs.declared.phase.LinkEnd.{LinkEnd}
@@ -18,16 +18,17 @@ use Rattle.flow_intake.specs.Calls.{is_offered, is_posted, is_postponed, is_arri
 use Rattle.flow_outlet.specs.End.{is_free, is_waiting, speaks_of}
 use Rattle.flow_outlet.specs.Law.{is_put_off}
 use Rattle.flow_outlet.specs.Outlet.{end_at, stage_at, may_offer, may_give, is_wish, end_of, lacks_ids}
-use Rattle.flow_link.specs.Plan.{is_broadcast}
+use Rattle.flow_link.specs.Plan.{is_broadcast, is_write_once, is_one_taker}
 use Rattle.flow_spread.specs.Law.{MayPutOff as MayPutOffOver}
 use Rattle.flow_spread.specs.Spread.{may_offer as may_offer_copy, may_give as may_give_copy, is_asked_by}
 use Rattle.flow_spread.specs.Spread as spread
-use Rattle.flow_block.specs.Block.{port_at, put_next, is_join}
+use Rattle.flow_block.specs.Block.{port_at, is_join, is_batched_join, held_by}
 use Rattle.flow_block.specs.Copies.{CopyCall, copy_place}
-use Rattle.flow_block.specs.Node.{NodeState, NodeCall, in_link_at, after}
+use Rattle.flow_block.specs.Node.{NodeState, NodeCall, in_link_at, after, puts_next}
 use Rattle.flow_block.specs.NodeLaw.{NodeLaw, ShapeLaw, PortsLaw, ExitsLaw, CopiesLaw, GaveLaw, MakesLaw, KeepsRows, KeepsTuples, JobsLaw, LoadLaw, MarksLaw, EndsLaw}
 use Rattle.flow_block.specs.Peeks.{is_pending, may_work, may_begin, may_complete, next_fault, may_finish}
 use Rattle.flow_block.specs.Planned.{block_makes}
+use Rattle.flow_block.specs.GroupsLaw.{OrderedGroups, LoadByPort}
 
 -- an end of a link into the node stands so
 pub record InAt (test : TargetStage → Bool) (p k : ℕ) (node : NodeState) : Type 0 where
@@ -93,7 +94,7 @@ pub record MayCopy (call : CopyCall) (node : NodeState) : Type 0 where
 pub record MayMake (result : Value → Result (List Value) ℕ) (node : NodeState) : Type 0 where
   pub waits : may_work node.block ≡ true
   pub all_out : every is_none node.block.jobs.slots ≡ true
-  pub ids : lacks_ids (put_next result node.block) node.block.exits ≡ false
+  pub ids : lacks_ids (puts_next result node) node.block.exits ≡ false
   pub copy_id : is_broadcast node.block.kind ≡ true → node.block.copies.id + 1 < 2 ^ 59
 
 pub record MayCompletePort (p : ℕ) (node : NodeState) : Type 0 where
@@ -152,8 +153,12 @@ module _ (W : Type 0) where
   abbrev pub CopiesKept : Type 0
   CopiesKept = AtEachBlock (λ layout meaning b node. CopiesLaw layout meaning b node.block node.journal)
 
+  abbrev pub NoneHeldKept : Type 0
+  NoneHeldKept = AtEachBlock (λ layout meaning b node. is_write_once node.block.kind ≡ true → held_by node.block ≡ [])
+
   abbrev pub GaveKept : Type 0
-  GaveKept = AtEachBlock (λ layout meaning b node. GaveLaw layout meaning b node.block.exits node.journal)
+  GaveKept = AtEachBlock (λ layout meaning b node.
+      is_one_taker node.block.kind ≡ true → GaveLaw layout meaning b node.block.exits node.journal)
 
   abbrev pub MakesKept : Type 0
   MakesKept = AtEachBlock (λ layout meaning b node. MakesLaw layout meaning b node.block node.journal)
@@ -168,7 +173,14 @@ module _ (W : Type 0) where
   JobsKept = AtEachBlock (λ layout meaning b node. JobsLaw layout meaning b node.block node.journal)
 
   abbrev pub LoadKept : Type 0
-  LoadKept = AtEachBlock (λ layout meaning b node. LoadLaw layout meaning b node.block node.journal)
+  LoadKept = AtEachBlock (λ layout meaning b node.
+      is_batched_join node.block.kind ≡ false → LoadLaw layout meaning b node.block node.journal)
+
+  abbrev pub GroupsKept : Type 0
+  GroupsKept = AtEachBlock (λ layout meaning b node. is_batched_join node.block.kind ≡ true → OrderedGroups node)
+
+  abbrev pub GroupLoadKept : Type 0
+  GroupLoadKept = AtEachBlock (λ layout meaning b node. is_batched_join node.block.kind ≡ true → LoadByPort node.block)
 
   abbrev pub MarksKept : Type 0
   MarksKept = AtEachBlock (λ layout meaning b node. MarksLaw layout meaning b node.journal)

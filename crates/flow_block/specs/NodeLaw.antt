@@ -19,7 +19,7 @@ use Rattle.flow_link.specs.Law.{is_own_mark, gives_in_order}
 use Rattle.flow_link.specs.Layout.{Layout}
 use Rattle.flow_link.specs.Lists.{every, some, below}
 use Rattle.flow_link.specs.Making.{all_items, are_groups, row_weight, before_complete}
-use Rattle.flow_link.specs.Plan.{block_in, port_count, has_work, is_one_taker, is_reserving}
+use Rattle.flow_link.specs.Plan.{block_in, port_count, has_work, is_one_taker, is_write_once, is_reserving}
 use Rattle.flow_link.specs.Trace.{Run, took, took_at, gave, gave_over, has_complete, has_fault, has_ended, is_done}
 use Rattle.flow_link.specs.Worked.{WorkedInto}
 use Rattle.flow_block.specs.Kinds.{is_kept_kind}
@@ -34,12 +34,19 @@ use Rattle.flow_outlet.specs.declared.group.Group.{Group}
 use Rattle.flow_spread.specs.Spread.{fresh_spread}
 use Rattle.flow_group.specs.Tuple.{held_at, has_tuple}
 use Rattle.flow_group.specs.Tuples.{TuplesLaw}
-use Rattle.flow_block.specs.Block.{BlockState, port_at, held_by, is_batch, is_join}
+use Rattle.flow_block.specs.Block.{BlockState, port_at, held_by, is_batch, is_join, is_batched_join}
 use Rattle.flow_block.specs.Copier.{Copier}
+use Rattle.flow_block.specs.Copies.{copies_weight, shared_rules}
 use Rattle.flow_block.specs.Jobs.{AreOf, is_front_back}
 use Rattle.flow_block.specs.Node.{NodeState}
 use Rattle.flow_block.specs.Peeks.{is_pending, holds_nothing}
-use Rattle.flow_block.specs.Planned.{lanes_of, size_of, links_to, links_from, rule_of, block_makes}
+use Rattle.flow_block.specs.Planned.{lanes_of, size_of, links_to, links_from, rule_of, block_makes, room_of}
+use Rattle.flow_block.specs.Groups.{has_group_at}
+use Rattle.flow_block.specs.GroupsLaw.{are_complete, OrderedGroups, LoadByPort}
+
+-- the places of what it has not wholly given
+abbrev pub places_out : BlockState → ℕ
+places_out block = weight_of block.exits.groups + copies_weight block.copies
 
 -- the source knows that this link is refused
 abbrev pub refuses_over : List OutEnd → ℕ → Bool
@@ -138,17 +145,25 @@ KeepsTuples block journal =
     TuplesLaw (length block.ports) (λ p. took_at p journal) (gave journal ++ block.exits.left) (held_at block.ports)
 
 -- it could make nothing more of what it held when it stopped: a batch held less than a row, and nothing if its port had
--- completed before; a join held nothing at one of its ports
+-- completed before; a join held nothing at one of its ports; a batched join had no group
 abbrev pub has_made_all : BlockState → List Mark → Bool
 has_made_all block journal =
     cond (is_batch block.kind)
     (ltb (length (held_by block)) block.size && (not (has_complete 0 journal) || is_empty (held_by block)))
-    (cond (is_join block.kind) (not (has_tuple block.ports)) (holds_nothing block.ports))
+    (cond (is_join block.kind) (not (has_tuple block.ports))
+    (cond (is_batched_join block.kind)
+    (not (has_group_at block.size (are_complete (length block.ports) journal) block.ports))
+    (holds_nothing block.ports)))
 
--- these ports have completed; of a join, that is done and holds nothing, one has
+-- it takes one message in all, and took it
+abbrev pub has_its_message : BlockKind → List Mark → Bool
+has_its_message kind journal = is_write_once kind && not (is_empty (took journal))
+
+-- these ports have completed; of a join, that is done and holds nothing, one has. What took its one message needs none
 abbrev pub have_completed : BlockKind → ℕ → List Mark → Bool
 have_completed kind count journal =
-    cond (is_join kind) (some (λ p. has_complete p journal) (below count)) (every (λ p. has_complete p journal) (below count))
+    cond (is_join kind) (some (λ p. has_complete p journal) (below count))
+    (every (λ p. has_complete p journal) (below count) || has_its_message kind journal)
 
 -- the end has seen this fault
 abbrev pub is_fault_seen : ℕ → EndState → Bool
@@ -168,7 +183,7 @@ module _ {W : Type 0} (layout : Layout W) (meaning : ℕ → Value → Result (L
   -- a port as the plan has it
   pub record PortAsPlanned (p : ℕ) (port : PortState) : Type 0 where
     pub links : map (λ (end : EndState). end.link) port.ends ≡ links_to layout b p
-    pub capacity : port.capacity ≡ (block_in layout.blocks b).capacity
+    pub capacity : port.capacity ≡ room_of (block_in layout.blocks b)
     pub never_reserves : port.reserves ≡ false
 
   -- the block is of a kind that is kept in order, and has the ports and links that the plan gives it
@@ -177,11 +192,14 @@ module _ {W : Type 0} (layout : Layout W) (meaning : ℕ → Value → Result (L
     pub kind_is : block.kind ≡ (block_in layout.blocks b).kind
     pub size_is : block.size ≡ size_of layout b
     pub some_size : is_batch block.kind ≡ true → 0 < block.size
+    pub some_group : is_batched_join block.kind ≡ true → 0 < block.size
+    pub no_capacity : is_write_once block.kind ≡ true → (block_in layout.blocks b).capacity ≡ None
     pub port_count_is : length block.ports ≡ port_count (block_in layout.blocks b)
     pub some_port : 0 < length block.ports
     pub takes_freely : is_reserving (block_in layout.blocks b) ≡ false
     pub ports : (p : ℕ) → p < length block.ports → PortAsPlanned p (port_at p block)
-    pub rules : map (λ (end : OutEnd). end.rule) block.exits.ends ≡ map (rule_of layout) (links_from layout b)
+    -- the links over which it shares its messages out; where it copies them, there is none
+    pub rules : map (λ (end : OutEnd). end.rule) block.exits.ends ≡ shared_rules block.kind (map (rule_of layout) (links_from layout b))
 
   -- each port is in order
   abbrev pub PortsLaw : BlockState → List Mark → Type 0
@@ -227,13 +245,13 @@ module _ {W : Type 0} (layout : Layout W) (meaning : ℕ → Value → Result (L
     -- tickets count the messages
     pub counted : has_work block.kind ≡ true → block.jobs.first + length (held_by block) ≡ length (took journal)
 
-  -- a place is taken by each message that it holds or has not wholly given
+  -- a place is taken by each message that it holds or has not wholly given, and by the element while that counts
   pub record LoadLaw (block : BlockState) (journal : List Mark) : Type 0 where
-    pub groups : WeighsAs (block_makes layout meaning b) block.kind (block_in layout.blocks b).capacity (took journal)
+    pub groups : WeighsAs (block_makes layout meaning b) block.kind (room_of (block_in layout.blocks b)) (took journal)
         (held_by block) (gave journal) block.exits.left block.exits.next block.exits.groups
     pub no_room : block.exits.room ≡ 0
-    pub load : (p : ℕ) → p < length block.ports → is_some (block_in layout.blocks b).capacity ≡ true
-        → (port_at p block).load ≡ length (port_at p block).waiting + weight_of block.exits.groups
+    pub load : (p : ℕ) → p < length block.ports → is_some (room_of (block_in layout.blocks b)) ≡ true
+        → (port_at p block).load ≡ length (port_at p block).waiting + places_out block
 
   -- its marks are of its own links and ports, and nothing follows an end
   pub record MarksLaw (journal : List Mark) : Type 0 where
@@ -255,8 +273,9 @@ module _ {W : Type 0} (layout : Layout W) (meaning : ℕ → Value → Result (L
     -- one that is done holds nothing, has nothing left, and its ports have completed
     pub done_empty : block.stopped ≡ Some Done → (holds_nothing block.ports ≡ true) × (block.exits.left ≡ [])
     pub done_complete : is_done journal ≡ true → have_completed block.kind (length block.ports) journal ≡ true
-    -- each end has a cause that it has seen
-    pub complete_cause : (p : ℕ) → p < length block.ports → has_complete p journal ≡ true → has_seen_completion (port_at p block).ends ≡ true
+    -- each end has a cause that it has seen; a port also completes where the block has all that it takes
+    pub complete_cause : (p : ℕ) → p < length block.ports → has_complete p journal ≡ true
+        → has_its_message block.kind journal ≡ false → has_seen_completion (port_at p block).ends ≡ true
     pub fault_cause : (number : ℕ) → has_fault number journal ≡ true
         → (block.fault ≡ Some number) ⊎ (some (λ (port : PortState). some (λ (end : EndState). is_fault_seen number end) port.ends) block.ports ≡ true)
     -- a fault that came over a link stops it only when it could make nothing more
@@ -268,11 +287,16 @@ module _ {W : Type 0} (layout : Layout W) (meaning : ℕ → Value → Result (L
     pub ports : PortsLaw node.block node.journal
     pub exits : ExitsLaw node.block
     pub copies : CopiesLaw node.block node.journal
-    pub gave : GaveLaw node.block.exits node.journal
+    -- what takes one message in all copies it at once
+    pub none_held : is_write_once node.block.kind ≡ true → held_by node.block ≡ []
+    pub gave : is_one_taker node.block.kind ≡ true → GaveLaw node.block.exits node.journal
     pub makes : MakesLaw node.block node.journal
     pub rows : KeepsRows node.block node.journal
     pub tuples : is_join node.block.kind ≡ true → KeepsTuples node.block node.journal
     pub jobs : JobsLaw node.block node.journal
-    pub load : LoadLaw node.block node.journal
+    pub load : is_batched_join node.block.kind ≡ false → LoadLaw node.block node.journal
+    -- a batched join cuts what it took into groups, and counts at each port what they have from there
+    pub groups : is_batched_join node.block.kind ≡ true → OrderedGroups node
+    pub group_load : is_batched_join node.block.kind ≡ true → LoadByPort node.block
     pub marks : MarksLaw node.journal
     pub ends : EndsLaw node.block node.journal

@@ -10,17 +10,20 @@ use Rattle.flow_link.specs.RestsByParts.{NodeIsStill, NodeRests}
 use Rattle.flow_link.specs.Trace.{Run, link_of}
 use Rattle.flow_intake.specs.Port.{stage_at as port_stage}
 use Rattle.flow_outlet.specs.Outlet.{stage_at}
+use Rattle.flow_spread.specs.Spread.{stage_at as copy_stage}
 use Rattle.flow_block.specs.Block.{port_at}
+use Rattle.flow_block.specs.NextCopies.{next_copy}
 use Rattle.flow_block.specs.NextMoves.{next_in, next_out}
 use Rattle.flow_block.specs.Node.{NodeState}
 use Rattle.flow_block.specs.NodeLaw.{NodeLaw}
-use Rattle.flow_block.specs.NodeSeen.{IsNodeOf}
+use Rattle.flow_block.specs.NodeSeen.{IsNodeOf, EachMayCarry}
 use Rattle.flow_block.specs.Peeks.{may_make, may_begin, may_end, may_complete, next_fault, may_finish}
 
 -- nothing that it could do
 pub record HasNothingToDo (node : NodeState) : Type 0 where
   pub ins : (p k : ℕ) → p < length node.block.ports → k < length (port_at p node.block).ends → next_in p k node ≡ None
   pub outs : (k : ℕ) → k < length node.block.exits.ends → next_out k node ≡ None
+  pub copies : (k : ℕ) → k < length node.block.copies.ends → next_copy k node ≡ None
   pub makes : may_make node.block ≡ false
   pub begins : may_begin node.block ≡ false
   pub ends : (ticket : ℕ) → may_end ticket node.block ≡ false
@@ -47,6 +50,7 @@ pub record EndsRest (node : NodeState) : Type 0 where
   pub ins : (p k : ℕ) → p < length node.block.ports → k < length (port_at p node.block).ends
       → rests_in (port_stage k (port_at p node.block)) ≡ true
   pub outs : (k : ℕ) → k < length node.block.exits.ends → rests_out (stage_at node.block.exits k) ≡ true
+  pub copies : (k : ℕ) → k < length node.block.copies.ends → rests_out (copy_stage node.block.copies k) ≡ true
 
 -- no end keeps a message for another, or asks for that: nothing here reserves
 abbrev pub is_asked : SourceStage → Bool
@@ -63,6 +67,7 @@ pub record NoneReserve (node : NodeState) : Type 0 where
   pub ins : (p k : ℕ) → p < length node.block.ports → k < length (port_at p node.block).ends
       → is_reserving (port_stage k (port_at p node.block)) ≡ false
   pub outs : (k : ℕ) → k < length node.block.exits.ends → is_asked (stage_at node.block.exits k) ≡ false
+  pub copies : (k : ℕ) → k < length node.block.copies.ends → is_asked (copy_stage node.block.copies k) ≡ false
 
 module _ (W : Type 0) where
   -- what is known of a node of a run
@@ -77,4 +82,4 @@ module _ (W : Type 0) where
   NodesAreStill = OfEachNode (λ run ends b node. NoneReserve node → NodeIsStill run ends b)
 
   abbrev pub NodesRest : Type 0
-  NodesRest = OfEachNode (λ run ends b node. EndsRest node → NodeRests run ends b)
+  NodesRest = OfEachNode (λ run ends b node. EndsRest node → EachMayCarry run b → NodeRests run ends b)

@@ -1,16 +1,19 @@
 -- What a block could do next by itself, told by its own data alone.
-use Rattle.std.specs.Prelude.{ℕ, ◌==◌, leb, ltb, Bool, not, ◌&&◌, ◌||◌, cond, List, [], ◌∷◌, length, Option, None, is_some, is_none}
+use Rattle.std.specs.Prelude.{ℕ, ◌+◌, ◌^◌, ◌==◌, leb, ltb, Bool, not, ◌&&◌, ◌||◌, cond, List, [], ◌∷◌, length, Option, None, is_some, is_none, Result}
+use Rattle.flow_value.specs.declared.value.Value.{Value}
 use Rattle.flow_link.specs.Lists.{every}
-use Rattle.flow_link.specs.Plan.{has_work, is_broadcast}
+use Rattle.flow_link.specs.Plan.{has_work, is_broadcast, is_write_once}
 use Rattle.flow_intake.specs.Port.{PortState, coming}
 use Rattle.flow_intake.specs.Ended.{first_some, has_seen_completion, fault_at_ends}
 use Rattle.flow_intake.specs.PortLaw.{has_ended}
-use Rattle.flow_outlet.specs.Outlet.{is_empty, is_at_rest, only_waits}
+use Rattle.flow_outlet.specs.Outlet.{is_empty, is_at_rest, only_waits, lacks_ids}
 use Rattle.flow_spread.specs.Spread.{SpreadState, is_spread_free, is_at_rest as is_spread_at_rest, only_waits as spread_only_waits}
-use Rattle.flow_group.specs.Tuple.{has_tuple, is_join_complete}
-use Rattle.flow_block.specs.Block.{BlockState, port_at, held_by, is_batch, is_join}
+use Rattle.flow_group.specs.Tuple.{has_tuple, is_join_complete, all_ended as ports_ended}
+use Rattle.flow_block.specs.Block.{BlockState, port_at, held_by, is_batch, is_join, is_batched_join}
 use Rattle.flow_block.specs.Copies.{copies_left, may_put}
 use Rattle.flow_block.specs.Jobs.{is_out}
+use Rattle.flow_block.specs.Groups.{has_group_at}
+use Rattle.flow_block.specs.Node.{NodeState, puts_next}
 
 abbrev pub fault_at_ports : List PortState → Option ℕ
 fault_at_ports [] = None
@@ -34,6 +37,10 @@ abbrev pub has_group : BlockState → Bool
 has_group block =
     not (is_empty (held_by block)) && (leb block.size (length (held_by block)) || has_ended (port_at 0 block).refusing)
 
+-- as many messages wait at the ports of a batched join as a group has, or the rest do when all its ports have completed
+abbrev pub has_group_of_ports : BlockState → Bool
+has_group_of_ports block = has_group_at block.size (ports_ended block.ports) block.ports
+
 -- a broadcast may copy another message: no link is to have the last one still, or waits for it
 abbrev pub may_copy : BlockState → Bool
 may_copy block = not (is_broadcast block.kind) || may_put block.copies
@@ -42,13 +49,15 @@ may_copy block = not (is_broadcast block.kind) || may_put block.copies
 abbrev pub has_next : BlockState → Bool
 has_next block =
     cond (is_batch block.kind) (has_group block)
-    (cond (is_join block.kind) (has_tuple block.ports) (not (is_empty (held_by block)) && may_copy block))
+    (cond (is_join block.kind) (has_tuple block.ports)
+    (cond (is_batched_join block.kind) (has_group_of_ports block) (not (is_empty (held_by block)) && may_copy block)))
 
 -- it could make nothing more of what it holds
 abbrev pub is_worked_off : BlockState → Bool
 is_worked_off block =
     cond (is_batch block.kind) (not (has_group block))
-    (cond (is_join block.kind) (not (has_tuple block.ports)) (holds_nothing block.ports))
+    (cond (is_join block.kind) (not (has_tuple block.ports))
+    (cond (is_batched_join block.kind) (not (has_group_of_ports block)) (holds_nothing block.ports)))
 
 -- it goes on, and holds what it could make something of
 abbrev pub may_work : BlockState → Bool
@@ -57,6 +66,12 @@ may_work block = is_none block.stopped && is_none block.fault && has_next block
 -- it may make its next outputs: a block without a function makes them at once
 abbrev pub may_make : BlockState → Bool
 may_make block = may_work block && not (has_work block.kind)
+
+-- there is no id left for what it would make
+abbrev pub lacks_next : (Value → Result (List Value) ℕ) → NodeState → Bool
+lacks_next result node =
+    cond (is_broadcast node.block.kind) (leb (2 ^ 59) (node.block.copies.id + 1))
+    (lacks_ids (puts_next result node) node.block.exits)
 
 -- it may work on one more of the messages that it holds
 abbrev pub may_begin : BlockState → Bool
@@ -68,10 +83,15 @@ may_begin block =
 abbrev pub may_end : ℕ → BlockState → Bool
 may_end ticket block = is_none block.stopped && is_out ticket block.jobs
 
--- the port is open, completion came over a link, and no message is on its way into the port
+-- it takes one message in all, and has it
+abbrev pub is_written : BlockState → Bool
+is_written block = is_write_once block.kind && is_some block.copies.element
+
+-- the port is open, completion came over a link or the block has all that it takes, and no message is on its way into the port
 abbrev pub may_complete : ℕ → BlockState → Bool
 may_complete p block =
-    not (has_ended (port_at p block).refusing) && coming (port_at p block) == 0 && has_seen_completion (port_at p block).ends
+    not (has_ended (port_at p block).refusing) && coming (port_at p block) == 0
+    && (has_seen_completion (port_at p block).ends || is_written block)
 
 -- the fault by which it would stop: its own, or one that it has seen, once it could make nothing more of what it took
 abbrev pub fault_cause : BlockState → Option ℕ
@@ -92,9 +112,10 @@ next_fault block = cond (could_stop block && is_out_at_rest block) (fault_cause 
 abbrev pub is_held_up : BlockState → Bool
 is_held_up block = could_stop block && only_waits block.exits && is_some (fault_cause block)
 
--- its ports have completed; a join is complete, too, when a completed port has no message that waits for partners
+-- its ports have completed; a join is complete, too, when a completed port has no message that waits for partners, and what takes
+-- one message in all when it has that
 abbrev pub is_complete : BlockState → Bool
-is_complete block = cond (is_join block.kind) (is_join_complete block.ports) (all_ended block.ports)
+is_complete block = cond (is_join block.kind) (is_join_complete block.ports) (all_ended block.ports || is_written block)
 
 -- it is complete, and has nothing to work on and nothing to give
 abbrev pub has_all_given : BlockState → Bool

@@ -1,6 +1,9 @@
 -- What a layout says of one of its blocks: its ports, and its ends of the links that lead into it and out of it.
-use Rattle.std.specs.Prelude.{ℕ, Bool, List, [], map, filter, length, take, count_by, unwrap_or, None, Result}
+use Rattle.std.specs.Prelude.{ℕ, Bool, List, [], map, filter, length, take, count_by, unwrap_or, Option, Some, None, Result}
 use Rattle.flow_value.specs.declared.value.Value.{Value}
+use Rattle.flow_link.specs.declared.draft.BlockDef.{BlockDef}
+use Rattle.flow_link.specs.declared.draft.BlockKind.{BlockKind}
+use Rattle.flow_link.specs.declared.draft.BlockKind.TheVariants.{WriteOnce}
 use Rattle.flow_link.specs.declared.plan.Link.{Link}
 use Rattle.flow_link.specs.Layout.{Layout}
 use Rattle.flow_link.specs.Lists.{below}
@@ -12,6 +15,14 @@ use Rattle.flow_outlet.specs.Outlet.{fresh_outlet}
 use Rattle.flow_block.specs.Copies.{shared_rules, fresh_copies}
 use Rattle.flow_block.specs.Jobs.{fresh_jobs}
 use Rattle.flow_block.specs.Node.{NodeState}
+
+-- for how many messages a block has room: for one, where it takes one message in all
+abbrev pub room_by : BlockKind → Option ℕ → Option ℕ
+room_by WriteOnce capacity = Some 1
+room_by _ capacity = capacity
+
+abbrev pub room_of : {W : Type 0} → BlockDef W → Option ℕ
+room_of block = room_by block.kind block.capacity
 
 module _ {W : Type 0} (layout : Layout W) where
   abbrev pub is_out_of : ℕ → ℕ → Bool
@@ -53,7 +64,7 @@ module _ {W : Type 0} (layout : Layout W) where
 
   -- a port and a node in which nothing has happened; messages are counted from 1 on
   abbrev pub port_of_plan : ℕ → ℕ → PortState
-  port_of_plan b p = record (fresh_port (block_in layout.blocks b).capacity) { ends = map fresh_end (links_to b p) }
+  port_of_plan b p = record (fresh_port (room_of (block_in layout.blocks b))) { ends = map fresh_end (links_to b p) }
 
   -- how many messages a block may work on at once
   abbrev pub lanes_of : ℕ → ℕ
@@ -77,6 +88,7 @@ module _ {W : Type 0} (layout : Layout W) where
       stopped = None;
     };
     journal = [];
+    grouped = 0;
   }
 
   -- what a block makes of one message

@@ -47,7 +47,7 @@ impl Model for Block {
     ghost use Rattle.flow_value.specs.contracts.value.Value as content;
     ghost use Rattle.flow_block.specs.Block.{BlockState};
     ghost use Rattle.flow_block.specs.BlockFits.{BlockFits};
-    ghost use Rattle.flow_block.specs.Copies.{copies_left};
+    ghost use Rattle.flow_block.specs.Copies.{copies_weight};
 
     ghost Value = { BlockState };
 
@@ -65,7 +65,7 @@ impl Model for Block {
       stopped = b.stopped;
     } };
 
-    ghost invariant = { λ b. BlockFits b.ports.items b.exits (copies_left b.copies) };
+    ghost invariant = { λ b. BlockFits b.ports.items b.exits (copies_weight b.copies) };
 }
 
 impl Block {

@@ -1,6 +1,7 @@
 //! A block that copies: it gives each of its links a copy of one element, over the links' own offers.
 //!
-//! What the element takes of the block's room comes back when no link owes it any more.
+//! What the element takes of the block's room comes back when no link owes it any more, and never where the block takes one
+//! message in all.
 ghost use Rattle.std.specs.Prelude.{◌≡◌, ℕ, ◌<◌, ◌≤◌, ◌+◌, ◌-◌, ◌^◌, ◌↔◌, true, length, map, is_some, Some, Err, IfOk, OnOk, OnErr, MatchResult};
 ghost use Rattle.flow_link.specs.LinkOk.{HasRoom};
 ghost use Rattle.flow_intake.specs.Calls.{first_of, gives_room};
@@ -9,11 +10,12 @@ ghost use Rattle.flow_outlet.specs.Outlet.{fresh_outlet};
 ghost use Rattle.flow_outlet.specs.declared.fault.OutletFault.TheVariants.{Ids};
 ghost use Rattle.flow_spread.specs.Spread.{may_offer, may_give, is_asked_by, is_spread_free, end_at, link_at, stage_at};
 ghost use Rattle.flow_spread.specs.Spread.{gives, holds, withdraws, ends_link, looks, offers, prepares};
-ghost use Rattle.flow_block.specs.Block.{held_by, copies_next, with_copies};
+ghost use Rattle.flow_block.specs.Block.{held_by, copies_next, copies_at_once, copies_taken, with_copies};
 ghost use Rattle.flow_block.specs.BlockFits.{AllGaveOut};
-ghost use Rattle.flow_block.specs.Copies.{shared_rules, fresh_copies, copies_left};
+ghost use Rattle.flow_block.specs.Copies.{shared_rules, fresh_copies, copies_left, copies_weight};
 
 use crate::block::Block;
+use crate::peeks::{holds_first, is_write_once};
 use crate::ports::give_room;
 use flow_intake::Intake;
 use flow_link::{BlockKind, LinkEnd, Phase};
@@ -70,12 +72,23 @@ pub(crate) fn copies_left(copies: &Spread) -> u32
     if copies.owing_count() == 0 { 0 } else { 1 }
 }
 
+/// What the element takes of the block's room: at a block that takes one message in all, it does for good.
+pub(crate) fn copies_weight(copies: &Spread) -> u32
+    ensures { result ≡ copies_weight copies.now }
+{
+    if copies.is_once() {
+        u32::from(copies.element().is_some())
+    } else {
+        copies_left(copies)
+    }
+}
+
 /// The room of the element comes back to the ports, where it counted and does no more.
 fn give_back(ports: &mut Vec<Intake>, counted: u32, copies: &Spread)
-    requires { AllGaveOut (counted - copies_left copies.now) ports.old.items }
-    ensures { ports.new.items ≡ map (gives_room (counted - copies_left copies.now)) ports.old.items }
+    requires { AllGaveOut (counted - copies_weight copies.now) ports.old.items }
+    ensures { ports.new.items ≡ map (gives_room (counted - copies_weight copies.now)) ports.old.items }
 {
-    give_room(ports, counted.saturating_sub(copies_left(copies)));
+    give_room(ports, counted.saturating_sub(copies_weight(copies)));
 }
 
 // What it copies.
@@ -92,6 +105,18 @@ impl Block {
         if self.copies.id() >= MAX_ID {
             return Err(OutletFault::Ids);
         }
+        self.copy_first();
+        Ok(())
+    }
+
+    /// Copies the message that waits longest from now on. There is an id for it.
+    fn copy_first(&mut self)
+        requires alone { length self.old.ports ≡ 1 }
+        requires waits { 0 < length (held_by self.old) }
+        requires free { is_spread_free self.old.copies ≡ true }
+        requires ids { self.old.copies.id + 1 < 2 ^ 59 }
+        ensures { self.new ≡ copies_next (first_of (held_by self.old)) self.old }
+    {
         let port = &mut self.ports[0];
         let Some(value) = port.take_next() else {
             unreachable!()
@@ -99,8 +124,27 @@ impl Block {
         let Ok(()) = self.copies.put(value) else {
             unreachable!()
         };
-        port.give_room((1 - copies_left(&self.copies)) as usize);
-        Ok(())
+        port.give_room((1 - copies_weight(&self.copies)) as usize);
+    }
+
+    /// Copies at once what it has taken, if it takes one message in all.
+    pub(crate) fn copy_taken(&mut self)
+        ensures { self.new ≡ copies_taken self.old }
+    {
+        if self.copies_at_once() {
+            self.copy_first();
+        }
+    }
+
+    /// Whether it takes one message in all, and has it to copy: nothing was copied before.
+    fn copies_at_once(&self) -> bool
+        ensures { result ≡ copies_at_once self.now }
+    {
+        is_write_once(self.kind)
+            && self.ports.len() == 1
+            && holds_first(&self.ports)
+            && self.copies.is_free()
+            && self.copies.id() < MAX_ID
     }
 }
 
@@ -114,7 +158,7 @@ impl Block {
         ensures done { OnOk result (self.new ≡ with_copies (offers place (prepares place self.old.copies)) self.old) }
         ensures kept { OnErr result (self.new ≡ self.old) }
     {
-        let counted = copies_left(&self.copies);
+        let counted = copies_weight(&self.copies);
         self.copies.prepare_offer(alloc, place)?;
         let header = self.copies.offer(place);
         give_back(&mut self.ports, counted, &self.copies);
@@ -126,7 +170,7 @@ impl Block {
         requires { place < length self.old.copies.ends }
         ensures { self.new ≡ with_copies (looks place phase self.old.copies) self.old }
     {
-        let counted = copies_left(&self.copies);
+        let counted = copies_weight(&self.copies);
         self.copies.look_out(place, phase);
         give_back(&mut self.ports, counted, &self.copies);
     }
@@ -141,7 +185,7 @@ impl Block {
         ensures parcel { result.1 ≡ result.0 }
         ensures given { self.new ≡ with_copies (gives place self.old.copies) self.old }
     {
-        let counted = copies_left(&self.copies);
+        let counted = copies_weight(&self.copies);
         let given = self.copies.give(place);
         give_back(&mut self.ports, counted, &self.copies);
         given
@@ -153,7 +197,7 @@ impl Block {
         requires asks { is_asked_by (stage_at self.old.copies place) ≡ true }
         ensures { self.new ≡ with_copies (holds place self.old.copies) self.old }
     {
-        let counted = copies_left(&self.copies);
+        let counted = copies_weight(&self.copies);
         self.copies.hold(place);
         give_back(&mut self.ports, counted, &self.copies);
     }
@@ -164,7 +208,7 @@ impl Block {
         requires waits { is_waiting (stage_at self.old.copies place) ≡ true }
         ensures { self.new ≡ with_copies (withdraws place self.old.copies) self.old }
     {
-        let counted = copies_left(&self.copies);
+        let counted = copies_weight(&self.copies);
         self.copies.withdraw(place);
         give_back(&mut self.ports, counted, &self.copies);
     }
@@ -175,7 +219,7 @@ impl Block {
         requires free { is_free (stage_at self.old.copies place) ≡ true }
         ensures { self.new ≡ with_copies (ends_link place how self.old.copies) self.old }
     {
-        let counted = copies_left(&self.copies);
+        let counted = copies_weight(&self.copies);
         self.copies.end(place, how);
         give_back(&mut self.ports, counted, &self.copies);
     }

@@ -14,8 +14,8 @@ pub fn fresh_blocks_are_in_order<W>()
     ensures { FreshInOrder W }
 {}
 
-/// Each call that may be made keeps a block in order: buffers, actions, transforms, transform-manys, batches and joins,
-/// with any links, predicates, limits and capacities.
+/// Each call that may be made keeps a block in order: buffers, broadcasts, write-once blocks, actions, transforms,
+/// transform-manys, batches, joins and batched joins, with any links, predicates, limits and capacities.
 pub fn calls_keep_blocks_in_order<W>()
     ensures { NodesKept W }
 {}

@@ -9,6 +9,7 @@
 //! `record`      action           its results are kept
 //! `make_row`    batch            a row of it and those behind it is there to be given
 //! `make_tuple`  join             a row of it and one from each other port is there to be given
+//! `make_group`  batched join     a row of rows of it and the next ones, a row for each port, is there to be given
 //! `copy_next`   broadcast        each link is given a copy of it
 //! `fail`        all with work    it stays, and the ports take no more
 //! `begin`       all with work    it stays, and is worked on beside others
@@ -24,8 +25,10 @@
 mod answer;
 mod block;
 mod copies;
+mod copies_laws;
 mod copying;
 mod group_laws;
+mod groups;
 mod input;
 mod jobs;
 mod laws;
@@ -42,9 +45,14 @@ mod tuples;
 mod work;
 
 pub use block::Block;
+pub use copies_laws::{
+    copiers_are_parts, copiers_with_nothing_to_do_rest, copies_move_views, next_copies_have_causes,
+    next_copies_may_be_made,
+};
 pub use group_laws::{
-    batched_joins_are_parts, calls_keep_groups, calls_keep_groups_whole,
-    fresh_blocks_have_made_nothing,
+    batched_joins_are_parts, batched_joins_rest, calls_keep_group_loads, calls_keep_groups,
+    calls_keep_groups_in_order, calls_keep_groups_whole, fresh_batched_joins_are_in_order,
+    fresh_blocks_have_made_nothing, ports_tell_of_groups,
 };
 pub use input::Input;
 pub use jobs::Answer;

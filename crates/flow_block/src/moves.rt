@@ -14,7 +14,7 @@ ghost use Rattle.flow_outlet.specs.Outlet.{withdraws, ends_link, looks};
 ghost use Rattle.flow_block.specs.Block.{port_at, with_port, gives_out};
 
 use crate::block::Block;
-use crate::ports::give_room;
+use crate::ports::bring_back;
 use flow_link::{LinkEnd, Phase};
 use flow_value::{MessageHeader, Parcel, Value};
 use std::alloc::{AllocError, Global};
@@ -149,8 +149,13 @@ impl Block {
         ensures given { self.new ≡ gives_out place self.old }
     {
         let given = self.exits.give(place);
-        let room = self.exits.room_back();
-        give_room(&mut self.ports, room);
+        bring_back(
+            &mut self.ports,
+            &mut self.exits,
+            &self.copies,
+            self.kind,
+            &given.0,
+        );
         given
     }
 

@@ -35,6 +35,8 @@ use std::marker::Model;
 pub struct Node {
     pub(crate) journal: Vec<Mark>,
     pub(crate) block: Block,
+    /// How many of its marks are no younger than those of the messages that are in groups, if it is a batched join.
+    pub(crate) grouped: usize,
 }
 
 impl Model for Node {
@@ -49,7 +51,7 @@ impl Model for Node {
 
     ghost coded = { Prim.hlevel (codes, mark.the_row.coded, content.the_row.coded) };
 
-    ghost view = { λ n. record { block = n.block; journal = n.journal.items } };
+    ghost view = { λ n. record { block = n.block; journal = n.journal.items; grouped = n.grouped } };
 
     ghost invariant = { λ n. vec_len n.journal + marks_due n.block ≤ vec_capacity n.journal };
 }
@@ -58,11 +60,12 @@ impl Node {
     /// A node with this block, for which nothing is under way, and with an empty journal.
     pub fn new(alloc: Global, block: Block) -> Node
         requires { marks_due block ≡ 0 }
-        ensures { result ≡ record { block = block; journal = [] } }
+        ensures { result ≡ record { block = block; journal = []; grouped = 0 } }
     {
         Node {
             journal: Vec::new(alloc),
             block,
+            grouped: 0,
         }
     }
 
@@ -161,7 +164,8 @@ impl Node {
         self.block.open(port as usize, place, parcel);
     }
 
-    /// Makes the message the block's own that it has in hand from the link at this place, and marks that it took it.
+    /// Makes the message the block's own that it has in hand from the link at this place, and marks that it took it. A
+    /// block that takes one message in all copies it from then on.
     pub fn close(&mut self, port: u32, place: usize)
         requires port { port < length self.old.block.ports }
         requires place { place < length (port_at port self.old.block).ends }
@@ -171,6 +175,7 @@ impl Node {
         let link = self.block.in_link(port as usize, place);
         let value = self.block.close(port as usize, place);
         self.journal.push_reserved(Mark::Took(port, link, value));
+        self.block.copy_taken();
     }
 
     /// Looks at the phase of the link into it at this place.

@@ -15,7 +15,7 @@ ghost use Rattle.flow_block.specs.Passes.{block_sends, sends_ready, receives_on,
 use crate::block::Block;
 use crate::input::Input;
 use crate::node::Node;
-use crate::ports::give_room;
+use crate::ports::bring_back;
 use flow_link::Mark;
 use flow_value::{Parcel, Value};
 
@@ -48,8 +48,13 @@ impl Block {
         ensures sent { self.new ≡ block_sends place self.old.exits.next self.old }
     {
         let sent = self.exits.send(place);
-        let room = self.exits.room_back();
-        give_room(&mut self.ports, room);
+        bring_back(
+            &mut self.ports,
+            &mut self.exits,
+            &self.copies,
+            self.kind,
+            &sent.0,
+        );
         sent
     }
 
@@ -95,6 +100,7 @@ impl Node {
         let link = self.block.in_link(port as usize, place);
         let value = self.block.receive(port as usize, place, parcel);
         self.journal.push_reserved(Mark::Took(port, link, value));
+        self.block.copy_taken();
     }
 }
 

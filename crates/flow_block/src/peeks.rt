@@ -4,13 +4,14 @@ ghost use Rattle.std.specs.Option.{IfNone};
 ghost use Rattle.std.specs.List.{list_all};
 ghost use Rattle.flow_intake.specs.Port.{PortState, coming};
 ghost use Rattle.flow_intake.specs.PortLaw.{has_ended};
-ghost use Rattle.flow_link.specs.Plan.{has_work, is_broadcast};
+ghost use Rattle.flow_link.specs.Plan.{has_work, is_broadcast, is_write_once};
 ghost use Rattle.flow_outlet.specs.End.{is_waiting};
 ghost use Rattle.flow_outlet.specs.Outlet.{out_move, stage_at, is_empty};
-ghost use Rattle.flow_block.specs.Block.{port_at, port_in, is_batch, is_join};
+ghost use Rattle.flow_block.specs.Block.{port_at, port_in, is_batch, is_join, is_batched_join};
 ghost use Rattle.flow_block.specs.Peeks.{may_work, may_make, may_begin, may_end, may_complete, next_fault, is_held_up, may_finish, could_stop};
 ghost use Rattle.flow_spread.specs.Spread.{out_move as copy_move};
-ghost use Rattle.flow_block.specs.Peeks.{may_copy, is_copy_held_up, would_copy, has_all_given, is_copied_out, is_out_at_rest};
+ghost use Rattle.flow_block.specs.Peeks.{may_copy, is_written, is_copy_held_up, would_copy, has_all_given};
+ghost use Rattle.flow_block.specs.Peeks.{is_copied_out, is_out_at_rest};
 ghost use Rattle.flow_block.specs.Peeks.{fault_cause, fault_at_ports, is_pending, has_group, has_next, is_worked_off, is_complete};
 
 use crate::block::Block;
@@ -35,6 +36,8 @@ impl Block {
             self.has_group()
         } else if is_join(self.kind) {
             has_tuple(&self.ports)
+        } else if is_batched_join(self.kind) {
+            self.has_group_of_ports()
         } else {
             holds_first(&self.ports) && self.may_copy()
         }
@@ -70,13 +73,15 @@ impl Block {
             !self.has_group()
         } else if is_join(self.kind) {
             !has_tuple(&self.ports)
+        } else if is_batched_join(self.kind) {
+            !self.has_group_of_ports()
         } else {
             holds_nothing(&self.ports)
         }
     }
 
     /// Whether it would make its next outputs: it has no function, and hands on the message that it holds first, or makes
-    /// a row or a tuple of those that it holds.
+    /// a row, a tuple or a group of those that it holds.
     pub fn may_make(&self) -> bool
         ensures { result ≡ may_make self.now }
     {
@@ -113,13 +118,21 @@ impl Block {
         self.find_out()
     }
 
-    /// Whether this port completes now: completion came over a link into it, and no message is on its way into it.
+    /// Whether this port completes now: completion came over a link into it, or the block has all that it takes, and no
+    /// message is on its way into it.
     pub fn may_complete(&self, port: usize) -> bool
         requires { port < length self.now.ports }
         ensures { result ≡ may_complete port self.now }
     {
         let port = &self.ports[port];
-        !port.has_ended() && port.coming() == 0 && port.has_seen_completion()
+        !port.has_ended() && port.coming() == 0 && (port.has_seen_completion() || self.is_written())
+    }
+
+    /// Whether it takes one message in all, and has it.
+    fn is_written(&self) -> bool
+        ensures { result ≡ is_written self.now }
+    {
+        is_write_once(self.kind) && self.copies.element().is_some()
     }
 
     /// Whether a port takes no message any more.
@@ -173,7 +186,7 @@ impl Block {
     }
 
     /// Whether its ports have completed. A join is complete, too, when a completed port has no message that waits for
-    /// partners.
+    /// partners, and a block that takes one message in all when it has that.
     #[tactic(auto, using(flow_link::proofs::FirstInOrder::all_is_every))]
     pub fn is_complete(&self) -> bool
         ensures { result ≡ is_complete self.now }
@@ -181,7 +194,7 @@ impl Block {
         if is_join(self.kind) {
             is_join_complete(&self.ports)
         } else {
-            all_ended(&self.ports)
+            all_ended(&self.ports) || self.is_written()
         }
     }
 
@@ -295,6 +308,13 @@ fn is_join(kind: BlockKind) -> bool
     kind == BlockKind::Join
 }
 
+/// Whether blocks of this kind make groups of the messages of all their ports.
+fn is_batched_join(kind: BlockKind) -> bool
+    ensures { result ≡ is_batched_join kind }
+{
+    kind == BlockKind::BatchedJoin
+}
+
 /// Whether blocks of this kind copy each message to all their links, over the last one.
 fn is_broadcast(kind: BlockKind) -> bool
     ensures { result ≡ is_broadcast kind }
@@ -302,8 +322,15 @@ fn is_broadcast(kind: BlockKind) -> bool
     kind == BlockKind::Broadcast
 }
 
+/// Whether blocks of this kind take one message in all.
+pub(crate) fn is_write_once(kind: BlockKind) -> bool
+    ensures { result ≡ is_write_once kind }
+{
+    kind == BlockKind::WriteOnce
+}
+
 /// Whether a message waits at the first port.
-fn holds_first(ports: &[Intake]) -> bool
+pub(crate) fn holds_first(ports: &[Intake]) -> bool
     ensures { result ≡ not (is_empty (port_in ports.now 0).waiting) }
 {
     match ports.first() {

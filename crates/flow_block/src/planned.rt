@@ -6,7 +6,7 @@ ghost use Rattle.flow_link.specs.Lists.{below};
 ghost use Rattle.flow_link.specs.Plan.{begins_at, block_in, ends_at, ends_at_port, is_reserving, is_sole, is_steady};
 ghost use Rattle.flow_link.specs.Plan.{links_into, port_count, takes_at_once};
 ghost use Rattle.flow_link.specs.Planned.{layout_of};
-ghost use Rattle.flow_block.specs.Planned.{in_place, input_place, links_from, out_place, port_of_plan, rule_of};
+ghost use Rattle.flow_block.specs.Planned.{in_place, input_place, links_from, out_place, port_of_plan, room_of, rule_of};
 ghost use Rattle.flow_block.specs.Routes.{route_of};
 
 use flow_intake::Intake;
@@ -57,13 +57,30 @@ pub fn port_of<W>(
     requires { block < length (layout_of plan.now).blocks }
     ensures { IfOk result (λ made. made ≡ port_of_plan (layout_of plan.now) block port) }
 {
-    let mut made = Intake::new(alloc, plan.block(block).capacity);
+    let mut made = Intake::new(alloc, room_of(plan.block(block)));
     for id in 0..plan.link_count() {
         if enters(plan.link(id).target, block, port) {
             made.add_link(id)?;
         }
     }
     Ok(made)
+}
+
+/// For how many messages a block has room: for one, where it takes one message in all.
+fn room_of<W>(block: &BlockDef<W>) -> Option<u32>
+    ensures { result ≡ room_of block.now }
+{
+    match block.kind {
+        BlockKind::WriteOnce => Some(1),
+        BlockKind::Buffer
+        | BlockKind::Broadcast
+        | BlockKind::Action
+        | BlockKind::Transform
+        | BlockKind::TransformMany
+        | BlockKind::Batch
+        | BlockKind::Join
+        | BlockKind::BatchedJoin => block.capacity,
+    }
 }
 
 /// The ports of this block, in their order. It fails only where memory is out.

@@ -1,15 +1,22 @@
 //! What becomes of all ports of a block.
-ghost use Rattle.std.specs.Prelude.{◌≡◌, ◌<◌, ◌+◌, ◌^◌, ◌↔◌, true, false, [], ◌∷◌, length, cond, map, take, is_some, Err, OnOk, OnErr, IfOk};
+ghost use Rattle.std.specs.Prelude.{◌≡◌, ◌<◌, ◌+◌, ◌^◌, ◌↔◌, true, false, [], ◌∷◌, length, cond, map, take, get_or, is_some, Some, pos, Err, OnOk, OnErr, IfOk};
 ghost use Rattle.flow_intake.specs.Calls.{takes_next, gives_room, port_closes, port_fails};
 ghost use Rattle.flow_outlet.specs.Fits.{weight_of};
 ghost use Rattle.flow_outlet.specs.Outlet.{puts, lacks_ids};
 ghost use Rattle.flow_outlet.specs.declared.fault.OutletFault.TheVariants.{Ids};
-ghost use Rattle.flow_block.specs.Block.{unit_weight, group_weight, takes_group};
-ghost use Rattle.flow_block.specs.BlockFits.{AllGaveOut};
+ghost use Rattle.flow_link.specs.Making.{items_of, row_weight};
+ghost use Rattle.flow_link.specs.declared.draft.BlockKind.TheVariants.{BatchedJoin};
+ghost use Rattle.flow_value.specs.declared.value.Value.TheVariants.{Int};
+ghost use Rattle.flow_block.specs.Block.{unit_weight, group_weight, takes_group, is_batched_join, row_count, gives_each, comes_back};
+ghost use Rattle.flow_block.specs.BlockFits.{AllGaveOut, weight_out};
+ghost use Rattle.flow_block.specs.Copies.{copies_weight};
 ghost use Rattle.flow_block.specs.JournalFits.{ports_due};
 
+use crate::copies::copies_weight;
 use flow_intake::Intake;
+use flow_link::BlockKind;
 use flow_outlet::{Outlet, OutletFault};
+use flow_spread::Spread;
 use flow_value::Value;
 use std::alloc::{AllocError, Global};
 
@@ -142,6 +149,70 @@ pub(crate) fn give_room(ports: &mut Vec<Intake>, room: u32)
     }
     for place in 0..ports.len() {
         ports[place].give_room(room as usize);
+    }
+}
+
+/// Whether a block of this kind makes groups of the messages that came in first, whatever their ports.
+pub(crate) fn is_batched_join(kind: BlockKind) -> bool
+    ensures { result ≡ is_batched_join kind }
+{
+    matches!(kind, BlockKind::BatchedJoin)
+}
+
+/// How many messages of a group came in at a port: none, where what was given is no group.
+fn row_count(group: &Value, port: usize) -> usize
+    ensures { result ≡ row_weight (get_or (items_of group.now) port (Int (pos 0))) }
+{
+    match group {
+        Value::Row(rows) if port < rows.items().len() => message_count(&rows.items()[port]),
+        _ => 0,
+    }
+}
+
+/// How many values a row has.
+fn message_count(row: &Value) -> usize
+    ensures { result ≡ row_weight row.now }
+{
+    match row {
+        Value::Row(values) => values.items().len(),
+        _ => 0,
+    }
+}
+
+/// So much room comes back at each port, and that of the messages of a group which came in there, but no more than the port
+/// has out besides this weight.
+fn give_rows(ports: &mut Vec<Intake>, room: u32, weight: u64, group: &Value)
+    requires { AllGaveOut (room + weight) ports.old.items }
+    ensures { ports.new.items ≡ gives_each room weight (row_count BatchedJoin (Some group.now)) 0 ports.old.items }
+{
+    for place in 0..ports.len() {
+        let port = &mut ports[place];
+        let out = (port.room_out() as u64)
+            .saturating_sub(room as u64)
+            .saturating_sub(weight);
+        let count = row_count(group, place).min(out as usize);
+        port.give_room(room as usize + count);
+    }
+}
+
+/// The room comes back to the ports that comes with a head which was given.
+pub(crate) fn bring_back(
+    ports: &mut Vec<Intake>,
+    exits: &mut Outlet,
+    copies: &Spread,
+    kind: BlockKind,
+    head: &Value,
+)
+    requires { AllGaveOut (weight_out exits.old (copies_weight copies.now)) ports.old.items }
+    ensures told { exits.new ≡ record exits.old { room = 0 } }
+    ensures back { ports.new.items ≡ comes_back exits.old copies.now kind (Some head.now) ports.old.items }
+{
+    let room = exits.room_back();
+    if is_batched_join(kind) {
+        let weight = exits.weight() as u64 + copies_weight(copies) as u64;
+        give_rows(ports, room, weight, head);
+    } else {
+        give_room(ports, room);
     }
 }
 

@@ -1,6 +1,6 @@
 -- A move of a block's end of a link that leads from it keeps the link in order.
-use Rattle.std.proofs.Common.{◌≡◌, ◌⊎◌, ℕ, ◌<◌, ◌==◌, ◌||◌, not, Bool, true, false, cond, List, length, Option, Some, None, is_some, Result, refl, ap, sym, subst, inl, inr, ◌∙◌, arith, eqb-true}
-use Rattle.std.proofs.lemmas.Bool.{and_parts}
+use Rattle.std.proofs.Common.{◌≡◌, ◌⊎◌, ℕ, ◌<◌, ◌==◌, ◌&&◌, ◌||◌, not, Bool, true, false, cond, List, length, Option, Some, None, is_some, Result, refl, ap, sym, subst, inl, inr, ◌∙◌, arith, eqb-true}
+use Rattle.std.proofs.lemmas.Bool.{OnTrue_at, and_parts, or_right}
 use Rattle.std.proofs.lemmas.Bool.Decides.{nat_tests}
 use Rattle.flow_value.specs.declared.value.Value.{Value}
 use Rattle.flow_link.specs.declared.phase.LinkEnd.{LinkEnd}
@@ -8,16 +8,18 @@ use Rattle.flow_link.specs.declared.phase.LinkEnd.TheVariants as link_end
 use Rattle.flow_link.specs.declared.phase.Move.{Move}
 use Rattle.flow_link.specs.declared.phase.Move.TheVariants as move
 use Rattle.flow_link.specs.declared.phase.Phase.{Phase}
-use Rattle.flow_link.specs.declared.phase.Phase.TheVariants.{Idle, Postponed, Given, Offered, Ended}
+use Rattle.flow_link.specs.declared.phase.Phase.TheVariants.{Idle, Postponed, Given, Held, Offered, Ended}
 use Rattle.flow_link.specs.declared.stage.SourceStage.{SourceStage as SourceKept}
 use Rattle.flow_link.specs.declared.stage.SourceStage.TheVariants as source
 use Rattle.flow_link.specs.declared.trace.Outcome.{Outcome}
 use Rattle.flow_link.specs.declared.trace.Outcome.TheVariants as outcome
 use Rattle.flow_link.specs.Facts.{facts_in}
 use Rattle.flow_link.specs.Layout.{Layout}
+use Rattle.flow_link.specs.Plan.{link_in, is_one_taker}
+use Rattle.flow_link.specs.declared.plan.LinkSource.TheVariants.{Block}
 use Rattle.flow_link.specs.LinkOk.{LinkOk, StandAt, IsWithin, HasRoom, MayEnd}
 use Rattle.flow_link.specs.Looks.{SourceHasSeen}
-use Rattle.flow_link.specs.Moves.{offering, ending, giving, denying, withdrawing}
+use Rattle.flow_link.specs.Moves.{offering, ending, giving, denying, holding, withdrawing}
 use Rattle.flow_link.specs.LooksKeep.{OwnMovesAreSeen}
 use Rattle.flow_link.specs.MovesKeep.{Keeps, SourceMovesKeep}
 use Rattle.flow_link.specs.Phase.{phase_after}
@@ -30,14 +32,26 @@ use Rattle.flow_outlet.specs.declared.ends.OutEnd.{OutEnd}
 use Rattle.flow_outlet.specs.End.{is_free, is_waiting, is_limit, is_cut, is_over, speaks_of, rejects}
 use Rattle.flow_outlet.specs.Outlet.{OutletState, head_of, end_at, is_wish, is_wanted, end_by}
 use Rattle.flow_outlet.proofs.OffersInOrder.{offers_in_order}
-use Rattle.flow_block.specs.NextMoves.{NextMovesMay, MayMoveOut}
-use Rattle.flow_block.specs.Node.{NodeState, NodeCall, out_view}
+use Rattle.flow_spread.specs.End.{is_open}
+use Rattle.flow_spread.specs.Law.{CopyEndLaw, speaks}
+use Rattle.flow_spread.specs.Spread.{SpreadState, end_at as copy_end, link_at, is_wanted as is_wanted_copy, is_asked_by, asked_id}
+use Rattle.flow_block.specs.Copier.{Copier}
+use Rattle.flow_block.specs.Copies.{CopyCall}
+use Rattle.flow_block.specs.NextCopies.{MayMoveCopy}
+use Rattle.flow_block.specs.NextMoves.{NextMovesMay, MayMoveOut, next_source}
+use Rattle.flow_block.specs.Node.{NodeState, NodeCall, given_next, out_view, copy_view, source_view}
+use Rattle.flow_block.specs.NodeKeeps.{NodesKept}
 use Rattle.flow_block.specs.NodeLaw.{NodeLaw}
 use Rattle.flow_block.specs.Planned.{out_place, rule_of}
 use Rattle.flow_block.specs.ViewsMove.{CallsMoveViews}
-use Rattle.flow_core.specs.Events.{node_after, out_call, slot_after}
+use Rattle.flow_block.proofs.CopierHolds.{copies_lawful}
+use Rattle.flow_block.proofs.PlacesOfLinks.{shares_at}
+use Rattle.flow_core.specs.Events.{node_after, out_call, copy_call, source_call, slot_after}
+use Rattle.flow_core.specs.Keeps.{IsRun}
 use Rattle.flow_core.specs.OneMove.{SourceMoved, BlocksMoveWell}
-use Rattle.flow_core.proofs.PlacesOfLinks.{exit_there, rule_there}
+use Rattle.flow_core.proofs.EndsStep.{out_steps, copy_steps}
+use Rattle.flow_core.proofs.PlacesOfLinks.{exit_there, rule_there, copy_there, copy_rule_there}
+use Rattle.flow_core.proofs.SourcesByKind.{shared_view, copied_view, shared_next, copied_next, same_kind}
 
 keeps : SourceMovesKeep Value
 keeps = source_moves_keep Value
@@ -150,6 +164,11 @@ all_crossed : (max : Option ℕ) (given count : ℕ) → (is_some max ≡ true �
 all_crossed None given count counts cut = cc
 all_crossed (Some max) given count counts cut = ap Some (sym (eqb-true given max cut) ∙ counts refl)
 
+-- and what has room by one count has it by the other
+room_counted : (max : Option ℕ) (given count : ℕ) → (is_some max ≡ true → given ≡ count) → HasRoom max given → HasRoom max count
+room_counted None given count counts room = tt
+room_counted (Some max) given count counts room = let same = counts refl in subst (HasRoom (Some max)) same room
+
 -- what the message does not go past is not cut
 not_passed : (over cut spoken declined turned : Bool) → ((over || cut) || spoken || declined || turned) ≡ false
     → cut ≡ false
@@ -194,7 +213,9 @@ module _ {W : Type 0} (layout : Layout W) (meaning : ℕ → Value → Result (L
     max_is = ap (λ (rule : LinkRule). rule.max) rule_is
 
     counts : is_some end.rule.max ≡ true → end.given ≡ crossed view
-    counts limited = let told = (law.gave.each k there).counted limited in omega (arith, told)
+    counts limited =
+        let told = ((law.gave (shares_at layout meaning s node.block law.shape k there)).each k there).counted limited in
+        omega (arith, told)
 
     room : is_cut end ≡ false → HasRoom facts.max (crossed view)
     room open_link =
@@ -245,11 +266,161 @@ module _ {W : Type 0} (layout : Layout W) (meaning : ℕ → Value → Result (L
           (ends_on facts phase new slot target how view ok (is_at_home end.stage may.is_at_home.stands) told allowed)
       moves _ may allowed = absurd may
 
-pub blocks_move : {W : Type 0} → CallsMoveViews W → NextMovesMay W → BlocksMoveWell W
-blocks_move views may layout meaning runs l s low begins node law phase new slot target next ok peek allowed =
-    let k = out_place layout s l in
-    let place = exit_there layout meaning s node law l low begins in
-    let rule_is = rule_there layout meaning s node law l low begins in
-    let block = runs.leads.from_block l s low begins in
-    let own = (may layout meaning s node runs.well_formed block law).1 k next place peek in
-    moves layout meaning s l k node law views place rule_is phase new slot target ok next own allowed
+-- Where the block copies
+
+module _ {W : Type 0} (layout : Layout W) (meaning : ℕ → Value → Result (List Value) ℕ) (s l k : ℕ) (node : NodeState)
+    (copier : Copier layout s node.block node.journal) (law : NodeLaw layout meaning s node) (views : CallsMoveViews W) where
+  abbrev copies : SpreadState
+  copies = node.block.copies
+
+  abbrev copy : OutEnd
+  copy = link_at copies k
+
+  abbrev seen : SourceView Value
+  seen = copy_view k node
+
+  abbrev seen_after : Option NodeCall → SourceView Value
+  seen_after call = copy_view k (node_after layout meaning s call node)
+
+  abbrev told_of : LinkFacts
+  told_of = facts_in layout l
+
+  module _ (there : k < length copies.ends) (rule_is : copy.rule ≡ rule_of layout l) where
+    own : CopyEndLaw copies.element copies.id copies.once copier.pending node.block.stopped (copy_end copies k)
+    own = (copies_lawful layout s node.block node.journal copier).each k there
+
+    most_is : copy.rule.max ≡ told_of.max
+    most_is = ap (λ (rule : LinkRule). rule.max) rule_is
+
+    count_is : is_some copy.rule.max ≡ true → copy.given ≡ crossed seen
+    count_is limited = let told = (copier.each k there).counted limited in omega (arith, told)
+
+    room_there : is_cut copy ≡ false → HasRoom told_of.max (crossed seen)
+    room_there open_link =
+        subst (λ (max : Option ℕ). HasRoom max (crossed seen)) most_is
+        (room_left copy.rule.max copy.given (crossed seen) count_is own.within open_link)
+
+    all_there : is_cut copy ≡ true → told_of.max ≡ Some (crossed seen)
+    all_there cut = sym most_is ∙ all_crossed copy.rule.max copy.given (crossed seen) count_is cut
+
+    module _ (phase new : Phase) (slot : Option Value) (target : TargetView Value)
+        (ok : LinkOk told_of phase slot seen target) where
+      abbrev Goes : Option Value → SourceView Value → Type 0
+      Goes laid after = SourceMoved told_of new laid after target
+
+      gives_copy : (value : Value) (stage : SourceKept) → is_wanted_copy copies.id stage ≡ true
+          → LinkOk told_of phase slot (standing seen.given seen.last stage) target → phase_after phase move.Give ≡ Some new
+          → SourceMoved told_of new (Some value) (giving copies.id value (standing seen.given seen.last stage)) target
+      gives_copy value (source.Accepted i) e ok allowed =
+          gives_on told_of phase new slot target copies.id value (standing seen.given seen.last (source.Accepted i)) ok
+          (inl (ap SourceStage.accepted (eqb-true i copies.id e))) allowed
+      gives_copy value (source.Wished i) e ok allowed =
+          gives_on told_of phase new slot target copies.id value (standing seen.given seen.last (source.Wished i)) ok
+          (inr (inl (ap SourceStage.wished (eqb-true i copies.id e)))) allowed
+      gives_copy value (source.Claimed i) e ok allowed =
+          gives_on told_of phase new slot target copies.id value (standing seen.given seen.last (source.Claimed i)) ok
+          (inr (inr (ap SourceStage.claimed (eqb-true i copies.id e)))) allowed
+      gives_copy value _ e ok allowed = absurd (cc)
+
+      holds_copy : (stage : SourceKept) → is_asked_by stage ≡ true
+          → LinkOk told_of phase slot (standing seen.given seen.last stage) target → phase_after phase move.Hold ≡ Some new
+          → SourceMoved told_of new slot (holding (asked_id stage) (standing seen.given seen.last stage)) target
+      holds_copy (source.AskedBy i) e ok allowed =
+          let view = standing seen.given seen.last (source.AskedBy i) in
+          leads_on told_of phase new slot target move.Hold (Held i) slot (holding i view)
+          (keeps.hold told_of phase slot view target ok i refl) allowed (own_moves.hold i view)
+      holds_copy _ e ok allowed = absurd (cc)
+
+      copy_goes : (next : Move) → MayMoveCopy k node next → phase_after phase next ≡ Some new
+          → Goes (slot_after next copies.element slot) (seen_after (copy_call k next))
+      copy_goes (move.Offer i) may allowed =
+          let open_end = and_parts (is_some copies.element) (is_open copies.id (copy_end copies k)) may.1.stands.1 in
+          let free = and_parts (copy_end copies k).owes (is_free copy.stage)
+          (and_parts ((copy_end copies k).owes && is_free copy.stage) (not (copy.declined == copies.id)) open_end.1).0 in
+          let concerns = or_right (speaks copy.stage) (copy_end copies k).owes free.0 in
+          let known = (views layout meaning s node (NodeCall.copy (CopyCall.offer k)) law may.1).moved in
+          let told = sym (ap (λ (id : ℕ). phase_after phase (move.Offer id)) may.0) ∙ allowed in
+          subst (Goes slot) (sym known)
+          (offers_on told_of phase new slot target copies.id seen ok (is_at_home copy.stage free.1)
+          (OnTrue_at concerns own.fresh)
+          (subst (λ (max : Option ℕ). HasRoom max (crossed seen)) most_is
+          (room_counted copy.rule.max copy.given (crossed seen) count_is (OnTrue_at concerns own.room))) told)
+      copy_goes move.Give may allowed =
+          let known = (views layout meaning s node (NodeCall.copy (CopyCall.give k)) law may).moved in
+          let crossing = gives_copy known.value copy.stage may.stands ok allowed in
+          subst (λ (laid : Option Value). Goes laid (seen_after (Some (NodeCall.copy (CopyCall.give k))))) (sym known.element)
+          (subst (Goes (Some known.value)) (sym known.view) crossing)
+      copy_goes move.Hold may allowed =
+          let known = (views layout meaning s node (NodeCall.copy (CopyCall.hold k)) law may).moved in
+          subst (Goes slot) (sym known) (holds_copy copy.stage may.stands ok allowed)
+      copy_goes move.Withdraw may allowed =
+          let known = (views layout meaning s node (NodeCall.copy (CopyCall.withdraw k)) law may).moved in
+          subst (Goes slot) (sym known)
+          (withdraws_offer told_of phase new slot target seen.given seen.last copy.stage may.stands.0 ok allowed)
+      copy_goes (move.End how) may allowed =
+          let known = (views layout meaning s node (NodeCall.copy (CopyCall.end_link k how)) law may).moved in
+          let passes = sym (ap (λ (rule : LinkRule). rule.passes) rule_is) in
+          let told = ends_as_told told_of (crossed seen) (is_cut copy) copy.rule.passes node.block.stopped how passes all_there
+          room_there may.stands.1 in
+          subst (Goes slot) (sym known)
+          (ends_on told_of phase new slot target how seen ok (is_at_home copy.stage may.stands.0) told allowed)
+      copy_goes _ may allowed = absurd may
+
+-- Either
+
+module _ {W : Type 0} (kept : NodesKept W) (views : CallsMoveViews W) (may : NextMovesMay W)
+    (layout : Layout W) (meaning : ℕ → Value → Result (List Value) ℕ) (runs : IsRun layout) (l s : ℕ)
+    (low : l < length layout.links) (begins : (link_in layout.links l).source ≡ Block s) (node : NodeState)
+    (law : NodeLaw layout meaning s node) (phase new : Phase) (slot : Option Value) (target : TargetView Value) (next : Move)
+    (ok : LinkOk (facts_in layout l) phase slot (source_view (out_place layout s l) node) target)
+    (peek : next_source (out_place layout s l) node ≡ Some next) (allowed : phase_after phase next ≡ Some new) where
+  abbrev at : ℕ
+  at = out_place layout s l
+
+  abbrev there_is : s < length layout.blocks
+  there_is = runs.leads.from_block l s low begins
+
+  -- after the call by which its end moves, as its block goes about it
+  abbrev Goes_by : Bool → Option NodeCall → Option Value → Type 0
+  Goes_by sharing call value =
+      SourceMoved (facts_in layout l) new (slot_after next value slot) (source_view at (node_after layout meaning s call node)) target
+
+  shared_goes : is_one_taker node.block.kind ≡ true → Goes_by true (out_call at next) (head_of node.block.exits)
+  shared_goes shares =
+      let place = exit_there layout meaning s node law l low begins shares in
+      let rule_is = rule_there layout meaning s node law l low begins shares in
+      let own = (may layout meaning s node runs.well_formed there_is law).1 at next place (sym (shared_next at node shares) ∙ peek) in
+      let after = node_after layout meaning s (out_call at next) node in
+      let steps = out_steps layout meaning kept views s node law at next own in
+      subst (λ (view : SourceView Value). SourceMoved (facts_in layout l) new (slot_after next (head_of node.block.exits) slot) view target)
+      (sym (shared_view at after (same_kind layout meaning s node after law steps.law true shares)))
+      (moves layout meaning s l at node law views place rule_is phase new slot target
+      (subst (λ (view : SourceView Value). LinkOk (facts_in layout l) phase slot view target) (shared_view at node shares) ok)
+      next own allowed)
+
+  copied_goes : is_one_taker node.block.kind ≡ false → Goes_by false (copy_call at next) node.block.copies.element
+  copied_goes copying =
+      let place = copy_there layout meaning s node law l low begins copying in
+      let rule_is = copy_rule_there layout meaning s node law l low begins copying in
+      let own = (may layout meaning s node runs.well_formed there_is law).2 at next place (sym (copied_next at node copying) ∙ peek) in
+      let after = node_after layout meaning s (copy_call at next) node in
+      let steps = copy_steps layout meaning kept views s node law at next own in
+      subst (λ (view : SourceView Value). SourceMoved (facts_in layout l) new (slot_after next node.block.copies.element slot) view target)
+      (sym (copied_view at after (same_kind layout meaning s node after law steps.law false copying)))
+      (copy_goes layout meaning s l at node (law.copies.copier copying) law views place rule_is phase new slot target
+      (subst (λ (view : SourceView Value). LinkOk (facts_in layout l) phase slot view target) (copied_view at node copying) ok)
+      next own allowed)
+
+  goes_by : (sharing : Bool) → is_one_taker node.block.kind ≡ sharing
+      → Goes_by sharing (source_call node.block.kind at next) (given_next node)
+  goes_by true shares =
+      subst (λ (so : Bool). Goes_by true (cond so (out_call at next) (copy_call at next))
+      (cond so (head_of node.block.exits) node.block.copies.element)) (sym shares) (shared_goes shares)
+  goes_by false copying =
+      subst (λ (so : Bool). Goes_by false (cond so (out_call at next) (copy_call at next))
+      (cond so (head_of node.block.exits) node.block.copies.element)) (sym copying) (copied_goes copying)
+
+pub blocks_move : {W : Type 0} → NodesKept W → CallsMoveViews W → NextMovesMay W → BlocksMoveWell W
+blocks_move kept views may layout meaning runs l s low begins node law phase new slot target next ok peek allowed =
+    goes_by kept views may layout meaning runs l s low begins node law phase new slot target next ok peek allowed
+    (is_one_taker node.block.kind) refl

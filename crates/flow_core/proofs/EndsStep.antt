@@ -1,22 +1,25 @@
 -- A call of one end of a link keeps the parts of a network in order, and no other end of a link learns anything by it.
-use Rattle.std.proofs.Common.{◌≡◌, ℕ, ◌<◌, List, length, Option, Some, None, Result, refl, ap, sym, ◌∙◌}
+use Rattle.std.proofs.Common.{◌≡◌, ℕ, ◌<◌, Bool, true, false, cond, List, length, Option, Some, None, Result, refl, ap, sym, ◌∙◌, subst}
 use Rattle.flow_value.specs.declared.value.Value.{Value}
+use Rattle.flow_link.specs.declared.phase.Phase.{Phase}
 use Rattle.flow_link.specs.declared.phase.Move.{Move}
 use Rattle.flow_link.specs.declared.phase.Move.TheVariants as move
 use Rattle.flow_link.specs.declared.plan.LinkSource.TheVariants.{Block, Input}
 use Rattle.flow_link.specs.declared.plan.LinkTarget.TheVariants.{Port}
 use Rattle.flow_link.specs.Layout.{Layout}
-use Rattle.flow_link.specs.Plan.{link_in}
+use Rattle.flow_link.specs.Plan.{link_in, is_one_taker}
 use Rattle.flow_link.specs.Views.{SourceView, TargetView}
 use Rattle.flow_block.specs.Input.{InputState, InputCall, input_view}
 use Rattle.flow_block.specs.InputKeeps.{InputLaw, InputsKeep, MayMoveInput}
+use Rattle.flow_block.specs.Copies.{CopyCall, copy_place}
+use Rattle.flow_block.specs.NextCopies.{MayMoveCopy}
 use Rattle.flow_block.specs.NextMoves.{MayMoveIn, MayMoveOut}
-use Rattle.flow_block.specs.Node.{NodeState, NodeCall, in_view, out_view}
+use Rattle.flow_block.specs.Node.{NodeState, NodeCall, in_view, source_view}
 use Rattle.flow_block.specs.NodeKeeps.{NodesKept, MayCall, after_call}
 use Rattle.flow_block.specs.NodeLaw.{NodeLaw}
 use Rattle.flow_block.specs.Planned.{is_out_of, is_into, in_place, out_place}
-use Rattle.flow_block.specs.ViewsMove.{CallsMoveViews, IsAboutIn, IsAboutOut}
-use Rattle.flow_core.specs.Events.{node_after, out_call, in_call, input_call, input_after, with_node, with_input}
+use Rattle.flow_block.specs.ViewsMove.{CallsMoveViews, IsAboutIn, IsAboutOut, IsAboutCopy}
+use Rattle.flow_core.specs.Events.{node_after, out_call, copy_call, source_call, in_call, input_call, input_after, with_node, with_input}
 use Rattle.flow_core.specs.Keeps.{IsRun}
 use Rattle.flow_core.specs.State.{NetState, node_at, input_at}
 use Rattle.flow_core.proofs.PartsChange.{PartsInOrder, NodeSteps, given_at, taken_at, given_as, taken_as}
@@ -36,35 +39,98 @@ module _ {W : Type 0} (layout : Layout W) (meaning : ℕ → Value → Result (L
   module _ (kept : NodesKept W) (views : CallsMoveViews W)
       (b : ℕ) (node : NodeState) (law : NodeLaw layout meaning b node) where
     -- by a call those ends learn something that it is about
-    pub call_steps : (call : NodeCall) → MayCall layout meaning b call node
-        → NodeSteps layout meaning b (λ p k. IsAboutIn p k call) (λ k. IsAboutOut k call) node
-        (after_call layout meaning b call node)
-    call_steps call may =
+    pub call_steps : (In : ℕ → ℕ → Type 0) (Out : ℕ → Type 0) (call : NodeCall) → MayCall layout meaning b call node
+        → ((p k : ℕ) → IsAboutIn p k call → In p k) → ((k : ℕ) → IsAboutOut k call → Out k)
+        → ((k : ℕ) → IsAboutCopy k call → Out k)
+        → NodeSteps layout meaning b In Out node (after_call layout meaning b call node)
+    call_steps In Out call may in_it out_of_it over_it =
         let others = (views layout meaning b node call law may).others in
-        record { law = kept layout meaning b node call law may; ins = others.ins; outs = others.outs }
+        record {
+          law = kept layout meaning b node call law may;
+          ins = λ p k small near apart. others.ins p k small near (λ about. apart (in_it p k about));
+          outs = λ k near apart. others.outs k near (λ about. apart (out_of_it k about));
+          copies = λ k near apart. others.copies k near (λ about. apart (over_it k about));
+        }
+
+    -- a call about an end out of it, about one over which copies go, and about an end into it
+    out_by : (k : ℕ) (call : NodeCall) → MayCall layout meaning b call node → ((q j : ℕ) → IsAboutIn q j call → ⊥)
+        → ((j : ℕ) → IsAboutOut j call → j ≡ k) → ((j : ℕ) → IsAboutCopy j call → j ≡ k)
+        → OutSteps b k node (after_call layout meaning b call node)
+    out_by k call may in_it out_of_it over_it = call_steps (λ q j. ⊥) (λ j. j ≡ k) call may in_it out_of_it over_it
+
+    pub in_by : (p k : ℕ) (call : NodeCall) → MayCall layout meaning b call node
+        → ((q j : ℕ) → IsAboutIn q j call → (q ≡ p) × (j ≡ k)) → ((j : ℕ) → IsAboutOut j call → ⊥)
+        → ((j : ℕ) → IsAboutCopy j call → ⊥) → InSteps b p k node (after_call layout meaning b call node)
+    in_by p k call may in_it out_of_it over_it =
+        call_steps (λ q j. (q ≡ p) × (j ≡ k)) (λ j. ⊥) call may in_it out_of_it over_it
 
     -- the move of an end, by the call that it is
     pub out_steps : (k : ℕ) (next : Move) → MayMoveOut layout meaning b node k next
         → OutSteps b k node (node_after layout meaning b (out_call k next) node)
-    out_steps k (move.Offer id) may = call_steps (NodeCall.offer k) may.1
-    out_steps k move.Give may = call_steps (NodeCall.give k) may
-    out_steps k move.Deny may = call_steps (NodeCall.deny k) may
-    out_steps k move.Withdraw may = call_steps (NodeCall.withdraw k) may
-    out_steps k (move.End how) may = call_steps (NodeCall.end_link k how) may
+    out_steps k (move.Offer id) may = out_by k (NodeCall.offer k) may.1 (λ q j about. about) (λ j about. about) (λ j about. absurd about)
+    out_steps k move.Give may = out_by k (NodeCall.give k) may (λ q j about. about) (λ j about. about) (λ j about. absurd about)
+    out_steps k move.Deny may = out_by k (NodeCall.deny k) may (λ q j about. about) (λ j about. about) (λ j about. absurd about)
+    out_steps k move.Withdraw may = out_by k (NodeCall.withdraw k) may (λ q j about. about) (λ j about. about) (λ j about. absurd about)
+    out_steps k (move.End how) may =
+        out_by k (NodeCall.end_link k how) may (λ q j about. about) (λ j about. about) (λ j about. absurd about)
     out_steps k _ may = absurd may
+
+    pub look_steps : (k : ℕ) (phase : Phase) → MayCall layout meaning b (NodeCall.look_out k phase) node
+        → OutSteps b k node (after_call layout meaning b (NodeCall.look_out k phase) node)
+    look_steps k phase may =
+        out_by k (NodeCall.look_out k phase) may (λ q j about. about) (λ j about. about) (λ j about. absurd about)
+
+    -- the same over a link over which copies go
+    pub copied_by : (call : CopyCall) → MayCall layout meaning b (NodeCall.copy call) node
+        → OutSteps b (copy_place call) node (after_call layout meaning b (NodeCall.copy call) node)
+    copied_by call may =
+        out_by (copy_place call) (NodeCall.copy call) may (λ q j about. about) (λ j about. absurd about) (λ j about. about)
+
+    pub copy_steps : (k : ℕ) (next : Move) → MayMoveCopy k node next
+        → OutSteps b k node (node_after layout meaning b (copy_call k next) node)
+    copy_steps k (move.Offer id) may = copied_by (CopyCall.offer k) may.1
+    copy_steps k move.Give may = copied_by (CopyCall.give k) may
+    copy_steps k move.Hold may = copied_by (CopyCall.hold k) may
+    copy_steps k move.Withdraw may = copied_by (CopyCall.withdraw k) may
+    copy_steps k (move.End how) may = copied_by (CopyCall.end_link k how) may
+    copy_steps k _ may = absurd may
+
+    -- and over either, by the kind of the block
+    pub source_steps : (k : ℕ) (next : Move) → (sharing : Bool) → is_one_taker node.block.kind ≡ sharing
+        → (sharing ≡ true → MayMoveOut layout meaning b node k next)
+        → (sharing ≡ false → MayMoveCopy k node next)
+        → OutSteps b k node (node_after layout meaning b (source_call node.block.kind k next) node)
+    source_steps k next true shares out copy =
+        subst (λ (so : Bool). OutSteps b k node (node_after layout meaning b (cond so (out_call k next) (copy_call k next)) node))
+        (sym shares) (out_steps k next (out refl))
+    source_steps k next false copying out copy =
+        subst (λ (so : Bool). OutSteps b k node (node_after layout meaning b (cond so (out_call k next) (copy_call k next)) node))
+        (sym copying) (copy_steps k next (copy refl))
 
     -- where nothing lies in the slot, nothing is opened
     pub in_steps : (p k : ℕ) (slot : Option Value) (next : Move) → MayMoveIn layout meaning b node p k next
         → InSteps b p k node (node_after layout meaning b (in_call p k slot next) node)
-    in_steps p k slot move.Want may = call_steps (NodeCall.want p k) may
-    in_steps p k slot move.TurnDown may = call_steps (NodeCall.turn_down p k) may
-    in_steps p k slot move.Postpone may = call_steps (NodeCall.postpone p k) may
-    in_steps p k slot move.Refuse may = call_steps (NodeCall.refuse p k) may
-    in_steps p k slot move.Consume may = call_steps (NodeCall.consume p k) may
-    in_steps p k (Some value) move.Open may = call_steps (NodeCall.open_with p k value) (may value)
+    in_steps p k slot move.Want may =
+        in_by p k (NodeCall.want p k) may (λ q j about. about) (λ j about. about) (λ j about. about)
+    in_steps p k slot move.TurnDown may =
+        in_by p k (NodeCall.turn_down p k) may (λ q j about. about) (λ j about. about) (λ j about. about)
+    in_steps p k slot move.Postpone may =
+        in_by p k (NodeCall.postpone p k) may (λ q j about. about) (λ j about. about) (λ j about. about)
+    in_steps p k slot move.Refuse may =
+        in_by p k (NodeCall.refuse p k) may (λ q j about. about) (λ j about. about) (λ j about. about)
+    in_steps p k slot move.Consume may =
+        in_by p k (NodeCall.consume p k) may (λ q j about. about) (λ j about. about) (λ j about. about)
+    in_steps p k (Some value) move.Open may =
+        in_by p k (NodeCall.open_with p k value) (may value) (λ q j about. about) (λ j about. about) (λ j about. about)
     in_steps p k None move.Open may =
-        record { law = law; ins = λ q j port place apart. refl; outs = λ j place apart. refl }
-    in_steps p k slot move.Close may = call_steps (NodeCall.close p k) may
+        record {
+          law = law;
+          ins = λ q j port place apart. refl;
+          outs = λ j place apart. refl;
+          copies = λ j place apart. refl;
+        }
+    in_steps p k slot move.Close may =
+        in_by p k (NodeCall.close p k) may (λ q j about. about) (λ j about. about) (λ j about. about)
     in_steps p k slot _ may = absurd may
 
 -- the move of an input keeps it in order
@@ -95,7 +161,7 @@ module _ {W : Type 0} (layout : Layout W) (meaning : ℕ → Value → Result (L
       (net : NetState) (parts : PartsInOrder layout meaning net) where
     pub block_gives : (s : ℕ) (change : NodeState → NodeState) → (link_in layout.links l).source ≡ Block s
         → OutSteps layout meaning s (out_place layout s l) (node_at net s) (change (node_at net s))
-        → SourceSteps net (with_node s change net) (out_view (out_place layout s l) (change (node_at net s)))
+        → SourceSteps net (with_node s change net) (source_view (out_place layout s l) (change (node_at net s)))
     block_gives s change from steps =
         let low = run.leads.from_block l s there from in
         let Out : ℕ → Type 0 = λ j. j ≡ out_place layout s l in
@@ -104,7 +170,7 @@ module _ {W : Type 0} (layout : Layout W) (meaning : ℕ → Value → Result (L
         record {
           parts = node_changes layout meaning run net parts s low (λ q j. ⊥) Out change steps;
           lines = refl;
-          given = given_as layout (with_node s change net) l (Block s) from ∙ ap (out_view (out_place layout s l)) is;
+          given = given_as layout (with_node s change net) l (Block s) from ∙ ap (source_view (out_place layout s l)) is;
           others = λ k small apart.
               given_stays layout meaning run net parts s low (λ q j. ⊥) Out change steps k small
               (λ leads same. apart (places_differ (is_out_of layout s) k l (begins_here layout s k leads) mine same));

@@ -1,7 +1,7 @@
 -- Each event that may happen keeps a network in order.
-use Rattle.std.proofs.Common.{◌≡◌, ℕ, ◌<◌, Bool, true, false, not, List, length, set, Option, Some, None, is_some, is_none}
+use Rattle.std.proofs.Common.{◌≡◌, ℕ, ◌+◌, ◌^◌, ◌<◌, leb, cond, Bool, true, false, not, List, [], ◌∷◌, length, set, Option, Some, None, is_some, is_none}
 use Rattle.std.proofs.Common.{option_map, Result, refl, ap, sym, ◌∙◌, subst}
-use Rattle.std.proofs.lemmas.Bool.{and_parts, not-true}
+use Rattle.std.proofs.lemmas.Bool.{and_parts, not-true, leb-false}
 use Rattle.flow_value.specs.declared.value.Value.{Value}
 use Rattle.flow_link.specs.declared.phase.Move.{Move}
 use Rattle.flow_link.specs.declared.phase.Phase.{Phase}
@@ -15,22 +15,29 @@ use Rattle.flow_link.specs.LinkOk.{LinkOk}
 use Rattle.flow_link.specs.Lists.{every}
 use Rattle.flow_link.specs.Looks.{looking_in, looking_out}
 use Rattle.flow_link.specs.Phase.{phase_after}
-use Rattle.flow_link.specs.Plan.{link_in, has_work, is_broadcast}
+use Rattle.flow_link.specs.Plan.{link_in, has_work, is_broadcast, is_one_taker}
 use Rattle.flow_link.specs.Views.{SourceView, TargetView}
 use Rattle.flow_link.proofs.LooksKeepOrder.{looks_keep}
+use Rattle.flow_intake.specs.Calls.{first_of}
+use Rattle.flow_outlet.specs.Outlet.{lacks_ids}
+use Rattle.flow_group.specs.Tuple.{tuple_of}
+use Rattle.flow_block.specs.Block.{held_by, is_batch, is_join, row_of, next_group, put_of, is_batched_join}
 use Rattle.flow_block.specs.Input.{input_view}
 use Rattle.flow_block.specs.InputKeeps.{InputsKeep}
 use Rattle.flow_block.specs.Jobs.{Slot}
 use Rattle.flow_block.specs.JobsEnd.{JobsEndWell, after_job}
 use Rattle.flow_block.specs.NextMoves.{NextMovesMay}
-use Rattle.flow_block.specs.Node.{NodeState, NodeCall, in_view, out_view}
+use Rattle.flow_block.specs.Node.{NodeState, NodeCall, in_view, source_view, puts_next, next_group_in}
 use Rattle.flow_block.specs.NodeKeeps.{NodesKept, MayCall}
-use Rattle.flow_block.specs.Peeks.{may_work, may_make, may_end, next_fault}
+use Rattle.flow_block.specs.NodeLaw.{NodeLaw}
+use Rattle.flow_block.specs.Peeks.{lacks_next, may_work, may_make, may_end, next_fault}
 use Rattle.flow_block.specs.Planned.{in_place, out_place, block_makes}
-use Rattle.flow_block.specs.ViewsMove.{CallsMoveViews, IsAboutIn, IsAboutOut}
+use Rattle.flow_block.specs.ViewsMove.{CallsMoveViews, IsAboutIn, IsAboutOut, IsAboutCopy}
 use Rattle.flow_link.proofs.ListTests.{never_both}
-use Rattle.flow_block.proofs.CopiesIdle.{none_broadcast}
-use Rattle.flow_core.specs.Events.{NetEvent, MayHappen, HasIds, LinkMay, is_of_source, node_after, out_call, in_call}
+use Rattle.flow_block.proofs.CopiesIdle.{broadcast_copies}
+use Rattle.flow_block.proofs.Joins.{broadcast_unjoined, broadcast_unbatched}
+use Rattle.flow_block.proofs.KindsBuilt.{broadcast_single}
+use Rattle.flow_core.specs.Events.{NetEvent, MayHappen, HasIds, LinkMay, is_of_source, node_after, source_call, in_call}
 use Rattle.flow_core.specs.Events.{input_call, input_after, with_node, with_line, source_peek, target_peek, peek_by}
 use Rattle.flow_core.specs.Events.{value_from, slot_after, source_moves, target_moves, source_sees, target_sees}
 use Rattle.flow_core.specs.Events.{line_after, moved_by, after_move, after}
@@ -40,11 +47,44 @@ use Rattle.flow_core.specs.State.{NetState, LineState, node_at, line_at, input_a
 use Rattle.flow_core.specs.Statements.{EventsKeep}
 use Rattle.flow_core.proofs.PartsChange.{PartsInOrder, NodeSteps, given_at, taken_at, given_as, taken_as, parts_in_order}
 use Rattle.flow_core.proofs.PartsChange.{node_changes, given_stays, taken_stays, line_changes}
-use Rattle.flow_core.proofs.EndsStep.{SourceSteps, TargetSteps, out_steps, in_steps, call_steps, input_steps}
+use Rattle.flow_core.proofs.EndsStep.{SourceSteps, TargetSteps, source_steps, in_steps, call_steps, input_steps}
 use Rattle.flow_core.proofs.EndsStep.{block_gives, block_takes, input_gives}
 use Rattle.flow_core.proofs.LinesKeep.{net_keeps, keeps_with, line_stays}
 use Rattle.flow_core.proofs.EndsLook.{target_looks, source_looks_out}
-use Rattle.flow_core.proofs.PlacesOfLinks.{entry_there, exit_there, port_there}
+use Rattle.flow_core.proofs.PlacesOfLinks.{entry_there, exit_there, copy_there, port_there}
+use Rattle.flow_core.proofs.SourcesByKind.{shared_next, copied_next}
+
+-- there is an id left for what a block makes, over its exits or for its element
+record IdsLeft (result : Value → Result (List Value) ℕ) (node : NodeState) : Type 0 where
+  ids : lacks_ids (puts_next result node) node.block.exits ≡ false
+  copy_id : is_broadcast node.block.kind ≡ true → node.block.copies.id + 1 < 2 ^ 59
+
+none_put : (batched batch join broadcast : Bool) (group row tuple other : List Value) → batched ≡ false → batch ≡ false
+    → join ≡ false → broadcast ≡ true → cond batched group (cond batch row (cond join tuple (cond broadcast [] other))) ≡ []
+none_put batched batch join broadcast group row tuple other plain single alone copies = rw (plain, single, alone, copies) refl
+
+ids_left : {W : Type 0} (layout : Layout W) (meaning : ℕ → Value → Result (List Value) ℕ) (b : ℕ) (node : NodeState)
+    → NodeLaw layout meaning b node → (broadcast : Bool) → is_broadcast node.block.kind ≡ broadcast
+    → lacks_next (block_makes layout meaning b) node ≡ false → IdsLeft (block_makes layout meaning b) node
+ids_left layout meaning b node law true copies ids =
+    let block = node.block in
+    let copier = law.copies.copier (broadcast_copies block.kind copies) in
+    let nothing = none_put (is_batched_join block.kind) (is_batch block.kind) (is_join block.kind) (is_broadcast block.kind)
+    (next_group_in node ∷ []) (row_of (next_group block) ∷ []) (tuple_of block.ports ∷ [])
+    (put_of block.kind (block_makes layout meaning b) (first_of (held_by block)))
+    (broadcast_unbatched block.kind copies) (broadcast_single block.kind copies) (broadcast_unjoined block.kind copies) copies in
+    let left : leb (2 ^ 59) (block.copies.id + 1) ≡ false = rw copies at ids in
+    record {
+      ids = ap (λ (values : List Value). lacks_ids values block.exits) nothing ∙ ap (lacks_ids []) copier.idle_exits;
+      copy_id = λ broadcast. leb-false (2 ^ 59) (block.copies.id + 1) left;
+    }
+ids_left layout meaning b node law false shares ids =
+    let block = node.block in
+    let lacks : Bool = lacks_ids (puts_next (block_makes layout meaning b) node) block.exits in
+    record {
+      ids = sym (ap (λ (copies : Bool). cond copies (leb (2 ^ 59) (block.copies.id + 1)) lacks) shares) ∙ ids;
+      copy_id = λ broadcast. absurd (never_both (is_broadcast block.kind) broadcast shares);
+    }
 
 module _ {W : Type 0} (kept : NodesKept W) (jobs : JobsEndWell W) (views : CallsMoveViews W) (next_may : NextMovesMay W) (inputs : InputsKeep)
     (blocks_move : BlocksMoveWell W) (inputs_move : InputsMoveWell W) (targets_move : TargetsMoveWell W)
@@ -84,15 +124,17 @@ module _ {W : Type 0} (kept : NodesKept W) (jobs : JobsEndWell W) (views : Calls
         let node = node_at net s in
         let low = run.leads.from_block l s there from in
         let law = parts.nodes s low in
-        let place = exit_there layout meaning s node law l there from in
-        let may = (next_may layout meaning s node run.well_formed low law).1 k next place peek in
-        let change = node_after layout meaning s (out_call k next) in
+        let may = next_may layout meaning s node run.well_formed low law in
+        let change = node_after layout meaning s (source_call node.block.kind k next) in
         let known = given_as layout net l (Block s) from in
         let stands = subst (λ (view : SourceView Value). Stands view (taken_at layout net l)) known in_order in
         record {
-          view = out_view k (change node);
+          view = source_view k (change node);
           steps = block_gives layout meaning l run there net parts s change from
-              (out_steps layout meaning kept views s node law k next may);
+              (source_steps layout meaning kept views s node law k next (is_one_taker node.block.kind) refl
+              (λ shares. may.1 k next (exit_there layout meaning s node law l there from shares) (sym (shared_next k node shares) ∙ peek))
+              (λ copying. may.2 k next (copy_there layout meaning s node law l there from copying)
+              (sym (copied_next k node copying) ∙ peek)));
           well = blocks_move layout meaning run l s there from node law (line_at net l).phase phase (line_at net l).slot
               (taken_at layout net l) next stands peek allowed;
         }
@@ -216,11 +258,12 @@ module _ {W : Type 0} (kept : NodesKept W) (jobs : JobsEndWell W) (views : Calls
         (taken_stays layout meaning run net parts b low In Out change steps k there (λ p leads. about_in p _)))
 
     call_keeps : (call : NodeCall) → MayCall layout meaning b call (node_at net b)
-        → ((q j : ℕ) → IsAboutIn q j call → ⊥) → ((j : ℕ) → IsAboutOut j call → ⊥)
+        → ((q j : ℕ) → IsAboutIn q j call → ⊥) → ((j : ℕ) → IsAboutOut j call → ⊥) → ((j : ℕ) → IsAboutCopy j call → ⊥)
         → NetKeeps layout meaning (with_node b (node_after layout meaning b (Some call)) net)
-    call_keeps call may about_in about_out =
-        change_keeps (λ p j. IsAboutIn p j call) (λ j. IsAboutOut j call) (node_after layout meaning b (Some call))
-        (call_steps layout meaning kept views b (node_at net b) (keeps.nodes b low) call may) about_in about_out
+    call_keeps call may about_in about_out about_copy =
+        change_keeps (λ p j. ⊥) (λ j. ⊥) (node_after layout meaning b (Some call))
+        (call_steps layout meaning kept views b (node_at net b) (keeps.nodes b low) (λ p j. ⊥) (λ j. ⊥) call may
+        about_in about_out about_copy) (λ q j about. about) (λ j about. about)
 
     -- a message is handed on
     make_keeps : may_make (node_at net b).block ≡ true
@@ -228,17 +271,18 @@ module _ {W : Type 0} (kept : NodesKept W) (jobs : JobsEndWell W) (views : Calls
         → NetKeeps layout meaning (with_node b (node_after layout meaning b (Some NodeCall.make)) net)
     make_keeps would ids =
         let block = (node_at net b).block in
+        let law = keeps.nodes b low in
         let both = and_parts (may_work block) (not (has_work block.kind)) would in
-        let none = (keeps.nodes b low).jobs.only_works (not-true (has_work block.kind) both.1) in
+        let none = law.jobs.only_works (not-true (has_work block.kind) both.1) in
+        let left = ids_left layout meaning b (node_at net b) law (is_broadcast block.kind) refl ids in
         call_keeps NodeCall.make
         (record {
           waits = both.0;
           all_out = ap (λ (slots : List Slot). every is_none slots) none;
-          ids = ids;
-          copy_id = λ broadcast.
-              absurd (never_both (is_broadcast block.kind) broadcast (none_broadcast block.kind (keeps.nodes b low).shape.built));
+          ids = left.ids;
+          copy_id = left.copy_id;
         })
-        (λ q j about. about) (λ j about. about)
+        (λ q j about. about) (λ j about. about) (λ j about. about)
 
     -- a job ends
     job_keeps : (ticket : ℕ) → may_end ticket (node_at net b).block ≡ true
@@ -252,13 +296,15 @@ module _ {W : Type 0} (kept : NodesKept W) (jobs : JobsEndWell W) (views : Calls
           law = well.law;
           ins = λ p k small near apart. well.views.ins p k small near;
           outs = λ k near apart. well.views.outs k near;
+          copies = λ k near apart. well.views.copies k near;
         })
         (λ q j about. about) (λ j about. about)
 
     fault_keeps : (found : Option ℕ) → next_fault (node_at net b).block ≡ found → is_some found ≡ true
         → NetKeeps layout meaning (with_node b (node_after layout meaning b (option_map NodeCall.fault found)) net)
     fault_keeps None is would = absurd (cc)
-    fault_keeps (Some number) is would = call_keeps (NodeCall.fault number) is (λ q j about. about) (λ j about. about)
+    fault_keeps (Some number) is would =
+        call_keeps (NodeCall.fault number) is (λ q j about. about) (λ j about. about) (λ j about. about)
 
   event_keeps : (event : NetEvent) → MayHappen layout meaning event net
       → NetKeeps layout meaning (after layout meaning event net)
@@ -267,16 +313,16 @@ module _ {W : Type 0} (kept : NodesKept W) (jobs : JobsEndWell W) (views : Calls
   event_keeps (NetEvent.make b) may =
       make_keeps b may.enabled.there may.enabled.would may.ids
   event_keeps (NetEvent.begin b) may =
-      call_keeps b may.enabled.there NodeCall.begin may.enabled.would (λ q j about. about) (λ j about. about)
+      call_keeps b may.enabled.there NodeCall.begin may.enabled.would (λ q j about. about) (λ j about. about) (λ j about. about)
   event_keeps (NetEvent.end_job b ticket) may = job_keeps b may.enabled.there ticket may.enabled.would may.ids
   event_keeps (NetEvent.complete b p) may =
       call_keeps b may.enabled.there (NodeCall.complete p)
       (record { port = may.enabled.port; completes = may.enabled.would })
-      (λ q j about. about) (λ j about. about)
+      (λ q j about. about) (λ j about. about) (λ j about. about)
   event_keeps (NetEvent.fault b) may =
       fault_keeps b may.enabled.there (next_fault (node_at net b).block) refl may.enabled.would
   event_keeps (NetEvent.finish b) may =
-      call_keeps b may.enabled.there NodeCall.finish may.enabled.would (λ q j about. about) (λ j about. about)
+      call_keeps b may.enabled.there NodeCall.finish may.enabled.would (λ q j about. about) (λ j about. about) (λ j about. about)
 
 pub events_keep : {W : Type 0} → NodesKept W → JobsEndWell W → CallsMoveViews W → NextMovesMay W → InputsKeep
     → BlocksMoveWell W → InputsMoveWell W → TargetsMoveWell W → EventsKeep W

@@ -1,5 +1,5 @@
 -- The run of a network in order is lawful: each of its parts keeps its own laws.
-use Rattle.std.proofs.Common.{◌≡◌, ℕ, ◌<◌, List, length, refl, ap, ◌∙◌, eq-eqb}
+use Rattle.std.proofs.Common.{◌≡◌, ℕ, zero, suc, ◌<◌, true, false, List, [], length, Option, Some, None, refl, ap, ◌∙◌, arith, eq-eqb}
 use Rattle.std.proofs.lemmas.List.{length-map}
 use Rattle.std.proofs.Math.ListN.{get_or-map}
 use Rattle.flow_link.specs.declared.plan.LinkSource.TheVariants.{Input}
@@ -8,10 +8,12 @@ use Rattle.flow_link.specs.Composes.{PartsKeep}
 use Rattle.flow_link.specs.Layout.{Layout}
 use Rattle.flow_link.specs.Plan.{link_in}
 use Rattle.flow_link.specs.Shape.{Shape}
-use Rattle.flow_link.specs.Trace.{BlockTrace}
+use Rattle.flow_link.specs.Trace.{BlockTrace, is_used_up}
 use Rattle.flow_link.proofs.LawfulByParts.{composes}
 use Rattle.flow_link.proofs.ListTests.{every_below}
 use Rattle.flow_intake.specs.Port.{PortState}
+use Rattle.flow_link.specs.PlanFaults.{is_in}
+use Rattle.std.proofs.lemmas.Bool.{ne_eqb}
 use Rattle.flow_block.specs.Input.{no_input, input_trace}
 use Rattle.flow_block.specs.InputKeeps.{InputLaw, InputsAreParts, IsInputOf}
 use Rattle.flow_block.specs.Node.{node_trace}
@@ -23,6 +25,12 @@ use Rattle.flow_core.specs.Statements.{KeptIsLawful}
 use Rattle.flow_core.proofs.PlacesOfLinks.{port_there}
 use Rattle.std.specs.Prelude.{Result}
 use Rattle.flow_value.specs.declared.value.Value.{Value}
+
+-- a link whose number of messages is in its range may carry one
+pub may_carry : (max : Option ℕ) → is_in 1 2147483647 max ≡ true → is_used_up max [] ≡ false
+may_carry None e = refl
+may_carry (Some zero) e = absurd (cc)
+may_carry (Some (suc n)) e = ne_eqb 0 (suc n) (λ same. absurd (omega (arith, same)))
 
 module _ {W : Type 0} (layout : Layout W) (meaning : ℕ → Value → Result (List Value) ℕ) (runs : IsRun layout)
     (net : NetState) (keeps : NetKeeps layout meaning net) where
@@ -70,7 +78,8 @@ module _ {W : Type 0} (layout : Layout W) (meaning : ℕ → Value → Result (L
     shape = shape_is;
     nodes = λ b low.
         nodes (run_of_net layout meaning net) (ends_of layout net) b (node_at net b) low (keeps.nodes b low) (is_node b)
-        (λ l p there to. port_of_link b l p low there to);
+        (λ l p there to. port_of_link b l p low there to)
+        (λ once l there from. may_carry (link_in layout.links l).max (runs.well_formed.max l there));
     inputs = λ l b there from.
         inputs.keeps (run_of_net layout meaning net) (ends_of layout net) l b (input_at layout net b)
         (input_law l b there from) (is_input l b from);

@@ -15,6 +15,7 @@ pub mod PlacesOfLinks
 pub mod PlacesTell
 pub mod SchedulesGoWell
 pub mod SoleLinks
+pub mod SourcesByKind
 pub mod StagesShow
 pub mod StillIsQuiet
 pub mod StillRests

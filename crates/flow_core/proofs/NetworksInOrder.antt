@@ -27,7 +27,7 @@ fresh_nets_keep W = fresh_keeps (fresh_in_order W) inputs_keep
 pub all_events_keep : (W : Type 0) → EventsKeep W
 all_events_keep W =
     events_keep (nodes_kept W) (jobs_end_well W) (calls_move_views W) next_moves_may inputs_keep
-    (blocks_move (calls_move_views W) next_moves_may) (inputs_move inputs_keep)
+    (blocks_move (nodes_kept W) (calls_move_views W) next_moves_may) (inputs_move inputs_keep)
     (targets_move (calls_move_views W) next_moves_may)
 
 pub kept_nets_are_lawful : (W : Type 0) → KeptIsLawful W

@@ -23,16 +23,20 @@ use Rattle.flow_link.specs.declared.trace.Outcome.{Outcome}
 use Rattle.flow_link.specs.Lists.{is_empty}
 use Rattle.flow_link.specs.LooksKeep.{SeenAt}
 use Rattle.flow_link.specs.Phase.{phase_after}
-use Rattle.flow_link.specs.Plan.{link_in}
+use Rattle.flow_link.specs.Plan.{link_in, is_one_taker}
 use Rattle.flow_link.specs.Stage.{source_stage_of, target_stage_of}
-use Rattle.flow_link.specs.Views.{SourceStage, TargetStage}
+use Rattle.flow_link.specs.Views.{SourceStage, SourceView, TargetStage}
 use Rattle.flow_link.proofs.LooksKeepOrder.{looks_keep}
 use Rattle.flow_intake.specs.Port.{PortState, stage_at as port_stage, hand_in, has_room}
 use Rattle.flow_intake.specs.Calls.{move_of, move_at as in_move_at, is_at as is_queued_at, next_place, answer_where}
 use Rattle.flow_outlet.specs.Outlet.{OutletState, stage_at, end_at, end_of, free_move, is_at, may_offer, move_at as out_move_at}
 use Rattle.flow_block.specs.Block.{port_at}
 use Rattle.flow_block.specs.Input.{InputState, move_from, end_move, end_by, has_next, next_id}
-use Rattle.flow_block.specs.Peeks.{is_held_up}
+use Rattle.flow_spread.specs.Spread.{SpreadState, link_at, stage_at as copy_stage, may_offer as may_offer_copy, free_move as free_copy_move, move_at as copy_move_at}
+use Rattle.flow_block.specs.NextCopies.{next_copy}
+use Rattle.flow_block.specs.NextMoves.{next_out}
+use Rattle.flow_block.specs.Node.{out_view, copy_view}
+use Rattle.flow_block.specs.Peeks.{is_held_up, is_copy_held_up}
 use Rattle.flow_block.specs.Planned.{in_place, out_place}
 use Rattle.flow_core.specs.Events.{is_of_source, peek_by, source_peek, target_peek}
 use Rattle.flow_core.specs.State.{NetState, node_at, line_at, input_at, ends_of, source_from, target_from}
@@ -80,6 +84,28 @@ out_fits o k stopped up (source.AskedBy i) =
 out_fits o k stopped up (source.Waiting i) =
     either (source_fits (SourceStage.waiting i)) (up || not (i == o.next)) (Some move.Withdraw) None refl refl
 out_fits o k stopped up _ = refl
+
+-- so does an end over which copies go
+copy_free_fits : (s : SpreadState) (k : ℕ) (how : Option LinkEnd) → source_fits SourceStage.free (free_copy_move s k how) ≡ true
+copy_free_fits s k (Some how) = refl
+copy_free_fits s k None =
+    either (source_fits SourceStage.free) (may_offer_copy k s) (Some (move.Offer s.id)) None refl refl
+
+copy_fits : (s : SpreadState) (k : ℕ) (stopped : Option Outcome) (up : Bool) (stage : SourceKept)
+    → source_fits (source_stage_of stage) (copy_move_at s k stopped up stage) ≡ true
+copy_fits s k stopped up source.Free = copy_free_fits s k (end_of (link_at s k) stopped)
+copy_fits s k stopped up (source.Accepted i) = refl
+copy_fits s k stopped up (source.Wished i) = refl
+copy_fits s k stopped up (source.Claimed i) = refl
+copy_fits s k stopped up (source.AskedBy i) = refl
+copy_fits s k stopped up (source.Waiting i) =
+    either (source_fits (SourceStage.waiting i)) up (Some move.Withdraw) None refl refl
+copy_fits s k stopped up _ = refl
+
+fits_by : (sharing : Bool) (one other : SourceView Value) (first second : Option Move) → source_fits one.stage first ≡ true
+    → source_fits other.stage second ≡ true → source_fits (cond sharing one other).stage (cond sharing first second) ≡ true
+fits_by true one other first second fits also = fits
+fits_by false one other first second fits also = also
 
 end_fits : (how : Option LinkEnd) → source_fits SourceStage.free (end_move how) ≡ true
 end_fits None = refl
@@ -151,8 +177,10 @@ module _ {W : Type 0} (layout : Layout W) (net : NetState) (l : ℕ) where
       → source_fits (source_from layout net l from).stage (source_peek layout net l from) ≡ true
   source_peek_fits (Block s) =
       let node = node_at net s in
-      out_fits node.block.exits (out_place layout s l) node.block.stopped (is_held_up node.block)
-      (stage_at node.block.exits (out_place layout s l))
+      let k = out_place layout s l in
+      fits_by (is_one_taker node.block.kind) (out_view k node) (copy_view k node) (next_out k node) (next_copy k node)
+      (out_fits node.block.exits k node.block.stopped (is_held_up node.block) (stage_at node.block.exits k))
+      (copy_fits node.block.copies k node.block.stopped (is_copy_held_up node.block) (copy_stage node.block.copies k))
   source_peek_fits (Input b) = input_fits (input_at layout net b) (input_at layout net b).stage
 
   target_peek_fits : (into : LinkTarget)

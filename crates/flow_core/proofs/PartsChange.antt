@@ -1,5 +1,5 @@
 -- One part of a network changes: the other parts stay in order, and no other end of a link learns anything by that.
-use Rattle.std.proofs.Common.{◌≡◌, ℕ, ◌<◌, true, List, length, Result, refl, ap, sym, ◌∙◌, subst, arith}
+use Rattle.std.proofs.Common.{◌≡◌, ℕ, ◌<◌, Bool, true, false, List, length, Result, refl, ap, sym, ◌∙◌, subst, arith}
 use Rattle.std.specs.List.{count_by}
 use Rattle.std.proofs.lemmas.List.{length-set, get_or-set_same}
 use Rattle.flow_value.specs.declared.value.Value.{Value}
@@ -8,19 +8,20 @@ use Rattle.flow_link.specs.declared.plan.LinkSource.TheVariants.{Block, Input}
 use Rattle.flow_link.specs.declared.plan.LinkTarget.{LinkTarget}
 use Rattle.flow_link.specs.declared.plan.LinkTarget.TheVariants.{Port, Exit}
 use Rattle.flow_link.specs.Layout.{Layout}
-use Rattle.flow_link.specs.Plan.{block_in, link_in, no_block}
+use Rattle.flow_link.specs.Plan.{block_in, link_in, no_block, is_one_taker}
 use Rattle.flow_link.specs.Views.{SourceView, TargetView}
 use Rattle.flow_block.specs.Block.{port_at}
 use Rattle.flow_block.specs.Input.{InputState, input_view, no_input}
 use Rattle.flow_block.specs.InputKeeps.{InputLaw}
-use Rattle.flow_block.specs.Node.{NodeState, in_view, out_view}
+use Rattle.flow_block.specs.Node.{NodeState, in_view, out_view, copy_view, source_view}
 use Rattle.flow_block.specs.NodeLaw.{NodeLaw}
 use Rattle.flow_block.specs.Planned.{in_place, out_place, input_place}
 use Rattle.flow_core.specs.Events.{with_node, with_input, with_line}
 use Rattle.flow_core.specs.Keeps.{IsRun, NetKeeps}
 use Rattle.flow_core.specs.State.{NetState, LineState, node_at, no_node, input_at, source_from}
 use Rattle.flow_core.specs.State.{target_from}
-use Rattle.flow_core.proofs.PlacesOfLinks.{exit_there, port_there, entry_there}
+use Rattle.flow_core.proofs.PlacesOfLinks.{exit_there, copy_there, port_there, entry_there}
+use Rattle.flow_core.proofs.SourcesByKind.{shared_view, copied_view, same_kind}
 use Rattle.flow_core.proofs.PlacesTell.{count_within, counts_differ, element_set}
 
 module _ {W : Type 0} (layout : Layout W) where
@@ -65,6 +66,23 @@ module _ {W : Type 0} (layout : Layout W) where
       pub ins : (p k : ℕ) → p < length node.block.ports → k < length (port_at p node.block).ends → ¬ AboutIn p k
           → in_view p k new ≡ in_view p k node
       pub outs : (k : ℕ) → k < length node.block.exits.ends → ¬ AboutOut k → out_view k new ≡ out_view k node
+      pub copies : (k : ℕ) → k < length node.block.copies.ends → ¬ AboutOut k → copy_view k new ≡ copy_view k node
+
+    -- of a link out of it, whether it shares its messages out or copies them
+    view_by : (b : ℕ) (AboutIn : ℕ → ℕ → Type 0) (AboutOut : ℕ → Type 0) (node new : NodeState) → NodeLaw layout meaning b node
+        → NodeSteps b AboutIn AboutOut node new → (l : ℕ) → l < length layout.links → (link_in layout.links l).source ≡ Block b
+        → ¬ AboutOut (out_place layout b l) → (sharing : Bool) → is_one_taker node.block.kind ≡ sharing
+        → source_view (out_place layout b l) new ≡ source_view (out_place layout b l) node
+    view_by b AboutIn AboutOut node new law steps l low from apart true shares =
+        let k = out_place layout b l in
+        shared_view k new (same_kind layout meaning b node new law steps.law true shares)
+        ∙ steps.outs k (exit_there layout meaning b node law l low from shares) apart
+        ∙ sym (shared_view k node shares)
+    view_by b AboutIn AboutOut node new law steps l low from apart false copying =
+        let k = out_place layout b l in
+        copied_view k new (same_kind layout meaning b node new law steps.law false copying)
+        ∙ steps.copies k (copy_there layout meaning b node law l low from copying) apart
+        ∙ sym (copied_view k node copying)
 
     -- A node changes
     module _ (run : IsRun layout) (net : NetState) (parts : PartsInOrder net) (b : ℕ) (there : b < length layout.blocks)
@@ -84,7 +102,7 @@ module _ {W : Type 0} (layout : Layout W) where
 
       -- what the ends know of which nothing was said
       abbrev GivesAlike : ℕ → ℕ → NodeState → Type 0
-      GivesAlike k i node = out_view (out_place layout i k) node ≡ out_view (out_place layout i k) (node_at net i)
+      GivesAlike k i node = source_view (out_place layout i k) node ≡ source_view (out_place layout i k) (node_at net i)
 
       abbrev TakesAlike : ℕ → ℕ → ℕ → NodeState → Type 0
       TakesAlike p k i node = in_view p (in_place layout i p k) node ≡ in_view p (in_place layout i p k) (node_at net i)
@@ -96,9 +114,9 @@ module _ {W : Type 0} (layout : Layout W) where
           element_set (GivesAlike k) net.nodes b s (change (node_at net b)) no_node
           (λ same.
           let here = ap (λ (i : ℕ). Block i) same in
-          let place = exit_there layout meaning b (node_at net b) (parts.nodes b there) k low (from ∙ here) in
           subst (λ (i : ℕ). GivesAlike k i (change (node_at net b))) (sym same)
-          (steps.outs (out_place layout b k) place (apart here)))
+          (view_by b AboutIn AboutOut (node_at net b) (change (node_at net b)) (parts.nodes b there) steps k low (from ∙ here)
+          (apart here) (is_one_taker (node_at net b).block.kind) refl))
           refl
       source_stays k (Input c) low from apart = refl
 

@@ -1,5 +1,5 @@
 -- The end that a block has of a link is there, at the link's place, and is the link's.
-use Rattle.std.proofs.Common.{◌≡◌, ℕ, ◌<◌, ◌==◌, true, List, length, get_or, map, Result, refl, ap, sym, ◌∙◌, arith, eq-eqb}
+use Rattle.std.proofs.Common.{◌≡◌, ℕ, ◌<◌, ◌==◌, true, false, List, length, get_or, map, Result, refl, ap, sym, ◌∙◌, arith, eq-eqb}
 use Rattle.std.proofs.lemmas.Bool.{and_from}
 use Rattle.std.proofs.lemmas.List as lists
 use Rattle.std.proofs.Math.ListN.{get_or-map}
@@ -7,16 +7,16 @@ use Rattle.flow_value.specs.declared.value.Value.{Value}
 use Rattle.flow_link.specs.declared.plan.LinkSource.TheVariants.{Block}
 use Rattle.flow_link.specs.declared.plan.LinkTarget.TheVariants.{Port}
 use Rattle.flow_link.specs.Layout.{Layout}
-use Rattle.flow_link.specs.Plan.{link_in, begins_at, ends_at_port}
+use Rattle.flow_link.specs.Plan.{link_in, begins_at, ends_at_port, is_one_taker}
 use Rattle.flow_intake.specs.Port.{EndState, end_in, fresh_end}
-use Rattle.flow_outlet.specs.declared.ends.LinkRule.{LinkRule}
-use Rattle.flow_outlet.specs.declared.ends.OutEnd.{OutEnd}
-use Rattle.flow_outlet.specs.End.{no_end}
 use Rattle.flow_outlet.specs.Outlet.{end_at}
+use Rattle.flow_spread.specs.Spread.{link_at}
 use Rattle.flow_block.specs.Block.{port_at}
 use Rattle.flow_block.specs.Node.{NodeState}
 use Rattle.flow_block.specs.NodeLaw.{NodeLaw}
-use Rattle.flow_block.specs.Planned.{is_out_of, is_into, links_from, links_to, rule_of, out_place, in_place}
+use Rattle.flow_block.specs.Planned.{is_out_of, is_into, links_to, rule_of, out_place, in_place}
+use Rattle.flow_block.proofs.PlacesOfCopies.{copy_out_of}
+use Rattle.flow_block.proofs.PlacesOfLinks.{end_out_of}
 use Rattle.flow_core.specs.Keeps.{IsRun}
 use Rattle.flow_core.proofs.PlacesTell.{place_rises, place_finds}
 
@@ -30,29 +30,21 @@ module _ {W : Type 0} (layout : Layout W) where
 
   module _ (meaning : ℕ → Value → Result (List Value) ℕ) (b : ℕ) (node : NodeState)
       (law : NodeLaw layout meaning b node) where
-    -- the end of a link out of the block
+    -- the end of a link out of the block, which shares its messages out or copies them
     module _ (l : ℕ) (there : l < length layout.links) (from : (link_in layout.links l).source ≡ Block b) where
-      out_rises : out_place layout b l < length (links_from layout b)
-      out_rises = place_rises (is_out_of layout b) l (length layout.links) there (begins_here b l from)
+      module _ (shares : is_one_taker node.block.kind ≡ true) where
+        pub exit_there : out_place layout b l < length node.block.exits.ends
+        exit_there = (end_out_of layout meaning b node.block law.shape shares l there from).there
 
-      pub exit_there : out_place layout b l < length node.block.exits.ends
-      exit_there =
-          omega (
-            arith,
-            lists.length-map node.block.exits.ends (λ (end : OutEnd). end.rule),
-            ap length law.shape.rules,
-            lists.length-map (links_from layout b) (rule_of layout),
-            out_rises,
-          )
+        pub rule_there : (end_at node.block.exits (out_place layout b l)).rule ≡ rule_of layout l
+        rule_there = (end_out_of layout meaning b node.block law.shape shares l there from).rule_is
 
-      pub rule_there : (end_at node.block.exits (out_place layout b l)).rule ≡ rule_of layout l
-      rule_there =
-          let place = out_place layout b l in
-          sym (get_or-map (λ (end : OutEnd). end.rule) node.block.exits.ends place no_end)
-          ∙ ap (λ (rules : List LinkRule). get_or rules place no_end.rule) law.shape.rules
-          ∙ lists.get_or-map (rule_of layout) (links_from layout b) place 0 no_end.rule out_rises
-          ∙ ap (rule_of layout)
-          (place_finds (is_out_of layout b) l (length layout.links) 0 there (begins_here b l from))
+      module _ (copying : is_one_taker node.block.kind ≡ false) where
+        pub copy_there : out_place layout b l < length node.block.copies.ends
+        copy_there = (copy_out_of layout b node.block.copies (law.copies.copier copying).rules l there from).there
+
+        pub copy_rule_there : (link_at node.block.copies (out_place layout b l)).rule ≡ rule_of layout l
+        copy_rule_there = (copy_out_of layout b node.block.copies (law.copies.copier copying).rules l there from).rule_is
 
     -- the end of a link into a port of the block
     module _ (run : IsRun layout) (p l : ℕ) (there : l < length layout.links)

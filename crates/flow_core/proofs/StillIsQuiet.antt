@@ -21,7 +21,7 @@ use Rattle.flow_link.specs.Quiet.{Quiet}
 use Rattle.flow_link.specs.RestsByParts.{EndsAreStill, PartsRest, is_at_rest}
 use Rattle.flow_link.specs.Stage.{source_stage_of, target_stage_of}
 use Rattle.flow_link.specs.Trace.{Run}
-use Rattle.flow_link.specs.Views.{SourceStage, TargetStage}
+use Rattle.flow_link.specs.Views.{SourceStage, SourceView, TargetStage}
 use Rattle.flow_link.proofs.LinksAtRest.{links_rest}
 use Rattle.flow_link.proofs.LooksKeepOrder.{looks_keep}
 use Rattle.flow_link.proofs.QuietByParts.{rests_compose}
@@ -31,17 +31,23 @@ use Rattle.flow_outlet.specs.Outlet.{end_at, stage_at}
 use Rattle.flow_block.specs.Block.{port_at}
 use Rattle.flow_block.specs.Input.{input_move}
 use Rattle.flow_block.specs.InputKeeps.{InputsAreParts}
-use Rattle.flow_block.specs.NextMoves.{next_in, next_out}
-use Rattle.flow_block.specs.Node.{NodeState, in_view}
+use Rattle.flow_block.specs.NextCopies.{next_copy}
+use Rattle.flow_block.specs.NextMoves.{next_in, next_out, next_source}
+use Rattle.flow_block.specs.Node.{NodeState, in_view, source_view}
 use Rattle.flow_block.specs.NodeRests.{NodesAreStill, NodesRest, HasNothingToDo, EndsRest, NoneReserve, rests_in, rests_out, is_asked, is_reserving}
 use Rattle.flow_block.specs.NodeSeen.{NodesAreLawful}
 use Rattle.flow_block.specs.Peeks.{may_make, may_begin, may_end, may_complete, next_fault, may_finish}
-use Rattle.flow_block.proofs.PlacesOfLinks.{end_in_is, end_out_is}
+use Rattle.flow_spread.specs.Spread.{link_at, stage_at as copy_stage}
+use Rattle.flow_spread.proofs.StagesTell.{number_below}
+use Rattle.flow_block.proofs.CopiesIdle.{copies_at}
+use Rattle.flow_block.proofs.PlacesOfCopies.{copy_out_is}
+use Rattle.flow_block.proofs.PlacesOfLinks.{end_in_is, end_out_is, shares_at}
+use Rattle.flow_core.proofs.SourcesByKind.{shared_view, copied_view, shared_next, copied_next}
 use Rattle.flow_core.specs.Events.{NetEvent, is_of_source, peek_by, source_peek, target_peek}
 use Rattle.flow_core.specs.Keeps.{IsRun, NetKeeps}
 use Rattle.flow_core.specs.State.{NetState, node_at, input_at, ends_of, source_from, target_from, run_of_net}
 use Rattle.flow_core.specs.Statements.{IsStill, StillIsQuiet}
-use Rattle.flow_core.proofs.KeptIsLawful.{input_law, is_input, is_node, parts_keep, port_of_link}
+use Rattle.flow_core.proofs.KeptIsLawful.{input_law, is_input, is_node, parts_keep, port_of_link, may_carry}
 use Rattle.flow_core.proofs.LinksTakeFreely.{takes_freely}
 use Rattle.flow_core.proofs.NextIsAllowed.{of_source, of_target, next_is_allowed}
 use Rattle.flow_core.proofs.StagesShow.{source_shows, source_shown, target_shows, target_shown}
@@ -125,12 +131,37 @@ module _ {W : Type 0} (layout : Layout W) (meaning : ℕ → Value → Result (L
         → IsOutOf b k (end_at (node b).block.exits k).rule.id
     out_end b k low small =
         let is = end_out_is layout meaning b (node b).block (keeps.nodes b low).shape k small in
+        let shares = shares_at layout meaning b (node b).block (keeps.nodes b low).shape k small in
         let l = (end_at (node b).block.exits k).rule.id in
         record {
           there = is.there;
           stage = ap (λ (from : LinkSource). (source_from layout net l from).stage) is.begins
-              ∙ ap (λ (place : ℕ). source_stage_of (stage_at (node b).block.exits place)) is.place;
-          peek = ap (source_peek layout net l) is.begins ∙ ap (λ (place : ℕ). next_out place (node b)) is.place;
+              ∙ ap (λ (place : ℕ). (source_view place (node b)).stage) is.place
+              ∙ ap (λ (view : SourceView Value). view.stage) (shared_view k (node b) shares);
+          peek = ap (source_peek layout net l) is.begins ∙ ap (λ (place : ℕ). next_source place (node b)) is.place
+              ∙ shared_next k (node b) shares;
+        }
+
+    -- the same of an end over which copies go
+    record IsCopyOf (b k l : ℕ) : Type 0 where
+      there : l < length layout.links
+      stage : (ends l).source.stage ≡ source_stage_of (copy_stage (node b).block.copies k)
+      peek : source_peek layout net l (link l).source ≡ next_copy k (node b)
+
+    copy_end : (b k : ℕ) → b < length layout.blocks → k < length (node b).block.copies.ends
+        → IsCopyOf b k (link_at (node b).block.copies k).rule.id
+    copy_end b k low small =
+        let law = keeps.nodes b low in
+        let copying = copies_at layout meaning b (node b) law k small in
+        let is = copy_out_is layout b (node b).block.copies (law.copies.copier copying).rules k small in
+        let l = (link_at (node b).block.copies k).rule.id in
+        record {
+          there = is.there;
+          stage = ap (λ (from : LinkSource). (source_from layout net l from).stage) is.begins
+              ∙ ap (λ (place : ℕ). (source_view place (node b)).stage) is.place
+              ∙ ap (λ (view : SourceView Value). view.stage) (copied_view k (node b) copying);
+          peek = ap (source_peek layout net l) is.begins ∙ ap (λ (place : ℕ). next_source place (node b)) is.place
+              ∙ copied_next k (node b) copying;
         }
 
     abbrev stage_in : ℕ → ℕ → ℕ → TargetStage Value
@@ -175,6 +206,11 @@ module _ {W : Type 0} (layout : Layout W) (meaning : ℕ → Value → Result (L
           let end = end_at (node b).block.exits k in
           not_asked end.stage
           (sym (ap source_reserves is.stage) ∙ source_takes_freely end.rule.id is.there);
+      copies = λ k small.
+          let is = copy_end b k low small in
+          let end = link_at (node b).block.copies k in
+          not_asked end.stage
+          (sym (ap source_reserves is.stage) ∙ source_takes_freely end.rule.id is.there);
     }
 
     -- where the links rest, so do the ends of blocks and inputs
@@ -199,6 +235,10 @@ module _ {W : Type 0} (layout : Layout W) (meaning : ℕ → Value → Result (L
         outs = λ k small.
             let is = out_end b k low small in
             let end = end_at (node b).block.exits k in
+            source_rests_kept end.stage ∙ sym (ap source_rests is.stage) ∙ source_end_rests end.rule.id is.there;
+        copies = λ k small.
+            let is = copy_end b k low small in
+            let end = link_at (node b).block.copies k in
             source_rests_kept end.stage ∙ sym (ap source_rests is.stage) ∙ source_end_rests end.rule.id is.there;
       }
 
@@ -236,6 +276,9 @@ module _ {W : Type 0} (layout : Layout W) (meaning : ℕ → Value → Result (L
         outs = λ k small.
             let is = out_end b k low small in
             sym is.peek ∙ source_done (end_at (node b).block.exits k).rule.id is.there;
+        copies = λ k small.
+            let is = copy_end b k low small in
+            sym is.peek ∙ source_done (link_at (node b).block.copies k).rule.id is.there;
         makes = false_from_ne_true (may_make (node b).block)
             (λ would. still (NetEvent.make b) (record { there = low; would = would }));
         begins = false_from_ne_true (may_begin (node b).block)
@@ -290,7 +333,7 @@ module _ {W : Type 0} (layout : Layout W) (meaning : ℕ → Value → Result (L
           nodes = λ b low.
               nodes_rest run ends b (node b) low (keeps.nodes b low) (is_node layout meaning runs net keeps b)
               (λ l p there into. port_of_link layout meaning runs net keeps b l p low there into) (nothing_to_do b low)
-              (ends_rest links_are_at_rest b low);
+              (ends_rest links_are_at_rest b low) (λ l there from. may_carry (link l).max (runs.well_formed.max l there));
           inputs = λ l b there from.
               inputs_are_parts.rests run ends l b (input_at layout net b)
               (input_law layout meaning runs net keeps l b there from)

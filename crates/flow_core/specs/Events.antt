@@ -1,8 +1,9 @@
 -- What may happen next in a network, and what it changes. A move of a link may happen where the link's phase allows it and the
 -- mover's end, by its own data alone, would make it; then the mover makes it, the link takes its new phase, and the other end
 -- looks.
-use Rattle.std.specs.Prelude.{◌≡◌, ℕ, ◌<◌, ◌^◌, Bool, true, false, List, length, set, option_map, Option, Some, None, is_some, Result}
+use Rattle.std.specs.Prelude.{◌≡◌, ℕ, ◌<◌, ◌^◌, cond, Bool, true, false, List, length, set, option_map, Option, Some, None, is_some, Result}
 use Rattle.flow_value.specs.declared.value.Value.{Value}
+use Rattle.flow_link.specs.declared.draft.BlockKind.{BlockKind}
 use Rattle.flow_link.specs.declared.phase.Move.{Move}
 use Rattle.flow_link.specs.declared.phase.Move.TheVariants as move
 use Rattle.flow_link.specs.declared.phase.Phase.{Phase}
@@ -13,14 +14,14 @@ use Rattle.flow_link.specs.declared.plan.LinkTarget.{LinkTarget}
 use Rattle.flow_link.specs.declared.plan.LinkTarget.TheVariants.{Port, Exit}
 use Rattle.flow_link.specs.Layout.{Layout}
 use Rattle.flow_link.specs.Phase.{phase_after}
-use Rattle.flow_link.specs.Plan.{link_in}
-use Rattle.flow_outlet.specs.Outlet.{head_of, lacks_ids}
-use Rattle.flow_block.specs.Block.{put_next}
+use Rattle.flow_link.specs.Plan.{link_in, is_one_taker}
+use Rattle.flow_outlet.specs.Outlet.{lacks_ids}
+use Rattle.flow_block.specs.Copies.{CopyCall}
 use Rattle.flow_block.specs.Input.{InputState, InputCall, input_move, after_input, next_value}
 use Rattle.flow_block.specs.JobsEnd.{after_job, put_at_end}
-use Rattle.flow_block.specs.NextMoves.{next_in, next_out}
-use Rattle.flow_block.specs.Node.{NodeState, NodeCall, after as after_call}
-use Rattle.flow_block.specs.Peeks.{may_make, may_begin, may_end, may_complete, next_fault, may_finish}
+use Rattle.flow_block.specs.NextMoves.{next_in, next_source}
+use Rattle.flow_block.specs.Node.{NodeState, NodeCall, given_next, after as after_call}
+use Rattle.flow_block.specs.Peeks.{lacks_next, may_make, may_begin, may_end, may_complete, next_fault, may_finish}
 use Rattle.flow_block.specs.Planned.{in_place, out_place, input_place, block_makes}
 use Rattle.flow_core.specs.State.{NetState, LineState, node_at, line_at, input_at}
 
@@ -54,6 +55,22 @@ out_call k move.Deny = Some (NodeCall.deny k)
 out_call k move.Withdraw = Some (NodeCall.withdraw k)
 out_call k (move.End how) = Some (NodeCall.end_link k how)
 out_call k _ = None
+
+-- the same over a link over which copies go
+abbrev pub copy_call : ℕ → Move → Option NodeCall
+copy_call k (move.Offer _) = Some (NodeCall.copy (CopyCall.offer k))
+copy_call k move.Give = Some (NodeCall.copy (CopyCall.give k))
+copy_call k move.Hold = Some (NodeCall.copy (CopyCall.hold k))
+copy_call k move.Withdraw = Some (NodeCall.copy (CopyCall.withdraw k))
+copy_call k (move.End how) = Some (NodeCall.copy (CopyCall.end_link k how))
+copy_call k _ = None
+
+-- and over either, by the kind of the block, with its look
+abbrev pub source_call : BlockKind → ℕ → Move → Option NodeCall
+source_call kind k next = cond (is_one_taker kind) (out_call k next) (copy_call k next)
+
+abbrev pub source_look : BlockKind → ℕ → Phase → NodeCall
+source_look kind k phase = cond (is_one_taker kind) (NodeCall.look_out k phase) (NodeCall.copy (CopyCall.look k phase))
 
 abbrev pub in_call : ℕ → ℕ → Option Value → Move → Option NodeCall
 in_call p k slot move.Want = Some (NodeCall.want p k)
@@ -94,7 +111,7 @@ module _ {W : Type 0} (layout : Layout W) where
 
   -- what the two ends of a link would do next
   abbrev pub source_peek : NetState → ℕ → LinkSource → Option Move
-  source_peek net l (Block s) = next_out (out_place layout s l) (node_at net s)
+  source_peek net l (Block s) = next_source (out_place layout s l) (node_at net s)
   source_peek net l (Input b) = input_move (input_at layout net b)
 
   abbrev pub target_peek : NetState → ℕ → LinkTarget → Option Move
@@ -107,7 +124,7 @@ module _ {W : Type 0} (layout : Layout W) where
 
   -- the value that the source gives next
   abbrev pub value_from : NetState → LinkSource → Option Value
-  value_from net (Block s) = head_of (node_at net s).block.exits
+  value_from net (Block s) = given_next (node_at net s)
   value_from net (Input b) = next_value (input_at layout net b)
 
 -- what may happen
@@ -144,7 +161,8 @@ module _ {W : Type 0} (layout : Layout W) (meaning : ℕ → Value → Result (L
 
   -- the mover's part, and the other's look
   abbrev pub source_moves : ℕ → Move → LinkSource → NetState → NetState
-  source_moves l next (Block s) net = with_node s (node_after s (out_call (out_place layout s l) next)) net
+  source_moves l next (Block s) net =
+      with_node s (node_after s (source_call (node_at net s).block.kind (out_place layout s l) next)) net
   source_moves l next (Input b) net = with_input layout b (input_after (input_call next)) net
 
   abbrev pub target_moves : ℕ → Move → LinkTarget → NetState → NetState
@@ -152,7 +170,8 @@ module _ {W : Type 0} (layout : Layout W) (meaning : ℕ → Value → Result (L
   target_moves l next Exit net = net
 
   abbrev pub source_sees : ℕ → Phase → LinkSource → NetState → NetState
-  source_sees l phase (Block s) net = with_node s (node_after s (Some (NodeCall.look_out (out_place layout s l) phase))) net
+  source_sees l phase (Block s) net =
+      with_node s (node_after s (Some (source_look (node_at net s).block.kind (out_place layout s l) phase))) net
   source_sees l phase (Input b) net = with_input layout b (input_after (Some (InputCall.look phase))) net
 
   abbrev pub target_sees : ℕ → Phase → LinkTarget → NetState → NetState
@@ -186,7 +205,7 @@ module _ {W : Type 0} (layout : Layout W) (meaning : ℕ → Value → Result (L
   -- there is an id for each message that comes out: a block's outputs, and what an input offers
   abbrev pub HasIds : NetEvent → NetState → Type 0
   HasIds (NetEvent.at_link l (move.Offer id)) net = id < 2 ^ 59
-  HasIds (NetEvent.make b) net = lacks_ids (put_next (block_makes layout meaning b) (node_at net b).block) (node_at net b).block.exits ≡ false
+  HasIds (NetEvent.make b) net = lacks_next (block_makes layout meaning b) (node_at net b) ≡ false
   HasIds (NetEvent.end_job b ticket) net =
       lacks_ids (put_at_end (block_makes layout meaning b) ticket (node_at net b).block) (node_at net b).block.exits ≡ false
   HasIds _ net = Unit {0}

@@ -13,14 +13,13 @@ use Rattle.flow_link.specs.Looks.{SourceHasSeen, TargetHasSeen}
 use Rattle.flow_link.specs.Phase.{phase_after}
 use Rattle.flow_link.specs.Plan.{link_in}
 use Rattle.flow_link.specs.Views.{SourceView, TargetView, LinkFacts}
-use Rattle.flow_outlet.specs.Outlet.{head_of}
 use Rattle.flow_block.specs.Input.{InputState, input_move, input_view, next_value}
 use Rattle.flow_block.specs.InputKeeps.{InputLaw}
-use Rattle.flow_block.specs.NextMoves.{next_in, next_out}
-use Rattle.flow_block.specs.Node.{NodeState, in_view, out_view}
+use Rattle.flow_block.specs.NextMoves.{next_in, next_source}
+use Rattle.flow_block.specs.Node.{NodeState, in_view, given_next, source_view}
 use Rattle.flow_block.specs.NodeLaw.{NodeLaw}
 use Rattle.flow_block.specs.Planned.{in_place, out_place}
-use Rattle.flow_core.specs.Events.{node_after, out_call, in_call, input_call, input_after, slot_after}
+use Rattle.flow_core.specs.Events.{node_after, source_call, in_call, input_call, input_after, slot_after}
 use Rattle.flow_core.specs.Keeps.{IsRun}
 
 -- the link after a move of its source, and of its target
@@ -38,10 +37,11 @@ module _ (W : Type 0) where
       (layout : Layout W) (meaning : ℕ → Value → Result (List Value) ℕ) → IsRun layout → (l s : ℕ) → l < length layout.links
       → (link_in layout.links l).source ≡ Block s → (node : NodeState) → NodeLaw layout meaning s node
       → (phase new : Phase) (slot : Option Value) (target : TargetView Value) (next : Move)
-      → LinkOk (facts_in layout l) phase slot (out_view (out_place layout s l) node) target
-      → next_out (out_place layout s l) node ≡ Some next → phase_after phase next ≡ Some new
-      → SourceMoved (facts_in layout l) new (slot_after next (head_of node.block.exits) slot)
-      (out_view (out_place layout s l) (node_after layout meaning s (out_call (out_place layout s l) next) node)) target
+      → LinkOk (facts_in layout l) phase slot (source_view (out_place layout s l) node) target
+      → next_source (out_place layout s l) node ≡ Some next → phase_after phase next ≡ Some new
+      → SourceMoved (facts_in layout l) new (slot_after next (given_next node) slot)
+      (source_view (out_place layout s l) (node_after layout meaning s (source_call node.block.kind (out_place layout s l) next) node))
+      target
 
   abbrev pub InputsMoveWell : Type 0
   InputsMoveWell =

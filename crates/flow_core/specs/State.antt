@@ -15,7 +15,7 @@ use Rattle.flow_link.specs.Trace.{InputTrace, Trace, Run}
 use Rattle.flow_link.specs.Views.{SourceView, TargetView, TargetStage}
 use Rattle.flow_block.specs.BlockFits.{fresh_block}
 use Rattle.flow_block.specs.Input.{InputState, fresh_input, no_input, input_view, input_trace}
-use Rattle.flow_block.specs.Node.{NodeState, in_view, out_view, node_trace}
+use Rattle.flow_block.specs.Node.{NodeState, in_view, source_view, node_trace}
 use Rattle.flow_block.specs.Planned.{in_place, out_place, input_place, fresh_node}
 use Rattle.flow_link.specs.Lists.{below}
 use Rattle.std.specs.Prelude.{length, replicate}
@@ -38,6 +38,7 @@ abbrev pub no_node : NodeState
 no_node = record {
   block = fresh_block Buffer 1 0 [] [];
   journal = [];
+  grouped = 0;
 }
 
 abbrev pub node_at : NetState → ℕ → NodeState
@@ -56,7 +57,7 @@ module _ {W : Type 0} (layout : Layout W) where
 
   -- what the two ends of a link know
   abbrev pub source_from : NetState → ℕ → LinkSource → SourceView Value
-  source_from net l (Block s) = out_view (out_place layout s l) (node_at net s)
+  source_from net l (Block s) = source_view (out_place layout s l) (node_at net s)
   source_from net l (Input b) = input_view (input_at net b)
 
   abbrev pub target_from : NetState → ℕ → LinkTarget → TargetView Value

@@ -187,6 +187,7 @@ fn a_network_shows_its_parts(rt: HostRuntime) -> Result<(), Fail> {
     assert!(rt; net.posted(0).len() == 2 && net.posted(1).is_empty());
     let held = r#"block t faulted 1 ; held 0 ["x"]"#;
     assert!(rt; came_to(alloc, &net, &[held])?.is_some());
-    assert!(rt; net.left(1).len() + net.record(2).len() == 1);
+    let (left, more) = net.left(1);
+    assert!(rt; left.len() + more.len() + net.record(2).len() == 1);
     Ok(())
 }

@@ -105,6 +105,37 @@ const DRAFTS: &[(&str, Option<PlanFault>)] = &[
         Some(PlanFault::Port(0)),
     ),
     ("a buffer, j join, a -> j, j -> a", Some(PlanFault::Cycle)),
+    ("j batched_join size 1", None),
+    ("j batched_join size 4096 ports 3", None),
+    // A batched join has a size, and no capacity.
+    (
+        "j batched_join",
+        Some(PlanFault::BadOption(Place::Block(0))),
+    ),
+    (
+        "j batched_join size 0",
+        Some(PlanFault::BadOption(Place::Block(0))),
+    ),
+    (
+        "j batched_join size 4097",
+        Some(PlanFault::BadOption(Place::Block(0))),
+    ),
+    (
+        "j batched_join size 2 capacity 4",
+        Some(PlanFault::BadOption(Place::Block(0))),
+    ),
+    (
+        "j batched_join size 2 greedy true",
+        Some(PlanFault::BadOption(Place::Block(0))),
+    ),
+    (
+        "j batched_join size 2 ports 4",
+        Some(PlanFault::BadOption(Place::Block(0))),
+    ),
+    (
+        "a buffer, j batched_join size 0, a -> j port 2",
+        Some(PlanFault::Port(0)),
+    ),
 ];
 
 #[test]

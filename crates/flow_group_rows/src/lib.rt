@@ -2,7 +2,11 @@
 #![tactic(auto)]
 
 #[cfg(test)]
+mod batched_joins;
+#[cfg(test)]
 mod check;
+#[cfg(test)]
+mod copies;
 #[cfg(test)]
 mod drawn;
 #[cfg(test)]

@@ -3,7 +3,7 @@ use Rattle.std.specs.Prelude.{ℕ, Bool, true, false, not, ◌&&◌, ◌||◌, L
 use Rattle.flow_link.specs.declared.draft.BlockDef.{BlockDef}
 use Rattle.flow_link.specs.declared.draft.LinkDef.{LinkDef}
 use Rattle.flow_link.specs.declared.draft.BlockKind.{BlockKind}
-use Rattle.flow_link.specs.declared.draft.BlockKind.TheVariants.{Buffer, Action, Transform, TransformMany, Batch, Join}
+use Rattle.flow_link.specs.declared.draft.BlockKind.TheVariants.{Buffer, Broadcast, WriteOnce, Action, Transform, TransformMany, Batch, Join, BatchedJoin}
 use Rattle.flow_link.specs.declared.plan.Place.TheVariants.{Block, Link as at_link}
 use Rattle.flow_link.specs.declared.plan.PlanFault.{PlanFault}
 use Rattle.flow_link.specs.declared.plan.PlanFault.TheVariants.{Limit, DuplicateName, UnknownBlock, Port, NoOutput, BadOption}
@@ -13,12 +13,14 @@ use Rattle.flow_link.specs.PlanFaults.{stands, options_fit, faults_in_order}
 
 abbrev pub is_built_kind : BlockKind → Bool
 is_built_kind Buffer = true
+is_built_kind Broadcast = true
+is_built_kind WriteOnce = true
 is_built_kind Action = true
 is_built_kind Transform = true
 is_built_kind TransformMany = true
 is_built_kind Batch = true
 is_built_kind Join = true
-is_built_kind _ = false
+is_built_kind BatchedJoin = true
 
 -- a kind that is built; it gives nothing to the caller, and takes each message without reserving it first
 abbrev pub is_built_block : {W : Type 0} → BlockDef W → Bool

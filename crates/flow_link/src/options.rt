@@ -78,11 +78,14 @@ fn is_built_kind(kind: BlockKind) -> bool
     matches!(
         kind,
         BlockKind::Buffer
+            | BlockKind::Broadcast
+            | BlockKind::WriteOnce
             | BlockKind::Action
             | BlockKind::Transform
             | BlockKind::TransformMany
             | BlockKind::Batch
             | BlockKind::Join
+            | BlockKind::BatchedJoin
     )
 }
 

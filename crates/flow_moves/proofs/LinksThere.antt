@@ -1,5 +1,5 @@
 -- Each link of a network in order is there, and has its two ends at the places that its way names.
-use Rattle.std.proofs.Common.{◌≡◌, ℕ, ◌<◌, List, length, Result, refl, arith}
+use Rattle.std.proofs.Common.{◌≡◌, ℕ, ◌<◌, cond, Bool, true, false, List, length, Result, refl, sym, subst, arith}
 use Rattle.std.specs.List.{count_by}
 use Rattle.flow_value.specs.declared.value.Value.{Value}
 use Rattle.flow_link.specs.declared.plan.LinkSource.{LinkSource}
@@ -7,13 +7,13 @@ use Rattle.flow_link.specs.declared.plan.LinkSource.TheVariants.{Block, Input}
 use Rattle.flow_link.specs.declared.plan.LinkTarget.{LinkTarget}
 use Rattle.flow_link.specs.declared.plan.LinkTarget.TheVariants.{Port, Exit}
 use Rattle.flow_link.specs.Layout.{Layout}
-use Rattle.flow_link.specs.Plan.{link_in, no_block}
+use Rattle.flow_link.specs.Plan.{link_in, no_block, is_one_taker}
 use Rattle.flow_core.specs.Keeps.{IsRun, NetKeeps}
-use Rattle.flow_block.specs.Planned.{input_place}
+use Rattle.flow_block.specs.Planned.{out_place, input_place}
 use Rattle.flow_core.specs.State.{NetState, node_at}
-use Rattle.flow_core.proofs.PlacesOfLinks.{exit_there, entry_there, port_there}
+use Rattle.flow_core.proofs.PlacesOfLinks.{exit_there, copy_there, entry_there, port_there}
 use Rattle.flow_core.proofs.PlacesTell.{count_within}
-use Rattle.flow_moves.specs.Ready.{IsThere, SourceIsThere, TargetIsThere}
+use Rattle.flow_moves.specs.Ready.{IsThere, SourceIsThere, TargetIsThere, exit_count}
 use Rattle.flow_moves.specs.Statements.{LinksAreThere}
 use Rattle.flow_block.specs.Routes.{source_place, target_place, route_of}
 
@@ -27,12 +27,24 @@ module _ {W : Type 0} (layout : Layout W) (meaning : ℕ → Value → Result (L
       (run.leads.from_input l b there from) (run.leads.from_inputs l b there from) in
       omega (arith, within, keeps.input_count)
 
+  -- a link out of a block is one of those over which it shares its messages out, or of those over which it copies them
+  exit_within : (s : ℕ) → s < length layout.blocks → (link_in layout.links l).source ≡ Block s → (sharing : Bool)
+      → is_one_taker (node_at net s).block.kind ≡ sharing → out_place layout s l < exit_count (node_at net s)
+  exit_within s low from true shares =
+      let node = node_at net s in
+      subst (λ (so : Bool). out_place layout s l < cond so (length node.block.exits.ends) (length node.block.copies.ends)) (sym shares)
+      (exit_there layout meaning s node (keeps.nodes s low) l there from shares)
+  exit_within s low from false copying =
+      let node = node_at net s in
+      subst (λ (so : Bool). out_place layout s l < cond so (length node.block.exits.ends) (length node.block.copies.ends)) (sym copying)
+      (copy_there layout meaning s node (keeps.nodes s low) l there from copying)
+
   source_there : (source : LinkSource) → (link_in layout.links l).source ≡ source
       → SourceIsThere net source (source_place layout source l)
   source_there (Block s) from =
       let low = run.leads.from_block l s there from in
       let node : s < length net.nodes = omega (arith, low, keeps.node_count) in
-      (node, exit_there layout meaning s (node_at net s) (keeps.nodes s low) l there from)
+      (node, exit_within s low from (is_one_taker (node_at net s).block.kind) refl)
   source_there (Input b) from = input_there b from
 
   target_there : (target : LinkTarget) → (link_in layout.links l).target ≡ target

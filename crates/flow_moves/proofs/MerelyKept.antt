@@ -15,9 +15,10 @@ use Rattle.flow_block.specs.Routes.{route_of}
 use Rattle.flow_block.specs.Block.{held_by}
 use Rattle.flow_block.specs.Jobs.{JobsState, is_out}
 use Rattle.flow_block.specs.Planned.{block_makes}
+use Rattle.flow_block.proofs.CopiesTaken.{makes_many}
 use Rattle.flow_block.proofs.JobsEnd.{none_out}
 use Rattle.flow_block.proofs.JobsHold.{begun_held}
-use Rattle.flow_block.proofs.Joins.{works_unjoined}
+use Rattle.flow_block.proofs.Joins.{works_at_one}
 use Rattle.flow_block.proofs.KindsBuilt.{has_one_port}
 use Rattle.flow_core.specs.Events.{NetEvent, LinkMay, HasIds, MayHappen, after}
 use Rattle.flow_core.specs.Keeps.{IsRun, NetKeeps}
@@ -39,7 +40,7 @@ works_where : (jobs : JobsState) (ticket : ℕ) (works : Bool) → (works ≡ fa
 works_where jobs ticket true none out = refl
 works_where jobs ticket false none out = absurd (none_out ticket jobs (none refl) out)
 
--- a block is of a kind that is kept in order, as the plan has it, and has one port, if it is no join
+-- a block is of a kind that is kept in order, as the plan has it, and has one port, if it is no join of either kind
 planned_by : {W : Type 0} (layout : Layout W) (meaning : ℕ → Value → Result (List Value) ℕ) (net : NetState)
     → NetKeeps layout meaning net → (b : ℕ) → b < length layout.blocks → IsPlanned layout b (node_at net b).block
 planned_by layout meaning net keeps b low =
@@ -51,7 +52,8 @@ planned_by layout meaning net keeps b low =
       built = shape.built;
       alone = has_one_port layout meaning b block shape;
       some_port = shape.some_port;
-      alone_at_work = λ works. has_one_port layout meaning b block shape (works_unjoined block.kind works);
+      alone_at_work = λ works. has_one_port layout meaning b block shape (works_at_one block.kind works);
+      many = makes_many layout meaning b (node_at net b) (keeps.nodes b low);
       begun = begun_held (block_makes layout meaning b) (held_by block) block.jobs.slots jobs.results;
       drained = jobs.drained;
       works = λ ticket out.
@@ -72,7 +74,7 @@ module _ {W : Type 0} (layout : Layout W) (meaning : ℕ → Value → Result (L
   pub input_count_is : length net.inputs ≡ count_by (λ block. block.input) layout.blocks
   input_count_is = ∥∥₁_elim kept (ℕ_set _ _) (λ keeps. keeps.input_count)
 
-  -- a block is of a kind that is kept in order, as the plan has it, and has one port, if it is no join
+  -- a block is of a kind that is kept in order, as the plan has it, and has one port, if it is no join of either kind
   pub blocks_planned : (b : ℕ) → b < length layout.blocks → IsPlanned layout b (node_at net b).block
   blocks_planned b low =
       ∥∥₁_elim kept (planned_prop layout b (node_at net b).block) (λ keeps. planned_by layout meaning net keeps b low)

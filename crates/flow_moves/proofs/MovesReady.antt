@@ -1,6 +1,6 @@
 -- For a move that may happen all stands ready at the end that makes it.
 use Rattle.std.proofs.Common.{◌≡◌, ℕ, ◌<◌, ◌^◌, ◌==◌, not, Bool, true, false, List, length, Option, Some, None, is_some}
-use Rattle.std.proofs.Common.{Result, refl, ap, ◌∙◌, subst}
+use Rattle.std.proofs.Common.{Result, refl, ap, sym, ◌∙◌, subst}
 use Rattle.flow_value.specs.declared.value.Value.{Value}
 use Rattle.flow_value.specs.declared.when.When.{When}
 use Rattle.flow_link.specs.declared.phase.Move.{Move}
@@ -17,10 +17,10 @@ use Rattle.flow_link.specs.declared.stage.TargetStage.TheVariants.{Arrived}
 use Rattle.flow_link.specs.Facts.{facts_in}
 use Rattle.flow_link.specs.Layout.{Layout}
 use Rattle.flow_link.specs.LinkOk.{LinkOk}
-use Rattle.flow_link.specs.Plan.{link_in}
+use Rattle.flow_link.specs.Plan.{link_in, is_one_taker}
 use Rattle.flow_link.specs.Stage.{target_stage_of, in_hand}
 use Rattle.flow_link.specs.Views.{SourceView, TargetView, LinkFacts}
-use Rattle.std.proofs.lemmas.Bool.{and_parts}
+use Rattle.std.proofs.lemmas.Bool.{and_parts, OnTrue_at}
 use Rattle.flow_link.proofs.TargetMoves.{target_moves_keep}
 use Rattle.flow_intake.specs.Calls.{is_arrived}
 use Rattle.flow_intake.specs.Port.{end_in}
@@ -29,22 +29,30 @@ use Rattle.flow_outlet.specs.Law.{admits_head}
 use Rattle.flow_outlet.specs.Outlet.{head_of, end_at, stage_at, may_give, is_wanted}
 use Rattle.flow_outlet.proofs.EndsKeepLaw.{given_admitted}
 use Rattle.flow_outlet.proofs.StagesTell.{speaks_id}
+use Rattle.flow_spread.specs.Law.{speaks}
+use Rattle.flow_spread.specs.Spread as spread
+use Rattle.flow_spread.proofs.LawKept.{admits_some}
+use Rattle.flow_spread.proofs.StagesTell.{or_first, wanted_is}
 use Rattle.flow_block.specs.Block.{port_at}
+use Rattle.flow_block.specs.Copier.{Copier}
+use Rattle.flow_block.specs.NextCopies.{MayMoveCopy}
 use Rattle.flow_block.specs.Input.{InputState, InputCall}
 use Rattle.flow_block.specs.InputKeeps.{InputLaw, MayMoveInput}
-use Rattle.flow_block.specs.NextMoves.{MayMoveIn, MayMoveOut}
+use Rattle.flow_block.specs.NextMoves.{MayMoveIn, MayMoveOut, next_source}
 use Rattle.flow_block.specs.Node.{NodeState, in_view}
 use Rattle.flow_block.specs.NodeLaw.{NodeLaw}
 use Rattle.flow_block.specs.Planned.{in_place, out_place}
+use Rattle.flow_block.proofs.CopierHolds.{copies_lawful}
 use Rattle.flow_block.proofs.InputsInOrder.{inputs_keep}
 use Rattle.flow_block.proofs.NextMoves.{next_moves_may}
 use Rattle.flow_core.specs.Events.{NetEvent, HasIds, is_of_source, source_peek, target_peek, peek_by}
 use Rattle.flow_core.specs.Keeps.{IsRun, NetKeeps}
 use Rattle.flow_core.specs.State.{NetState, node_at, line_at, input_at}
 use Rattle.flow_core.proofs.PartsChange.{given_at, taken_as}
-use Rattle.flow_core.proofs.PlacesOfLinks.{exit_there, entry_there, port_there}
-use Rattle.flow_moves.specs.Ready.{GiveIsReady, OutIsReady, InIsReady, InputIsReady, SourceIsReady, TargetIsReady}
-use Rattle.flow_moves.specs.Ready.{MoverIsReady}
+use Rattle.flow_core.proofs.PlacesOfLinks.{exit_there, copy_there, entry_there, port_there}
+use Rattle.flow_core.proofs.SourcesByKind.{shared_next, copied_next}
+use Rattle.flow_moves.specs.Ready.{GiveIsReady, OutIsReady, CopyIsReadyToGive, CopyIsReady, ReadyBy, InIsReady}
+use Rattle.flow_moves.specs.Ready.{InputIsReady, SourceIsReady, TargetIsReady, MoverIsReady}
 use Rattle.flow_moves.specs.Statements.{MovesAreReady}
 use Rattle.flow_block.specs.Routes.{source_place, target_place, route_of}
 
@@ -112,6 +120,32 @@ module _ {W : Type 0} (layout : Layout W) (meaning : ℕ → Value → Result (L
   out_ready k (move.End how) may = may.is_at_home
   out_ready k _ may = absurd may
 
+  -- The same where it copies
+
+  copy_give_ready : Copier layout b node.block node.journal → (k : ℕ) → k < length node.block.copies.ends
+      → spread.may_give k node.block.copies ≡ true → CopyIsReadyToGive k node.block.copies
+  copy_give_ready copier k place wanted =
+      let copies = node.block.copies in
+      let own = (copies_lawful layout b node.block node.journal copier).each k place in
+      let says = (wanted_is copies.id (spread.stage_at copies k) wanted).speaks in
+      let concerns = or_first (speaks (spread.stage_at copies k)) (spread.end_at copies k).owes says in
+      record {
+        there = place;
+        wanted = wanted;
+        share = ap is_some (OnTrue_at says own.ready)
+            ∙ admits_some (spread.link_at copies k).rule.when copies.element (OnTrue_at concerns own.admitted);
+        room = OnTrue_at concerns own.room;
+      }
+
+  copy_ready : Copier layout b node.block node.journal → (k : ℕ) (next : Move) → MayMoveCopy k node next
+      → CopyIsReady k next node.block.copies
+  copy_ready copier k (move.Offer id) may = record { there = may.1.place; stands = may.1.stands.1 }
+  copy_ready copier k move.Give may = copy_give_ready copier k may.place may.stands
+  copy_ready copier k move.Hold may = record { there = may.place; stands = may.stands }
+  copy_ready copier k move.Withdraw may = record { there = may.place; stands = may.stands.0 }
+  copy_ready copier k (move.End how) may = record { there = may.place; stands = may.stands.0 }
+  copy_ready copier k _ may = absurd may
+
   -- A block's end of a link into it
 
   in_ready : (p k : ℕ) (facts : LinkFacts) (phase : Phase) (slot : Option Value) (source : SourceView Value)
@@ -134,16 +168,31 @@ module _ {W : Type 0} (layout : Layout W) (meaning : ℕ → Value → Result (L
 module _ {W : Type 0} (layout : Layout W) (meaning : ℕ → Value → Result (List Value) ℕ) (run : IsRun layout)
     (net : NetState) (keeps : NetKeeps layout meaning net) (l : ℕ) (there : l < length layout.links) (next : Move)
     (ids : HasIds layout meaning (NetEvent.at_link l next) net) where
-  source_ready : (source : LinkSource) → (link_in layout.links l).source ≡ source
-      → source_peek layout net l source ≡ Some next → SourceIsReady next net source (source_place layout source l)
-  source_ready (Block s) from peek =
+  -- the end of a link out of a block, whether the block shares its messages out or copies them
+  exit_ready : (s : ℕ) → (link_in layout.links l).source ≡ Block s → next_source (out_place layout s l) (node_at net s) ≡ Some next
+      → (sharing : Bool) → is_one_taker (node_at net s).block.kind ≡ sharing
+      → ReadyBy sharing (out_place layout s l) next (node_at net s)
+  exit_ready s from peek true shares =
       let k = out_place layout s l in
       let node = node_at net s in
       let low = run.leads.from_block l s there from in
       let law = keeps.nodes s low in
-      let place = exit_there layout meaning s node law l there from in
+      let place = exit_there layout meaning s node law l there from shares in
       out_ready layout meaning s node law k next
-      ((next_moves_may layout meaning s node run.well_formed low law).1 k next place peek)
+      ((next_moves_may layout meaning s node run.well_formed low law).1 k next place (sym (shared_next k node shares) ∙ peek))
+  exit_ready s from peek false copying =
+      let k = out_place layout s l in
+      let node = node_at net s in
+      let low = run.leads.from_block l s there from in
+      let law = keeps.nodes s low in
+      let place = copy_there layout meaning s node law l there from copying in
+      copy_ready layout meaning s node law (law.copies.copier copying) k next
+      ((next_moves_may layout meaning s node run.well_formed low law).2 k next place (sym (copied_next k node copying) ∙ peek))
+
+  source_ready : (source : LinkSource) → (link_in layout.links l).source ≡ source
+      → source_peek layout net l source ≡ Some next → SourceIsReady next net source (source_place layout source l)
+  source_ready (Block s) from peek =
+      exit_ready s from peek (is_one_taker (node_at net s).block.kind) refl
   source_ready (Input b) from peek =
       let input = input_at layout net b in
       let law = keeps.inputs b (run.leads.from_input l b there from) (run.leads.from_inputs l b there from) in

@@ -14,9 +14,11 @@ use Rattle.flow_link.specs.declared.plan.LinkTarget.TheVariants.{Port, Exit}
 use Rattle.flow_link.specs.Lawful.{Lawful}
 use Rattle.flow_link.specs.Layout.{Layout}
 use Rattle.flow_link.specs.LinkOk.{HasRoom}
+use Rattle.flow_link.specs.Plan.{is_one_taker}
 use Rattle.flow_link.specs.Quiet.{Quiet}
 use Rattle.flow_link.specs.Trace.{Run}
 use Rattle.flow_outlet.specs.Outlet.{OutletState, end_at}
+use Rattle.flow_spread.specs.Spread.{SpreadState, link_at}
 use Rattle.flow_block.specs.Block.{BlockState}
 use Rattle.flow_block.specs.Input.{InputState}
 use Rattle.flow_block.specs.Node.{NodeState}
@@ -24,7 +26,8 @@ use Rattle.flow_block.specs.declared.planned.Route.{Route}
 use Rattle.flow_core.specs.Events.{NetEvent, LinkMay, HasIds, MayHappen, is_of_source}
 use Rattle.flow_core.specs.State.{NetState, node_at, line_at}
 use Rattle.flow_moves.specs.Passes.{MayPass, after_offer, after_want, after_give, after_open}
-use Rattle.flow_moves.specs.Ready.{SourceIsThere, TargetIsThere, IsThere, GiveIsReady, OutIsReady, InIsReady}
+use Rattle.flow_moves.specs.Ready.{SourceIsThere, TargetIsThere, IsThere, GiveIsReady, OutIsReady, CopyIsReadyToGive}
+use Rattle.flow_moves.specs.Ready.{CopyIsReady, ReadyBy, InIsReady}
 use Rattle.flow_moves.specs.Ready.{InputIsReady, SourceIsReady, TargetIsReady, MoverIsReady, IsReady}
 use Rattle.flow_moves.specs.Statements.{IsPlanned}
 use Rattle.flow_moves.specs.Ways.{input_in}
@@ -84,6 +87,23 @@ out_ready_prop k move.Withdraw node = hlevel (le_prop, Bool-set)
 out_ready_prop k (move.End how) node = hlevel (le_prop, Bool-set)
 out_ready_prop k _ node = hlevel
 
+copy_give_prop : (k : ℕ) (copies : SpreadState) → IsProp (CopyIsReadyToGive k copies)
+copy_give_prop k copies =
+    let room = room_prop (link_at copies k).rule.max (link_at copies k).given in
+    hlevel (le_prop, Bool-set)
+
+copy_ready_prop : (k : ℕ) (next : Move) (copies : SpreadState) → IsProp (CopyIsReady k next copies)
+copy_ready_prop k (move.Offer id) copies = hlevel (le_prop, Bool-set)
+copy_ready_prop k move.Give copies = copy_give_prop k copies
+copy_ready_prop k move.Hold copies = hlevel (le_prop, Bool-set)
+copy_ready_prop k move.Withdraw copies = hlevel (le_prop, Bool-set)
+copy_ready_prop k (move.End how) copies = hlevel (le_prop, Bool-set)
+copy_ready_prop k _ copies = hlevel
+
+exit_ready_prop : (sharing : Bool) (k : ℕ) (next : Move) (node : NodeState) → IsProp (ReadyBy sharing k next node)
+exit_ready_prop true k next node = out_ready_prop k next node
+exit_ready_prop false k next node = copy_ready_prop k next node.block.copies
+
 in_ready_prop : (p k : ℕ) (slot : Option Value) (next : Move) (node : NodeState) → IsProp (InIsReady p k slot next node)
 in_ready_prop p k slot move.Want node = hlevel (le_prop, Bool-set)
 in_ready_prop p k slot move.TurnDown node = hlevel (le_prop, Bool-set)
@@ -101,7 +121,7 @@ input_ready_prop (move.End how) input = Bool-set _ _
 input_ready_prop _ input = hlevel
 
 source_ready_prop : (next : Move) (net : NetState) (source : LinkSource) (k : ℕ) → IsProp (SourceIsReady next net source k)
-source_ready_prop next net (Block s) k = out_ready_prop k next (node_at net s)
+source_ready_prop next net (Block s) k = exit_ready_prop (is_one_taker (node_at net s).block.kind) k next (node_at net s)
 source_ready_prop next net (Input b) k = input_ready_prop next (input_in net k)
 
 target_ready_prop : (l : ℕ) (next : Move) (net : NetState) (target : LinkTarget) (k : ℕ)

@@ -12,6 +12,7 @@ use Rattle.flow_link.specs.declared.plan.LinkTarget.{LinkTarget}
 use Rattle.flow_link.specs.declared.plan.LinkTarget.TheVariants.{Port, Exit}
 use Rattle.flow_link.specs.declared.stage.SourceStage.TheVariants.{Out}
 use Rattle.flow_link.specs.LinkOk.{HasRoom}
+use Rattle.flow_link.specs.Plan.{is_one_taker}
 use Rattle.flow_intake.specs.Port.{PortState, fresh_port}
 use Rattle.flow_intake.specs.Calls.{prepared, wants, opens, looks as port_looks}
 use Rattle.flow_intake.specs.Receives.{takes_at_once}
@@ -19,20 +20,21 @@ use Rattle.flow_outlet.specs.ByLink.{has_room}
 use Rattle.flow_outlet.specs.Outlet.{OutletState, first_of, head_of, is_empty, end_at, may_offer, prepares, offers}
 use Rattle.flow_block.specs.Block.{BlockState, port_at, with_port}
 use Rattle.flow_block.specs.Input.{InputState, no_input, next_id, next_value}
-use Rattle.flow_block.specs.Node.{NodeState, with_block, with_exits}
+use Rattle.flow_block.specs.Node.{NodeState, given_next, with_block, with_exits}
 use Rattle.flow_block.specs.NodeKeeps.{InAt, any_stage}
 use Rattle.flow_block.specs.Passes.{on_port, takes_hand, sends_ready, receives_on, input_sends}
 use Rattle.flow_block.proofs.PassesOfNodes.{with_twice}
 use Rattle.flow_block.specs.declared.planned.Route.{Route}
-use Rattle.flow_core.specs.Events.{with_node, with_line}
+use Rattle.flow_core.specs.Events.{out_call, copy_call, with_node, with_line}
 use Rattle.flow_core.specs.State.{NetState, LineState, node_at, no_node, fresh_line}
+use Rattle.flow_moves.specs.Calls.{called}
 use Rattle.flow_moves.specs.Passed.{source_prepared, target_prepared, sent_ready, received_by, offered_by, passed}
 use Rattle.flow_moves.specs.Passed.{BlockMaySend, InputMaySend, MaySend, BlockMayReceive, MayReceive}
 use Rattle.flow_moves.specs.Passes.{id_next, may_carry, takes_now, are_apart, offered_along}
-use Rattle.flow_moves.specs.Ready.{SourceIsThere, TargetIsThere, SourceIsReady, InputIsReady}
+use Rattle.flow_moves.specs.Ready.{SourceIsThere, TargetIsThere, SourceIsReady, ReadyBy, InputIsReady}
 use Rattle.flow_moves.specs.Ways.{input_in, with_input_in, value_next, source_moved, target_looked}
 use Rattle.flow_moves.proofs.MovesPrepared.{next_is_there}
-use Rattle.flow_moves.proofs.PassesTell.{blocks_apart}
+use Rattle.flow_moves.proofs.PassesTell.{blocks_apart, shared_tells}
 
 -- a node, or an input, changes twice
 node_twice : (s : ℕ) (first then_on : NodeState → NodeState) (net : NetState) → s < length net.nodes
@@ -94,13 +96,17 @@ room_there None given e = tt
 room_there (Some max) given e = ltb-true given max e
 
 -- a source whose parcel is made may send
-block_may : (o : OutletState) (k : ℕ) → may_offer o ≡ Some k → has_room (end_at o k).rule.max (end_at o k).given ≡ true
-    → BlockMaySend (prepares o) k
-block_may o k may room = record {
-  may = may;
-  parcel = head_there o k may;
-  room = room_there (end_at o k).rule.max (end_at o k).given room;
-}
+block_may : (node : NodeState) (k : ℕ) (shares : is_one_taker node.block.kind ≡ true) → may_offer node.block.exits ≡ Some k
+    → has_room (end_at node.block.exits k).rule.max (end_at node.block.exits k).given ≡ true
+    → BlockMaySend (with_exits (prepares node.block.exits) node).block k
+block_may node k shares may room =
+    let o = node.block.exits in
+    record {
+      shares = shares;
+      may = may;
+      parcel = head_there o k may;
+      room = room_there (end_at o k).rule.max (end_at o k).given room;
+    }
 
 abbrev with_parcel : InputState → InputState
 with_parcel input = record input { parcel = next_value input }
@@ -152,11 +158,14 @@ module _ (net : NetState) (id : ℕ) where
   pub source_may : (source : LinkSource) (k : ℕ) → SourceIsThere net source k → SourceIsReady (Offer id) net source k
       → may_carry net source k ≡ true
       → MaySend (source_prepared source k net) source k
-  source_may (Block s) k there ready room = (
-    still_there s s made_ready net there.0,
-    subst (λ (node : NodeState). BlockMaySend node.block.exits k) (sym (node_found s made_ready net there.0))
-        (block_may (node_at net s).block.exits k ready room),
-  )
+  source_may (Block s) k there ready room =
+      let node = node_at net s in
+      let so = shared_tells net s k room in
+      let may : may_offer node.block.exits ≡ Some k = subst (λ (sharing : Bool). ReadyBy sharing k (Offer id) node) so.shares ready in (
+        still_there s s made_ready net there.0,
+        subst (λ (node : NodeState). BlockMaySend node.block k) (sym (node_found s made_ready net there.0))
+            (block_may node k so.shares may so.carries),
+      )
   source_may (Input b) k there ready room = (
     rw (length-set net.inputs k (with_parcel (input_in net k))) there,
     subst (λ (input : InputState). InputMaySend input) (sym (input_found k with_parcel net there)) (input_may (input_in net k) id ready),
@@ -168,10 +177,15 @@ module _ (net : NetState) (id : ℕ) where
   id_stays (Input b) k there = ap next_id (input_found k with_parcel net there)
 
   pub offered_ready : (makes : ℕ → Value → Result (List Value) ℕ) (i : ℕ) (source : LinkSource) (k : ℕ) → SourceIsThere net source k
+      → may_carry net source k ≡ true
       → offered_by source k (source_prepared source k net) ≡ source_moved makes (Offer i) source k net
-  offered_ready makes i (Block s) k there =
+  offered_ready makes i (Block s) k there carries =
+      let node = node_at net s in
       node_twice s made_ready (λ (node : NodeState). with_exits (offers k node.block.exits) node) net there.0
-  offered_ready makes i (Input b) k there =
+      ∙ sym (ap (λ (sharing : Bool). record net {
+        nodes = set net.nodes s (called (makes s) (cond sharing (out_call k (Offer i)) (copy_call k (Offer i))) node);
+      }) (shared_tells net s k carries).shares)
+  offered_ready makes i (Input b) k there carries =
       input_twice k with_parcel (λ (input : InputState). record input { stage = Out (next_id input); parcel = next_value input }) net there
 
   -- both are prepared
@@ -190,7 +204,7 @@ module _ (net : NetState) (id : ℕ) where
   both_may (Block s) k (Port t p) there ready room apart =
       let may = source_may (Block s) k there ready room in (
         still_there t s (with_room p) (source_prepared (Block s) k net) may.0,
-        subst (λ (node : NodeState). BlockMaySend node.block.exits k) (sym (at_source s k t p (blocks_apart s t apart))) may.1,
+        subst (λ (node : NodeState). BlockMaySend node.block k) (sym (at_source s k t p (blocks_apart s t apart))) may.1,
       )
 
   pub both_id : (source : LinkSource) (k : ℕ) (target : LinkTarget) → SourceIsThere net source k → are_apart source target ≡ true
@@ -202,11 +216,11 @@ module _ (net : NetState) (id : ℕ) where
 
   pub both_value : (source : LinkSource) (k : ℕ) (target : LinkTarget) → SourceIsThere net source k → are_apart source target ≡ true
       → value_next (both_ready source k target) source k ≡ value_next net source k
-  both_value (Block s) k Exit there apart = ap (λ (node : NodeState). head_of node.block.exits) (node_found s made_ready net there.0)
+  both_value (Block s) k Exit there apart = ap given_next (node_found s made_ready net there.0)
   both_value (Input b) k Exit there apart = ap next_value (input_found k with_parcel net there)
   both_value (Input b) k (Port t p) there apart = ap next_value (input_found k with_parcel net there)
   both_value (Block s) k (Port t p) there apart =
-      ap (λ (node : NodeState). head_of node.block.exits)
+      ap given_next
       (at_source s k t p (blocks_apart s t apart) ∙ node_found s made_ready net there.0)
 
   module _ (i : ℕ) where
@@ -285,12 +299,12 @@ offered_then makes l i target j lines moved =
     (with_line l (record { phase = Offered i; slot = (get_or lines l fresh_line).slot }) moved)
 
 pub offered_is : (makes : ℕ → Value → Result (List Value) ℕ) (l id : ℕ) (route : Route) (net : NetState)
-    → SourceIsThere net route.source route.source_place
+    → SourceIsThere net route.source route.source_place → may_carry net route.source route.source_place ≡ true
     → let first = source_prepared route.source route.source_place net in
     offered_then makes l (id_next first route.source route.source_place) route.target route.target_place first.lines
     (offered_by route.source route.source_place first)
     ≡ offered_along makes l (id_next net route.source route.source_place) route net
-offered_is makes l id route net there =
+offered_is makes l id route net there carries =
     let source = route.source in
     let k = route.source_place in
     let first = source_prepared source k net in
@@ -299,4 +313,4 @@ offered_is makes l id route net there =
     ∙ ap (λ (lines : List LineState). offered_then makes l i route.target route.target_place lines (offered_by source k first))
     (lines_stay source k net)
     ∙ ap (λ (moved : NetState). offered_then makes l i route.target route.target_place net.lines moved)
-    (offered_ready net id makes i source k there)
+    (offered_ready net id makes i source k there carries)

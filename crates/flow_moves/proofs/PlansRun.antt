@@ -9,6 +9,7 @@ use Rattle.flow_link.specs.NotBuilt.{is_built_kind, is_built_block}
 use Rattle.flow_link.specs.Plan.{block_in, link_in, is_reserving}
 use Rattle.flow_link.specs.Planned.{layout_of}
 use Rattle.flow_link.proofs.LinksLead.{links_lead}
+use Rattle.flow_block.proofs.KindsBuilt.{built_kept}
 use Rattle.flow_core.specs.Keeps.{IsRun}
 
 first_part : (a b c : Bool) → (a && not b && not c) ≡ true → a ≡ true
@@ -36,7 +37,8 @@ pub plan_runs : {W : Type 0} (plan : Plan W) → IsRun (layout_of plan)
 plan_runs plan = record {
   leads = links_lead _ (layout_of plan) plan.laid_out;
   well_formed = plan.well_formed;
-  built = λ b low. block_built (block_in plan.blocks.items b) (plan.built.block_is b low);
+  kept = λ b low.
+      built_kept (block_in plan.blocks.items b).kind (block_built (block_in plan.blocks.items b) (plan.built.block_is b low));
   freely = λ b low. takes_freely (block_in plan.blocks.items b) (plan.built.block_is b low);
   inside = λ l low. no_port (link_in plan.links.items l).target (plan.built.inside l low);
 }

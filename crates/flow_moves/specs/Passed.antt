@@ -7,10 +7,11 @@ use Rattle.flow_link.specs.declared.plan.LinkTarget.{LinkTarget}
 use Rattle.flow_link.specs.declared.plan.LinkTarget.TheVariants.{Port, Exit}
 use Rattle.flow_link.specs.declared.stage.SourceStage.TheVariants.{Out}
 use Rattle.flow_link.specs.LinkOk.{HasRoom}
+use Rattle.flow_link.specs.Plan.{is_one_taker}
 use Rattle.flow_intake.specs.Calls.{prepared}
 use Rattle.flow_intake.specs.Receives.{takes_at_once}
 use Rattle.flow_outlet.specs.End.{is_free}
-use Rattle.flow_outlet.specs.Outlet.{OutletState, end_at, may_offer, prepares, offers}
+use Rattle.flow_outlet.specs.Outlet.{end_at, may_offer, prepares, offers}
 use Rattle.flow_block.specs.Block.{BlockState, port_at, with_port}
 use Rattle.flow_block.specs.Input.{InputState, next_id, next_value}
 use Rattle.flow_block.specs.Node.{with_block, with_exits}
@@ -55,11 +56,12 @@ abbrev pub offered_by : LinkSource → ℕ → NetState → NetState
 offered_by (Block s) k net = with_node s (λ node. with_exits (offers k node.block.exits) node) net
 offered_by (Input b) k net = with_input_in k (λ input. record input { stage = Out (next_id input); parcel = next_value input }) net
 
--- a source may send its message: its parcel is made, and nothing stands in its way
-pub record BlockMaySend (exits : OutletState) (k : ℕ) : Type 0 where
-  pub may : may_offer exits ≡ Some k
-  pub parcel : is_some exits.parcel ≡ true
-  pub room : HasRoom (end_at exits k).rule.max (end_at exits k).given
+-- a source may send its message: it shares its messages out, its parcel is made, and nothing stands in its way
+pub record BlockMaySend (block : BlockState) (k : ℕ) : Type 0 where
+  pub shares : is_one_taker block.kind ≡ true
+  pub may : may_offer block.exits ≡ Some k
+  pub parcel : is_some block.exits.parcel ≡ true
+  pub room : HasRoom (end_at block.exits k).rule.max (end_at block.exits k).given
 
 pub record InputMaySend (input : InputState) : Type 0 where
   pub free : is_free input.stage ≡ true
@@ -67,7 +69,7 @@ pub record InputMaySend (input : InputState) : Type 0 where
   pub id : next_id input < 2 ^ 59
 
 abbrev pub MaySend : NetState → LinkSource → ℕ → Type 0
-MaySend net (Block s) k = (s < length net.nodes) × BlockMaySend (node_at net s).block.exits k
+MaySend net (Block s) k = (s < length net.nodes) × BlockMaySend (node_at net s).block k
 MaySend net (Input b) k = (k < length net.inputs) × InputMaySend (input_in net k)
 
 -- a target may receive one

@@ -10,6 +10,7 @@ use Rattle.flow_link.specs.declared.plan.LinkSource.TheVariants.{Block, Input}
 use Rattle.flow_link.specs.declared.plan.LinkTarget.{LinkTarget}
 use Rattle.flow_link.specs.declared.plan.LinkTarget.TheVariants.{Port, Exit}
 use Rattle.flow_link.specs.Layout.{Layout}
+use Rattle.flow_link.specs.Plan.{is_one_taker}
 use Rattle.flow_intake.specs.Receives.{takes_at_once}
 use Rattle.flow_outlet.specs.ByLink.{has_room}
 use Rattle.flow_outlet.specs.Outlet.{end_at}
@@ -27,10 +28,11 @@ abbrev pub id_next : NetState → LinkSource → ℕ → ℕ
 id_next net (Block s) k = (node_at net s).block.exits.next
 id_next net (Input b) k = next_id (input_in net k)
 
--- one more message may cross the link
+-- one more message may cross the link; what a block copies goes over it move by move
 abbrev pub may_carry : NetState → LinkSource → ℕ → Bool
 may_carry net (Block s) k =
-    has_room (end_at (node_at net s).block.exits k).rule.max (end_at (node_at net s).block.exits k).given
+    is_one_taker (node_at net s).block.kind
+    && has_room (end_at (node_at net s).block.exits k).rule.max (end_at (node_at net s).block.exits k).given
 may_carry net (Input b) k = true
 
 -- the target takes at once what is offered to it

@@ -1,5 +1,5 @@
 -- What stands ready at the end that makes a move: where it stands, and that what it hands over or takes is there.
-use Rattle.std.specs.Prelude.{◌≡◌, ℕ, ◌<◌, ◌^◌, Bool, true, false, length, Option, Some, is_some}
+use Rattle.std.specs.Prelude.{◌≡◌, ℕ, ◌<◌, ◌^◌, cond, Bool, true, false, length, Option, Some, is_some}
 use Rattle.flow_value.specs.declared.value.Value.{Value}
 use Rattle.flow_link.specs.declared.phase.Move.{Move}
 use Rattle.flow_link.specs.declared.phase.Move.TheVariants as move
@@ -8,10 +8,13 @@ use Rattle.flow_link.specs.declared.plan.LinkSource.TheVariants.{Block, Input}
 use Rattle.flow_link.specs.declared.plan.LinkTarget.{LinkTarget}
 use Rattle.flow_link.specs.declared.plan.LinkTarget.TheVariants.{Port, Exit}
 use Rattle.flow_link.specs.LinkOk.{HasRoom}
+use Rattle.flow_link.specs.Plan.{is_one_taker}
 use Rattle.flow_intake.specs.Port.{has_room, is_offer, is_hand}
 use Rattle.flow_intake.specs.Calls.{is_offered, is_posted, is_postponed, is_arrived, may_be_refused}
 use Rattle.flow_outlet.specs.End.{is_free, is_waiting}
 use Rattle.flow_outlet.specs.Outlet.{OutletState, end_at, may_offer, may_give, is_wish}
+use Rattle.flow_spread.specs.Spread.{SpreadState, may_offer as may_offer_copy, may_give as may_give_copy, is_asked_by}
+use Rattle.flow_spread.specs.Spread as spread
 use Rattle.flow_block.specs.Block.{port_at}
 use Rattle.flow_block.specs.Input.{InputState, next_id}
 use Rattle.flow_block.specs.InputKeeps.{MayOfferNext, is_wanted}
@@ -36,6 +39,38 @@ OutIsReady k move.Deny node = OutAt is_wish k node
 OutIsReady k move.Withdraw node = OutAt is_waiting k node
 OutIsReady k (move.End how) node = OutAt is_free k node
 OutIsReady k _ node = ⊥
+
+-- of a link over which copies go: its end is there, and stands so
+pub record CopyAt (stands_so : Bool) (k : ℕ) (copies : SpreadState) : Type 0 where
+  pub there : k < length copies.ends
+  pub stands : stands_so ≡ true
+
+-- the element is wanted over it, what its target is to have is made, and the link may carry it
+pub record CopyIsReadyToGive (k : ℕ) (copies : SpreadState) : Type 0 where
+  pub there : k < length copies.ends
+  pub wanted : may_give_copy k copies ≡ true
+  pub share : is_some (spread.end_at copies k).share ≡ true
+  pub room : HasRoom (spread.link_at copies k).rule.max (spread.link_at copies k).given
+
+abbrev pub CopyIsReady : ℕ → Move → SpreadState → Type 0
+CopyIsReady k (move.Offer _) copies = CopyAt (may_offer_copy k copies) k copies
+CopyIsReady k move.Give copies = CopyIsReadyToGive k copies
+CopyIsReady k move.Hold copies = CopyAt (is_asked_by (spread.stage_at copies k)) k copies
+CopyIsReady k move.Withdraw copies = CopyAt (is_waiting (spread.stage_at copies k)) k copies
+CopyIsReady k (move.End how) copies = CopyAt (is_free (spread.stage_at copies k)) k copies
+CopyIsReady k _ copies = ⊥
+
+-- over either, by whether the block shares its messages out or copies them
+abbrev pub ReadyBy : Bool → ℕ → Move → NodeState → Type 0
+ReadyBy true k next node = OutIsReady k next node
+ReadyBy false k next node = CopyIsReady k next node.block.copies
+
+abbrev pub ExitIsReady : ℕ → Move → NodeState → Type 0
+ExitIsReady k next node = ReadyBy (is_one_taker node.block.kind) k next node
+
+-- how many links lead out of the block
+abbrev pub exit_count : NodeState → ℕ
+exit_count node = cond (is_one_taker node.block.kind) (length node.block.exits.ends) (length node.block.copies.ends)
 
 abbrev pub InIsReady : ℕ → ℕ → Option Value → Move → NodeState → Type 0
 InIsReady p k slot move.Want node = InAt is_offer p k node × (has_room (port_at p node.block) ≡ true)
@@ -67,7 +102,7 @@ InputIsReady _ input = ⊥
 
 -- an end of a link is there
 abbrev pub SourceIsThere : NetState → LinkSource → ℕ → Type 0
-SourceIsThere net (Block s) k = (s < length net.nodes) × (k < length (node_at net s).block.exits.ends)
+SourceIsThere net (Block s) k = (s < length net.nodes) × (k < exit_count (node_at net s))
 SourceIsThere net (Input b) k = k < length net.inputs
 
 abbrev pub TargetIsThere : NetState → LinkTarget → ℕ → Type 0
@@ -75,7 +110,7 @@ TargetIsThere net (Port t p) k = (t < length net.nodes) × InAt any_stage p k (n
 TargetIsThere net Exit k = Unit {0}
 
 abbrev pub SourceIsReady : Move → NetState → LinkSource → ℕ → Type 0
-SourceIsReady next net (Block s) k = OutIsReady k next (node_at net s)
+SourceIsReady next net (Block s) k = ExitIsReady k next (node_at net s)
 SourceIsReady next net (Input b) k = InputIsReady next (input_in net k)
 
 abbrev pub TargetIsReady : ℕ → Move → NetState → LinkTarget → ℕ → Type 0

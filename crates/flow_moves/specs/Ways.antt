@@ -8,12 +8,11 @@ use Rattle.flow_link.specs.declared.plan.LinkSource.TheVariants.{Block, Input}
 use Rattle.flow_link.specs.declared.plan.LinkTarget.{LinkTarget}
 use Rattle.flow_link.specs.declared.plan.LinkTarget.TheVariants.{Port, Exit}
 use Rattle.flow_outlet.specs.End.{is_free}
-use Rattle.flow_outlet.specs.Outlet.{head_of}
 use Rattle.flow_block.specs.declared.planned.Route.{Route}
 use Rattle.flow_block.specs.Input.{InputState, InputCall, no_input, input_move, after_input, next_value, next_id, has_next}
-use Rattle.flow_block.specs.NextMoves.{next_in, next_out}
-use Rattle.flow_block.specs.Node.{NodeCall}
-use Rattle.flow_core.specs.Events.{out_call, in_call, input_call, input_after, slot_after, with_node, with_line}
+use Rattle.flow_block.specs.NextMoves.{next_in, next_source}
+use Rattle.flow_block.specs.Node.{NodeState, NodeCall, given_next}
+use Rattle.flow_core.specs.Events.{source_call, source_look, in_call, input_call, input_after, slot_after, with_node, with_line}
 use Rattle.flow_core.specs.State.{NetState, LineState, node_at, line_at}
 use Rattle.flow_moves.specs.Calls.{called}
 
@@ -26,7 +25,7 @@ with_input_in k change net = record net { inputs = set net.inputs k (change (inp
 
 -- what the two ends of a link would do next
 abbrev pub source_next : NetState → LinkSource → ℕ → Option Move
-source_next net (Block s) k = next_out k (node_at net s)
+source_next net (Block s) k = next_source k (node_at net s)
 source_next net (Input b) k = input_move (input_in net k)
 
 abbrev pub target_next : NetState → LinkTarget → ℕ → Option Move
@@ -43,13 +42,14 @@ lacks_id net (Input b) k = input_lacks_id (input_in net k)
 
 -- the value that the source gives next
 abbrev pub value_next : NetState → LinkSource → ℕ → Option Value
-value_next net (Block s) k = head_of (node_at net s).block.exits
+value_next net (Block s) k = given_next (node_at net s)
 value_next net (Input b) k = next_value (input_in net k)
 
 -- what has changed after a move, where blocks make this of their messages
 module _ (makes : ℕ → Value → Result (List Value) ℕ) where
   abbrev pub source_moved : Move → LinkSource → ℕ → NetState → NetState
-  source_moved next (Block s) k net = with_node s (called (makes s) (out_call k next)) net
+  source_moved next (Block s) k net =
+      with_node s (λ (node : NodeState). called (makes s) (source_call node.block.kind k next) node) net
   source_moved next (Input b) k net = with_input_in k (input_after (input_call next)) net
 
   abbrev pub target_moved : Move → Option Value → LinkTarget → ℕ → NetState → NetState
@@ -57,7 +57,8 @@ module _ (makes : ℕ → Value → Result (List Value) ℕ) where
   target_moved next slot Exit k net = net
 
   abbrev pub source_looked : Phase → LinkSource → ℕ → NetState → NetState
-  source_looked phase (Block s) k net = with_node s (called (makes s) (Some (NodeCall.look_out k phase))) net
+  source_looked phase (Block s) k net =
+      with_node s (λ (node : NodeState). called (makes s) (Some (source_look node.block.kind k phase)) node) net
   source_looked phase (Input b) k net = with_input_in k (after_input (InputCall.look phase)) net
 
   abbrev pub target_looked : Phase → LinkTarget → ℕ → NetState → NetState

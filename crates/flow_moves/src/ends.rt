@@ -1,19 +1,83 @@
 //! A move of one end of a link, with all that stands ready for it.
-ghost use Rattle.std.specs.Prelude.{◌≡◌, None, OnOk, OnErr, IfOk};
+ghost use Rattle.std.specs.Prelude.{◌≡◌, ◌<◌, None, OnOk, OnErr, IfOk, Some};
+ghost use Rattle.flow_link.specs.Plan.{is_one_taker};
 ghost use Rattle.flow_block.specs.Input.{next_value};
-ghost use Rattle.flow_core.specs.Events.{out_call, in_call, input_call, input_after};
+ghost use Rattle.flow_block.specs.NextMoves.{next_source};
+ghost use Rattle.flow_block.specs.Node.{given_next};
+ghost use Rattle.flow_core.specs.Events.{out_call, copy_call, source_call, source_look, in_call, input_call, input_after};
 ghost use Rattle.flow_outlet.specs.Outlet.{head_of};
 ghost use Rattle.flow_moves.specs.Calls.{Calls, handed, left_in_slot};
-ghost use Rattle.flow_moves.specs.Ready.{OutIsReady, InIsReady, InputIsReady};
+ghost use Rattle.flow_moves.specs.Ready.{OutIsReady, CopyIsReady, ExitIsReady, InIsReady, InputIsReady, exit_count};
 
-use flow_block::{Input, Node};
-use flow_link::Move;
+use flow_block::{Block, Input, Node};
+use flow_link::{BlockKind, Move, Phase};
 use flow_value::Parcel;
 use std::alloc::{AllocError, Global};
 
-/// A block's end of a link out of it makes its move: the parcel that it hands over, if it does. Where memory is out,
-/// nothing has changed.
-pub(crate) fn move_out(
+/// Whether a block shares its messages out over its links; if not, it gives each of them copies.
+pub fn shares_out(block: &Block) -> bool
+    ensures { result ≡ is_one_taker block.now.kind }
+{
+    match block.kind() {
+        BlockKind::Broadcast | BlockKind::WriteOnce => false,
+        BlockKind::Buffer
+        | BlockKind::Action
+        | BlockKind::Transform
+        | BlockKind::TransformMany
+        | BlockKind::Batch
+        | BlockKind::Join
+        | BlockKind::BatchedJoin => true,
+    }
+}
+
+/// What a block's end of a link out of it would do next.
+#[inline(always)]
+pub(crate) fn next_of_exit(node: &Node, place: usize) -> Option<Move>
+    requires { place < exit_count node.now }
+    ensures { result ≡ next_source place node.now }
+{
+    if shares_out(node.block()) {
+        node.block().next_out(place)
+    } else {
+        node.block().next_copy(place)
+    }
+}
+
+/// A block's end of a link out of it looks at the link's phase.
+pub(crate) fn look_exit(node: &mut Node, place: usize, phase: Phase)
+    requires { place < exit_count node.old }
+    ensures { Calls (Some (source_look node.old.block.kind place phase)) node.old node.new }
+{
+    if shares_out(node.block()) {
+        node.look_out(place, phase);
+    } else {
+        node.look_copy(place, phase);
+    }
+}
+
+/// A block's end of a link out of it makes its move, whether the block shares its messages out or copies them: the
+/// parcel that it hands over, if it does. Where memory is out, nothing has changed.
+pub(crate) fn move_exit(
+    node: &mut Node,
+    alloc: Global,
+    place: usize,
+    next: Move,
+) -> Result<Option<Parcel>, AllocError>
+    requires { ExitIsReady place next node.old }
+    ensures done { OnOk result (Calls (source_call node.old.block.kind place next) node.old node.new) }
+    ensures given { IfOk result (λ given. given ≡ handed next (given_next node.old)) }
+    ensures kept { OnErr result (node.new ≡ node.old) }
+{
+    if shares_out(node.block()) {
+        move_out(node, alloc, place, next)
+    } else {
+        move_copy(node, alloc, place, next)
+    }
+}
+
+/// The end of a link out of a block that shares its messages out makes its move: the parcel that it hands over, if it
+/// does. Where memory is out, nothing has changed.
+fn move_out(
     node: &mut Node,
     alloc: Global,
     place: usize,
@@ -33,6 +97,32 @@ pub(crate) fn move_out(
         Move::Deny => node.deny(place),
         Move::Withdraw => node.withdraw(place),
         Move::End(how) => node.end(place, how),
+        _ => {}
+    }
+    Ok(None)
+}
+
+/// The end of a link over which copies go makes its move: the parcel that it hands over, if it does. Where memory is out,
+/// nothing has changed.
+fn move_copy(
+    node: &mut Node,
+    alloc: Global,
+    place: usize,
+    next: Move,
+) -> Result<Option<Parcel>, AllocError>
+    requires { CopyIsReady place next node.old.block.copies }
+    ensures done { OnOk result (Calls (copy_call place next) node.old node.new) }
+    ensures given { IfOk result (λ given. given ≡ handed next node.old.block.copies.element) }
+    ensures kept { OnErr result (node.new ≡ node.old) }
+{
+    match next {
+        Move::Offer(_) => {
+            node.offer_copy(alloc, place)?;
+        }
+        Move::Give => return Ok(Some(node.give_copy(place))),
+        Move::Hold => node.hold_copy(place),
+        Move::Withdraw => node.withdraw_copy(place),
+        Move::End(how) => node.end_copy(place, how),
         _ => {}
     }
     Ok(None)

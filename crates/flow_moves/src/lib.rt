@@ -12,6 +12,7 @@ mod own;
 mod parts;
 mod pass;
 
+pub use ends::shares_out;
 pub use fresh::{lines_of, nodes_of};
 pub use laws::{
     blocks_are_planned, links_are_there, moves_are_ready, moves_go_along_ways,

@@ -3,15 +3,15 @@ ghost use Rattle.std.specs.Prelude.{◌≡◌, ◌≢◌, ℕ, ◌<◌, true, fa
 ghost use Rattle.std.specs.Prelude.{◌≤◌, ◌↔◌, None, OnOk, OnErr, IfErr};
 ghost use Rattle.flow_value.specs.declared.value.Value.{Value};
 ghost use Rattle.flow_link.specs.declared.draft.BlockKind.TheVariants.{Buffer};
-ghost use Rattle.flow_link.specs.Plan.{has_work};
+ghost use Rattle.flow_link.specs.Plan.{has_work, is_write_once};
 ghost use Rattle.flow_block.specs.Kinds.{is_kept_kind};
 ghost use Rattle.flow_outlet.specs.Outlet.{lacks_ids};
 ghost use Rattle.flow_outlet.specs.declared.fault.OutletFault.TheVariants.{Ids};
-ghost use Rattle.flow_block.specs.Block.{held_by, is_join, put_by_kind, put_next, ends_job, put_by_job};
+ghost use Rattle.flow_block.specs.Block.{held_by, has_ports, put_by_kind, ends_job, put_by_job};
 ghost use Rattle.flow_block.specs.Jobs.{has_ticket, is_out, is_front_back};
 ghost use Rattle.flow_block.specs.JobsEnd.{after_job, put_at_end};
 ghost use Rattle.flow_block.specs.Node.{NodeCall, after, with_block};
-ghost use Rattle.flow_block.specs.Peeks.{may_make, may_begin};
+ghost use Rattle.flow_block.specs.Peeks.{may_make, may_begin, lacks_next};
 ghost use Rattle.flow_core.specs.Events.{with_node};
 ghost use Rattle.flow_core.specs.State.{node_at};
 ghost use Rattle.flow_exec.specs.Works.{results_by};
@@ -26,22 +26,23 @@ use flow_value::{Value, Work};
 use std::alloc::{AllocError, Global};
 
 impl Parts {
-    /// A block without a function makes its next outputs: it hands on the message that waits longest, or makes a row or a
-    /// tuple of those that wait. Where message ids are used up or memory is out, nothing has changed.
+    /// A block without a function makes its next outputs: it hands on or copies the message that waits longest, or makes a
+    /// row, a tuple or a group of those that wait. Where message ids are used up or memory is out, nothing has changed.
     pub fn make(&mut self, alloc: Global, block: usize) -> Result<(), OutletFault>
         requires there { block < length self.old.nodes }
-        requires alone { is_join (node_at self.old block).block.kind ≡ false →
+        requires alone { has_ports (node_at self.old block).block.kind ≡ false →
             length (node_at self.old block).block.ports ≡ 1 }
         requires ports { 0 < length (node_at self.old block).block.ports }
         requires waits { may_make (node_at self.old block).block ≡ true }
+        requires many { is_write_once (node_at self.old block).block.kind ≡ false }
         requires built { is_kept_kind (node_at self.old block).block.kind ≡ true }
         ensures done { OnOk result ((result : Value → Result (List Value) ℕ) →
             self.new ≡ with_node block (after result NodeCall.make) self.old) }
-        ensures ids { OnOk result ((result : Value → Result (List Value) ℕ) → lacks_ids (put_next result
-            (node_at self.old block).block) (node_at self.old block).block.exits ≡ false) }
+        ensures ids { OnOk result ((result : Value → Result (List Value) ℕ) →
+            lacks_next result (node_at self.old block) ≡ false) }
         ensures kept { OnErr result (self.new ≡ self.old) }
-        ensures used_up { result ≡ Err Ids → (result : Value → Result (List Value) ℕ) → lacks_ids (put_next result
-            (node_at self.old block).block) (node_at self.old block).block.exits ≡ true }
+        ensures used_up { result ≡ Err Ids → (result : Value → Result (List Value) ℕ) →
+            lacks_next result (node_at self.old block) ≡ true }
     {
         make(&mut self.nodes[block], alloc)
     }
@@ -175,28 +176,29 @@ impl Parts {
 
 /// A block without a function makes its next outputs. Where message ids are used up or memory is out, nothing has changed.
 fn make(node: &mut Node, alloc: Global) -> Result<(), OutletFault>
-    requires alone { is_join node.old.block.kind ≡ false → length node.old.block.ports ≡ 1 }
+    requires alone { has_ports node.old.block.kind ≡ false → length node.old.block.ports ≡ 1 }
     requires ports { 0 < length node.old.block.ports }
     requires waits { may_make node.old.block ≡ true }
+    requires many { is_write_once node.old.block.kind ≡ false }
     requires built { is_kept_kind node.old.block.kind ≡ true }
     ensures done { OnOk result ((result : Value → Result (List Value) ℕ) →
         node.new ≡ after result NodeCall.make node.old) }
     ensures ids { OnOk result ((result : Value → Result (List Value) ℕ) →
-        lacks_ids (put_next result node.old.block) node.old.block.exits ≡ false) }
+        lacks_next result node.old ≡ false) }
     ensures kept { OnErr result (node.new ≡ node.old) }
     ensures used_up { result ≡ Err Ids → (result : Value → Result (List Value) ℕ) →
-        lacks_ids (put_next result node.old.block) node.old.block.exits ≡ true }
+        lacks_next result node.old ≡ true }
 {
     match node.block().kind() {
         BlockKind::Batch => node.make_row(alloc),
         BlockKind::Join => node.make_tuple(alloc),
+        BlockKind::Broadcast => node.copy_next(),
+        BlockKind::BatchedJoin => node.make_group(alloc),
         BlockKind::Buffer
-        | BlockKind::Broadcast
         | BlockKind::WriteOnce
         | BlockKind::Action
         | BlockKind::Transform
-        | BlockKind::TransformMany
-        | BlockKind::BatchedJoin => node.hand_on(),
+        | BlockKind::TransformMany => node.hand_on(),
     }
 }
 

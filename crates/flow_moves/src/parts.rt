@@ -9,7 +9,7 @@ ghost use Rattle.flow_moves.specs.Ways.{input_in, source_next, target_next, lack
 ghost use Rattle.flow_moves.specs.Ways.{source_moved, target_moved, source_looked, target_looked, moved_along};
 ghost use Rattle.flow_moves.specs.Ways.{moved_by_source, moved_by_target};
 
-use crate::ends::{move_in, move_input, move_out};
+use crate::ends::{look_exit, move_exit, move_in, move_input, next_of_exit};
 use flow_block::{Input, Node, Route};
 use flow_link::{LinkSource, LinkTarget, Move, Phase, SourceStage};
 use flow_value::Parcel;
@@ -124,7 +124,7 @@ impl Parts {
             result ≡ source_next self.now route.now.source route.now.source_place }
     {
         match route.source {
-            LinkSource::Block(block) => self.nodes[block].block().next_out(route.source_place),
+            LinkSource::Block(block) => next_of_exit(&self.nodes[block], route.source_place),
             LinkSource::Input(_) => self.inputs[route.source_place].next_move(),
         }
     }
@@ -253,7 +253,7 @@ impl Parts {
         ensures kept { OnErr result (self.new ≡ self.old) }
     {
         match route.source {
-            LinkSource::Block(block) => move_out(
+            LinkSource::Block(block) => move_exit(
                 &mut self.nodes[block],
                 alloc,
                 route.source_place,
@@ -296,7 +296,11 @@ impl Parts {
             self.new ≡ source_looked makes phase route.now.source route.now.source_place self.old }
     {
         match route.source {
-            LinkSource::Block(block) => self.nodes[block].look_out(route.source_place, phase),
+            LinkSource::Block(block) => look_exit(
+                &mut self.nodes[block],
+                route.source_place,
+                phase,
+            ),
             LinkSource::Input(_) => self.inputs[route.source_place].look(phase),
         }
     }

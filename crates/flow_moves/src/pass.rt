@@ -13,6 +13,7 @@ ghost use Rattle.flow_moves.specs.Passes.{passed_along, offered_along};
 ghost use Rattle.flow_moves.specs.Ready.{SourceIsThere, TargetIsThere, SourceIsReady, IsThere};
 ghost use Rattle.flow_moves.specs.Ways.{value_next, target_looked};
 
+use crate::ends::shares_out;
 use crate::parts::Parts;
 use flow_block::Route;
 use flow_link::{LinkSource, LinkTarget, Move, Phase};
@@ -51,13 +52,16 @@ impl Parts {
         }
     }
 
-    /// Whether one more message may cross a link.
+    /// Whether one more message may cross a link at once. What a block copies goes over it move by move.
     fn may_carry(&self, route: &Route) -> bool
         requires { SourceIsThere self.now route.now.source route.now.source_place }
         ensures { result ≡ may_carry self.now route.now.source route.now.source_place }
     {
         match route.source {
-            LinkSource::Block(block) => self.nodes[block].block().may_carry(route.source_place),
+            LinkSource::Block(block) => {
+                let block = self.nodes[block].block();
+                shares_out(block) && block.may_carry(route.source_place)
+            }
             LinkSource::Input(_) => true,
         }
     }

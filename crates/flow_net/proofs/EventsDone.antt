@@ -17,10 +17,9 @@ use Rattle.flow_outlet.specs.declared.fault.OutletFault.{OutletFault}
 use Rattle.flow_outlet.specs.declared.fault.OutletFault.TheVariants as outlet
 use Rattle.flow_outlet.specs.Outlet.{lacks_ids}
 use Rattle.flow_block.specs.declared.planned.Route.{Route}
-use Rattle.flow_block.specs.Block.{put_next}
 use Rattle.flow_block.specs.JobsEnd.{after_job, put_at_end}
 use Rattle.flow_block.specs.Node.{NodeCall, after as after_call}
-use Rattle.flow_block.specs.Peeks.{next_fault}
+use Rattle.flow_block.specs.Peeks.{lacks_next, next_fault}
 use Rattle.flow_block.specs.Planned.{block_makes}
 use Rattle.flow_block.specs.Routes.{route_of}
 use Rattle.flow_core.specs.Events.{NetEvent, Enabled, MayHappen, with_node, node_after, is_of_source, after}
@@ -65,7 +64,7 @@ module _ {W : Type 0} (layout : Layout W) (meaning : ℕ → Value → Result (L
 -- a message that is handed on
 module _ {W : Type 0} (layout : Layout W) (meaning : ℕ → Value → Result (List Value) ℕ) (old : NetState) (b : ℕ) where
   abbrev lacks_made : (Value → Result (List Value) ℕ) → Bool
-  lacks_made makes = lacks_ids (put_next makes (node_at old b).block) (node_at old b).block.exits
+  lacks_made makes = lacks_next makes (node_at old b)
 
   pub unmade_may_not : ((makes : Value → Result (List Value) ℕ) → lacks_made makes ≡ true)
       → MayHappen layout meaning (NetEvent.make b) old → ⊥

@@ -34,7 +34,7 @@ use Rattle.flow_moves.specs.Ways.{lacks_id, source_next, target_next}
 use Rattle.flow_exec.specs.Works.{works_of}
 use Rattle.flow_moves.proofs.PlansRun.{plan_runs}
 use Rattle.flow_moves.proofs.MerelyKept.{links_there}
-use Rattle.std.specs.Option.{IfNone}
+use Rattle.std.specs.Option.{IfNone, option_eq}
 use Rattle.flow_net.specs.Opens.{IsOpen}
 use Rattle.flow_net.specs.There.{IsDue, NeedsId}
 use Rattle.flow_net.specs.declared.due.Due.{Due}
@@ -136,6 +136,11 @@ module _ {W : Type 0} (works : W → Value → Result (List Value) WorkFault) (p
         → MayHappen layout meaning (NetEvent.at_link l next) net → ⊥
     lacking_may_not e next own =
         may_not_happen layout meaning net l kept (plan_runs plan) there (sym (lacks_same lacks lacks_is) ∙ e) next own
+
+-- what is found is told to be the same as itself
+pub found_same : (same : Move → Move → Bool) (found : Option Move) (next : Move) (told : Bool)
+    → told ≡ option_eq same found (Some next) → same next next ≡ true → found ≡ Some next → told ≡ true
+found_same same found next told is itself e = is ∙ ap (λ (o : Option Move). option_eq same o (Some next)) e ∙ itself
 
 -- A block
 

@@ -15,24 +15,28 @@ use Rattle.flow_link.specs.declared.plan.LinkTarget.TheVariants.{Port, Exit}
 use Rattle.flow_link.specs.declared.stage.SourceStage.{SourceStage}
 use Rattle.flow_link.specs.declared.stage.SourceStage.TheVariants.{Free}
 use Rattle.flow_link.specs.Layout.{Layout}
-use Rattle.flow_link.specs.Plan.{link_in}
+use Rattle.flow_link.specs.Plan.{link_in, is_one_taker}
 use Rattle.flow_outlet.specs.End.{is_free}
 use Rattle.flow_outlet.specs.Outlet.{is_empty}
 use Rattle.flow_outlet.proofs.OffersInOrder.{offers_in_order}
+use Rattle.flow_block.specs.Copier.{Copier}
 use Rattle.flow_block.specs.Input.{InputState, has_next, next_id, input_move, move_from}
 use Rattle.flow_block.specs.InputKeeps.{MayMoveInput}
-use Rattle.flow_block.specs.NextMoves.{MayMoveOut}
+use Rattle.flow_block.specs.NextCopies.{MayMoveCopy}
+use Rattle.flow_block.specs.NextMoves.{MayMoveOut, next_source}
 use Rattle.flow_block.specs.Node.{NodeState}
 use Rattle.flow_block.specs.NodeLaw.{NodeLaw}
 use Rattle.flow_block.specs.Planned.{out_place}
 use Rattle.flow_block.specs.Routes.{source_place, target_place}
+use Rattle.flow_block.proofs.CopierHolds.{copies_lawful}
 use Rattle.flow_block.proofs.InputsInOrder.{inputs_keep}
 use Rattle.flow_block.proofs.NextMoves.{next_moves_may}
 use Rattle.flow_core.specs.Events.{NetEvent, LinkMay, HasIds, MayHappen, is_of_source, source_peek, target_peek, peek_by}
 use Rattle.flow_core.specs.Keeps.{IsRun, NetKeeps}
 use Rattle.flow_core.specs.State.{NetState, node_at, input_at}
 use Rattle.flow_core.proofs.NextIsAllowed.{of_target}
-use Rattle.flow_core.proofs.PlacesOfLinks.{exit_there}
+use Rattle.flow_core.proofs.PlacesOfLinks.{exit_there, copy_there}
+use Rattle.flow_core.proofs.SourcesByKind.{shared_next, copied_next}
 use Rattle.flow_moves.specs.Statements.{source_would, target_would}
 use Rattle.flow_moves.specs.Ways.{source_next, target_next, input_lacks_id, lacks_id, input_in}
 use Rattle.flow_moves.proofs.MerelyKept.{sources_may, targets_may}
@@ -141,17 +145,38 @@ module _ {W : Type 0} (layout : Layout W) (meaning : ℕ → Value → Result (L
       subst (λ (i : ℕ). i < 2 ^ 59) (sym may.0) low
   id_for_block b node law k _ may = tt
 
+  -- and so has what a block copies
+  id_for_copy : (b : ℕ) (node : NodeState) → Copier layout b node.block node.journal → (k : ℕ) (next : Move)
+      → MayMoveCopy k node next → IdIsLeft next
+  id_for_copy b node copier k (move.Offer id) may =
+      subst (λ (i : ℕ). i < 2 ^ 59) (sym may.0) (copies_lawful layout b node.block node.journal copier).ids
+  id_for_copy b node copier k _ may = tt
+
   module _ (runs : IsRun layout) (keeps : NetKeeps layout meaning net) (there : l < length layout.links) (next : Move) where
+    id_for_exit : (s : ℕ) → (link_in layout.links l).source ≡ Block s → next_source (out_place layout s l) (node_at net s) ≡ Some next
+        → (sharing : Bool) → is_one_taker (node_at net s).block.kind ≡ sharing → IdIsLeft next
+    id_for_exit s from would true shares =
+        let node = node_at net s in
+        let low = runs.leads.from_block l s there from in
+        let law = keeps.nodes s low in
+        let place = exit_there layout meaning s node law l there from shares in
+        let k = out_place layout s l in
+        id_for_block s node law k next
+        ((next_moves_may layout meaning s node runs.well_formed low law).1 k next place (sym (shared_next k node shares) ∙ would))
+    id_for_exit s from would false copying =
+        let node = node_at net s in
+        let low = runs.leads.from_block l s there from in
+        let law = keeps.nodes s low in
+        let place = copy_there layout meaning s node law l there from copying in
+        let k = out_place layout s l in
+        id_for_copy s node (law.copies.copier copying) k next
+        ((next_moves_may layout meaning s node runs.well_formed low law).2 k next place (sym (copied_next k node copying) ∙ would))
+
     id_for_source : (source : LinkSource) → (link_in layout.links l).source ≡ source
         → lacks_id net source (source_place layout source l) ≡ false
         → source_next net source (source_place layout source l) ≡ Some next → IdIsLeft next
     id_for_source (Block s) from left would =
-        let node = node_at net s in
-        let low = runs.leads.from_block l s there from in
-        let law = keeps.nodes s low in
-        let place = exit_there layout meaning s node law l there from in
-        let k = out_place layout s l in
-        id_for_block s node law k next ((next_moves_may layout meaning s node runs.well_formed low law).1 k next place would)
+        id_for_exit s from would (is_one_taker (node_at net s).block.kind) refl
     id_for_source (Input b) from left would =
         let input = input_at layout net b in
         let law = keeps.inputs b (runs.leads.from_input l b there from) (runs.leads.from_inputs l b there from) in

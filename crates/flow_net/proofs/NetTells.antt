@@ -1,6 +1,6 @@
 -- What a network's parts tell is what its run has.
-use Rattle.std.proofs.Common.{◌≡◌, ℕ, ◌<◌, Bool, true, false, ◌||◌, List, [], ◌∷◌, length, get_or, Option, Some, None, Result}
-use Rattle.std.proofs.Common.{refl, ap, ap₂, sym, ◌∙◌, subst, arith}
+use Rattle.std.proofs.Common.{◌≡◌, ℕ, ◌<◌, Bool, true, false, List, [], ◌∷◌, length, get_or, Option, Some, None, Result}
+use Rattle.std.proofs.Common.{refl, ap, ap₂, sym, ◌∙◌, subst}
 use Rattle.std.proofs.Math.ListN.{get_or-map}
 use Rattle.std.proofs.Math.Bridge.{le_prop}
 use Rattle.std.proofs.Math.Logic.{∥∥₁_elim}
@@ -16,22 +16,17 @@ use Rattle.flow_link.specs.Endings.{stops, is_complete as is_run_complete}
 use Rattle.flow_link.specs.Layout.{Layout}
 use Rattle.flow_link.specs.Lists.{is_empty}
 use Rattle.flow_link.specs.Plan.{block_in, port_count, no_block}
-use Rattle.flow_link.specs.Trace.{Run, BlockTrace, InputTrace, has_ended, has_complete, is_faulted, is_done}
+use Rattle.flow_link.specs.Trace.{Run, BlockTrace, InputTrace, is_done}
 use Rattle.flow_link.specs.Trace.{trace_of, marks_of, left_at, held_at, input_of}
 use Rattle.flow_intake.specs.Port.{PortState, fresh_port}
-use Rattle.flow_intake.specs.PortLaw.{has_ended as has_port_ended}
 use Rattle.flow_block.specs.Block.{port_at}
 use Rattle.flow_block.specs.Input.{no_input, input_trace}
-use Rattle.flow_block.specs.Node.{node_trace}
+use Rattle.flow_block.specs.Node.{left_in, node_trace}
 use Rattle.flow_block.specs.NodeLaw.{outcome_in, NodeLaw}
 use Rattle.flow_block.specs.Planned.{input_place}
 use Rattle.flow_block.specs.Peeks.{is_complete}
 use Rattle.flow_block.proofs.CompleteSeen.{complete_told}
 use Rattle.flow_block.proofs.JournalTells.{done_marked, goes_on}
-use Rattle.std.specs.Coded.{codes}
-use Rattle.flow_value.specs.contracts.value.Value as content
-use Rattle.flow_block.specs.Node.{left_in}
-use Rattle.flow_block.proofs.CopiesIdle.{left_is_shared}
 use Rattle.flow_core.specs.Keeps.{NetKeeps}
 use Rattle.flow_core.specs.State.{NetState, no_node, node_at}
 use Rattle.flow_core.proofs.PlacesTell.{count_within}
@@ -134,11 +129,6 @@ module _ {W : Type 0} (meaning : W → Value → Result (List Value) WorkFault) 
     -- it has the ports that the plan gives it
     pub ports_are : length (node_at net b).block.ports ≡ port_count (block_in layout.blocks b)
     ports_are = ∥∥₁_elim kept (ℕ_set _ _) (λ keeps. (keeps.nodes b low).shape.port_count_is)
-
-    -- what it has left is what it shares out
-    pub left_told : (node_at net b).block.exits.left ≡ left_at run b
-    left_told = ∥∥₁_elim kept (Prim.hlevel (codes, content.the_row.coded)) (λ keeps.
-        sym (left_is_shared layout (works_of meaning layout) b (node_at net b) (keeps.nodes b low)) ∙ left_is b)
 
     -- its state
     state_in : NodeLaw layout (works_of meaning layout) b (node_at net b)

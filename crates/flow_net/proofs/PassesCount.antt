@@ -22,12 +22,16 @@ use Rattle.flow_block.specs.Routes.{route_of, source_place}
 use Rattle.flow_core.specs.Events.{NetEvent, is_of_source, after, source_peek}
 use Rattle.flow_core.specs.Keeps.{IsRun, NetKeeps}
 use Rattle.flow_core.specs.State.{NetState, node_at, line_at, input_at}
+use Rattle.flow_core.proofs.SourcesByKind.{shared_next}
 use Rattle.flow_moves.specs.Passes.{MayPass, id_next, after_offer, after_want, after_give, after_open, after_pass}
-use Rattle.flow_moves.specs.Passes.{offered_along, wanted_along, given_along, opened_along, passed_along, may_pass}
+use Rattle.flow_moves.specs.Passes.{offered_along, wanted_along, given_along, opened_along, passed_along, may_carry, may_pass}
 use Rattle.flow_moves.specs.Ways.{moved_along, source_next}
 use Rattle.flow_moves.proofs.MerelyKept.{kept_after, line_count_is, passes_may}
 use Rattle.flow_moves.proofs.PassesHappen.{phase_then}
-use Rattle.flow_moves.proofs.PassesTell.{pass_tells}
+use Rattle.flow_moves.proofs.PassesTell.{pass_tells, shared_tells}
+use Rattle.flow_net.specs.Dues.{event_of}
+use Rattle.flow_net.specs.declared.due.Due.{Due}
+use Rattle.flow_net.specs.declared.due.Due.TheVariants.{Link}
 use Rattle.flow_net.specs.Happened.{Happened}
 use Rattle.flow_net.specs.There.{IsDue}
 use Rattle.flow_net.proofs.EventsCount.{one_more_event}
@@ -94,13 +98,15 @@ input_offers i input stage.Refused is = absurd (cc)
 input_offers i input (stage.Ended how) is = absurd (cc)
 
 module _ {W : Type 0} (layout : Layout W) (net : NetState) (l : ℕ) where
-  source_offers : (i : ℕ) (from : LinkSource) → source_peek layout net l from ≡ Some (Offer i)
-      → i ≡ id_next net from (source_place layout from l)
-  source_offers i (Block s) is =
+  source_offers : (i : ℕ) (from : LinkSource) → may_carry net from (source_place layout from l) ≡ true
+      → source_peek layout net l from ≡ Some (Offer i) → i ≡ id_next net from (source_place layout from l)
+  source_offers i (Block s) carries is =
       let node = node_at net s in
       let k = out_place layout s l in
-      block_offers i node.block.exits k node.block.stopped (is_held_up node.block) (stage_at node.block.exits k) is
-  source_offers i (Input b) is = input_offers i (input_at layout net b) (input_at layout net b).stage is
+      let shares = (shared_tells net s k carries).shares in
+      block_offers i node.block.exits k node.block.stopped (is_held_up node.block) (stage_at node.block.exits k)
+      (sym (shared_next k node shares) ∙ is)
+  source_offers i (Input b) carries is = input_offers i (input_at layout net b) (input_at layout net b).stage is
 
   would_by_peek : (i : ℕ) (from : LinkSource) → source_peek layout net l from ≡ Some (Offer i)
       → source_next net from (source_place layout from l) ≡ Some (Offer i)
@@ -110,12 +116,19 @@ module _ {W : Type 0} (layout : Layout W) (net : NetState) (l : ℕ) where
   abbrev pub next_id_of : ℕ
   next_id_of = id_next net (route_of layout l).source (route_of layout l).source_place
 
-  -- the offer that is due is of that id
+  -- the offer that is due is of that id, where its message may pass
   pub due_is : (meaning : ℕ → Value → Result (List Value) ℕ) (i : ℕ) → IsDue layout meaning net (NetEvent.at_link l (Offer i))
-      → IsDue layout meaning net (NetEvent.at_link l (Offer next_id_of))
-  due_is meaning i due =
+      → may_pass l (route_of layout l) net ≡ true → IsDue layout meaning net (NetEvent.at_link l (Offer next_id_of))
+  due_is meaning i due passes =
       subst (λ (id : ℕ). IsDue layout meaning net (NetEvent.at_link l (Offer id)))
-      (source_offers i (link_in layout.links l).source due.enabled.peek) due
+      (source_offers i (link_in layout.links l).source (pass_tells l (route_of layout l) net passes).carries due.enabled.peek) due
+
+  -- and so it is where a driver found it
+  pub found_due : (meaning : ℕ → Value → Result (List Value) ℕ) (event : Due) (i : ℕ) → event ≡ Link l (Offer i)
+      → IsDue layout meaning net (event_of event) → may_pass l (route_of layout l) net ≡ true
+      → IsDue layout meaning net (NetEvent.at_link l (Offer next_id_of))
+  found_due meaning event i is due passes =
+      due_is meaning i (subst (λ (e : Due). IsDue layout meaning net (event_of e)) is due) passes
 
 -- What is done
 

@@ -143,6 +143,7 @@ impl Agenda {
                 Some(id) => self.make_next(Spot::Link(id)),
                 None => self.list_inward(block, number),
             }
+            self.list_copies(block);
         }
     }
 
@@ -154,6 +155,7 @@ impl Agenda {
             LinkSource::Input(_) => self.list(Spot::Link(id)),
         }
         if let LinkTarget::Port(number, _) = route.target {
+            self.list_copies_held_up(parts, number);
             self.make_next(Spot::Block(number));
         }
     }
@@ -206,9 +208,14 @@ impl Agenda {
             Move::Give => self.list_others(parts, number),
             Move::Close => {
                 self.list_others(parts, number);
+                self.list_copies_held_up(parts, number);
                 self.list(Spot::Block(number));
             }
-            _ => self.list(Spot::Block(number)),
+            Move::Withdraw => self.list(Spot::Block(number)),
+            _ => {
+                self.list_copies_held_up(parts, number);
+                self.list(Spot::Block(number));
+            }
         }
     }
 
@@ -250,8 +257,23 @@ impl Agenda {
         if block.away_count() > 0 && block.is_held_up() {
             self.list_out(block);
         }
+        self.list_copies_waiting(block);
         if block.fault().is_some() {
             self.list_in(block);
+        }
+    }
+
+    /// Lists what waits for a block with this number that copies, where that holds it up.
+    fn list_copies_held_up(&mut self, parts: &Parts, number: usize) {
+        if let Some(node) = parts.find_node(number) {
+            self.list_copies_waiting(node.block());
+        }
+    }
+
+    /// Lists all links over which a block copies, where what waits over them holds it up.
+    fn list_copies_waiting(&mut self, block: &Block) {
+        if block.copies().waiting_count() > 0 && block.is_copy_held_up() {
+            self.list_copies(block);
         }
     }
 
@@ -267,6 +289,14 @@ impl Agenda {
     fn list_out(&mut self, block: &Block) {
         for place in 0..block.out_count() {
             self.list(Spot::Link(block.out_link(place)));
+        }
+        self.list_copies(block);
+    }
+
+    /// Lists all links over which a block copies its messages.
+    fn list_copies(&mut self, block: &Block) {
+        for end in block.copies().ends() {
+            self.list(Spot::Link(end.link.rule.id));
         }
     }
 

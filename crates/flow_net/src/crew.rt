@@ -17,7 +17,7 @@ use flow_link::{BlockDef, Plan};
 use flow_value::Work;
 use std::alloc::{AllocError, Global};
 use std::sync::{Arc, Wait};
-use std::thread::{Threads, join, yield_now};
+use std::thread::{Threads, join, join_mut, yield_now};
 
 /// How often a thread looks for a message before it sleeps until one comes: for about a millisecond.
 const LOOKS: u32 = 2_000;
@@ -175,6 +175,26 @@ fn report_of<W: Work>(alloc: Global, task: Task<W>) -> Report<W> {
         number: task.number,
         done: task.job.run(alloc).ok(),
     }
+}
+
+/// Calls the driver while so many further threads run jobs. They have ended when it returns.
+// A function of its own, since the proof that the jobs may go to other threads need know nothing of the network.
+pub(crate) fn run_beside<W: Work, R: Threads + Wait + Sync, D: FnMut() -> u64>(
+    rt: &R,
+    alloc: Global,
+    queue: &Receiver<Task<W>>,
+    reports: &Sender<Report<W>>,
+    threads: usize,
+    driver: &mut D,
+) -> u64
+    requires { D.pre driver.old }
+    ensures { D.step driver.old result driver.new }
+{
+    let mut workers = ||
+        requires { IsSend W.row × IsSync W.row × IsSync R.row }
+    { work_in(rt, alloc, queue, reports, threads) };
+    let (_, count) = join_mut(rt, &mut workers, driver);
+    count
 }
 
 /// Runs jobs in so many threads, until the driver's ends are gone.

@@ -9,10 +9,9 @@ ghost use Rattle.flow_net.specs.Happened.{Happened};
 ghost use Rattle.flow_net.specs.Settles.{Settles, GoesOn};
 ghost use Rattle.flow_net.specs.There.{NeedsId};
 ghost use Rattle.flow_net.specs.declared.fault.NetFault.TheVariants.{NotEnabled, Ids};
-ghost use Rattle.std.specs.Thread.{IsSend, IsSync};
 
 use crate::agenda::Spot;
-use crate::crew::{Desk, Report, Task, channels, room_of, work_in};
+use crate::crew::{Desk, Report, Task, channels, room_of, run_beside};
 use crate::due::Due;
 use crate::engine::Engine;
 use crate::fault::NetFault;
@@ -21,7 +20,7 @@ use crossbeam_channel::{Receiver, Sender};
 use flow_value::Work;
 use std::alloc::Global;
 use std::sync::Wait;
-use std::thread::{Threads, join_mut};
+use std::thread::Threads;
 
 impl<W: Work> Engine<W> {
     /// Does events until nothing may happen any more, or as many as the limit are done, in so many threads.
@@ -268,9 +267,6 @@ fn drive_beside<W: Work, R: Threads + Wait + Sync>(
     ensures within { result ≤ limit }
 {
     let mut desk = Some(desk);
-    let mut workers = ||
-        requires { IsSend W.row × IsSync W.row × IsSync R.row }
-    { work_in(rt, alloc, queue, reports, threads) };
     let mut driver = || -> u64
         requires { ∥ NetKeeps (layout_of engine.now.plan) (works_of W.meaning (layout_of engine.now.plan))
             engine.now.parts ∥₁ }
@@ -283,6 +279,5 @@ fn drive_beside<W: Work, R: Threads + Wait + Sync>(
             None => 0,
         }
     };
-    let (_, count) = join_mut(rt, &mut workers, &mut driver);
-    count
+    run_beside(rt, alloc, queue, reports, threads, &mut driver)
 }

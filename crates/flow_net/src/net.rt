@@ -1,6 +1,7 @@
 //! A network with one owner: what is posted goes from block to block until nothing can move.
-ghost use Rattle.std.specs.Prelude.{◌≡◌, ◌<◌, length, IfSome, None};
+ghost use Rattle.std.specs.Prelude.{◌≡◌, ◌<◌, ◌++◌, length, IfSome, None};
 ghost use Rattle.flow_link.specs.Planned.{layout_of};
+ghost use Rattle.flow_block.specs.Node.{left_in};
 ghost use Rattle.flow_block.specs.Peeks.{is_complete};
 ghost use Rattle.flow_core.specs.Keeps.{NetKeeps};
 ghost use Rattle.flow_exec.specs.Works.{works_of};
@@ -15,9 +16,11 @@ use crate::fault::NetFault;
 use crate::posted::{Settled, State};
 use flow_block::Block;
 use flow_link::{Mark, Outcome, Plan};
+use flow_moves::shares_out;
 use flow_value::{Value, Work};
 use std::alloc::Global;
 use std::collections::VecDeque;
+use std::slice::from_ref;
 use std::sync::Wait;
 use std::thread::Threads;
 
@@ -29,7 +32,7 @@ pub struct Net<W: Work> {
 }
 
 impl<W: Work> Net<W> {
-    ghost use Rattle.std.specs.Prelude.{◌≢◌, IsTrue, IfOk, IfErr, OnOk, OnErr, ◌↔◌, ◌<◌, Ok, Err};
+    ghost use Rattle.std.specs.Prelude.{◌≢◌, IsTrue, IfOk, IfErr, OnOk, OnErr, ◌↔◌, ◌<◌, ◌++◌, Ok, Err};
     ghost use Rattle.std.specs.Prelude.{true, false, [], length};
     ghost use Rattle.flow_link.specs.Lawful.{Lawful};
     ghost use Rattle.flow_link.specs.Quiet.{Quiet};
@@ -237,12 +240,13 @@ impl<W: Work> Net<W> {
         self.engine.parts.node(block).block().waiting(port as usize)
     }
 
-    /// What this block made and has not given, oldest first.
-    pub fn left(&self, block: usize) -> &VecDeque<Value>
+    /// What this block made and has not given, oldest first, in two parts. Of a block that copies it is what some link is
+    /// still to have.
+    pub fn left(&self, block: usize) -> (&[Value], &[Value])
         requires { block < length (layout_in self.now).blocks }
-        ensures { result.now.items ≡ left_at (run_of W.meaning self.now) block }
+        ensures { result.0.now ++ result.1.now ≡ left_at (run_of W.meaning self.now) block }
     {
-        self.engine.parts.node(block).block().left()
+        left_of(self.engine.parts.node(block).block())
     }
 
     /// The results that this block keeps, in order; only actions keep any.
@@ -267,6 +271,19 @@ fn due_of<W: Work>(event: &Event<W>) -> Option<Due>
         Event::Complete(number, port) => Some(Due::Complete(number, port)),
         Event::Fault(number) => Some(Due::Fault(number)),
         Event::Done(number) => Some(Due::Done(number)),
+    }
+}
+
+/// What a block made and has not given, oldest first, in two parts.
+fn left_of(block: &Block) -> (&[Value], &[Value])
+    ensures { result.0.now ++ result.1.now ≡ left_in block.now }
+{
+    if shares_out(block) {
+        return block.left().as_slices();
+    }
+    match block.copies().left() {
+        Some(value) => (from_ref(value), &[]),
+        None => (&[], &[]),
     }
 }
 

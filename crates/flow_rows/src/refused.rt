@@ -70,10 +70,7 @@ const TEXTS: &str = r#"
 4 WrongType block 0 | block = [{name = "a", kind = 1}]
 4 WrongType block 0 | block = [{name = "a", kind = "Buffer"}]
 4 WrongType block 0 | block = [{name = "a", kind = "transfrom"}]
-# Kinds that are not built yet.
-4 WrongType block 0 | block = [{name = "a", kind = "broadcast"}]
-4 WrongType block 0 | block = [{name = "a", kind = "write_once"}]
-4 WrongType block 0 | block = [{name = "a", kind = "batched_join"}]
+4 WrongType block 0 | block = [{name = "a", kind = "writeonce"}]
 4 WrongType block 0 | block = [{name = "a", kind = "buffer", input = "true"}]
 4 WrongType block 0 | block = [{name = "a", kind = "action", work = "id"}]
 4 WrongType block 0 | block = [{name = "a", kind = "action", work = ["id", 2]}]
@@ -114,6 +111,10 @@ const TEXTS: &str = r#"
 8 Plan 6 BadOption block 0 | block = [{name = "a", kind = "buffer", capacity = 4294967295}]
 8 Plan 6 BadOption block 0 | block = [{name = "a", kind = "buffer", lanes = 1}]
 8 Plan 6 BadOption block 0 | block = [{name = "a", kind = "buffer", ports = 1}]
+8 Plan 6 BadOption block 0 | block = [{name = "a", kind = "broadcast", work = []}]
+8 Plan 6 BadOption block 0 | block = [{name = "a", kind = "write_once", capacity = 1}]
+8 Plan 6 BadOption block 0 | block = [{name = "a", kind = "broadcast", capacity = 0}]
+8 Plan 4 Port link 0 | block = [{name = "a", kind = "buffer"}, {name = "b", kind = "broadcast"}] ; link = [{from = "a", to = "b", port = 1}]
 8 Plan 6 BadOption block 0 | block = [{name = "a", kind = "action", work = [], lanes = 0}]
 8 Plan 6 BadOption block 0 | block = [{name = "a", kind = "action", work = [], lanes = 17}]
 # Batches without a size, with a size out of range, and with less room than one.

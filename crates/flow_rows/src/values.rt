@@ -202,12 +202,22 @@ fn rows_give_their_items_back(rt: HostRuntime) -> Result<(), Fail> {
         panic!(&rt; "out of memory");
     };
     assert!(rt; row.len() == 2 && !row.is_empty() && row.items().len() == 2);
-    assert!(rt; row.copy(rt.alloc())? == row);
-    let items = row.into_items();
+    let copy = row.copy(rt.alloc())?;
+    assert!(rt; copy == row);
+    // the first shares its values, the second has them for itself
+    gives_items(&rt, rt.alloc(), row);
+    gives_items(&rt, rt.alloc(), copy);
+    Ok(())
+}
+
+/// Tests that a row of 1 and x gives them.
+fn gives_items(rt: &impl Abort, alloc: Global, row: Row) {
+    let Ok(items) = row.into_items(alloc) else {
+        panic!(rt; "out of memory");
+    };
     assert!(rt; items.len() == 2);
     assert!(rt; items[0].as_int() == Some(1) && items[1].as_str() == Some("x"));
     assert!(rt; items[1].as_items().is_none());
-    Ok(())
 }
 
 /// Runs keep many values, so a row keeps its items behind one pointer.
@@ -234,7 +244,7 @@ fn gives(rt: &impl Abort, alloc: Global, text: Text, content: &str) {
     }
 }
 
-/// A text and a copy of it, which share what they hold where it is long.
+/// A text and a copy of it, which shares what it holds.
 fn shared(alloc: Global, content: &str) -> Result<(Text, Text), Fail> {
     match Text::new(alloc, content.to_string(alloc)?) {
         Ok(text) => {

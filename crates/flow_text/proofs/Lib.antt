@@ -4,6 +4,7 @@ pub mod KeyTestsTell
 pub mod ListsGrow
 pub mod NoPlanFor
 pub mod PickedYields
+pub mod PlainText
 pub mod PrintedGrows
 pub mod RecordsPost
 pub mod ReportGrows

@@ -55,13 +55,6 @@ escapes-more text at within =
     ap escapes (take_more text at 0 within) ∙ escapes-append (take at text) (get_or text at 0 ∷ [])
     ∙ ap (λ last. escapes (take at text) ++ last) (append-nil (escaped (get_or text at 0)))
 
--- one more byte of a text of which each byte so far stands for itself
-pub all-plain-more : (text : List ℕ) (at : ℕ) → at < length text → escapes (take at text) ≡ take at text
-    → escaped (get_or text at 0) ≡ get_or text at 0 ∷ [] → escapes (take (at + 1) text) ≡ take (at + 1) text
-all-plain-more text at within plain itself =
-    escapes-more text at within ∙ ap (λ front. front ++ escaped (get_or text at 0)) plain
-    ∙ ap (λ last. take at text ++ last) itself ∙ sym (take_more text at 0 within)
-
 module _ (text : List ℕ) (start at : ℕ) (within : at < length text) (before : start ≤ at)
     (plain : escapes (take at text) ≡ escapes (take start text) ++ drop start (take at text)) where
   short : start ≤ length (take at text)

@@ -3,7 +3,7 @@ use Rattle.std.specs.Prelude.{ℕ, leb, ℤ, pos, negsuc, Bool, true, false, not
 use Rattle.std.specs.List.{list_any}
 use Rattle.std.specs.Str.{bytes_eq}
 use Rattle.flow_link.specs.declared.draft.BlockKind.{BlockKind}
-use Rattle.flow_link.specs.declared.draft.BlockKind.TheVariants.{Buffer, Action, Transform, TransformMany, Batch, Join}
+use Rattle.flow_link.specs.declared.draft.BlockKind.TheVariants.{Buffer, Broadcast, WriteOnce, Action, Transform, TransformMany, Batch, Join, BatchedJoin}
 use Rattle.toml.specs.Data.{Data, Items, no_items, item, Members, no_members, member, get_member, as_str, as_bool, as_integer, as_array, as_table}
 use Rattle.flow_text.specs.declared.network.keys.Part.{Part}
 use Rattle.flow_text.specs.declared.network.keys.Part.TheVariants.{Top, Block, Link}
@@ -37,11 +37,14 @@ rules_of Link = required (codes "from") Text ∷ required (codes "to") Text ∷ 
 abbrev pub kind_named : List ℕ → Option BlockKind
 kind_named word =
     if bytes_eq word (codes "buffer") then Some Buffer
+    else if bytes_eq word (codes "broadcast") then Some Broadcast
+    else if bytes_eq word (codes "write_once") then Some WriteOnce
     else if bytes_eq word (codes "action") then Some Action
     else if bytes_eq word (codes "transform") then Some Transform
     else if bytes_eq word (codes "transform_many") then Some TransformMany
     else if bytes_eq word (codes "batch") then Some Batch
     else if bytes_eq word (codes "join") then Some Join
+    else if bytes_eq word (codes "batched_join") then Some BatchedJoin
     else None
 
 -- each item passes the test

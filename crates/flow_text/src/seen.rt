@@ -51,5 +51,5 @@ pub(crate) fn left_at(net: &Net<Steps>, block: usize) -> (&[Value], &[Value])
     requires { block < length (run_in net.now).layout.blocks }
     ensures { result.0.now ++ result.1.now ≡ left_at (run_in net.now) block }
 {
-    net.left(block).as_slices()
+    net.left(block)
 }

@@ -5,16 +5,16 @@ ghost use Rattle.flow_text.specs.Written.{StaysInFront};
 ghost use Rattle.flow_text.specs.Printed.{hex_digit, escaped, escapes, quoted, value_text, list_text, comma_unless};
 
 use crate::page::{Page, Unwritten, gather_bytes};
-use flow_value::Value;
+use flow_value::{Value, is_plain_byte};
 use itoa::Buffer;
 use std::io::Write;
 
-// Whether the byte stands for itself in a printed text. It has no branches.
+// Whether the byte stands for itself in a printed text.
 #[inline]
 fn is_plain(byte: u8) -> bool
     ensures { IsTrue result ↔ (escaped byte ≡ byte ∷ []) }
 {
-    (byte >= 32) & (byte != b'"') & (byte != b'\\') & (byte != 127)
+    is_plain_byte(byte)
 }
 
 fn hex_digit_of(number: u8) -> u8
@@ -91,18 +91,6 @@ fn gather_comma<W: Write>(writer: &mut W, page: &mut Page, is_first: bool) -> Re
     gather_bytes(writer, page, b",")
 }
 
-// Whether each byte of the text stands for itself in print.
-#[inline]
-fn is_plain_text(text: &[u8]) -> bool
-    ensures { IsTrue result → escapes text.now ≡ text.now }
-{
-    let mut plain = true;
-    for byte in text {
-        plain &= is_plain(*byte);
-    }
-    plain
-}
-
 // Puts the digits of a number on the page as an item, if there is room for them; else false.
 #[inline]
 fn put_digits(page: &mut Page, is_first: bool, digits: &[u8]) -> bool
@@ -119,13 +107,14 @@ fn put_digits(page: &mut Page, is_first: bool, digits: &[u8]) -> bool
     true
 }
 
-// Puts a text on the page as an item, if there is room for it and none of its bytes is escaped; else false.
+// Puts a text that is printed as it is on the page as an item, if there is room for it; else false.
 #[inline]
 fn put_text(page: &mut Page, is_first: bool, text: &[u8]) -> bool
+    requires { escapes text.now ≡ text.now }
     ensures put { result ≡ true → page.new.items ≡ page.old.items ++ (comma_unless is_first ++ quoted text.now) }
     ensures kept { result ≡ false → page.new ≡ page.old }
 {
-    if page.remaining_capacity().saturating_sub(2) <= text.len() || !is_plain_text(text) {
+    if page.remaining_capacity().saturating_sub(2) <= text.len() {
         return false;
     }
     if !is_first {
@@ -139,13 +128,16 @@ fn put_text(page: &mut Page, is_first: bool, text: &[u8]) -> bool
 
 // Puts a number or a plain text on the page as an item, if there is room for it; else false.
 #[inline]
+#[tactic(auto, using(crate::proofs::PlainText::plain_text))]
 fn put_item(page: &mut Page, is_first: bool, value: &Value) -> bool
     ensures put { result ≡ true → page.new.items ≡ page.old.items ++ (comma_unless is_first ++ value_text value.now) }
     ensures kept { result ≡ false → page.new ≡ page.old }
 {
     match value {
         Value::Int(number) => put_digits(page, is_first, Buffer::new().format(*number).as_bytes()),
-        Value::Text(text) => put_text(page, is_first, text.as_str().as_bytes()),
+        Value::Text(text) => {
+            text.is_plain() && put_text(page, is_first, text.as_str().as_bytes())
+        }
         Value::Row(_) => false,
     }
 }

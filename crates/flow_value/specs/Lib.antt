@@ -1,3 +1,4 @@
+pub mod Content
 pub mod Fault
 pub mod Function
 pub mod Grammar
@@ -6,6 +7,7 @@ pub mod Meaning
 pub mod NeverMemory
 pub mod Number
 pub mod Parts
+pub mod Plain
 pub mod ReadsAs
 pub mod RowFalls
 pub mod Same

@@ -16,6 +16,6 @@ pub use number::is_digits;
 pub use parcel::Parcel;
 pub use step::Step;
 pub use steps::{Steps, StepsError};
-pub use value::{Row, Text, Value};
+pub use value::{Row, Text, Value, is_plain_byte};
 pub use when::When;
 pub use work::{Work, WorkFault};

@@ -61,11 +61,11 @@ impl Step {
             Step::ToText => Ok(Applied::One(to_text(alloc, value)?)),
             Step::Add(number) => Ok(Applied::One(add(value, number)?)),
             Step::Mul(number) => Ok(Applied::One(multiply(value, number)?)),
-            Step::Field(at) => Ok(Applied::One(field(value, at)?)),
+            Step::Field(at) => Ok(Applied::One(field(alloc, &value, at)?)),
             Step::Len => Ok(Applied::One(len(value)?)),
             Step::Sum => Ok(Applied::One(sum(value)?)),
             Step::Reject(number) => Ok(Applied::One(reject(value, number)?)),
-            Step::Spread => Ok(Applied::Many(spread(value)?)),
+            Step::Spread => Ok(Applied::Many(spread(alloc, value)?)),
             Step::Upto => Ok(Applied::Many(up_to(alloc, value)?)),
             Step::Repeat(count) => Ok(Applied::Many(repeat(alloc, &value, count)?)),
         }
@@ -137,15 +137,15 @@ fn len(value: Value) -> Result<Value, WorkFault>
     }
 }
 
-fn field(value: Value, at: u16) -> Result<Value, WorkFault>
-    ensures { GivesOne (applied (Field at) value) result }
+fn field(alloc: Global, value: &Value, at: u16) -> Result<Value, WorkFault>
+    ensures { GivesOne (applied (Field at) value.now) result }
 {
-    let mut items = row(value)?.into_items();
-    let at = usize::from(at);
-    if at < items.len() {
-        Ok(items.swap_remove(at))
-    } else {
-        Err(WorkFault::NoField)
+    let Some(items) = value.as_items() else {
+        return Err(WorkFault::NotRow);
+    };
+    match items.get(usize::from(at)) {
+        Some(item) => Ok(item.copy(alloc)?),
+        None => Err(WorkFault::NoField),
     }
 }
 
@@ -172,10 +172,10 @@ fn total(items: &[Value]) -> Result<i64, WorkFault>
     }
 }
 
-fn spread(value: Value) -> Result<Vec<Value>, WorkFault>
+fn spread(alloc: Global, value: Value) -> Result<Vec<Value>, WorkFault>
     ensures { RunsAs (applied Spread value) result }
 {
-    Ok(row(value)?.into_items())
+    Ok(row(value)?.into_items(alloc).map_err(|_| AllocError)?)
 }
 
 fn up_to(alloc: Global, value: Value) -> Result<Vec<Value>, WorkFault>

@@ -5,7 +5,10 @@ ghost use Rattle.std.specs.Prelude.{◌≡◌, ◌<◌, ◌^◌, ◌↔◌, [], 
 ghost use Rattle.std.specs.Option.{option_copied};
 ghost use Rattle.std.specs.Cmp.{decided, partial_equiv_from_equiv};
 ghost use Rattle.std.proofs.lemmas.Slice.Eq.{bytes_eq-Decides};
+ghost use Rattle.flow_value.specs.Content.{bytes_of};
+ghost use Rattle.flow_value.specs.Plain.{is_plain_byte, all_plain};
 
+use arrayvec::ArrayString;
 use std::alloc::{AllocError, Global};
 use std::marker::Model;
 use std::sync::Arc;
@@ -28,16 +31,17 @@ pub enum Value {
 /// number can be counted no further.
 #[derive(Debug, Drop)]
 pub struct Text {
-    content: Arc<String, Global>,
+    content: Arc<Content, Global>,
 }
 
 impl Model for Text {
-    ghost use Rattle.std.specs.Prelude.{List, ℕ, string_bytes};
+    ghost use Rattle.std.specs.Prelude.{List, ℕ};
     ghost use Rattle.std.specs.Arc.{arc_value};
+    ghost use Rattle.flow_value.specs.Content.{bytes_of};
 
     ghost Value = { List ℕ };
 
-    ghost view = { λ t. string_bytes (arc_value t.content) };
+    ghost view = { λ t. bytes_of (arc_value t.content).bytes };
 }
 
 /// Values in a row. Contracts see the list of them, as `Items`.
@@ -46,7 +50,7 @@ impl Model for Text {
 #[cycle(value)]
 #[derive(Debug, Drop)]
 pub struct Row {
-    items: Box<Vec<Value>>,
+    items: Arc<Vec<Value>, Global>,
 }
 
 impl Model for Row {
@@ -57,15 +61,74 @@ impl Model for Row {
     ghost coded = { items_code };
 
     ghost use Rattle.flow_value.specs.View.{items_from};
+    ghost use Rattle.std.specs.Arc.{arc_value};
 
-    ghost view = { λ r. items_from r.items.value.items };
+    ghost view = { λ r. items_from (arc_value r.items).items };
 
     ghost size = { value_count };
 
     ghost use Rattle.std.proofs.Common.{arith};
     ghost use Rattle.flow_value.specs.RowFalls.{most_le-value_count};
 
-    ghost size_decreases = { λ a h. Prim.omega (arith, most_le-value_count a.items.value.items) };
+    ghost size_decreases = { λ a h. Prim.omega (arith, most_le-value_count (arc_value a.items).items) };
+}
+
+/// The most bytes of a short text.
+const SHORT: usize = 24;
+
+/// The bytes of a text: short ones stand beside the count of those that share them, long ones in memory of their own.
+#[derive(Debug, Drop)]
+enum Bytes {
+    Short(ArrayString<SHORT>),
+    Long(String),
+}
+
+/// The content of a text. Whether it is plain is found out once, since a text is printed many times.
+#[derive(Debug, Drop)]
+struct Content {
+    bytes: Bytes,
+    is_plain: bool,
+    ghost told: { is_plain ≡ all_plain (bytes_of bytes) },
+}
+
+impl Bytes {
+    fn from_str(alloc: Global, content: &str) -> Result<Bytes, AllocError>
+        ensures { IfOk result (λ bytes. bytes_of bytes ≡ content.now) }
+    {
+        match ArrayString::from(content) {
+            Ok(short) => Ok(Bytes::Short(short)),
+            Err(_) => Ok(Bytes::Long(String::from_str(alloc, content)?)),
+        }
+    }
+
+    fn as_str(&self) -> &str
+        ensures { result.now ≡ bytes_of self.now }
+    {
+        match self {
+            Bytes::Short(short) => short.as_str(),
+            Bytes::Long(long) => long.as_str(),
+        }
+    }
+}
+
+/// Whether each of these bytes is plain: no control byte, no double quote and no backslash.
+fn are_plain(bytes: &[u8]) -> bool
+    ensures { result ≡ all_plain bytes.now }
+{
+    let mut plain = true;
+    for byte in bytes {
+        plain &= is_plain_byte(*byte);
+    }
+    plain
+}
+
+/// Whether the byte is plain: no control byte, no double quote and no backslash.
+// It has no branches.
+#[inline]
+pub fn is_plain_byte(byte: u8) -> bool
+    ensures { result ≡ is_plain_byte byte }
+{
+    (byte >= 32) & (byte != b'"') & (byte != b'\\') & (byte != 127)
 }
 
 impl Text {
@@ -73,7 +136,10 @@ impl Text {
     pub fn from_str(alloc: Global, content: &str) -> Result<Text, AllocError>
         ensures { IfOk result (λ text. text ≡ content.now) }
     {
-        let content = String::from_str(alloc, content)?;
+        let content = Content {
+            bytes: Bytes::from_str(alloc, content)?,
+            is_plain: are_plain(content.as_bytes()),
+        };
         Ok(Text {
             content: Arc::new(alloc, content)?,
         })
@@ -83,9 +149,9 @@ impl Text {
     pub fn new(alloc: Global, content: String) -> Result<Text, String>
         ensures { MatchResult result (λ text. text ≡ string_bytes content) (λ back. back ≡ content) }
     {
-        match Arc::new(alloc, content) {
-            Ok(content) => Ok(Text { content }),
-            Err(refused) => Err(refused.value),
+        match Text::from_str(alloc, content.as_str()) {
+            Ok(text) => Ok(text),
+            Err(_) => Err(content),
         }
     }
 
@@ -93,7 +159,7 @@ impl Text {
     pub fn as_str(&self) -> &str
         ensures { result.now ≡ self.now }
     {
-        self.content.as_str()
+        self.content.bytes.as_str()
     }
 
     /// How many bytes its UTF-8 form has.
@@ -101,26 +167,30 @@ impl Text {
         ensures count { result ≡ length self.now }
         ensures small { result < 2 ^ 63 }
     {
-        self.content.len()
+        self.as_str().len()
     }
 
     /// Whether it has no bytes.
     pub fn is_empty(&self) -> bool
         ensures { IsTrue result ↔ (self.now ≡ []) }
     {
-        self.content.is_empty()
+        self.as_str().is_empty()
     }
 
-    /// The content, given back, or a copy of it where another text shares it; where there is no memory for the copy,
-    /// the text comes back.
+    /// Whether each byte is plain: no control byte, no double quote and no backslash. It is known without a look at them.
+    pub fn is_plain(&self) -> bool
+        ensures { result ≡ all_plain self.now }
+    {
+        self.content.is_plain
+    }
+
+    /// A copy of the content in memory of its own; where there is no memory for it, the text comes back.
     pub fn into_string(self, alloc: Global) -> Result<String, Text>
         ensures { MatchResult result (λ content. string_bytes content ≡ self) (λ back. back ≡ self) }
     {
-        match Arc::try_unwrap(self.content) {
+        match String::from_str(alloc, self.as_str()) {
             Ok(content) => Ok(content),
-            Err(content) => {
-                String::from_str(alloc, content.as_str()).map_err(|_| Text { content })
-            }
+            Err(_) => Err(self),
         }
     }
 
@@ -151,8 +221,10 @@ impl Row {
     pub fn new(alloc: Global, items: Vec<Value>) -> Result<Row, Vec<Value>>
         ensures { MatchResult result (λ row. row ≡ items_from items.items) (λ back. back ≡ items) }
     {
-        let items = Box::new(alloc, items).map_err(|refused| refused.value)?;
-        Ok(Row { items })
+        match Arc::new(alloc, items) {
+            Ok(items) => Ok(Row { items }),
+            Err(refused) => Err(refused.value),
+        }
     }
 
     /// The values, in order.
@@ -177,26 +249,41 @@ impl Row {
         self.items.is_empty()
     }
 
-    /// The values, given back. It takes no memory.
-    pub fn into_items(self) -> Vec<Value>
-        ensures { result.items ≡ values_of self }
+    /// The values, given back, or copies of them where another row shares them; where there is no memory for the copies,
+    /// the row comes back.
+    pub fn into_items(self, alloc: Global) -> Result<Vec<Value>, Row>
+        ensures { MatchResult result (λ items. items.items ≡ values_of self) (λ back. back ≡ self) }
     {
-        Box::into_inner(self.items)
+        match Arc::try_unwrap(self.items) {
+            Ok(items) => Ok(items),
+            Err(items) => match copies_of(alloc, items.as_slice()) {
+                Ok(copies) => Ok(copies),
+                Err(_) => Err(Row { items }),
+            },
+        }
     }
 
-    /// A second row with the same values.
-    // Cold, so that the copy of a number or a text, which are most, does not pay for it.
-    #[cold]
+    /// A second row with the same values, which it shares. It takes memory only where as many rows share the values as can
+    /// be counted: then it has values of its own.
     #[cycle(copy)]
     pub fn copy(&self, alloc: Global) -> Result<Row, AllocError>
         ensures { IfOk result (λ row. row ≡ self.now) }
     {
-        let mut copies = Vec::with_capacity(alloc, self.len())?;
-        for item in self.items.iter() {
-            copies.push(item.copy(alloc)?)?;
+        match Arc::try_clone(&self.items) {
+            Ok(items) => Ok(Row { items }),
+            Err(_) => self.copy_items(alloc),
         }
+    }
+
+    // Cold, as it is where a row is shared more often than can be counted.
+    #[cold]
+    #[cycle(copy)]
+    fn copy_items(&self, alloc: Global) -> Result<Row, AllocError>
+        ensures { IfOk result (λ row. row ≡ self.now) }
+    {
+        let items = copies_of(alloc, self.items.as_slice())?;
         Ok(Row {
-            items: Box::new(alloc, copies)?,
+            items: Arc::new(alloc, items)?,
         })
     }
 
@@ -214,6 +301,18 @@ impl Row {
         }
         true
     }
+}
+
+/// A list of copies of these values.
+#[cycle(copy)]
+fn copies_of(alloc: Global, items: &[Value]) -> Result<Vec<Value>, AllocError>
+    ensures { IfOk result (λ copies. copies.items ≡ items.now) }
+{
+    let mut copies = Vec::with_capacity(alloc, items.len())?;
+    for item in items {
+        copies.push(item.copy(alloc)?)?;
+    }
+    Ok(copies)
 }
 
 impl Value {

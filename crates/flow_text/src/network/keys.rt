@@ -166,11 +166,14 @@ pub(super) fn kind_of(word: &str) -> Option<BlockKind>
 {
     match word {
         "buffer" => Some(BlockKind::Buffer),
+        "broadcast" => Some(BlockKind::Broadcast),
+        "write_once" => Some(BlockKind::WriteOnce),
         "action" => Some(BlockKind::Action),
         "transform" => Some(BlockKind::Transform),
         "transform_many" => Some(BlockKind::TransformMany),
         "batch" => Some(BlockKind::Batch),
         "join" => Some(BlockKind::Join),
+        "batched_join" => Some(BlockKind::BatchedJoin),
         _ => None,
     }
 }

@@ -3,7 +3,7 @@ use Rattle.flow_link.specs.declared.plan.Link.{Link}
 use Rattle.flow_link.specs.Plan.{block_in, ends_at_port, no_link}
 use Rattle.flow_link.specs.Planned.{layout_of}
 use Rattle.flow_intake.specs.Port.{fresh_port}
-use Rattle.flow_block.specs.Planned.{is_into}
+use Rattle.flow_block.specs.Planned.{is_into, room_of}
 use Rattle.flow_block.proofs.PlanMade.{port_where, port_else}
 use Rattle.flow_block.proofs.planned.port_of.Goals as goal
 use Rattle.flow_block.proofs.planned.port_of.Goals.{then-enters+in_ok-add_link, else-enters}
@@ -12,7 +12,7 @@ pub loop-id-preserved : goal.loop-id-preserved
 loop-id-preserved g c =
     let layout = layout_of c.args.plan.now in
     let id = c.loop-id.id in
-    let base = fresh_port (block_in layout.blocks c.args.block).capacity in
+    let base = fresh_port (room_of (block_in layout.blocks c.args.block)) in
     let so_far = c.loop-id.invariant in
     let here : is_into layout c.args.block c.args.port id ≡ c.enters.result =
     sym (c.enters.ensures

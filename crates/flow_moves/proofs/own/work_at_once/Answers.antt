@@ -56,3 +56,18 @@ returns-in-Err-clause-ids g c =
     on_any : {T E : Type 0} {P : Type 0} (result : Result T E) → P → OnOk result P
     on_any (Ok x) holds = holds
     on_any (Err e) holds = tt
+
+pub returns-in-Ok-into_made-clause-used_up : goal.returns-in-Ok-into_made-clause-used_up
+returns-in-Ok-into_made-clause-used_up g c =
+    let node = c.args.node.now in
+    let result = results_by (option_map (λ (work : Bor g.row.W.Denot). work.now) c.args.work) node.block.kind g.W.Work.meaning in
+    let message = c.in-Some.message.now in
+    let items = c.waiting.ensures ∙ ap (λ (block : BlockState). (port_at 0 block).waiting) c.block-3.ensures in
+    let held = front_held c.waiting.result.now.items (port_at 0 node.block).waiting message items c.in-Some.ensures.item.3.0 c.in-Some.ensures.lookup in
+    let kind = c.kind-kind.ensures ∙ ap (λ (block : BlockState). block.kind) c.block-2.ensures in
+    let answer : c.in-Ok.answer ≡ result message = rw kind at c.in-Ok.ensures in
+    let made : Ok c.in-Ok-into_made.values.items ≡ c.in-Ok.answer = sym (ap made_in c.in-Ok-into_made.is) ∙ c.into_made.ensures in
+    λ lacking. ap (λ (put : List Value). lacks_ids put node.block.exits)
+    (put_is result node c.requires.waits c.requires.idle message (drop 1 (port_at 0 node.block).waiting) held
+    ∙ ap (λ (r : Result (List Value) ℕ). put_by_kind node.block.kind (values_of_result r)) (sym (made ∙ answer)))
+    ∙ c.yield_results.ensures.used_up lacking

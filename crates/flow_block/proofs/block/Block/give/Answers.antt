@@ -1,15 +1,12 @@
-use Rattle.std.proofs.Common.{◌≡◌}
-use Rattle.flow_outlet.specs.Outlet.{gives}
-use Rattle.flow_block.proofs.RoomFits.{given_out, fits_given}
+use Rattle.std.proofs.Common.{Some}
+use Rattle.flow_block.proofs.RoomFits.{back_given, fits_back}
 use Rattle.flow_block.proofs.block.Block.give.Goals as goal
 
-pub give_room-requires : goal.give_room-requires
-give_room-requires c =
-    let room : c.room_back-room.result ≡ (gives c.args.place c.self.inside.exits).room = rw c.give-given.ensures.given at c.room_back-room.ensures.room in
-    given_out c.self.invariant c.args.place c.room_back-room.result room
+pub bring_back-requires : goal.bring_back-requires
+bring_back-requires c =
+    rw c.give-given.ensures.given (back_given c.self.inside.copies c.self.invariant c.args.place)
 
 pub invariant_of-self : goal.invariant_of-self
 invariant_of-self c =
-    let room : c.room_back-room.result ≡ (gives c.args.place c.self.inside.exits).room = rw c.give-given.ensures.given at c.room_back-room.ensures.room in
-    rw (c.give_room.ensures, c.room_back-room.ensures.told, c.give-given.ensures.given)
-    (fits_given c.self.invariant c.args.place c.room_back-room.result room)
+    rw (c.bring_back.ensures.back, c.bring_back.ensures.told, c.give-given.ensures.given)
+    (fits_back c.self.inside.copies c.self.invariant c.args.place c.self.inside.kind (Some c.give-given.result.0))

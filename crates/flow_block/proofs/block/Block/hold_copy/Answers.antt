@@ -1,17 +1,17 @@
 use Rattle.std.proofs.Common.{◌<◌, length, subst, sym}
 use Rattle.flow_spread.specs.Spread.{holds}
 use Rattle.flow_block.specs.Block.{BlockState}
-use Rattle.flow_block.specs.Copies.{copies_left}
+use Rattle.flow_block.specs.Copies.{copies_weight}
 use Rattle.flow_block.proofs.CopiesFit.{hold_left}
 use Rattle.flow_block.proofs.RoomFits.{copied_out, fits_copied}
 use Rattle.flow_block.proofs.block.Block.hold_copy.Goals as goal
 
 pub give_back-requires : goal.give_back-requires
 give_back-requires c =
-    rw (c.hold.ensures, c.copies_left-counted.ensures) (copied_out c.self.invariant (copies_left (holds c.args.place c.self.inside.copies)))
+    rw (c.hold.ensures, c.copies_weight-counted.ensures) (copied_out c.self.invariant (copies_weight (holds c.args.place c.self.inside.copies)))
 
 pub invariant_of-self : goal.invariant_of-self
 invariant_of-self c =
     let here = subst (λ (block : BlockState). c.args.place < length block.copies.ends) (sym c.self.view_is) c.requires.there in
-    rw (c.give_back.ensures, c.hold.ensures, c.copies_left-counted.ensures)
-    (fits_copied c.self.invariant (copies_left (holds c.args.place c.self.inside.copies)) (hold_left c.self.inside.copies c.args.place here))
+    rw (c.give_back.ensures, c.hold.ensures, c.copies_weight-counted.ensures)
+    (fits_copied c.self.invariant (copies_weight (holds c.args.place c.self.inside.copies)) (hold_left c.self.inside.copies c.args.place here))

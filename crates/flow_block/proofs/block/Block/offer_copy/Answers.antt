@@ -1,17 +1,17 @@
 use Rattle.std.proofs.Common.{◌<◌, length, subst, sym}
 use Rattle.flow_spread.specs.Spread.{offers, prepares}
 use Rattle.flow_block.specs.Block.{BlockState}
-use Rattle.flow_block.specs.Copies.{copies_left}
+use Rattle.flow_block.specs.Copies.{copies_weight}
 use Rattle.flow_block.proofs.CopiesFit.{offer_left}
 use Rattle.flow_block.proofs.RoomFits.{copied_out, fits_copied}
 use Rattle.flow_block.proofs.block.Block.offer_copy.Goals as goal
 
 pub give_back-requires : goal.give_back-requires
 give_back-requires c =
-    rw (c.offer-header.ensures.out, c.in_ok-prepare_offer.ensures.done, c.copies_left-counted.ensures) (copied_out c.self.invariant (copies_left (offers c.args.place (prepares c.args.place c.self.inside.copies))))
+    rw (c.offer-header.ensures.out, c.in_ok-prepare_offer.ensures.done, c.copies_weight-counted.ensures) (copied_out c.self.invariant (copies_weight (offers c.args.place (prepares c.args.place c.self.inside.copies))))
 
 pub invariant_of-self-2 : goal.invariant_of-self-2
 invariant_of-self-2 c =
     let here = subst (λ (block : BlockState). c.args.place < length block.copies.ends) (sym c.self.view_is) c.requires.there in
-    rw (c.give_back.ensures, c.offer-header.ensures.out, c.in_ok-prepare_offer.ensures.done, c.copies_left-counted.ensures)
-    (fits_copied c.self.invariant (copies_left (offers c.args.place (prepares c.args.place c.self.inside.copies))) (offer_left c.self.inside.copies c.args.place here))
+    rw (c.give_back.ensures, c.offer-header.ensures.out, c.in_ok-prepare_offer.ensures.done, c.copies_weight-counted.ensures)
+    (fits_copied c.self.invariant (copies_weight (offers c.args.place (prepares c.args.place c.self.inside.copies))) (offer_left c.self.inside.copies c.args.place here))

@@ -1,5 +1,5 @@
 use Rattle.std.proofs.Common.{rules}
-use Rattle.flow_net.proofs.FindersTell.{source_there, target_there, source_told, target_told, lacking_needs, lacking_may_not}
+use Rattle.flow_net.proofs.FindersTell.{source_there, target_there, source_told, target_told, lacking_needs, lacking_may_not, found_same}
 use Rattle.flow_net.proofs.engine.Engine.is_next.Goals as goal
 
 pub next_of_target-requires : goal.next_of_target-requires
@@ -40,4 +40,5 @@ returns-clause-told g c =
     source_told g.W.Work.meaning c.args.self.now.plan c.args.self.now.parts c.requires.kept c.args.id
     c.requires.known c.route-route.result.now c.route-route.ensures
     c.lacks_id.result c.lacks_id.ensures c.if-lacks_id.false c.next_of_source.result c.next_of_source.ensures.next
-    c.args.next c.eq-2.result (search rules) (search rules) (search rules)
+    c.args.next c.eq-2.result (search rules) (search rules)
+    (found_same _ c.next_of_source.result c.args.next c.eq-2.result c.eq-2.ensures (search rules))

@@ -1,6 +1,10 @@
-use Rattle.std.proofs.Common.{Err, ap}
+use Rattle.std.proofs.Common.{Err, not, ap}
+use Rattle.std.proofs.lemmas.Bool.{and_parts}
+use Rattle.flow_link.specs.Plan.{has_work}
 use Rattle.flow_link.specs.Planned.{layout_of}
+use Rattle.flow_block.specs.Peeks.{may_work}
 use Rattle.flow_block.specs.Planned.{block_makes}
+use Rattle.flow_core.specs.State.{node_at}
 use Rattle.flow_exec.specs.Works.{works_of}
 use Rattle.flow_moves.proofs.MerelyKept.{blocks_planned}
 use Rattle.flow_net.proofs.EventsDone.{unmade_may_not, ids_told}
@@ -26,6 +30,15 @@ make-requires-clause-ports g c =
     let layout = layout_of old.plan in
     let meaning = works_of g.W.Work.meaning layout in
     (blocks_planned layout meaning old.parts c.requires.kept c.args.number c.requires.enabled.there).some_port
+
+pub make-requires-clause-many : goal.make-requires-clause-many
+make-requires-clause-many g c =
+    let old = c.args.self.now in
+    let layout = layout_of old.plan in
+    let meaning = works_of g.W.Work.meaning layout in
+    let block = (node_at old.parts c.args.number).block in
+    (blocks_planned layout meaning old.parts c.requires.kept c.args.number c.requires.enabled.there).many
+    (and_parts (may_work block) (not (has_work block.kind)) c.requires.enabled.would).0
 
 pub returns-clause-done : goal.returns-clause-done
 returns-clause-done g c =

@@ -1,0 +1,12 @@
+use Rattle.std.proofs.Common.{◌&&◌, take, ap, sym, ◌∙◌}
+use Rattle.flow_value.specs.Plain.{all_plain}
+use Rattle.flow_value.proofs.PlainGrows.{plain-more}
+use Rattle.flow_value.proofs.value.are_plain.Goals as goal
+
+pub loop-byte-preserved : goal.loop-byte-preserved
+loop-byte-preserved c =
+    let bytes = c.args.bytes.now in
+    let at = c.loop-byte.byte-index in
+    ap (λ so_far. so_far && c.is_plain_byte-plain.result) c.loop-byte.invariant
+    ∙ ap (λ last. all_plain (take at bytes) && last) c.is_plain_byte-plain.ensures
+    ∙ sym (plain-more bytes at c.loop-byte-test.true)
