@@ -7,3 +7,4 @@ pub mod EndsKeepLaw
 pub mod CarriedValues
 pub mod LinksCopied
 pub mod MovesAllowed
+pub mod SendsOver

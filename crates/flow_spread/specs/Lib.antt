@@ -5,4 +5,5 @@ pub mod Fits
 pub mod Keeps
 pub mod Law
 pub mod Moves
+pub mod Sends
 pub mod Spread

@@ -3,14 +3,16 @@ ghost use Rattle.std.specs.Prelude.{◌≡◌, ◌<◌, ◌≤◌, ◌+◌, ◌^
 ghost use Rattle.std.specs.Prelude.{length, true, false, is_some, None, is_err, ltb, ◌&&◌};
 ghost use Rattle.std.specs.Option.{option_copied};
 ghost use Rattle.flow_link.specs.LinkOk.{HasRoom};
-ghost use Rattle.flow_outlet.specs.End.{is_cut, is_free, is_waiting};
+ghost use Rattle.flow_link.specs.declared.stage.SourceStage.TheVariants.{Out};
+ghost use Rattle.flow_outlet.specs.End.{is_cut, is_free, is_waiting, id_of};
 ghost use Rattle.flow_spread.specs.ByLink.{place_of, offer_named, offers_next, IsAsked, answered, MayConsume, consumed};
-ghost use Rattle.flow_spread.specs.ByLink.{consumes, gives_home, tests_asked, tests_consume, is_there, answered_link, still_owes};
+ghost use Rattle.flow_spread.specs.ByLink.{consumes, tests_asked, tests_consume, is_there, still_owes};
 ghost use Rattle.flow_spread.specs.End.{count_of, owes_it, is_busy_at, is_waiting_at};
 ghost use Rattle.flow_spread.specs.Spread.{fresh_spread, is_spread_free, puts, left_of, is_at_rest, only_waits, moves};
 ghost use Rattle.flow_spread.specs.Spread.{may_offer, next_place, prepares, offers, looks, may_give, gives, is_asked_by};
 ghost use Rattle.flow_spread.specs.Spread.{holds, withdraws, ends_link, out_move, free_move, end_at, link_at, stage_at};
-ghost use Rattle.flow_spread.specs.Spread.{restages};
+ghost use Rattle.flow_spread.specs.Spread.{restages, changes};
+ghost use Rattle.flow_spread.specs.Sends.{sends};
 
 use crate::end::{CopyEnd, is_answer};
 use crate::ends::Ends;
@@ -309,6 +311,37 @@ impl Spread {
         ensures given { self.new ≡ gives place self.old }
     {
         let link = self.ends.at(place).link.gave(self.id);
+        self.hand_over(place, link)
+    }
+
+    /// Sends the element over the link at a place, where it is offered, to a target that takes it at once: a copy for the
+    /// block's own account, and a parcel.
+    pub fn send(&mut self, place: usize) -> (Value, Parcel)
+        requires there { place < length self.old.ends }
+        requires offered { stage_at self.old place ≡ Out self.old.id }
+        requires ready { is_some (end_at self.old place).share ≡ true }
+        requires room { HasRoom (link_at self.old place).rule.max (link_at self.old place).given }
+        ensures own { self.old.element ≡ Some result.0 }
+        ensures parcel { result.1 ≡ result.0 }
+        ensures sent { self.new ≡ sends place self.old }
+    {
+        let given = self.ends.at(place).link.gave(self.id);
+        let link = OutEnd {
+            stage: SourceStage::Free,
+            ..given
+        };
+        self.hand_over(place, link)
+    }
+
+    // what the link at a place is to have goes over it. The link stands elsewhere then, and owes nothing
+    fn hand_over(&mut self, place: usize, link: OutEnd) -> (Value, Parcel)
+        requires there { place < length self.old.ends }
+        requires ready { is_some (end_at self.old place).share ≡ true }
+        requires done { id_of link.stage ≡ None }
+        ensures own { self.old.element ≡ Some result.0 }
+        ensures parcel { result.1 ≡ result.0 }
+        ensures over { self.new ≡ changes place (record { link = link; owes = false; share = None }) self.old }
+    {
         let Some(share) = self.ends.take_share(place) else {
             unreachable!()
         };
