@@ -83,7 +83,7 @@ module _ (copies : SpreadState) (k : ℕ) (here : k < length copies.ends) where
 abbrev speaks_at : CopyEnd → ℕ
 speaks_at end = cond (is_busy_at end) 1 0 + cond (is_waiting_at end) 1 0
 
-due_changes : (copies : SpreadState) (k : ℕ) (end : CopyEnd) (more fewer : ℕ) → k < length copies.ends
+pub due_changes : (copies : SpreadState) (k : ℕ) (end : CopyEnd) (more fewer : ℕ) → k < length copies.ends
     → speaks_at end + fewer ≤ speaks_at (end_at copies k) + more
     → copies_due (changes k end copies) + fewer ≤ copies_due copies + more
 due_changes copies k end more fewer here change =

@@ -6,6 +6,7 @@ pub mod CopierKept
 pub mod CopierOf
 pub mod CopiesCalled
 pub mod CopiesFit
+pub mod CopiesSent
 pub mod CopiesGoOn
 pub mod CopiesHold
 pub mod CopiesIdle

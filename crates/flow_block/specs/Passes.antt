@@ -8,8 +8,9 @@ use Rattle.flow_intake.specs.Port.{PortState}
 use Rattle.flow_intake.specs.Calls.{wants, opens, looks as port_looks}
 use Rattle.flow_outlet.specs.Outlet.{head_of, prepares, offers, looks as exit_looks}
 use Rattle.flow_block.specs.Block.{BlockState, with_port, gives_out}
+use Rattle.flow_block.specs.Copies.{CopyCall}
 use Rattle.flow_block.specs.Input.{InputState, InputCall, after_input}
-use Rattle.flow_block.specs.Node.{NodeState, with_block, with_exits, gives_from, takes_in, hand_at}
+use Rattle.flow_block.specs.Node.{NodeState, with_block, with_exits, gives_from, takes_in, hand_at, copies_by}
 
 -- the source's block, where the head's parcel is made
 abbrev pub exits_look : ℕ → Phase → BlockState → BlockState
@@ -32,6 +33,12 @@ sends_ready k i node =
 
 abbrev pub sends_on : ℕ → ℕ → NodeState → NodeState
 sends_on k i node = sends_ready k i (with_exits (prepares node.block.exits) node)
+
+-- the node of a block that copies, after its offer: it sees that the element is wanted, gives it, and sees that it is taken
+abbrev pub sends_copy : ℕ → ℕ → NodeState → NodeState
+sends_copy k i node =
+    copies_by (CopyCall.look k Idle) (copies_by (CopyCall.look k (Opened i)) (copies_by (CopyCall.give k)
+    (copies_by (CopyCall.look k (Wanted i)) node)))
 
 -- the target's node: it sees the offer, wants the message, sees that it is given, opens it and takes it
 abbrev pub on_port : ℕ → (PortState → PortState) → NodeState → NodeState

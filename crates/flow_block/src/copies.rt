@@ -2,14 +2,16 @@
 //!
 //! What the element takes of the block's room comes back when no link owes it any more, and never where the block takes one
 //! message in all.
-ghost use Rattle.std.specs.Prelude.{◌≡◌, ℕ, ◌<◌, ◌≤◌, ◌+◌, ◌-◌, ◌^◌, ◌↔◌, true, length, map, is_some, Some, Err, IfOk, OnOk, OnErr, MatchResult};
+ghost use Rattle.std.specs.Prelude.{◌≡◌, ◌<◌, ◌≤◌, ◌+◌, ◌-◌, ◌^◌, ◌↔◌, true, length, map, is_some, Some, Err, IfOk, OnOk, OnErr, MatchResult};
 ghost use Rattle.flow_link.specs.LinkOk.{HasRoom};
+ghost use Rattle.flow_link.specs.declared.stage.SourceStage.TheVariants.{Out};
 ghost use Rattle.flow_intake.specs.Calls.{first_of, gives_room};
 ghost use Rattle.flow_outlet.specs.End.{is_free, is_waiting};
 ghost use Rattle.flow_outlet.specs.Outlet.{fresh_outlet};
 ghost use Rattle.flow_outlet.specs.declared.fault.OutletFault.TheVariants.{Ids};
 ghost use Rattle.flow_spread.specs.Spread.{may_offer, may_give, is_asked_by, is_spread_free, end_at, link_at, stage_at};
 ghost use Rattle.flow_spread.specs.Spread.{gives, holds, withdraws, ends_link, looks, offers, prepares};
+ghost use Rattle.flow_spread.specs.Sends.{sends};
 ghost use Rattle.flow_block.specs.Block.{held_by, copies_next, copies_at_once, copies_taken, with_copies};
 ghost use Rattle.flow_block.specs.BlockFits.{AllGaveOut};
 ghost use Rattle.flow_block.specs.Copies.{shared_rules, fresh_copies, copies_left, copies_weight};
@@ -189,6 +191,23 @@ impl Block {
         let given = self.copies.give(place);
         give_back(&mut self.ports, counted, &self.copies);
         given
+    }
+
+    /// Sends the element over the link at this place, where it is offered, to a target that takes it at once: a copy for a
+    /// journal, and a parcel.
+    pub fn send_copy(&mut self, place: usize) -> (Value, Parcel)
+        requires there { place < length self.old.copies.ends }
+        requires offered { stage_at self.old.copies place ≡ Out self.old.copies.id }
+        requires ready { is_some (end_at self.old.copies place).share ≡ true }
+        requires room { HasRoom (link_at self.old.copies place).rule.max (link_at self.old.copies place).given }
+        ensures own { self.old.copies.element ≡ Some result.0 }
+        ensures parcel { result.1 ≡ result.0 }
+        ensures sent { self.new ≡ with_copies (sends place self.old.copies) self.old }
+    {
+        let counted = copies_weight(&self.copies);
+        let sent = self.copies.send(place);
+        give_back(&mut self.ports, counted, &self.copies);
+        sent
     }
 
     /// Keeps the element for the target that asks for it over the link at this place.

@@ -4,13 +4,15 @@
 //! these where the target takes the message at once.
 ghost use Rattle.std.specs.Prelude.{◌≡◌, ℕ, ◌<◌, ◌^◌, ◌∷◌, true, length, is_some, Some};
 ghost use Rattle.flow_link.specs.LinkOk.{HasRoom};
+ghost use Rattle.flow_link.specs.declared.stage.SourceStage.TheVariants.{Out};
 ghost use Rattle.flow_intake.specs.Receives.{takes_at_once, receives};
 ghost use Rattle.flow_outlet.specs.ByLink.{has_room as has_room_out};
 ghost use Rattle.flow_outlet.specs.End.{is_free};
 ghost use Rattle.flow_outlet.specs.Outlet.{end_at, may_offer, head_of};
+ghost use Rattle.flow_spread.specs.Spread.{end_at as copy_end_at, link_at, stage_at};
 ghost use Rattle.flow_block.specs.Block.{port_at, with_port};
 ghost use Rattle.flow_block.specs.Input.{next_id, next_value};
-ghost use Rattle.flow_block.specs.Passes.{block_sends, sends_ready, receives_on, input_sends};
+ghost use Rattle.flow_block.specs.Passes.{block_sends, sends_ready, sends_copy, receives_on, input_sends};
 
 use crate::block::Block;
 use crate::input::Input;
@@ -35,6 +37,14 @@ impl Block {
         ensures { result ≡ has_room_out (end_at self.now.exits place).rule.max (end_at self.now.exits place).given }
     {
         self.exits.ends()[place].has_room()
+    }
+
+    /// Whether one more copy may cross the link at this place.
+    pub fn may_carry_copy(&self, place: usize) -> bool
+        requires { place < length self.now.copies.ends }
+        ensures { result ≡ has_room_out (link_at self.now.copies place).rule.max (link_at self.now.copies place).given }
+    {
+        self.copies.ends()[place].link.has_room()
     }
 
     /// Sends the head over the link at the place where it may be offered, to a target that takes it at once: the
@@ -84,6 +94,22 @@ impl Node {
     {
         let link = self.block.out_link(place);
         let (value, parcel) = self.block.send(place);
+        self.journal.push_reserved(Mark::Gave(link, value));
+        parcel
+    }
+
+    /// Sends the element over the link at this place, where it is offered, to a target that takes it at once, and marks
+    /// that; this is its parcel.
+    pub fn send_copy(&mut self, place: usize) -> Parcel
+        requires there { place < length self.old.block.copies.ends }
+        requires offered { stage_at self.old.block.copies place ≡ Out self.old.block.copies.id }
+        requires ready { is_some (copy_end_at self.old.block.copies place).share ≡ true }
+        requires room { HasRoom (link_at self.old.block.copies place).rule.max (link_at self.old.block.copies place).given }
+        ensures element { self.old.block.copies.element ≡ Some result }
+        ensures sent { self.new ≡ sends_copy place self.old.block.copies.id self.old }
+    {
+        let link = self.block.copies().ends()[place].link.rule.id;
+        let (value, parcel) = self.block.send_copy(place);
         self.journal.push_reserved(Mark::Gave(link, value));
         parcel
     }
