@@ -23,6 +23,9 @@ use Rattle.flow_intake.proofs.CountsOfEnds.{count_same}
 use Rattle.flow_intake.proofs.ReceivesAtOnce.{takes_tells}
 use Rattle.flow_outlet.specs.Outlet.{OutletState, end_at, stage_at as out_stage_at, out_move, move_at as out_move_at, looks as out_looks}
 use Rattle.flow_outlet.specs.End.{no_end}
+use Rattle.flow_spread.specs.declared.end.CopyEnd.{CopyEnd}
+use Rattle.flow_spread.specs.End.{no_end as no_copy_end}
+use Rattle.flow_spread.specs.Spread.{SpreadState, stage_at as copy_stage_at, looks as copy_looks, out_move as copy_move, move_at as copy_move_at}
 
 -- A target that takes a message at once wants it when it is offered
 
@@ -82,6 +85,16 @@ sees_accepted k i o stopped held_up there out =
     let stands : out_stage_at seen k ≡ source.Accepted i =
     ap (λ (e : _). e.stage) (get_or-set_same o.ends k (record (end_at o k) { stage = after }) no_end there) ∙ accepted in
     ap (λ (stage : SourceStage). out_move_at seen k stopped held_up stage) stands
+
+pub copy_accepted : (k i : ℕ) (copies : SpreadState) (stopped : Option Outcome) (held_up : Bool) → k < length copies.ends
+    → copy_stage_at copies k ≡ source.Out i → copy_move k stopped held_up (copy_looks k (Wanted i) copies) ≡ Some Give
+copy_accepted k i copies stopped held_up there out =
+    let after = source_looks (copy_stage_at copies k) (Wanted i) in
+    let seen = copy_looks k (Wanted i) copies in
+    let accepted : after ≡ source.Accepted i = ap (λ (stage : SourceStage). source_looks stage (Wanted i)) out in
+    let stands : copy_stage_at seen k ≡ source.Accepted i =
+    ap (λ (end : CopyEnd). end.link.stage) (get_or-set_same copies.ends k _ no_copy_end there) ∙ accepted in
+    ap (λ (stage : SourceStage). copy_move_at seen k stopped held_up stage) stands
 
 -- A target opens what has arrived, and takes what it has in hand
 

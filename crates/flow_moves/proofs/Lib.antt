@@ -12,4 +12,5 @@ pub mod PassesHappen
 pub mod PassesPrepared
 pub mod PassesTell
 pub mod PlansRun
+pub mod SendsByKind
 pub mod WorksAtOnce

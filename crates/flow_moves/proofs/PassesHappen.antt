@@ -24,12 +24,13 @@ use Rattle.flow_link.proofs.LooksKeepOrder.{looks_keep}
 use Rattle.flow_intake.specs.Port.{stage_at, hand_in}
 use Rattle.flow_intake.specs.Calls.{in_move, looks}
 use Rattle.flow_outlet.specs.Outlet.{stage_at as out_stage_at}
+use Rattle.flow_spread.specs.Spread.{stage_at as copy_stage_at}
 use Rattle.flow_block.specs.Block.{port_at}
 use Rattle.flow_block.specs.Copies.{CopyCall}
 use Rattle.flow_block.specs.Input.{InputState, InputCall, no_input, input_move, move_from, after_input}
 use Rattle.flow_block.specs.NextMoves.{next_in, next_source}
 use Rattle.flow_block.specs.Node.{NodeState, NodeCall, source_view}
-use Rattle.flow_block.specs.Peeks.{is_held_up}
+use Rattle.flow_block.specs.Peeks.{is_held_up, is_copy_held_up}
 use Rattle.flow_block.specs.Planned.{in_place, out_place, input_place}
 use Rattle.flow_block.specs.Routes.{route_of, source_place, target_place}
 use Rattle.flow_core.specs.Events.{NetEvent, LinkMay, MayHappen, is_of_source, after, after_move, moved_by, line_after, node_after}
@@ -38,30 +39,13 @@ use Rattle.flow_core.specs.Events.{source_look}
 use Rattle.flow_core.specs.Keeps.{NetKeeps}
 use Rattle.flow_core.specs.State.{NetState, LineState, node_at, line_at, input_at, source_from, target_from, no_node, fresh_line}
 use Rattle.flow_core.proofs.NetworksInOrder.{all_events_keep}
-use Rattle.flow_core.proofs.SourcesByKind.{shared_view, shared_next, same_kind}
-use Rattle.flow_moves.specs.Passes.{PassesHappen, may_carry, are_apart, takes_now}
+use Rattle.flow_core.proofs.SourcesByKind.{shared_view, shared_next, copied_view, copied_next}
+use Rattle.flow_moves.specs.Passes.{PassesHappen, are_apart, takes_now}
 use Rattle.flow_moves.specs.Ready.{SourceIsThere, TargetIsThere, IsThere, exit_count}
-use Rattle.flow_moves.proofs.EndsAnswer.{still_accepts, out_kept, sees_accepted, arrived_opens, hand_closes}
+use Rattle.flow_moves.proofs.EndsAnswer.{still_accepts, out_kept, sees_accepted, copy_accepted, arrived_opens, hand_closes}
 use Rattle.flow_moves.proofs.LinksThere.{links_are_there}
 use Rattle.flow_moves.proofs.NextMovesHappen.{sources_may}
-use Rattle.flow_moves.proofs.PassesTell.{pass_tells, blocks_apart, shared_tells}
-
--- a source that is a block shares its messages out, and goes on to
-abbrev SharesOut : NetState → LinkSource → Type 0
-SharesOut net (Block s) = is_one_taker (node_at net s).block.kind ≡ true
-SharesOut net (Input b) = Unit {0}
-
-shares_out : (net : NetState) (from : LinkSource) (k : ℕ) → may_carry net from k ≡ true → SharesOut net from
-shares_out net (Block s) k may = (shared_tells net s k may).shares
-shares_out net (Input b) k may = tt
-
-shares_after : {W : Type 0} (layout : Layout W) (meaning : ℕ → Value → Result (List Value) ℕ) (net later : NetState)
-    → NetKeeps layout meaning net → NetKeeps layout meaning later → (from : LinkSource)
-    → ((s : ℕ) → from ≡ Block s → s < length layout.blocks) → SharesOut net from → SharesOut later from
-shares_after layout meaning net later keeps later_keeps (Block s) inside shares =
-    let low = inside s refl in
-    same_kind layout meaning s (node_at net s) (node_at later s) (keeps.nodes s low) (later_keeps.nodes s low) true shares
-shares_after layout meaning net later keeps later_keeps (Input b) inside shares = tt
+use Rattle.flow_moves.proofs.PassesTell.{pass_tells, blocks_apart}
 
 module _ {W : Type 0} (layout : Layout W) (meaning : ℕ → Value → Result (List Value) ℕ) (l : ℕ) where
   abbrev link : Link
@@ -162,7 +146,7 @@ module _ {W : Type 0} (layout : Layout W) (meaning : ℕ → Value → Result (L
     inputs_beside Exit line = refl
     inputs_beside (Port t p) line = refl
 
-    -- a source that shares its messages out sees the message wanted, and gives it
+    -- a source sees the message wanted, and gives it: its head, or a copy
     shared_gives : (s k : ℕ) (old : NodeState) → is_one_taker old.block.kind ≡ true → k < exit_count old
         → (source_view k old).stage ≡ SourceSeen.out i
         → next_source k (node_after layout meaning s (Some (source_look old.block.kind k (Wanted i))) old) ≡ Some Give
@@ -175,18 +159,36 @@ module _ {W : Type 0} (layout : Layout W) (meaning : ℕ → Value → Result (L
         ∙ sees_accepted k i old.block.exits old.block.stopped (is_held_up looked.block) low
         (out_kept (out_stage_at old.block.exits k) i (sym (ap (λ (view : SourceView Value). view.stage) (shared_view k old shares)) ∙ out))
 
+    copied_gives : (s k : ℕ) (old : NodeState) → is_one_taker old.block.kind ≡ false → k < exit_count old
+        → (source_view k old).stage ≡ SourceSeen.out i
+        → next_source k (node_after layout meaning s (Some (source_look old.block.kind k (Wanted i))) old) ≡ Some Give
+    copied_gives s k old copying there out =
+        let looked = node_after layout meaning s (Some (NodeCall.copy (CopyCall.look k (Wanted i)))) old in
+        let low = subst (λ (so : Bool). k < cond so (length old.block.exits.ends) (length old.block.copies.ends)) copying there in
+        ap (λ (so : Bool). next_source k (node_after layout meaning s
+        (Some (cond so (NodeCall.look_out k (Wanted i)) (NodeCall.copy (CopyCall.look k (Wanted i))))) old)) copying
+        ∙ copied_next k looked copying
+        ∙ copy_accepted k i old.block.copies old.block.stopped (is_copy_held_up looked.block) low
+        (out_kept (copy_stage_at old.block.copies k) i (sym (ap (λ (view : SourceView Value). view.stage) (copied_view k old copying)) ∙ out))
+
+    block_gives : (s k : ℕ) (old : NodeState) (b : Bool) → is_one_taker old.block.kind ≡ b → k < exit_count old
+        → (source_view k old).stage ≡ SourceSeen.out i
+        → next_source k (node_after layout meaning s (Some (source_look old.block.kind k (Wanted i))) old) ≡ Some Give
+    block_gives s k old true shares there out = shared_gives s k old shares there out
+    block_gives s k old false copying there out = copied_gives s k old copying there out
+
     gives_next : (from : LinkSource) (into : LinkTarget) (line : LineState) → SourceIsThere net from (source_place layout from l)
-        → SharesOut net from → are_apart from into ≡ true → (source_from layout net l from).stage ≡ SourceSeen.out i
+        → are_apart from into ≡ true → (source_from layout net l from).stage ≡ SourceSeen.out i
         → source_peek layout (source_sees layout meaning l (Wanted i) from (wanted into line)) l from ≡ Some Give
-    gives_next (Block s) into line there shares apart out =
+    gives_next (Block s) into line there apart out =
         let k = out_place layout s l in
         let old = node_at net s in
         let look = λ (node : NodeState). node_after layout meaning s (Some (source_look node.block.kind k (Wanted i))) node in
         let here : s < length (wanted into line).nodes = subst (λ (count : ℕ). s < count) (sym (count_beside into line)) there.0 in
         ap (next_source k) (get_or-set_same (wanted into line).nodes s (look (node_at (wanted into line) s)) no_node here)
         ∙ ap (λ (node : NodeState). next_source k (look node)) (node_beside into line s apart)
-        ∙ shared_gives s k old shares there.1 out
-    gives_next (Input b) into line there shares apart out =
+        ∙ block_gives s k old (is_one_taker old.block.kind) refl there.1 out
+    gives_next (Input b) into line there apart out =
         let place = input_place layout b in
         let old = input_at layout net b in
         let look = after_input (InputCall.look (Wanted i)) in
@@ -268,9 +270,7 @@ passes_happen W layout meaning run net keeps l i there would small may =
     let peek2 : source_peek layout net2 l ends.source ≡ Some Give =
     ap (λ (now : NetState). source_peek layout now l ends.source) is2
     ∙ gives_next layout meaning l i net1 ends.source ends.target (line_after layout meaning l Want (Wanted i) ends.source net1)
-    (in_place_at net1 keeps1).source
-    (shares_after layout meaning net net1 keeps keeps1 ends.source (λ s from. run.leads.from_block l s there from)
-    (shares_out net ends.source (source_place layout ends.source l) tells.carries)) tells.apart
+    (in_place_at net1 keeps1).source tells.apart
     (seen net1 (Offered i) keeps1 phase1).0 in
     let give : MayHappen layout meaning (NetEvent.at_link l Give) net2 =
     record { enabled = source_event layout meaning l net2 there Give (Wanted i) (Given i) phase2 refl peek2 refl; ids = tt } in

@@ -1,7 +1,6 @@
 -- A message that goes over a link in one call, where memory is set aside first: source and target may do their parts, and what they
 -- leave is what they leave without that.
-use Rattle.std.proofs.Common.{◌≡◌, ◌≢◌, ℕ, ◌<◌, Bool, true, ◌||◌, cond, length, List, [], ◌∷◌, set, get_or, Option, Some, None, Result}
-use Rattle.std.proofs.Common.{is_some, ltb-true, refl, sym, ap, ◌∙◌, subst}
+use Rattle.std.proofs.Common.{◌≡◌, ◌≢◌, ℕ, ◌<◌, true, length, List, set, get_or, None, Result, refl, sym, ap, ◌∙◌, subst}
 use Rattle.std.proofs.lemmas.List.{get_or-set_same, get_or-set_other, set-set, set_comm, length-set}
 use Rattle.flow_value.specs.declared.value.Value.{Value}
 use Rattle.flow_link.specs.declared.phase.Move.TheVariants.{Offer}
@@ -11,30 +10,26 @@ use Rattle.flow_link.specs.declared.plan.LinkSource.TheVariants.{Block, Input}
 use Rattle.flow_link.specs.declared.plan.LinkTarget.{LinkTarget}
 use Rattle.flow_link.specs.declared.plan.LinkTarget.TheVariants.{Port, Exit}
 use Rattle.flow_link.specs.declared.stage.SourceStage.TheVariants.{Out}
-use Rattle.flow_link.specs.LinkOk.{HasRoom}
-use Rattle.flow_link.specs.Plan.{is_one_taker}
 use Rattle.flow_intake.specs.Port.{PortState, fresh_port}
 use Rattle.flow_intake.specs.Calls.{prepared, wants, opens, looks as port_looks}
 use Rattle.flow_intake.specs.Receives.{takes_at_once}
-use Rattle.flow_outlet.specs.ByLink.{has_room}
-use Rattle.flow_outlet.specs.Outlet.{OutletState, first_of, head_of, is_empty, end_at, may_offer, prepares, offers}
 use Rattle.flow_block.specs.Block.{BlockState, port_at, with_port}
 use Rattle.flow_block.specs.Input.{InputState, no_input, next_id, next_value}
-use Rattle.flow_block.specs.Node.{NodeState, given_next, with_block, with_exits}
+use Rattle.flow_block.specs.Node.{NodeState, given_next, with_block}
 use Rattle.flow_block.specs.NodeKeeps.{InAt, any_stage}
-use Rattle.flow_block.specs.Passes.{on_port, takes_hand, sends_ready, receives_on, input_sends}
+use Rattle.flow_block.specs.Passes.{on_port, takes_hand, receives_on, input_sends}
 use Rattle.flow_block.proofs.PassesOfNodes.{with_twice}
 use Rattle.flow_block.specs.declared.planned.Route.{Route}
-use Rattle.flow_core.specs.Events.{out_call, copy_call, with_node, with_line}
+use Rattle.flow_core.specs.Events.{with_node, with_line}
 use Rattle.flow_core.specs.State.{NetState, LineState, node_at, no_node, fresh_line}
-use Rattle.flow_moves.specs.Calls.{called}
-use Rattle.flow_moves.specs.Passed.{source_prepared, target_prepared, sent_ready, received_by, offered_by, passed}
+use Rattle.flow_moves.specs.Passed.{node_prepared, node_offers, node_sends_ready, source_prepared, target_prepared, sent_ready, received_by, offered_by, passed}
 use Rattle.flow_moves.specs.Passed.{BlockMaySend, InputMaySend, MaySend, BlockMayReceive, MayReceive}
-use Rattle.flow_moves.specs.Passes.{id_next, may_carry, takes_now, are_apart, offered_along}
-use Rattle.flow_moves.specs.Ready.{SourceIsThere, TargetIsThere, SourceIsReady, ReadyBy, InputIsReady}
+use Rattle.flow_moves.specs.Passes.{id_in, id_next, may_carry, takes_now, are_apart, offered_along}
+use Rattle.flow_moves.specs.Ready.{SourceIsThere, TargetIsThere, SourceIsReady, InputIsReady}
 use Rattle.flow_moves.specs.Ways.{input_in, with_input_in, value_next, source_moved, target_looked}
 use Rattle.flow_moves.proofs.MovesPrepared.{next_is_there}
-use Rattle.flow_moves.proofs.PassesTell.{blocks_apart, shared_tells}
+use Rattle.flow_moves.proofs.PassesTell.{blocks_apart}
+use Rattle.flow_moves.proofs.SendsByKind.{ready_id, ready_value, ready_may_go, ready_sends, ready_offers}
 
 -- a node, or an input, changes twice
 node_twice : (s : ℕ) (first then_on : NodeState → NodeState) (net : NetState) → s < length net.nodes
@@ -83,31 +78,6 @@ node_swap s t first then_on net apart =
 
 -- What the parts are called for
 
-head_from : (left : List Value) (out missing taken : Bool) (place k : ℕ)
-    → cond (is_empty left || out || missing || taken) None (Some place) ≡ Some k → is_some (first_of left) ≡ true
-head_from [] out missing taken place k may = absurd (cc)
-head_from (value ∷ left) out missing taken place k may = refl
-
-head_there : (o : OutletState) (k : ℕ) → may_offer o ≡ Some k → is_some (head_of o) ≡ true
-head_there o k may = head_from o.left _ _ _ _ k may
-
-room_there : (max : Option ℕ) (given : ℕ) → has_room max given ≡ true → HasRoom max given
-room_there None given e = tt
-room_there (Some max) given e = ltb-true given max e
-
--- a source whose parcel is made may send
-block_may : (node : NodeState) (k : ℕ) (shares : is_one_taker node.block.kind ≡ true) → may_offer node.block.exits ≡ Some k
-    → has_room (end_at node.block.exits k).rule.max (end_at node.block.exits k).given ≡ true
-    → BlockMaySend (with_exits (prepares node.block.exits) node).block k
-block_may node k shares may room =
-    let o = node.block.exits in
-    record {
-      shares = shares;
-      may = may;
-      parcel = head_there o k may;
-      room = room_there (end_at o k).rule.max (end_at o k).given room;
-    }
-
 abbrev with_parcel : InputState → InputState
 with_parcel input = record input { parcel = next_value input }
 
@@ -149,23 +119,17 @@ forgets_room p k i value node there =
     ∙ on_twice p (λ port. sees (prepared port)) (wants k) node there
     ∙ sym (on_twice p sees (wants k) node there))
 
-abbrev made_ready : NodeState → NodeState
-made_ready node = with_exits (prepares node.block.exits) node
-
 -- One end after another
 module _ (net : NetState) (id : ℕ) where
   -- the source alone is prepared
   pub source_may : (source : LinkSource) (k : ℕ) → SourceIsThere net source k → SourceIsReady (Offer id) net source k
       → may_carry net source k ≡ true
       → MaySend (source_prepared source k net) source k
-  source_may (Block s) k there ready room =
-      let node = node_at net s in
-      let so = shared_tells net s k room in
-      let may : may_offer node.block.exits ≡ Some k = subst (λ (sharing : Bool). ReadyBy sharing k (Offer id) node) so.shares ready in (
-        still_there s s made_ready net there.0,
-        subst (λ (node : NodeState). BlockMaySend node.block k) (sym (node_found s made_ready net there.0))
-            (block_may node k so.shares may so.carries),
-      )
+  source_may (Block s) k there ready room = (
+    still_there s s (node_prepared k) net there.0,
+    subst (λ (node : NodeState). BlockMaySend node.block k) (sym (node_found s (node_prepared k) net there.0))
+        (ready_may_go k (node_at net s) id ready room),
+  )
   source_may (Input b) k there ready room = (
     rw (length-set net.inputs k (with_parcel (input_in net k))) there,
     subst (λ (input : InputState). InputMaySend input) (sym (input_found k with_parcel net there)) (input_may (input_in net k) id ready),
@@ -173,19 +137,16 @@ module _ (net : NetState) (id : ℕ) where
 
   pub id_stays : (source : LinkSource) (k : ℕ) → SourceIsThere net source k
       → id_next (source_prepared source k net) source k ≡ id_next net source k
-  id_stays (Block s) k there = ap (λ (node : NodeState). node.block.exits.next) (node_found s made_ready net there.0)
+  id_stays (Block s) k there =
+      ap (λ (node : NodeState). id_in node.block) (node_found s (node_prepared k) net there.0) ∙ ready_id k (node_at net s)
   id_stays (Input b) k there = ap next_id (input_found k with_parcel net there)
 
   pub offered_ready : (makes : ℕ → Value → Result (List Value) ℕ) (i : ℕ) (source : LinkSource) (k : ℕ) → SourceIsThere net source k
-      → may_carry net source k ≡ true
       → offered_by source k (source_prepared source k net) ≡ source_moved makes (Offer i) source k net
-  offered_ready makes i (Block s) k there carries =
-      let node = node_at net s in
-      node_twice s made_ready (λ (node : NodeState). with_exits (offers k node.block.exits) node) net there.0
-      ∙ sym (ap (λ (sharing : Bool). record net {
-        nodes = set net.nodes s (called (makes s) (cond sharing (out_call k (Offer i)) (copy_call k (Offer i))) node);
-      }) (shared_tells net s k carries).shares)
-  offered_ready makes i (Input b) k there carries =
+  offered_ready makes i (Block s) k there =
+      node_twice s (node_prepared k) (node_offers k) net there.0
+      ∙ ap (λ (node : NodeState). record net { nodes = set net.nodes s node }) (ready_offers k (node_at net s) i (makes s))
+  offered_ready makes i (Input b) k there =
       input_twice k with_parcel (λ (input : InputState). record input { stage = Out (next_id input); parcel = next_value input }) net there
 
   -- both are prepared
@@ -212,16 +173,18 @@ module _ (net : NetState) (id : ℕ) where
   both_id source k Exit there apart = id_stays source k there
   both_id (Input b) k (Port t p) there apart = id_stays (Input b) k there
   both_id (Block s) k (Port t p) there apart =
-      ap (λ (node : NodeState). node.block.exits.next) (at_source s k t p (blocks_apart s t apart)) ∙ id_stays (Block s) k there
+      ap (λ (node : NodeState). id_in node.block) (at_source s k t p (blocks_apart s t apart)) ∙ id_stays (Block s) k there
 
   pub both_value : (source : LinkSource) (k : ℕ) (target : LinkTarget) → SourceIsThere net source k → are_apart source target ≡ true
       → value_next (both_ready source k target) source k ≡ value_next net source k
-  both_value (Block s) k Exit there apart = ap given_next (node_found s made_ready net there.0)
+  both_value (Block s) k Exit there apart =
+      ap given_next (node_found s (node_prepared k) net there.0) ∙ ready_value k (node_at net s)
   both_value (Input b) k Exit there apart = ap next_value (input_found k with_parcel net there)
   both_value (Input b) k (Port t p) there apart = ap next_value (input_found k with_parcel net there)
   both_value (Block s) k (Port t p) there apart =
       ap given_next
-      (at_source s k t p (blocks_apart s t apart) ∙ node_found s made_ready net there.0)
+      (at_source s k t p (blocks_apart s t apart) ∙ node_found s (node_prepared k) net there.0)
+      ∙ ready_value k (node_at net s)
 
   module _ (i : ℕ) where
     abbrev sent_now : LinkSource → ℕ → LinkTarget → NetState
@@ -232,9 +195,9 @@ module _ (net : NetState) (id : ℕ) where
     at_target s k t p apart there =
         let other : t ≢ s = λ same. apart (sym same) in
         let first = source_prepared (Block s) k net in
-        node_beside s t (sends_ready k i) (both_ready (Block s) k (Port t p)) other
-        ∙ node_found t (with_room p) first (still_there s t made_ready net there)
-        ∙ ap (with_room p) (node_beside s t made_ready net other)
+        node_beside s t (node_sends_ready k i) (both_ready (Block s) k (Port t p)) other
+        ∙ node_found t (with_room p) first (still_there s t (node_prepared k) net there)
+        ∙ ap (with_room p) (node_beside s t (node_prepared k) net other)
 
     pub target_may : (source : LinkSource) (k : ℕ) (target : LinkTarget) (j : ℕ) → TargetIsThere net target j
         → takes_now net target j ≡ true → are_apart source target ≡ true
@@ -247,8 +210,8 @@ module _ (net : NetState) (id : ℕ) where
     )
     target_may (Block s) k (Port t p) j there takes apart =
         let first = source_prepared (Block s) k net in
-        let here = still_there s t made_ready net there.0 in (
-          still_there s t (sends_ready k i) (both_ready (Block s) k (Port t p)) (still_there t t (with_room p) first here),
+        let here = still_there s t (node_prepared k) net there.0 in (
+          still_there s t (node_sends_ready k i) (both_ready (Block s) k (Port t p)) (still_there t t (with_room p) first here),
           subst (λ (node : NodeState). BlockMayReceive node.block p j) (sym (at_target s k t p (blocks_apart s t apart) there.0))
               (block_may_receive p j (node_at net t) there.1 takes),
         )
@@ -270,14 +233,15 @@ module _ (net : NetState) (id : ℕ) where
           ∙ ap (λ (now : NetState). with_node t (receives_on p j i value) now) (input_twice k with_parcel (input_sends i) net source)
       passes_ready (Block s) k source target apart =
           let differ = blocks_apart s t apart in
-          let first = with_node s made_ready net in
-          let sent = with_node s (sends_ready k i) first in
-          let here = still_there s t (sends_ready k i) first (still_there s t made_ready net target.0) in
+          let first = with_node s (node_prepared k) net in
+          let sent = with_node s (node_sends_ready k i) first in
+          let here = still_there s t (node_sends_ready k i) first (still_there s t (node_prepared k) net target.0) in
           let other : t ≢ s = λ same. differ (sym same) in
-          let same_node = node_beside s t (sends_ready k i) first other ∙ node_beside s t made_ready net other in
-          ap (λ (now : NetState). with_node t (receives_on p j i value) now) (node_swap s t (with_room p) (sends_ready k i) first differ)
+          let same_node = node_beside s t (node_sends_ready k i) first other ∙ node_beside s t (node_prepared k) net other in
+          ap (λ (now : NetState). with_node t (receives_on p j i value) now) (node_swap s t (with_room p) (node_sends_ready k i) first differ)
           ∙ receives_here sent here (subst (λ (node : NodeState). p < length node.block.ports) (sym same_node) target.1.port)
-          ∙ ap (λ (now : NetState). with_node t (receives_on p j i value) now) (node_twice s made_ready (sends_ready k i) net source.0)
+          ∙ ap (λ (now : NetState). with_node t (receives_on p j i value) now) (node_twice s (node_prepared k) (node_sends_ready k i) net source.0
+          ∙ ap (λ (node : NodeState). record net { nodes = set net.nodes s node }) (ready_sends k (node_at net s) i))
 
     -- so all of it is what it is without that
     pub passes_is : (value : Value) (source : LinkSource) (k : ℕ) (target : LinkTarget) (j : ℕ) → SourceIsThere net source k
@@ -299,12 +263,12 @@ offered_then makes l i target j lines moved =
     (with_line l (record { phase = Offered i; slot = (get_or lines l fresh_line).slot }) moved)
 
 pub offered_is : (makes : ℕ → Value → Result (List Value) ℕ) (l id : ℕ) (route : Route) (net : NetState)
-    → SourceIsThere net route.source route.source_place → may_carry net route.source route.source_place ≡ true
+    → SourceIsThere net route.source route.source_place
     → let first = source_prepared route.source route.source_place net in
     offered_then makes l (id_next first route.source route.source_place) route.target route.target_place first.lines
     (offered_by route.source route.source_place first)
     ≡ offered_along makes l (id_next net route.source route.source_place) route net
-offered_is makes l id route net there carries =
+offered_is makes l id route net there =
     let source = route.source in
     let k = route.source_place in
     let first = source_prepared source k net in
@@ -313,4 +277,4 @@ offered_is makes l id route net there carries =
     ∙ ap (λ (lines : List LineState). offered_then makes l i route.target route.target_place lines (offered_by source k first))
     (lines_stay source k net)
     ∙ ap (λ (moved : NetState). offered_then makes l i route.target route.target_place net.lines moved)
-    (offered_ready net id makes i source k there carries)
+    (offered_ready net id makes i source k there)

@@ -1,5 +1,5 @@
 -- A message that goes over a link in one call: its five moves come to what source and target do, each by itself.
-use Rattle.std.proofs.Common.{◌≡◌, ◌≢◌, ℕ, ◌<◌, Bool, true, not, ◌&&◌, ◌==◌, cond, length, List, set, Option, Some, None, Result, is_none}
+use Rattle.std.proofs.Common.{◌≡◌, ◌≢◌, ℕ, ◌<◌, true, not, ◌&&◌, ◌==◌, length, List, set, Option, Some, None, Result, is_none}
 use Rattle.std.proofs.Common.{refl, sym, ap, ◌∙◌}
 use Rattle.std.proofs.lemmas.Bool.{and_parts, not-true, eqb-false}
 use Rattle.std.proofs.lemmas.List.{get_or-set_same, get_or-set_other, set-set, set_comm, set-get_or, length-set}
@@ -12,22 +12,19 @@ use Rattle.flow_link.specs.declared.plan.LinkSource.{LinkSource}
 use Rattle.flow_link.specs.declared.plan.LinkSource.TheVariants.{Block, Input}
 use Rattle.flow_link.specs.declared.plan.LinkTarget.{LinkTarget}
 use Rattle.flow_link.specs.declared.plan.LinkTarget.TheVariants.{Port, Exit}
-use Rattle.flow_link.specs.Plan.{is_one_taker}
-use Rattle.flow_outlet.specs.ByLink.{has_room}
-use Rattle.flow_outlet.specs.Outlet.{head_of, end_at, prepares, offers}
-use Rattle.flow_block.specs.Copies.{CopyCall}
 use Rattle.flow_block.specs.Input.{InputState, InputCall, no_input, next_value, after_input}
-use Rattle.flow_block.specs.Node.{NodeState, NodeCall, given_next, gives_from, with_exits}
-use Rattle.flow_block.specs.Passes.{looks_out, gives_head, sends_on, receives_on, input_sends}
+use Rattle.flow_block.specs.Node.{NodeState, NodeCall, given_next}
+use Rattle.flow_block.specs.Passes.{receives_on, input_sends}
 use Rattle.flow_block.specs.declared.planned.Route.{Route}
-use Rattle.flow_core.specs.Events.{out_call, copy_call, source_call, source_look, in_call, input_call, input_after}
+use Rattle.flow_core.specs.Events.{source_call, source_look, in_call, input_call, input_after}
 use Rattle.flow_core.specs.Events.{slot_after, with_node, with_line}
 use Rattle.flow_core.specs.State.{NetState, LineState, node_at, line_at, no_node, fresh_line}
 use Rattle.flow_moves.specs.Calls.{called}
-use Rattle.flow_moves.specs.Passed.{passed}
+use Rattle.flow_moves.specs.Passed.{passed, node_sends}
 use Rattle.flow_moves.specs.Passes.{may_pass, are_apart, is_idle_line, is_idle_phase, takes_now, may_carry, passed_along}
 use Rattle.flow_moves.specs.Ready.{IsThere}
 use Rattle.flow_moves.specs.Ways.{input_in, with_input_in, value_next, moved_by_source, moved_by_target}
+use Rattle.flow_moves.proofs.SendsByKind.{given_wanted, sends_is}
 
 -- a line over which nothing is under way
 abbrev IdleLine : LineState
@@ -41,47 +38,6 @@ line_is_idle : (phase : Phase) (slot : Option Value) → is_idle_phase phase && 
 line_is_idle Idle None e = refl
 line_is_idle Idle (Some value) e = absurd (cc)
 line_is_idle _ slot e = absurd (cc)
-
--- The source's moves and looks, where it shares its messages out
-module _ (result : Value → Result (List Value) ℕ) (k i : ℕ) (node : NodeState) (shares : is_one_taker node.block.kind ≡ true) where
-  abbrev moves_by : Move → NodeState → NodeState
-  moves_by next a = called result (source_call a.block.kind k next) a
-
-  abbrev looks_by : Phase → NodeState → NodeState
-  looks_by phase a = called result (Some (source_look a.block.kind k phase)) a
-
-  shared_moves : (next : Move) (a : NodeState) → is_one_taker a.block.kind ≡ true → moves_by next a ≡ called result (out_call k next) a
-  shared_moves next a so = ap (λ (sharing : Bool). called result (cond sharing (out_call k next) (copy_call k next)) a) so
-
-  shared_looks : (phase : Phase) (a : NodeState) → is_one_taker a.block.kind ≡ true → looks_by phase a ≡ looks_out k phase a
-  shared_looks phase a so =
-      ap (λ (sharing : Bool). called result (Some (cond sharing (NodeCall.look_out k phase) (NodeCall.copy (CopyCall.look k phase)))) a) so
-
-  gives_kind : (head : Option Value) (a : NodeState) → (gives_from k head a).block.kind ≡ a.block.kind
-  gives_kind None a = refl
-  gives_kind (Some value) a = refl
-
-  -- after the offer, and the look that finds the message wanted
-  abbrev offered_out : NodeState
-  offered_out = looks_out k (Wanted i) (with_exits (offers k (prepares node.block.exits)) node)
-
-  offered_is : looks_by (Wanted i) (moves_by (Offer i) node) ≡ offered_out
-  offered_is =
-      ap (looks_by (Wanted i)) (shared_moves (Offer i) node shares)
-      ∙ shared_looks (Wanted i) (with_exits (offers k (prepares node.block.exits)) node) shares
-
-  pub given_wanted : given_next (looks_by (Wanted i) (moves_by (Offer i) node)) ≡ given_next node
-  given_wanted = ap given_next offered_is
-
-  pub sends_by_kind : looks_by Idle (looks_by (Opened i) (moves_by Give (looks_by (Wanted i) (moves_by (Offer i) node))))
-      ≡ sends_on k i node
-  sends_by_kind =
-      let given = gives_head k offered_out in
-      let so : is_one_taker given.block.kind ≡ true = ap is_one_taker (gives_kind (head_of offered_out.block.exits) offered_out) ∙ shares in
-      ap (λ (a : NodeState). looks_by Idle (looks_by (Opened i) (moves_by Give a))) offered_is
-      ∙ ap (λ (a : NodeState). looks_by Idle (looks_by (Opened i) a)) (shared_moves Give offered_out shares)
-      ∙ ap (looks_by Idle) (shared_looks (Opened i) given so)
-      ∙ shared_looks Idle (looks_out k (Opened i) given) so
 
 -- Between two blocks
 module _ (makes : ℕ → Value → Result (List Value) ℕ) (l i : ℕ) (value : Value) (net : NetState) (s k t p j : ℕ)
@@ -174,15 +130,14 @@ module _ (makes : ℕ → Value → Result (List Value) ℕ) (l i : ℕ) (value 
       (ap (λ (nodes : List NodeState). set nodes t (node_at net t)) (set-get_or net.nodes s no_node) ∙ set-get_or net.nodes t no_node)
       ∙ ap (λ (lines : List LineState). record net { lines = lines }) (set-get_or net.lines l fresh_line))
 
-  module _ (head : given_next (node_at net s) ≡ Some value) (idle : line_at net l ≡ IdleLine)
-      (shares : is_one_taker (node_at net s).block.kind ≡ true) where
+  module _ (head : given_next (node_at net s) ≡ Some value) (idle : line_at net l ≡ IdleLine) where
     abbrev s_old : NodeState
     s_old = node_at net s
 
     abbrev t_old : NodeState
     t_old = node_at net t
 
-    along : passed_along makes l i way net ≡ at_ends (sends_on k i s_old) (receives_on p j i value t_old) IdleLine
+    along : passed_along makes l i way net ≡ at_ends (node_sends k i s_old) (receives_on p j i value t_old) IdleLine
     along =
         let a1 = s_moved (Offer i) s_old in
         let b1 = t_looked (Offered i) t_old in
@@ -201,18 +156,18 @@ module _ (makes : ℕ → Value → Result (List Value) ℕ) (l i : ℕ) (value 
         (by_target Want (Wanted i) a1 b1 (line_of (Offered i) None))
         ∙ ap later (by_source Give (Given i) a2 b2 (line_of (Wanted i) None))
         ∙ ap (λ (x : Option Value). later (at_ends a3 b3 (line_of (Given i) x)))
-        (given_wanted (makes s) k i s_old shares ∙ head)
+        (given_wanted (makes s) k i s_old ∙ head)
         ∙ ap (λ (x : NetState). moved_by_target makes l Close Idle way x)
         (by_target Open (Opened i) a3 b3 (line_of (Given i) (Some value)))
         ∙ by_target Close Idle a4 b4 (line_of (Opened i) None)
-        ∙ ap (λ (x : NodeState). at_ends x (receives_on p j i value t_old) IdleLine) (sends_by_kind (makes s) k i s_old shares)
+        ∙ ap (λ (x : NodeState). at_ends x (receives_on p j i value t_old) IdleLine) (sends_is (makes s) k i s_old)
 
-    alone : passed i value way net ≡ at_ends (sends_on k i s_old) (receives_on p j i value t_old) IdleLine
+    alone : passed i value way net ≡ at_ends (node_sends k i s_old) (receives_on p j i value t_old) IdleLine
     alone =
-        ap (λ (x : NetState). with_node t (receives_on p j i value) (with_node s (sends_on k i) x)) begins
-        ∙ ap (λ (x : LineState). with_node t (receives_on p j i value) (with_node s (sends_on k i) (at_ends s_old t_old x))) idle
-        ∙ ap (λ (x : NetState). with_node t (receives_on p j i value) x) (change_s (sends_on k i) s_old t_old IdleLine)
-        ∙ change_t (receives_on p j i value) (sends_on k i s_old) t_old IdleLine
+        ap (λ (x : NetState). with_node t (receives_on p j i value) (with_node s (node_sends k i) x)) begins
+        ∙ ap (λ (x : LineState). with_node t (receives_on p j i value) (with_node s (node_sends k i) (at_ends s_old t_old x))) idle
+        ∙ ap (λ (x : NetState). with_node t (receives_on p j i value) x) (change_s (node_sends k i) s_old t_old IdleLine)
+        ∙ change_t (receives_on p j i value) (node_sends k i s_old) t_old IdleLine
 
     pub blocks_tell : passed_along makes l i way net ≡ passed i value way net
     blocks_tell = along ∙ sym alone
@@ -368,18 +323,6 @@ pass_tells l route net may =
       carries = first.1;
     }
 
--- what goes over a link in one call is shared out, and the link may carry it
-pub record SharesAndCarries (node : NodeState) (k : ℕ) : Type 0 where
-  pub shares : is_one_taker node.block.kind ≡ true
-  pub carries : has_room (end_at node.block.exits k).rule.max (end_at node.block.exits k).given ≡ true
-
-pub shared_tells : (net : NetState) (s k : ℕ) → may_carry net (Block s) k ≡ true → SharesAndCarries (node_at net s) k
-shared_tells net s k may =
-    let node = node_at net s in
-    let both = and_parts (is_one_taker node.block.kind)
-    (has_room (end_at node.block.exits k).rule.max (end_at node.block.exits k).given) may in
-    record { shares = both.0; carries = both.1 }
-
 -- two blocks are apart where their numbers differ
 pub blocks_apart : (s t : ℕ) → not (s == t) ≡ true → s ≢ t
 blocks_apart s t e = eqb-false s t (not-true (s == t) e)
@@ -394,7 +337,6 @@ module _ (makes : ℕ → Value → Result (List Value) ℕ) (l i : ℕ) (value 
   tell_by source k Exit j there head tells = let no = tells.takes in absurd (cc)
   tell_by (Block s) k (Port t p) j there head tells =
       blocks_tell makes l i value net s k t p j (blocks_apart s t tells.apart) there.source.0 there.target.0 there.line head tells.idle
-      (shared_tells net s k tells.carries).shares
   tell_by (Input b) k (Port t p) j there head tells =
       inputs_tell makes l i value net b k t p j there.source there.target.0 there.line head tells.idle
 

@@ -14,7 +14,8 @@ use Rattle.flow_link.specs.Plan.{is_one_taker}
 use Rattle.flow_intake.specs.Receives.{takes_at_once}
 use Rattle.flow_outlet.specs.ByLink.{has_room}
 use Rattle.flow_outlet.specs.Outlet.{end_at}
-use Rattle.flow_block.specs.Block.{port_at}
+use Rattle.flow_spread.specs.Spread.{link_at}
+use Rattle.flow_block.specs.Block.{BlockState, port_at}
 use Rattle.flow_block.specs.Input.{next_id}
 use Rattle.flow_block.specs.Routes.{route_of}
 use Rattle.flow_block.specs.declared.planned.Route.{Route}
@@ -23,16 +24,29 @@ use Rattle.flow_core.specs.State.{NetState, LineState, node_at, line_at}
 use Rattle.flow_moves.specs.Statements.{InEachNet, source_would}
 use Rattle.flow_moves.specs.Ways.{input_in, moved_along}
 
+-- the id of the message that a block would offer, by whether it shares its messages out or copies them
+abbrev pub id_by : Bool → BlockState → ℕ
+id_by true block = block.exits.next
+id_by false block = block.copies.id
+
+abbrev pub id_in : BlockState → ℕ
+id_in block = id_by (is_one_taker block.kind) block
+
 -- the id of the message that the source would offer
 abbrev pub id_next : NetState → LinkSource → ℕ → ℕ
-id_next net (Block s) k = (node_at net s).block.exits.next
+id_next net (Block s) k = id_in (node_at net s).block
 id_next net (Input b) k = next_id (input_in net k)
 
--- one more message may cross the link; what a block copies goes over it move by move
+-- one more message may cross the link
+abbrev pub carries_by : Bool → ℕ → BlockState → Bool
+carries_by true k block = has_room (end_at block.exits k).rule.max (end_at block.exits k).given
+carries_by false k block = has_room (link_at block.copies k).rule.max (link_at block.copies k).given
+
+abbrev pub carries : ℕ → BlockState → Bool
+carries k block = carries_by (is_one_taker block.kind) k block
+
 abbrev pub may_carry : NetState → LinkSource → ℕ → Bool
-may_carry net (Block s) k =
-    is_one_taker (node_at net s).block.kind
-    && has_room (end_at (node_at net s).block.exits k).rule.max (end_at (node_at net s).block.exits k).given
+may_carry net (Block s) k = carries k (node_at net s).block
 may_carry net (Input b) k = true
 
 -- the target takes at once what is offered to it

@@ -11,6 +11,7 @@ mod laws;
 mod own;
 mod parts;
 mod pass;
+mod sends;
 
 pub use ends::shares_out;
 pub use fresh::{lines_of, nodes_of};

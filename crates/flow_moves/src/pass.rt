@@ -1,5 +1,5 @@
 //! A message that goes over a link in one call, where its target takes it at once.
-ghost use Rattle.std.specs.Prelude.{◌≡◌, ℕ, ◌<◌, ◌^◌, Bool, true, false, ◌&&◌, length, is_some, is_none, List, Result};
+ghost use Rattle.std.specs.Prelude.{◌≡◌, ℕ, ◌<◌, true, false, ◌&&◌, length, is_none, List, Result};
 ghost use Rattle.std.specs.Prelude.{OnOk, OnErr, IfOk, Some};
 ghost use Rattle.flow_value.specs.declared.value.Value.{Value};
 ghost use Rattle.flow_link.specs.declared.phase.Move.TheVariants.{Offer};
@@ -13,8 +13,8 @@ ghost use Rattle.flow_moves.specs.Passes.{passed_along, offered_along};
 ghost use Rattle.flow_moves.specs.Ready.{SourceIsThere, TargetIsThere, SourceIsReady, IsThere};
 ghost use Rattle.flow_moves.specs.Ways.{value_next, target_looked};
 
-use crate::ends::shares_out;
 use crate::parts::Parts;
+use crate::sends::{exit_may_carry, offer_exit, prepare_exit, send_exit};
 use flow_block::Route;
 use flow_link::{LinkSource, LinkTarget, Move, Phase};
 use flow_value::{MessageHeader, Parcel};
@@ -52,16 +52,13 @@ impl Parts {
         }
     }
 
-    /// Whether one more message may cross a link at once. What a block copies goes over it move by move.
+    /// Whether one more message may cross a link.
     fn may_carry(&self, route: &Route) -> bool
         requires { SourceIsThere self.now route.now.source route.now.source_place }
         ensures { result ≡ may_carry self.now route.now.source route.now.source_place }
     {
         match route.source {
-            LinkSource::Block(block) => {
-                let block = self.nodes[block].block();
-                shares_out(block) && block.may_carry(route.source_place)
-            }
+            LinkSource::Block(block) => exit_may_carry(&self.nodes[block], route.source_place),
             LinkSource::Input(_) => true,
         }
     }
@@ -92,14 +89,19 @@ impl Parts {
         Ok(true)
     }
 
-    /// Makes the parcel of the message that the source of a link would offer.
+    /// Has the source of a link make ready to send what it would offer: its parcel is made, or where it copies, the
+    /// element is offered.
     fn prepare_source(&mut self, alloc: Global, route: &Route) -> Result<(), AllocError>
-        requires { SourceIsThere self.old route.now.source route.now.source_place }
+        requires there { SourceIsThere self.old route.now.source route.now.source_place }
+        requires ready { SourceIsReady (Offer (id_next self.old route.now.source route.now.source_place)) self.old
+            route.now.source route.now.source_place }
         ensures done { OnOk result (self.new ≡ source_prepared route.now.source route.now.source_place self.old) }
         ensures kept { OnErr result (self.new ≡ self.old) }
     {
         match route.source {
-            LinkSource::Block(block) => self.nodes[block].prepare_offer(alloc),
+            LinkSource::Block(block) => {
+                prepare_exit(&mut self.nodes[block], alloc, route.source_place)
+            }
             LinkSource::Input(_) => self.inputs[route.source_place].prepare(alloc),
         }
     }
@@ -116,7 +118,7 @@ impl Parts {
         }
     }
 
-    /// The source of a link, whose parcel is made, offers its message, and the target looks.
+    /// The source of a link offers what it has ready, and the target looks.
     fn offer_ready(&mut self, id: usize, route: &Route)
         requires line { id < length self.old.lines }
         requires may { MaySend self.old route.now.source route.now.source_place }
@@ -134,19 +136,19 @@ impl Parts {
         self.target_looks(route, phase);
     }
 
-    /// The source of a link, whose parcel is made, offers its message: this is its header.
+    /// The source of a link offers what it has ready: this is its header.
     fn offer(&mut self, route: &Route) -> MessageHeader
         requires { MaySend self.old route.now.source route.now.source_place }
         ensures header { result ≡ id_next self.old route.now.source route.now.source_place }
         ensures offered { self.new ≡ offered_by route.now.source route.now.source_place self.old }
     {
         match route.source {
-            LinkSource::Block(block) => self.nodes[block].offer(route.source_place),
+            LinkSource::Block(block) => offer_exit(&mut self.nodes[block], route.source_place),
             LinkSource::Input(_) => self.inputs[route.source_place].offer(),
         }
     }
 
-    /// The source of a link, whose parcel is made, sends its message: this is the parcel.
+    /// The source of a link sends what it has ready: this is the parcel.
     fn send(&mut self, route: &Route) -> Parcel
         requires { MaySend self.old route.now.source route.now.source_place }
         ensures value { value_next self.old route.now.source route.now.source_place ≡ Some result }
@@ -154,7 +156,7 @@ impl Parts {
             (id_next self.old route.now.source route.now.source_place) self.old }
     {
         match route.source {
-            LinkSource::Block(block) => self.nodes[block].send(route.source_place),
+            LinkSource::Block(block) => send_exit(&mut self.nodes[block], route.source_place),
             LinkSource::Input(_) => self.inputs[route.source_place].send(),
         }
     }

@@ -13,22 +13,25 @@ use Rattle.flow_link.specs.declared.stage.SourceStage.TheVariants as stage
 use Rattle.flow_link.specs.declared.trace.Outcome.{Outcome}
 use Rattle.flow_link.specs.Layout.{Layout}
 use Rattle.flow_link.specs.Phase.{phase_after}
-use Rattle.flow_link.specs.Plan.{link_in}
+use Rattle.flow_link.specs.Plan.{link_in, is_one_taker}
 use Rattle.flow_outlet.specs.Outlet.{OutletState, end_at, end_of, free_move, move_at, stage_at}
+use Rattle.flow_spread.specs.Spread.{SpreadState, link_at, stage_at as copy_stage_at, move_at as copy_move_at, free_move as free_copy_move}
 use Rattle.flow_block.specs.Input.{InputState, move_from, end_move, end_by, has_next, next_id}
-use Rattle.flow_block.specs.Peeks.{is_held_up}
+use Rattle.flow_block.specs.NextMoves.{next_source}
+use Rattle.flow_block.specs.Node.{NodeState}
+use Rattle.flow_block.specs.Peeks.{is_held_up, is_copy_held_up}
 use Rattle.flow_block.specs.Planned.{block_makes, out_place}
 use Rattle.flow_block.specs.Routes.{route_of, source_place}
 use Rattle.flow_core.specs.Events.{NetEvent, is_of_source, after, source_peek}
 use Rattle.flow_core.specs.Keeps.{IsRun, NetKeeps}
 use Rattle.flow_core.specs.State.{NetState, node_at, line_at, input_at}
-use Rattle.flow_core.proofs.SourcesByKind.{shared_next}
-use Rattle.flow_moves.specs.Passes.{MayPass, id_next, after_offer, after_want, after_give, after_open, after_pass}
-use Rattle.flow_moves.specs.Passes.{offered_along, wanted_along, given_along, opened_along, passed_along, may_carry, may_pass}
+use Rattle.flow_core.proofs.SourcesByKind.{shared_next, copied_next}
+use Rattle.flow_moves.specs.Passes.{MayPass, id_by, id_in, id_next, after_offer, after_want, after_give, after_open, after_pass}
+use Rattle.flow_moves.specs.Passes.{offered_along, wanted_along, given_along, opened_along, passed_along, may_pass}
 use Rattle.flow_moves.specs.Ways.{moved_along, source_next}
 use Rattle.flow_moves.proofs.MerelyKept.{kept_after, line_count_is, passes_may}
 use Rattle.flow_moves.proofs.PassesHappen.{phase_then}
-use Rattle.flow_moves.proofs.PassesTell.{pass_tells, shared_tells}
+use Rattle.flow_moves.proofs.PassesTell.{pass_tells}
 use Rattle.flow_net.specs.Dues.{event_of}
 use Rattle.flow_net.specs.declared.due.Due.{Due}
 use Rattle.flow_net.specs.declared.due.Due.TheVariants.{Link}
@@ -75,6 +78,27 @@ block_offers i o k stopped up stage.Crossing is = absurd (cc)
 block_offers i o k stopped up stage.Refused is = absurd (cc)
 block_offers i o k stopped up (stage.Ended how) is = absurd (cc)
 
+copy_offers : (i : ℕ) (copies : SpreadState) (k : ℕ) (stopped : Option Outcome) (up : Bool) (at : SourceStage)
+    → copy_move_at copies k stopped up at ≡ Some (Offer i) → i ≡ copies.id
+copy_offers i copies k stopped up stage.Free is = free_copy_offers i copies k (end_of (link_at copies k) stopped) is
+  where
+    free_copy_offers : (i : ℕ) (copies : SpreadState) (k : ℕ) (how : Option LinkEnd)
+        → free_copy_move copies k how ≡ Some (Offer i) → i ≡ copies.id
+    free_copy_offers i copies k (Some how) is = absurd (cc)
+    free_copy_offers i copies k None is = free_offers i _ copies.id is
+copy_offers i copies k stopped up (stage.Waiting j) is =
+    absurd (neither i up (Some Withdraw) None (λ is. absurd (cc)) (λ is. absurd (cc)) is)
+copy_offers i copies k stopped up (stage.Accepted j) is = absurd (cc)
+copy_offers i copies k stopped up (stage.Claimed j) is = absurd (cc)
+copy_offers i copies k stopped up (stage.Wished j) is = absurd (cc)
+copy_offers i copies k stopped up (stage.AskedBy j) is = absurd (cc)
+copy_offers i copies k stopped up (stage.Posted j) is = absurd (cc)
+copy_offers i copies k stopped up (stage.Out j) is = absurd (cc)
+copy_offers i copies k stopped up (stage.Reserved j) is = absurd (cc)
+copy_offers i copies k stopped up stage.Crossing is = absurd (cc)
+copy_offers i copies k stopped up stage.Refused is = absurd (cc)
+copy_offers i copies k stopped up (stage.Ended how) is = absurd (cc)
+
 no_offer : (i : ℕ) (how : Option LinkEnd) → end_move how ≡ Some (Offer i) → ⊥
 no_offer i None is = absurd (cc)
 no_offer i (Some how) is = absurd (cc)
@@ -98,15 +122,23 @@ input_offers i input stage.Refused is = absurd (cc)
 input_offers i input (stage.Ended how) is = absurd (cc)
 
 module _ {W : Type 0} (layout : Layout W) (net : NetState) (l : ℕ) where
-  source_offers : (i : ℕ) (from : LinkSource) → may_carry net from (source_place layout from l) ≡ true
-      → source_peek layout net l from ≡ Some (Offer i) → i ≡ id_next net from (source_place layout from l)
-  source_offers i (Block s) carries is =
-      let node = node_at net s in
-      let k = out_place layout s l in
-      let shares = (shared_tells net s k carries).shares in
+  node_offers : (i k : ℕ) (node : NodeState) (b : Bool) → is_one_taker node.block.kind ≡ b
+      → next_source k node ≡ Some (Offer i) → i ≡ id_in node.block
+  node_offers i k node true shares is =
       block_offers i node.block.exits k node.block.stopped (is_held_up node.block) (stage_at node.block.exits k)
       (sym (shared_next k node shares) ∙ is)
-  source_offers i (Input b) carries is = input_offers i (input_at layout net b) (input_at layout net b).stage is
+      ∙ sym (ap (λ (sharing : Bool). id_by sharing node.block) shares)
+  node_offers i k node false copying is =
+      copy_offers i node.block.copies k node.block.stopped (is_copy_held_up node.block) (copy_stage_at node.block.copies k)
+      (sym (copied_next k node copying) ∙ is)
+      ∙ sym (ap (λ (sharing : Bool). id_by sharing node.block) copying)
+
+  source_offers : (i : ℕ) (from : LinkSource) → source_peek layout net l from ≡ Some (Offer i)
+      → i ≡ id_next net from (source_place layout from l)
+  source_offers i (Block s) is =
+      let node = node_at net s in
+      node_offers i (out_place layout s l) node (is_one_taker node.block.kind) refl is
+  source_offers i (Input b) is = input_offers i (input_at layout net b) (input_at layout net b).stage is
 
   would_by_peek : (i : ℕ) (from : LinkSource) → source_peek layout net l from ≡ Some (Offer i)
       → source_next net from (source_place layout from l) ≡ Some (Offer i)
@@ -116,19 +148,17 @@ module _ {W : Type 0} (layout : Layout W) (net : NetState) (l : ℕ) where
   abbrev pub next_id_of : ℕ
   next_id_of = id_next net (route_of layout l).source (route_of layout l).source_place
 
-  -- the offer that is due is of that id, where its message may pass
+  -- the offer that is due is of that id
   pub due_is : (meaning : ℕ → Value → Result (List Value) ℕ) (i : ℕ) → IsDue layout meaning net (NetEvent.at_link l (Offer i))
-      → may_pass l (route_of layout l) net ≡ true → IsDue layout meaning net (NetEvent.at_link l (Offer next_id_of))
-  due_is meaning i due passes =
+      → IsDue layout meaning net (NetEvent.at_link l (Offer next_id_of))
+  due_is meaning i due =
       subst (λ (id : ℕ). IsDue layout meaning net (NetEvent.at_link l (Offer id)))
-      (source_offers i (link_in layout.links l).source (pass_tells l (route_of layout l) net passes).carries due.enabled.peek) due
+      (source_offers i (link_in layout.links l).source due.enabled.peek) due
 
   -- and so it is where a driver found it
   pub found_due : (meaning : ℕ → Value → Result (List Value) ℕ) (event : Due) (i : ℕ) → event ≡ Link l (Offer i)
-      → IsDue layout meaning net (event_of event) → may_pass l (route_of layout l) net ≡ true
-      → IsDue layout meaning net (NetEvent.at_link l (Offer next_id_of))
-  found_due meaning event i is due passes =
-      due_is meaning i (subst (λ (e : Due). IsDue layout meaning net (event_of e)) is due) passes
+      → IsDue layout meaning net (event_of event) → IsDue layout meaning net (NetEvent.at_link l (Offer next_id_of))
+  found_due meaning event i is due = due_is meaning i (subst (λ (e : Due). IsDue layout meaning net (event_of e)) is due)
 
 -- What is done
 

@@ -31,7 +31,6 @@ returns-then-is_err-clause-offered c = λ no makes.
     ∙ ap (λ (now : NetState). offered_then makes c.args.id (id_next now source k) route.target route.target_place now.lines
     (offered_by source k now)) first_is
     ∙ offered_is makes c.args.id (id_next net source k) route net c.requires.there.source
-    (pass_tells c.args.id route net c.requires.passes).carries
 
 -- It has
 

@@ -1,4 +1,4 @@
-use Rattle.std.proofs.Common.{rules, ◌≡◌, sym, ◌∙◌}
+use Rattle.std.proofs.Common.{rules, ◌≡◌}
 use Rattle.flow_link.specs.declared.phase.Move.TheVariants.{Offer}
 use Rattle.flow_link.specs.Planned.{layout_of}
 use Rattle.flow_exec.specs.Works.{works_of}
@@ -13,4 +13,3 @@ pass-requires-clause-due g c κs within =
     let found = c.in-Link-default-Offer in
     let is : c.args.event.now ≡ Link found.id (Offer found.field-1-0) = search rules in
     found_due layout net.parts found.id (works_of g.W.Work.meaning layout) c.args.event.now found.field-1-0 is c.requires.due
-    (sym c.may_pass.ensures ∙ c.if-may_pass.true)
