@@ -8,7 +8,8 @@ use flow_value::Work;
 pub enum Event<W: Work> {
     /// An end of this link makes a move.
     Link(usize, Move),
-    /// This block, which has no function, makes its next outputs: a buffer hands a message on, and a batch makes a row.
+    /// This block, which has no function, makes its next outputs: a buffer hands a message on, a broadcast takes up an
+    /// element to copy, a batch makes a row, a join a tuple.
     Make(usize),
     /// This block works on one more of the messages that it holds.
     Begin(usize),
