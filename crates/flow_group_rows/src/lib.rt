@@ -11,5 +11,3 @@ mod copies;
 mod drawn;
 #[cfg(test)]
 mod joins;
-#[cfg(test)]
-mod spread;

@@ -3,12 +3,10 @@ use flow_link::PlanFault;
 use flow_net::Settled;
 use flow_run::{Ran, RunRefusal, write_refusal};
 use flow_text::{TextFault, TextRefusal, read_plan};
-use flow_trial::{ENOUGH, is_refusal, is_report, ran, row_of, told_by, values_of};
-use flow_value::{Parcel, Steps, StepsError, Value, Work, WorkFault};
-use std::alloc::{AllocError, Global};
+use flow_trial::{ENOUGH, is_refusal, is_report, ran, told_by};
+use std::alloc::Global;
 use std::io;
 use std::io::{Read, Write};
-use std::process::Abort;
 use std::sync::Wait;
 use std::test::Fail;
 use std::thread::Threads;
@@ -113,56 +111,7 @@ fn a_refusal_tells_of_a_failing_writer(rt: HostRuntime) {
     }
 }
 
-fn argument(alloc: Global) -> Result<Value, AllocError> {
-    row_of(alloc, values_of(alloc, "'1 '22")?)
-}
-
-const STEPS: &[&str] = &["repeat 2", "field 1", "int", "add 1", "text", "repeat 2"];
-
-/// Tests what those steps make of the argument.
-fn check_steps(rt: &impl Abort, alloc: Global, steps: &Steps, argument: &Value) {
-    match steps.run(alloc, argument) {
-        Ok(values) => {
-            assert!(rt; values.len() == 4);
-            for value in &values {
-                assert!(rt; value.as_str() == Some("23"));
-            }
-        }
-        Err(fault) => assert!(rt; fault == WorkFault::Memory),
-    }
-    if let Ok(other) = Work::copy(steps, alloc) {
-        assert!(rt; other == *steps);
-    }
-}
-
-/// The tests from here on hold whichever allocation fails: an answer is the right one or out of memory, and what came
-/// in is as it was.
-#[test]
-fn functions_without_memory(rt: HostRuntime) {
-    let (Ok(value), Ok(same)) = (argument(rt.alloc()), argument(rt.alloc())) else {
-        return;
-    };
-    match Steps::read(rt.alloc(), STEPS) {
-        Ok(steps) => check_steps(&rt, rt.alloc(), &steps, &value),
-        Err(error) => assert!(rt; error == StepsError::Memory),
-    }
-    assert!(rt; value == same);
-}
-
-#[test]
-fn values_without_memory(rt: HostRuntime) {
-    let (Ok(value), Ok(same)) = (argument(rt.alloc()), argument(rt.alloc())) else {
-        return;
-    };
-    if let Ok(copy) = value.copy(rt.alloc()) {
-        assert!(rt; copy == same);
-    }
-    match Parcel::new(rt.alloc(), value) {
-        Ok(parcel) => assert!(rt; *parcel.value() == same),
-        Err(back) => assert!(rt; back == same),
-    }
-}
-
+// The tests from here on hold whichever allocation fails: an answer is the right one or out of memory.
 #[test]
 fn networks_without_memory(rt: HostRuntime) {
     match read_plan(rt.alloc(), PAIR) {

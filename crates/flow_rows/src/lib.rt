@@ -1,9 +1,6 @@
-//! Tests of the libraries from above: networks and records as texts, each with what is due of it, and what no text can
-//! reach.
+//! Tests of the libraries from above: networks and records as texts, each with what is due of it, and devices that fail.
 #![tactic(auto)]
 
-#[cfg(test)]
-mod blocks;
 #[cfg(test)]
 mod check;
 #[cfg(test)]
@@ -11,14 +8,6 @@ mod devices;
 #[cfg(test)]
 mod functions;
 #[cfg(test)]
-mod intake;
-#[cfg(test)]
-mod links;
-#[cfg(test)]
-mod outlet;
-#[cfg(test)]
 mod refused;
 #[cfg(test)]
 mod texts;
-#[cfg(test)]
-mod values;

@@ -1,5 +1,4 @@
-//! What the tests share: values that are written as words, networks that are drawn in a line, runs of texts, and schedules
-//! of events.
+//! What the tests share: networks that are drawn in a line, runs of texts, and schedules of events.
 #![tactic(auto)]
 
 mod asked;
@@ -8,7 +7,6 @@ mod lines;
 mod nets;
 mod schedules;
 mod told;
-mod words;
 
 pub use asked::{Asked, Results, is_done, run_job};
 pub use drawn::{add, chain};
@@ -16,4 +14,3 @@ pub use lines::{has_lines, is_refusal, is_report};
 pub use nets::{ENOUGH, PAIR, THREE, came_to, network, post_all, settles};
 pub use schedules::{do_first, in_order, wander};
 pub use told::{Told, ran, told_by, told_with};
-pub use words::{atom, cells, row_of, values_of};

@@ -4,11 +4,11 @@ ghost use Rattle.flow_link.specs.Planned.{layout_of};
 
 use crate::drawn::chain;
 use crate::lines::has_lines;
-use crate::words::values_of;
 use flow_link::{Ending, Plan};
 use flow_net::{Net, Posted, Settled};
 use flow_text::{TextRefusal, read_plan, write_report};
 use flow_value::Steps;
+use flow_words::values_of;
 use std::alloc::{AllocError, Global};
 use std::test::Fail;
 

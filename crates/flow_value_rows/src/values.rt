@@ -1,10 +1,10 @@
 //! Values, functions and predicates where no text reaches them, and each of their calls once.
 use crate::check::check;
-use flow_trial::{atom, cells, row_of, values_of};
 use flow_value::{
     MAX_ID, MessageHeader, MessageStatus, Parcel, Row, Steps, StepsError, Text, Value, When, Work,
     WorkFault,
 };
+use flow_words::{atom, cells, row_of, values_of};
 use std::alloc::{AllocError, Global};
 use std::mem::size_of;
 use std::process::Abort;

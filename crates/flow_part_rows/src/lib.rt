@@ -1,0 +1,15 @@
+//! Tests of each part of a network by itself: plans and phases, ports, outlets, spreads and blocks.
+#![tactic(auto)]
+
+#[cfg(test)]
+mod blocks;
+#[cfg(test)]
+mod check;
+#[cfg(test)]
+mod intake;
+#[cfg(test)]
+mod links;
+#[cfg(test)]
+mod outlet;
+#[cfg(test)]
+mod spread;
