@@ -191,7 +191,7 @@ fresh_copier layout b copying =
     }
 
 pub fresh_in_order : (W : Type 0) → FreshInOrder W
-fresh_in_order W layout meaning b built some freely lane size group unlimited =
+fresh_in_order W layout meaning b some freely lane size group unlimited =
     let block = block_in layout.blocks b in
     let rules = map (rule_of layout) (links_from layout b) in
     let shared = shared_rules block.kind rules in
@@ -199,7 +199,6 @@ fresh_in_order W layout meaning b built some freely lane size group unlimited =
     let none_copied : copies_weight node.block.copies ≡ 0 = weighs_fresh block.kind rules in
     record {
       shape = record {
-        built = built;
         kind_is = refl;
         size_is = refl;
         some_size = size;

@@ -347,7 +347,7 @@ module _ {W : Type 0} (layout : Layout W) (meaning : ℕ → Value → Result (L
       (broadcast_copies node.block.kind broadcast) law.jobs)
       (λ other alone single. made_next node.block node.journal (held_by node.block) refl
       (has_one_port layout meaning b node.block law.shape (others_at_one node.block.kind grouped alone))
-      (of_one node.block.kind law.shape.built grouped other alone single (makes_many layout meaning b node law may.waits)) other
+      (of_one node.block.kind grouped other alone single (makes_many layout meaning b node law may.waits)) other
       may.all_out law.jobs))
   after_each node (NodeCall.complete p) law may =
       stays node.block (with_port p port_closes node.block) node.journal (node.journal ++ Complete p ∷ []) law.jobs

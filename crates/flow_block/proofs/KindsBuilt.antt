@@ -1,45 +1,31 @@
--- What holds of each kind that is kept in order: it has one port, if it joins nothing, and makes rows, tuples, groups or
--- something of its first message.
+-- What holds of each kind: it has one port, if it joins nothing, and makes rows, tuples, groups or something of its first
+-- message.
 use Rattle.std.proofs.Common.{◌≡◌, ℕ, Bool, true, false, cond, length, [], ◌∷◌, Option, Some, None, Result, Ok, Err, refl, ap, sym, ◌∙◌, subst, is_some, List}
 use Rattle.flow_value.specs.declared.value.Value.{Value}
 use Rattle.flow_link.specs.declared.draft.BlockKind.{BlockKind}
 use Rattle.flow_link.specs.declared.draft.BlockKind.TheVariants.{Buffer, Broadcast, WriteOnce, Action, Transform, TransformMany, Batch, Join, BatchedJoin}
 use Rattle.flow_link.specs.Layout.{Layout}
-use Rattle.flow_link.specs.NotBuilt.{is_built_kind}
 use Rattle.flow_link.specs.Plan.{block_in, ports_by_kind, has_work, is_broadcast, is_write_once, is_one_taker}
 use Rattle.flow_link.specs.LinkOk.{IsWithin}
 use Rattle.flow_block.specs.Planned.{room_by, room_of}
-use Rattle.flow_block.specs.Kinds.{is_kept_kind}
 use Rattle.flow_intake.specs.Calls.{first_of}
 use Rattle.flow_block.specs.Block.{BlockState, held_by, is_batch, is_join, made_of, makes_row, makes_tuple, keeps_results, yields, copies_next, makes_of, makes_other, makes, is_batched_join, has_ports}
 use Rattle.flow_block.specs.NodeLaw.{ShapeLaw}
 use Rattle.flow_block.specs.Node.{NodeState, with_block, makes_next_group, makes_next}
 
--- each kind of which a plan may be made is kept in order
-pub built_kept : (kind : BlockKind) → is_built_kind kind ≡ true → is_kept_kind kind ≡ true
-built_kept Buffer e = refl
-built_kept Broadcast e = refl
-built_kept WriteOnce e = refl
-built_kept Action e = refl
-built_kept Transform e = refl
-built_kept TransformMany e = refl
-built_kept Batch e = refl
-built_kept Join e = refl
-built_kept BatchedJoin e = refl
-
 -- what holds of buffers, actions, both transforms, batches, joins, broadcasts, what takes one message in all and batched joins
--- holds of each kind that is kept in order
+-- holds of each kind
 pub by_kind : (P : BlockKind → Type 0) → P Buffer → P Action → P Transform → P TransformMany → P Batch → P Join → P Broadcast
-    → P WriteOnce → P BatchedJoin → (kind : BlockKind) → is_kept_kind kind ≡ true → P kind
-by_kind P buffer action transform many batch join broadcast once batched Buffer e = buffer
-by_kind P buffer action transform many batch join broadcast once batched Broadcast e = broadcast
-by_kind P buffer action transform many batch join broadcast once batched WriteOnce e = once
-by_kind P buffer action transform many batch join broadcast once batched Action e = action
-by_kind P buffer action transform many batch join broadcast once batched Transform e = transform
-by_kind P buffer action transform many batch join broadcast once batched TransformMany e = many
-by_kind P buffer action transform many batch join broadcast once batched Batch e = batch
-by_kind P buffer action transform many batch join broadcast once batched Join e = join
-by_kind P buffer action transform many batch join broadcast once batched BatchedJoin e = batched
+    → P WriteOnce → P BatchedJoin → (kind : BlockKind) → P kind
+by_kind P buffer action transform many batch join broadcast once batched Buffer = buffer
+by_kind P buffer action transform many batch join broadcast once batched Broadcast = broadcast
+by_kind P buffer action transform many batch join broadcast once batched WriteOnce = once
+by_kind P buffer action transform many batch join broadcast once batched Action = action
+by_kind P buffer action transform many batch join broadcast once batched Transform = transform
+by_kind P buffer action transform many batch join broadcast once batched TransformMany = many
+by_kind P buffer action transform many batch join broadcast once batched Batch = batch
+by_kind P buffer action transform many batch join broadcast once batched Join = join
+by_kind P buffer action transform many batch join broadcast once batched BatchedJoin = batched
 
 -- it makes what it makes of one message after another
 abbrev pub is_of_one : BlockKind → Bool
@@ -49,13 +35,13 @@ is_of_one Transform = true
 is_of_one TransformMany = true
 is_of_one _ = false
 
-pub of_one : (kind : BlockKind) → is_kept_kind kind ≡ true → is_batched_join kind ≡ false → is_batch kind ≡ false
+pub of_one : (kind : BlockKind) → is_batched_join kind ≡ false → is_batch kind ≡ false
     → is_join kind ≡ false → is_broadcast kind ≡ false → is_write_once kind ≡ false → is_of_one kind ≡ true
-of_one Buffer kept grouped single alone shared many = refl
-of_one Action kept grouped single alone shared many = refl
-of_one Transform kept grouped single alone shared many = refl
-of_one TransformMany kept grouped single alone shared many = refl
-of_one _ kept grouped single alone shared many = absurd (cc)
+of_one Buffer grouped single alone shared many = refl
+of_one Action grouped single alone shared many = refl
+of_one Transform grouped single alone shared many = refl
+of_one TransformMany grouped single alone shared many = refl
+of_one _ grouped single alone shared many = absurd (cc)
 
 -- a batch has no function
 pub batch_idle : (kind : BlockKind) → is_batch kind ≡ true → has_work kind ≡ false
@@ -179,12 +165,9 @@ module _ {W : Type 0} (layout : Layout W) (meaning : ℕ → Value → Result (L
   within_capacity count within =
       within_where (block_in layout.blocks b).kind (block_in layout.blocks b).capacity count unlimited within
 
-  pub planned_kept : is_kept_kind (block_in layout.blocks b).kind ≡ true
-  planned_kept = ap is_kept_kind (sym shape.kind_is) ∙ shape.built
-
   pub has_one_port : has_ports block.kind ≡ false → length block.ports ≡ 1
   has_one_port alone =
       shape.port_count_is
       ∙ by_kind (λ kind. has_ports kind ≡ false → ports_by_kind kind (block_in layout.blocks b).ports ≡ 1)
       (λ e. refl) (λ e. refl) (λ e. refl) (λ e. refl) (λ e. refl) (λ e. absurd (cc)) (λ e. refl) (λ e. refl) (λ e. absurd (cc))
-      (block_in layout.blocks b).kind planned_kept (ap has_ports (sym shape.kind_is) ∙ alone)
+      (block_in layout.blocks b).kind (ap has_ports (sym shape.kind_is) ∙ alone)

@@ -609,7 +609,7 @@ module _ {W : Type 0} (layout : Layout W) (meaning : ℕ → Value → Result (L
       (λ other alone single. make_keeps (first_of (held_by block)) block node.journal refl
       (λ many. (law.gave (many_shares block.kind many)).next_is)
       (has_one_port layout meaning b block law.shape (others_at_one block.kind grouped alone)) law.shape (law.load grouped)
-      (of_one block.kind law.shape.built grouped other alone single (makes_many layout meaning b node law may.waits)) other))
+      (of_one block.kind grouped other alone single (makes_many layout meaning b node law may.waits)) other))
   call_keeps node (NodeCall.complete p) law grouped may =
       one_moves node.block node.journal (node.journal ++ Complete p ∷ []) p port_closes refl refl
       (took_no_more node.journal (Complete p) refl) (gave_no_more node.journal (Complete p) refl) (law.load grouped)

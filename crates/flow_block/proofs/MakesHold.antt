@@ -445,7 +445,7 @@ module _ {W : Type 0} (layout : Layout W) (meaning : ℕ → Value → Result (L
       (λ join. tuple_made block node.journal join none)
       (λ broadcast. copied_next (first_of (held_by block)) block node.journal (broadcast_copies block.kind broadcast) law.makes)
       (λ other alone single. made_next block node.journal (held_by block) refl (one (others_at_one block.kind grouped alone)) none
-      (of_one block.kind law.shape.built grouped other alone single (makes_many layout meaning b node law may.waits)) other
+      (of_one block.kind grouped other alone single (makes_many layout meaning b node law may.waits)) other
       law.makes))
   after_each node (NodeCall.complete p) law may =
       stays node.block (with_port p port_closes node.block) node.journal (node.journal ++ Complete p ∷ []) law.makes

@@ -29,7 +29,6 @@ use Rattle.flow_link.specs.Views as views
 use Rattle.flow_link.specs.Worked.{WorkedInto}
 use Rattle.flow_block.proofs.OnceHolds.{room_once}
 use Rattle.flow_block.proofs.WrittenOnce.{message_is, written_weighs}
-use Rattle.flow_block.specs.Kinds.{is_kept_kind}
 use Rattle.flow_link.proofs.RoundsOfWalks.{some_here_below}
 use Rattle.flow_link.proofs.ListTests.{or_not, every_below, every_weaker_below, length_numbers, or_others, same_values_where}
 use Rattle.flow_intake.specs.Port.{EndState, PortState, end_in, fresh_end, fresh_port, coming as coming_at, is_coming as is_coming_at}
@@ -50,7 +49,7 @@ use Rattle.flow_block.proofs.CopierOf.{copier_seen, makes_copies}
 use Rattle.flow_block.proofs.CopiesIdle.{left_is_shared, view_is_shared, once_copies}
 use Rattle.flow_block.proofs.EndsTell.{ended_complete, ended_fault, ended_plain, used_up_told, ended_stage, refused_told, spoken_is_out, refusal_told, coming_told, completion_told, fault_told}
 use Rattle.flow_block.proofs.JournalTells.{stopped_tells, every_mark, complete_own, done_outcome, done_marked, fault_marked, passed_by}
-use Rattle.flow_block.proofs.KindsBuilt.{by_kind, planned_kept, within_capacity}
+use Rattle.flow_block.proofs.KindsBuilt.{by_kind, within_capacity}
 use Rattle.flow_block.proofs.NodesSeen.{held_is, none_held, own_fault_is, load_is, is_joining, join_seen, is_grouping, as_ports, complete_by_port}
 use Rattle.flow_block.proofs.PlacesOfLinks.{IsEndIn, HasEndOut, end_in_is, end_in_of, end_out_is, end_out_of, count_of_links, there_at_port, there_at_block, source_there}
 use Rattle.flow_block.proofs.TestsTell.{some_tells, every_tells}
@@ -149,9 +148,6 @@ module _ {W : Type 0} (run : Run W) (ends : ℕ → Ends) (b : ℕ) (node : Node
   into_is : (p k : ℕ) → p < length node.block.ports → k < length (ends_of p)
       → IsEndIn run.layout run.meaning b node.block law.shape p k (end_into p k).link
   into_is p k there small = end_in_is run.layout run.meaning b node.block law.shape p k there small
-
-  plain : is_kept_kind (block_of run b).kind ≡ true
-  plain = planned_kept run.layout run.meaning b node.block law.shape
 
   marks_are : marks_of run b ≡ node.journal
   marks_are = ap (λ (t : BlockTrace). t.journal) is.trace
@@ -355,23 +351,23 @@ module _ {W : Type 0} (run : Run W) (ends : ℕ → Ends) (b : ℕ) (node : Node
     outputs_are = sym (ap (λ (t : BlockTrace). gave t.journal ++ t.left) is.trace
         ∙ ap (λ (left : List Value). gave node.journal ++ left) (left_is_shared run.layout run.meaning b node law shares))
 
-    makes_by : (kind : BlockKind) → is_kept_kind kind ≡ true → is_one_taker kind ≡ true
+    makes_by : (kind : BlockKind) → is_one_taker kind ≡ true
         → (is_join kind ≡ true → join_makes run b ≡ true) → (is_batched_join kind ≡ true → batched_join_makes run b ≡ true)
         → (is_batch kind ≡ true → RowsLaw node.block.size node.journal (held_by node.block) node.block.exits.left)
         → MakesAsKind kind → NodeMakes run ends b kind
-    makes_by Buffer built sharing joins groups rows makes =
+    makes_by Buffer sharing joins groups rows makes =
         ap took marks_are ∙ makes ∙ ap (λ (made : List Value). made ++ held_by node.block) outputs_are
         ∙ ap (λ (held : List Value). outputs run b ++ held) (sym (held_is run ends b node law is 0))
-    makes_by Action built sharing joins groups rows makes = record {
+    makes_by Action sharing joins groups rows makes = record {
       works = works_so node.block.recorded (trace_of run b).recorded
           (sym (ap (λ (t : BlockTrace). t.recorded) is.trace)) makes.0;
       none_left = left_is ∙ makes.1;
     }
-    makes_by Transform built sharing joins groups rows makes =
+    makes_by Transform sharing joins groups rows makes =
         works_so (gave node.journal ++ node.block.exits.left) (outputs run b) outputs_are makes
-    makes_by TransformMany built sharing joins groups rows makes =
+    makes_by TransformMany sharing joins groups rows makes =
         works_so (gave node.journal ++ node.block.exits.left) (outputs run b) outputs_are makes
-    makes_by Batch built sharing joins groups rows makes =
+    makes_by Batch sharing joins groups rows makes =
         let size : node.block.size ≡ group_size run b = law.shape.size_is in
         let law_of = rows refl in
         let outs = outputs run b in
@@ -396,9 +392,9 @@ module _ {W : Type 0} (run : Run W) (ends : ℕ → Ends) (b : ℕ) (node : Node
         (same_values_where taken all same) groups)
         (and_from (every (is_whole (group_size run b)) (gave (before_complete 0 (marks_of run b))))
         (has_complete 0 (marks_of run b) || every (is_whole (group_size run b)) (left_at run b)) before left)
-    makes_by Join built sharing joins groups rows makes = joins refl
-    makes_by BatchedJoin built sharing joins groups rows makes = groups refl
-    makes_by _ built sharing joins groups rows makes = absurd (cc)
+    makes_by Join sharing joins groups rows makes = joins refl
+    makes_by BatchedJoin sharing joins groups rows makes = groups refl
+    makes_by _ sharing joins groups rows makes = absurd (cc)
 
     -- the groups of a batched join
     groups_make : is_batched_join node.block.kind ≡ true → batched_join_makes run b ≡ true
@@ -411,7 +407,7 @@ module _ {W : Type 0} (run : Run W) (ends : ℕ → Ends) (b : ℕ) (node : Node
 
     makes_shared : NodeMakes run ends b (block_of run b).kind
     makes_shared =
-        makes_by (block_of run b).kind plain (ap is_one_taker (sym law.shape.kind_is) ∙ shares)
+        makes_by (block_of run b).kind (ap is_one_taker (sym law.shape.kind_is) ∙ shares)
         (λ join.
         let here = sym (is_joining run ends b node law is) ∙ join in
         (join_seen run ends b node law is here).makes (law.tuples here))
@@ -422,7 +418,7 @@ module _ {W : Type 0} (run : Run W) (ends : ℕ → Ends) (b : ℕ) (node : Node
     copies_shared : copies_as (as_seen run ends) b (block_of run b).kind ≡ true
     copies_shared =
         by_kind (λ kind. is_one_taker kind ≡ true → copies_as (as_seen run ends) b kind ≡ true) (λ _. refl) (λ _. refl) (λ _. refl)
-        (λ _. refl) (λ _. refl) (λ _. refl) (λ sharing. absurd (cc)) (λ sharing. absurd (cc)) (λ _. refl) (block_of run b).kind plain
+        (λ _. refl) (λ _. refl) (λ _. refl) (λ sharing. absurd (cc)) (λ sharing. absurd (cc)) (λ _. refl) (block_of run b).kind
         (ap is_one_taker (sym law.shape.kind_is) ∙ shares)
 
     -- its ends of the links out of it

@@ -26,7 +26,6 @@ use Rattle.flow_block.specs.Copies.{copies_left}
 use Rattle.flow_block.proofs.Joins.{copies_unbatched, copies_at_one}
 use Rattle.flow_block.proofs.OnceHolds.{room_once}
 use Rattle.flow_block.proofs.WrittenOnce.{message_is, weighs_written}
-use Rattle.flow_block.specs.Kinds.{is_kept_kind}
 use Rattle.flow_link.proofs.ListTests.{never_both, passes_below, unless_done}
 use Rattle.flow_intake.specs.Port.{EndState, PortState, fresh_port, fresh_end, hand_in, stage_at as port_stage, coming, has_room, is_below}
 use Rattle.flow_intake.specs.PortLaw.{has_ended as has_port_ended}
@@ -56,7 +55,7 @@ use Rattle.flow_block.proofs.EndsTell.{limit_is, no_room_left, free_back, postpo
 use Rattle.flow_block.proofs.FaultsSeen.{not_seen_at_ends, not_seen_at_ports}
 use Rattle.flow_block.proofs.GoingOn.{open_goes_on}
 use Rattle.flow_block.proofs.JournalTells.{stopped_tells, fault_marked, faulted_marked, none_stopped, stopped_ends, ended_by_complete, ended_is_complete}
-use Rattle.flow_block.proofs.KindsBuilt.{by_kind, planned_kept, has_one_port, room_shared}
+use Rattle.flow_block.proofs.KindsBuilt.{by_kind, has_one_port, room_shared}
 use Rattle.flow_block.proofs.NodesSeen.{held_is, none_held, own_fault_is, load_is}
 use Rattle.flow_block.proofs.NothingToDo.{not_pending, worked_off, none_seen, no_coming, free_at, waiting_goes, not_admitted, not_finished, left_where}
 use Rattle.flow_block.proofs.PlacesOfLinks.{end_in_of, end_out_of}
@@ -131,9 +130,6 @@ module _ {W : Type 0} (run : Run W) (ends : ℕ → Ends) (b : ℕ) (node : Node
   abbrev kind : BlockKind
   kind = (block_of run b).kind
 
-  built : is_kept_kind kind ≡ true
-  built = planned_kept run.layout run.meaning b own law.shape
-
   quiet : CopiesQuiet own
   quiet = copies_quiet run ends b node law part nothing rest (is_one_taker own.kind) refl
 
@@ -188,18 +184,18 @@ module _ {W : Type 0} (run : Run W) (ends : ℕ → Ends) (b : ℕ) (node : Node
       (cond (is_join k) (not (has_tuple own.ports)) (cond (is_batched_join k) (not has_group_here) (holds_nothing own.ports)))
 
   -- a block of its kind that could make nothing more rests
-  rests_by : (k : BlockKind) → is_kept_kind k ≡ true → own.kind ≡ k → made_all_as k ≡ true → rests_as run k b ≡ true
-  rests_by Batch there is none = no_group_where (ap has_ports is) none
-  rests_by Buffer there is none = none_held run ends b node law part none
-  rests_by Action there is none = none_held run ends b node law part none
-  rests_by Transform there is none = none_held run ends b node law part none
-  rests_by TransformMany there is none = none_held run ends b node law part none
-  rests_by Broadcast there is none = none_held run ends b node law part none
-  rests_by WriteOnce there is none = none_held run ends b node law part none
-  rests_by Join there is none =
+  rests_by : (k : BlockKind) → own.kind ≡ k → made_all_as k ≡ true → rests_as run k b ≡ true
+  rests_by Batch is none = no_group_where (ap has_ports is) none
+  rests_by Buffer is none = none_held run ends b node law part none
+  rests_by Action is none = none_held run ends b node law part none
+  rests_by Transform is none = none_held run ends b node law part none
+  rests_by TransformMany is none = none_held run ends b node law part none
+  rests_by Broadcast is none = none_held run ends b node law part none
+  rests_by WriteOnce is none = none_held run ends b node law part none
+  rests_by Join is none =
       ap (has_no_row run b) law.shape.takes_freely
       ∙ (join_seen run ends b node law part (ap is_join is)).rests (not-true (has_tuple own.ports) none)
-  rests_by BatchedJoin there is none =
+  rests_by BatchedJoin is none =
       let batched = ap is_batched_join is in
       let size : own.size ≡ group_size run b = law.shape.size_is in
       (groups_rest W run b node (as_ports run ends b node law part batched)).rests
@@ -210,7 +206,7 @@ module _ {W : Type 0} (run : Run W) (ends : ℕ → Ends) (b : ℕ) (node : Node
   rests_where : has_made_all own node.journal ≡ true → rests run b ≡ true
   rests_where none =
       or_right (faulted_by_itself run b) (rests_as run kind b)
-      (rests_by kind built law.shape.kind_is (ap made_all_as (sym law.shape.kind_is) ∙ none))
+      (rests_by kind law.shape.kind_is (ap made_all_as (sym law.shape.kind_is) ∙ none))
 
   -- it holds nothing
   nothing_held_where : holds_nothing own.ports ≡ true → (batch join batched : Bool) → is_batch own.kind ≡ batch
@@ -497,7 +493,7 @@ module _ {W : Type 0} (run : Run W) (ends : ℕ → Ends) (b : ℕ) (node : Node
             → admits_head run l (first_left (left_at run b)) ≡ true)
             (λ _ same. same) (λ _ same. same) (λ _ same. same) (λ _ same. same) (λ _ same. same) (λ _ same. same)
             (λ sharing. absurd (cc)) (λ sharing. absurd (cc)) (λ _ same. same)
-            kind built (ap is_one_taker (sym law.shape.kind_is) ∙ shares) e,
+            kind (ap is_one_taker (sym law.shape.kind_is) ∙ shares) e,
       )
 
       -- the predicate of the end is that of the link

@@ -25,7 +25,7 @@ use Rattle.flow_block.specs.Peeks.{holds_nothing}
 use Rattle.flow_block.specs.Planned.{block_makes, room_of}
 use Rattle.flow_block.proofs.CopierOf.{copier_seen, none_shared}
 use Rattle.flow_block.proofs.CopiesIdle.{left_is_shared, copies_idle, once_copies}
-use Rattle.flow_block.proofs.KindsBuilt.{by_kind, planned_kept, has_one_port, room_kept}
+use Rattle.flow_block.proofs.KindsBuilt.{by_kind, has_one_port, room_kept}
 use Rattle.flow_block.proofs.TestsTell.{every_tells, none_left}
 use Rattle.flow_block.proofs.WeightsOfResults.{weight_weighed, weight_rows, weight_partial}
 use Rattle.flow_block.specs.TuplesSeen.{JoinSeen, IsPortsOf}
@@ -58,7 +58,7 @@ module _ {W : Type 0} (run : Run W) (b : ℕ) (node : NodeState) (law : NodeLaw 
       (λ e one. ap (λ (first : Bool). first || not (has_none (took (marks_of run b)))) (and_one (has_complete 0 (marks_of run b)))
       ∙ ap (λ (ps : List ℕ). every (λ p. has_complete p (marks_of run b)) ps || not (has_none (took (marks_of run b)))) (sym (one refl)))
       (λ e _. or_none all)
-      (block_of run b).kind (planned_kept run.layout run.meaning b node.block law.shape) alone
+      (block_of run b).kind alone
       (λ once.
       let copying = once_copies node.block.kind (ap is_write_once law.shape.kind_is ∙ once) in
       ap below (sym law.shape.port_count_is
@@ -158,7 +158,7 @@ module _ {W : Type 0} (run : Run W) (ends : ℕ → Ends) (b : ℕ) (node : Node
         (λ _ _. load_of_left p limited) (λ _ _. load_of_left p limited) (λ _ _. load_of_left p limited)
         (λ _ _ partial. ap₂ (λ (held : List Value) (left : ℕ). length held + left) (held_is p) (part_left_is limited partial))
         (λ _ _. load_of_rows p limited) (λ _ _. load_of_left p limited) (λ sharing _. absurd (cc)) (λ sharing _. absurd (cc))
-        (λ _ grouped. absurd (cc)) (block_of run b).kind (planned_kept run.layout run.meaning b node.block law.shape)
+        (λ _ grouped. absurd (cc)) (block_of run b).kind
         (ap is_one_taker (sym law.shape.kind_is) ∙ shares) (ap is_batched_join (sym law.shape.kind_is) ∙ grouped)
         (subst (λ (kind : BlockKind). WeighsAs (block_makes run.layout run.meaning b) kind (block_of run b).capacity
         (took node.journal) (held_by node.block) (gave node.journal) node.block.exits.left node.block.exits.next

@@ -104,7 +104,6 @@ module _ {W : Type 0} (layout : Layout W) (meaning : ℕ → Value → Result (L
       → after.exits.ends ≡ before.exits.ends
       → ShapeLaw layout meaning b before → ShapeLaw layout meaning b after
   one_port before after p change same kind size ports ends law = record {
-    built = rw kind law.built;
     kind_is = kind ∙ law.kind_is;
     size_is = size ∙ law.size_is;
     some_size = rw (kind, size) law.some_size;
@@ -127,7 +126,6 @@ module _ {W : Type 0} (layout : Layout W) (meaning : ℕ → Value → Result (L
       → map (λ (end : OutEnd). end.rule) after.exits.ends ≡ map (λ (end : OutEnd). end.rule) before.exits.ends
       → ShapeLaw layout meaning b before → ShapeLaw layout meaning b after
   each_port before after change same kind size ports rules law = record {
-    built = rw kind law.built;
     kind_is = kind ∙ law.kind_is;
     size_is = size ∙ law.size_is;
     some_size = rw (kind, size) law.some_size;
@@ -148,7 +146,6 @@ module _ {W : Type 0} (layout : Layout W) (meaning : ℕ → Value → Result (L
       → map (λ (end : OutEnd). end.rule) after.exits.ends ≡ map (λ (end : OutEnd). end.rule) before.exits.ends
       → ShapeLaw layout meaning b before → ShapeLaw layout meaning b after
   exits_move before after kind size ports rules law = record {
-    built = rw kind law.built;
     kind_is = kind ∙ law.kind_is;
     size_is = size ∙ law.size_is;
     some_size = rw (kind, size) law.some_size;
@@ -199,7 +196,6 @@ module _ {W : Type 0} (layout : Layout W) (meaning : ℕ → Value → Result (L
   -- its head is given, and room comes back
   room_back : (block : BlockState) (k : ℕ) → ShapeLaw layout meaning b block → ShapeLaw layout meaning b (gives_out k block)
   room_back block k law = record {
-    built = law.built;
     kind_is = law.kind_is;
     size_is = law.size_is;
     some_size = law.some_size;
@@ -229,7 +225,6 @@ module _ {W : Type 0} (layout : Layout W) (meaning : ℕ → Value → Result (L
   group_keeps : (size weight : ℕ) (order : List ℕ) (block : BlockState) → ShapeLaw layout meaning b block
       → ShapeLaw layout meaning b (makes_group size weight order block)
   group_keeps size weight order block law = record {
-    built = law.built;
     kind_is = law.kind_is;
     size_is = law.size_is;
     some_size = law.some_size;

@@ -20,7 +20,6 @@ pub mod Jobs
 pub mod JobsEnd
 pub mod JobsOut
 pub mod JournalFits
-pub mod Kinds
 pub mod NextCopies
 pub mod NextMoves
 pub mod Node

@@ -22,7 +22,6 @@ use Rattle.flow_link.specs.Making.{all_items, are_groups, row_weight, before_com
 use Rattle.flow_link.specs.Plan.{block_in, port_count, has_work, is_one_taker, is_write_once, is_reserving}
 use Rattle.flow_link.specs.Trace.{Run, took, took_at, gave, gave_over, has_complete, has_fault, has_ended, is_done}
 use Rattle.flow_link.specs.Worked.{WorkedInto}
-use Rattle.flow_block.specs.Kinds.{is_kept_kind}
 use Rattle.flow_intake.specs.Port.{EndState, PortState, stage_at as port_stage}
 use Rattle.flow_intake.specs.PortLaw.{PortLaw, has_ended as has_port_ended}
 use Rattle.flow_intake.specs.Ended.{has_seen_completion, fault_seen}
@@ -186,9 +185,8 @@ module _ {W : Type 0} (layout : Layout W) (meaning : ℕ → Value → Result (L
     pub capacity : port.capacity ≡ room_of (block_in layout.blocks b)
     pub never_reserves : port.reserves ≡ false
 
-  -- the block is of a kind that is kept in order, and has the ports and links that the plan gives it
+  -- the block is of the kind that the plan has there, with the ports and links that the plan gives it
   pub record ShapeLaw (block : BlockState) : Type 0 where
-    pub built : is_kept_kind block.kind ≡ true
     pub kind_is : block.kind ≡ (block_in layout.blocks b).kind
     pub size_is : block.size ≡ size_of layout b
     pub some_size : is_batch block.kind ≡ true → 0 < block.size

@@ -206,7 +206,7 @@ fresh_keeps blocks inputs layout meaning runs posted count = record {
   nodes = λ b here.
       subst (NodeLaw layout meaning b)
       (sym (mapped_at (fresh_node layout) (length layout.blocks) b no_node here))
-      (blocks layout meaning b (runs.kept b here)
+      (blocks layout meaning b
       (some_port (block_in layout.blocks b) (runs.well_formed.options b here)) (runs.freely b here)
       (some_lane (block_in layout.blocks b) (runs.well_formed.options b here))
       (λ batch. some_size (block_in layout.blocks b) (runs.well_formed.options b here)

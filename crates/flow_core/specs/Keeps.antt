@@ -12,16 +12,14 @@ use Rattle.flow_link.specs.Plan.{block_in, link_in, is_reserving}
 use Rattle.flow_link.specs.WellFormed.{IsWellFormed}
 use Rattle.flow_block.specs.InputKeeps.{InputLaw}
 use Rattle.flow_block.specs.NodeLaw.{NodeLaw}
-use Rattle.flow_block.specs.Kinds.{is_kept_kind}
 use Rattle.flow_core.specs.State.{NetState, node_at, input_at, ends_of}
 
 module _ {W : Type 0} (layout : Layout W) where
-  -- a network of blocks of kinds that are kept in order, linked in any way that a plan allows; none of them reserves, and
+  -- a network of blocks of any kinds, linked in any way that a plan allows; none of them reserves, and
   -- nothing is received from it
   pub record IsRun : Type 0 where
     pub leads : LeadsWell layout
     pub well_formed : IsWellFormed layout.blocks layout.links
-    pub kept : (b : ℕ) → b < length layout.blocks → is_kept_kind (block_in layout.blocks b).kind ≡ true
     pub freely : (b : ℕ) → b < length layout.blocks → is_reserving (block_in layout.blocks b) ≡ false
     pub inside : (l : ℕ) → l < length layout.links → (link_in layout.links l).target ≡ Exit → ⊥
 

@@ -14,7 +14,7 @@ use Rattle.flow_link.specs.declared.plan.Place.TheVariants.{Block, Link as at_li
 use Rattle.flow_link.specs.Lists.{numbers_from, below, some}
 use Rattle.flow_link.specs.Plan.{block_named, block_in, link_in, named_link, named_links, planned_links, is_reserving}
 use Rattle.flow_link.specs.PlanFaults.{lacks_port, lacks_output, options_fit, is_in, holds_no_group, stands, walks, faults_in_order, first_plan_fault}
-use Rattle.flow_link.specs.NotBuilt.{stands_now, first_at, name_faults, end_faults, option_faults, is_built_kind, is_built_block, is_bad_block, first_fault_now}
+use Rattle.flow_link.specs.NotBuilt.{stands_now, first_at, name_faults, end_faults, option_faults, is_built_block, is_bad_block, first_fault_now}
 use Rattle.flow_link.specs.Layout.{IsLaidOut}
 use Rattle.flow_link.proofs.LinksLaidOut.{laid_out_of, none_step}
 use Rattle.flow_link.proofs.FirstInOrder.{position_is_first, none_below}
@@ -125,18 +125,17 @@ fails_from test first (suc count) k low e =
     [ true ↦ λ here wrong. cc | false ↦ λ here rest. fails_after test first count k low here (λ j small. fails_from test (suc first) count j small rest) ] in
     go (test first) refl e
 
-last_of_built : (a b c d : Bool) → (a || not (b && c && not d)) ≡ false → d ≡ false
-last_of_built true b c d h = cc
-last_of_built false true true true h = cc
-last_of_built false true true false h = refl
-last_of_built false true false d h = cc
-last_of_built false false c d h = cc
+last_of_built : (a b c : Bool) → (a || not (not b && not c)) ≡ false → c ≡ false
+last_of_built true b c h = cc
+last_of_built false true c h = cc
+last_of_built false false true h = cc
+last_of_built false false false h = refl
 
 module _ {W : Type 0} where
   -- what is built does not reserve
   built_takes : (block : BlockDef W) → is_bad_block block ≡ false → is_reserving block ≡ false
   unfolding is_bad_block
-  built_takes block good = last_of_built (not (options_fit block)) (is_built_kind block.kind) (not block.output) (is_reserving block) good
+  built_takes block good = last_of_built (not (options_fit block)) block.output (is_reserving block) good
 
 -- the first fault of each group, from the first place of each fault
 module _ {W : Type 0} (blocks : List (BlockDef W)) (links : List LinkDef) where

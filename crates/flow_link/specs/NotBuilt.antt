@@ -1,9 +1,7 @@
 -- What of the format is not built yet: a draft that uses it is refused with BadOption, at its place in the order of faults.
-use Rattle.std.specs.Prelude.{ℕ, Bool, true, false, not, ◌&&◌, ◌||◌, List, [], ◌∷◌, ◌++◌, length, map, find, Option}
+use Rattle.std.specs.Prelude.{ℕ, Bool, not, ◌&&◌, ◌||◌, List, [], ◌∷◌, ◌++◌, length, map, find, Option}
 use Rattle.flow_link.specs.declared.draft.BlockDef.{BlockDef}
 use Rattle.flow_link.specs.declared.draft.LinkDef.{LinkDef}
-use Rattle.flow_link.specs.declared.draft.BlockKind.{BlockKind}
-use Rattle.flow_link.specs.declared.draft.BlockKind.TheVariants.{Buffer, Broadcast, WriteOnce, Action, Transform, TransformMany, Batch, Join, BatchedJoin}
 use Rattle.flow_link.specs.declared.plan.Place.TheVariants.{Block, Link as at_link}
 use Rattle.flow_link.specs.declared.plan.PlanFault.{PlanFault}
 use Rattle.flow_link.specs.declared.plan.PlanFault.TheVariants.{Limit, DuplicateName, UnknownBlock, Port, NoOutput, BadOption}
@@ -11,20 +9,9 @@ use Rattle.flow_link.specs.Lists.{below}
 use Rattle.flow_link.specs.Plan.{block_in, is_reserving}
 use Rattle.flow_link.specs.PlanFaults.{stands, options_fit, faults_in_order}
 
-abbrev pub is_built_kind : BlockKind → Bool
-is_built_kind Buffer = true
-is_built_kind Broadcast = true
-is_built_kind WriteOnce = true
-is_built_kind Action = true
-is_built_kind Transform = true
-is_built_kind TransformMany = true
-is_built_kind Batch = true
-is_built_kind Join = true
-is_built_kind BatchedJoin = true
-
--- a kind that is built; it gives nothing to the caller, and takes each message without reserving it first
+-- the block gives nothing to the caller, and takes each message without reserving it first; each kind is built
 abbrev pub is_built_block : {W : Type 0} → BlockDef W → Bool
-is_built_block block = is_built_kind block.kind && not block.output && not (is_reserving block)
+is_built_block block = not block.output && not (is_reserving block)
 
 -- the block has a name or an option that its kind does not have, or one that is not built
 unfoldable pub is_bad_block : {W : Type 0} → BlockDef W → Bool

@@ -5,7 +5,7 @@ ghost use Rattle.flow_link.specs.Plan.{ports_by_kind, reserves_by_kind};
 ghost use Rattle.flow_link.specs.PlanFaults.{is_between, is_name, is_name_byte, is_in, allows, input_rule, output_rule};
 ghost use Rattle.flow_link.specs.PlanFaults.{capacity_rule, work_rule, lanes_rule, size_rule, ports_rule, greedy_rule};
 ghost use Rattle.flow_link.specs.PlanFaults.{keys_fit, ranges_fit, options_fit, holds_no_group};
-ghost use Rattle.flow_link.specs.NotBuilt.{is_built_kind, is_built_block};
+ghost use Rattle.flow_link.specs.NotBuilt.{is_built_block};
 
 use crate::draft::{BlockDef, BlockKind};
 
@@ -32,7 +32,7 @@ pub fn options_fit<W>(block: &BlockDef<W>) -> bool
 pub fn is_built_block<W>(block: &BlockDef<W>) -> bool
     ensures { result ≡ is_built_block block.now }
 {
-    is_built_kind(block.kind) && !block.output && !reserves(block.kind, block.greedy)
+    !block.output && !reserves(block.kind, block.greedy)
 }
 
 /// Whether the link's number of messages is in its range.
@@ -70,23 +70,6 @@ fn reserves(kind: BlockKind, greedy: Option<bool>) -> bool
         BlockKind::Join => !greedy.unwrap_or(true),
         _ => false,
     }
-}
-
-fn is_built_kind(kind: BlockKind) -> bool
-    ensures { result ≡ is_built_kind kind }
-{
-    matches!(
-        kind,
-        BlockKind::Buffer
-            | BlockKind::Broadcast
-            | BlockKind::WriteOnce
-            | BlockKind::Action
-            | BlockKind::Transform
-            | BlockKind::TransformMany
-            | BlockKind::Batch
-            | BlockKind::Join
-            | BlockKind::BatchedJoin
-    )
 }
 
 #[tactic(auto, using(crate::proofs::FirstInOrder::all_is_every))]

@@ -40,7 +40,7 @@ works_where : (jobs : JobsState) (ticket : ℕ) (works : Bool) → (works ≡ fa
 works_where jobs ticket true none out = refl
 works_where jobs ticket false none out = absurd (none_out ticket jobs (none refl) out)
 
--- a block is of a kind that is kept in order, as the plan has it, and has one port, if it is no join of either kind
+-- a block is of the kind that the plan has there, and has one port, if it is no join of either kind
 planned_by : {W : Type 0} (layout : Layout W) (meaning : ℕ → Value → Result (List Value) ℕ) (net : NetState)
     → NetKeeps layout meaning net → (b : ℕ) → b < length layout.blocks → IsPlanned layout b (node_at net b).block
 planned_by layout meaning net keeps b low =
@@ -49,7 +49,6 @@ planned_by layout meaning net keeps b low =
     let jobs = (keeps.nodes b low).jobs in
     record {
       kind_is = shape.kind_is;
-      built = shape.built;
       alone = has_one_port layout meaning b block shape;
       some_port = shape.some_port;
       alone_at_work = λ works. has_one_port layout meaning b block shape (works_at_one block.kind works);
@@ -74,7 +73,7 @@ module _ {W : Type 0} (layout : Layout W) (meaning : ℕ → Value → Result (L
   pub input_count_is : length net.inputs ≡ count_by (λ block. block.input) layout.blocks
   input_count_is = ∥∥₁_elim kept (ℕ_set _ _) (λ keeps. keeps.input_count)
 
-  -- a block is of a kind that is kept in order, as the plan has it, and has one port, if it is no join of either kind
+  -- a block is of the kind that the plan has there, and has one port, if it is no join of either kind
   pub blocks_planned : (b : ℕ) → b < length layout.blocks → IsPlanned layout b (node_at net b).block
   blocks_planned b low =
       ∥∥₁_elim kept (planned_prop layout b (node_at net b).block) (λ keeps. planned_by layout meaning net keeps b low)

@@ -7,7 +7,6 @@ use Rattle.flow_link.specs.declared.phase.Phase.{Phase}
 use Rattle.flow_link.specs.Layout.{Layout}
 use Rattle.flow_link.specs.Phase.{phase_after}
 use Rattle.flow_link.specs.Plan.{block_in, link_in, has_work, is_write_once}
-use Rattle.flow_block.specs.Kinds.{is_kept_kind}
 use Rattle.flow_block.specs.Block.{BlockState, held_by, has_ports}
 use Rattle.flow_block.specs.Jobs.{is_front_back, is_out}
 use Rattle.flow_block.specs.Peeks.{may_work, may_make, may_begin, may_end, may_complete, next_fault, may_finish}
@@ -46,10 +45,9 @@ module _ {W : Type 0} (layout : Layout W) (net : NetState) where
     pub links : (l : ℕ) → l < length layout.links → LinkIsIdle l
     pub blocks : (b : ℕ) → b < length layout.blocks → HasNothingToDo (node_at net b).block
 
--- a block is of a kind that is kept in order, as the plan has it, and has one port, if it is no join of either kind
+-- a block is of the kind that the plan has there, and has one port, if it is no join of either kind
 pub record IsPlanned {W : Type 0} (layout : Layout W) (b : ℕ) (block : BlockState) : Type 0 where
   pub kind_is : block.kind ≡ (block_in layout.blocks b).kind
-  pub built : is_kept_kind block.kind ≡ true
   pub alone : has_ports block.kind ≡ false → length block.ports ≡ 1
   pub some_port : 0 < length block.ports
   pub alone_at_work : has_work block.kind ≡ true → length block.ports ≡ 1

@@ -9,7 +9,7 @@ pub fn links_are_there<W>()
     ensures { LinksAreThere W }
 {}
 
-/// Each block is as the plan has it: of a kind that is built, with one port.
+/// Each block is of the kind that the plan has there, with its ports, and works on no more messages than it holds.
 pub fn blocks_are_planned<W>()
     ensures { BlocksArePlanned W }
 {}

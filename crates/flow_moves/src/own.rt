@@ -4,7 +4,6 @@ ghost use Rattle.std.specs.Prelude.{◌≤◌, ◌↔◌, None, OnOk, OnErr, IfE
 ghost use Rattle.flow_value.specs.declared.value.Value.{Value};
 ghost use Rattle.flow_link.specs.declared.draft.BlockKind.TheVariants.{Buffer};
 ghost use Rattle.flow_link.specs.Plan.{has_work, is_write_once};
-ghost use Rattle.flow_block.specs.Kinds.{is_kept_kind};
 ghost use Rattle.flow_outlet.specs.Outlet.{lacks_ids};
 ghost use Rattle.flow_outlet.specs.declared.fault.OutletFault.TheVariants.{Ids};
 ghost use Rattle.flow_block.specs.Block.{held_by, has_ports, put_by_kind, ends_job, put_by_job};
@@ -35,7 +34,6 @@ impl Parts {
         requires ports { 0 < length (node_at self.old block).block.ports }
         requires waits { may_make (node_at self.old block).block ≡ true }
         requires many { is_write_once (node_at self.old block).block.kind ≡ false }
-        requires built { is_kept_kind (node_at self.old block).block.kind ≡ true }
         ensures done { OnOk result ((result : Value → Result (List Value) ℕ) →
             self.new ≡ with_node block (after result NodeCall.make) self.old) }
         ensures ids { OnOk result ((result : Value → Result (List Value) ℕ) →
@@ -70,7 +68,6 @@ impl Parts {
         requires alone { length (node_at self.old block).block.ports ≡ 1 }
         requires waits { may_begin (node_at self.old block).block ≡ true }
         requires idle { (node_at self.old block).block.jobs.slots ≡ [] }
-        requires built { is_kept_kind (node_at self.old block).block.kind ≡ true }
         ensures done { OnOk result (self.new ≡ with_node block
             (works_at_once (results_by (option_map (λ work. work.now) work.entry)
             (node_at self.old block).block.kind W.meaning)) self.old) }
@@ -180,7 +177,6 @@ fn make(node: &mut Node, alloc: Global) -> Result<(), OutletFault>
     requires ports { 0 < length node.old.block.ports }
     requires waits { may_make node.old.block ≡ true }
     requires many { is_write_once node.old.block.kind ≡ false }
-    requires built { is_kept_kind node.old.block.kind ≡ true }
     ensures done { OnOk result ((result : Value → Result (List Value) ℕ) →
         node.new ≡ after result NodeCall.make node.old) }
     ensures ids { OnOk result ((result : Value → Result (List Value) ℕ) →
@@ -213,7 +209,6 @@ fn work_at_once<W: Work>(
     requires alone { length node.old.block.ports ≡ 1 }
     requires waits { may_begin node.old.block ≡ true }
     requires idle { node.old.block.jobs.slots ≡ [] }
-    requires built { is_kept_kind node.old.block.kind ≡ true }
     ensures done { OnOk result (node.new ≡ works_at_once
         (results_by (option_map (λ work. work.now) work.entry) node.old.block.kind W.meaning) node.old) }
     ensures ids { OnOk result (lacks_ids (put_at_once
@@ -281,7 +276,6 @@ fn yield_results(node: &mut Node, values: Vec<Value>) -> Result<(), OutletFault>
     requires waits { 0 < length (held_by node.old.block) }
     requires idle { node.old.block.jobs.slots ≡ [] }
     requires ticket { has_ticket node.old.block.jobs ≡ true }
-    requires built { is_kept_kind node.old.block.kind ≡ true }
     requires works { node.old.block.kind ≢ Buffer }
     ensures done { OnOk result (node.new ≡ with_block (works_out (Ok values.items) node.old.block) node.old) }
     ensures ids { OnOk result (lacks_ids (put_by_kind node.old.block.kind values.items)

@@ -10,13 +10,6 @@ use Rattle.flow_moves.proofs.MerelyKept.{blocks_planned}
 use Rattle.flow_net.proofs.EventsDone.{unmade_may_not, ids_told}
 use Rattle.flow_net.proofs.engine.Engine.make.Goals as goal
 
-pub make-requires-clause-built : goal.make-requires-clause-built
-make-requires-clause-built g c =
-    let old = c.args.self.now in
-    let layout = layout_of old.plan in
-    let meaning = works_of g.W.Work.meaning layout in
-    (blocks_planned layout meaning old.parts c.requires.kept c.args.number c.requires.enabled.there).built
-
 pub make-requires-clause-alone : goal.make-requires-clause-alone
 make-requires-clause-alone g c =
     let old = c.args.self.now in
