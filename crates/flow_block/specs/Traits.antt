@@ -6,7 +6,7 @@ use Rattle.flow_link.specs.BlockCalls.{BlockCall}
 use Rattle.flow_link.specs.SourceCalls.{SourceCall, NothingOut, MayConsume, is_under_way}
 use Rattle.flow_link.specs.TargetCalls.{TargetCall, stage_noted}
 use Rattle.flow_link.specs.declared.draft.BlockKind.{BlockKind}
-use Rattle.flow_link.specs.declared.draft.BlockKind.TheVariants.{Buffer}
+use Rattle.flow_link.specs.declared.draft.BlockKind.TheVariants.{Buffer, Batch}
 use Rattle.flow_link.specs.declared.stage.Refusal.TheVariants.{PortEnded}
 use Rattle.flow_link.specs.declared.stage.SourceStage.{SourceStage}
 use Rattle.flow_link.specs.declared.stage.SourceStage.TheVariants as source
@@ -28,7 +28,7 @@ use Rattle.flow_outlet.specs.Outlet.{OutletState, end_at, stage_at, is_empty, is
 use Rattle.flow_outlet.specs.ByLink.{place_of, named_at, offers_at, answered, is_head, has_room, tests_consume, consumed, consumes}
 use Rattle.flow_outlet.specs.Law.{OutletLaw}
 use Rattle.flow_outlet.specs.declared.ends.OutEnd.{OutEnd}
-use Rattle.flow_block.specs.Block.{BlockState, port_at, with_port, held_by, puts_out, stops_by}
+use Rattle.flow_block.specs.Block.{BlockState, port_at, with_port, held_by, is_batch, row_of, next_group, makes_row, puts_out, stops_by}
 use Rattle.flow_block.specs.NodeLaw.{is_kept}
 use Rattle.flow_block.specs.Peeks.{nothing_comes, may_make, may_finish}
 
@@ -54,27 +54,36 @@ faults number block = cond (is_some (outcome_of block)) block (stops_by (Faulted
 
 -- What it makes without a function
 
-abbrev pub is_buffer : BlockKind → Bool
-is_buffer Buffer = true
-is_buffer _ = false
+abbrev pub makes_alone : BlockKind → Bool
+makes_alone Buffer = true
+makes_alone Batch = true
+makes_alone _ = false
 
--- a buffer hands on what waits longest at its one port
+-- a buffer hands on what waits longest at its one port, and a batch makes its next row of what waits there
 abbrev pub makes_itself : BlockState → Bool
-makes_itself block = is_buffer block.kind && length block.ports == 1 && may_make block
+makes_itself block = makes_alone block.kind && length block.ports == 1 && may_make block
 
-abbrev pub handed_next : BlockState → List Value
-handed_next block = take 1 (held_by block)
+abbrev pub made_next : BlockState → List Value
+made_next block = cond (is_batch block.kind) (row_of (next_group block) ∷ []) (take 1 (held_by block))
+
+abbrev pub makes_its_next : BlockState → BlockState
+makes_its_next block = cond (is_batch block.kind) (makes_row block) (puts_out (take 1 (held_by block)) block)
 
 -- message ids are used up, or they are not
 pub record Makes (lacks : Bool) (old : BlockState) : Type 0 where
   pub by_itself : makes_itself old ≡ true
-  pub ids : lacks_ids (handed_next old) old.exits ≡ lacks
+  pub ids : lacks_ids (made_next old) old.exits ≡ lacks
+
+-- memory is out, and ids are not; a batch looks for an id when it has its row, and so may have none of either
+pub record LacksMemory (old : BlockState) : Type 0 where
+  pub by_itself : makes_itself old ≡ true
+  pub ids : is_batch old.kind ≡ false → lacks_ids (made_next old) old.exits ≡ false
 
 abbrev pub Made : Result Bool MakeFault → BlockState → BlockState → Type 0
-Made (Ok true) old new = Makes false old × (new ≡ puts_out (handed_next old) old)
+Made (Ok true) old new = Makes false old × (new ≡ makes_its_next old)
 Made (Ok false) old new = (makes_itself old ≡ false) × (new ≡ old)
 Made (Err make_fault.Ids) old new = Makes true old × (new ≡ old)
-Made (Err make_fault.Memory) old new = Makes false old × (new ≡ old)
+Made (Err make_fault.Memory) old new = LacksMemory old × (new ≡ old)
 
 abbrev pub Acts : BlockState → BlockCall → BlockState → Type 0
 Acts old (BlockCall.completed port) new = new ≡ with_port port port_closes old

@@ -1,17 +1,20 @@
 //! A block by the calls that all blocks have in common.
 //!
 //! These calls name a link. At a link out of it the block stands as its end of that link does, and at a link into it as
-//! the end at its first port: all kinds that are built have one. A caller that has both ends and drives the phase of
+//! the end at its first port, which each block has. A caller that has both ends and drives the phase of
 //! each link uses the calls of [`Block`] that name a place.
-ghost use Rattle.std.specs.Prelude.{◌≡◌, ◌<◌, ◌==◌, length, position, is_some};
+ghost use Rattle.std.specs.Prelude.{◌≡◌, ◌<◌, ◌==◌, true, false, length, position, is_some, Err, OnOk, OnErr};
 ghost use Rattle.flow_link.specs.TargetCalls.{MayNote};
 ghost use Rattle.flow_link.specs.declared.traits.WishAnswer.TheVariants.{Held};
 ghost use Rattle.flow_intake.specs.Calls.{next_place};
 ghost use Rattle.flow_intake.specs.ByLink.{place_of as port_place};
 ghost use Rattle.flow_outlet.specs.ByLink.{place_of};
-ghost use Rattle.flow_outlet.specs.Outlet.{may_offer};
+ghost use Rattle.flow_outlet.specs.Outlet.{lacks_ids, may_offer};
+ghost use Rattle.flow_outlet.specs.declared.fault.OutletFault.TheVariants.{Ids, Memory};
 ghost use Rattle.flow_outlet.specs.declared.ends.OutEnd.{OutEnd};
-ghost use Rattle.flow_block.specs.Traits.{makes_itself, carries, offers_over, names_itself, port_shown, holds_at};
+ghost use Rattle.flow_block.specs.Block.{is_batch};
+ghost use Rattle.flow_block.specs.Traits.{makes_itself, made_next, makes_its_next};
+ghost use Rattle.flow_block.specs.Traits.{carries, offers_over, names_itself, port_shown, holds_at};
 ghost use Rattle.flow_block.specs.Traits.{BlocksStandInOrder};
 
 use crate::block::Block;
@@ -65,11 +68,11 @@ impl DataflowBlock for Block {
         }
     }
 
-    fn make(&mut self, _alloc: Global) -> Result<bool, MakeFault> {
+    fn make(&mut self, alloc: Global) -> Result<bool, MakeFault> {
         if !self.makes_itself() {
             return Ok(false);
         }
-        match self.hand_on() {
+        match self.make_next(alloc) {
             Ok(()) => Ok(true),
             Err(OutletFault::Ids) => Err(MakeFault::Ids),
             Err(OutletFault::Memory) => Err(MakeFault::Memory),
@@ -163,11 +166,31 @@ pub fn blocks_in_order_stand_as_their_ends()
 {}
 
 impl Block {
-    /// Whether it makes outputs without a function: it is a buffer, and a message waits at its one port.
+    /// Whether it makes outputs without a function: it is a buffer at whose one port a message waits, or a batch at whose
+    /// one port the messages of a row do.
     fn makes_itself(&self) -> bool
         ensures { result ≡ makes_itself self.now }
     {
-        matches!(self.kind, BlockKind::Buffer) && self.ports.len() == 1 && self.may_make()
+        matches!(self.kind, BlockKind::Buffer | BlockKind::Batch)
+            && self.ports.len() == 1
+            && self.may_make()
+    }
+
+    /// A buffer hands on what waits longest, and a batch makes its next row. Where message ids are used up or memory is
+    /// out, nothing has changed.
+    fn make_next(&mut self, alloc: Global) -> Result<(), OutletFault>
+        requires { makes_itself self.old ≡ true }
+        ensures done { OnOk result (self.new ≡ makes_its_next self.old) }
+        ensures kept { OnErr result (self.new ≡ self.old) }
+        ensures enough { OnOk result (lacks_ids (made_next self.old) self.old.exits ≡ false) }
+        ensures ids { result ≡ Err Ids → lacks_ids (made_next self.old) self.old.exits ≡ true }
+        ensures memory { result ≡ Err Memory → is_batch self.old.kind ≡ false
+            → lacks_ids (made_next self.old) self.old.exits ≡ false }
+    {
+        match self.kind {
+            BlockKind::Batch => self.make_row(alloc),
+            _ => self.hand_on(),
+        }
     }
 
     /// Whether the end over which the head may be offered is the one that its link names, and may carry it.

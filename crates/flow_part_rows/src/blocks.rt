@@ -1,5 +1,5 @@
 //! Blocks by the calls that all blocks have in common. The test carries what one says to the other.
-ghost use Rattle.std.specs.Prelude.{◌≡◌, [], ◌∷◌, IfOk, None, true, false};
+ghost use Rattle.std.specs.Prelude.{◌≡◌, [], ◌∷◌, IfOk, OnOk, None, true, false};
 ghost use Rattle.flow_value.specs.declared.when.When.TheVariants.{Any};
 ghost use Rattle.flow_intake.specs.Port.{fresh_port};
 ghost use Rattle.flow_link.specs.declared.stage.TargetStage.TheVariants.{Free};
@@ -17,10 +17,10 @@ use std::alloc::Global;
 use std::process::Abort;
 use std::test::Fail;
 
-/// A block of this kind with one lane, with room for so many messages, or for any number, and with one link out of it,
-/// number 7.
-fn block(alloc: Global, kind: BlockKind, capacity: Option<u32>) -> Result<Block, Fail>
-    ensures { IfOk result (λ block. block ≡ fresh_block kind 1 0 (fresh_port capacity ∷ [])
+/// A block of this kind with one lane, with so many messages in a row, with room for so many messages, or for any number,
+/// and with one link out of it, number 7.
+fn block(alloc: Global, kind: BlockKind, size: u32, capacity: Option<u32>) -> Result<Block, Fail>
+    ensures { IfOk result (λ block. block ≡ fresh_block kind 1 size (fresh_port capacity ∷ [])
         (record { id = 7; when = Any; max = None; passes = true; steady = false; sole = false } ∷ [])) }
 {
     let mut ports = Vec::new(alloc);
@@ -34,7 +34,7 @@ fn block(alloc: Global, kind: BlockKind, capacity: Option<u32>) -> Result<Block,
         steady: false,
         sole: false,
     })?;
-    Block::new(alloc, kind, 1, 0, ports, rules).map_err(|_| Fail::from("out of memory"))
+    Block::new(alloc, kind, 1, size, ports, rules).map_err(|_| Fail::from("out of memory"))
 }
 
 fn parcel(alloc: Global, number: i64) -> Result<Parcel, Fail> {
@@ -79,7 +79,7 @@ fn keep(
 #[test]
 fn a_message_is_taken_and_offered(rt: HostRuntime) -> Result<(), Fail> {
     let one = MessageHeader::new(1).ok_or("no id")?;
-    let mut source = block(rt.alloc(), BlockKind::Buffer, None)?;
+    let mut source = block(rt.alloc(), BlockKind::Buffer, 0, None)?;
     take_in(&rt, rt.alloc(), &mut source, one)?;
     let Some((link, header)) = SourceBlock::next_offer(&mut source, rt.alloc())? else {
         panic!(&rt; "nothing is offered");
@@ -88,14 +88,14 @@ fn a_message_is_taken_and_offered(rt: HostRuntime) -> Result<(), Fail> {
     assert_eq!(rt; header, one);
     assert_eq!(rt; source.completion(), None);
 
-    let mut target = block(rt.alloc(), BlockKind::Action, None)?;
+    let mut target = block(rt.alloc(), BlockKind::Action, 0, None)?;
     keep(&rt, rt.alloc(), &mut target, header)
 }
 
 #[test]
 fn a_message_waits_for_room(rt: HostRuntime) -> Result<(), Fail> {
     let one = MessageHeader::new(1).ok_or("no id")?;
-    let mut target = block(rt.alloc(), BlockKind::Action, Some(1))?;
+    let mut target = block(rt.alloc(), BlockKind::Action, 0, Some(1))?;
     let MessageStatus::Accepted = target.offer_message(rt.alloc(), 0, one, true)? else {
         panic!(&rt; "it is not accepted");
     };
@@ -112,13 +112,68 @@ fn a_message_waits_for_room(rt: HostRuntime) -> Result<(), Fail> {
 
 #[test]
 fn blocks_end_once(rt: HostRuntime) -> Result<(), Fail> {
-    let mut done = block(rt.alloc(), BlockKind::Buffer, None)?;
+    let mut done = block(rt.alloc(), BlockKind::Buffer, 0, None)?;
     assert_eq!(rt; done.completion(), None);
     DataflowBlock::complete(&mut done, 0);
     assert_eq!(rt; done.completion(), Some(Outcome::Done));
 
-    let mut faulted = block(rt.alloc(), BlockKind::Buffer, None)?;
+    let mut faulted = block(rt.alloc(), BlockKind::Buffer, 0, None)?;
     DataflowBlock::fault(&mut faulted, 3);
     assert_eq!(rt; faulted.completion(), Some(Outcome::Faulted(3)));
+    Ok(())
+}
+
+/// The block takes a message over link 0.
+fn take(
+    rt: &impl Abort,
+    alloc: Global,
+    target: &mut Block,
+    id: u64,
+    number: i64,
+) -> Result<(), Fail>
+    requires { target_over target.old.ports 0 ≡ Free }
+    ensures { OnOk result (target_over target.new.ports 0 ≡ Free) }
+{
+    let header = MessageHeader::new(id).ok_or("no id")?;
+    let MessageStatus::Accepted = target.offer_message(alloc, 0, header, false)? else {
+        panic!(rt; "it is not accepted");
+    };
+    target.hand_over(0, header, parcel(alloc, number)?);
+    Ok(())
+}
+
+/// Whether the block has one row to give first, of these numbers.
+fn has_row(block: &Block, numbers: &[i64]) -> bool {
+    let Some(Value::Row(row)) = block.left().front() else {
+        return false;
+    };
+    row.items()
+        .iter()
+        .map(Value::as_int)
+        .eq(numbers.iter().copied().map(Some))
+}
+
+#[test]
+fn a_batch_makes_rows(rt: HostRuntime) -> Result<(), Fail> {
+    let mut batch = block(rt.alloc(), BlockKind::Batch, 2, None)?;
+    take(&rt, rt.alloc(), &mut batch, 1, 5)?;
+    take(&rt, rt.alloc(), &mut batch, 2, 6)?;
+    take(&rt, rt.alloc(), &mut batch, 3, 7)?;
+    assert_eq!(rt; batch.make(rt.alloc()), Ok(true));
+    assert!(rt; has_row(&batch, &[5, 6]));
+    assert_eq!(rt; batch.make(rt.alloc()), Ok(false));
+    assert_eq!(rt; batch.left().len(), 1);
+    Ok(())
+}
+
+#[test]
+fn a_completed_batch_makes_its_remainder(rt: HostRuntime) -> Result<(), Fail> {
+    let mut batch = block(rt.alloc(), BlockKind::Batch, 2, None)?;
+    take(&rt, rt.alloc(), &mut batch, 1, 5)?;
+    assert!(rt; batch.port_count() == 1);
+    batch.complete(0);
+    assert_eq!(rt; batch.make(rt.alloc()), Ok(true));
+    assert!(rt; has_row(&batch, &[5]));
+    assert_eq!(rt; batch.completion(), None);
     Ok(())
 }

@@ -8,5 +8,5 @@ use Rattle.flow_block.proofs.traits.BlockDataflowBlock.make.Goals as goal
 pub returns-in-Ok-clause-stays : goal.returns-in-Ok-clause-stays
 returns-in-Ok-clause-stays c =
     let makes : makes_itself c.args.self.now ≡ true = cc in
-    subst (λ (before : Option Outcome). Stays before (outcome_of c.hand_on.new.self))
+    subst (λ (before : Option Outcome). Stays before (outcome_of c.make_next.new.self))
     (sym (making_goes_on c.args.self.now makes)) tt
