@@ -411,8 +411,8 @@ impl Spread {
         Ok(Some((self.ends.at(place).link.rule.id, header)))
     }
 
-    // the first place that may be offered the element, from where the search goes on the next time
-    fn next_place(&mut self) -> Option<usize>
+    /// The place of the link over which the element would be offered next. The next search goes on from there.
+    pub fn next_place(&mut self) -> Option<usize>
         ensures place { result ≡ next_place self.old }
         ensures kept { self.new ≡ self.old }
     {
