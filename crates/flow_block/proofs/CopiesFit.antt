@@ -5,6 +5,10 @@ use Rattle.std.proofs.lemmas.List.{length-set}
 use Rattle.flow_value.specs.declared.value.Value.{Value}
 use Rattle.flow_link.specs.declared.phase.LinkEnd.{LinkEnd}
 use Rattle.flow_link.specs.declared.phase.Phase.{Phase}
+use Rattle.flow_link.specs.declared.phase.Phase.TheVariants.{Idle, Wanted}
+use Rattle.flow_value.specs.declared.message.MessageStatus.{MessageStatus}
+use Rattle.flow_value.specs.declared.message.MessageStatus.TheVariants as status
+use Rattle.flow_spread.specs.ByLink.{place_of, still_owes, answered, is_there, gives_home, consumes}
 use Rattle.flow_link.specs.declared.stage.SourceStage.{SourceStage}
 use Rattle.flow_link.specs.declared.stage.SourceStage.TheVariants.{Out, Accepted, Wished, AskedBy, Claimed}
 use Rattle.flow_link.specs.Stage.{source_looks}
@@ -77,6 +81,41 @@ module _ (copies : SpreadState) (k : ℕ) (here : k < length copies.ends) where
       let first = left_less copies k (record (end_at copies k) { share = copies.element }) here (λ owes. owes) in
       let then = left_less ready k (moved (record (link_at ready k) { stage = Out ready.id }) (end_at ready k).owes (end_at ready k)) there (λ owes. owes) in
       omega (arith, first, then)
+
+still_owing : (how : MessageStatus) (once owes : Bool) → still_owes how once owes ≡ true → owes ≡ true
+still_owing status.Accepted once owes e = e
+still_owing status.Declined once owes e = first_true owes once e
+still_owing status.Postponed once owes e = first_true owes once e
+still_owing status.NotAvailable once owes e = first_true owes once e
+still_owing status.DecliningPermanently once owes e = absurd (cc)
+
+-- at a link that is named
+pub answer_left : (copies : SpreadState) (k header : ℕ) (how : MessageStatus) → k < length copies.ends
+    → copies_weight (answered how header k copies) ≤ copies_weight copies
+answer_left copies k header how here = left_less copies k _ here (λ owes. still_owing how copies.once (end_at copies k).owes owes)
+
+home_left : (copies : SpreadState) (k header : ℕ) → k < length copies.ends → copies_weight (gives_home k header copies) ≤ copies_weight copies
+home_left copies k header here =
+    let wanted = looks k (Wanted header) copies in
+    let given = gives k wanted in
+    let first_count : length wanted.ends ≡ length copies.ends = length-set copies.ends k _ in
+    let then_count : length given.ends ≡ length wanted.ends = length-set wanted.ends k _ in
+    let near : k < length wanted.ends = omega (arith, here, first_count) in
+    let nearer : k < length given.ends = omega (arith, near, then_count) in
+    let first = look_left copies k here (Wanted header) in
+    let then = give_left wanted k near in
+    let last = look_left given k nearer Idle in
+    omega (arith, first, then, last)
+
+consume_where : (copies : SpreadState) (k header : ℕ) (there : Bool) → k < length copies.ends
+    → copies_weight (cond there (gives_home k header copies) copies) ≤ copies_weight copies
+consume_where copies k header true here = home_left copies k header here
+consume_where copies k header false here = omega arith
+
+pub consume_left : (copies : SpreadState) (link header : ℕ) → place_of link copies.ends < length copies.ends
+    → copies_weight (consumes link header copies) ≤ copies_weight copies
+consume_left copies link header here =
+    consume_where copies (place_of link copies.ends) header (is_there (place_of link copies.ends) header copies) here
 
 -- The marks that may follow
 

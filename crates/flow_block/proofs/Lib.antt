@@ -1,6 +1,7 @@
 pub mod Causes
 pub mod ClosingStays
 pub mod CompleteSeen
+pub mod CopiesStand
 pub mod CopierHolds
 pub mod CopierKept
 pub mod CopierOf
@@ -16,6 +17,7 @@ pub mod CopiesRest
 pub mod CopiesSeen
 pub mod CopiesTaken
 pub mod CopiesTested
+pub mod CopyStands
 pub mod CourseMore
 pub mod EndsAtRest
 pub mod EndsHold
@@ -52,6 +54,7 @@ pub mod JournalTells
 pub mod Joins
 pub mod JoinsEnd
 pub mod KindsBuilt
+pub mod LinksFit
 pub mod LoadHolds
 pub mod MakesHold
 pub mod MakingGoesOn
@@ -75,12 +78,15 @@ pub mod PlanMade
 pub mod PortEnds
 pub mod PortsChange
 pub mod PortsHold
+pub mod PortsStand
 pub mod RoomBack
 pub mod RoomFits
 pub mod RowsHold
 pub mod ShapeHolds
+pub mod SourceMoves
 pub mod SourceStands
 pub mod StandsInOrder
+pub mod TargetMoves
 pub mod TargetStands
 pub mod TestsTell
 pub mod TuplesFit

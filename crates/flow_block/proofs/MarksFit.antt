@@ -19,7 +19,7 @@ use Rattle.flow_block.specs.Jobs.{Slot, brings}
 use Rattle.flow_block.specs.JournalFits.{port_due, ports_due, marks_due}
 use Rattle.flow_block.proofs.RoomBack.{due_back}
 
-due_set : (ports : List PortState) (p : ℕ) (port : PortState) → p < length ports
+pub due_set : (ports : List PortState) (p : ℕ) (port : PortState) → p < length ports
     → ports_due (set ports p port) + port_due (port_in ports p) ≡ ports_due ports + port_due port
 due_set [] p port l = absurd (omega arith)
 due_set (first ∷ ports) zero port l = omega arith

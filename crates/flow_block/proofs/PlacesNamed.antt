@@ -1,7 +1,7 @@
 -- The first place at which a test passes: what a change of the list leaves of it.
-use Rattle.std.proofs.Common.{◌≡◌, ℕ, suc, ◌<◌, ◌≤◌, ◌+◌, Bool, true, false, cond, nat_lt, eqb, not, List, [], ◌∷◌, ◌++◌, length, set, get_or, map, position, Option, Some, None, refl, ◌∙◌, arith, ap₂}
+use Rattle.std.proofs.Common.{◌≡◌, ℕ, zero, suc, ◌<◌, ◌≤◌, ◌+◌, Bool, true, false, cond, nat_lt, eqb, not, List, [], ◌∷◌, ◌++◌, length, set, get_or, map, position, Option, Some, None, inl, inr, refl, sym, subst, ◌∙◌, arith, ap₂}
 use Rattle.std.specs.List.{position_or_len}
-use Rattle.std.proofs.lemmas.Bool.{lt-ltb}
+use Rattle.std.proofs.lemmas.Bool.{lt-ltb, cases_lt}
 use Rattle.std.proofs.lemmas.Bool.Decides.{nat_tests}
 use Rattle.std.proofs.lemmas.List.{length-set, length-map, length-append}
 use Rattle.std.proofs.lemmas.List.Folds.{position_or_len-set, position_or_len_push}
@@ -67,3 +67,26 @@ module _ {X : Type 0} (p : X → Bool) where
   pub place_nowhere : (xs : List X) (d : X) → ((k : ℕ) → k < length xs → p (get_or xs k d) ≡ false) → position p xs ≡ None
   place_nowhere xs d all =
       rw (position_or_len_is p xs (length xs) d (omega arith) all (λ l. absurd (omega arith))) (below_itself (length xs))
+
+  none_here : (xs : List X) (d : X) → position p xs ≡ None → (k : ℕ) → k < length xs → ((j : ℕ) → j < k → p (get_or xs j d) ≡ false)
+      → (b : Bool) → p (get_or xs k d) ≡ b → p (get_or xs k d) ≡ false
+  none_here xs d none k l before false is = is
+  none_here xs d none k l before true is =
+      let found = place_is xs k d l before is in
+      let wrong : None ≡ Some k = sym none ∙ found in
+      absurd (cc)
+
+  none_before : (xs : List X) (d : X) → position p xs ≡ None → (k : ℕ) → k ≤ length xs → (j : ℕ) → j < k → p (get_or xs j d) ≡ false
+  none_before xs d none zero l j before = absurd (omega (arith, before))
+  none_before xs d none (suc k) l j before =
+      let earlier = none_before xs d none k (omega (arith, l)) in
+      elim (cases_lt j k) [
+        | inl near ↦ earlier j near
+        | inr far ↦
+            let same : j ≡ k = omega (arith, before, far) in
+            subst (λ (n : ℕ). p (get_or xs n d) ≡ false) (sym same) (none_here xs d none k (omega (arith, l)) earlier (p (get_or xs k d)) refl)
+      ]
+
+  -- where there is none, it fails at each
+  pub place_none : (xs : List X) (d : X) → position p xs ≡ None → (k : ℕ) → k < length xs → p (get_or xs k d) ≡ false
+  place_none xs d none k l = none_before xs d none (length xs) (omega arith) k l

@@ -15,10 +15,11 @@ use Rattle.flow_outlet.specs.Law.{OutletLaw, admits_head}
 use Rattle.flow_outlet.proofs.OffersInOrder.{stops_there}
 use Rattle.flow_outlet.proofs.StagesTell.{speaks_id}
 use Rattle.flow_block.specs.NodeLaw.{is_kept}
-use Rattle.flow_block.specs.Traits.{is_ready, source_shown, place_shown, source_over, busy_by, carries, offers_over, without_gone, may_take, is_busy, OwnEnds, BlocksStandInOrder}
+use Rattle.flow_block.specs.Stands.{without_gone, OwnEnds, BlocksStandInOrder}
+use Rattle.flow_block.specs.Traits.{is_ready, source_shown, place_shown, source_over, busy_by, carries, offers_over, may_take, is_busy}
 use Rattle.flow_block.proofs.SourceStands.{all_four, shown_known, may_where}
 
-admits_there : (when : When) (head : Option Value) → admits_head when head ≡ true → is_some head ≡ true
+pub admits_there : (when : When) (head : Option Value) → admits_head when head ≡ true → is_some head ≡ true
 admits_there when None e = absurd (cc)
 admits_there when (Some _) e = refl
 
@@ -26,7 +27,7 @@ not_empty : (left : List Value) → is_some (first_of left) ≡ true → is_empt
 not_empty [] e = absurd (cc)
 not_empty (_ ∷ _) e = refl
 
-room_for : (max : Option ℕ) (given : ℕ) → HasRoom max given → has_room max given ≡ true
+pub room_for : (max : Option ℕ) (given : ℕ) → HasRoom max given → has_room max given ≡ true
 room_for None given room = refl
 room_for (Some max) given room = lt-ltb given max room
 

@@ -1,5 +1,5 @@
 -- How a block's stages at the links into it change by the calls of its port that name a link.
-use Rattle.std.proofs.Common.{◌≡◌, ◌≢◌, ℕ, ◌<◌, ◌==◌, Bool, true, false, ◌&&◌, ◌⊎◌, inl, inr, cond, List, [], ◌∷◌, ◌++◌, length, set, get_or, zero, suc, Option, Some, None, is_some, unwrap_or, Result, Ok, Err, IfOk, refl, ap, sym, ◌∙◌, subst, arith, eqb-true, eq-eqb}
+use Rattle.std.proofs.Common.{◌≡◌, ◌≢◌, ℕ, ◌<◌, ◌==◌, Bool, true, false, ◌&&◌, ◌⊎◌, inl, inr, cond, List, [], ◌∷◌, ◌++◌, length, zero, suc, Option, Some, None, is_some, unwrap_or, refl, ap, sym, ◌∙◌, subst, arith, eqb-true, eq-eqb}
 use Rattle.std.proofs.lemmas.Bool.{false_from_ne_true}
 use Rattle.std.proofs.lemmas.List.{get_or-set_same, get_or-set_other}
 use Rattle.std.proofs.lemmas.List.Quantifiers.{position-Some}
@@ -7,35 +7,40 @@ use Rattle.flow_value.specs.declared.value.Value.{Value}
 use Rattle.flow_value.specs.declared.message.MessageStatus.{MessageStatus}
 use Rattle.flow_value.specs.declared.message.MessageStatus.TheVariants as status
 use Rattle.flow_link.specs.declared.stage.Refusal.{Refusal}
-use Rattle.flow_link.specs.declared.stage.Refusal.TheVariants.{PortEnded}
 use Rattle.flow_link.specs.declared.stage.TargetStage.{TargetStage}
 use Rattle.flow_link.specs.declared.stage.TargetStage.TheVariants as target
-use Rattle.flow_link.specs.StagesMove.{MovesBy, MovesTo}
+use Rattle.flow_link.specs.StagesMove.{MovesBy}
 use Rattle.flow_link.specs.TargetCalls.{HasRefused, StandsAfter, Wants, Consumes, MayNote, stage_noted}
 use Rattle.flow_link.specs.declared.traits.WishAnswer.{WishAnswer}
 use Rattle.flow_link.specs.declared.traits.WishAnswer.TheVariants as answer
 use Rattle.flow_link.specs.Lists.{is_empty}
 use Rattle.flow_intake.specs.Port.{EndState, PortState, fresh_end, end_in, link_in, stage_at, has_room}
-use Rattle.flow_intake.specs.Calls.{answer_to, answer_where, put_stage, refused_by, message_of, is_postponed, consumes, next_place, is_at as is_place}
-use Rattle.flow_intake.specs.ByLink.{place_of, with_link_at, arrives, arrives_at, next_wish, consumes_next, answered, closes_link, drops, drops_at, wish_from, wish_at, consumes_at}
+use Rattle.flow_intake.specs.Calls.{answer_to, answer_where, put_stage, refused_by, message_of, is_postponed, consumes, is_at as is_place}
+use Rattle.flow_intake.specs.ByLink.{place_of, with_link_at, arrives_at, answered, closes_link, drops, drops_at, wish_from, wish_at, consumes_at}
 use Rattle.flow_intake.proofs.AnswersTell.{declining_is_refusing}
-use Rattle.flow_block.specs.Traits.{port_shown, target_over, names_itself, holds_at, notes}
+use Rattle.flow_block.specs.Traits.{port_shown, shown_over, has_link, names_itself, holds_at, notes}
 use Rattle.flow_block.proofs.PlacesNamed.{place_set, place_more, place_new}
 
 -- The stages at one port
-
-abbrev pub shown : PortState → ℕ → TargetStage
-shown port link = port_shown (place_of link port.ends) port
 
 pub found : (link : ℕ) (ends : List EndState) (place : ℕ) → place_of link ends ≡ Some place → (place < length ends) × (link_in place ends ≡ link)
 found link ends place at =
     let first = position-Some (λ end. end.link == link) ends place (fresh_end 0) at in
     (first.0, eqb-true (link_in place ends) link first.1)
 
+-- it has ends of the same links, but that there may be a first one of this link
+pub record SameLinks (link : ℕ) (old new : PortState) : Type 0 where
+  pub others : (other : ℕ) → other ≢ link → has_link other new ≡ has_link other old
+  pub own : has_link link old ≡ true → has_link link new ≡ true
+
+pub links_stay : (link : ℕ) (port : PortState) → SameLinks link port port
+links_stay link port = record { others = λ other apart. refl; own = λ was. was }
+
 -- at one link to this stage, and nowhere else
 pub record PortMoves (stage : TargetStage) (link : ℕ) (old new : PortState) : Type 0 where
-  pub here : shown new link ≡ stage
-  pub elsewhere : (other : ℕ) → other ≢ link → shown new other ≡ shown old other
+  pub links : SameLinks link old new
+  pub here : shown_over new link ≡ stage
+  pub elsewhere : (other : ℕ) → other ≢ link → shown_over new other ≡ shown_over old other
 
 module _ (old new : PortState) (place link : ℕ) (stage : TargetStage) (at : place_of link old.ends ≡ Some place)
     (ends_are : new.ends ≡ put_stage place stage old.ends) (same : new.refusing ≡ old.refusing) where
@@ -62,6 +67,7 @@ module _ (old new : PortState) (place link : ℕ) (stage : TargetStage) (at : pl
 
   pub port_moves : PortMoves stage link old new
   port_moves = record {
+    links = record { others = λ other apart. ap is_some (places_stay other); own = λ was. ap is_some (places_stay link) ∙ was };
     here = ap (λ (k : Option ℕ). port_shown k new) (places_stay link ∙ at) ∙ stage_here;
     elsewhere = λ other apart.
         ap (λ (k : Option ℕ). port_shown k new) (places_stay other) ∙ stays_at other apart (place_of other old.ends) refl;
@@ -85,11 +91,17 @@ module _ (port : PortState) (link : ℕ) (new_link : place_of link port.ends ≡
   stays_known other None e = refl
   stays_known other (Some k) e = ap (λ (end : EndState). end.stage) (front_read port.ends (fresh_end link) k (found other port.ends k e).0)
 
-  pub shown_known : (other : ℕ) → other ≢ link → shown known other ≡ shown port other
-  shown_known other apart =
+  place_other : (other : ℕ) → other ≢ link → place_of other known.ends ≡ place_of other port.ends
+  place_other other apart =
       let differ : (link == other) ≡ false = false_from_ne_true (link == other) (λ e. apart (sym (eqb-true link other e))) in
-      ap (λ (k : Option ℕ). port_shown k known) (place_more (λ end. end.link == other) port.ends (fresh_end link) differ)
-      ∙ stays_known other (place_of other port.ends) refl
+      place_more (λ end. end.link == other) port.ends (fresh_end link) differ
+
+  pub has_known : (other : ℕ) → other ≢ link → has_link other known ≡ has_link other port
+  has_known other apart = ap is_some (place_other other apart)
+
+  pub shown_known : (other : ℕ) → other ≢ link → shown_over known other ≡ shown_over port other
+  shown_known other apart =
+      ap (λ (k : Option ℕ). port_shown k known) (place_other other apart) ∙ stays_known other (place_of other port.ends) refl
 
 -- The answer to an offer
 
@@ -100,7 +112,14 @@ stands_new : (old new : PortState) (link : ℕ) (place : Option ℕ) (stage : Ta
 stands_new old new link (Some place) stage at ends_are same = port_moves old new place link stage at ends_are same
 stands_new old new link None stage at ends_are same =
     let moved = port_moves (record old { ends = old.ends ++ fresh_end link ∷ [] }) new (length old.ends) link stage (place_known old link at) ends_are same in
-    record { here = moved.here; elsewhere = λ other apart. moved.elsewhere other apart ∙ shown_known old link at other apart }
+    record {
+      links = record {
+        others = λ other apart. moved.links.others other apart ∙ has_known old link at other apart;
+        own = λ was. absurd (let none : has_link link old ≡ false = ap is_some at in cc);
+      };
+      here = moved.here;
+      elsewhere = λ other apart. moved.elsewhere other apart ∙ shown_known old link at other apart;
+    }
 
 never_declined : (refusing : Option Refusal) (reserves free : Bool) → answer_where refusing reserves free status.Postponed ≡ status.Declined → ⊥
 never_declined (Some _) reserves free e = cc
@@ -131,33 +150,47 @@ refused_not_free : (refusing : Option Refusal) → is_some refusing ≡ true →
 refused_not_free (Some why) e free = cc
 refused_not_free None e free = cc
 
-abbrev Answers : Bool → MessageStatus → ℕ → ℕ → PortState → PortState → Type 0
-Answers may_postpone status header link old new = MovesBy (λ _ stage. StandsAfter may_postpone status header stage) link (shown old) (shown new)
+-- at one link from one stage to another, and nowhere else
+pub record PortChanges (Move : TargetStage → TargetStage → Type 0) (link : ℕ) (old new : PortState) : Type 0 where
+  pub links : SameLinks link old new
+  pub moves : MovesBy Move link (shown_over old) (shown_over new)
+
+-- to a stage of which this holds
+moves_so : (Holds : TargetStage → Type 0) {stage : TargetStage} {link : ℕ} {old new : PortState} → PortMoves stage link old new → Holds stage
+    → PortChanges (λ _ now. Holds now) link old new
+moves_so Holds moved holds = record {
+  links = moved.links;
+  moves = record { here = subst Holds (sym moved.here) holds; elsewhere = moved.elsewhere };
+}
+
+abbrev pub Answers : Bool → MessageStatus → ℕ → ℕ → PortState → PortState → Type 0
+Answers may_postpone status header link = PortChanges (λ _ stage. StandsAfter may_postpone status header stage) link
 
 closes_moves : (port : PortState) (link header : ℕ) (may_postpone : Bool) (place : Option ℕ) → place_of link port.ends ≡ place
     → port_shown place port ≡ target.Free → is_some port.refusing ≡ true
     → Answers may_postpone status.DecliningPermanently header link port (closes_link place port)
 closes_moves port link header may_postpone (Some k) at free refusing =
-    let moved = port_moves port (closes_link (Some k) port) k link (refused_by port.refusing) at refl refl in
-    record { here = subst HasRefused (sym moved.here) (refused_has port.refusing refusing); elsewhere = moved.elsewhere }
+    moves_so (λ stage. StandsAfter may_postpone status.DecliningPermanently header stage)
+    (port_moves port (closes_link (Some k) port) k link (refused_by port.refusing) at refl refl) (refused_has port.refusing refusing)
 closes_moves port link header may_postpone None at free refusing = absurd (refused_not_free port.refusing refusing free)
 
-answer_moves : (port : PortState) (link header : ℕ) (may_postpone : Bool) → shown port link ≡ target.Free
+pub answer_moves : (port : PortState) (link header : ℕ) (may_postpone : Bool) → shown_over port link ≡ target.Free
     → (status : MessageStatus) → answer_to may_postpone port ≡ status
     → Answers may_postpone status header link port (answered link header status port)
 answer_moves port link header may_postpone free status.Accepted is =
-    let moved = stands_new port (answered link header status.Accepted port) link (place_of link port.ends) (target.Accepted header) refl refl refl in
-    record { here = moved.here; elsewhere = moved.elsewhere }
+    moves_so (λ stage. StandsAfter may_postpone status.Accepted header stage)
+    (stands_new port (answered link header status.Accepted port) link (place_of link port.ends) (target.Accepted header) refl refl refl) refl
 answer_moves port link header true free status.Postponed is =
-    let moved = stands_new port (answered link header status.Postponed port) link (place_of link port.ends) (target.Postponed header) refl refl refl in
-    record { here = moved.here; elsewhere = moved.elsewhere }
+    moves_so (λ stage. StandsAfter true status.Postponed header stage)
+    (stands_new port (answered link header status.Postponed port) link (place_of link port.ends) (target.Postponed header) refl refl refl) refl
 answer_moves port link header false free status.Postponed is =
     absurd (never_postponed port.refusing port.reserves (has_room port && is_empty port.queue) is)
 answer_moves port link header may_postpone free status.DecliningPermanently is =
     closes_moves port link header may_postpone (place_of link port.ends) refl free (declining_is_refusing may_postpone port is)
 answer_moves port link header true free status.Declined is =
     absurd (never_declined port.refusing port.reserves (has_room port && is_empty port.queue) is)
-answer_moves port link header false free status.Declined is = record { here = free; elsewhere = λ other apart. refl }
+answer_moves port link header false free status.Declined is =
+    record { links = links_stay link port; moves = record { here = free; elsewhere = λ other apart. refl } }
 answer_moves port link header may_postpone free status.NotAvailable is =
     absurd (never_gone port.refusing port.reserves (has_room port && is_empty port.queue) may_postpone is)
 
@@ -167,14 +200,14 @@ not_wanted : (header : ℕ) (refusing : Option Refusal) → Wants header (refuse
 not_wanted header (Some why) wants = wants
 not_wanted header None wants = wants
 
-arrive_moves : (port : PortState) (link header : ℕ) (value : Value) (place : Option ℕ) → place_of link port.ends ≡ place
+pub arrive_moves : (port : PortState) (link header : ℕ) (value : Value) (place : Option ℕ) → place_of link port.ends ≡ place
     → Wants header (port_shown place port) → PortMoves target.Free link port (arrives_at place value port)
 arrive_moves port link header value (Some k) at wants = port_moves port (arrives_at (Some k) value port) k link target.Free at refl refl
 arrive_moves port link header value None at wants = absurd (not_wanted header port.refusing wants)
 
 -- The answer to a wish
 
-not_noted : (answer : WishAnswer) (refusing : Option Refusal) → MayNote answer (refused_by refusing) → ⊥
+pub not_noted : (answer : WishAnswer) (refusing : Option Refusal) → MayNote answer (refused_by refusing) → ⊥
 not_noted answer.Coming (Some why) may = may
 not_noted answer.Coming None may = may
 not_noted answer.Held (Some why) may = may
@@ -199,16 +232,16 @@ pub drops_noted : (port : PortState) (link : ℕ) (how : WishAnswer) → (how �
 drops_noted port link how (inl e) = sym (ap (λ (a : WishAnswer). notes a link port) e)
 drops_noted port link how (inr e) = sym (ap (λ (a : WishAnswer). notes a link port) e)
 
-note_moves : (port : PortState) (link : ℕ) (answer : WishAnswer) → MayNote answer (shown port link)
-    → PortMoves (stage_noted answer (shown port link)) link port (notes answer link port)
-note_moves port link answer.Coming may = record { here = refl; elsewhere = λ other apart. refl }
+pub note_moves : (port : PortState) (link : ℕ) (answer : WishAnswer) → MayNote answer (shown_over port link)
+    → PortMoves (stage_noted answer (shown_over port link)) link port (notes answer link port)
+note_moves port link answer.Coming may = record { links = links_stay link port; here = refl; elsewhere = λ other apart. refl }
 note_moves port link answer.Held may = held_moves port link (place_of link port.ends) refl may
 note_moves port link answer.NotAvailable may = drop_moves port link (place_of link port.ends) refl answer.NotAvailable may
 note_moves port link answer.Withdrawn may = drop_moves port link (place_of link port.ends) refl answer.Withdrawn may
 
 -- What it consumes
 
-at_place : (k : ℕ) (place : Option ℕ) → is_place k place ≡ true → place ≡ Some k
+pub at_place : (k : ℕ) (place : Option ℕ) → is_place k place ≡ true → place ≡ Some k
 at_place k None e = absurd (cc)
 at_place k (Some j) e = ap Some (eqb-true j k e)
 
@@ -234,8 +267,8 @@ wish_tells port k link id own (target.Refused _) at is e = absurd (cc)
 wish_tells port k link id own (target.Ended _) at is e = absurd (cc)
 
 -- the port consumes over this link
-consume_at : (port : PortState) (link id : ℕ) (place : Option ℕ) → names_itself place port ≡ true → wish_at place port ≡ Some (link, id)
-    → MovesBy Consumes link (shown port) (shown (consumes_at place port))
+pub consume_at : (port : PortState) (link id : ℕ) (place : Option ℕ) → names_itself place port ≡ true → wish_at place port ≡ Some (link, id)
+    → PortChanges Consumes link port (consumes_at place port)
 consume_at port link id None own e = absurd (cc)
 consume_at port link id (Some k) own e =
     let wish = wish_tells port k link id (link_in k port.ends) (stage_at k port) refl refl e in
@@ -243,10 +276,13 @@ consume_at port link id (Some k) own e =
     subst (λ (l : ℕ). place_of l port.ends ≡ Some k) wish.named (at_place k (place_of (link_in k port.ends) port.ends) own) in
     let moved = port_moves port (consumes k port) k link (target.Consuming (message_of (stage_at k port))) at refl refl in
     let consumed : consumes_at (Some k) port ≡ consumes k port = ap (λ (s : TargetStage). cond (is_postponed s) (consumes k port) port) wish.stage in
-    let before : shown port link ≡ target.Postponed wish.id = ap (λ (p : Option ℕ). port_shown p port) at ∙ wish.stage in
-    let after : shown (consumes k port) link ≡ target.Consuming wish.id = moved.here ∙ ap (λ (s : TargetStage). target.Consuming (message_of s)) wish.stage in
-    subst (λ (new : PortState). MovesBy Consumes link (shown port) (shown new)) (sym consumed)
-    (record { here = subst (λ (s : TargetStage). Consumes s (shown (consumes k port) link)) (sym before) after; elsewhere = moved.elsewhere })
+    let before : shown_over port link ≡ target.Postponed wish.id = ap (λ (p : Option ℕ). port_shown p port) at ∙ wish.stage in
+    let after : shown_over (consumes k port) link ≡ target.Consuming wish.id = moved.here ∙ ap (λ (s : TargetStage). target.Consuming (message_of s)) wish.stage in
+    subst (λ (new : PortState). PortChanges Consumes link port new) (sym consumed)
+    (record {
+      links = moved.links;
+      moves = record { here = subst (λ (s : TargetStage). Consumes s (shown_over (consumes k port) link)) (sym before) after; elsewhere = moved.elsewhere };
+    })
 
 -- where it names nothing, nothing changes
 stays_unnamed : (port : PortState) (k own : ℕ) (stage : TargetStage) → wish_from own stage ≡ None
@@ -268,67 +304,3 @@ stays_unnamed port k own (target.Ended _) e = refl
 pub none_consumed : (port : PortState) (place : Option ℕ) → wish_at place port ≡ None → consumes_at place port ≡ port
 none_consumed port None e = refl
 none_consumed port (Some k) e = stays_unnamed port k (link_in k port.ends) (stage_at k port) e
-
--- The block, whose first port changes
-
-by_port : (Moves : (ℕ → TargetStage) → (ℕ → TargetStage) → Type 0) (May : (ℕ → TargetStage) → Type 0) (ports now : List PortState)
-    → (ports ≡ [] → May (target_over []) → ⊥) → ports ≡ now → (old new : PortState) → old ≡ get_or ports 0 old
-    → (May (shown old) → Moves (shown old) (shown new)) → May (target_over now) → Moves (target_over now) (target_over (set ports 0 new))
-by_port Moves May [] now none same old new read moves may =
-    absurd (none refl (subst (λ (l : List PortState). May (target_over l)) (sym same) may))
-by_port Moves May (first ∷ rest) now none same old new read moves may =
-    let mine : May (shown first) = subst (λ (l : List PortState). May (target_over l)) (sym same) may in
-    subst (λ (l : List PortState). Moves (target_over l) (shown new)) same
-    (subst (λ (p : PortState). Moves (shown p) (shown new)) read (moves (subst (λ (p : PortState). May (shown p)) (sym read) mine)))
-
--- what may be at the block may be at its port
-pub may_at_port : (May : (ℕ → TargetStage) → Type 0) (ports now : List PortState) → (May (target_over []) → ⊥) → ports ≡ now → (old : PortState)
-    → old ≡ get_or ports 0 old → May (target_over now) → May (shown old)
-may_at_port May [] now none same old read may = absurd (none (subst (λ (l : List PortState). May (target_over l)) (sym same) may))
-may_at_port May (first ∷ rest) now none same old read may =
-    subst (λ (p : PortState). May (shown p)) (sym read) (subst (λ (l : List PortState). May (target_over l)) (sym same) may)
-
-one_first : (ports : List PortState) → (ports ≡ [] → ⊥) → (a b : PortState) → a ≡ get_or ports 0 a → b ≡ get_or ports 0 b → a ≡ b
-one_first [] some a b is_a is_b = absurd (some refl)
-one_first (first ∷ rest) some a b is_a is_b = is_a ∙ sym is_b
-
-moves_to : {stage : TargetStage} {link : ℕ} {old new : PortState} → PortMoves stage link old new → MovesTo stage link (shown old) (shown new)
-moves_to moved = record { here = moved.here; elsewhere = moved.elsewhere }
-
-module _ (ports now : List PortState) (same : ports ≡ now) (old : PortState) (read : old ≡ get_or ports 0 old) (new : PortState) (link : ℕ) where
-  pub may_note : (answer : WishAnswer) → MayNote answer (target_over now link) → MayNote answer (shown old link)
-  may_note answer may =
-      may_at_port (λ stages. MayNote answer (stages link)) ports now (λ never. not_noted answer (Some PortEnded) never) same old read may
-
-  pub offer_moves : {E : Type 0} (result : Result MessageStatus E) (header : ℕ) (may_postpone : Bool) → target_over now link ≡ target.Free
-      → IfOk result (λ status. status ≡ answer_to may_postpone old) → IfOk result (λ status. new ≡ answered link header status old)
-      → IfOk result (λ status. MovesBy (λ _ stage. StandsAfter may_postpone status header stage) link (target_over now) (target_over (set ports 0 new)))
-  offer_moves (Err _) header may_postpone free told is = tt
-  offer_moves (Ok status) header may_postpone free told is =
-      by_port (MovesBy (λ _ stage. StandsAfter may_postpone status header stage) link) (λ stages. stages link ≡ target.Free)
-      ports now (λ _ e. cc) same old new read
-      (λ mine. subst (λ (p : PortState). Answers may_postpone status header link old p) (sym is)
-      (answer_moves old link header may_postpone mine status (sym told))) free
-
-  pub hand_moves : (header : ℕ) (value : Value) → Wants header (target_over now link) → new ≡ arrives link value old
-      → MovesTo target.Free link (target_over now) (target_over (set ports 0 new))
-  hand_moves header value wants is =
-      by_port (MovesTo target.Free link) (λ stages. Wants header (stages link)) ports now (λ _ never. never) same old new read
-      (λ mine. moves_to (subst (λ (p : PortState). PortMoves target.Free link old p) (sym is)
-      (arrive_moves old link header value (place_of link old.ends) refl mine))) wants
-
-  pub answer_noted : (answer : WishAnswer) → MayNote answer (target_over now link) → new ≡ notes answer link old
-      → MovesTo (stage_noted answer (target_over now link)) link (target_over now) (target_over (set ports 0 new))
-  answer_noted answer may is =
-      by_port (λ before after. MovesTo (stage_noted answer (before link)) link before after) (λ stages. MayNote answer (stages link))
-      ports now (λ _ never. not_noted answer (Some PortEnded) never) same old new read
-      (λ mine. moves_to (subst (λ (p : PortState). PortMoves (stage_noted answer (shown old link)) link old p) (sym is)
-      (note_moves old link answer mine))) may
-
-  pub wish_moves : (seen : PortState) → seen ≡ get_or ports 0 seen → (id : ℕ) → (ports ≡ [] → ⊥) → names_itself (next_place seen) seen ≡ true
-      → next_wish old ≡ Some (link, id) → new ≡ consumes_next old → MovesBy Consumes link (target_over now) (target_over (set ports 0 new))
-  wish_moves seen seen_read id some own named is =
-      by_port (MovesBy Consumes link) (λ _. Unit {0}) ports now (λ none _. some none) same old new read
-      (λ _. subst (λ (p : PortState). MovesBy Consumes link (shown old) (shown p)) (sym is)
-      (consume_at old link id (next_place old)
-      (subst (λ (p : PortState). names_itself (next_place p) p ≡ true) (one_first ports some seen old seen_read read) own) named)) tt

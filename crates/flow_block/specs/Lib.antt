@@ -31,6 +31,7 @@ pub mod Passes
 pub mod Peeks
 pub mod Planned
 pub mod Routes
+pub mod Stands
 pub mod Traits
 pub mod TuplesSeen
 pub mod ViewsMove

@@ -1,12 +1,15 @@
 -- What a block does by the calls that all blocks have in common, told by its own data: how it has ended, where it stands at
 -- each link, and what each call answers and makes of it.
-use Rattle.std.specs.Prelude.{◌≡◌, ℕ, ◌<◌, ◌==◌, ltb, Bool, true, false, not, ◌&&◌, cond, List, [], ◌∷◌, length, take, map, Option, Some, None, is_some, Result, Ok, Err, refl}
+use Rattle.std.specs.Prelude.{◌≡◌, ℕ, ◌+◌, ◌<◌, ◌^◌, ◌==◌, ltb, leb, Bool, true, false, not, ◌&&◌, cond, List, [], ◌∷◌, length, take, position, Option, Some, None, is_some, unwrap_or, Result, Ok, Err, refl}
 use Rattle.flow_value.specs.declared.value.Value.{Value}
 use Rattle.flow_link.specs.BlockCalls.{BlockCall}
-use Rattle.flow_link.specs.SourceCalls.{SourceCall, NothingOut, MayConsume, is_under_way}
+use Rattle.flow_link.specs.SourceCalls.{SourceCall, NothingOut, is_under_way}
 use Rattle.flow_link.specs.TargetCalls.{TargetCall, stage_noted}
+use Rattle.flow_value.specs.declared.message.MessageStatus.{MessageStatus}
 use Rattle.flow_link.specs.declared.draft.BlockKind.{BlockKind}
-use Rattle.flow_link.specs.declared.draft.BlockKind.TheVariants.{Buffer, Batch}
+use Rattle.flow_link.specs.declared.draft.BlockKind.TheVariants.{Buffer, Broadcast, Batch, Join}
+use Rattle.flow_link.specs.Lists.{below}
+use Rattle.flow_link.specs.Plan.{is_broadcast, is_one_taker}
 use Rattle.flow_link.specs.declared.stage.Refusal.TheVariants.{PortEnded}
 use Rattle.flow_link.specs.declared.stage.SourceStage.{SourceStage}
 use Rattle.flow_link.specs.declared.stage.SourceStage.TheVariants as source
@@ -21,16 +24,19 @@ use Rattle.flow_link.specs.declared.traits.Wish.TheVariants as wish
 use Rattle.flow_link.specs.declared.traits.WishAnswer.{WishAnswer}
 use Rattle.flow_link.specs.declared.traits.WishAnswer.TheVariants as answer
 use Rattle.flow_intake.specs.Port.{PortState, stage_at as port_stage, link_in, coming}
-use Rattle.flow_intake.specs.Calls.{answer_to, next_place, refused_by, put_stage, gives_room, port_closes, is_at as is_place}
+use Rattle.flow_intake.specs.Calls.{answer_to, first_of, next_place, refused_by, put_stage, port_closes, is_at as is_place}
 use Rattle.flow_intake.specs.ByLink.{place_of as port_place, answered as port_answered, arrives, drops, next_wish, consumes_next}
 use Rattle.flow_outlet.specs.End.{end_in}
-use Rattle.flow_outlet.specs.Outlet.{OutletState, end_at, stage_at, is_empty, is_at, may_offer, lacks_ids}
+use Rattle.flow_outlet.specs.Outlet.{OutletState, end_at, is_empty, is_at, may_offer, lacks_ids}
 use Rattle.flow_outlet.specs.ByLink.{place_of, named_at, offers_at, answered, is_head, has_room, tests_consume, consumed, consumes}
-use Rattle.flow_outlet.specs.Law.{OutletLaw}
 use Rattle.flow_outlet.specs.declared.ends.OutEnd.{OutEnd}
-use Rattle.flow_block.specs.Block.{BlockState, port_at, with_port, held_by, is_batch, row_of, next_group, makes_row, puts_out, stops_by}
-use Rattle.flow_block.specs.NodeLaw.{is_kept}
-use Rattle.flow_block.specs.Peeks.{nothing_comes, may_make, may_finish}
+use Rattle.flow_spread.specs.declared.end.CopyEnd.{CopyEnd}
+use Rattle.flow_spread.specs.End.{end_in as copy_in}
+use Rattle.flow_spread.specs.Spread.{SpreadState, end_at as copy_at, next_place as next_copy, prepares, offers as offers_copy}
+use Rattle.flow_spread.specs.ByLink.{place_of as copy_place, named_at as copy_named, answered as copy_answered, tests_consume as tests_copy, is_there, gives_home}
+use Rattle.flow_group.specs.Tuple.{tuple_of}
+use Rattle.flow_block.specs.Block.{BlockState, port_in, port_at, with_port, held_by, is_batch, is_join, row_of, next_group, makes_row, makes_tuple, copies_next, copies_taken, puts_out, stops_by, comes_back, with_copies}
+use Rattle.flow_block.specs.Peeks.{nothing_comes, may_make, may_finish, would_copy}
 
 -- How it ends
 
@@ -54,30 +60,51 @@ faults number block = cond (is_some (outcome_of block)) block (stops_by (Faulted
 
 -- What it makes without a function
 
-abbrev pub makes_alone : BlockKind → Bool
-makes_alone Buffer = true
-makes_alone Batch = true
-makes_alone _ = false
+-- what makes outputs by itself, and with how many ports. A batched join does not, since it does not tell by itself in which order
+-- its messages came in, and blocks with a function do not
+abbrev pub makes_alone : BlockKind → ℕ → Bool
+makes_alone Buffer ports = ports == 1
+makes_alone Broadcast ports = ports == 1
+makes_alone Batch ports = ports == 1
+makes_alone Join ports = ltb 0 ports
+makes_alone _ ports = false
 
--- a buffer hands on what waits longest at its one port, and a batch makes its next row of what waits there
+-- what it needs is there. A broadcast goes on where its element was put off, too: that is forgotten with the element
+abbrev pub has_turn : Bool → BlockState → Bool
+has_turn true block = would_copy block
+has_turn false block = may_make block
+
 abbrev pub makes_itself : BlockState → Bool
-makes_itself block = makes_alone block.kind && length block.ports == 1 && may_make block
+makes_itself block = makes_alone block.kind (length block.ports) && has_turn (is_broadcast block.kind) block
 
+-- a buffer hands on what waits longest at its one port, a batch makes its next row of what waits there, a join its next tuple, and
+-- a broadcast copies what waits longest from now on
 abbrev pub made_next : BlockState → List Value
-made_next block = cond (is_batch block.kind) (row_of (next_group block) ∷ []) (take 1 (held_by block))
+made_next block =
+    cond (is_batch block.kind) (row_of (next_group block) ∷ [])
+    (cond (is_join block.kind) (tuple_of block.ports ∷ []) (take 1 (held_by block)))
 
 abbrev pub makes_its_next : BlockState → BlockState
-makes_its_next block = cond (is_batch block.kind) (makes_row block) (puts_out (take 1 (held_by block)) block)
+makes_its_next block =
+    cond (is_batch block.kind) (makes_row block)
+    (cond (is_join block.kind) (makes_tuple block)
+    (cond (is_broadcast block.kind) (copies_next (first_of (held_by block)) block) (puts_out (take 1 (held_by block)) block)))
+
+abbrev pub lacks_its_ids : BlockState → Bool
+lacks_its_ids block =
+    cond (is_broadcast block.kind) (leb (2 ^ 59) (block.copies.id + 1)) (lacks_ids (made_next block) block.exits)
 
 -- message ids are used up, or they are not
 pub record Makes (lacks : Bool) (old : BlockState) : Type 0 where
   pub by_itself : makes_itself old ≡ true
-  pub ids : lacks_ids (made_next old) old.exits ≡ lacks
+  pub ids : lacks_its_ids old ≡ lacks
 
--- memory is out, and ids are not; a batch looks for an id when it has its row, and so may have none of either
+-- memory is out. A buffer has the ids then; a batch and a join look for an id when they have their row, and so may have neither;
+-- and a broadcast takes no memory for that
 pub record LacksMemory (old : BlockState) : Type 0 where
   pub by_itself : makes_itself old ≡ true
-  pub ids : is_batch old.kind ≡ false → lacks_ids (made_next old) old.exits ≡ false
+  pub copies_none : is_broadcast old.kind ≡ false
+  pub ids : old.kind ≡ Buffer → lacks_its_ids old ≡ false
 
 abbrev pub Made : Result Bool MakeFault → BlockState → BlockState → Type 0
 Made (Ok true) old new = Makes false old × (new ≡ makes_its_next old)
@@ -90,7 +117,7 @@ Acts old (BlockCall.completed port) new = new ≡ with_port port port_closes old
 Acts old (BlockCall.faulted number) new = new ≡ faults number old
 Acts old (BlockCall.made result) new = Made result old new
 
--- Where it stands at the links out of it
+-- Where it stands at the links out of it: those over which it shares its messages out
 
 -- the offer is out over the end at this place, and what it needs to be given is there
 abbrev pub is_ready : ℕ → OutEnd → OutletState → Bool
@@ -137,31 +164,113 @@ abbrev pub offers_over : OutletState → Option ℕ → Option ℕ
 offers_over o None = None
 offers_over o (Some k) = cond (carries k o.ends) (Some k) None
 
--- the place of the end over which it offers next: a block that has stopped offers nothing
-abbrev pub offer_next : BlockState → Option ℕ
-offer_next block = cond (is_some block.stopped) None (offers_over block.exits (may_offer block.exits))
-
-abbrev pub makes_offer : BlockState → BlockState
-makes_offer block = record block { exits = offers_at block.exits (offer_next block) }
-
 -- the message is there for the link
 abbrev pub may_take : ℕ → ℕ → OutletState → Bool
 may_take link header o = tests_consume (place_of link o.ends) header o && is_head header o
 
--- it gives the message over the link; the room of what is wholly given comes back to the ports
+-- it gives the message over the link; the room that comes with it goes back to the ports
 abbrev pub gives_over : ℕ → ℕ → BlockState → BlockState
 gives_over link header block = record block {
   exits = record (consumes link header block.exits) { room = 0 };
-  ports = map (gives_room (consumes link header block.exits).room) block.ports;
+  ports = comes_back (consumes link header block.exits) block.copies block.kind (consumed header block.exits) block.ports;
 }
 
+-- And those over which it copies: each has an offer of its own
+
+-- the element is there for the end, and may cross there
+abbrev pub is_copy_ready : SpreadState → CopyEnd → Bool
+is_copy_ready s end = is_some s.element && is_some end.share && has_room end.link.rule.max end.link.given
+
+abbrev pub copy_shown : CopyEnd → SpreadState → SourceStage
+copy_shown end s = source_shown (is_copy_ready s end) s.id end.link.stage
+
+abbrev pub copy_place_shown : ℕ → SpreadState → SourceStage
+copy_place_shown k s = cond (ltb k (length s.ends)) (copy_shown (copy_at s k) s) source.Refused
+
+abbrev pub copy_over : SpreadState → ℕ → SourceStage
+copy_over s link = copy_place_shown (copy_place link s.ends) s
+
+-- the end is the one that its link names, and the element may cross there
+abbrev pub carries_copy : ℕ → List CopyEnd → Bool
+carries_copy k ends =
+    copy_place (copy_in ends k).link.rule.id ends == k && has_room (copy_in ends k).link.rule.max (copy_in ends k).link.given
+
+abbrev pub copies_over : SpreadState → Option ℕ → Option ℕ
+copies_over s None = None
+copies_over s (Some k) = cond (carries_copy k s.ends) (Some k) None
+
+abbrev pub offers_copy_at : Option ℕ → BlockState → BlockState
+offers_copy_at None block = block
+offers_copy_at (Some k) block = with_copies (offers_copy k (prepares k block.copies)) block
+
+-- the element is there for the link
+abbrev pub may_take_copy : ℕ → ℕ → SpreadState → Bool
+may_take_copy link header s =
+    is_some s.element && tests_copy (copy_place link s.ends) header s && is_there (copy_place link s.ends) header s
+
+abbrev pub copies_home : ℕ → ℕ → BlockState → BlockState
+copies_home link header block = with_copies (gives_home (copy_place link block.copies.ends) header block.copies) block
+
+-- It shares its messages out, or it copies: the first argument says which
+
+abbrev pub source_by : Bool → BlockState → ℕ → SourceStage
+source_by true block = source_over block.exits
+source_by false block = copy_over block.copies
+
+abbrev pub busy_with : Bool → BlockState → Bool
+busy_with true block = is_busy block.exits
+busy_with false block = false
+
+abbrev pub offer_by : Bool → BlockState → Option ℕ
+offer_by true block = offers_over block.exits (may_offer block.exits)
+offer_by false block = copies_over block.copies (next_copy block.copies)
+
+abbrev pub named_by : Bool → Option ℕ → BlockState → Option (ℕ × ℕ)
+named_by true place block = named_at block.exits place
+named_by false place block = copy_named block.copies place
+
+abbrev pub offered_by : Bool → Option ℕ → BlockState → BlockState
+offered_by true place block = record block { exits = offers_at block.exits place }
+offered_by false place block = offers_copy_at place block
+
+abbrev pub answered_by : Bool → (link header : ℕ) → MessageStatus → BlockState → BlockState
+answered_by true link header status block =
+    record block { exits = answered status header (place_of link block.exits.ends) block.exits }
+answered_by false link header status block =
+    with_copies (copy_answered status header (copy_place link block.copies.ends) block.copies) block
+
+abbrev pub taken_by : Bool → (link header : ℕ) → BlockState → Option Value
+taken_by true link header block = cond (may_take link header block.exits) (consumed header block.exits) None
+taken_by false link header block = cond (may_take_copy link header block.copies) block.copies.element None
+
+abbrev pub given_by : Bool → (link header : ℕ) → BlockState → BlockState
+given_by true link header block = cond (may_take link header block.exits) (gives_over link header block) block
+given_by false link header block = cond (may_take_copy link header block.copies) (copies_home link header block) block
+
+abbrev pub shares : BlockState → Bool
+shares block = is_one_taker block.kind
+
+abbrev pub source_at : BlockState → ℕ → SourceStage
+source_at block = source_by (shares block) block
+
+-- a copy waits for no other link's offer
+abbrev pub is_source_busy : BlockState → Bool
+is_source_busy block = busy_with (shares block) block
+
+pub rests_by : (one : Bool) (block : BlockState) → NothingOut (source_by one block) → busy_with one block ≡ false
+rests_by true block nothing = busy_rests block.exits block.exits.offer nothing
+rests_by false block nothing = refl
+
+-- the place of the end over which it offers next: a block that has stopped offers nothing
+abbrev pub offer_next : BlockState → Option ℕ
+offer_next block = cond (is_some block.stopped) None (offer_by (shares block) block)
+
 abbrev pub Gives : BlockState → SourceCall → BlockState → Type 0
-Gives old (SourceCall.offered offer) new = (offer ≡ named_at old.exits (offer_next old)) × (new ≡ makes_offer old)
-Gives old (SourceCall.noted link header status) new =
-    new ≡ record old { exits = answered status header (place_of link old.exits.ends) old.exits }
+Gives old (SourceCall.offered offer) new =
+    (offer ≡ named_by (shares old) (offer_next old) old) × (new ≡ offered_by (shares old) (offer_next old) old)
+Gives old (SourceCall.noted link header status) new = new ≡ answered_by (shares old) link header status old
 Gives old (SourceCall.consumed link header value) new =
-    (value ≡ cond (may_take link header old.exits) (consumed header old.exits) None)
-    × (new ≡ cond (may_take link header old.exits) (gives_over link header old) old)
+    (value ≡ taken_by (shares old) link header old) × (new ≡ given_by (shares old) link header old)
 
 -- Where it stands at the links into it
 
@@ -170,10 +279,20 @@ abbrev pub port_shown : Option ℕ → PortState → TargetStage
 port_shown (Some place) port = port_stage place port
 port_shown None port = refused_by port.refusing
 
--- all links lead into its first port; where there is none, it takes nothing
+abbrev pub shown_over : PortState → ℕ → TargetStage
+shown_over port link = port_shown (port_place link port.ends) port
+
+abbrev pub has_link : ℕ → PortState → Bool
+has_link link port = is_some (port_place link port.ends)
+
+-- the port into which a link leads: the first that has an end of it. A link that is new leads into the first port
+abbrev pub port_into : ℕ → List PortState → ℕ
+port_into link ports = unwrap_or (position (has_link link) ports) 0
+
+-- where there is no port, it takes nothing
 abbrev pub target_over : List PortState → ℕ → TargetStage
 target_over [] link = target.Refused PortEnded
-target_over (port ∷ _) link = port_shown (port_place link port.ends) port
+target_over (port ∷ ports) link = shown_over (port_in (port ∷ ports) (port_into link (port ∷ ports))) link
 
 -- What it takes
 
@@ -186,11 +305,27 @@ abbrev pub wish_named : Option (ℕ × ℕ) → Wish
 wish_named None = wish.None
 wish_named (Some offer) = wish.Consume offer.0
 
-abbrev pub wish_next : PortState → Wish
-wish_next port = cond (names_itself (next_place port) port) (wish_named (next_wish port)) wish.None
+-- its link leads into the port
+abbrev pub leads_to : ℕ → Option (ℕ × ℕ) → List PortState → Bool
+leads_to p None ports = false
+leads_to p (Some offer) ports = port_into offer.0 ports == p
 
-abbrev pub wishes : PortState → PortState
-wishes port = cond (names_itself (next_place port) port) (consumes_next port) port
+-- the port would consume an offer
+abbrev pub wishes_at : List PortState → ℕ → Bool
+wishes_at ports p =
+    names_itself (next_place (port_in ports p)) (port_in ports p) && leads_to p (next_wish (port_in ports p)) ports
+
+-- the first port that would
+abbrev pub wishing_port : List PortState → Option ℕ
+wishing_port ports = position (wishes_at ports) (below (length ports))
+
+abbrev pub wish_at : Option ℕ → List PortState → Wish
+wish_at None ports = wish.None
+wish_at (Some p) ports = wish_named (next_wish (port_in ports p))
+
+abbrev pub wishes : Option ℕ → BlockState → BlockState
+wishes None block = block
+wishes (Some p) block = with_port p consumes_next block
 
 -- the message is kept for it
 abbrev pub holds_at : Option ℕ → PortState → PortState
@@ -203,43 +338,16 @@ notes answer.Held link port = holds_at (port_place link port.ends) port
 notes answer.NotAvailable link port = drops link port
 notes answer.Withdrawn link port = drops link port
 
+-- the port into which the link leads becomes so
+abbrev pub with_port_of : ℕ → (PortState → PortState) → BlockState → BlockState
+with_port_of link change block = with_port (port_into link block.ports) change block
+
+-- a block that takes one message in all copies it at once
 abbrev pub Takes : BlockState → TargetCall → BlockState → Type 0
 Takes old (TargetCall.offered link header may_postpone status) new =
-    (status ≡ answer_to may_postpone (port_at 0 old)) × (new ≡ with_port 0 (port_answered link header status) old)
-Takes old (TargetCall.handed link header value) new = new ≡ with_port 0 (arrives link value) old
-Takes old (TargetCall.wished told) new = (told ≡ wish_next (port_at 0 old)) × (new ≡ with_port 0 wishes old)
-Takes old (TargetCall.noted link told) new = new ≡ with_port 0 (notes told link) old
-
--- In a block in order
-
--- the stage of an end as it is, but that nobody waits for a message that is gone
-abbrev pub without_gone : ℕ → SourceStage → SourceStage
-without_gone next (source.Waiting i) = cond (i == next) (source.Waiting i) source.Free
-without_gone next stage = stage
-
--- each end is the one that its link names
-abbrev pub OwnEnds : OutletState → Type 0
-OwnEnds o = (k : ℕ) → k < length o.ends → place_of (end_at o k).rule.id o.ends ≡ k
-
-module _ (pending : Bool) (stopped : Option Outcome) (o : OutletState) where
-  -- where the exits are in order
-  abbrev pub InOrder : Type 0 → Type 0
-  InOrder Holds = OutletLaw pending stopped o → OwnEnds o → Holds
-
-  -- what is known of an end that keeps nothing for a target
-  abbrev pub OfEachEnd : (ℕ → Type 0) → Type 0
-  OfEachEnd Holds = InOrder ((k : ℕ) → k < length o.ends → is_kept (stage_at o k) ≡ false → Holds k)
-
-  pub record StandsInOrder : Type 0 where
-    -- it stands at each link as its end does
-    pub stages : OfEachEnd (λ k. source_over o (end_at o k).rule.id ≡ without_gone o.next (stage_at o k))
-    -- what a link may consume it has, unless the message is gone
-    pub gives : OfEachEnd (λ k.
-        (header : ℕ) → MayConsume header (is_busy o) (source_over o (end_at o k).rule.id)
-        → may_take (end_at o k).rule.id header o ≡ is_head header o)
-    -- it is busy while an offer is out, and what may be offered it offers
-    pub busy : InOrder ((k : ℕ) → o.offer ≡ Some k → is_busy o ≡ true)
-    pub offers : InOrder ((k : ℕ) → may_offer o ≡ Some k → offers_over o (may_offer o) ≡ Some k)
-
-abbrev pub BlocksStandInOrder : Type 0
-BlocksStandInOrder = (pending : Bool) (stopped : Option Outcome) (o : OutletState) → StandsInOrder pending stopped o
+    (status ≡ answer_to may_postpone (port_at (port_into link old.ports) old))
+    × (new ≡ with_port_of link (port_answered link header status) old)
+Takes old (TargetCall.handed link header value) new = new ≡ copies_taken (with_port_of link (arrives link value) old)
+Takes old (TargetCall.wished told) new =
+    (told ≡ wish_at (wishing_port old.ports) old.ports) × (new ≡ wishes (wishing_port old.ports) old)
+Takes old (TargetCall.noted link told) new = new ≡ with_port_of link (notes told link) old

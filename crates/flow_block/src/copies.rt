@@ -2,7 +2,7 @@
 //!
 //! What the element takes of the block's room comes back when no link owes it any more, and never where the block takes one
 //! message in all.
-ghost use Rattle.std.specs.Prelude.{◌≡◌, ◌<◌, ◌≤◌, ◌+◌, ◌-◌, ◌^◌, ◌↔◌, true, length, map, is_some, Some, Err, IfOk, OnOk, OnErr, MatchResult};
+ghost use Rattle.std.specs.Prelude.{◌≡◌, ◌<◌, ◌≤◌, ◌+◌, ◌-◌, ◌^◌, ◌↔◌, true, length, map, is_some, Some, Err, IfOk, IfErr, OnOk, OnErr, MatchResult};
 ghost use Rattle.flow_link.specs.LinkOk.{HasRoom};
 ghost use Rattle.flow_link.specs.declared.stage.SourceStage.TheVariants.{Out};
 ghost use Rattle.flow_intake.specs.Calls.{first_of, gives_room};
@@ -86,7 +86,7 @@ pub(crate) fn copies_weight(copies: &Spread) -> u32
 }
 
 /// The room of the element comes back to the ports, where it counted and does no more.
-fn give_back(ports: &mut Vec<Intake>, counted: u32, copies: &Spread)
+pub(crate) fn give_back(ports: &mut Vec<Intake>, counted: u32, copies: &Spread)
     requires { AllGaveOut (counted - copies_weight copies.now) ports.old.items }
     ensures { ports.new.items ≡ map (gives_room (counted - copies_weight copies.now)) ports.old.items }
 {
@@ -103,6 +103,7 @@ impl Block {
         ensures done { OnOk result (self.new ≡ copies_next (first_of (held_by self.old)) self.old) }
         ensures kept { OnErr result (self.new ≡ self.old) }
         ensures ids { (result ≡ Err Ids) ↔ (2 ^ 59 ≤ self.old.copies.id + 1) }
+        ensures only_ids { IfErr result (λ fault. fault ≡ Ids) }
     {
         if self.copies.id() >= MAX_ID {
             return Err(OutletFault::Ids);

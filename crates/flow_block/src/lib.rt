@@ -24,6 +24,7 @@
 
 mod answer;
 mod block;
+mod by_link;
 mod copies;
 mod copies_laws;
 mod copying;

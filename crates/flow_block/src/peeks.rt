@@ -179,7 +179,7 @@ impl Block {
     }
 
     /// Whether it would copy its next message, but for offers of the last one that wait.
-    fn would_copy(&self) -> bool
+    pub(crate) fn would_copy(&self) -> bool
         ensures { result ≡ would_copy self.now }
     {
         self.stopped.is_none() && holds_first(&self.ports) && self.copies.is_free()

@@ -1,30 +1,26 @@
 //! A block by the calls that all blocks have in common.
 //!
-//! These calls name a link. At a link out of it the block stands as its end of that link does, and at a link into it as
-//! the end at its first port, which each block has. A caller that has both ends and drives the phase of
-//! each link uses the calls of [`Block`] that name a place.
-ghost use Rattle.std.specs.Prelude.{◌≡◌, ◌<◌, ◌==◌, true, false, length, position, is_some, Err, OnOk, OnErr};
-ghost use Rattle.flow_link.specs.TargetCalls.{MayNote};
-ghost use Rattle.flow_link.specs.declared.traits.WishAnswer.TheVariants.{Held};
-ghost use Rattle.flow_intake.specs.Calls.{next_place};
-ghost use Rattle.flow_intake.specs.ByLink.{place_of as port_place};
-ghost use Rattle.flow_outlet.specs.ByLink.{place_of};
-ghost use Rattle.flow_outlet.specs.Outlet.{lacks_ids, may_offer};
+//! These calls name a link. At a link out of it the block stands as its end of that link does, whether it shares its
+//! messages out or copies them. At a link into it, it stands as the end at the port into which the link leads. A caller
+//! that has both ends and drives the phase of each link uses the calls of [`Block`] that name a place.
+//!
+//! What a block does not know, these calls do not do: the function of one that has a function, and in which order messages
+//! came in over the ports of a batched join. Such a block makes nothing by itself.
+ghost use Rattle.std.specs.Prelude.{◌≡◌, ◌↔◌, ◌==◌, true, false, length, Err, OnOk, OnErr};
+ghost use Rattle.flow_link.specs.Plan.{is_broadcast};
+ghost use Rattle.flow_link.specs.declared.draft.BlockKind.TheVariants.{Buffer};
 ghost use Rattle.flow_outlet.specs.declared.fault.OutletFault.TheVariants.{Ids, Memory};
-ghost use Rattle.flow_outlet.specs.declared.ends.OutEnd.{OutEnd};
-ghost use Rattle.flow_block.specs.Block.{is_batch};
-ghost use Rattle.flow_block.specs.Traits.{makes_itself, made_next, makes_its_next};
-ghost use Rattle.flow_block.specs.Traits.{carries, offers_over, names_itself, port_shown, holds_at};
-ghost use Rattle.flow_block.specs.Traits.{BlocksStandInOrder};
+ghost use Rattle.flow_block.specs.Peeks.{would_copy};
+ghost use Rattle.flow_block.specs.Traits.{makes_alone, makes_itself, makes_its_next, lacks_its_ids, shares};
+ghost use Rattle.flow_block.specs.Stands.{BlocksStandInOrder, CopiesStandInOrder, PortsStandInOrder};
 
 use crate::block::Block;
-use crate::ports::give_room;
-use flow_intake::Intake;
+use crate::by_link::{hold, port_into, wishing_port};
 use flow_link::{
-    BlockKind, Completing, DataflowBlock, LinkId, MakeFault, Outcome, Phase, SourceBlock,
-    TargetBlock, TargetStage, Wish, WishAnswer,
+    BlockKind, Completing, DataflowBlock, LinkId, MakeFault, Outcome, SourceBlock, TargetBlock,
+    Wish, WishAnswer,
 };
-use flow_outlet::{OutEnd, OutletFault};
+use flow_outlet::OutletFault;
 use flow_value::{MessageHeader, MessageStatus, Parcel};
 use std::alloc::{AllocError, Global};
 
@@ -82,38 +78,42 @@ impl DataflowBlock for Block {
 
 /// Microsoft: `ISourceBlock<TOutput>`.
 impl SourceBlock for Block {
-    ghost use Rattle.flow_block.specs.Block.{BlockState};
-    ghost use Rattle.flow_block.specs.Traits.{source_over, is_busy, busy_rests, Gives};
+    ghost use Rattle.flow_block.specs.Traits.{source_at, is_source_busy, shares, rests_by, Gives};
 
-    ghost source_stage = { λ block. source_over block.exits };
+    ghost source_stage = { source_at };
 
-    ghost is_busy = { λ block. is_busy block.exits };
+    ghost is_busy = { is_source_busy };
 
     ghost gives = { Gives };
 
     fn next_offer(&mut self, alloc: Global) -> Result<Option<(LinkId, MessageHeader)>, AllocError> {
-        if self.stopped.is_some() || !self.carries_next() {
+        if self.stopped.is_some() {
             return Ok(None);
         }
-        let offer = self.exits.next_offer(alloc)?;
-        Ok(offer)
+        if self.shares() {
+            self.offer_head(alloc)
+        } else {
+            self.offer_next_copy(alloc)
+        }
     }
 
     fn note_answer(&mut self, link: LinkId, header: MessageHeader, status: MessageStatus) {
-        self.exits.note_answer(link, header, status);
+        if self.shares() {
+            self.exits.note_answer(link, header, status);
+        } else {
+            self.note_copy(link, header, status);
+        }
     }
 
     fn consume_message(&mut self, link: LinkId, header: MessageHeader) -> Option<Parcel> {
-        if !self.exits.may_consume(link, header) {
-            return None;
+        if self.shares() {
+            self.give_head(link, header)
+        } else {
+            self.give_copy_over(link, header)
         }
-        let parcel = self.exits.consume_message(link, header)?;
-        let room = self.exits.room_back();
-        give_room(&mut self.ports, room);
-        Some(parcel)
     }
 
-    ghost rests = { λ block nothing. busy_rests block.exits block.exits.offer nothing };
+    ghost rests = { λ block nothing. rests_by (shares block) block nothing };
 }
 
 /// Microsoft: `ITargetBlock<TInput>`.
@@ -131,133 +131,97 @@ impl TargetBlock for Block {
         header: MessageHeader,
         may_postpone: bool,
     ) -> Result<MessageStatus, AllocError> {
-        self.ports[0].answer(origin, header, may_postpone)
+        let port = port_into(&self.ports, origin);
+        self.ports[port].answer(origin, header, may_postpone)
     }
 
     fn hand_over(&mut self, origin: LinkId, _header: MessageHeader, parcel: Parcel) {
-        self.ports[0].arrive(origin, parcel);
+        let port = port_into(&self.ports, origin);
+        self.ports[port].arrive(origin, parcel);
+        self.copy_taken();
     }
 
     fn next_wish(&mut self) -> Wish {
-        if self.ports.is_empty() || !names_itself(&self.ports[0]) {
+        let Some(port) = wishing_port(&self.ports) else {
             return Wish::None;
-        }
-        match self.ports[0].next_postponed() {
+        };
+        match self.ports[port].next_postponed() {
             Some((link, _)) => Wish::Consume(link),
             None => Wish::None,
         }
     }
 
     fn note_wish(&mut self, origin: LinkId, answer: WishAnswer) {
+        let port = port_into(&self.ports, origin);
         match answer {
             WishAnswer::Coming => {}
-            WishAnswer::Held => hold(&mut self.ports[0], origin),
+            WishAnswer::Held => hold(&mut self.ports[port], origin),
             WishAnswer::NotAvailable | WishAnswer::Withdrawn => {
-                self.ports[0].drop_postponed(origin);
+                self.ports[port].drop_postponed(origin);
             }
         }
     }
 }
 
 /// A block whose exits are in order stands at each link out of it as its end does, but that nobody waits for a message
-/// that is gone. It is busy while an offer is out, offers what may be offered, and gives what a link may consume.
+/// that is gone. It is busy while an offer is out, offers what may be offered, and gives what a link may consume. One that
+/// copies does the same at each link for itself. At each link into it a block stands as its end does, and it wishes for
+/// nothing only where no port would consume what it postponed.
 pub fn blocks_in_order_stand_as_their_ends()
-    ensures { BlocksStandInOrder }
+    ensures exits { BlocksStandInOrder }
+    ensures copies { CopiesStandInOrder }
+    ensures ports { PortsStandInOrder }
 {}
 
 impl Block {
-    /// Whether it makes outputs without a function: it is a buffer at whose one port a message waits, or a batch at whose
-    /// one port the messages of a row do.
+    /// Whether its links share its messages; else each is given a copy.
+    fn shares(&self) -> bool
+        ensures { result ≡ shares self.now }
+    {
+        !matches!(self.kind, BlockKind::Broadcast | BlockKind::WriteOnce)
+    }
+
+    /// Whether it makes outputs without a function, and holds what it needs for the next. A broadcast does also where its
+    /// element was put off.
     fn makes_itself(&self) -> bool
         ensures { result ≡ makes_itself self.now }
     {
-        matches!(self.kind, BlockKind::Buffer | BlockKind::Batch)
-            && self.ports.len() == 1
-            && self.may_make()
+        if !self.makes_alone() {
+            return false;
+        }
+        match self.kind {
+            BlockKind::Broadcast => self.would_copy(),
+            _ => self.may_make(),
+        }
     }
 
-    /// A buffer hands on what waits longest, and a batch makes its next row. Where message ids are used up or memory is
-    /// out, nothing has changed.
+    /// Whether it is of a kind that makes outputs without a function, and has the ports of that kind.
+    fn makes_alone(&self) -> bool
+        ensures { result ≡ makes_alone self.now.kind (length self.now.ports) }
+    {
+        match self.kind {
+            BlockKind::Buffer | BlockKind::Broadcast | BlockKind::Batch => self.ports.len() == 1,
+            BlockKind::Join => !self.ports.is_empty(),
+            _ => false,
+        }
+    }
+
+    /// A buffer hands on what waits longest, a batch makes its next row, a join its next tuple, and a broadcast copies what
+    /// waits longest from now on. Where message ids are used up or memory is out, nothing has changed.
     fn make_next(&mut self, alloc: Global) -> Result<(), OutletFault>
         requires { makes_itself self.old ≡ true }
         ensures done { OnOk result (self.new ≡ makes_its_next self.old) }
         ensures kept { OnErr result (self.new ≡ self.old) }
-        ensures enough { OnOk result (lacks_ids (made_next self.old) self.old.exits ≡ false) }
-        ensures ids { result ≡ Err Ids → lacks_ids (made_next self.old) self.old.exits ≡ true }
-        ensures memory { result ≡ Err Memory → is_batch self.old.kind ≡ false
-            → lacks_ids (made_next self.old) self.old.exits ≡ false }
+        ensures enough { OnOk result (lacks_its_ids self.old ≡ false) }
+        ensures ids { result ≡ Err Ids → lacks_its_ids self.old ≡ true }
+        ensures copies_none { result ≡ Err Memory → is_broadcast self.old.kind ≡ false }
+        ensures memory { result ≡ Err Memory → self.old.kind ≡ Buffer → lacks_its_ids self.old ≡ false }
     {
         match self.kind {
             BlockKind::Batch => self.make_row(alloc),
+            BlockKind::Join => self.make_tuple(alloc),
+            BlockKind::Broadcast => self.copy_next(),
             _ => self.hand_on(),
         }
-    }
-
-    /// Whether the end over which the head may be offered is the one that its link names, and may carry it.
-    fn carries_next(&self) -> bool
-        ensures { result ≡ is_some (offers_over self.now.exits (may_offer self.now.exits)) }
-    {
-        match self.exits.may_offer() {
-            Some(place) => carries(self.exits.ends(), place),
-            None => false,
-        }
-    }
-}
-
-/// Whether the end at this place is the one that its link names, and one more message may cross there.
-fn carries(ends: &[OutEnd], place: usize) -> bool
-    requires { place < length ends.now }
-    ensures { result ≡ carries place ends.now }
-{
-    let end = ends[place];
-    place_out(ends, end.rule.id) == place && end.has_room()
-}
-
-/// The place of a link's end out of a block; where there is none, behind the last.
-fn place_out(ends: &[OutEnd], link: LinkId) -> usize
-    ensures { result ≡ place_of link ends.now }
-{
-    first_out(ends, link).unwrap_or(ends.len())
-}
-
-fn first_out(ends: &[OutEnd], link: LinkId) -> Option<usize>
-    ensures { result ≡ position (λ (end : OutEnd). end.rule.id == link) ends.now }
-{
-    ends.iter().position(|end| end.rule.id == link)
-}
-
-/// The place of a link's end at a port.
-fn place_in(port: &Intake, link: LinkId) -> Option<usize>
-    ensures { result ≡ port_place link port.now.ends }
-{
-    for place in 0..port.link_count() {
-        if port.link(place) == link {
-            return Some(place);
-        }
-    }
-    None
-}
-
-/// Whether the offer that a port consumes next is that of its link's own end.
-fn names_itself(port: &Intake) -> bool
-    ensures { result ≡ names_itself (next_place port.now) port.now }
-{
-    match port.next_place() {
-        Some(place) if place < port.link_count() => {
-            place_in(port, port.link(place)) == Some(place)
-        }
-        _ => false,
-    }
-}
-
-/// The message over this link, which the port asked for, is kept for it.
-fn hold(port: &mut Intake, link: LinkId)
-    requires { MayNote Held (port_shown (port_place link port.old.ends) port.old) }
-    ensures { port.new ≡ holds_at (port_place link port.old.ends) port.old }
-{
-    if let Some(place) = place_in(port, link)
-        && let TargetStage::Asking(header) = port.stage(place)
-    {
-        port.look_in(place, Phase::Held(header));
     }
 }

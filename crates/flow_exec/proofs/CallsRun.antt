@@ -1,14 +1,20 @@
 -- What holds of each execution block stays so when it faults and when it gives a message: what waits at its port stays.
-use Rattle.std.proofs.Common.{◌≡◌, ℕ, Bool, true, false, cond, List, length, map, is_some, refl, ap, sym, subst, ◌∙◌, arith}
+use Rattle.std.proofs.Common.{◌≡◌, ℕ, ◌+◌, Bool, true, false, cond, List, length, map, is_some, refl, ap, sym, subst, ◌∙◌, arith}
 use Rattle.std.proofs.lemmas.List.{length-map}
 use Rattle.flow_value.specs.declared.value.Value.{Value}
+use Rattle.flow_link.specs.declared.draft.BlockKind.{BlockKind}
+use Rattle.flow_link.specs.declared.draft.BlockKind.TheVariants.{BatchedJoin}
 use Rattle.flow_link.specs.declared.trace.Outcome.TheVariants.{Faulted}
+use Rattle.flow_link.specs.Plan.{has_work}
 use Rattle.flow_intake.specs.Port.{PortState}
 use Rattle.flow_intake.specs.Calls.{gives_room, port_closes}
-use Rattle.flow_outlet.specs.ByLink.{consumes}
-use Rattle.flow_block.specs.Block.{BlockState, held_by, stops_by}
-use Rattle.flow_block.specs.Traits.{outcome_of, faults, may_take, gives_over}
+use Rattle.flow_outlet.specs.ByLink.{consumes, consumed}
+use Rattle.flow_outlet.specs.Fits.{weight_of}
+use Rattle.flow_block.specs.Block.{BlockState, held_by, stops_by, is_batched_join, row_count}
+use Rattle.flow_block.specs.Copies.{copies_weight}
+use Rattle.flow_block.specs.Traits.{outcome_of, faults, shares, may_take, gives_over, may_take_copy, copies_home, given_by}
 use Rattle.flow_block.proofs.PortsChange.{kept_at_all}
+use Rattle.flow_block.proofs.RoomFits.{no_rows, none_beside}
 use Rattle.flow_exec.specs.Execution.{Runs}
 
 -- other ports, at which the same waits
@@ -43,14 +49,30 @@ fault_where number false block runs =
 pub fault_runs : (number : ℕ) (old new : BlockState) → new ≡ faults number old → Runs old → Runs new
 fault_runs number old new is runs = subst Runs (sym is) (fault_where number (is_some (outcome_of old)) old runs)
 
-give_where : (link header : ℕ) (there : Bool) (block : BlockState) → Runs block
-    → Runs (cond there (gives_over link header block) block)
-give_where link header true block runs =
-    ports_run (gives_room (consumes link header block.exits).room) block (gives_over link header block) (λ port. refl)
-    refl refl refl refl runs
-give_where link header false block runs = runs
+-- room comes back
 
-pub give_runs : (link header : ℕ) (old new : BlockState)
-    → new ≡ cond (may_take link header old.exits) (gives_over link header old) old → Runs old → Runs new
-give_runs link header old new is runs =
-    subst Runs (sym is) (give_where link header (may_take link header old.exits) old runs)
+never_joined : (kind : BlockKind) → has_work kind ≡ true → is_batched_join kind ≡ false
+never_joined BatchedJoin works = absurd (cc)
+never_joined kind works = refl
+
+give_head : (link header : ℕ) (there : Bool) (block : BlockState) → Runs block
+    → Runs (cond there (gives_over link header block) block)
+give_head link header true block runs =
+    let given = consumes link header block.exits in
+    let back = none_beside given.room (weight_of given.groups + copies_weight block.copies) (row_count block.kind (consumed header block.exits)) 0
+    block.ports (no_rows block.kind (consumed header block.exits) (never_joined block.kind runs.works)) in
+    ports_run (gives_room given.room) block (gives_over link header block) (λ port. refl) (sym back) refl refl refl runs
+give_head link header false block runs = runs
+
+give_copy : (link header : ℕ) (there : Bool) (block : BlockState) → Runs block
+    → Runs (cond there (copies_home link header block) block)
+give_copy link header true block runs =
+    ports_run _ block (copies_home link header block) (λ port. refl) refl refl refl refl runs
+give_copy link header false block runs = runs
+
+give_where : (link header : ℕ) (one : Bool) (block : BlockState) → Runs block → Runs (given_by one link header block)
+give_where link header true block runs = give_head link header (may_take link header block.exits) block runs
+give_where link header false block runs = give_copy link header (may_take_copy link header block.copies) block runs
+
+pub give_runs : (link header : ℕ) (old new : BlockState) → new ≡ given_by (shares old) link header old → Runs old → Runs new
+give_runs link header old new is runs = subst Runs (sym is) (give_where link header (shares old) old runs)

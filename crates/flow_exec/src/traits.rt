@@ -48,12 +48,12 @@ impl<W> DataflowBlock for Execution<W> {
 
 /// Microsoft: `ISourceBlock<TOutput>`.
 impl<W> SourceBlock for Execution<W> {
-    ghost use Rattle.flow_block.specs.Traits.{source_over, is_busy, busy_rests};
+    ghost use Rattle.flow_block.specs.Traits.{source_at, is_source_busy, shares, rests_by};
     ghost use Rattle.flow_exec.specs.Calls.{Gives};
 
-    ghost source_stage = { λ execution. source_over execution.block.exits };
+    ghost source_stage = { λ execution. source_at execution.block };
 
-    ghost is_busy = { λ execution. is_busy execution.block.exits };
+    ghost is_busy = { λ execution. is_source_busy execution.block };
 
     ghost gives = { Gives };
 
@@ -69,7 +69,7 @@ impl<W> SourceBlock for Execution<W> {
         self.block.consume_message(link, header)
     }
 
-    ghost rests = { λ execution nothing. busy_rests execution.block.exits execution.block.exits.offer nothing };
+    ghost rests = { λ execution nothing. rests_by (shares execution.block) execution.block nothing };
 }
 
 /// Microsoft: `ITargetBlock<TInput>`.

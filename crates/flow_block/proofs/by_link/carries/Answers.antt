@@ -4,7 +4,7 @@ use Rattle.std.proofs.lemmas.List.{get_or_read}
 use Rattle.flow_outlet.specs.ByLink.{place_of, has_room}
 use Rattle.flow_outlet.specs.End.{no_end}
 use Rattle.flow_block.proofs.SourceStands.{carries_is}
-use Rattle.flow_block.proofs.traits.carries.Goals as goal
+use Rattle.flow_block.proofs.by_link.carries.Goals as goal
 
 pub returns-then-place_out-place : goal.returns-then-place_out-place
 returns-then-place_out-place c =

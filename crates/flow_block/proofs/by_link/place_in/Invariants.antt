@@ -1,6 +1,6 @@
 use Rattle.std.proofs.Common.{◌≡◌, ℕ, ◌<◌, ◌==◌, false}
 use Rattle.flow_intake.specs.Port.{link_in}
-use Rattle.flow_block.proofs.traits.place_in.Given as goal
+use Rattle.flow_block.proofs.by_link.place_in.Given as goal
 
 -- no earlier end is the link's
 abbrev pub invariant-loop-place : goal.invariant-loop-place

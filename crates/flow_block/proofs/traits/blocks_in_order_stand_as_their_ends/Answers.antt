@@ -1,5 +1,13 @@
+use Rattle.flow_block.proofs.CopiesStand.{copies_stand_in_order}
+use Rattle.flow_block.proofs.PortsStand.{ports_stand_in_order}
 use Rattle.flow_block.proofs.StandsInOrder.{stands_in_order}
 use Rattle.flow_block.proofs.traits.blocks_in_order_stand_as_their_ends.Goals as goal
 
-pub returns : goal.returns
-returns c = stands_in_order
+pub returns-clause-exits : goal.returns-clause-exits
+returns-clause-exits c = stands_in_order
+
+pub returns-clause-copies : goal.returns-clause-copies
+returns-clause-copies c = copies_stand_in_order
+
+pub returns-clause-ports : goal.returns-clause-ports
+returns-clause-ports c = ports_stand_in_order
