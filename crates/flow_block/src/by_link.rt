@@ -1,5 +1,6 @@
 //! What a block does at a link that is named by its number: its place is looked for first.
-ghost use Rattle.std.specs.Prelude.{◌≡◌, ℕ, ◌<◌, ◌^◌, ◌==◌, cond, None, true, length, position, is_some, IfOk, IfSome, OnOk, OnErr};
+ghost use Rattle.std.specs.Prelude.{◌≡◌, ◌<◌, ◌^◌, ◌==◌, cond, None, length, position, is_some};
+ghost use Rattle.std.specs.Prelude.{IfOk, IfSome, OnOk, OnErr};
 ghost use Rattle.flow_link.specs.TargetCalls.{MayNote};
 ghost use Rattle.flow_link.specs.declared.traits.WishAnswer.TheVariants.{Held};
 ghost use Rattle.flow_intake.specs.ByLink.{place_of as port_place};
@@ -12,7 +13,8 @@ ghost use Rattle.flow_spread.specs.Spread.{next_place as next_copy};
 ghost use Rattle.flow_block.specs.Block.{with_copies};
 ghost use Rattle.flow_block.specs.JournalFits.{ports_due};
 ghost use Rattle.flow_block.specs.Traits.{carries, offers_over, may_take, gives_over, carries_copy, copies_over};
-ghost use Rattle.flow_block.specs.Traits.{offers_copy_at, may_take_copy, copies_home, port_shown, holds_at, port_into, wishes_at, wishing_port};
+ghost use Rattle.flow_block.specs.Traits.{offers_copy_at, may_take_copy, copies_home, port_shown, holds_at};
+ghost use Rattle.flow_block.specs.Traits.{port_into, wishes_at, wishing_port};
 
 use crate::block::Block;
 use crate::copies::{copies_weight, give_back};

@@ -6,11 +6,10 @@
 //!
 //! What a block does not know, these calls do not do: the function of one that has a function, and in which order messages
 //! came in over the ports of a batched join. Such a block makes nothing by itself.
-ghost use Rattle.std.specs.Prelude.{◌≡◌, ◌↔◌, ◌==◌, true, false, length, Err, OnOk, OnErr};
+ghost use Rattle.std.specs.Prelude.{◌≡◌, true, false, length, Err, OnOk, OnErr};
 ghost use Rattle.flow_link.specs.Plan.{is_broadcast};
 ghost use Rattle.flow_link.specs.declared.draft.BlockKind.TheVariants.{Buffer};
 ghost use Rattle.flow_outlet.specs.declared.fault.OutletFault.TheVariants.{Ids, Memory};
-ghost use Rattle.flow_block.specs.Peeks.{would_copy};
 ghost use Rattle.flow_block.specs.Traits.{makes_alone, makes_itself, makes_its_next, lacks_its_ids, shares};
 ghost use Rattle.flow_block.specs.Stands.{BlocksStandInOrder, CopiesStandInOrder, PortsStandInOrder};
 

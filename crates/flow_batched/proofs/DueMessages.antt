@@ -1,0 +1,335 @@
+-- What each call makes of the number of messages for which memory is set aside, and that a batched join has memory to note them.
+use Rattle.std.proofs.Common.{◌≡◌, ℕ, zero, suc, ◌+◌, ◌-◌, ◌<◌, ◌≤◌, ◌^◌, ◌==◌, ltb, Bool, true, false, not, ◌&&◌, cond, List, [], ◌∷◌, ◌++◌, length, set, take, Option, Some, None, is_some, unwrap_or, Result, Ok, Err, IfOk, OnOk, OnErr, inl, inr, pos, refl, ap, sym, subst, ◌∙◌, arith}
+use Rattle.std.proofs.lemmas.Bool.{and_parts, cases_lt}
+use Rattle.std.proofs.lemmas.List.{length-append}
+use Rattle.flow_value.specs.declared.value.Value.{Value}
+use Rattle.flow_value.specs.declared.value.Value.TheVariants.{Int}
+use Rattle.flow_value.specs.declared.message.MessageStatus.{MessageStatus}
+use Rattle.flow_value.specs.declared.message.MessageStatus.TheVariants as status
+use Rattle.flow_link.specs.declared.draft.BlockKind.{BlockKind}
+use Rattle.flow_link.specs.declared.draft.BlockKind.TheVariants.{BatchedJoin}
+use Rattle.flow_link.specs.declared.stage.Refusal.{Refusal}
+use Rattle.flow_link.specs.declared.stage.TargetStage.{TargetStage}
+use Rattle.flow_link.specs.declared.stage.TargetStage.TheVariants as target
+use Rattle.flow_link.specs.declared.trace.Outcome.TheVariants.{Faulted}
+use Rattle.flow_link.specs.declared.traits.WishAnswer.{WishAnswer}
+use Rattle.flow_link.specs.declared.traits.WishAnswer.TheVariants as answer
+use Rattle.flow_link.specs.Lists.{is_empty}
+use Rattle.flow_link.specs.Plan.{is_write_once}
+use Rattle.flow_link.specs.TargetCalls.{TargetCall, Wants, stage_noted}
+use Rattle.flow_intake.specs.Port.{EndState, PortState, fresh_end, end_in, link_in, stage_at, count_at, is_owed}
+use Rattle.flow_intake.specs.Calls.{next_place, put_stage, refused_by, message_of, gives_room, port_closes, is_postponed}
+use Rattle.flow_intake.specs.Queue.{without}
+use Rattle.flow_intake.specs.ByLink.{place_of, with_link_at, answered, closes_link, arrives, arrives_at, drops_at, next_wish, consumes_at, consumes_next}
+use Rattle.flow_group.specs.Group.{ArrivalsState, takes_from, drops_group}
+use Rattle.flow_outlet.specs.ByLink.{consumes, consumed}
+use Rattle.flow_spread.specs.ByLink.{place_of as copy_place, answered as copy_answered, gives_home}
+use Rattle.flow_spread.specs.Spread.{SpreadState, is_spread_free, prepares, offers}
+use Rattle.flow_block.specs.Block.{BlockState, port_in, port_at, with_port, held_by, stops_by, copies_taken, copies_at_once, copies_where, with_copies}
+use Rattle.flow_block.specs.Copies.{copies_weight}
+use Rattle.flow_block.specs.Groups.{makes_group}
+use Rattle.flow_block.specs.JournalFits.{port_due, ports_due}
+use Rattle.flow_block.specs.Traits.{Takes as BlockTakes, outcome_of, faults, shown_over, port_shown, port_into, target_over, with_port_of, names_itself, leads_to, wishing_port, wishes, holds_at, notes, shares, offer_next, offered_by, answered_by, may_take, gives_over, may_take_copy, copies_home, given_by}
+use Rattle.flow_block.proofs.MarksFit.{due_set, due_moved, due_map}
+use Rattle.flow_block.proofs.RoomBack.{due_back}
+use Rattle.flow_block.proofs.TargetStands.{found, at_place}
+use Rattle.flow_block.proofs.TargetMoves.{wanted_there, shown_wanted, wishing_is}
+use Rattle.flow_batched.specs.BatchedJoin.{JoinFits}
+
+-- At one port
+
+due_there : (k more fewer : ℕ) (stage : TargetStage) (ready : Bool) (port : PortState) → k < length port.ends
+    → cond (is_owed stage) 1 0 + cond ready 1 0 + fewer ≤ cond (is_owed (stage_at k port)) 1 0 + cond port.ready 1 0 + more
+    → count_at is_owed (put_stage k stage port.ends) + cond ready 1 0 + fewer ≤ port_due port + more
+due_there k more fewer stage ready port l one = due_moved k more fewer (record (end_in k port.ends) { stage = stage }) ready port l one
+
+count_more : (ends : List EndState) (link : ℕ) → count_at is_owed (ends ++ fresh_end link ∷ []) ≡ count_at is_owed ends
+count_more [] link = refl
+count_more (end ∷ ends) link = ap (λ (n : ℕ). cond (is_owed end.stage) 1 0 + n) (count_more ends link)
+
+-- an end comes to stand so, which may be a new one
+due_new : (link : ℕ) (stage : TargetStage) (port : PortState) (place : Option ℕ) → place_of link port.ends ≡ place
+    → count_at is_owed (put_stage (unwrap_or place (length port.ends)) stage (with_link_at place link port).ends) ≤ port_due port + 1
+due_new link stage port (Some k) at =
+    omega (arith, due_there k 1 0 stage false port (found link port.ends k at).0 (at_most stage))
+  where
+    at_most : (stage : TargetStage) → cond (is_owed stage) 1 0 + 0 + 0 ≤ cond (is_owed (stage_at k port)) 1 0 + cond port.ready 1 0 + 1
+    at_most stage = one (is_owed stage)
+      where
+        one : (b : Bool) → cond b 1 0 + 0 + 0 ≤ cond (is_owed (stage_at k port)) 1 0 + cond port.ready 1 0 + 1
+        one true = omega arith
+        one false = omega arith
+due_new link stage port None at =
+    let more = record port { ends = port.ends ++ fresh_end link ∷ [] } in
+    let near : length port.ends < length more.ends = omega (arith, length-append port.ends (fresh_end link ∷ [])) in
+    omega (arith, count_more port.ends link, due_there (length port.ends) 1 0 stage false more near (one (is_owed stage)))
+  where
+    one : (b : Bool) → cond b 1 0 + 0 + 0 ≤ cond (is_owed (stage_at (length port.ends) (record port { ends = port.ends ++ fresh_end link ∷ [] }))) 1 0 + cond port.ready 1 0 + 1
+    one true = omega arith
+    one false = omega arith
+
+refused_owes : (why : Option Refusal) → is_owed (refused_by why) ≡ false
+refused_owes None = refl
+refused_owes (Some _) = refl
+
+closes_due : (link : ℕ) (port : PortState) (place : Option ℕ) → place_of link port.ends ≡ place → port_due (closes_link place port) ≤ port_due port
+closes_due link port None at = omega arith
+closes_due link port (Some k) at =
+    omega (arith, due_there k 0 0 (refused_by port.refusing) port.ready port (found link port.ends k at).0 (rw (refused_owes port.refusing) (omega arith)))
+
+answer_due : (link header : ℕ) (how : MessageStatus) (port : PortState) → port_due (answered link header how port) ≤ port_due port + 1
+answer_due link header status.Accepted port = omega (arith, due_new link (target.Accepted header) port (place_of link port.ends) refl)
+answer_due link header status.Postponed port = omega (arith, due_new link (target.Postponed header) port (place_of link port.ends) refl)
+answer_due link header status.DecliningPermanently port = omega (arith, closes_due link port (place_of link port.ends) refl)
+answer_due link header status.Declined port = omega arith
+answer_due link header status.NotAvailable port = omega arith
+
+wanted_owes : (header : ℕ) (stage : TargetStage) → Wants header stage → is_owed stage ≡ true
+wanted_owes header (target.Accepted _) wants = refl
+wanted_owes header (target.Consuming _) wants = refl
+wanted_owes header (target.Claiming _) wants = refl
+wanted_owes header target.Free wants = absurd wants
+wanted_owes header (target.Offered _) wants = absurd wants
+wanted_owes header (target.Posted _) wants = absurd wants
+wanted_owes header (target.Postponed _) wants = absurd wants
+wanted_owes header (target.Asking _) wants = absurd wants
+wanted_owes header (target.Holding _) wants = absurd wants
+wanted_owes header (target.Arrived _) wants = absurd wants
+wanted_owes header (target.Hand _) wants = absurd wants
+wanted_owes header (target.Refused _) wants = absurd wants
+wanted_owes header (target.Ended _) wants = absurd wants
+
+refused_wants : (header : ℕ) (why : Option Refusal) → Wants header (refused_by why) → ⊥
+refused_wants header None wants = wants
+refused_wants header (Some _) wants = wants
+
+arrive_due : (link header : ℕ) (value : Value) (port : PortState) (place : Option ℕ) → place_of link port.ends ≡ place
+    → Wants header (port_shown place port) → port_due (arrives_at place value port) + 1 ≤ port_due port
+arrive_due link header value port None at wants = absurd (refused_wants header port.refusing wants)
+arrive_due link header value port (Some k) at wants =
+    omega (
+      arith,
+      due_there k 0 1 target.Free port.ready port (found link port.ends k at).0
+          (rw (wanted_owes header (stage_at k port) wants) (omega arith)),
+    )
+
+postponed_owes : (stage : TargetStage) → is_postponed stage ≡ true → is_owed stage ≡ true
+postponed_owes (target.Postponed _) e = refl
+postponed_owes _ e = absurd (cc)
+
+consume_where : (port : PortState) (k id : ℕ) (postponed : Bool) → is_postponed (stage_at k port) ≡ postponed → k < length port.ends
+    → port_due (cond postponed (record port { ends = put_stage k (target.Consuming id) port.ends; queue = without k port.queue }) port) ≤ port_due port
+consume_where port k id true is l =
+    omega (arith, due_there k 0 0 (target.Consuming id) port.ready port l (rw (postponed_owes (stage_at k port) is) (omega arith)))
+consume_where port k id false is l = omega arith
+
+consume_due : (port : PortState) (place : Option ℕ) → names_itself place port ≡ true → port_due (consumes_at place port) ≤ port_due port
+consume_due port None own = absurd (cc)
+consume_due port (Some k) own =
+    let at = at_place k (place_of (link_in k port.ends) port.ends) own in
+    consume_where port k (message_of (stage_at k port)) (is_postponed (stage_at k port)) refl (found (link_in k port.ends) port.ends k at).0
+
+held_owes : (stage : TargetStage) → is_owed (stage_noted answer.Held stage) ≡ is_owed stage
+held_owes (target.Asking _) = refl
+held_owes stage = refl
+
+hold_due : (link : ℕ) (port : PortState) (place : Option ℕ) → place_of link port.ends ≡ place → port_due (holds_at place port) ≤ port_due port
+hold_due link port None at = omega arith
+hold_due link port (Some k) at =
+    omega (
+      arith,
+      due_there k 0 0 (stage_noted answer.Held (stage_at k port)) port.ready port (found link port.ends k at).0
+          (rw (held_owes (stage_at k port)) (omega arith)),
+    )
+
+drop_due : (link : ℕ) (port : PortState) (place : Option ℕ) → place_of link port.ends ≡ place → port_due (drops_at place port) ≤ port_due port
+drop_due link port None at = omega arith
+drop_due link port (Some k) at = omega (arith, due_there k 0 0 target.Free port.ready port (found link port.ends k at).0 (omega arith))
+
+note_due : (told : WishAnswer) (link : ℕ) (port : PortState) → port_due (notes told link port) ≤ port_due port
+note_due answer.Coming link port = omega arith
+note_due answer.Held link port = hold_due link port (place_of link port.ends) refl
+note_due answer.NotAvailable link port = drop_due link port (place_of link port.ends) refl
+note_due answer.Withdrawn link port = drop_due link port (place_of link port.ends) refl
+
+-- At all ports
+
+set_due : (ports : List PortState) (p more fewer : ℕ) (new : PortState) → port_due new + fewer ≤ port_due (port_in ports p) + more
+    → p < length ports → ports_due (set ports p new) + fewer ≤ ports_due ports + more
+set_due ports p more fewer new one l = omega (arith, one, due_set ports p new l)
+
+beyond : (ports : List PortState) (p : ℕ) (new : PortState) → length ports ≤ p → set ports p new ≡ ports
+beyond [] p new l = refl
+beyond (port ∷ ports) zero new l = absurd (omega (arith, l))
+beyond (port ∷ ports) (suc p) new l = ap (λ (rest : List PortState). port ∷ rest) (beyond ports p new (omega (arith, l)))
+
+-- a change that sets aside memory for so many messages more at most
+change_due : (ports : List PortState) (p more : ℕ) (new : PortState) → port_due new ≤ port_due (port_in ports p) + more
+    → ports_due (set ports p new) ≤ ports_due ports + more
+change_due ports p more new one = elim (cases_lt p (length ports)) [
+  | inl near ↦ omega (arith, set_due ports p more 0 new (omega (arith, one)) near)
+  | inr far ↦ rw (beyond ports p new far) (omega arith)
+]
+
+first_due : (order : List ℕ) (p : ℕ) (ports : List PortState) → ports_due (takes_from p order ports) ≡ ports_due ports
+first_due order p [] = refl
+first_due order p (port ∷ ports) = ap (λ (n : ℕ). port_due port + n) (first_due order (suc p) ports)
+
+-- The join fits still
+
+module _ (old new : BlockState) (order : ArrivalsState) (fits : JoinFits old order) where
+  abbrev Fits : Type 0
+  Fits = JoinFits new order
+
+  changed : (block : BlockState) → new ≡ block → block.kind ≡ old.kind → ports_due block.ports ≤ ports_due old.ports → Fits
+  changed block is kind due = record {
+    kind_is = ap (λ (b : BlockState). b.kind) is ∙ kind ∙ fits.kind_is;
+    room = let same = ap (λ (b : BlockState). ports_due b.ports) is in let room = fits.room in omega (arith, same, due, room);
+  }
+
+  -- room comes back for what it copies, and nothing else changes at the ports
+  copied_due : (copies : SpreadState) → ports_due (with_copies copies old).ports ≤ ports_due old.ports
+  copied_due copies =
+      let same = due_map (gives_room (copies_weight old.copies - copies_weight copies)) old.ports (λ port. refl) in omega (arith, same)
+
+  fault_where : (number : ℕ) (ended : Bool) → new ≡ cond ended old (stops_by (Faulted number) old) → Fits
+  fault_where number true is = changed old is refl (omega arith)
+  fault_where number false is =
+      changed (stops_by (Faulted number) old) is refl (let same = due_map port_closes old.ports (λ port. refl) in omega (arith, same))
+
+  pub fault_fits : (number : ℕ) → new ≡ faults number old → Fits
+  fault_fits number is = fault_where number (is_some (outcome_of old)) is
+
+  pub complete_fits : (port : ℕ) → new ≡ with_port port port_closes old → Fits
+  complete_fits port is =
+      changed (with_port port port_closes old) is refl
+      (let due = change_due old.ports port 0 (port_closes (port_at port old)) (omega arith) in omega (arith, due))
+
+  pub make_fits : (size : ℕ) (arrived : List ℕ) → new ≡ makes_group size 0 arrived old → Fits
+  make_fits size arrived is =
+      changed (makes_group size 0 arrived old) is refl (let same = first_due (take size arrived) 0 old.ports in omega (arith, same))
+
+  offered_where : (one : Bool) (place : Option ℕ) → new ≡ offered_by one place old → Fits
+  offered_where true place is = changed (offered_by true place old) is refl (omega arith)
+  offered_where false None is = changed old is refl (omega arith)
+  offered_where false (Some k) is =
+      changed (offered_by false (Some k) old) is refl (copied_due (offers k (prepares k old.copies)))
+
+  pub offer_fits : new ≡ offered_by (shares old) (offer_next old) old → Fits
+  offer_fits is = offered_where (shares old) (offer_next old) is
+
+  answered_where : (one : Bool) (link header : ℕ) (how : MessageStatus) → new ≡ answered_by one link header how old → Fits
+  answered_where true link header how is = changed (answered_by true link header how old) is refl (omega arith)
+  answered_where false link header how is =
+      changed (answered_by false link header how old) is refl
+      (copied_due (copy_answered how header (copy_place link old.copies.ends) old.copies))
+
+  pub answer_fits : (link header : ℕ) (how : MessageStatus) → new ≡ answered_by (shares old) link header how old → Fits
+  answer_fits link header how is = answered_where (shares old) link header how is
+
+  head_where : (take : Bool) (link header : ℕ) → new ≡ cond take (gives_over link header old) old → Fits
+  head_where true link header is =
+      changed (gives_over link header old) is refl
+      (let same = due_back (consumes link header old.exits) old.copies old.kind (consumed header old.exits) old.ports in omega (arith, same))
+  head_where false link header is = changed old is refl (omega arith)
+
+  copy_where : (take : Bool) (link header : ℕ) → new ≡ cond take (copies_home link header old) old → Fits
+  copy_where true link header is =
+      changed (copies_home link header old) is refl (copied_due (gives_home (copy_place link old.copies.ends) header old.copies))
+  copy_where false link header is = changed old is refl (omega arith)
+
+  given_where : (one : Bool) (link header : ℕ) → new ≡ given_by one link header old → Fits
+  given_where true link header is = head_where (may_take link header old.exits) link header is
+  given_where false link header is = copy_where (may_take_copy link header old.copies) link header is
+
+  pub give_fits : (link header : ℕ) → new ≡ given_by (shares old) link header old → Fits
+  give_fits link header is = given_where (shares old) link header is
+
+  wish_where : (place : Option ℕ) → wishing_port old.ports ≡ place → new ≡ wishes place old → Fits
+  wish_where None at is = changed old is refl (omega arith)
+  wish_where (Some p) at is =
+      let wishing = wishing_is old.ports p at in
+      let port = port_at p old in
+      let own = (and_parts (names_itself (next_place port) port) (leads_to p (next_wish port) old.ports) wishing.wishes).0 in
+      changed (wishes (Some p) old) is refl
+      (let due = change_due old.ports p 0 (consumes_next port) (omega (arith, consume_due port (next_place port) own)) in omega (arith, due))
+
+  pub wish_fits : new ≡ wishes (wishing_port old.ports) old → Fits
+  wish_fits is = wish_where (wishing_port old.ports) refl is
+
+  pub note_fits : (link : ℕ) (told : WishAnswer) → new ≡ with_port_of link (notes told link) old → Fits
+  note_fits link told is =
+      let p = port_into link old.ports in
+      changed (with_port_of link (notes told link) old) is refl
+      (let due = change_due old.ports p 0 (notes told link (port_at p old)) (omega (arith, note_due told link (port_at p old))) in omega (arith, due))
+
+-- a group is made, or is not for want of ids or memory
+pub group_fits : {E : Type 0} (old new : BlockState) (order after : ArrivalsState) (size : ℕ) (arrived : List ℕ) (result : Result Unit E)
+    → JoinFits old order → OnOk result (new ≡ makes_group size 0 arrived old) → OnOk result (after ≡ drops_group size order)
+    → OnErr result (new ≡ old) → OnErr result (after ≡ order) → JoinFits new after
+group_fits old new order after size arrived (Ok _) fits done dropped kept order_kept =
+    let made = make_fits old new order fits size arrived done in
+    record { kind_is = made.kind_is; room = let same = ap (λ (o : ArrivalsState). o.room) dropped in let room = made.room in omega (arith, same, room) }
+group_fits old new order after size arrived (Err _) fits done dropped kept order_kept =
+    subst (λ (o : ArrivalsState). JoinFits new o) (sym order_kept) (subst (λ (b : BlockState). JoinFits b order) (sym kept) fits)
+
+-- where there is room for one more, an offer may be answered
+pub offered_fits : {E : Type 0} (old new : BlockState) (order : ArrivalsState) (link header : ℕ) (may_postpone : Bool) (result : Result MessageStatus E)
+    → old.kind ≡ BatchedJoin → ports_due old.ports + 1 ≤ order.room
+    → IfOk result (λ how. BlockTakes old (TargetCall.offered link header may_postpone how) new) → OnErr result (new ≡ old) → JoinFits new order
+offered_fits old new order link header may_postpone (Ok how) joins room takes kept =
+    let p = port_into link old.ports in
+    let due = change_due old.ports p 1 (answered link header how (port_at p old)) (answer_due link header how (port_at p old)) in
+    record {
+      kind_is = ap (λ (b : BlockState). b.kind) takes.1 ∙ joins;
+      room = let same = ap (λ (b : BlockState). ports_due b.ports) takes.1 in omega (arith, same, due, room);
+    }
+offered_fits old new order link header may_postpone (Err _) joins room takes kept = record {
+  kind_is = ap (λ (b : BlockState). b.kind) kept ∙ joins;
+  room = let same = ap (λ (b : BlockState). ports_due b.ports) kept in omega (arith, same, room);
+}
+
+never_once : (kind : BlockKind) → kind ≡ BatchedJoin → is_write_once kind ≡ false
+never_once kind is = ap is_write_once is
+
+-- a message comes: it copies none
+copies_none : (block : BlockState) → block.kind ≡ BatchedJoin → copies_taken block ≡ block
+copies_none block is =
+    let never : copies_at_once block ≡ false =
+    ap (λ (once : Bool). once && length block.ports == 1 && not (is_empty (held_by block)) && is_spread_free block.copies
+    && ltb (block.copies.id + 1) (2 ^ 59)) (never_once block.kind is) in
+    ap (λ (once : Bool). copies_where once block) never
+
+module _ (old : BlockState) (order : ArrivalsState) (fits : JoinFits old order) (link header : ℕ) (wants : Wants header (target_over old.ports link)) where
+  abbrev into : ℕ
+  into = port_into link old.ports
+
+  there : into < length old.ports
+  there = wanted_there header old.ports link wants
+
+  mine : Wants header (shown_over (port_at into old) link)
+  mine = shown_wanted header old.ports link wants
+
+  fewer : (value : Value) → ports_due (set old.ports into (arrives link value (port_at into old))) + 1 ≤ ports_due old.ports
+  fewer value =
+      let one = arrive_due link header value (port_at into old) (place_of link (port_at into old).ends) refl mine in
+      omega (arith, set_due old.ports into 0 1 (arrives link value (port_at into old)) (omega (arith, one)) there)
+
+  pub some_room : 0 < order.room
+  some_room =
+      let room = fits.room in
+      let due = fewer (Int (pos 0)) in
+      omega (arith, room, due)
+
+  pub arrive_fits : (value : Value) (new : BlockState) (port : ℕ) → new ≡ copies_taken (with_port_of link (arrives link value) old)
+      → JoinFits new (record { ports = order.ports ++ port ∷ []; room = order.room - 1 })
+  arrive_fits value new port is =
+      let same : new ≡ with_port_of link (arrives link value) old = is ∙ copies_none (with_port_of link (arrives link value) old) fits.kind_is in
+      record {
+        kind_is = ap (λ (b : BlockState). b.kind) same ∙ fits.kind_is;
+        room =
+            let due = ap (λ (b : BlockState). ports_due b.ports) same in
+            let less = fewer value in
+            let room = fits.room in
+            omega (arith, due, less, room);
+      }

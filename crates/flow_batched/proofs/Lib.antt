@@ -1,0 +1,2 @@
+pub mod DueMessages
+pub mod GroupsGoOn

@@ -1,0 +1,22 @@
+use Rattle.std.proofs.Common.{Option, ap, sym, subst, ◌∙◌}
+use Rattle.flow_link.specs.BlockCalls.{Stays}
+use Rattle.flow_link.specs.declared.trace.Outcome.{Outcome}
+use Rattle.flow_block.specs.Traits.{outcome_of}
+use Rattle.flow_batched.specs.BatchedJoin.{JoinState}
+use Rattle.flow_batched.proofs.DueMessages.{group_fits}
+use Rattle.flow_batched.proofs.GroupsGoOn.{grouping_goes_on}
+use Rattle.flow_batched.proofs.traits.BatchedJoinDataflowBlock.make.Goals as goal
+
+pub invariant_of-self : goal.invariant_of-self
+invariant_of-self c =
+    let block = c.self.inside.block in
+    let order = c.self.inside.order in
+    let made = c.make_group.ensures in
+    group_fits block c.make_group.new.self order c.make_group.new.order block.size order.ports c.make_group.result c.self.invariant made.done
+    made.dropped made.kept made.order_kept
+
+pub returns-clause-stays : goal.returns-clause-stays
+returns-clause-stays c =
+    let same = ap (λ (join : JoinState). outcome_of join.block) c.self.view_is in
+    let going = grouping_goes_on c.self.inside.block c.self.invariant.kind_is (sym c.if-not-may_make.ensures) in
+    subst (λ (before : Option Outcome). Stays before (outcome_of c.make_group.new.self)) (sym (sym same ∙ going)) tt

@@ -1,0 +1,25 @@
+-- A batched join as plain data: its block, and of each message that is in no group yet the port at which it came in.
+use Rattle.std.specs.Prelude.{◌≡◌, ℕ, ◌≤◌, List, []}
+use Rattle.flow_link.specs.declared.draft.BlockKind.TheVariants as kind
+use Rattle.flow_intake.specs.Port.{PortState}
+use Rattle.flow_outlet.specs.declared.ends.LinkRule.{LinkRule}
+use Rattle.flow_group.specs.Group.{ArrivalsState}
+use Rattle.flow_block.specs.Block.{BlockState}
+use Rattle.flow_block.specs.BlockFits.{fresh_block}
+use Rattle.flow_block.specs.JournalFits.{ports_due}
+
+pub record JoinState : Type 0 where
+  pub block : BlockState
+  -- oldest first
+  pub order : List ℕ
+
+-- what holds of each, whatever is called: memory is set aside to note each message that may come
+pub record JoinFits (block : BlockState) (order : ArrivalsState) : Type 0 where
+  pub kind_is : block.kind ≡ kind.BatchedJoin
+  pub room : ports_due block.ports ≤ order.room
+
+abbrev pub fresh_join : ℕ → List PortState → List LinkRule → JoinState
+fresh_join size ports rules = record { block = fresh_block kind.BatchedJoin 1 size ports rules; order = [] }
+
+abbrev pub with_block : BlockState → JoinState → JoinState
+with_block block join = record join { block = block }

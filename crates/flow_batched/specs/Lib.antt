@@ -1,0 +1,2 @@
+pub mod BatchedJoin
+pub mod Calls

@@ -1,0 +1,75 @@
+//! A batched join: its block, and the order in which its messages came in.
+ghost use Rattle.std.specs.Prelude.{◌≡◌, true, length, MatchResult};
+ghost use Rattle.flow_block.specs.Peeks.{holds_nothing};
+ghost use Rattle.flow_block.specs.JournalFits.{ports_due};
+ghost use Rattle.flow_batched.specs.BatchedJoin.{fresh_join};
+
+use flow_block::Block;
+use flow_group::Arrivals;
+use flow_intake::Intake;
+use flow_link::BlockKind;
+use flow_outlet::LinkRule;
+use flow_value::Value;
+use std::alloc::Global;
+use std::collections::VecDeque;
+use std::marker::Model;
+
+/// A batched join that stands by itself. Contracts see a `JoinState`.
+///
+/// Microsoft: `BatchedJoinBlock`.
+#[derive(Drop)]
+pub struct BatchedJoin {
+    pub(crate) block: Block,
+    /// The port of each message that is in no group yet.
+    pub(crate) order: Arrivals,
+}
+
+impl Model for BatchedJoin {
+    ghost use Rattle.std.specs.Coded.{codes};
+    ghost use Rattle.flow_value.specs.contracts.value.Value as content;
+    ghost use Rattle.flow_batched.specs.BatchedJoin.{JoinState, JoinFits};
+
+    ghost Value = { JoinState };
+
+    ghost coded = { Prim.hlevel (codes, content.the_row.coded) };
+
+    ghost view = { λ j. record { block = j.block; order = j.order.ports } };
+
+    ghost invariant = { λ j. JoinFits j.block j.order };
+}
+
+impl BatchedJoin {
+    /// A batched join with groups of so many messages, with these ports, at which nothing waits and nothing is under way,
+    /// and with these links out of it. Where there is no memory for it, its parts come back.
+    pub fn new(
+        alloc: Global,
+        size: u32,
+        ports: Vec<Intake>,
+        rules: Vec<LinkRule>,
+    ) -> Result<BatchedJoin, (Vec<Intake>, Vec<LinkRule>)>
+        requires waits { holds_nothing ports.items ≡ true }
+        requires due { ports_due ports.items ≡ 0 }
+        ensures { MatchResult result (λ join. join ≡ fresh_join size ports.items rules.items)
+            (λ back. (back.0 ≡ ports) × (back.1 ≡ rules)) }
+    {
+        let block = Block::new(alloc, BlockKind::BatchedJoin, 1, size, ports, rules)?;
+        Ok(BatchedJoin {
+            block,
+            order: Arrivals::new(alloc),
+        })
+    }
+
+    /// The groups that it has to give, oldest first: of each a row that has for each port a row of its messages.
+    pub fn left(&self) -> &VecDeque<Value>
+        ensures { result.now.items ≡ self.now.block.exits.left }
+    {
+        self.block.left()
+    }
+
+    /// How many messages are in no group yet.
+    pub fn waiting(&self) -> usize
+        ensures { result ≡ length self.now.order }
+    {
+        self.order.len()
+    }
+}
