@@ -1,18 +1,18 @@
 //! Blocks by the calls that all blocks have in common. The test carries what one says to the other.
 ghost use Rattle.std.specs.Prelude.{◌≡◌, [], ◌∷◌, IfOk, OnOk, None, true, false};
-ghost use Rattle.flow_value.specs.declared.when.When.TheVariants.{Any};
 ghost use Rattle.flow_intake.specs.Port.{fresh_port};
 ghost use Rattle.flow_link.specs.declared.stage.TargetStage.TheVariants.{Free};
 ghost use Rattle.flow_block.specs.BlockFits.{fresh_block};
 ghost use Rattle.flow_block.specs.Traits.{target_over};
+ghost use Rattle.flow_part_rows.specs.Driven.{link_to};
 
+use crate::shared::{is_row, link};
 use flow_block::Block;
 use flow_intake::Intake;
 use flow_link::{
     BlockKind, Completing, DataflowBlock, Outcome, SourceBlock, TargetBlock, Wish, WishAnswer,
 };
-use flow_outlet::LinkRule;
-use flow_value::{MessageHeader, MessageStatus, Parcel, Value, When};
+use flow_value::{MessageHeader, MessageStatus, Parcel, Value};
 use std::alloc::Global;
 use std::process::Abort;
 use std::test::Fail;
@@ -21,19 +21,12 @@ use std::test::Fail;
 /// and with one link out of it, number 7.
 fn block(alloc: Global, kind: BlockKind, size: u32, capacity: Option<u32>) -> Result<Block, Fail>
     ensures { IfOk result (λ block. block ≡ fresh_block kind 1 size (fresh_port capacity ∷ [])
-        (record { id = 7; when = Any; max = None; passes = true; steady = false; sole = false } ∷ [])) }
+        (link_to 7 ∷ [])) }
 {
     let mut ports = Vec::new(alloc);
     ports.push(Intake::new(alloc, capacity))?;
     let mut rules = Vec::new(alloc);
-    rules.push(LinkRule {
-        id: 7,
-        when: When::Any,
-        max: None,
-        passes: true,
-        steady: false,
-        sole: false,
-    })?;
+    rules.push(link(7))?;
     Block::new(alloc, kind, 1, size, ports, rules).map_err(|_| Fail::from("out of memory"))
 }
 
@@ -144,13 +137,10 @@ fn take(
 
 /// Whether the block has one row to give first, of these numbers.
 fn has_row(block: &Block, numbers: &[i64]) -> bool {
-    let Some(Value::Row(row)) = block.left().front() else {
-        return false;
-    };
-    row.items()
-        .iter()
-        .map(Value::as_int)
-        .eq(numbers.iter().copied().map(Some))
+    match block.left().front() {
+        Some(row) => is_row(row, numbers),
+        None => false,
+    }
 }
 
 #[test]

@@ -6,10 +6,14 @@ mod blocks;
 #[cfg(test)]
 mod check;
 #[cfg(test)]
+mod driven;
+#[cfg(test)]
 mod intake;
 #[cfg(test)]
 mod links;
 #[cfg(test)]
 mod outlet;
+#[cfg(test)]
+mod shared;
 #[cfg(test)]
 mod spread;

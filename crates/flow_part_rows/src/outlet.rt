@@ -1,6 +1,7 @@
 //! An outlet by itself, with the test in the place of its targets.
-use flow_outlet::{LinkRule, Outlet, OutletFault};
-use flow_value::{MAX_ID, MessageHeader, MessageStatus, Value, When};
+use crate::shared::link;
+use flow_outlet::{Outlet, OutletFault};
+use flow_value::{MAX_ID, MessageHeader, MessageStatus, Value};
 use std::alloc::{AllocError, Global};
 use std::test::Fail;
 
@@ -58,18 +59,6 @@ const CALLS: &[(Call, Done)] = &[
     (Call::Put(&[7], 1), Done::NoIds),
     (Call::PutOne(7, 1), Done::NoIds),
 ];
-
-/// A link that carries every message, to a target that may put it off.
-fn link(id: usize) -> LinkRule {
-    LinkRule {
-        id,
-        when: When::Any,
-        max: None,
-        passes: true,
-        steady: false,
-        sole: false,
-    }
-}
 
 fn values_of(alloc: Global, numbers: &[i64]) -> Result<Vec<Value>, AllocError> {
     let mut values = Vec::new(alloc);

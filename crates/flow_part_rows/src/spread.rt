@@ -1,21 +1,9 @@
 //! A spread by itself, with the test in the place of its targets.
-use flow_outlet::LinkRule;
+use crate::shared::link;
 use flow_spread::Spread;
-use flow_value::{MessageHeader, MessageStatus, Value, When};
+use flow_value::{MessageHeader, MessageStatus, Value};
 use std::alloc::Global;
 use std::test::Fail;
-
-/// A link that carries every message, to a target that may put it off.
-fn link(id: usize) -> LinkRule {
-    LinkRule {
-        id,
-        when: When::Any,
-        max: None,
-        passes: true,
-        steady: false,
-        sole: false,
-    }
-}
 
 /// A spread over the links 0 and 1, whose next id is 1.
 fn spread(alloc: Global) -> Result<Spread, Fail> {
