@@ -1,7 +1,7 @@
 -- What each call makes of the number of messages for which memory is set aside, and that a batched join has memory to note them.
-use Rattle.std.proofs.Common.{◌≡◌, ℕ, zero, suc, ◌+◌, ◌-◌, ◌<◌, ◌≤◌, ◌^◌, ◌==◌, ltb, Bool, true, false, not, ◌&&◌, cond, List, [], ◌∷◌, ◌++◌, length, set, take, Option, Some, None, is_some, unwrap_or, Result, Ok, Err, IfOk, OnOk, OnErr, inl, inr, pos, refl, ap, sym, subst, ◌∙◌, arith}
+use Rattle.std.proofs.Common.{◌≡◌, ℕ, zero, suc, ◌+◌, ◌-◌, ◌<◌, ◌≤◌, ◌^◌, ◌==◌, ltb, Bool, true, false, not, ◌&&◌, cond, List, [], ◌∷◌, ◌++◌, length, set, get_or, take, drop, Option, Some, None, is_some, unwrap_or, Result, Ok, Err, IfOk, OnOk, OnErr, inl, inr, pos, refl, ap, sym, subst, ◌∙◌, arith}
 use Rattle.std.proofs.lemmas.Bool.{and_parts, cases_lt}
-use Rattle.std.proofs.lemmas.List.{length-append}
+use Rattle.std.proofs.lemmas.List.{length-append, length-map}
 use Rattle.flow_value.specs.declared.value.Value.{Value}
 use Rattle.flow_value.specs.declared.value.Value.TheVariants.{Int}
 use Rattle.flow_value.specs.declared.message.MessageStatus.{MessageStatus}
@@ -18,7 +18,7 @@ use Rattle.flow_link.specs.Lists.{is_empty}
 use Rattle.flow_link.specs.Plan.{is_write_once}
 use Rattle.flow_link.specs.TargetCalls.{TargetCall, Wants, stage_noted}
 use Rattle.flow_intake.specs.Port.{EndState, PortState, fresh_end, end_in, link_in, stage_at, count_at, is_owed}
-use Rattle.flow_intake.specs.Calls.{next_place, put_stage, refused_by, message_of, gives_room, port_closes, is_postponed}
+use Rattle.flow_intake.specs.Calls.{next_place, put_stage, refused_by, message_of, consumes as port_consumes, gives_room, port_closes, is_postponed}
 use Rattle.flow_intake.specs.Queue.{without}
 use Rattle.flow_intake.specs.ByLink.{place_of, with_link_at, answered, closes_link, arrives, arrives_at, drops_at, next_wish, consumes_at, consumes_next}
 use Rattle.flow_group.specs.Group.{ArrivalsState, takes_from, drops_group}
@@ -34,7 +34,11 @@ use Rattle.flow_block.proofs.MarksFit.{due_set, due_moved, due_map}
 use Rattle.flow_block.proofs.RoomBack.{due_back}
 use Rattle.flow_block.proofs.TargetStands.{found, at_place}
 use Rattle.flow_block.proofs.TargetMoves.{wanted_there, shown_wanted, wishing_is}
-use Rattle.flow_batched.specs.BatchedJoin.{JoinFits}
+use Rattle.flow_batched.specs.BatchedJoin.{waits, Tells, JoinFits}
+use Rattle.flow_block.specs.BlockFits.{fresh_block}
+use Rattle.flow_block.specs.Peeks.{holds_nothing}
+use Rattle.flow_outlet.specs.declared.ends.LinkRule.{LinkRule}
+use Rattle.flow_batched.proofs.OrderTells.{tells_fresh, waits_map, waits_each, waits_at, waits_set, waits_kept, tells_more, tells_group}
 
 -- At one port
 
@@ -152,6 +156,51 @@ note_due answer.Held link port = hold_due link port (place_of link port.ends) re
 note_due answer.NotAvailable link port = drop_due link port (place_of link port.ends) refl
 note_due answer.Withdrawn link port = drop_due link port (place_of link port.ends) refl
 
+-- What waits at it stays
+
+known_waits : (link : ℕ) (port : PortState) (place : Option ℕ) → (with_link_at place link port).waiting ≡ port.waiting
+known_waits link port None = refl
+known_waits link port (Some k) = refl
+
+closes_waits : (place : Option ℕ) (port : PortState) → (closes_link place port).waiting ≡ port.waiting
+closes_waits None port = refl
+closes_waits (Some k) port = refl
+
+answer_waits : (link header : ℕ) (how : MessageStatus) (port : PortState) → (answered link header how port).waiting ≡ port.waiting
+answer_waits link header status.Accepted port = known_waits link port (place_of link port.ends)
+answer_waits link header status.Postponed port = known_waits link port (place_of link port.ends)
+answer_waits link header status.DecliningPermanently port = closes_waits (place_of link port.ends) port
+answer_waits link header status.Declined port = refl
+answer_waits link header status.NotAvailable port = refl
+
+consume_kept : (postponed : Bool) (k : ℕ) (port : PortState) → (cond postponed (port_consumes k port) port).waiting ≡ port.waiting
+consume_kept true k port = refl
+consume_kept false k port = refl
+
+consume_waits : (port : PortState) (place : Option ℕ) → (consumes_at place port).waiting ≡ port.waiting
+consume_waits port None = refl
+consume_waits port (Some k) = consume_kept (is_postponed (stage_at k port)) k port
+
+hold_waits : (port : PortState) (place : Option ℕ) → (holds_at place port).waiting ≡ port.waiting
+hold_waits port None = refl
+hold_waits port (Some k) = refl
+
+drop_waits : (port : PortState) (place : Option ℕ) → (drops_at place port).waiting ≡ port.waiting
+drop_waits port None = refl
+drop_waits port (Some k) = refl
+
+note_waits : (told : WishAnswer) (link : ℕ) (port : PortState) → (notes told link port).waiting ≡ port.waiting
+note_waits answer.Coming link port = refl
+note_waits answer.Held link port = hold_waits port (place_of link port.ends)
+note_waits answer.NotAvailable link port = drop_waits port (place_of link port.ends)
+note_waits answer.Withdrawn link port = drop_waits port (place_of link port.ends)
+
+-- one more waits there
+arrive_waits : (link header : ℕ) (value : Value) (port : PortState) (place : Option ℕ) → place_of link port.ends ≡ place
+    → Wants header (port_shown place port) → length (arrives_at place value port).waiting ≡ length port.waiting + 1
+arrive_waits link header value port None at wants = absurd (refused_wants header port.refusing wants)
+arrive_waits link header value port (Some k) at wants = omega (arith, length-append port.waiting (value ∷ []))
+
 -- At all ports
 
 set_due : (ports : List PortState) (p more fewer : ℕ) (new : PortState) → port_due new + fewer ≤ port_due (port_in ports p) + more
@@ -175,15 +224,24 @@ first_due : (order : List ℕ) (p : ℕ) (ports : List PortState) → ports_due 
 first_due order p [] = refl
 first_due order p (port ∷ ports) = ap (λ (n : ℕ). port_due port + n) (first_due order (suc p) ports)
 
+-- Nothing has come in, and nothing is under way
+
+pub fresh_fits : (size : ℕ) (ports : List PortState) (rules : List LinkRule) → holds_nothing ports ≡ true → ports_due ports ≡ 0
+    → JoinFits (fresh_block BatchedJoin 1 size ports rules) (record { ports = []; room = 0 })
+fresh_fits size ports rules none due = record { kind_is = refl; tells = tells_fresh ports none; room = omega (arith, due) }
+
 -- The join fits still
 
 module _ (old new : BlockState) (order : ArrivalsState) (fits : JoinFits old order) where
   abbrev Fits : Type 0
   Fits = JoinFits new order
 
-  changed : (block : BlockState) → new ≡ block → block.kind ≡ old.kind → ports_due block.ports ≤ ports_due old.ports → Fits
-  changed block is kind due = record {
+  -- the same waits at each port, and no more may come
+  changed : (block : BlockState) → new ≡ block → block.kind ≡ old.kind → waits block.ports ≡ waits old.ports
+      → ports_due block.ports ≤ ports_due old.ports → Fits
+  changed block is kind same_waits due = record {
     kind_is = ap (λ (b : BlockState). b.kind) is ∙ kind ∙ fits.kind_is;
+    tells = subst (λ (ns : List ℕ). Tells order.ports ns) (sym (ap (λ (b : BlockState). waits b.ports) is ∙ same_waits)) fits.tells;
     room = let same = ap (λ (b : BlockState). ports_due b.ports) is in let room = fits.room in omega (arith, same, due, room);
   }
 
@@ -192,36 +250,36 @@ module _ (old new : BlockState) (order : ArrivalsState) (fits : JoinFits old ord
   copied_due copies =
       let same = due_map (gives_room (copies_weight old.copies - copies_weight copies)) old.ports (λ port. refl) in omega (arith, same)
 
+  copied_waits : (copies : SpreadState) → waits (with_copies copies old).ports ≡ waits old.ports
+  copied_waits copies = waits_map (gives_room (copies_weight old.copies - copies_weight copies)) old.ports (λ port. refl)
+
   fault_where : (number : ℕ) (ended : Bool) → new ≡ cond ended old (stops_by (Faulted number) old) → Fits
-  fault_where number true is = changed old is refl (omega arith)
+  fault_where number true is = changed old is refl refl (omega arith)
   fault_where number false is =
-      changed (stops_by (Faulted number) old) is refl (let same = due_map port_closes old.ports (λ port. refl) in omega (arith, same))
+      changed (stops_by (Faulted number) old) is refl (waits_map port_closes old.ports (λ port. refl)) (let same = due_map port_closes old.ports (λ port. refl) in omega (arith, same))
 
   pub fault_fits : (number : ℕ) → new ≡ faults number old → Fits
   fault_fits number is = fault_where number (is_some (outcome_of old)) is
 
   pub complete_fits : (port : ℕ) → new ≡ with_port port port_closes old → Fits
   complete_fits port is =
-      changed (with_port port port_closes old) is refl
+      changed (with_port port port_closes old) is refl (waits_kept old.ports port (port_closes (port_at port old)) refl)
       (let due = change_due old.ports port 0 (port_closes (port_at port old)) (omega arith) in omega (arith, due))
 
-  pub make_fits : (size : ℕ) (arrived : List ℕ) → new ≡ makes_group size 0 arrived old → Fits
-  make_fits size arrived is =
-      changed (makes_group size 0 arrived old) is refl (let same = first_due (take size arrived) 0 old.ports in omega (arith, same))
-
   offered_where : (one : Bool) (place : Option ℕ) → new ≡ offered_by one place old → Fits
-  offered_where true place is = changed (offered_by true place old) is refl (omega arith)
-  offered_where false None is = changed old is refl (omega arith)
+  offered_where true place is = changed (offered_by true place old) is refl refl (omega arith)
+  offered_where false None is = changed old is refl refl (omega arith)
   offered_where false (Some k) is =
-      changed (offered_by false (Some k) old) is refl (copied_due (offers k (prepares k old.copies)))
+      changed (offered_by false (Some k) old) is refl (copied_waits (offers k (prepares k old.copies))) (copied_due (offers k (prepares k old.copies)))
 
   pub offer_fits : new ≡ offered_by (shares old) (offer_next old) old → Fits
   offer_fits is = offered_where (shares old) (offer_next old) is
 
   answered_where : (one : Bool) (link header : ℕ) (how : MessageStatus) → new ≡ answered_by one link header how old → Fits
-  answered_where true link header how is = changed (answered_by true link header how old) is refl (omega arith)
+  answered_where true link header how is = changed (answered_by true link header how old) is refl refl (omega arith)
   answered_where false link header how is =
       changed (answered_by false link header how old) is refl
+      (copied_waits (copy_answered how header (copy_place link old.copies.ends) old.copies))
       (copied_due (copy_answered how header (copy_place link old.copies.ends) old.copies))
 
   pub answer_fits : (link header : ℕ) (how : MessageStatus) → new ≡ answered_by (shares old) link header how old → Fits
@@ -229,14 +287,15 @@ module _ (old new : BlockState) (order : ArrivalsState) (fits : JoinFits old ord
 
   head_where : (take : Bool) (link header : ℕ) → new ≡ cond take (gives_over link header old) old → Fits
   head_where true link header is =
-      changed (gives_over link header old) is refl
+      changed (gives_over link header old) is refl (waits_each _ _ _ 0 old.ports)
       (let same = due_back (consumes link header old.exits) old.copies old.kind (consumed header old.exits) old.ports in omega (arith, same))
-  head_where false link header is = changed old is refl (omega arith)
+  head_where false link header is = changed old is refl refl (omega arith)
 
   copy_where : (take : Bool) (link header : ℕ) → new ≡ cond take (copies_home link header old) old → Fits
   copy_where true link header is =
-      changed (copies_home link header old) is refl (copied_due (gives_home (copy_place link old.copies.ends) header old.copies))
-  copy_where false link header is = changed old is refl (omega arith)
+      changed (copies_home link header old) is refl
+      (copied_waits (gives_home (copy_place link old.copies.ends) header old.copies)) (copied_due (gives_home (copy_place link old.copies.ends) header old.copies))
+  copy_where false link header is = changed old is refl refl (omega arith)
 
   given_where : (one : Bool) (link header : ℕ) → new ≡ given_by one link header old → Fits
   given_where true link header is = head_where (may_take link header old.exits) link header is
@@ -246,12 +305,12 @@ module _ (old new : BlockState) (order : ArrivalsState) (fits : JoinFits old ord
   give_fits link header is = given_where (shares old) link header is
 
   wish_where : (place : Option ℕ) → wishing_port old.ports ≡ place → new ≡ wishes place old → Fits
-  wish_where None at is = changed old is refl (omega arith)
+  wish_where None at is = changed old is refl refl (omega arith)
   wish_where (Some p) at is =
       let wishing = wishing_is old.ports p at in
       let port = port_at p old in
       let own = (and_parts (names_itself (next_place port) port) (leads_to p (next_wish port) old.ports) wishing.wishes).0 in
-      changed (wishes (Some p) old) is refl
+      changed (wishes (Some p) old) is refl (waits_kept old.ports p (consumes_next port) (consume_waits port (next_place port)))
       (let due = change_due old.ports p 0 (consumes_next port) (omega (arith, consume_due port (next_place port) own)) in omega (arith, due))
 
   pub wish_fits : new ≡ wishes (wishing_port old.ports) old → Fits
@@ -261,32 +320,45 @@ module _ (old new : BlockState) (order : ArrivalsState) (fits : JoinFits old ord
   note_fits link told is =
       let p = port_into link old.ports in
       changed (with_port_of link (notes told link) old) is refl
+      (waits_kept old.ports p (notes told link (port_at p old)) (note_waits told link (port_at p old)))
       (let due = change_due old.ports p 0 (notes told link (port_at p old)) (omega (arith, note_due told link (port_at p old))) in omega (arith, due))
 
 -- a group is made, or is not for want of ids or memory
-pub group_fits : {E : Type 0} (old new : BlockState) (order after : ArrivalsState) (size : ℕ) (arrived : List ℕ) (result : Result Unit E)
-    → JoinFits old order → OnOk result (new ≡ makes_group size 0 arrived old) → OnOk result (after ≡ drops_group size order)
+pub group_fits : {E : Type 0} (old new : BlockState) (order after : ArrivalsState) (size : ℕ) (result : Result Unit E)
+    → JoinFits old order → OnOk result (new ≡ makes_group size 0 order.ports old) → OnOk result (after ≡ drops_group size order)
     → OnErr result (new ≡ old) → OnErr result (after ≡ order) → JoinFits new after
-group_fits old new order after size arrived (Ok _) fits done dropped kept order_kept =
-    let made = make_fits old new order fits size arrived done in
-    record { kind_is = made.kind_is; room = let same = ap (λ (o : ArrivalsState). o.room) dropped in let room = made.room in omega (arith, same, room) }
-group_fits old new order after size arrived (Err _) fits done dropped kept order_kept =
+group_fits old new order after size (Ok _) fits done dropped kept order_kept = record {
+  kind_is = ap (λ (b : BlockState). b.kind) done ∙ fits.kind_is;
+  tells = subst (λ (o : ArrivalsState). Tells o.ports (waits new.ports)) (sym dropped)
+      (subst (λ (b : BlockState). Tells (drop size order.ports) (waits b.ports)) (sym done) (tells_group size order.ports old.ports fits.tells));
+  room =
+      let ports = ap (λ (b : BlockState). ports_due b.ports) done in
+      let due = first_due (take size order.ports) 0 old.ports in
+      let same = ap (λ (o : ArrivalsState). o.room) dropped in
+      let room = fits.room in
+      omega (arith, ports, due, same, room);
+}
+group_fits old new order after size (Err _) fits done dropped kept order_kept =
     subst (λ (o : ArrivalsState). JoinFits new o) (sym order_kept) (subst (λ (b : BlockState). JoinFits b order) (sym kept) fits)
 
 -- where there is room for one more, an offer may be answered
-pub offered_fits : {E : Type 0} (old new : BlockState) (order : ArrivalsState) (link header : ℕ) (may_postpone : Bool) (result : Result MessageStatus E)
-    → old.kind ≡ BatchedJoin → ports_due old.ports + 1 ≤ order.room
+pub offered_fits : {E : Type 0} (old new : BlockState) (before order : ArrivalsState) (link header : ℕ) (may_postpone : Bool)
+    (result : Result MessageStatus E) → JoinFits old before → order.ports ≡ before.ports → ports_due old.ports + 1 ≤ order.room
     → IfOk result (λ how. BlockTakes old (TargetCall.offered link header may_postpone how) new) → OnErr result (new ≡ old) → JoinFits new order
-offered_fits old new order link header may_postpone (Ok how) joins room takes kept =
+offered_fits old new before order link header may_postpone (Ok how) fits same room takes kept =
     let p = port_into link old.ports in
-    let due = change_due old.ports p 1 (answered link header how (port_at p old)) (answer_due link header how (port_at p old)) in
+    let port = answered link header how (port_at p old) in
+    let due = change_due old.ports p 1 port (answer_due link header how (port_at p old)) in
+    let waiting = ap (λ (b : BlockState). waits b.ports) takes.1 ∙ waits_kept old.ports p port (answer_waits link header how (port_at p old)) in
     record {
-      kind_is = ap (λ (b : BlockState). b.kind) takes.1 ∙ joins;
-      room = let same = ap (λ (b : BlockState). ports_due b.ports) takes.1 in omega (arith, same, due, room);
+      kind_is = ap (λ (b : BlockState). b.kind) takes.1 ∙ fits.kind_is;
+      tells = subst (λ (ns : List ℕ). Tells order.ports ns) (sym waiting) (subst (λ (ps : List ℕ). Tells ps (waits old.ports)) (sym same) fits.tells);
+      room = let now = ap (λ (b : BlockState). ports_due b.ports) takes.1 in omega (arith, now, due, room);
     }
-offered_fits old new order link header may_postpone (Err _) joins room takes kept = record {
-  kind_is = ap (λ (b : BlockState). b.kind) kept ∙ joins;
-  room = let same = ap (λ (b : BlockState). ports_due b.ports) kept in omega (arith, same, room);
+offered_fits old new before order link header may_postpone (Err _) fits same room takes kept = record {
+  kind_is = ap (λ (b : BlockState). b.kind) kept ∙ fits.kind_is;
+  tells = subst (λ (b : BlockState). Tells order.ports (waits b.ports)) (sym kept) (subst (λ (ps : List ℕ). Tells ps (waits old.ports)) (sym same) fits.tells);
+  room = let now = ap (λ (b : BlockState). ports_due b.ports) kept in omega (arith, now, room);
 }
 
 never_once : (kind : BlockKind) → kind ≡ BatchedJoin → is_write_once kind ≡ false
@@ -321,12 +393,25 @@ module _ (old : BlockState) (order : ArrivalsState) (fits : JoinFits old order) 
       let due = fewer (Int (pos 0)) in
       omega (arith, room, due)
 
-  pub arrive_fits : (value : Value) (new : BlockState) (port : ℕ) → new ≡ copies_taken (with_port_of link (arrives link value) old)
+  more_waits : (value : Value) → waits (set old.ports into (arrives link value (port_at into old))) ≡ set (waits old.ports) into (get_or (waits old.ports) into 0 + 1)
+  more_waits value =
+      let one = arrive_waits link header value (port_at into old) (place_of link (port_at into old).ends) refl mine in
+      waits_set old.ports into (arrives link value (port_at into old))
+      ∙ ap (λ (n : ℕ). set (waits old.ports) into n) (one ∙ ap (λ (n : ℕ). n + 1) (sym (waits_at old.ports into)))
+
+  pub arrive_fits : (value : Value) (new : BlockState) (port : ℕ) → port ≡ into → new ≡ copies_taken (with_port_of link (arrives link value) old)
       → JoinFits new (record { ports = order.ports ++ port ∷ []; room = order.room - 1 })
-  arrive_fits value new port is =
+  arrive_fits value new port at is =
       let same : new ≡ with_port_of link (arrives link value) old = is ∙ copies_none (with_port_of link (arrives link value) old) fits.kind_is in
       record {
         kind_is = ap (λ (b : BlockState). b.kind) same ∙ fits.kind_is;
+        tells =
+            let near : into < length (waits old.ports) =
+            subst (λ (n : ℕ). into < n) (sym (length-map old.ports (λ (p : PortState). length p.waiting))) there in
+            subst (λ (p : ℕ). Tells (order.ports ++ p ∷ []) (waits new.ports)) (sym at)
+            (subst (λ (ns : List ℕ). Tells (order.ports ++ into ∷ []) ns)
+            (sym (ap (λ (b : BlockState). waits b.ports) same ∙ more_waits value))
+            (tells_more order.ports (waits old.ports) into near fits.tells));
         room =
             let due = ap (λ (b : BlockState). ports_due b.ports) same in
             let less = fewer value in

@@ -1,6 +1,6 @@
--- A batched join that has a next group has not ended.
-use Rattle.std.proofs.Common.{◌≡◌, ◌<◌, leb, ltb, true, false, cond, not, ◌&&◌, ◌||◌, List, [], ◌∷◌, length, None, is_none, refl, ap, ap₂, sym, ◌∙◌, arith}
-use Rattle.std.proofs.lemmas.Bool.{and_parts, false_from_ne_true, ltb-true}
+-- A batched join that has a next group has not ended, and while a port is open the group is whole.
+use Rattle.std.proofs.Common.{Bool, ◌≡◌, ◌≤◌, ◌<◌, leb, ltb, true, false, cond, not, ◌&&◌, ◌||◌, List, [], ◌∷◌, length, None, is_none, refl, ap, ap₂, sym, ◌∙◌, arith}
+use Rattle.std.proofs.lemmas.Bool.{and_parts, false_from_ne_true, ltb-true, leb-true}
 use Rattle.flow_value.specs.declared.value.Value.{Value}
 use Rattle.flow_link.specs.declared.draft.BlockKind.{BlockKind}
 use Rattle.flow_link.specs.declared.draft.BlockKind.TheVariants.{BatchedJoin}
@@ -12,6 +12,9 @@ use Rattle.flow_block.specs.Block.{BlockState, held_by, is_batch, is_join, is_ba
 use Rattle.flow_block.specs.Groups.{waiting_in_all}
 use Rattle.flow_block.specs.Peeks.{holds_nothing, has_group, may_copy, has_next, has_group_of_ports, may_work, may_make, may_finish}
 use Rattle.flow_block.specs.Traits.{ended_where, outcome_of}
+use Rattle.flow_group.specs.Group.{ArrivalsState}
+use Rattle.flow_batched.specs.BatchedJoin.{JoinFits}
+use Rattle.flow_batched.proofs.OrderTells.{told_in_all}
 use Rattle.flow_block.proofs.GoingOn.{may_finish_tells}
 use Rattle.flow_block.proofs.TestsTell.{none_is}
 
@@ -43,3 +46,20 @@ grouping_goes_on block joins may =
     let unfinished : may_finish block ≡ false = false_from_ne_true (may_finish block) (λ finishes.
     let none = nothing_waits block.ports (may_finish_tells block finishes).empty in omega (arith, some, none)) in
     ap₂ ended_where going unfinished
+
+-- while a port is open
+pub groups_are_whole : (block : BlockState) (order : ArrivalsState) → JoinFits block order → may_make block ≡ true → all_ended block.ports ≡ false
+    → block.size ≤ length order.ports
+groups_are_whole block order fits may unended =
+    let makes = and_parts (may_work block) (not (has_work block.kind)) may in
+    let works = and_parts (is_none block.stopped && is_none block.fault) (has_next block) makes.0 in
+    let group : has_group_of_ports block ≡ true = sym (next_is_group block fits.kind_is) ∙ works.1 in
+    let enough = (and_parts (ltb 0 (waiting_in_all block.ports)) (leb block.size (waiting_in_all block.ports) || all_ended block.ports) group).1 in
+    let whole : leb block.size (waiting_in_all block.ports) ≡ true = one_of (leb block.size (waiting_in_all block.ports)) (all_ended block.ports) enough unended in
+    let all = told_in_all order.ports block.ports fits.tells in
+    let least = leb-true block.size (waiting_in_all block.ports) whole in
+    omega (arith, least, all)
+  where
+    one_of : (a b : Bool) → (a || b) ≡ true → b ≡ false → a ≡ true
+    one_of true b e none = refl
+    one_of false b e none = absurd (cc)

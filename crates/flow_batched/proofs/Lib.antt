@@ -1,2 +1,3 @@
 pub mod DueMessages
 pub mod GroupsGoOn
+pub mod OrderTells

@@ -1,6 +1,8 @@
 //! A batched join: its block, and the order in which its messages came in.
-ghost use Rattle.std.specs.Prelude.{◌≡◌, true, length, MatchResult};
-ghost use Rattle.flow_block.specs.Peeks.{holds_nothing};
+ghost use Rattle.std.specs.Prelude.{◌≡◌, ◌≤◌, true, false, length, MatchResult};
+ghost use Rattle.flow_group.specs.Tuple.{all_ended};
+ghost use Rattle.flow_block.specs.Groups.{waiting_in_all};
+ghost use Rattle.flow_block.specs.Peeks.{holds_nothing, may_make};
 ghost use Rattle.flow_block.specs.JournalFits.{ports_due};
 ghost use Rattle.flow_batched.specs.BatchedJoin.{fresh_join};
 
@@ -66,10 +68,20 @@ impl BatchedJoin {
         self.block.left()
     }
 
-    /// How many messages are in no group yet.
+    /// How many messages are in no group yet: those that wait at its ports.
     pub fn waiting(&self) -> usize
-        ensures { result ≡ length self.now.order }
+        ensures count { result ≡ length self.now.order }
+        ensures all { result ≡ waiting_in_all self.now.block.ports }
     {
         self.order.len()
+    }
+
+    /// Whether it would make a group: while a port is open one that is whole, and then of what is left.
+    pub fn has_group(&self) -> bool
+        ensures told { result ≡ may_make self.now.block }
+        ensures whole { result ≡ true → all_ended self.now.block.ports ≡ false
+            → self.now.block.size ≤ length self.now.order }
+    {
+        self.block.may_make()
     }
 }

@@ -48,7 +48,7 @@ impl DataflowBlock for BatchedJoin {
     }
 
     fn make(&mut self, alloc: Global) -> Result<bool, MakeFault> {
-        if !self.block.may_make() {
+        if !self.has_group() {
             return Ok(false);
         }
         match self.block.make_group(alloc, &mut self.order) {

@@ -16,4 +16,4 @@ invariant_of-self c =
     let wants = subst (λ (join : JoinState). Wants c.args.header (target_over join.block.ports c.args.origin)) (sym c.self.view_is) c.requires in
     subst (λ (order : ArrivalsState). JoinFits c.hand_over.new.self order) (sym c.note.ensures)
     (arrive_fits c.self.inside.block c.self.inside.order c.self.invariant c.args.origin c.args.header wants c.args.parcel c.hand_over.new.self
-    c.port_into-port.result c.hand_over.ensures.takes)
+    c.port_into-port.result c.port_into-port.ensures c.hand_over.ensures.takes)
