@@ -153,8 +153,10 @@ fn a_batched_join_groups_as_messages_came(rt: HostRuntime) -> Result<(), Fail> {
     take(&rt, rt.alloc(), &mut join, 1, 9)?;
     take(&rt, rt.alloc(), &mut join, 0, 5)?;
     take(&rt, rt.alloc(), &mut join, 0, 6)?;
+    assert!(rt; join.has_group());
     assert_eq!(rt; join.make(rt.alloc()), Ok(true));
     assert_eq!(rt; join.make(rt.alloc()), Ok(false));
+    assert_eq!(rt; join.left().len(), 1);
     assert_eq!(rt; join.waiting(), 1);
     let Some((7, 1, group)) = give(&rt, rt.alloc(), &mut join)? else {
         panic!(&rt; "it has no first group");
