@@ -1,98 +1,85 @@
 //! Blocks by the calls that all blocks have in common. The test carries what one says to the other.
-ghost use Rattle.std.specs.Prelude.{◌≡◌, [], ◌∷◌, IfOk, OnOk, None, true, false};
+ghost use Rattle.std.specs.Prelude.{◌≡◌, [], ◌∷◌};
 ghost use Rattle.flow_intake.specs.Port.{fresh_port};
 ghost use Rattle.flow_link.specs.declared.stage.TargetStage.TheVariants.{Free};
 ghost use Rattle.flow_block.specs.BlockFits.{fresh_block};
 ghost use Rattle.flow_block.specs.Traits.{target_over};
 ghost use Rattle.flow_part_rows.specs.Driven.{link_to};
 
-use crate::shared::{is_row, link};
+use crate::shared::{header, is_row, link, parcel};
 use flow_block::Block;
 use flow_intake::Intake;
 use flow_link::{
     BlockKind, Completing, DataflowBlock, Outcome, SourceBlock, TargetBlock, Wish, WishAnswer,
 };
-use flow_value::{MessageHeader, MessageStatus, Parcel, Value};
+use flow_value::{MessageHeader, MessageStatus};
 use std::alloc::Global;
 use std::process::Abort;
-use std::test::Fail;
 
 /// A block of this kind with one lane, with so many messages in a row, with room for so many messages, or for any number,
 /// and with one link out of it, number 7.
-fn block(alloc: Global, kind: BlockKind, size: u32, capacity: Option<u32>) -> Result<Block, Fail>
-    ensures { IfOk result (λ block. block ≡ fresh_block kind 1 size (fresh_port capacity ∷ [])
-        (link_to 7 ∷ [])) }
+fn block(rt: &impl Abort, alloc: Global, kind: BlockKind, size: u32, capacity: Option<u32>) -> Block
+    ensures { result ≡ fresh_block kind 1 size (fresh_port capacity ∷ []) (link_to 7 ∷ []) }
 {
-    let mut ports = Vec::new(alloc);
-    ports.push(Intake::new(alloc, capacity))?;
-    let mut rules = Vec::new(alloc);
-    rules.push(link(7))?;
-    Block::new(alloc, kind, 1, size, ports, rules).map_err(|_| Fail::from("out of memory"))
-}
-
-fn parcel(alloc: Global, number: i64) -> Result<Parcel, Fail> {
-    Parcel::new(alloc, Value::Int(number)).map_err(|_| Fail::from("out of memory"))
+    let Ok(ports) = vec![in alloc; Intake::new(alloc, capacity)] else {
+        panic!(rt; "out of memory");
+    };
+    let Ok(rules) = vec![in alloc; link(7)] else {
+        panic!(rt; "out of memory");
+    };
+    let Ok(block) = Block::new(alloc, kind, 1, size, ports, rules) else {
+        panic!(rt; "out of memory");
+    };
+    block
 }
 
 /// The block takes a message with this header from outside, over a link with the number 0, and makes it ready.
-fn take_in(
-    rt: &impl Abort,
-    alloc: Global,
-    source: &mut Block,
-    header: MessageHeader,
-) -> Result<(), Fail>
+fn take_in(rt: &impl Abort, alloc: Global, source: &mut Block, header: MessageHeader)
     requires { target_over source.old.ports 0 ≡ Free }
 {
-    let MessageStatus::Accepted = source.offer_message(alloc, 0, header, false)? else {
+    let Ok(MessageStatus::Accepted) = source.offer_message(alloc, 0, header, false) else {
         panic!(rt; "it is not accepted");
     };
-    source.hand_over(0, header, parcel(alloc, 5)?);
+    source.hand_over(0, header, parcel(rt, alloc, 5));
     assert_eq!(rt; source.make(alloc), Ok(true));
     assert_eq!(rt; source.make(alloc), Ok(false));
-    Ok(())
 }
 
 /// The block takes a message with this header over link 7, and keeps it, since it has a function.
-fn keep(
-    rt: &impl Abort,
-    alloc: Global,
-    target: &mut Block,
-    header: MessageHeader,
-) -> Result<(), Fail>
+fn keep(rt: &impl Abort, alloc: Global, target: &mut Block, header: MessageHeader)
     requires { target_over target.old.ports 7 ≡ Free }
 {
-    let MessageStatus::Accepted = target.offer_message(alloc, 7, header, true)? else {
+    let Ok(MessageStatus::Accepted) = target.offer_message(alloc, 7, header, true) else {
         panic!(rt; "it is not accepted");
     };
-    target.hand_over(7, header, parcel(alloc, 5)?);
+    target.hand_over(7, header, parcel(rt, alloc, 5));
     assert_eq!(rt; target.make(alloc), Ok(false));
-    Ok(())
 }
 
 #[test]
-fn a_message_is_taken_and_offered(rt: HostRuntime) -> Result<(), Fail> {
-    let one = MessageHeader::new(1).ok_or("no id")?;
-    let mut source = block(rt.alloc(), BlockKind::Buffer, 0, None)?;
-    take_in(&rt, rt.alloc(), &mut source, one)?;
-    let Some((link, header)) = SourceBlock::next_offer(&mut source, rt.alloc())? else {
+fn a_message_is_taken_and_offered(rt: HostRuntime) {
+    let one = header(&rt, 1);
+    let mut source = block(&rt, rt.alloc(), BlockKind::Buffer, 0, None);
+    take_in(&rt, rt.alloc(), &mut source, one);
+    let Ok(Some((link, header))) = SourceBlock::next_offer(&mut source, rt.alloc()) else {
         panic!(&rt; "nothing is offered");
     };
     assert_eq!(rt; link, 7);
     assert_eq!(rt; header, one);
     assert_eq!(rt; source.completion(), None);
 
-    let mut target = block(rt.alloc(), BlockKind::Action, 0, None)?;
-    keep(&rt, rt.alloc(), &mut target, header)
+    let mut target = block(&rt, rt.alloc(), BlockKind::Action, 0, None);
+    keep(&rt, rt.alloc(), &mut target, header);
 }
 
 #[test]
-fn a_message_waits_for_room(rt: HostRuntime) -> Result<(), Fail> {
-    let one = MessageHeader::new(1).ok_or("no id")?;
-    let mut target = block(rt.alloc(), BlockKind::Action, 0, Some(1))?;
-    let MessageStatus::Accepted = target.offer_message(rt.alloc(), 0, one, true)? else {
+fn a_message_waits_for_room(rt: HostRuntime) {
+    let one = header(&rt, 1);
+    let mut target = block(&rt, rt.alloc(), BlockKind::Action, 0, Some(1));
+    let Ok(MessageStatus::Accepted) = target.offer_message(rt.alloc(), 0, one, true) else {
         panic!(&rt; "it is not accepted");
     };
-    let MessageStatus::Postponed = target.offer_message(rt.alloc(), 1, one, true)? else {
+    let Ok(MessageStatus::Postponed) = target.offer_message(rt.alloc(), 1, one, true) else {
         panic!(&rt; "it is not postponed");
     };
     let Wish::None = target.next_wish() else {
@@ -100,39 +87,30 @@ fn a_message_waits_for_room(rt: HostRuntime) -> Result<(), Fail> {
     };
     target.note_wish(1, WishAnswer::Withdrawn);
     assert_eq!(rt; target.next_wish(), Wish::None);
-    Ok(())
 }
 
 #[test]
-fn blocks_end_once(rt: HostRuntime) -> Result<(), Fail> {
-    let mut done = block(rt.alloc(), BlockKind::Buffer, 0, None)?;
+fn blocks_end_once(rt: HostRuntime) {
+    let mut done = block(&rt, rt.alloc(), BlockKind::Buffer, 0, None);
     assert_eq!(rt; done.completion(), None);
     DataflowBlock::complete(&mut done, 0);
     assert_eq!(rt; done.completion(), Some(Outcome::Done));
 
-    let mut faulted = block(rt.alloc(), BlockKind::Buffer, 0, None)?;
+    let mut faulted = block(&rt, rt.alloc(), BlockKind::Buffer, 0, None);
     DataflowBlock::fault(&mut faulted, 3);
     assert_eq!(rt; faulted.completion(), Some(Outcome::Faulted(3)));
-    Ok(())
 }
 
 /// The block takes a message over link 0.
-fn take(
-    rt: &impl Abort,
-    alloc: Global,
-    target: &mut Block,
-    id: u64,
-    number: i64,
-) -> Result<(), Fail>
+fn take(rt: &impl Abort, alloc: Global, target: &mut Block, id: u64, number: i64)
     requires { target_over target.old.ports 0 ≡ Free }
-    ensures { OnOk result (target_over target.new.ports 0 ≡ Free) }
+    ensures { target_over target.new.ports 0 ≡ Free }
 {
-    let header = MessageHeader::new(id).ok_or("no id")?;
-    let MessageStatus::Accepted = target.offer_message(alloc, 0, header, false)? else {
+    let header = header(rt, id);
+    let Ok(MessageStatus::Accepted) = target.offer_message(alloc, 0, header, false) else {
         panic!(rt; "it is not accepted");
     };
-    target.hand_over(0, header, parcel(alloc, number)?);
-    Ok(())
+    target.hand_over(0, header, parcel(rt, alloc, number));
 }
 
 /// Whether the block has one row to give first, of these numbers.
@@ -144,26 +122,24 @@ fn has_row(block: &Block, numbers: &[i64]) -> bool {
 }
 
 #[test]
-fn a_batch_makes_rows(rt: HostRuntime) -> Result<(), Fail> {
-    let mut batch = block(rt.alloc(), BlockKind::Batch, 2, None)?;
-    take(&rt, rt.alloc(), &mut batch, 1, 5)?;
-    take(&rt, rt.alloc(), &mut batch, 2, 6)?;
-    take(&rt, rt.alloc(), &mut batch, 3, 7)?;
+fn a_batch_makes_rows(rt: HostRuntime) {
+    let mut batch = block(&rt, rt.alloc(), BlockKind::Batch, 2, None);
+    take(&rt, rt.alloc(), &mut batch, 1, 5);
+    take(&rt, rt.alloc(), &mut batch, 2, 6);
+    take(&rt, rt.alloc(), &mut batch, 3, 7);
     assert_eq!(rt; batch.make(rt.alloc()), Ok(true));
     assert!(rt; has_row(&batch, &[5, 6]));
     assert_eq!(rt; batch.make(rt.alloc()), Ok(false));
     assert_eq!(rt; batch.left().len(), 1);
-    Ok(())
 }
 
 #[test]
-fn a_completed_batch_makes_its_remainder(rt: HostRuntime) -> Result<(), Fail> {
-    let mut batch = block(rt.alloc(), BlockKind::Batch, 2, None)?;
-    take(&rt, rt.alloc(), &mut batch, 1, 5)?;
+fn a_completed_batch_makes_its_remainder(rt: HostRuntime) {
+    let mut batch = block(&rt, rt.alloc(), BlockKind::Batch, 2, None);
+    take(&rt, rt.alloc(), &mut batch, 1, 5);
     assert!(rt; batch.port_count() == 1);
     batch.complete(0);
     assert_eq!(rt; batch.make(rt.alloc()), Ok(true));
     assert!(rt; has_row(&batch, &[5]));
     assert_eq!(rt; batch.completion(), None);
-    Ok(())
 }

@@ -1,96 +1,102 @@
 //! Blocks that copy, and blocks with two ports, by the calls that all blocks have in common. The test plays what is at the
 //! far end of each link.
-ghost use Rattle.std.specs.Prelude.{◌≡◌, ◌<◌, [], ◌∷◌, IfOk, OnOk, Some, None};
+ghost use Rattle.std.specs.Prelude.{◌≡◌, ◌<◌, [], ◌∷◌};
 ghost use Rattle.flow_link.specs.declared.draft.BlockKind.TheVariants as kind;
 ghost use Rattle.flow_intake.specs.Port.{fresh_port, fresh_end};
 ghost use Rattle.flow_block.specs.BlockFits.{fresh_block};
 ghost use Rattle.flow_batched.specs.BatchedJoin.{fresh_join};
 ghost use Rattle.flow_part_rows.specs.Driven.{Rests, two_ports, link_to};
 
-use crate::shared::{is_row, link};
+use crate::shared::{header, is_row, link, parcel};
 use flow_batched::BatchedJoin;
 use flow_block::Block;
 use flow_intake::Intake;
 use flow_link::{BlockKind, Completing, DataflowBlock, LinkId, Outcome, SourceBlock, TargetBlock};
-use flow_value::{MessageHeader, MessageStatus, Parcel, Value};
+use flow_value::{MessageStatus, Value};
 use std::alloc::Global;
 use std::process::Abort;
-use std::test::Fail;
 
 /// A port with room for so many messages, or for any number, into which this link leads.
-fn port(alloc: Global, capacity: Option<u32>, link: LinkId) -> Result<Intake, Fail>
-    ensures { IfOk result (λ port. port ≡ record (fresh_port capacity) { ends = fresh_end link ∷ [] }) }
+fn port(rt: &impl Abort, alloc: Global, capacity: Option<u32>, link: LinkId) -> Intake
+    ensures { result ≡ record (fresh_port capacity) { ends = fresh_end link ∷ [] } }
 {
     let mut port = Intake::new(alloc, capacity);
-    port.add_link(link)?;
-    Ok(port)
+    let Ok(()) = port.add_link(link) else {
+        panic!(rt; "out of memory");
+    };
+    port
 }
 
 /// Two ports for any number of messages; link 0 leads into the first, and link 1 into the second.
-fn ports(alloc: Global) -> Result<Vec<Intake>, Fail>
-    ensures { IfOk result (λ ports. ports.items ≡ two_ports) }
+fn ports(rt: &impl Abort, alloc: Global) -> Vec<Intake>
+    ensures { result.items ≡ two_ports }
 {
-    let mut ports = Vec::new(alloc);
-    ports.push(port(alloc, None, 0)?)?;
-    ports.push(port(alloc, None, 1)?)?;
-    Ok(ports)
+    let first = port(rt, alloc, None, 0);
+    let second = port(rt, alloc, None, 1);
+    let Ok(ports) = vec![in alloc; first, second] else {
+        panic!(rt; "out of memory");
+    };
+    ports
 }
 
 /// A join with two ports, and link 7 out of it.
-fn join(alloc: Global) -> Result<Block, Fail>
-    ensures { IfOk result (λ block. block ≡ fresh_block kind.Join 1 0 two_ports (link_to 7 ∷ [])) }
+fn join(rt: &impl Abort, alloc: Global) -> Block
+    ensures { result ≡ fresh_block kind.Join 1 0 two_ports (link_to 7 ∷ []) }
 {
-    let mut rules = Vec::new(alloc);
-    rules.push(link(7))?;
-    Block::new(alloc, BlockKind::Join, 1, 0, ports(alloc)?, rules).map_err(|_| Fail::from(
-        "out of memory",
-    ))
+    let ports = ports(rt, alloc);
+    let Ok(rules) = vec![in alloc; link(7)] else {
+        panic!(rt; "out of memory");
+    };
+    let Ok(join) = Block::new(alloc, BlockKind::Join, 1, 0, ports, rules) else {
+        panic!(rt; "out of memory");
+    };
+    join
 }
 
 /// A batched join with groups of two, with two ports, and link 7 out of it.
-fn batched_join(alloc: Global) -> Result<BatchedJoin, Fail>
-    ensures { IfOk result (λ join. join ≡ fresh_join 2 two_ports (link_to 7 ∷ [])) }
+fn batched_join(rt: &impl Abort, alloc: Global) -> BatchedJoin
+    ensures { result ≡ fresh_join 2 two_ports (link_to 7 ∷ []) }
 {
-    let mut rules = Vec::new(alloc);
-    rules.push(link(7))?;
-    BatchedJoin::new(alloc, 2, ports(alloc)?, rules).map_err(|_| Fail::from("out of memory"))
+    let ports = ports(rt, alloc);
+    let Ok(rules) = vec![in alloc; link(7)] else {
+        panic!(rt; "out of memory");
+    };
+    let Ok(join) = BatchedJoin::new(alloc, 2, ports, rules) else {
+        panic!(rt; "out of memory");
+    };
+    join
 }
 
 /// A block of this kind, which copies, with room for so many messages, or for any number. Link 0 leads into it, and
 /// links 7 and 8 lead out of it.
-fn copier(alloc: Global, kind: BlockKind, capacity: Option<u32>) -> Result<Block, Fail>
-    ensures { IfOk result (λ block. block ≡ fresh_block kind 1 0
-        (record (fresh_port capacity) { ends = fresh_end 0 ∷ [] } ∷ []) (link_to 7 ∷ link_to 8 ∷ [])) }
+fn copier(rt: &impl Abort, alloc: Global, kind: BlockKind, capacity: Option<u32>) -> Block
+    ensures { result ≡ fresh_block kind 1 0
+        (record (fresh_port capacity) { ends = fresh_end 0 ∷ [] } ∷ []) (link_to 7 ∷ link_to 8 ∷ []) }
 {
-    let mut ports = Vec::new(alloc);
-    ports.push(port(alloc, capacity, 0)?)?;
-    let mut rules = Vec::new(alloc);
-    rules.push(link(7))?;
-    rules.push(link(8))?;
-    Block::new(alloc, kind, 1, 0, ports, rules).map_err(|_| Fail::from("out of memory"))
+    let port = port(rt, alloc, capacity, 0);
+    let Ok(ports) = vec![in alloc; port] else {
+        panic!(rt; "out of memory");
+    };
+    let Ok(rules) = vec![in alloc; link(7), link(8)] else {
+        panic!(rt; "out of memory");
+    };
+    let Ok(copier) = Block::new(alloc, kind, 1, 0, ports, rules) else {
+        panic!(rt; "out of memory");
+    };
+    copier
 }
 
 /// The target takes a number over this link.
-fn take<T: TargetBlock>(
-    rt: &impl Abort,
-    alloc: Global,
-    target: &mut T,
-    link: LinkId,
-    number: i64,
-) -> Result<(), Fail>
+fn take<T: TargetBlock>(rt: &impl Abort, alloc: Global, target: &mut T, link: LinkId, number: i64)
     requires link { link < 2 }
     requires rests { Rests (T.target_stage target.old) }
-    ensures { OnOk result (Rests (T.target_stage target.new)) }
+    ensures { Rests (T.target_stage target.new) }
 {
-    let header = MessageHeader::new(1).ok_or("no id")?;
-    let MessageStatus::Accepted = target.offer_message(alloc, link, header, true)? else {
+    let header = header(rt, 1);
+    let Ok(MessageStatus::Accepted) = target.offer_message(alloc, link, header, true) else {
         panic!(rt; "it is not accepted");
     };
-    let Ok(parcel) = Parcel::new(alloc, Value::Int(number)) else {
-        return Err(Fail::from("out of memory"));
-    };
-    target.hand_over(link, header, parcel);
-    Ok(())
+    target.hand_over(link, header, parcel(rt, alloc, number));
 }
 
 /// The next message that the source offers, which is taken at once: its link, its number among the source's messages, and
@@ -99,25 +105,31 @@ fn give<S: SourceBlock>(
     rt: &impl Abort,
     alloc: Global,
     source: &mut S,
-) -> Result<Option<(LinkId, u64, Value)>, Fail> {
-    let Some((link, header)) = source.next_offer(alloc)? else {
-        return Ok(None);
+) -> Option<(LinkId, u64, Value)> {
+    let Ok(offer) = source.next_offer(alloc) else {
+        panic!(rt; "out of memory");
     };
+    let (link, header) = offer?;
     source.note_answer(link, header, MessageStatus::Accepted);
     let Some(parcel) = source.consume_message(link, header) else {
         panic!(rt; "it is not there");
     };
     let (value, _copy) = parcel.into_parts();
-    Ok(Some((link, header.id(), value)))
+    Some((link, header.id(), value))
 }
 
 /// The next message that the source offers, which is put off: its link, and its number.
-fn put_off<S: SourceBlock>(alloc: Global, source: &mut S) -> Result<Option<(LinkId, u64)>, Fail> {
-    let Some((link, header)) = source.next_offer(alloc)? else {
-        return Ok(None);
+fn put_off<S: SourceBlock>(
+    rt: &impl Abort,
+    alloc: Global,
+    source: &mut S,
+) -> Option<(LinkId, u64)> {
+    let Ok(offer) = source.next_offer(alloc) else {
+        panic!(rt; "out of memory");
     };
+    let (link, header) = offer?;
     source.note_answer(link, header, MessageStatus::Postponed);
-    Ok(Some((link, header.id())))
+    Some((link, header.id()))
 }
 
 /// Whether a message with this number goes over this link, and is this value.
@@ -131,34 +143,33 @@ fn is_number(given: &Option<(LinkId, u64, Value)>, link: LinkId, id: u64, number
 }
 
 #[test]
-fn a_join_makes_tuples(rt: HostRuntime) -> Result<(), Fail> {
-    let mut join = join(rt.alloc())?;
-    take(&rt, rt.alloc(), &mut join, 0, 5)?;
-    take(&rt, rt.alloc(), &mut join, 0, 6)?;
-    take(&rt, rt.alloc(), &mut join, 1, 9)?;
+fn a_join_makes_tuples(rt: HostRuntime) {
+    let mut join = join(&rt, rt.alloc());
+    take(&rt, rt.alloc(), &mut join, 0, 5);
+    take(&rt, rt.alloc(), &mut join, 0, 6);
+    take(&rt, rt.alloc(), &mut join, 1, 9);
     assert_eq!(rt; join.make(rt.alloc()), Ok(true));
     assert_eq!(rt; join.make(rt.alloc()), Ok(false));
-    let Some((7, 1, tuple)) = give(&rt, rt.alloc(), &mut join)? else {
+    let Some((7, 1, tuple)) = give(&rt, rt.alloc(), &mut join) else {
         panic!(&rt; "it has no first tuple");
     };
     assert!(rt; is_row(&tuple, &[5, 9]));
     assert!(rt; join.port_count() == 2);
     assert_eq!(rt; join.waiting(0).len(), 1);
-    Ok(())
 }
 
 #[test]
-fn a_batched_join_groups_as_messages_came(rt: HostRuntime) -> Result<(), Fail> {
-    let mut join = batched_join(rt.alloc())?;
-    take(&rt, rt.alloc(), &mut join, 1, 9)?;
-    take(&rt, rt.alloc(), &mut join, 0, 5)?;
-    take(&rt, rt.alloc(), &mut join, 0, 6)?;
+fn a_batched_join_groups_as_messages_came(rt: HostRuntime) {
+    let mut join = batched_join(&rt, rt.alloc());
+    take(&rt, rt.alloc(), &mut join, 1, 9);
+    take(&rt, rt.alloc(), &mut join, 0, 5);
+    take(&rt, rt.alloc(), &mut join, 0, 6);
     assert!(rt; join.has_group());
     assert_eq!(rt; join.make(rt.alloc()), Ok(true));
     assert_eq!(rt; join.make(rt.alloc()), Ok(false));
     assert_eq!(rt; join.left().len(), 1);
     assert_eq!(rt; join.waiting(), 1);
-    let Some((7, 1, group)) = give(&rt, rt.alloc(), &mut join)? else {
+    let Some((7, 1, group)) = give(&rt, rt.alloc(), &mut join) else {
         panic!(&rt; "it has no first group");
     };
     let Some([left, right]) = group.as_items() else {
@@ -167,37 +178,34 @@ fn a_batched_join_groups_as_messages_came(rt: HostRuntime) -> Result<(), Fail> {
     assert!(rt; is_row(left, &[5]));
     assert!(rt; is_row(right, &[9]));
     assert_eq!(rt; join.completion(), None);
-    Ok(())
 }
 
 #[test]
-fn a_broadcast_copies_to_each_link(rt: HostRuntime) -> Result<(), Fail> {
-    let mut source = copier(rt.alloc(), BlockKind::Broadcast, None)?;
-    take(&rt, rt.alloc(), &mut source, 0, 5)?;
-    take(&rt, rt.alloc(), &mut source, 0, 6)?;
+fn a_broadcast_copies_to_each_link(rt: HostRuntime) {
+    let mut source = copier(&rt, rt.alloc(), BlockKind::Broadcast, None);
+    take(&rt, rt.alloc(), &mut source, 0, 5);
+    take(&rt, rt.alloc(), &mut source, 0, 6);
     assert_eq!(rt; source.make(rt.alloc()), Ok(true));
-    assert!(rt; is_number(&give(&rt, rt.alloc(), &mut source)?, 7, 1, 5));
+    assert!(rt; is_number(&give(&rt, rt.alloc(), &mut source), 7, 1, 5));
     assert_eq!(rt; source.make(rt.alloc()), Ok(false));
-    assert_eq!(rt; put_off(rt.alloc(), &mut source)?, Some((8, 1)));
+    assert_eq!(rt; put_off(&rt, rt.alloc(), &mut source), Some((8, 1)));
     assert_eq!(rt; source.make(rt.alloc()), Ok(true));
-    assert!(rt; is_number(&give(&rt, rt.alloc(), &mut source)?, 7, 2, 6));
-    assert!(rt; is_number(&give(&rt, rt.alloc(), &mut source)?, 8, 2, 6));
-    assert_eq!(rt; put_off(rt.alloc(), &mut source)?, None);
-    Ok(())
+    assert!(rt; is_number(&give(&rt, rt.alloc(), &mut source), 7, 2, 6));
+    assert!(rt; is_number(&give(&rt, rt.alloc(), &mut source), 8, 2, 6));
+    assert_eq!(rt; put_off(&rt, rt.alloc(), &mut source), None);
 }
 
 #[test]
-fn a_write_once_block_copies_one_message(rt: HostRuntime) -> Result<(), Fail> {
-    let mut source = copier(rt.alloc(), BlockKind::WriteOnce, Some(1))?;
-    take(&rt, rt.alloc(), &mut source, 0, 5)?;
-    let two = MessageHeader::new(2).ok_or("no id")?;
-    let MessageStatus::Declined = source.offer_message(rt.alloc(), 0, two, false)? else {
+fn a_write_once_block_copies_one_message(rt: HostRuntime) {
+    let mut source = copier(&rt, rt.alloc(), BlockKind::WriteOnce, Some(1));
+    take(&rt, rt.alloc(), &mut source, 0, 5);
+    let two = header(&rt, 2);
+    let Ok(MessageStatus::Declined) = source.offer_message(rt.alloc(), 0, two, false) else {
         panic!(&rt; "it takes a second");
     };
     assert_eq!(rt; source.make(rt.alloc()), Ok(false));
-    assert!(rt; is_number(&give(&rt, rt.alloc(), &mut source)?, 7, 1, 5));
+    assert!(rt; is_number(&give(&rt, rt.alloc(), &mut source), 7, 1, 5));
     assert_eq!(rt; source.completion(), None);
-    assert!(rt; is_number(&give(&rt, rt.alloc(), &mut source)?, 8, 1, 5));
+    assert!(rt; is_number(&give(&rt, rt.alloc(), &mut source), 8, 1, 5));
     assert_eq!(rt; source.completion(), Some(Outcome::Done));
-    Ok(())
 }

@@ -1,10 +1,12 @@
-//! What the tests of parts share: links, and what a row is.
+//! What the tests of parts share: links and messages, and what a row is.
 ghost use Rattle.std.specs.Prelude.{◌≡◌};
 ghost use Rattle.flow_part_rows.specs.Driven.{link_to};
 
 use flow_link::LinkId;
 use flow_outlet::LinkRule;
-use flow_value::{Value, When};
+use flow_value::{MessageHeader, Parcel, Value, When};
+use std::alloc::Global;
+use std::process::Abort;
 
 /// A link that carries every message, to a target that may put it off.
 pub(crate) fn link(id: LinkId) -> LinkRule
@@ -29,4 +31,20 @@ pub(crate) fn is_row(value: &Value, numbers: &[i64]) -> bool {
             .eq(numbers.iter().copied().map(Some)),
         None => false,
     }
+}
+
+/// A number as a message.
+pub(crate) fn parcel(rt: &impl Abort, alloc: Global, number: i64) -> Parcel {
+    let Ok(parcel) = Parcel::new(alloc, Value::Int(number)) else {
+        panic!(rt; "out of memory");
+    };
+    parcel
+}
+
+/// The header with this id.
+pub(crate) fn header(rt: &impl Abort, id: u64) -> MessageHeader {
+    let Some(header) = MessageHeader::new(id) else {
+        panic!(rt; "no id");
+    };
+    header
 }
