@@ -5,10 +5,11 @@
 //!
 //! An [`Execution`] is a block with a function, for a caller who drives it by hand: messages come by the calls that all
 //! blocks have in common, `begin` gives a job of the oldest message that is not worked on yet, and `end` takes its
-//! result back. A block without a function is a [`Buffer`]; one whose kind is a batch makes rows.
+//! result back. A block without a function is a [`Buffer`]: by its kind it hands on, or makes rows, tuples or copies.
 //!
-//! Microsoft: `ActionBlock`, `TransformBlock`, `TransformManyBlock`, `BufferBlock`, `BatchBlock`; the tasks in which an
-//! execution block calls its delegate, `ExecutionDataflowBlockOptions`.
+//! Microsoft: `ActionBlock`, `TransformBlock`, `TransformManyBlock`, `BufferBlock`, `BatchBlock`, `JoinBlock`,
+//! `BroadcastBlock`, `WriteOnceBlock`; the tasks in which an execution block calls its delegate,
+//! `ExecutionDataflowBlockOptions`.
 #![tactic(auto)]
 
 mod execution;
