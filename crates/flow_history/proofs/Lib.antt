@@ -1,0 +1,10 @@
+pub mod CallsLeave
+pub mod CopiesGiven
+pub mod GroupsKept
+pub mod Makes
+pub mod MessagesKept
+pub mod NewPorts
+pub mod PortCalls
+pub mod Still
+pub mod Takes
+pub mod WorkKept

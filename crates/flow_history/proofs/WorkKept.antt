@@ -1,0 +1,583 @@
+-- Over any calls a block with a function that a caller drives by hand keeps its messages.
+use Rattle.std.proofs.Common.{◌≡◌, ℕ, ◌+◌, ◌<◌, ◌^◌, ◌==◌, ltb, Bool, true, false, not, ◌&&◌, cond, is_none, List, [], ◌∷◌, ◌++◌, length, set, take, drop, Option, Some, None, Result, Ok, Err, refl, ap, sym, subst, ◌∙◌, arith, append-nil, append_assoc, eq-eqb}
+use Rattle.std.proofs.lemmas.Bool.{and_parts, ltb-true}
+use Rattle.std.proofs.lemmas.List.{length-map, length-set}
+use Rattle.flow_value.specs.declared.value.Value.{Value}
+use Rattle.flow_value.specs.declared.work.WorkFault.{WorkFault}
+use Rattle.flow_link.specs.declared.draft.BlockKind.{BlockKind}
+use Rattle.flow_link.specs.declared.draft.BlockKind.TheVariants.{Action, Transform, TransformMany}
+use Rattle.flow_link.specs.declared.stage.Refusal.{Refusal}
+use Rattle.flow_link.specs.declared.traits.MakeFault.TheVariants as make_fault
+use Rattle.flow_link.specs.BlockCalls.{BlockCall}
+use Rattle.flow_link.specs.Making.{Arrival, arrived_at}
+use Rattle.flow_link.specs.Plan.{has_work, is_broadcast, is_one_taker, is_write_once}
+use Rattle.flow_link.specs.TargetCalls.{TargetCall}
+use Rattle.flow_link.specs.Worked.{WorkedInto}
+use Rattle.flow_link.proofs.OneMoreWorked.{worked_more}
+use Rattle.flow_intake.specs.Port.{PortState}
+use Rattle.flow_intake.specs.PortLaw.{PortLaw, has_ended}
+use Rattle.flow_intake.specs.Calls.{takes_next, gives_room, failing_from, port_fails}
+use Rattle.flow_intake.specs.ByLink.{arrives}
+use Rattle.flow_intake.proofs.CallsKeepOrder.{moves_keep}
+use Rattle.flow_group.specs.Groups.{arrival_at}
+use Rattle.flow_group.specs.Tuples.{only_at}
+use Rattle.flow_outlet.specs.Outlet.{is_empty}
+use Rattle.flow_outlet.specs.declared.ends.LinkRule.{LinkRule}
+use Rattle.flow_spread.specs.Spread.{is_spread_free}
+use Rattle.flow_block.specs.Block.{BlockState, port_in, port_at, held_by, is_batch, is_join, with_jobs, keeps_results, fails, begins, yields_all, yields_where, ends_job, put_by_kind, put_where, put_by_job, job_message, copies_at_once, copies_where, copies_taken}
+use Rattle.flow_block.specs.Jobs.{Slot, AreOf, brings, comes_out, place_of}
+use Rattle.flow_block.specs.NodeLaw.{MakesAs, FaultsOn}
+use Rattle.flow_block.specs.Peeks.{may_begin, may_work}
+use Rattle.flow_block.specs.Traits.{makes_alone, has_turn, Makes, port_into, with_port_of}
+use Rattle.flow_block.proofs.JobsEnd.{put_nothing, held_then}
+use Rattle.flow_block.proofs.JobsHold.{back_at}
+use Rattle.flow_block.proofs.PortsChange.{kept_at_all}
+use Rattle.flow_block.proofs.TestsTell.{none_is}
+use Rattle.flow_exec.specs.Execution.{ExecutionState, fresh_execution, job_result}
+use Rattle.flow_exec.specs.Works.{results_by}
+use Rattle.flow_history.specs.Calls.{Call, MayCall, Does, Fits, Step, AllDone, after_all}
+use Rattle.flow_history.specs.History.{History, nothing_yet, took_at, given, came_by, copied_at_once, made_by, gave_by, noted, history_of}
+use Rattle.flow_history.specs.Kept.{any_link, hands_on, NothingCame}
+use Rattle.flow_history.specs.Worked.{WorkCall, gave_for, MayCallWork, FitsWork, came_for, DoesWork, worked_out, result_in, KeepsWork, WorkIsKept}
+use Rattle.flow_history.proofs.CallsLeave.{IsPlain, call_leaves, one_ordered, all_ordered}
+use Rattle.flow_history.proofs.Makes.{one_back}
+use Rattle.flow_history.proofs.MessagesKept.{nothing_added, only_made, one_call, fresh_kept, none_at}
+use Rattle.flow_history.proofs.PortCalls.{room_keeps}
+use Rattle.flow_history.proofs.Still.{Kept}
+use Rattle.flow_history.proofs.Takes.{held_more, took_more, there}
+
+-- What a block with a function is not
+record Works (kind : BlockKind) : Type 0 where
+  pub changes : hands_on kind ≡ false
+  pub unbatched : is_batch kind ≡ false
+  pub unjoined : is_join kind ≡ false
+  pub many : is_write_once kind ≡ false
+
+works_so : (kind : BlockKind) → has_work kind ≡ true → Works kind
+works_so Action e = record { changes = refl; unbatched = refl; unjoined = refl; many = refl }
+works_so Transform e = record { changes = refl; unbatched = refl; unjoined = refl; many = refl }
+works_so TransformMany e = record { changes = refl; unbatched = refl; unjoined = refl; many = refl }
+works_so _ e = absurd (cc)
+
+shares_so : (kind : BlockKind) → has_work kind ≡ true → is_one_taker kind ≡ true
+shares_so Action e = refl
+shares_so Transform e = refl
+shares_so TransformMany e = refl
+shares_so _ e = absurd (cc)
+
+never : {A : Type 0} (test : Bool) → test ≡ false → test ≡ true → A
+never true none some = absurd (cc)
+never false none some = absurd (cc)
+
+-- What is made of messages
+
+abbrev recorded_by_kind : BlockKind → List Value → List Value
+recorded_by_kind Action values = values
+recorded_by_kind _ values = []
+
+-- a message comes
+one_came : (result : Value → Result (List Value) ℕ) (taken held made : List Value) (value : Value) → WorkedInto result taken held made
+    → WorkedInto result (taken ++ value ∷ []) (held ++ value ∷ []) made
+one_came result taken held made value so_far = record {
+  done = so_far.done;
+  results = so_far.results;
+  taken_is = ap (λ (vs : List Value). vs ++ value ∷ []) so_far.taken_is ∙ append_assoc so_far.done held (value ∷ []);
+  worked = so_far.worked;
+  all = so_far.all;
+}
+
+comes_as : (result : Value → Result (List Value) ℕ) (kind : BlockKind) (taken held made recorded : List Value) (value : Value)
+    → has_work kind ≡ true → MakesAs result kind taken held [] made recorded
+    → MakesAs result kind (taken ++ value ∷ []) (held ++ value ∷ []) [] made recorded
+comes_as result Action taken held made recorded value works is = (one_came result taken held recorded value is.0, is.1)
+comes_as result Transform taken held made recorded value works is = one_came result taken held made value is
+comes_as result TransformMany taken held made recorded value works is = one_came result taken held made value is
+comes_as result _ taken held made recorded value works is = absurd (cc)
+
+-- the results of the first come out
+makes_as : (result : Value → Result (List Value) ℕ) (kind : BlockKind) (taken rest made recorded values : List Value) (value : Value)
+    → has_work kind ≡ true → result value ≡ Ok values → MakesAs result kind taken (value ∷ rest) [] made recorded
+    → MakesAs result kind taken rest [] (made ++ put_by_kind kind values) (recorded ++ recorded_by_kind kind values)
+makes_as result Action taken rest made recorded values value works is so_far =
+    (worked_more result taken value rest recorded values is so_far.0, append-nil made ∙ so_far.1)
+makes_as result Transform taken rest made recorded values value works is so_far = worked_more result taken value rest made values is so_far
+makes_as result TransformMany taken rest made recorded values value works is so_far = worked_more result taken value rest made values is so_far
+makes_as result _ taken rest made recorded values value works is so_far = absurd (cc)
+
+-- what was made was given, or is left
+given_as : (result : Value → Result (List Value) ℕ) (kind : BlockKind) (taken held made given left recorded : List Value)
+    → has_work kind ≡ true → made ≡ given ++ left → MakesAs result kind taken held [] made recorded
+    → MakesAs result kind taken held given left recorded
+given_as result Action taken held made given left recorded works is so_far = (so_far.0, none_left given left (sym is ∙ so_far.1))
+  where
+    none_left : (given left : List Value) → given ++ left ≡ [] → left ≡ []
+    none_left [] left none = none
+    none_left (value ∷ given) left none = absurd (cc)
+given_as result Transform taken held made given left recorded works is so_far =
+    subst (λ (vs : List Value). WorkedInto result taken held vs) is so_far
+given_as result TransformMany taken held made given left recorded works is so_far =
+    subst (λ (vs : List Value). WorkedInto result taken held vs) is so_far
+given_as result _ taken held made given left recorded works is so_far = absurd (cc)
+
+-- The messages that are worked on
+
+more_held : (result : Value → Result (List Value) ℕ) (held : List Value) (slots : List Slot) (value : Value) → AreOf result held slots
+    → AreOf result (held ++ value ∷ []) slots
+more_held result held [] value are = tt
+more_held result [] (slot ∷ slots) value are = absurd are
+more_held result (first ∷ held) (slot ∷ slots) value are = (are.0, more_held result held slots value are.1)
+
+more_begun : (result : Value → Result (List Value) ℕ) (held : List Value) (slots : List Slot) → length slots < length held
+    → AreOf result held slots → AreOf result held (slots ++ None ∷ [])
+more_begun result [] slots few are = absurd (omega (arith, few))
+more_begun result (first ∷ held) [] few are = (tt, tt)
+more_begun result (first ∷ held) (slot ∷ slots) few are = (are.0, more_begun result held slots (omega (arith, few)) are.1)
+
+-- the message whose result is there first
+record FirstOf (result : Value → Result (List Value) ℕ) (held : List Value) (made : Result (List Value) ℕ) (slots : List Slot) : Type 0 where
+  pub message : Value
+  pub rest : List Value
+  pub held_is : held ≡ message ∷ rest
+  pub made_is : result message ≡ made
+  pub others : AreOf result rest slots
+
+first_of_slots : (result : Value → Result (List Value) ℕ) (held : List Value) (made : Result (List Value) ℕ) (slots : List Slot)
+    → AreOf result held (Some made ∷ slots) → FirstOf result held made slots
+first_of_slots result [] made slots are = absurd are
+first_of_slots result (message ∷ rest) made slots are = record { message = message; rest = rest; held_is = refl; made_is = are.0; others = are.1 }
+
+module _ (result : Value → Result (List Value) ℕ) (kind : BlockKind) (works : has_work kind ≡ true) where
+  abbrev is_not : Works kind
+  is_not = works_so kind works
+
+  record BlockKept (h : History) (block : BlockState) : Type 0 where
+    pub kept : Kept false h block
+    pub kind_is : block.kind ≡ kind
+    pub one_port : length block.ports ≡ 1
+    pub makes : MakesAs result kind (took_at h 0) (held_by block) [] h.made block.recorded
+    pub waits : AreOf result (held_by block) block.jobs.slots
+    pub faulted : (number : ℕ) → block.fault ≡ Some number → FaultsOn result kind (held_by block) number
+
+  -- it is of no other kind
+  other_kind : {A : Type 0} (test : BlockKind → Bool) (block : BlockState) → block.kind ≡ kind → test kind ≡ false → test block.kind ≡ true → A
+  other_kind test block is none some = never (test kind) none (ap test (sym is) ∙ some)
+
+  module _ (h : History) (old : BlockState) (before : BlockKept h old) where
+    abbrev took : ℕ → ℕ
+    took p = length (took_at h p)
+
+    -- what is put into the exits is left, and all else of messages is kept otherwise
+    kept_with : (values : List Value) (new : BlockState) → new.kind ≡ kind → new.exits.left ≡ old.exits.left ++ values
+        → ((p : ℕ) → p < length new.ports → PortLaw any_link (took p) (port_at p new))
+        → Kept false (record h { made = h.made ++ values }) new
+    kept_with values new is left ordered = record {
+      messages = record {
+        shared = λ one.
+            ap (λ (made : List Value). made ++ values) (before.kept.messages.shared (ap is_one_taker (before.kind_is ∙ sym is) ∙ one))
+            ∙ append_assoc (given h.gave) old.exits.left values
+            ∙ ap (λ (vs : List Value). given h.gave ++ vs) (sym left);
+        as_they_are = other_kind hands_on new is is_not.changes;
+        rows = other_kind is_batch new is is_not.unbatched;
+        tuples = other_kind is_join new is is_not.unjoined;
+      };
+      in_order = ordered;
+      some = other_kind is_batch new is is_not.unbatched;
+      takes_once = other_kind is_write_once new is is_not.many;
+      none_yet = other_kind is_write_once new is is_not.many;
+      place = λ e. absurd (cc);
+      one = λ e. absurd (cc);
+    }
+
+    -- The first results come out
+
+    abbrev room_back : PortState → PortState
+    room_back port = gives_room 1 (takes_next port)
+
+    some_held : (values rest : List Value) (value : Value) → values ≡ value ∷ rest → is_empty values ≡ false
+    some_held values rest value is = ap is_empty is
+
+    back_ordered : (value : Value) (rest : List Value) → held_by old ≡ value ∷ rest
+        → (p : ℕ) → p < length (set old.ports 0 (room_back (port_at 0 old))) → PortLaw any_link (took p) (port_in (set old.ports 0 (room_back (port_at 0 old))) p)
+    back_ordered value rest held =
+        one_ordered took old.ports 0 (room_back (port_at 0 old)) before.kept.in_order
+        (λ l law.
+        room_keeps (took 0) 1 (takes_next (port_at 0 old))
+        (one_back (port_at 0 old).capacity (port_at 0 old).waiting (port_at 0 old).load 0 (some_held (held_by old) rest value held) law.waits)
+        (moves_keep.take_next any_link (took 0) (port_at 0 old) law))
+
+    next_ordered : (p : ℕ) → p < length (set old.ports 0 (takes_next (port_at 0 old)))
+        → PortLaw any_link (took p) (port_in (set old.ports 0 (takes_next (port_at 0 old))) p)
+    next_ordered =
+        one_ordered took old.ports 0 (takes_next (port_at 0 old)) before.kept.in_order
+        (λ l law. moves_keep.take_next any_link (took 0) (port_at 0 old) law)
+
+    abbrev OutKept : BlockKind → List Value → Type 0
+    OutKept k values = Kept false (record h { made = h.made ++ put_by_kind k values }) (keeps_results k values old)
+
+    out_kept : (k : BlockKind) (values rest : List Value) (value : Value) → old.kind ≡ k → k ≡ kind → has_work k ≡ true → held_by old ≡ value ∷ rest
+        → OutKept k values
+    out_kept Action values rest value is same w held =
+        kept_with [] (keeps_results Action values old) before.kind_is (sym (append-nil old.exits.left)) (back_ordered value rest held)
+    out_kept Transform [] rest value is same w held =
+        kept_with [] (keeps_results Transform [] old) before.kind_is (sym (append-nil old.exits.left)) (back_ordered value rest held)
+    out_kept Transform (v ∷ values) rest value is same w held =
+        kept_with (v ∷ values) (keeps_results Transform (v ∷ values) old) before.kind_is refl next_ordered
+    out_kept TransformMany [] rest value is same w held =
+        kept_with [] (keeps_results TransformMany [] old) before.kind_is (sym (append-nil old.exits.left)) (back_ordered value rest held)
+    out_kept TransformMany (v ∷ values) rest value is same w held =
+        kept_with (v ∷ values) (keeps_results TransformMany (v ∷ values) old) before.kind_is refl next_ordered
+    out_kept _ values rest value is same w held = absurd (cc)
+
+    -- what else becomes of the block
+    record OutLeaves (k : BlockKind) (values : List Value) : Type 0 where
+      pub kind_stays : (keeps_results k values old).kind ≡ old.kind
+      pub ports_stay : length (keeps_results k values old).ports ≡ length old.ports
+      pub recorded : (keeps_results k values old).recorded ≡ old.recorded ++ recorded_by_kind k values
+      pub slots : (keeps_results k values old).jobs.slots ≡ drop 1 old.jobs.slots
+      pub fault : (keeps_results k values old).fault ≡ old.fault
+
+    out_leaves : (k : BlockKind) (values : List Value) → has_work k ≡ true → OutLeaves k values
+    out_leaves Action values w = record {
+      kind_stays = refl;
+      ports_stay = length-set old.ports 0 (room_back (port_at 0 old));
+      recorded = refl;
+      slots = refl;
+      fault = refl;
+    }
+    out_leaves Transform [] w = record {
+      kind_stays = refl;
+      ports_stay = length-set old.ports 0 (room_back (port_at 0 old));
+      recorded = sym (append-nil old.recorded);
+      slots = refl;
+      fault = refl;
+    }
+    out_leaves Transform (v ∷ values) w = record {
+      kind_stays = refl;
+      ports_stay = length-set old.ports 0 (takes_next (port_at 0 old));
+      recorded = sym (append-nil old.recorded);
+      slots = refl;
+      fault = refl;
+    }
+    out_leaves TransformMany [] w = record {
+      kind_stays = refl;
+      ports_stay = length-set old.ports 0 (room_back (port_at 0 old));
+      recorded = sym (append-nil old.recorded);
+      slots = refl;
+      fault = refl;
+    }
+    out_leaves TransformMany (v ∷ values) w = record {
+      kind_stays = refl;
+      ports_stay = length-set old.ports 0 (takes_next (port_at 0 old));
+      recorded = sym (append-nil old.recorded);
+      slots = refl;
+      fault = refl;
+    }
+    out_leaves _ values w = absurd (cc)
+
+    comes_kept : (values : List Value) (slots : List Slot) → old.jobs.slots ≡ Some (Ok values) ∷ slots → old.fault ≡ None
+        → BlockKept (record h { made = h.made ++ put_by_kind kind values }) (keeps_results kind values old)
+    comes_kept values slots at no_fault =
+        let first = first_of_slots result (held_by old) (Ok values) slots (subst (λ (ss : List Slot). AreOf result (held_by old) ss) at before.waits) in
+        let left = out_leaves kind values works in
+        let held = held_then kind values old first.message first.rest before.one_port first.held_is in
+        record {
+          kept = out_kept kind values first.rest first.message before.kind_is refl works first.held_is;
+          kind_is = left.kind_stays ∙ before.kind_is;
+          one_port = left.ports_stay ∙ before.one_port;
+          makes = rw (held, left.recorded)
+              (makes_as result kind (took_at h 0) first.rest h.made old.recorded values first.message works first.made_is
+              (subst (λ (vs : List Value). MakesAs result kind (took_at h 0) vs [] h.made old.recorded) first.held_is before.makes));
+          waits = rw (held, left.slots, at) first.others;
+          faulted = λ number is. absurd (let none : None ≡ Some number = sym (left.fault ∙ no_fault) ∙ is in cc);
+        }
+
+    -- A fault is there first
+
+    failed_port : (port : PortState) → has_ended port.refusing ≡ true → has_ended (failing_from port.refusing) ≡ true
+    failed_port port e = of_refusing port.refusing e
+      where
+        of_refusing : (refusing : Option Refusal) → has_ended refusing ≡ true → has_ended (failing_from refusing) ≡ true
+        of_refusing None e = absurd (cc)
+        of_refusing (Some why) e = e
+
+    fails_kept : (number : ℕ) (slots : List Slot) → old.jobs.slots ≡ Some (Err number) ∷ slots → BlockKept h (fails number old)
+    fails_kept number slots at =
+        let first = first_of_slots result (held_by old) (Err number) slots (subst (λ (ss : List Slot). AreOf result (held_by old) ss) at before.waits) in
+        let held : held_by (fails number old) ≡ held_by old = kept_at_all (λ (r : PortState). r.waiting) port_fails old.ports 0 (λ port. refl) in
+        record {
+          kept = subst (λ (made : List Value). Kept false (record h { made = made }) (fails number old)) (append-nil h.made)
+              (kept_with [] (fails number old) before.kind_is (sym (append-nil old.exits.left))
+              (all_ordered took old.ports port_fails before.kept.in_order (λ p l law. moves_keep.fail_port any_link (took p) (port_at p old) law)));
+          kind_is = before.kind_is;
+          one_port = length-map old.ports port_fails ∙ before.one_port;
+          makes = rw held before.makes;
+          waits = rw held before.waits;
+          faulted = λ other is. record {
+            works = works;
+            message = first.message;
+            rest = first.rest;
+            held_is = held ∙ first.held_is;
+            fails = first.made_is ∙ (let same : number ≡ other = cc in ap Err same);
+          };
+        }
+
+  -- All that is there comes out, up to a fault
+
+  nothing_made : (h : History) (block : BlockState) → BlockKept h block → BlockKept (record h { made = h.made ++ put_by_kind kind [] }) block
+  nothing_made h block kept =
+      subst (λ (made : List Value). BlockKept (record h { made = made }) block)
+      (sym (ap (λ (values : List Value). h.made ++ values) (put_nothing kind) ∙ append-nil h.made)) kept
+
+  put_both : (k : BlockKind) (values more : List Value) → put_by_kind k (values ++ more) ≡ put_by_kind k values ++ put_by_kind k more
+  put_both Action values more = refl
+  put_both _ values more = refl
+
+  all_kept : (slots : List Slot) (h : History) (block : BlockState) → block.jobs.slots ≡ slots → block.fault ≡ None → BlockKept h block
+      → BlockKept (record h { made = h.made ++ put_by_kind kind (comes_out slots) }) (yields_all slots block)
+  all_kept [] h block at well kept = nothing_made h block kept
+  all_kept (None ∷ slots) h block at well kept = nothing_made h block kept
+  all_kept (Some (Err number) ∷ slots) h block at well kept = nothing_made h (fails number block) (fails_kept h block kept number slots at)
+  all_kept (Some (Ok values) ∷ slots) h block at well kept =
+      let mid = keeps_results kind values block in
+      let made = h.made ++ put_by_kind kind values in
+      let left = out_leaves h block kept kind values works in
+      let then_kept = comes_kept h block kept values slots at well in
+      let rest = all_kept slots (record h { made = made }) mid (left.slots ∙ ap (λ (ss : List Slot). drop 1 ss) at) (left.fault ∙ well) then_kept in
+      subst (λ (k : BlockKind). BlockKept (record h { made = h.made ++ put_by_kind kind (values ++ comes_out slots) }) (yields_all slots (keeps_results k values block)))
+      (sym kept.kind_is)
+      (subst (λ (m : List Value). BlockKept (record h { made = m }) (yields_all slots mid))
+      (append_assoc h.made (put_by_kind kind values) (put_by_kind kind (comes_out slots))
+      ∙ ap (λ (vs : List Value). h.made ++ vs) (sym (put_both kind values (comes_out slots)))) rest)
+
+  where_kept : (well : Bool) (h : History) (block : BlockState) → is_none block.fault ≡ well → BlockKept h block
+      → BlockKept (record h { made = h.made ++ put_where well kind block.jobs.slots }) (yields_where well block)
+  where_kept true h block is kept = all_kept block.jobs.slots h block refl (none_is block.fault is) kept
+  where_kept false h block is kept =
+      subst (λ (made : List Value). BlockKept (record h { made = made }) block) (sym (append-nil h.made)) kept
+
+  -- the slots change, and nothing else
+  slots_kept : (h : History) (block : BlockState) (slots : List Slot) → AreOf result (held_by block) slots → BlockKept h block
+      → BlockKept h (with_jobs (λ jobs. record jobs { slots = slots }) block)
+  slots_kept h block slots are kept = record {
+    kept = subst (λ (made : List Value). Kept false (record h { made = made }) (with_jobs (λ jobs. record jobs { slots = slots }) block)) (append-nil h.made)
+        (kept_with h block kept [] (with_jobs (λ jobs. record jobs { slots = slots }) block) kept.kind_is (sym (append-nil block.exits.left)) kept.kept.in_order);
+    kind_is = kept.kind_is;
+    one_port = kept.one_port;
+    makes = kept.makes;
+    waits = are;
+    faulted = kept.faulted;
+  }
+
+  -- a job begins, and a job ends
+  began_kept : (h : History) (block : BlockState) → may_begin block ≡ true → BlockKept h block → BlockKept h (begins block)
+  began_kept h block may kept =
+      let few = (and_parts (may_work block && has_work block.kind && ltb (length block.jobs.slots) block.jobs.lanes)
+      (ltb (length block.jobs.slots) (length (held_by block))) may).1 in
+      slots_kept h block (block.jobs.slots ++ None ∷ [])
+      (more_begun result (held_by block) block.jobs.slots (ltb-true (length block.jobs.slots) (length (held_by block)) few) kept.waits) kept
+
+  ended_kept : (ticket : ℕ) (made : Result (List Value) ℕ) (h : History) (block : BlockState) → made ≡ result (job_message ticket block)
+      → BlockKept h block
+      → BlockKept (record h { made = h.made ++ put_by_job ticket made block }) (ends_job ticket made block)
+  ended_kept ticket made h block is kept =
+      let slots = set block.jobs.slots (place_of ticket block.jobs) (Some made) in
+      let back = with_jobs (brings ticket made) block in
+      let back_kept : BlockKept h back = slots_kept h block slots (back_at result (held_by block) block.jobs.slots (place_of ticket block.jobs) made (λ l. sym is) kept.waits) kept in
+      subst (λ (k : BlockKind). BlockKept (record h { made = h.made ++ put_where (is_none block.fault) k slots }) (ends_job ticket made block)) (sym kept.kind_is)
+      (where_kept (is_none block.fault) h back refl back_kept)
+
+  -- a common call
+  module _ (h : History) (old new : BlockState) (kept : BlockKept h old) (fits : Fits old) where
+    plain_kept : (call : Call) → IsPlain call → MayCall call old → Does call old new → made_by call old ≡ [] → came_by call old ≡ []
+        → BlockKept (record { came = h.came ++ came_by call old; made = h.made ++ []; gave = h.gave ++ gave_by call }) new
+    plain_kept call plain may does made came =
+        let leaves = call_leaves (λ p. length (took_at h p)) old new kept.kept.in_order fits call plain may does in
+        let still = leaves.still in
+        let same_came : h.came ++ came_by call old ≡ h.came = ap (λ (c : List Arrival). h.came ++ c) came ∙ append-nil h.came in
+        record {
+          kept = subst (λ (values : List Value). Kept false (record { came = h.came ++ came_by call old; made = h.made ++ values; gave = h.gave ++ gave_by call }) new) made
+              (one_call false h old new kept.kept fits call may does);
+          kind_is = still.kind ∙ kept.kind_is;
+          one_port = still.count ∙ kept.one_port;
+          makes = rw (still.held 0, leaves.recorded, same_came, append-nil h.made) kept.makes;
+          waits = rw (still.held 0, leaves.jobs) kept.waits;
+          faulted = λ number is. rw (still.held 0) (kept.faulted number (sym leaves.fault ∙ is));
+        }
+
+    handed_kept : (link header : ℕ) (value : Value) → MayCall (Call.takes (TargetCall.handed link header value)) old
+        → new ≡ copies_taken (with_port_of link (arrives link value) old)
+        → BlockKept (record { came = h.came ++ arrival_at (port_into link old.ports) value ∷ []; made = h.made ++ []; gave = h.gave ++ [] }) new
+    handed_kept link header value may is =
+        let p = port_into link old.ports in
+        let arrived = with_port_of link (arrives link value) old in
+        let call = Call.takes (TargetCall.handed link header value) in
+        let once : copies_at_once arrived ≡ false =
+        ap (λ (b : Bool). b && length arrived.ports == 1 && not (is_empty (held_by arrived)) && is_spread_free old.copies
+        && ltb (old.copies.id + 1) (2 ^ 59)) (ap is_write_once kept.kind_is ∙ is_not.many) in
+        let same : new ≡ arrived = is ∙ ap (λ (b : Bool). copies_where b arrived) once in
+        let none : copied_at_once arrived ≡ [] = ap (λ (b : Bool). cond b (take 1 (held_by arrived)) []) once in
+        let l = there false h old kept.kept link header value may in
+        let mine : p ≡ 0 = (let one = kept.one_port in omega (arith, l, one)) in
+        let only : only_at p (value ∷ []) 0 ≡ value ∷ [] = ap (λ (b : Bool). cond b (value ∷ []) []) (eq-eqb p 0 mine) in
+        let first : 0 < length old.ports = (let one = kept.one_port in omega (arith, one)) in
+        let held : held_by new ≡ held_by old ++ value ∷ [] =
+        ap (λ (b : BlockState). held_by b) same ∙ held_more false h old kept.kept link header value may 0 first
+        ∙ ap (λ (vs : List Value). held_by old ++ vs) only in
+        let taken : arrived_at 0 (h.came ++ arrival_at p value ∷ []) ≡ took_at h 0 ++ value ∷ [] =
+        took_more false h old kept.kept link header value may 0 ∙ ap (λ (vs : List Value). took_at h 0 ++ vs) only in
+        record {
+          kept = subst (λ (values : List Value). Kept false (record { came = h.came ++ arrival_at p value ∷ []; made = h.made ++ values; gave = h.gave ++ [] }) new) none
+              (one_call false h old new kept.kept fits call may is);
+          kind_is = ap (λ (b : BlockState). b.kind) same ∙ kept.kind_is;
+          one_port = ap (λ (b : BlockState). length b.ports) same ∙ length-set old.ports p (arrives link value (port_at p old)) ∙ kept.one_port;
+          makes = rw (held, taken, append-nil h.made, ap (λ (b : BlockState). b.recorded) same)
+              (comes_as result kind (took_at h 0) (held_by old) h.made old.recorded value works kept.makes);
+          waits = rw (held, ap (λ (b : BlockState). b.jobs) same) (more_held result (held_by old) old.jobs.slots value kept.waits);
+          faulted = λ number is_so.
+              let before = kept.faulted number (sym (ap (λ (b : BlockState). b.fault) same) ∙ is_so) in
+              record {
+                works = before.works;
+                message = before.message;
+                rest = before.rest ++ value ∷ [];
+                held_is = held ∙ ap (λ (vs : List Value). vs ++ value ∷ []) before.held_is;
+                fails = before.fails;
+              };
+        }
+
+-- An execution block
+
+module _ {W : Type 0} (meaning : W → Value → Result (List Value) WorkFault) (kind : BlockKind) (work : Option W) (works : has_work kind ≡ true) where
+  abbrev own : Value → Result (List Value) ℕ
+  own = results_by work kind meaning
+
+  record ExecutionKept (h : History) (execution : ExecutionState W) : Type 0 where
+    pub block : BlockKept own kind works h execution.block
+    pub work_is : execution.work ≡ work
+
+  module _ (h : History) (old new : ExecutionState W) (kept : ExecutionKept h old) (fits : FitsWork old) where
+    abbrev After : WorkCall → Type 0
+    After call = ExecutionKept (noted came_for (worked_out meaning) gave_for call old h) new
+
+    plainly : (call : Call) → IsPlain call → MayCall call old.block → Does call old.block new.block → new.work ≡ old.work
+        → made_by call old.block ≡ [] → came_by call old.block ≡ [] → After (WorkCall.common call)
+    plainly call plain may does same made came = record {
+      block = plain_kept own kind works h old.block new.block kept.block fits.fits call plain may does made came;
+      work_is = same ∙ kept.work_is;
+    }
+
+    -- a block with a function makes nothing by itself
+    makes_nothing : {A : Type 0} → Makes false old.block → A
+    makes_nothing may =
+        let alone = (and_parts (makes_alone old.block.kind (length old.block.ports)) (has_turn (is_broadcast old.block.kind) old.block) may.by_itself).0 in
+        not_alone old.block.kind (ap has_work kept.block.kind_is ∙ works) alone
+      where
+        not_alone : {A : Type 0} (k : BlockKind) → has_work k ≡ true → makes_alone k (length old.block.ports) ≡ true → A
+        not_alone Action w alone = absurd (cc)
+        not_alone Transform w alone = absurd (cc)
+        not_alone TransformMany w alone = absurd (cc)
+        not_alone _ w alone = absurd (cc)
+
+    acts_kept : (call : BlockCall) → MayCallWork (WorkCall.common (Call.acts call)) old → DoesWork meaning (WorkCall.common (Call.acts call)) old new
+        → After (WorkCall.common (Call.acts call))
+    acts_kept (BlockCall.completed p) may does = plainly (Call.acts (BlockCall.completed p)) tt may does.0 does.1 refl refl
+    acts_kept (BlockCall.faulted number) may does = plainly (Call.acts (BlockCall.faulted number)) tt may does.0 does.1 refl refl
+    acts_kept (BlockCall.made (Ok true)) may does = makes_nothing does.0.0
+    acts_kept (BlockCall.made (Ok false)) may does = plainly (Call.acts (BlockCall.made (Ok false))) tt may does.0 does.1 refl refl
+    acts_kept (BlockCall.made (Err make_fault.Ids)) may does =
+        plainly (Call.acts (BlockCall.made (Err make_fault.Ids))) tt may does.0 does.1 refl refl
+    acts_kept (BlockCall.made (Err make_fault.Memory)) may does =
+        plainly (Call.acts (BlockCall.made (Err make_fault.Memory))) tt may does.0 does.1 refl refl
+
+    takes_kept : (call : TargetCall) → MayCallWork (WorkCall.common (Call.takes call)) old → DoesWork meaning (WorkCall.common (Call.takes call)) old new
+        → After (WorkCall.common (Call.takes call))
+    takes_kept (TargetCall.offered link header may_postpone how) may does =
+        plainly (Call.takes (TargetCall.offered link header may_postpone how)) tt may does.0 does.1 refl refl
+    takes_kept (TargetCall.handed link header value) may does = record {
+      block = handed_kept own kind works h old.block new.block kept.block fits.fits link header value may does.0;
+      work_is = does.1 ∙ kept.work_is;
+    }
+    takes_kept (TargetCall.wished told) may does = plainly (Call.takes (TargetCall.wished told)) tt may does.0 does.1 refl refl
+    takes_kept (TargetCall.noted link told) may does = plainly (Call.takes (TargetCall.noted link told)) tt may does.0 does.1 refl refl
+
+    call_kept : (call : WorkCall) → MayCallWork call old → DoesWork meaning call old new → After call
+    call_kept (WorkCall.common (Call.acts call)) may does = acts_kept call may does
+    call_kept (WorkCall.common (Call.gives call)) may does = plainly (Call.gives call) tt may does.0 does.1 refl refl
+    call_kept (WorkCall.common (Call.takes call)) may does = takes_kept call may does
+    call_kept WorkCall.began may does =
+        subst (λ (x : History). ExecutionKept x new) (sym (nothing_added h))
+        (subst (λ (e : ExecutionState W). ExecutionKept h e) (sym does)
+        (record { block = began_kept own kind works h old.block may kept.block; work_is = kept.work_is }))
+    call_kept (WorkCall.ended ticket) may does =
+        let made = job_result meaning ticket old in
+        let is : made ≡ own (job_message ticket old.block) =
+        ap (λ (w : Option W). results_by w old.block.kind meaning (job_message ticket old.block)) kept.work_is
+        ∙ ap (λ (k : BlockKind). results_by work k meaning (job_message ticket old.block)) kept.block.kind_is in
+        subst (λ (x : History). ExecutionKept x new) (sym (only_made h (put_by_job ticket made old.block)))
+        (subst (λ (e : ExecutionState W). ExecutionKept (record h { made = h.made ++ put_by_job ticket made old.block }) e) (sym does)
+        (record { block = ended_kept own kind works ticket made h old.block is kept.block; work_is = kept.work_is }))
+
+  all_calls_kept : (steps : List (Step WorkCall (ExecutionState W))) (old : ExecutionState W) (h : History) → FitsWork old
+      → AllDone FitsWork MayCallWork (DoesWork meaning) steps old → ExecutionKept h old
+      → ExecutionKept (history_of came_for (worked_out meaning) gave_for steps old h) (after_all steps old)
+  all_calls_kept [] old h fits done kept = kept
+  all_calls_kept (step ∷ steps) old h fits done kept =
+      all_calls_kept steps step.left (noted came_for (worked_out meaning) gave_for step.call old h) done.1.1.0 done.1.1.1
+      (call_kept h old step.left kept fits step.call done.0 done.1.0)
+
+  -- what the law says
+  work_says : (h : History) (execution : ExecutionState W) → ExecutionKept h execution → KeepsWork meaning h execution
+  work_says h execution kept =
+      let block = execution.block in
+      let shared = kept.block.kept.messages.shared in
+      let one : is_one_taker block.kind ≡ true = ap is_one_taker kept.block.kind_is ∙ shares_so kind works in
+      let same : own ≡ result_in meaning execution =
+      ap (λ (w : Option W). results_by w kind meaning) (sym kept.work_is)
+      ∙ ap (λ (k : BlockKind). results_by execution.work k meaning) (sym kept.block.kind_is) in
+      record {
+        shared = shared;
+        makes =
+            subst (λ (k : BlockKind). MakesAs (result_in meaning execution) k (took_at h 0) (held_by block) (given h.gave) block.exits.left block.recorded)
+            (sym kept.block.kind_is)
+            (subst (λ (r : Value → Result (List Value) ℕ). MakesAs r kind (took_at h 0) (held_by block) (given h.gave) block.exits.left block.recorded)
+            same
+            (given_as own kind (took_at h 0) (held_by block) h.made (given h.gave) block.exits.left block.recorded works (shared one) kept.block.makes));
+        waits = subst (λ (r : Value → Result (List Value) ℕ). AreOf r (held_by block) block.jobs.slots) same kept.block.waits;
+        faulted = λ number is.
+            subst (λ (k : BlockKind). FaultsOn (result_in meaning execution) k (held_by block) number) (sym kept.block.kind_is)
+            (subst (λ (r : Value → Result (List Value) ℕ). FaultsOn r kind (held_by block) number) same (kept.block.faulted number is));
+      }
+
+-- nothing came, and nothing is worked on
+begins_as : (result : Value → Result (List Value) ℕ) (kind : BlockKind) → has_work kind ≡ true → MakesAs result kind [] [] [] [] []
+begins_as result Action works = (record { done = []; results = []; taken_is = refl; worked = refl; all = refl }, refl)
+begins_as result Transform works = record { done = []; results = []; taken_is = refl; worked = refl; all = refl }
+begins_as result TransformMany works = record { done = []; results = []; taken_is = refl; worked = refl; all = refl }
+begins_as result _ works = absurd (cc)
+
+fresh_work : {W : Type 0} (meaning : W → Value → Result (List Value) WorkFault) (kind : BlockKind) (lanes : ℕ) (work : Option W)
+    (ports : List PortState) (rules : List LinkRule) (works : has_work kind ≡ true) → NothingCame ports
+    → FitsWork (fresh_execution kind lanes work ports rules)
+    → ExecutionKept meaning kind work works nothing_yet (fresh_execution kind lanes work ports rules)
+fresh_work meaning kind lanes work ports rules works begins fits =
+    let none = none_at kind lanes 0 ports rules begins 0 in
+    let is_not = works_so kind works in
+    record {
+      block = record {
+        kept = fresh_kept kind lanes 0 ports rules begins false (λ batch. never (is_batch kind) is_not.unbatched batch) (λ e. absurd (cc));
+        kind_is = refl;
+        one_port = fits.runs.one_port;
+        makes = subst (λ (held : List Value). MakesAs (results_by work kind meaning) kind [] held [] [] []) (sym none)
+            (begins_as (results_by work kind meaning) kind works);
+        waits = tt;
+        faulted = λ number is. absurd (cc);
+      };
+      work_is = refl;
+    }
+
+pub work_is_kept : (W : Type 0) → WorkIsKept W
+work_is_kept W = record {
+  each = λ meaning kind lanes work ports rules works begins fits steps done.
+      let fresh = fresh_execution kind lanes work ports rules in
+      work_says meaning kind work works (history_of came_for (worked_out meaning) gave_for steps fresh nothing_yet) (after_all steps fresh)
+      (all_calls_kept meaning kind work works steps fresh nothing_yet fits done (fresh_work meaning kind lanes work ports rules works begins fits));
+}

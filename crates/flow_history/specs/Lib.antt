@@ -1,0 +1,6 @@
+pub mod Calls
+pub mod Copied
+pub mod Grouped
+pub mod History
+pub mod Kept
+pub mod Worked

@@ -1,0 +1,39 @@
+//! Laws about blocks that a caller drives by hand. Each stands on a function that does nothing: whoever calls it has the
+//! whole law.
+ghost use Rattle.flow_history.specs.Copied.{CopiesAreGiven};
+ghost use Rattle.flow_history.specs.Grouped.{GroupsAreKept};
+ghost use Rattle.flow_history.specs.Kept.{MessagesAreKept, NewPortsTookNothing};
+ghost use Rattle.flow_history.specs.Worked.{WorkIsKept};
+
+/// Nothing came to ports that were just made. From a block with such ports the other laws begin.
+pub fn new_ports_took_nothing()
+    ensures { NewPortsTookNothing }
+{}
+
+/// Whatever is called, in whatever order: a buffer, a batch or a join gives each of its outputs once, in order, and has the
+/// rest left. A buffer, a broadcast and a write-once block make their outputs of their messages as they are, a batch makes
+/// rows of them, and a join tuples; what they made nothing of they hold. A write-once block with room for one message takes
+/// no second.
+pub fn messages_are_kept()
+    ensures { MessagesAreKept }
+{}
+
+/// Whatever is called, a batched join cuts what came in into groups, in the order in which it came over all ports, and
+/// holds the rest. It gives each group once, in order, and has the rest left.
+pub fn groups_are_kept()
+    ensures { GroupsAreKept }
+{}
+
+/// Whatever is called, each link out of a block that copies is given some of what the block made, in order and once each
+/// at most. If its target takes each message at once, it lacks none that its predicate admits, up to its limit, but for the
+/// newest while the link owes that, and for those behind a refusal.
+pub fn copies_are_given()
+    ensures { CopiesAreGiven }
+{}
+
+/// Whatever is called, an action, a transform or a transform-many gives, has left or has recorded the results of the
+/// messages that it took, in order, but for those that it holds. A result that came back out of turn is that of its
+/// message, and its own fault that of the message that it holds first.
+pub fn work_is_kept<W>()
+    ensures { WorkIsKept W }
+{}
