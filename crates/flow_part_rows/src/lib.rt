@@ -1,4 +1,4 @@
-//! Tests of each part of a network by itself: plans and phases, ports, outlets, spreads and blocks.
+//! Tests of each part of a network by itself: plans and phases, ports, outlets, spreads, and blocks and their jobs.
 #![tactic(auto)]
 
 #[cfg(test)]
@@ -9,6 +9,8 @@ mod check;
 mod driven;
 #[cfg(test)]
 mod intake;
+#[cfg(test)]
+mod jobs;
 #[cfg(test)]
 mod links;
 #[cfg(test)]

@@ -1,0 +1,159 @@
+//! Blocks with functions, by the calls that all blocks have in common. The test begins their jobs, and brings the results
+//! back.
+ghost use Rattle.flow_part_rows.specs.Jobs.{Rests};
+
+use crate::shared::{header, link};
+use flow_exec::{EndFault, Execution, JobResult};
+use flow_link::{BlockKind, TargetBlock};
+use flow_outlet::LinkRule;
+use flow_value::{MessageStatus, Parcel, Steps, Text, Value};
+use std::alloc::Global;
+use std::collections::VecDeque;
+use std::process::Abort;
+use std::sync::Arc;
+
+/// The function with this one step.
+fn function(rt: &impl Abort, alloc: Global, step: &str) -> Option<Arc<Steps, Global>> {
+    let Ok(steps) = Steps::read(alloc, &[step]) else {
+        panic!(rt; "it is no step");
+    };
+    let Ok(work) = Arc::new(alloc, steps) else {
+        panic!(rt; "out of memory");
+    };
+    Some(work)
+}
+
+/// Link 7, out of a block.
+fn link_out(rt: &impl Abort, alloc: Global) -> Vec<LinkRule> {
+    let Ok(rules) = vec![in alloc; link(7)] else {
+        panic!(rt; "out of memory");
+    };
+    rules
+}
+
+/// A transform with two lanes, which reads integers.
+fn transform(rt: &impl Abort, alloc: Global) -> Execution<Steps>
+    ensures { Rests result }
+{
+    let work = function(rt, alloc, "int");
+    let Ok(transform) = Execution::transform(alloc, 2, None, work, link_out(rt, alloc)) else {
+        panic!(rt; "out of memory");
+    };
+    transform
+}
+
+/// The block takes a text over link 0.
+fn take(rt: &impl Abort, alloc: Global, block: &mut Execution<Steps>, content: &str)
+    requires { Rests block.old }
+    ensures { Rests block.new }
+{
+    let Ok(text) = Text::from_str(alloc, content) else {
+        panic!(rt; "out of memory");
+    };
+    let Ok(parcel) = Parcel::new(alloc, Value::Text(text)) else {
+        panic!(rt; "out of memory");
+    };
+    let header = header(rt, 1);
+    let Ok(MessageStatus::Accepted) = block.offer_message(alloc, 0, header, true) else {
+        panic!(rt; "it is not accepted");
+    };
+    block.hand_over(0, header, parcel);
+}
+
+/// The result of the job that the block begins next, which has this ticket.
+fn run_next(
+    rt: &impl Abort,
+    alloc: Global,
+    block: &mut Execution<Steps>,
+    ticket: u64,
+) -> JobResult<Steps> {
+    let Ok(Some(job)) = block.begin(alloc) else {
+        panic!(rt; "no job begins");
+    };
+    if job.ticket() != ticket || !block.is_own_job(&job) {
+        panic!(rt; "it is another job");
+    }
+    let Ok(done) = job.run(alloc) else {
+        panic!(rt; "out of memory");
+    };
+    done
+}
+
+/// The block takes the result back.
+fn bring_back(rt: &impl Abort, block: &mut Execution<Steps>, done: JobResult<Steps>) {
+    let Ok(()) = block.end(done) else {
+        panic!(rt; "it is not taken back");
+    };
+}
+
+/// The result of the second job of a block that is equal to the transform.
+fn second_result(rt: &impl Abort, alloc: Global) -> JobResult<Steps> {
+    let mut equal = transform(rt, alloc);
+    take(rt, alloc, &mut equal, "1");
+    take(rt, alloc, &mut equal, "2");
+    run_next(rt, alloc, &mut equal, 0);
+    run_next(rt, alloc, &mut equal, 1)
+}
+
+/// Whether the block hands the result back, since no job of its own is out that it could be of.
+fn is_strange(block: &mut Execution<Steps>, done: JobResult<Steps>) -> bool {
+    matches!(block.end(done), Err((_, EndFault::Strange)))
+}
+
+/// Whether these values are the numbers.
+fn are(values: &VecDeque<Value>, numbers: &[i64]) -> bool {
+    values
+        .iter()
+        .map(Value::as_int)
+        .eq(numbers.iter().copied().map(Some))
+}
+
+#[test]
+fn tickets_return_out_of_order(rt: HostRuntime) {
+    let mut block = transform(&rt, rt.alloc());
+    take(&rt, rt.alloc(), &mut block, "1");
+    take(&rt, rt.alloc(), &mut block, "2");
+    take(&rt, rt.alloc(), &mut block, "3");
+    let first = run_next(&rt, rt.alloc(), &mut block, 0);
+    let second = run_next(&rt, rt.alloc(), &mut block, 1);
+    let Ok(None) = block.begin(rt.alloc()) else {
+        panic!(&rt; "a third job begins");
+    };
+    bring_back(&rt, &mut block, second);
+    assert!(rt; are(block.left(), &[]));
+    bring_back(&rt, &mut block, first);
+    assert!(rt; are(block.left(), &[1, 2]));
+    let again = second_result(&rt, rt.alloc());
+    assert!(rt; is_strange(&mut block, again));
+}
+
+#[test]
+fn an_action_records(rt: HostRuntime) {
+    let work = function(&rt, rt.alloc(), "int");
+    let Ok(mut block) = Execution::action(rt.alloc(), 1, Some(1), work, Vec::new(rt.alloc())) else {
+        panic!(&rt; "out of memory");
+    };
+    take(&rt, rt.alloc(), &mut block, "5");
+    let done = run_next(&rt, rt.alloc(), &mut block, 0);
+    bring_back(&rt, &mut block, done);
+    let [value] = block.recorded() else {
+        panic!(&rt; "it records another number of results");
+    };
+    assert!(rt; value.as_int() == Some(5));
+    assert!(rt; block.work().is_some() && block.block().kind() == BlockKind::Action);
+}
+
+#[test]
+fn a_transform_many_without_a_function_gives_its_messages(rt: HostRuntime) {
+    let rules = link_out(&rt, rt.alloc());
+    let Ok(mut block) = Execution::transform_many(rt.alloc(), 1, None, None, rules) else {
+        panic!(&rt; "out of memory");
+    };
+    take(&rt, rt.alloc(), &mut block, "5");
+    let done = run_next(&rt, rt.alloc(), &mut block, 0);
+    bring_back(&rt, &mut block, done);
+    let Some(value) = block.left().front() else {
+        panic!(&rt; "it gives nothing");
+    };
+    assert!(rt; value.as_str() == Some("5"));
+}
