@@ -39,7 +39,7 @@ use Rattle.flow_history.proofs.CallsLeave.{Leaves, IsPlain, call_leaves}
 use Rattle.flow_history.proofs.Makes.{not_of, shared_more}
 use Rattle.flow_history.proofs.MessagesKept.{one_call, fresh_kept, none_at, nothing_added, only_made}
 use Rattle.flow_history.proofs.PortCalls.{less_waits}
-use Rattle.flow_history.proofs.Still.{Kept}
+use Rattle.flow_history.proofs.Still.{shares_alone, Kept}
 use Rattle.flow_history.proofs.Takes.{held_more, open_port, refuses_so, there}
 
 -- Whether all ports have completed
@@ -160,6 +160,7 @@ module _ (h : History) (old new : JoinState) (kept : KeptJoin h old) (fits : Fit
             rows = not_of is_batch BatchedJoin old.block.kind fits.kind_is refl;
             tuples = not_of is_join BatchedJoin old.block.kind fits.kind_is refl;
           };
+          weighs = not_of shares_alone BatchedJoin old.block.kind fits.kind_is refl;
           in_order = each_after_group size old.order (λ q port. PortLaw any_link (took q) port) ports
               (λ q n there.
               less_waits (took q) (port_in ports q) (drop n (port_in ports q).waiting)

@@ -1,5 +1,5 @@
 -- What a block makes is of what it held, in order, and what it holds is the rest.
-use Rattle.std.proofs.Common.{◌≡◌, ℕ, ◌-◌, ◌≤◌, leb, Bool, true, false, not, ◌&&◌, ◌||◌, cond, List, [], ◌∷◌, ◌++◌, length, set, take, drop, Option, Some, None, is_some, is_none, refl, ap, sym, subst, ◌∙◌, arith, append_assoc, append-nil}
+use Rattle.std.proofs.Common.{◌≡◌, ℕ, ◌-◌, ◌≤◌, leb, Bool, true, false, not, ◌&&◌, ◌||◌, cond, List, [], ◌∷◌, ◌++◌, length, set, take, drop, Option, Some, None, is_some, is_none, refl, ap, sym, subst, ◌∙◌, arith, append_assoc, append-nil, Ok, ◌+◌}
 use Rattle.std.proofs.lemmas.Bool.{and_parts, not-true, lt-ltb, le-leb}
 use Rattle.std.proofs.lemmas.List.{length-map, length-set, length-drop, take-append-drop}
 use Rattle.flow_value.specs.View.{values_of-items_from}
@@ -16,20 +16,22 @@ use Rattle.flow_intake.proofs.CallsKeepOrder.{moves_keep}
 use Rattle.flow_group.specs.Tuple.{held_at, has_tuple, tuple_of, takes_tuple}
 use Rattle.flow_group.specs.Tuples.{TuplesLaw}
 use Rattle.flow_group.proofs.TuplesKeep.{tuples_kept}
-use Rattle.flow_outlet.specs.Outlet.{is_empty}
+use Rattle.flow_outlet.specs.Outlet.{is_empty, groups_with}
+use Rattle.flow_outlet.specs.declared.group.Group.{Group}
 use Rattle.flow_spread.specs.Spread.{is_spread_free, puts}
-use Rattle.flow_block.specs.Block.{BlockState, port_in, port_at, held_by, is_batch, is_join, is_batched_join, row_of, next_group, takes_group, makes_row, makes_tuple, copies_next, puts_out}
+use Rattle.flow_block.specs.Block.{BlockState, port_in, port_at, held_by, is_batch, is_join, is_batched_join, row_of, next_group, takes_group, makes_row, makes_tuple, copies_next, puts_out, unit_weight, group_weight}
 use Rattle.flow_block.specs.Copies.{copies_weight}
-use Rattle.flow_block.specs.NodeLaw.{is_whole}
+use Rattle.flow_block.specs.NodeLaw.{is_whole, weighed, rows_weighed}
 use Rattle.flow_block.specs.Peeks.{has_group, has_group_of_ports, has_next, may_copy, may_work, may_make}
 use Rattle.flow_block.specs.Traits.{makes_alone, has_turn, makes_itself, made_next, makes_its_next}
 use Rattle.flow_block.proofs.GroupsOfRows.{groups_more, group_there, group_fits, whole_or_last, group_tells}
-use Rattle.flow_block.proofs.PortsChange.{kept_at_one}
+use Rattle.flow_block.proofs.PortsChange.{kept_at_one, kept_at_all}
+use Rattle.flow_block.proofs.WeightsOfResults.{rows_put, weighs_one}
 use Rattle.flow_history.specs.History.{History, took_at, given}
 use Rattle.flow_history.specs.Kept.{any_link, hands_on}
 use Rattle.flow_history.proofs.CallsLeave.{one_ordered, all_ordered}
 use Rattle.flow_history.proofs.PortCalls.{less_waits, room_keeps}
-use Rattle.flow_history.proofs.Still.{Kept}
+use Rattle.flow_history.proofs.Still.{shares_alone, weighs_left, Kept}
 
 -- another kind than the block's
 pub not_of : (test : BlockKind → Bool) (kind own : BlockKind) → own ≡ kind → test kind ≡ false → {A : Type 0} → test own ≡ true → A
@@ -62,6 +64,31 @@ pub one_back : (capacity : Option ℕ) (waiting : List Value) (load now : ℕ) �
 one_back None waiting load now some fits = omega arith
 one_back (Some limit) [] load now some fits = absurd (cc)
 one_back (Some limit) (value ∷ waiting) load now some fits = let enough = fits refl in omega (arith, enough)
+
+-- The weights of what is left, when there is one output more
+
+batch_weighs_so : (kind : BlockKind) → kind ≡ Batch → (capacity : Option ℕ) (next : ℕ) (left : List Value)
+    → weighs_left kind capacity next left ≡ rows_weighed capacity next left
+batch_weighs_so kind is capacity next left = ap (λ (k : BlockKind). weighs_left k capacity next left) is
+
+batch_weighs : (old : BlockState) → old.kind ≡ Batch
+    → weighs_left old.kind (port_at 0 old).capacity old.exits.next old.exits.left
+    ≡ rows_weighed (port_at 0 old).capacity old.exits.next old.exits.left
+batch_weighs old is = batch_weighs_so old.kind is (port_at 0 old).capacity old.exits.next old.exits.left
+
+one_put : (kind : BlockKind) → is_batch kind ≡ false → (capacity : Option ℕ) (next : ℕ) (left : List Value) (value : Value) (groups : List Group)
+    → groups ≡ weighs_left kind capacity next left
+    → groups_with (next + length left) 1 (unit_weight capacity) groups ≡ weighs_left kind capacity next (left ++ value ∷ [])
+one_put kind single capacity next left value groups is =
+    weighs_one (λ v. Ok []) Buffer capacity [] [] [] [] left next groups (value ∷ []) refl refl refl
+    (is ∙ ap (λ (b : Bool). cond b (rows_weighed capacity next left) (weighed capacity next left)) single)
+    ∙ sym (ap (λ (b : Bool). cond b (rows_weighed capacity next (left ++ value ∷ [])) (weighed capacity next (left ++ value ∷ []))) single)
+
+pub alone_shares : (kind : BlockKind) → shares_alone kind ≡ true → is_one_taker kind ≡ true
+alone_shares Buffer e = refl
+alone_shares Batch e = refl
+alone_shares Join e = refl
+alone_shares _ e = absurd (cc)
 
 module _ (single : Bool) (history : History) (old : BlockState) (kept : Kept single history old) where
   abbrev took : ℕ → ℕ
@@ -124,6 +151,13 @@ module _ (single : Bool) (history : History) (old : BlockState) (kept : Kept sin
           };
           tuples = not_of is_join Batch old.kind is refl;
         };
+        weighs = λ alone.
+            ap (λ (groups : List Group). groups_with (old.exits.next + length old.exits.left) 1
+            (group_weight port.capacity (length group)) groups) (kept.weighs alone ∙ batch_weighs old is)
+            ∙ rows_put port.capacity old.exits.next (length group) old.exits.left row weighs there
+            ∙ sym (batch_weighs_so old.kind is port.capacity old.exits.next (old.exits.left ++ row ∷ []))
+            ∙ ap (λ (c : Option ℕ). weighs_left old.kind c old.exits.next (old.exits.left ++ row ∷ []))
+            (sym (kept_at_one (λ (r : PortState). r.capacity) old.ports 0 0 (takes_group old.size port) refl));
         in_order = one_ordered took old.ports 0 (takes_group old.size port) kept.in_order
             (λ there before.
             less_waits (took 0) port (drop old.size port.waiting)
@@ -148,6 +182,10 @@ module _ (single : Bool) (history : History) (old : BlockState) (kept : Kept sin
           (sym (length-map old.ports takes_next))
           (tuples_kept.make (took_at history) history.made old.ports (kept.messages.tuples e) has);
     };
+    weighs = λ alone.
+        one_put old.kind (ap is_batch is) (port_at 0 old).capacity old.exits.next old.exits.left (tuple_of old.ports) old.exits.groups (kept.weighs alone)
+        ∙ ap (λ (c : Option ℕ). weighs_left old.kind c old.exits.next (old.exits.left ++ tuple_of old.ports ∷ []))
+        (sym (kept_at_all (λ (r : PortState). r.capacity) takes_next old.ports 0 (λ port. refl)));
     in_order = all_ordered took old.ports takes_next kept.in_order
         (λ p there before. moves_keep.take_next any_link (took p) (port_at p old) before);
     some = kept.some;
@@ -173,6 +211,10 @@ module _ (single : Bool) (history : History) (old : BlockState) (kept : Kept sin
           rows = not_of is_batch Buffer old.kind is refl;
           tuples = not_of is_join Buffer old.kind is refl;
         };
+        weighs = λ alone.
+            one_put old.kind (ap is_batch is) (port_at 0 old).capacity old.exits.next old.exits.left value old.exits.groups (kept.weighs alone)
+            ∙ ap (λ (c : Option ℕ). weighs_left old.kind c old.exits.next (old.exits.left ++ value ∷ []))
+            (sym (kept_at_one (λ (r : PortState). r.capacity) old.ports 0 0 (takes_next (port_at 0 old)) refl));
         in_order = one_ordered took old.ports 0 (takes_next (port_at 0 old)) kept.in_order
             (λ there before. moves_keep.take_next any_link (took 0) (port_at 0 old) before);
         some = kept.some;
@@ -202,6 +244,7 @@ module _ (single : Bool) (history : History) (old : BlockState) (kept : Kept sin
           rows = λ batch. absurd (cc);
           tuples = λ join. absurd (cc);
         };
+        weighs = λ alone. absurd (let one = alone_shares old.kind alone in cc);
         in_order = one_ordered took old.ports 0 changed kept.in_order
             (λ there before.
             room_keeps (took 0) back (takes_next port)

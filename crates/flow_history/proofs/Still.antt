@@ -1,8 +1,10 @@
 -- What stays of a block where a call takes no message, makes nothing, and gives nothing.
-use Rattle.std.proofs.Common.{◌≡◌, ℕ, zero, suc, ◌<◌, ◌≤◌, Bool, true, false, ◌&&◌, ◌||◌, List, [], ◌∷◌, ◌++◌, length, map, set, Some, None, refl, ap, sym, subst, ◌∙◌}
+use Rattle.std.proofs.Common.{◌≡◌, ℕ, zero, suc, ◌<◌, ◌≤◌, Bool, true, false, ◌&&◌, ◌||◌, List, [], ◌∷◌, ◌++◌, length, map, set, cond, Option, Some, None, refl, ap, sym, subst, ◌∙◌}
 use Rattle.std.proofs.lemmas.Bool.{or_right}
 use Rattle.std.proofs.lemmas.List.{length-map, length-set}
 use Rattle.flow_value.specs.declared.value.Value.{Value}
+use Rattle.flow_link.specs.declared.draft.BlockKind.{BlockKind}
+use Rattle.flow_link.specs.declared.draft.BlockKind.TheVariants.{Buffer, Batch, Join}
 use Rattle.flow_link.specs.Lists.{every}
 use Rattle.flow_link.specs.Making.{all_items, are_groups, row_weight}
 use Rattle.flow_link.specs.Plan.{is_one_taker, is_write_once}
@@ -13,10 +15,11 @@ use Rattle.flow_group.specs.Tuples.{TuplesLaw}
 use Rattle.flow_group.proofs.TuplesKeep.{tuples_kept}
 use Rattle.flow_outlet.specs.Outlet.{is_empty}
 use Rattle.flow_block.specs.Block.{BlockState, port_in, port_at, held_by, is_batch, is_join}
-use Rattle.flow_block.specs.NodeLaw.{is_whole}
+use Rattle.flow_outlet.specs.declared.group.Group.{Group}
+use Rattle.flow_block.specs.NodeLaw.{is_whole, weighed, rows_weighed}
 use Rattle.flow_block.proofs.PortsChange.{kept_at_one, kept_at_all}
 use Rattle.flow_history.specs.History.{Gift, History, took_at, given}
-use Rattle.flow_history.specs.Kept.{any_link, hands_on, RowsMade, KeepsMessages}
+use Rattle.flow_history.specs.Kept.{any_link, hands_on, RowsMade}
 
 -- a block that takes one message in all, at one port with room for one
 pub record HasOneRoom (block : BlockState) : Type 0 where
@@ -24,9 +27,29 @@ pub record HasOneRoom (block : BlockState) : Type 0 where
   pub alone : length block.ports ≡ 1
   pub room : (port_at 0 block).capacity ≡ Some 1
 
+-- what a block made of its messages, whatever room they take
+pub record Made (history : History) (block : BlockState) : Type 0 where
+  pub shared : is_one_taker block.kind ≡ true → history.made ≡ given history.gave ++ block.exits.left
+  pub as_they_are : hands_on block.kind ≡ true → took_at history 0 ≡ history.made ++ held_by block
+  pub rows : is_batch block.kind ≡ true
+      → RowsMade block.size (took_at history 0) history.made (held_by block) (has_ended (port_at 0 block).refusing)
+  pub tuples : is_join block.kind ≡ true → TuplesLaw (length block.ports) (took_at history) history.made (held_at block.ports)
+
+-- the weights of what a buffer, a batch or a join has left
+abbrev pub shares_alone : BlockKind → Bool
+shares_alone Buffer = true
+shares_alone Batch = true
+shares_alone Join = true
+shares_alone _ = false
+
+abbrev pub weighs_left : BlockKind → Option ℕ → ℕ → List Value → List Group
+weighs_left kind capacity next left = cond (is_batch kind) (rows_weighed capacity next left) (weighed capacity next left)
+
 -- what holds of a block and its history after each call; the first argument says that it has room for one message in all
 pub record Kept (single : Bool) (history : History) (block : BlockState) : Type 0 where
-  pub messages : KeepsMessages history block
+  pub messages : Made history block
+  pub weighs : shares_alone block.kind ≡ true
+      → block.exits.groups ≡ weighs_left block.kind (port_at 0 block).capacity block.exits.next block.exits.left
   pub in_order : (p : ℕ) → p < length block.ports → PortLaw any_link (length (took_at history p)) (port_at p block)
   pub some : is_batch block.kind ≡ true → 0 < block.size
   -- what takes one message in all
@@ -117,8 +140,9 @@ ended_later false false none all implies e = e
 pub kept_still : (single : Bool) (history : History) (gave : List Gift) (old new : BlockState) → Kept single history old → Still old new
     → ((p : ℕ) → p < length new.ports → PortLaw any_link (length (took_at history p)) (port_at p new))
     → (is_one_taker old.kind ≡ true → history.made ≡ given gave ++ new.exits.left)
+    → (shares_alone old.kind ≡ true → new.exits.groups ≡ weighs_left old.kind (port_at 0 old).capacity new.exits.next new.exits.left)
     → Kept single (record history { gave = gave }) new
-kept_still single history gave old new kept still in_order shared = record {
+kept_still single history gave old new kept still in_order shared weighs = record {
   messages = record {
     shared = λ shares. shared (ap is_one_taker (sym still.kind) ∙ shares);
     as_they_are = λ hands.
@@ -130,6 +154,10 @@ kept_still single history gave old new kept still in_order shared = record {
         (tuples_kept.same (length old.ports) (took_at history) (took_at history) history.made (held_at old.ports) (held_at new.ports)
         (kept.messages.tuples (ap is_join (sym still.kind) ∙ join)) (λ p l. refl) (λ p l. still.held p));
   };
+  weighs = λ alone.
+      weighs (ap shares_alone (sym still.kind) ∙ alone)
+      ∙ ap (λ (k : BlockKind). weighs_left k (port_at 0 old).capacity new.exits.next new.exits.left) (sym still.kind)
+      ∙ ap (λ (c : Option ℕ). weighs_left new.kind c new.exits.next new.exits.left) (sym still.capacity);
   in_order = in_order;
   some = λ batch. subst (λ (size : ℕ). 0 < size) (sym still.size) (kept.some (ap is_batch (sym still.kind) ∙ batch));
   takes_once = λ once. still.once ∙ kept.takes_once (ap is_write_once (sym still.kind) ∙ once);

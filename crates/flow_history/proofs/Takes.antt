@@ -37,7 +37,7 @@ use Rattle.flow_history.specs.Kept.{any_link, hands_on, RowsMade}
 use Rattle.flow_history.proofs.CallsLeave.{Ordered, out_at}
 use Rattle.flow_history.proofs.Makes.{copied_made}
 use Rattle.flow_history.proofs.PortCalls.{WantedAt, wanted_at, arrive_keeps}
-use Rattle.flow_history.proofs.Still.{HasOneRoom, Kept}
+use Rattle.flow_history.proofs.Still.{weighs_left, HasOneRoom, Kept}
 
 -- what came at a port by one message
 came_here : (p q : ℕ) (value : Value) → arrived_at q (arrival_at p value ∷ []) ≡ only_at p (value ∷ []) q
@@ -208,6 +208,9 @@ module _ (single : Bool) (history : History) (old : BlockState) (kept : Kept sin
           (tuples_kept.take (length old.ports) (took_at history) history.made (held_at old.ports) (kept.messages.tuples join) p value)
           (λ q l. took_more q) held_more);
     };
+    weighs = λ alone.
+        kept.weighs alone
+        ∙ ap (λ (c : Option ℕ). weighs_left old.kind c old.exits.next old.exits.left) (sym (capacity_so 0));
     in_order = ordered;
     some = kept.some;
     takes_once = kept.takes_once;

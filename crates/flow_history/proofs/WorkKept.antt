@@ -43,7 +43,7 @@ use Rattle.flow_history.proofs.CallsLeave.{IsPlain, call_leaves, one_ordered, al
 use Rattle.flow_history.proofs.Makes.{one_back}
 use Rattle.flow_history.proofs.MessagesKept.{nothing_added, only_made, one_call, fresh_kept, none_at}
 use Rattle.flow_history.proofs.PortCalls.{room_keeps}
-use Rattle.flow_history.proofs.Still.{Kept}
+use Rattle.flow_history.proofs.Still.{shares_alone, Kept}
 use Rattle.flow_history.proofs.Takes.{held_more, took_more, there}
 
 -- What a block with a function is not
@@ -52,11 +52,12 @@ record Works (kind : BlockKind) : Type 0 where
   pub unbatched : is_batch kind ≡ false
   pub unjoined : is_join kind ≡ false
   pub many : is_write_once kind ≡ false
+  pub works : shares_alone kind ≡ false
 
 works_so : (kind : BlockKind) → has_work kind ≡ true → Works kind
-works_so Action e = record { changes = refl; unbatched = refl; unjoined = refl; many = refl }
-works_so Transform e = record { changes = refl; unbatched = refl; unjoined = refl; many = refl }
-works_so TransformMany e = record { changes = refl; unbatched = refl; unjoined = refl; many = refl }
+works_so Action e = record { changes = refl; unbatched = refl; unjoined = refl; many = refl; works = refl }
+works_so Transform e = record { changes = refl; unbatched = refl; unjoined = refl; many = refl; works = refl }
+works_so TransformMany e = record { changes = refl; unbatched = refl; unjoined = refl; many = refl; works = refl }
 works_so _ e = absurd (cc)
 
 shares_so : (kind : BlockKind) → has_work kind ≡ true → is_one_taker kind ≡ true
@@ -180,6 +181,7 @@ module _ (result : Value → Result (List Value) ℕ) (kind : BlockKind) (works 
         rows = other_kind is_batch new is is_not.unbatched;
         tuples = other_kind is_join new is is_not.unjoined;
       };
+      weighs = other_kind shares_alone new is is_not.works;
       in_order = ordered;
       some = other_kind is_batch new is is_not.unbatched;
       takes_once = other_kind is_write_once new is is_not.many;

@@ -1,13 +1,14 @@
 -- What becomes of the messages of a block that a caller drives by hand, over any calls.
-use Rattle.std.specs.Prelude.{◌≡◌, ℕ, ◌<◌, ◌≤◌, Bool, true, false, ◌&&◌, ◌||◌, List, [], ◌∷◌, ◌++◌, length, map, Option, Some, None}
+use Rattle.std.specs.Prelude.{◌≡◌, ℕ, ◌+◌, ◌<◌, ◌≤◌, Bool, true, false, ◌&&◌, ◌||◌, List, [], ◌∷◌, ◌++◌, length, map, cond, is_some, Option, Some, None}
 use Rattle.flow_value.specs.declared.value.Value.{Value}
 use Rattle.flow_link.specs.declared.draft.BlockKind.{BlockKind}
 use Rattle.flow_link.specs.declared.draft.BlockKind.TheVariants.{Buffer, Broadcast, WriteOnce}
+use Rattle.flow_link.specs.LinkOk.{IsWithin}
 use Rattle.flow_link.specs.Lists.{every}
 use Rattle.flow_link.specs.Making.{all_items, are_groups, row_weight}
 use Rattle.flow_link.specs.Plan.{is_one_taker}
 use Rattle.flow_link.specs.Views.{LinkFacts}
-use Rattle.flow_intake.specs.Port.{PortState, fresh_end, fresh_port}
+use Rattle.flow_intake.specs.Port.{PortState, fresh_end, fresh_port, coming}
 use Rattle.flow_intake.specs.PortLaw.{PortLaw, has_ended}
 use Rattle.flow_group.specs.Tuple.{held_at}
 use Rattle.flow_group.specs.Tuples.{TuplesLaw}
@@ -15,6 +16,7 @@ use Rattle.flow_outlet.specs.Outlet.{is_empty}
 use Rattle.flow_outlet.specs.declared.ends.LinkRule.{LinkRule}
 use Rattle.flow_block.specs.Block.{BlockState, port_in, port_at, held_by, is_batch, is_join}
 use Rattle.flow_block.specs.BlockFits.{fresh_block}
+use Rattle.flow_block.specs.Copies.{copies_weight}
 use Rattle.flow_block.specs.NodeLaw.{is_whole}
 use Rattle.flow_block.specs.Peeks.{holds_nothing}
 use Rattle.flow_history.specs.Calls.{MayCall, Does, Fits, Step, AllDone, after_all, Call}
@@ -51,6 +53,17 @@ pub record RowsMade (size : ℕ) (took made held : List Value) (ended : Bool) : 
   pub sized : are_groups row_weight size made ≡ true
   pub whole : ((ended && is_empty held) || every (is_whole size) made) ≡ true
 
+-- it makes outputs without a function, and counts its messages alike at all ports
+abbrev pub makes_freely : BlockKind → Bool
+makes_freely kind = hands_on kind || is_batch kind || is_join kind
+
+-- how many messages it has made something of that is not wholly given: of a buffer or a join one for each output, of a batch those of
+-- its rows, and of a block that copies the one of its element, while a link is still to have it, or for good if it takes no other
+abbrev pub places_left : BlockState → ℕ
+places_left block =
+    cond (is_one_taker block.kind) (cond (is_batch block.kind) (length (all_items block.exits.left)) (length block.exits.left))
+    (copies_weight block.copies)
+
 pub record KeepsMessages (history : History) (block : BlockState) : Type 0 where
   -- what shares its messages out gives each output once, in order, and has the rest left
   pub shared : is_one_taker block.kind ≡ true → history.made ≡ given history.gave ++ block.exits.left
@@ -59,6 +72,9 @@ pub record KeepsMessages (history : History) (block : BlockState) : Type 0 where
   pub rows : is_batch block.kind ≡ true
       → RowsMade block.size (took_at history 0) history.made (held_by block) (has_ended (port_at 0 block).refusing)
   pub tuples : is_join block.kind ≡ true → TuplesLaw (length block.ports) (took_at history) history.made (held_at block.ports)
+  -- what it holds at a port, what it has not wholly given, and what comes there fit into the capacity, where its ports have one
+  pub within : makes_freely block.kind ≡ true → is_some (port_at 0 block).capacity ≡ true → (p : ℕ) → p < length block.ports
+      → IsWithin (port_at p block).capacity (length (port_at p block).waiting + places_left block + coming (port_at p block))
 
 -- over any calls, from a block to which nothing came
 pub record MessagesAreKept : Type 0 where
