@@ -1,5 +1,6 @@
 pub mod CallsLeave
 pub mod CopiesGiven
+pub mod ExitsGo
 pub mod GroupsKept
 pub mod Makes
 pub mod MessagesKept

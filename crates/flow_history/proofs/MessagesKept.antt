@@ -31,6 +31,7 @@ use Rattle.flow_block.specs.Traits.{outcome_of, made_next, shares, offer_next, o
 use Rattle.flow_block.proofs.TestsTell.{none_left}
 use Rattle.flow_link.specs.LinkOk.{IsWithin}
 use Rattle.flow_outlet.specs.Fits.{weight_of}
+use Rattle.flow_outlet.specs.History.{listed}
 use Rattle.flow_outlet.specs.declared.group.Group.{Group}
 use Rattle.flow_block.specs.Copies.{copies_weight}
 use Rattle.flow_block.specs.NodeLaw.{weighed, rows_weighed}
@@ -40,6 +41,7 @@ use Rattle.flow_history.specs.Calls.{Call, MayCall, Does, Fits, Step, AllDone, a
 use Rattle.flow_history.specs.History.{Gift, History, nothing_yet, took_at, given, came_by, made_by, copied_at_once, gifts_of, noted, history_of, gave_by}
 use Rattle.flow_history.specs.Kept.{NothingCame, MessagesAreKept, makes_freely, places_left, KeepsMessages}
 use Rattle.flow_history.proofs.CallsLeave.{Leaves, IsPlain, call_leaves, out_at}
+use Rattle.flow_history.proofs.ExitsGo.{Goes, given_value, exits_go}
 use Rattle.flow_history.proofs.Makes.{makes_kept, alone_shares}
 use Rattle.flow_history.proofs.Still.{HasOneRoom, Kept, kept_still, shares_alone, weighs_left}
 use Rattle.flow_history.proofs.Takes.{taken_kept}
@@ -69,15 +71,6 @@ only_given h gifts =
     ap (λ (came : List Arrival). record { came = came; made = h.made ++ []; gave = h.gave ++ gifts }) (append-nil h.came)
     ∙ ap (λ (made : List Value). record { came = h.came; made = made; gave = h.gave ++ gifts }) (append-nil h.made)
 
--- what is left, and what it weighs, stays
-record SameExits (old new : OutletState) : Type 0 where
-  pub left : new.left ≡ old.left
-  pub next : new.next ≡ old.next
-  pub groups : new.groups ≡ old.groups
-
-same_exits : (o : OutletState) → SameExits o o
-same_exits o = record { left = refl; next = refl; groups = refl }
-
 -- the weight of what is given first is kept no more
 rest_weighs : (kind : BlockKind) (capacity : Option ℕ) (next : ℕ) (value : Value) (left : List Value)
     → groups_after next (weighs_left kind capacity next (value ∷ left)) ≡ weighs_left kind capacity (next + 1) left
@@ -95,101 +88,35 @@ rest_weighs kind capacity next value left = by_kind (is_batch kind) capacity
         ap (λ (b : Bool). cond b (weighed (Some limit) (next + 1) left)
         (record { until = next; weight = 1 } ∷ weighed (Some limit) (next + 1) left)) (eq-eqb next next refl)
 
-module _ (single : Bool) (h : History) (old : BlockState) (kept : Kept single h old) where
-  exits_stopped : (ended : Bool) (how : Outcome) → SameExits old.exits (cond ended old (stops_by how old)).exits
-  exits_stopped true how = same_exits old.exits
-  exits_stopped false how = same_exits old.exits
+-- what is left is the rest, of what is given first
+pub given_then : (gave : List Gift) (call : Call) → given (gave ++ gave_by call) ≡ given gave ++ listed (given_value call)
+given_then gave call = map-append (λ (gift : Gift). gift.value) gave (gave_by call) ∙ ap (λ (vs : List Value). given gave ++ vs) (gifts_are call)
+  where
+    gifts_are : (call : Call) → given (gave_by call) ≡ listed (given_value call)
+    gifts_are (Call.gives (SourceCall.consumed link header None)) = refl
+    gifts_are (Call.gives (SourceCall.consumed link header (Some value))) = refl
+    gifts_are (Call.gives (SourceCall.offered offer)) = refl
+    gifts_are (Call.gives (SourceCall.noted link header how)) = refl
+    gifts_are (Call.acts call) = refl
+    gifts_are (Call.takes call) = refl
 
-  exits_offered : (one : Bool) (place : Option ℕ) → SameExits old.exits (offered_by one place old).exits
-  exits_offered true None = same_exits old.exits
-  exits_offered true (Some k) = record { left = refl; next = refl; groups = refl }
-  exits_offered false None = same_exits old.exits
-  exits_offered false (Some k) = same_exits old.exits
+left_then : (value : Option Value) (old new : OutletState) → Goes value old new → old.left ≡ listed value ++ new.left
+left_then None old new goes = sym goes.left
+left_then (Some value) old new goes = given_back old.left value goes.head ∙ ap (λ (left : List Value). value ∷ left) (sym goes.left)
 
-  exits_answered : (one : Bool) (link header : ℕ) (how : MessageStatus) → SameExits old.exits (answered_by one link header how old).exits
-  exits_answered true link header how = record { left = refl; next = refl; groups = refl }
-  exits_answered false link header how = same_exits old.exits
-
-  exits_wished : (place : Option ℕ) → SameExits old.exits (wishes place old).exits
-  exits_wished None = same_exits old.exits
-  exits_wished (Some p) = same_exits old.exits
-
-  -- the head is given
-  head_first : (left gave made : List Value) (value : Value) → is_empty left ≡ false → first_of left ≡ Some value → made ≡ gave ++ left
-      → made ≡ (gave ++ value ∷ []) ++ rest_of left
-  head_first [] gave made value some head is = absurd (cc)
-  head_first (first ∷ left) gave made value some head is =
-      let same : first ≡ value = cc in
-      is ∙ ap (λ (v : Value). gave ++ v ∷ left) same ∙ sym (append_assoc gave (value ∷ []) left)
-
-  given_one : (link : ℕ) (value : Value) → given (h.gave ++ gifts_of link (Some value)) ≡ given h.gave ++ value ∷ []
-  given_one link value = map-append (λ (gift : Gift). gift.value) h.gave (gifts_of link (Some value))
-
-  -- what it gives over a link, and what it has left then
-  record Gives (link : ℕ) (value : Option Value) (new : BlockState) : Type 0 where
-    pub shared : is_one_taker old.kind ≡ true → h.made ≡ given (h.gave ++ gifts_of link value) ++ new.exits.left
-    pub weighs : shares_alone old.kind ≡ true → new.exits.groups ≡ weighs_left old.kind (port_at 0 old).capacity new.exits.next new.exits.left
-
-  gives_none : (link : ℕ) (value : Option Value) → value ≡ None → Gives link value old
-  gives_none link value none = record {
-    shared = λ one.
-        kept.messages.shared one
-        ∙ ap (λ (gave : List Gift). given gave ++ old.exits.left)
-        (sym (ap (λ (v : Option Value). h.gave ++ gifts_of link v) none ∙ append-nil h.gave));
-    weighs = kept.weighs;
-  }
-
-  gives_head : (link header : ℕ) (value : Option Value) → is_head header old.exits ≡ true → value ≡ consumed header old.exits
-      → Gives link value (gives_over link header old)
-  gives_head link header value head is = of_value value (is ∙ ap (λ (b : Bool). cond b (head_of old.exits) None) head)
-    where
-      some : is_empty old.exits.left ≡ false
-      some = not-true (is_empty old.exits.left) (and_parts (header == old.exits.next) (not (is_empty old.exits.left)) head).1
-
-      rest : (gives_over link header old).exits.left ≡ rest_of old.exits.left
-      rest = ap (λ (b : Bool). (cond b (gives_home (place_of link old.exits.ends) header old.exits) old.exits).left) head
-
-      next_rest : (gives_over link header old).exits.next ≡ old.exits.next + 1
-      next_rest = ap (λ (b : Bool). (cond b (gives_home (place_of link old.exits.ends) header old.exits) old.exits).next) head
-
-      groups_rest : (gives_over link header old).exits.groups ≡ groups_after old.exits.next old.exits.groups
-      groups_rest = ap (λ (b : Bool). (cond b (gives_home (place_of link old.exits.ends) header old.exits) old.exits).groups) head
-
-      no_head : (left : List Value) → is_empty left ≡ false → None ≡ first_of left → ⊥
-      no_head [] there none = absurd (cc)
-      no_head (v ∷ left) there none = absurd (cc)
-
-      of_value : (value : Option Value) → value ≡ head_of old.exits → Gives link value (gives_over link header old)
-      of_value None told = absurd (no_head old.exits.left some told)
-      of_value (Some v) told = record {
-        shared = λ one.
-            head_first old.exits.left (given h.gave) h.made v some (sym told) (kept.messages.shared one)
-            ∙ ap (λ (gave : List Value). gave ++ rest_of old.exits.left) (sym (given_one link v))
-            ∙ ap (λ (left : List Value). given (h.gave ++ gifts_of link (Some v)) ++ left) (sym rest);
-        weighs = λ alone.
-            let capacity = (port_at 0 old).capacity in
-            groups_rest
-            ∙ ap (λ (groups : List Group). groups_after old.exits.next groups)
-            (kept.weighs alone ∙ ap (λ (left : List Value). weighs_left old.kind capacity old.exits.next left) (given_back old.exits.left v (sym told)))
-            ∙ rest_weighs old.kind capacity old.exits.next v (rest_of old.exits.left)
-            ∙ ap (λ (n : ℕ). weighs_left old.kind capacity n (rest_of old.exits.left)) (sym next_rest)
-            ∙ ap (λ (left : List Value). weighs_left old.kind capacity (gives_over link header old).exits.next left) (sym rest);
-      }
-
-  gives_where : (link header : ℕ) (value : Option Value) (taken : Bool) → may_take link header old.exits ≡ taken
-      → value ≡ cond taken (consumed header old.exits) None → Gives link value (cond taken (gives_over link header old) old)
-  gives_where link header value false is told = gives_none link value told
-  gives_where link header value true is told =
-      gives_head link header value
-      (and_parts (tests_consume (place_of link old.exits.ends) header old.exits) (is_head header old.exits) is).1 told
-
-  gives_by : (one : Bool) → shares old ≡ one → (link header : ℕ) (value : Option Value) → value ≡ taken_by one link header old
-      → Gives link value (given_by one link header old)
-  gives_by true is link header value told = gives_where link header value (may_take link header old.exits) refl told
-  gives_by false is link header value told = record {
-    shared = λ one. absurd (cc);
-    weighs = λ alone. absurd (let one = alone_shares old.kind alone in cc);
-  }
+weighs_then : (kind : BlockKind) (capacity : Option ℕ) (value : Option Value) (old new : OutletState) → Goes value old new
+    → old.groups ≡ weighs_left kind capacity old.next old.left → new.groups ≡ weighs_left kind capacity new.next new.left
+weighs_then kind capacity None old new goes weighs =
+    goes.groups ∙ weighs
+    ∙ ap (λ (n : ℕ). weighs_left kind capacity n old.left) (sym goes.next)
+    ∙ ap (λ (left : List Value). weighs_left kind capacity new.next left) (sym goes.left)
+weighs_then kind capacity (Some value) old new goes weighs =
+    goes.groups
+    ∙ ap (λ (groups : List Group). groups_after old.next groups)
+    (weighs ∙ ap (λ (left : List Value). weighs_left kind capacity old.next left) (given_back old.left value goes.head))
+    ∙ rest_weighs kind capacity old.next value (rest_of old.left)
+    ∙ ap (λ (n : ℕ). weighs_left kind capacity n (rest_of old.left)) (sym goes.next)
+    ∙ ap (λ (left : List Value). weighs_left kind capacity new.next left) (sym goes.left)
 
 -- One call
 
@@ -197,65 +124,41 @@ module _ (single : Bool) (h : History) (old new : BlockState) (kept : Kept singl
   abbrev took_so_far : ℕ → ℕ
   took_so_far p = length (took_at h p)
 
-  leaves : (call : Call) → IsPlain call → MayCall call old → Does call old new → Leaves took_so_far old new
-  leaves call plain may does = call_leaves took_so_far old new kept.in_order fits call plain may does
-
-  -- nothing came, was made or was given
-  plainly : Leaves took_so_far old new → SameExits old.exits new.exits
-      → Kept single (record { came = h.came ++ []; made = h.made ++ []; gave = h.gave ++ [] }) new
-  plainly left same =
-      subst (λ (x : History). Kept single x new) (sym (nothing_added h))
-      (kept_still single h h.gave old new kept left.still left.ordered
-      (λ one. kept.messages.shared one ∙ ap (λ (values : List Value). given h.gave ++ values) (sym same.left))
+  -- nothing came, and nothing was made
+  plain_call : (call : Call) → IsPlain call → MayCall call old → Does call old new → came_by call old ≡ [] → made_by call old ≡ []
+      → Kept single (noted came_by made_by gave_by call old h) new
+  plain_call call plain may does came made =
+      let leaves = call_leaves took_so_far old new kept.in_order fits call plain may does in
+      let same : noted came_by made_by gave_by call old h ≡ record h { gave = h.gave ++ gave_by call } =
+      ap (λ (c : List Arrival). record { came = h.came ++ c; made = h.made ++ made_by call old; gave = h.gave ++ gave_by call }) came
+      ∙ ap (λ (m : List Value). record { came = h.came ++ []; made = h.made ++ m; gave = h.gave ++ gave_by call }) made
+      ∙ only_given h (gave_by call) in
+      subst (λ (x : History). Kept single x new) (sym same)
+      (kept_still single h (h.gave ++ gave_by call) old new kept leaves.still leaves.ordered
+      (λ one.
+      kept.messages.shared one
+      ∙ ap (λ (left : List Value). given h.gave ++ left) (left_then (given_value call) old.exits new.exits (exits_go old new one call plain does))
+      ∙ sym (append_assoc (given h.gave) (listed (given_value call)) new.exits.left)
+      ∙ ap (λ (gave : List Value). gave ++ new.exits.left) (sym (given_then h.gave call)))
       (λ alone.
-      same.groups ∙ kept.weighs alone
-      ∙ ap (λ (n : ℕ). weighs_left old.kind (port_at 0 old).capacity n old.exits.left) (sym same.next)
-      ∙ ap (λ (left : List Value). weighs_left old.kind (port_at 0 old).capacity new.exits.next left) (sym same.left)))
-
-  -- as it is with a block that is the new one
-  exits_as : (block : BlockState) → new ≡ block → SameExits old.exits block.exits → SameExits old.exits new.exits
-  exits_as block is same = subst (λ (b : BlockState). SameExits old.exits b.exits) (sym is) same
+      weighs_then old.kind (port_at 0 old).capacity (given_value call) old.exits new.exits
+      (exits_go old new (alone_shares old.kind alone) call plain does) (kept.weighs alone)))
 
   acted : (call : BlockCall) → MayCall (Call.acts call) old → Does (Call.acts call) old new
       → Kept single (noted came_by made_by gave_by (Call.acts call) old h) new
-  acted (BlockCall.completed p) may does =
-      plainly (leaves (Call.acts (BlockCall.completed p)) tt may does) (exits_as (with_port p port_closes old) does (same_exits old.exits))
-  acted (BlockCall.faulted number) may does =
-      plainly (leaves (Call.acts (BlockCall.faulted number)) tt may does)
-      (exits_as (faults number old) does (exits_stopped single h old kept (is_some (outcome_of old)) (Faulted number)))
+  acted (BlockCall.completed p) may does = plain_call (Call.acts (BlockCall.completed p)) tt may does refl refl
+  acted (BlockCall.faulted number) may does = plain_call (Call.acts (BlockCall.faulted number)) tt may does refl refl
   acted (BlockCall.made (Ok true)) may does =
       subst (λ (x : History). Kept single x new) (sym (only_made h (made_next old)))
       (subst (λ (b : BlockState). Kept single (record h { made = h.made ++ made_next old }) b) (sym does.1)
       (makes_kept single h old kept does.0.by_itself))
-  acted (BlockCall.made (Ok false)) may does =
-      plainly (leaves (Call.acts (BlockCall.made (Ok false))) tt may does) (exits_as old does.1 (same_exits old.exits))
-  acted (BlockCall.made (Err make_fault.Ids)) may does =
-      plainly (leaves (Call.acts (BlockCall.made (Err make_fault.Ids))) tt may does) (exits_as old does.1 (same_exits old.exits))
-  acted (BlockCall.made (Err make_fault.Memory)) may does =
-      plainly (leaves (Call.acts (BlockCall.made (Err make_fault.Memory))) tt may does) (exits_as old does.1 (same_exits old.exits))
-
-  gave : (call : SourceCall) → MayCall (Call.gives call) old → Does (Call.gives call) old new
-      → Kept single (noted came_by made_by gave_by (Call.gives call) old h) new
-  gave (SourceCall.offered offer) may does =
-      plainly (leaves (Call.gives (SourceCall.offered offer)) tt may does)
-      (exits_as (offered_by (shares old) (offer_next old) old) does.1 (exits_offered single h old kept (shares old) (offer_next old)))
-  gave (SourceCall.noted link header how) may does =
-      plainly (leaves (Call.gives (SourceCall.noted link header how)) tt may does)
-      (exits_as (answered_by (shares old) link header how old) does (exits_answered single h old kept (shares old) link header how))
-  gave (SourceCall.consumed link header value) may does =
-      let left = leaves (Call.gives (SourceCall.consumed link header value)) tt may does in
-      subst (λ (x : History). Kept single x new) (sym (only_given h (gifts_of link value)))
-      (kept_still single h (h.gave ++ gifts_of link value) old new kept left.still left.ordered
-      (subst (λ (b : BlockState). is_one_taker old.kind ≡ true → h.made ≡ given (h.gave ++ gifts_of link value) ++ b.exits.left) (sym does.1)
-      (gives_by single h old kept (shares old) refl link header value does.0).shared)
-      (subst (λ (b : BlockState). shares_alone old.kind ≡ true → b.exits.groups ≡ weighs_left old.kind (port_at 0 old).capacity b.exits.next b.exits.left)
-      (sym does.1) (gives_by single h old kept (shares old) refl link header value does.0).weighs))
+  acted (BlockCall.made (Ok false)) may does = plain_call (Call.acts (BlockCall.made (Ok false))) tt may does refl refl
+  acted (BlockCall.made (Err fault)) may does = plain_call (Call.acts (BlockCall.made (Err fault))) tt may does refl refl
 
   took_call : (call : TargetCall) → MayCall (Call.takes call) old → Does (Call.takes call) old new
       → Kept single (noted came_by made_by gave_by (Call.takes call) old h) new
   took_call (TargetCall.offered link header may_postpone how) may does =
-      plainly (leaves (Call.takes (TargetCall.offered link header may_postpone how)) tt may does)
-      (exits_as (with_port_of link (answered link header how) old) does.1 (same_exits old.exits))
+      plain_call (Call.takes (TargetCall.offered link header may_postpone how)) tt may does refl refl
   took_call (TargetCall.handed link header value) may does =
       subst (λ (x : History). Kept single x new)
       (sym (only_came h (arrival_at (port_into link old.ports) value ∷ []) (copied_at_once (with_port_of link (arrives link value) old))))
@@ -263,16 +166,12 @@ module _ (single : Bool) (h : History) (old new : BlockState) (kept : Kept singl
         came = h.came ++ arrival_at (port_into link old.ports) value ∷ [];
         made = h.made ++ copied_at_once (with_port_of link (arrives link value) old);
       }) b) (sym does) (taken_kept single h old kept link header value may fits))
-  took_call (TargetCall.wished told) may does =
-      plainly (leaves (Call.takes (TargetCall.wished told)) tt may does)
-      (exits_as (wishes (wishing_port old.ports) old) does.1 (exits_wished single h old kept (wishing_port old.ports)))
-  took_call (TargetCall.noted link told) may does =
-      plainly (leaves (Call.takes (TargetCall.noted link told)) tt may does)
-      (exits_as (with_port_of link (notes told link) old) does (same_exits old.exits))
+  took_call (TargetCall.wished told) may does = plain_call (Call.takes (TargetCall.wished told)) tt may does refl refl
+  took_call (TargetCall.noted link told) may does = plain_call (Call.takes (TargetCall.noted link told)) tt may does refl refl
 
   pub one_call : (call : Call) → MayCall call old → Does call old new → Kept single (noted came_by made_by gave_by call old h) new
   one_call (Call.acts call) may does = acted call may does
-  one_call (Call.gives call) may does = gave call may does
+  one_call (Call.gives call) may does = plain_call (Call.gives call) tt may does refl refl
   one_call (Call.takes call) may does = took_call call may does
 
 -- Over all
@@ -333,6 +232,12 @@ fits_after : (steps : List (Step Call BlockState)) (old : BlockState) → Fits o
 fits_after [] old fits done = fits
 fits_after (step ∷ steps) old fits done = fits_after steps step.left done.1.1.0 done.1.1.1
 
+-- what takes places is counted, and all that is counted fits
+pub fits_in : (capacity : Option ℕ) (waiting weight places load comes : ℕ) → places ≤ weight → cond (is_some capacity) (waiting + weight) 0 ≤ load
+    → IsWithin capacity (load + comes) → IsWithin capacity (waiting + places + comes)
+fits_in None waiting weight places load comes less out room = tt
+fits_in (Some limit) waiting weight places load comes less out room = omega (arith, less, out, room)
+
 module _ (history : History) (block : BlockState) (kept : Kept false history block) (fits : Fits block) where
   abbrev weight : ℕ
   weight = weight_out block.exits (copies_weight block.copies)
@@ -357,11 +262,6 @@ module _ (history : History) (block : BlockState) (kept : Kept false history blo
       shares_freely Join e one = refl
       shares_freely _ e one = absurd (cc)
   places_by kind is freely limited false shares weighs = omega arith
-
-  fits_in : (capacity : Option ℕ) (waiting weight places load comes : ℕ) → places ≤ weight → cond (is_some capacity) (waiting + weight) 0 ≤ load
-      → IsWithin capacity (load + comes) → IsWithin capacity (waiting + places + comes)
-  fits_in None waiting weight places load comes less out room = tt
-  fits_in (Some limit) waiting weight places load comes less out room = omega (arith, less, out, room)
 
   keeps : KeepsMessages history block
   keeps = record {

@@ -90,7 +90,7 @@ module _ (single : Bool) (history : History) (old : BlockState) (kept : Kept sin
   refuses_so q =
       kept_at_one (λ (r : PortState). r.refusing) old.ports p q (arrives link value port) (ap (λ (r : PortState). r.refusing) taken_is)
 
-  capacity_so : (q : ℕ) → (port_in arrived.ports q).capacity ≡ (port_in old.ports q).capacity
+  pub capacity_so : (q : ℕ) → (port_in arrived.ports q).capacity ≡ (port_in old.ports q).capacity
   capacity_so q =
       kept_at_one (λ (r : PortState). r.capacity) old.ports p q (arrives link value port) (ap (λ (r : PortState). r.capacity) taken_is)
 

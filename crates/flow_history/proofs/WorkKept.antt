@@ -1,50 +1,57 @@
 -- Over any calls a block with a function that a caller drives by hand keeps its messages.
-use Rattle.std.proofs.Common.{◌≡◌, ℕ, ◌+◌, ◌<◌, ◌^◌, ◌==◌, ltb, Bool, true, false, not, ◌&&◌, cond, is_none, List, [], ◌∷◌, ◌++◌, length, set, take, drop, Option, Some, None, Result, Ok, Err, refl, ap, sym, subst, ◌∙◌, arith, append-nil, append_assoc, eq-eqb}
+use Rattle.std.proofs.Common.{◌≤◌, ◌≡◌, ℕ, ◌+◌, ◌<◌, ◌^◌, ◌==◌, ltb, Bool, true, false, not, ◌&&◌, cond, is_none, List, [], ◌∷◌, ◌++◌, length, set, take, drop, Option, Some, None, Result, Ok, Err, refl, ap, sym, subst, ◌∙◌, arith, append-nil, append_assoc, eq-eqb, length-append}
 use Rattle.std.proofs.lemmas.Bool.{and_parts, ltb-true}
 use Rattle.std.proofs.lemmas.List.{length-map, length-set}
 use Rattle.flow_value.specs.declared.value.Value.{Value}
 use Rattle.flow_value.specs.declared.work.WorkFault.{WorkFault}
 use Rattle.flow_link.specs.declared.draft.BlockKind.{BlockKind}
-use Rattle.flow_link.specs.declared.draft.BlockKind.TheVariants.{Action, Transform, TransformMany}
+use Rattle.flow_link.specs.declared.draft.BlockKind.TheVariants.{Action, Transform, TransformMany, Batch}
 use Rattle.flow_link.specs.declared.stage.Refusal.{Refusal}
 use Rattle.flow_link.specs.declared.traits.MakeFault.TheVariants as make_fault
 use Rattle.flow_link.specs.BlockCalls.{BlockCall}
-use Rattle.flow_link.specs.Making.{Arrival, arrived_at}
+use Rattle.flow_link.specs.Making.{Arrival, arrived_at, result_of}
 use Rattle.flow_link.specs.Plan.{has_work, is_broadcast, is_one_taker, is_write_once}
 use Rattle.flow_link.specs.TargetCalls.{TargetCall}
 use Rattle.flow_link.specs.Worked.{WorkedInto}
 use Rattle.flow_link.proofs.OneMoreWorked.{worked_more}
-use Rattle.flow_intake.specs.Port.{PortState}
+use Rattle.flow_intake.specs.Port.{PortState, coming}
 use Rattle.flow_intake.specs.PortLaw.{PortLaw, has_ended}
 use Rattle.flow_intake.specs.Calls.{takes_next, gives_room, failing_from, port_fails}
 use Rattle.flow_intake.specs.ByLink.{arrives}
 use Rattle.flow_intake.proofs.CallsKeepOrder.{moves_keep}
 use Rattle.flow_group.specs.Groups.{arrival_at}
 use Rattle.flow_group.specs.Tuples.{only_at}
-use Rattle.flow_outlet.specs.Outlet.{is_empty}
+use Rattle.flow_outlet.specs.Outlet.{is_empty, OutletState, groups_with}
 use Rattle.flow_outlet.specs.declared.ends.LinkRule.{LinkRule}
 use Rattle.flow_spread.specs.Spread.{is_spread_free}
-use Rattle.flow_block.specs.Block.{BlockState, port_in, port_at, held_by, is_batch, is_join, with_jobs, keeps_results, fails, begins, yields_all, yields_where, ends_job, put_by_kind, put_where, put_by_job, job_message, copies_at_once, copies_where, copies_taken}
+use Rattle.flow_block.specs.Block.{BlockState, port_in, port_at, held_by, is_batch, is_join, with_jobs, keeps_results, fails, begins, yields_all, yields_where, ends_job, put_by_kind, put_where, put_by_job, job_message, copies_at_once, copies_where, copies_taken, unit_weight}
 use Rattle.flow_block.specs.Jobs.{Slot, AreOf, brings, comes_out, place_of}
-use Rattle.flow_block.specs.NodeLaw.{MakesAs, FaultsOn}
+use Rattle.flow_block.specs.NodeLaw.{MakesAs, FaultsOn, WeighsAs, weighed, partly_weighed}
 use Rattle.flow_block.specs.Peeks.{may_begin, may_work}
 use Rattle.flow_block.specs.Traits.{makes_alone, has_turn, Makes, port_into, with_port_of}
 use Rattle.flow_block.proofs.JobsEnd.{put_nothing, held_then}
 use Rattle.flow_block.proofs.JobsHold.{back_at}
-use Rattle.flow_block.proofs.PortsChange.{kept_at_all}
+use Rattle.flow_block.proofs.PortsChange.{kept_at_all, kept_at_one}
 use Rattle.flow_block.proofs.TestsTell.{none_is}
 use Rattle.flow_exec.specs.Execution.{ExecutionState, fresh_execution, job_result}
-use Rattle.flow_exec.specs.Works.{results_by}
+use Rattle.flow_exec.specs.Works.{results_by, worked_by}
+use Rattle.flow_outlet.specs.Fits.{weight_of}
+use Rattle.flow_outlet.specs.History.{listed}
+use Rattle.flow_outlet.specs.declared.group.Group.{Group}
+use Rattle.flow_block.specs.BlockFits.{weight_out}
+use Rattle.flow_block.specs.Copies.{copies_weight}
+use Rattle.flow_block.proofs.WeightsOfResults.{weighs_taken, weighs_given, weighs_many, weighs_one}
+use Rattle.flow_history.proofs.ExitsGo.{Goes, given_value, exits_go}
 use Rattle.flow_history.specs.Calls.{Call, MayCall, Does, Fits, Step, AllDone, after_all}
-use Rattle.flow_history.specs.History.{History, nothing_yet, took_at, given, came_by, copied_at_once, made_by, gave_by, noted, history_of}
+use Rattle.flow_history.specs.History.{History, nothing_yet, took_at, given, came_by, copied_at_once, made_by, gave_by, noted, history_of, Gift}
 use Rattle.flow_history.specs.Kept.{any_link, hands_on, NothingCame}
 use Rattle.flow_history.specs.Worked.{WorkCall, gave_for, MayCallWork, FitsWork, came_for, DoesWork, worked_out, result_in, KeepsWork, WorkIsKept}
-use Rattle.flow_history.proofs.CallsLeave.{IsPlain, call_leaves, one_ordered, all_ordered}
+use Rattle.flow_history.proofs.CallsLeave.{IsPlain, call_leaves, one_ordered, all_ordered, out_at}
 use Rattle.flow_history.proofs.Makes.{one_back}
-use Rattle.flow_history.proofs.MessagesKept.{nothing_added, only_made, one_call, fresh_kept, none_at}
+use Rattle.flow_history.proofs.MessagesKept.{nothing_added, only_made, one_call, fresh_kept, none_at, given_then, fits_in}
 use Rattle.flow_history.proofs.PortCalls.{room_keeps}
 use Rattle.flow_history.proofs.Still.{shares_alone, Kept}
-use Rattle.flow_history.proofs.Takes.{held_more, took_more, there}
+use Rattle.flow_history.proofs.Takes.{held_more, took_more, there, capacity_so}
 
 -- What a block with a function is not
 record Works (kind : BlockKind) : Type 0 where
@@ -147,7 +154,46 @@ first_of_slots : (result : Value → Result (List Value) ℕ) (held : List Value
 first_of_slots result [] made slots are = absurd are
 first_of_slots result (message ∷ rest) made slots are = record { message = message; rest = rest; held_is = refl; made_is = are.0; others = are.1 }
 
-module _ (result : Value → Result (List Value) ℕ) (kind : BlockKind) (works : has_work kind ≡ true) where
+-- The weights of results
+
+-- a transform makes one result of each message
+abbrev IsSingle : (Value → Result (List Value) ℕ) → BlockKind → Type 0
+IsSingle result kind = kind ≡ Transform → (value : Value) (made : List Value) → result value ≡ Ok made → length made ≡ 1
+
+module _ (result : Value → Result (List Value) ℕ) (kind : BlockKind) where
+  abbrev Weighs : Option ℕ → (taken held given left : List Value) → ℕ → List Group → Type 0
+  Weighs = WeighsAs result kind
+
+  weighs_go : (capacity : Option ℕ) (taken held given : List Value) (value : Option Value) (old new : OutletState) → Goes value old new
+      → old.next ≡ 1 + length given → Weighs capacity taken held given old.left old.next old.groups
+      → Weighs capacity taken held (given ++ listed value) new.left new.next new.groups
+  weighs_go capacity taken held given None old new goes follows weighs =
+      rw (append-nil given, goes.left, goes.next, goes.groups) weighs
+  weighs_go capacity taken held given (Some value) old new goes follows weighs =
+      rw (goes.left, goes.next, goes.groups)
+      (weighs_given result kind capacity taken held given old.left old.next old.groups value follows goes.head weighs)
+
+  next_go : (given : List Value) (value : Option Value) (old new : OutletState) → Goes value old new → old.next ≡ 1 + length given
+      → new.next ≡ 1 + length (given ++ listed value)
+  next_go given None old new goes follows = goes.next ∙ follows ∙ ap (λ (vs : List Value). 1 + length vs) (sym (append-nil given))
+  next_go given (Some value) old new goes follows =
+      let more = length-append given (value ∷ []) in let next = goes.next in omega (arith, next, follows, more)
+
+  -- the results of the first come out
+  weighs_out : (k : BlockKind) → k ≡ kind → has_work k ≡ true → IsSingle result kind → (capacity : Option ℕ)
+      (taken rest given left : List Value) (next : ℕ) (groups : List Group) (value : Value) (made : List Value)
+      → result value ≡ Ok made → next ≡ 1 + length given → WeighsAs result k capacity taken (value ∷ rest) given left next groups
+      → WeighsAs result k capacity taken rest given (left ++ put_by_kind k made) next
+      (groups_with (next + length left) (length (put_by_kind k made)) (unit_weight capacity) groups)
+  weighs_out Action same w single capacity taken rest given left next groups value made is follows weighs =
+      weighs ∙ ap (λ (vs : List Value). weighed capacity next vs) (sym (append-nil left))
+  weighs_out Transform same w single capacity taken rest given left next groups value made is follows weighs =
+      weighs_one result Transform capacity taken (value ∷ rest) rest given left next groups made refl refl (single (sym same) value made is) weighs
+  weighs_out TransformMany same w single capacity taken rest given left next groups value made is follows weighs =
+      weighs_many result capacity taken rest given left next groups value made is follows weighs
+  weighs_out _ same w single capacity taken rest given left next groups value made is follows weighs = absurd (cc)
+
+module _ (result : Value → Result (List Value) ℕ) (kind : BlockKind) (works : has_work kind ≡ true) (single : IsSingle result kind) where
   abbrev is_not : Works kind
   is_not = works_so kind works
 
@@ -158,6 +204,9 @@ module _ (result : Value → Result (List Value) ℕ) (kind : BlockKind) (works 
     pub makes : MakesAs result kind (took_at h 0) (held_by block) [] h.made block.recorded
     pub waits : AreOf result (held_by block) block.jobs.slots
     pub faulted : (number : ℕ) → block.fault ≡ Some number → FaultsOn result kind (held_by block) number
+    pub next_is : block.exits.next ≡ 1 + length (given h.gave)
+    pub weighs : WeighsAs result kind (port_at 0 block).capacity (took_at h 0) (held_by block) (given h.gave) block.exits.left
+        block.exits.next block.exits.groups
 
   -- it is of no other kind
   other_kind : {A : Type 0} (test : BlockKind → Bool) (block : BlockState) → block.kind ≡ kind → test kind ≡ false → test block.kind ≡ true → A
@@ -237,6 +286,17 @@ module _ (result : Value → Result (List Value) ℕ) (kind : BlockKind) (works 
       pub recorded : (keeps_results k values old).recorded ≡ old.recorded ++ recorded_by_kind k values
       pub slots : (keeps_results k values old).jobs.slots ≡ drop 1 old.jobs.slots
       pub fault : (keeps_results k values old).fault ≡ old.fault
+      pub capacity : (port_at 0 (keeps_results k values old)).capacity ≡ (port_at 0 old).capacity
+      pub left : (keeps_results k values old).exits.left ≡ old.exits.left ++ put_by_kind k values
+      pub next : (keeps_results k values old).exits.next ≡ old.exits.next
+      pub groups : (keeps_results k values old).exits.groups
+          ≡ groups_with (old.exits.next + length old.exits.left) (length (put_by_kind k values)) (unit_weight (port_at 0 old).capacity) old.exits.groups
+
+    room_kept : (port_in (set old.ports 0 (room_back (port_at 0 old))) 0).capacity ≡ (port_at 0 old).capacity
+    room_kept = kept_at_one (λ (r : PortState). r.capacity) old.ports 0 0 (room_back (port_at 0 old)) refl
+
+    next_kept : (port_in (set old.ports 0 (takes_next (port_at 0 old))) 0).capacity ≡ (port_at 0 old).capacity
+    next_kept = kept_at_one (λ (r : PortState). r.capacity) old.ports 0 0 (takes_next (port_at 0 old)) refl
 
     out_leaves : (k : BlockKind) (values : List Value) → has_work k ≡ true → OutLeaves k values
     out_leaves Action values w = record {
@@ -245,6 +305,10 @@ module _ (result : Value → Result (List Value) ℕ) (kind : BlockKind) (works 
       recorded = refl;
       slots = refl;
       fault = refl;
+      capacity = room_kept;
+      left = sym (append-nil old.exits.left);
+      next = refl;
+      groups = refl;
     }
     out_leaves Transform [] w = record {
       kind_stays = refl;
@@ -252,6 +316,10 @@ module _ (result : Value → Result (List Value) ℕ) (kind : BlockKind) (works 
       recorded = sym (append-nil old.recorded);
       slots = refl;
       fault = refl;
+      capacity = room_kept;
+      left = sym (append-nil old.exits.left);
+      next = refl;
+      groups = refl;
     }
     out_leaves Transform (v ∷ values) w = record {
       kind_stays = refl;
@@ -259,6 +327,10 @@ module _ (result : Value → Result (List Value) ℕ) (kind : BlockKind) (works 
       recorded = sym (append-nil old.recorded);
       slots = refl;
       fault = refl;
+      capacity = next_kept;
+      left = refl;
+      next = refl;
+      groups = refl;
     }
     out_leaves TransformMany [] w = record {
       kind_stays = refl;
@@ -266,6 +338,10 @@ module _ (result : Value → Result (List Value) ℕ) (kind : BlockKind) (works 
       recorded = sym (append-nil old.recorded);
       slots = refl;
       fault = refl;
+      capacity = room_kept;
+      left = sym (append-nil old.exits.left);
+      next = refl;
+      groups = refl;
     }
     out_leaves TransformMany (v ∷ values) w = record {
       kind_stays = refl;
@@ -273,6 +349,10 @@ module _ (result : Value → Result (List Value) ℕ) (kind : BlockKind) (works 
       recorded = sym (append-nil old.recorded);
       slots = refl;
       fault = refl;
+      capacity = next_kept;
+      left = refl;
+      next = refl;
+      groups = refl;
     }
     out_leaves _ values w = absurd (cc)
 
@@ -291,6 +371,12 @@ module _ (result : Value → Result (List Value) ℕ) (kind : BlockKind) (works 
               (subst (λ (vs : List Value). MakesAs result kind (took_at h 0) vs [] h.made old.recorded) first.held_is before.makes));
           waits = rw (held, left.slots, at) first.others;
           faulted = λ number is. absurd (let none : None ≡ Some number = sym (left.fault ∙ no_fault) ∙ is in cc);
+          next_is = left.next ∙ before.next_is;
+          weighs = rw (held, left.capacity, left.left, left.next, left.groups)
+              (weighs_out result kind kind refl works single (port_at 0 old).capacity (took_at h 0) first.rest (given h.gave) old.exits.left
+              old.exits.next old.exits.groups first.message values first.made_is before.next_is
+              (subst (λ (vs : List Value). WeighsAs result kind (port_at 0 old).capacity (took_at h 0) vs (given h.gave) old.exits.left old.exits.next
+              old.exits.groups) first.held_is before.weighs));
         }
 
     -- A fault is there first
@@ -321,6 +407,8 @@ module _ (result : Value → Result (List Value) ℕ) (kind : BlockKind) (works 
             held_is = held ∙ first.held_is;
             fails = first.made_is ∙ (let same : number ≡ other = cc in ap Err same);
           };
+          next_is = before.next_is;
+          weighs = rw (held, kept_at_all (λ (r : PortState). r.capacity) port_fails old.ports 0 (λ port. refl)) before.weighs;
         }
 
   -- All that is there comes out, up to a fault
@@ -368,6 +456,8 @@ module _ (result : Value → Result (List Value) ℕ) (kind : BlockKind) (works 
     makes = kept.makes;
     waits = are;
     faulted = kept.faulted;
+    next_is = kept.next_is;
+    weighs = kept.weighs;
   }
 
   -- a job begins, and a job ends
@@ -395,6 +485,7 @@ module _ (result : Value → Result (List Value) ℕ) (kind : BlockKind) (works 
     plain_kept call plain may does made came =
         let leaves = call_leaves (λ p. length (took_at h p)) old new kept.kept.in_order fits call plain may does in
         let still = leaves.still in
+        let goes = exits_go old new (ap is_one_taker kept.kind_is ∙ shares_so kind works) call plain does in
         let same_came : h.came ++ came_by call old ≡ h.came = ap (λ (c : List Arrival). h.came ++ c) came ∙ append-nil h.came in
         record {
           kept = subst (λ (values : List Value). Kept false (record { came = h.came ++ came_by call old; made = h.made ++ values; gave = h.gave ++ gave_by call }) new) made
@@ -404,6 +495,12 @@ module _ (result : Value → Result (List Value) ℕ) (kind : BlockKind) (works 
           makes = rw (still.held 0, leaves.recorded, same_came, append-nil h.made) kept.makes;
           waits = rw (still.held 0, leaves.jobs) kept.waits;
           faulted = λ number is. rw (still.held 0) (kept.faulted number (sym leaves.fault ∙ is));
+          next_is =
+              next_go result kind (given h.gave) (given_value call) old.exits new.exits goes kept.next_is
+              ∙ ap (λ (vs : List Value). 1 + length vs) (sym (given_then h.gave call));
+          weighs = rw (still.held 0, still.capacity, same_came, given_then h.gave call)
+              (weighs_go result kind (port_at 0 old).capacity (took_at h 0) (held_by old) (given h.gave) (given_value call) old.exits new.exits goes
+              kept.next_is kept.weighs);
         }
 
     handed_kept : (link header : ℕ) (value : Value) → MayCall (Call.takes (TargetCall.handed link header value)) old
@@ -444,6 +541,19 @@ module _ (result : Value → Result (List Value) ℕ) (kind : BlockKind) (works 
                 held_is = held ∙ ap (λ (vs : List Value). vs ++ value ∷ []) before.held_is;
                 fails = before.fails;
               };
+          next_is =
+              ap (λ (b : BlockState). b.exits.next) same ∙ kept.next_is
+              ∙ ap (λ (gave : List Gift). 1 + length (given gave)) (sym (append-nil h.gave));
+          weighs = rw (
+            held,
+            taken,
+            append-nil h.gave,
+            ap (λ (b : BlockState). b.exits) same,
+            ap (λ (b : BlockState). (port_at 0 b).capacity) same
+                ∙ capacity_so false h old kept.kept link header value may 0,
+          )
+              (weighs_taken result kind (port_at 0 old).capacity (took_at h 0) (held_by old) (given h.gave) old.exits.left old.exits.next
+              old.exits.groups value kept.weighs);
         }
 
 -- An execution block
@@ -452,8 +562,18 @@ module _ {W : Type 0} (meaning : W → Value → Result (List Value) WorkFault) 
   abbrev own : Value → Result (List Value) ℕ
   own = results_by work kind meaning
 
+  single : IsSingle own kind
+  single is value made e =
+      one_made (worked_by meaning work value) made (ap (λ (k : BlockKind). result_of k (worked_by meaning work value)) (sym is) ∙ e)
+    where
+      one_made : (worked : Result (List Value) ℕ) (made : List Value) → result_of Transform worked ≡ Ok made → length made ≡ 1
+      one_made (Ok []) made e = absurd (cc)
+      one_made (Ok (v ∷ [])) made e = let same : v ∷ [] ≡ made = cc in ap length (sym same)
+      one_made (Ok (v ∷ w ∷ vs)) made e = absurd (cc)
+      one_made (Err number) made e = absurd (cc)
+
   record ExecutionKept (h : History) (execution : ExecutionState W) : Type 0 where
-    pub block : BlockKept own kind works h execution.block
+    pub block : BlockKept own kind works single h execution.block
     pub work_is : execution.work ≡ work
 
   module _ (h : History) (old new : ExecutionState W) (kept : ExecutionKept h old) (fits : FitsWork old) where
@@ -463,7 +583,7 @@ module _ {W : Type 0} (meaning : W → Value → Result (List Value) WorkFault) 
     plainly : (call : Call) → IsPlain call → MayCall call old.block → Does call old.block new.block → new.work ≡ old.work
         → made_by call old.block ≡ [] → came_by call old.block ≡ [] → After (WorkCall.common call)
     plainly call plain may does same made came = record {
-      block = plain_kept own kind works h old.block new.block kept.block fits.fits call plain may does made came;
+      block = plain_kept own kind works single h old.block new.block kept.block fits.fits call plain may does made came;
       work_is = same ∙ kept.work_is;
     }
 
@@ -495,7 +615,7 @@ module _ {W : Type 0} (meaning : W → Value → Result (List Value) WorkFault) 
     takes_kept (TargetCall.offered link header may_postpone how) may does =
         plainly (Call.takes (TargetCall.offered link header may_postpone how)) tt may does.0 does.1 refl refl
     takes_kept (TargetCall.handed link header value) may does = record {
-      block = handed_kept own kind works h old.block new.block kept.block fits.fits link header value may does.0;
+      block = handed_kept own kind works single h old.block new.block kept.block fits.fits link header value may does.0;
       work_is = does.1 ∙ kept.work_is;
     }
     takes_kept (TargetCall.wished told) may does = plainly (Call.takes (TargetCall.wished told)) tt may does.0 does.1 refl refl
@@ -508,7 +628,7 @@ module _ {W : Type 0} (meaning : W → Value → Result (List Value) WorkFault) 
     call_kept WorkCall.began may does =
         subst (λ (x : History). ExecutionKept x new) (sym (nothing_added h))
         (subst (λ (e : ExecutionState W). ExecutionKept h e) (sym does)
-        (record { block = began_kept own kind works h old.block may kept.block; work_is = kept.work_is }))
+        (record { block = began_kept own kind works single h old.block may kept.block; work_is = kept.work_is }))
     call_kept (WorkCall.ended ticket) may does =
         let made = job_result meaning ticket old in
         let is : made ≡ own (job_message ticket old.block) =
@@ -516,7 +636,7 @@ module _ {W : Type 0} (meaning : W → Value → Result (List Value) WorkFault) 
         ∙ ap (λ (k : BlockKind). results_by work k meaning (job_message ticket old.block)) kept.block.kind_is in
         subst (λ (x : History). ExecutionKept x new) (sym (only_made h (put_by_job ticket made old.block)))
         (subst (λ (e : ExecutionState W). ExecutionKept (record h { made = h.made ++ put_by_job ticket made old.block }) e) (sym does)
-        (record { block = ended_kept own kind works ticket made h old.block is kept.block; work_is = kept.work_is }))
+        (record { block = ended_kept own kind works single ticket made h old.block is kept.block; work_is = kept.work_is }))
 
   all_calls_kept : (steps : List (Step WorkCall (ExecutionState W))) (old : ExecutionState W) (h : History) → FitsWork old
       → AllDone FitsWork MayCallWork (DoesWork meaning) steps old → ExecutionKept h old
@@ -527,8 +647,8 @@ module _ {W : Type 0} (meaning : W → Value → Result (List Value) WorkFault) 
       (call_kept h old step.left kept fits step.call done.0 done.1.0)
 
   -- what the law says
-  work_says : (h : History) (execution : ExecutionState W) → ExecutionKept h execution → KeepsWork meaning h execution
-  work_says h execution kept =
+  work_says : (h : History) (execution : ExecutionState W) → ExecutionKept h execution → FitsWork execution → KeepsWork meaning h execution
+  work_says h execution kept fits =
       let block = execution.block in
       let shared = kept.block.kept.messages.shared in
       let one : is_one_taker block.kind ≡ true = ap is_one_taker kept.block.kind_is ∙ shares_so kind works in
@@ -547,7 +667,23 @@ module _ {W : Type 0} (meaning : W → Value → Result (List Value) WorkFault) 
         faulted = λ number is.
             subst (λ (k : BlockKind). FaultsOn (result_in meaning execution) k (held_by block) number) (sym kept.block.kind_is)
             (subst (λ (r : Value → Result (List Value) ℕ). FaultsOn r kind (held_by block) number) same (kept.block.faulted number is));
+        weighs =
+            subst (λ (k : BlockKind). WeighsAs (result_in meaning execution) k (port_at 0 block).capacity (took_at h 0) (held_by block) (given h.gave)
+            block.exits.left block.exits.next block.exits.groups) (sym kept.block.kind_is)
+            (subst (λ (r : Value → Result (List Value) ℕ). WeighsAs r kind (port_at 0 block).capacity (took_at h 0) (held_by block) (given h.gave)
+            block.exits.left block.exits.next block.exits.groups) same kept.block.weighs);
+        within =
+            let first : 0 < length block.ports = (let alone = fits.runs.one_port in omega (arith, alone)) in
+            let weight = weight_out block.exits (copies_weight block.copies) in
+            let less : weight_of block.exits.groups ≤ weight = omega arith in
+            fits_in (port_at 0 block).capacity (length (held_by block)) weight (weight_of block.exits.groups) (port_at 0 block).load (coming (port_at 0 block))
+            less (out_at weight block.ports 0 first fits.fits.room) (kept.block.kept.in_order 0 first).room;
       }
+
+  fits_after : (steps : List (Step WorkCall (ExecutionState W))) (old : ExecutionState W) → FitsWork old
+      → AllDone FitsWork MayCallWork (DoesWork meaning) steps old → FitsWork (after_all steps old)
+  fits_after [] old fits done = fits
+  fits_after (step ∷ steps) old fits done = fits_after steps step.left done.1.1.0 done.1.1.1
 
 -- nothing came, and nothing is worked on
 begins_as : (result : Value → Result (List Value) ℕ) (kind : BlockKind) → has_work kind ≡ true → MakesAs result kind [] [] [] [] []
@@ -555,6 +691,21 @@ begins_as result Action works = (record { done = []; results = []; taken_is = re
 begins_as result Transform works = record { done = []; results = []; taken_is = refl; worked = refl; all = refl }
 begins_as result TransformMany works = record { done = []; results = []; taken_is = refl; worked = refl; all = refl }
 begins_as result _ works = absurd (cc)
+
+weighs_nothing : (result : Value → Result (List Value) ℕ) (kind : BlockKind) (capacity : Option ℕ) (next : ℕ)
+    → WeighsAs result kind capacity [] [] [] [] next []
+weighs_nothing result TransformMany capacity next = record {
+  works = record { done = []; results = []; taken_is = refl; worked = refl; all = refl };
+  groups_are = none_partly capacity;
+}
+  where
+    none_partly : (capacity : Option ℕ) → [] ≡ partly_weighed capacity 0 []
+    none_partly None = refl
+    none_partly (Some limit) = refl
+weighs_nothing result Batch None next = refl
+weighs_nothing result Batch (Some limit) next = refl
+weighs_nothing result _ None next = refl
+weighs_nothing result _ (Some limit) next = refl
 
 fresh_work : {W : Type 0} (meaning : W → Value → Result (List Value) WorkFault) (kind : BlockKind) (lanes : ℕ) (work : Option W)
     (ports : List PortState) (rules : List LinkRule) (works : has_work kind ≡ true) → NothingCame ports
@@ -572,6 +723,9 @@ fresh_work meaning kind lanes work ports rules works begins fits =
             (begins_as (results_by work kind meaning) kind works);
         waits = tt;
         faulted = λ number is. absurd (cc);
+        next_is = refl;
+        weighs = subst (λ (held : List Value). WeighsAs (results_by work kind meaning) kind (port_in ports 0).capacity [] held [] [] 1 []) (sym none)
+            (weighs_nothing (results_by work kind meaning) kind (port_in ports 0).capacity 1);
       };
       work_is = refl;
     }
@@ -581,5 +735,6 @@ work_is_kept W = record {
   each = λ meaning kind lanes work ports rules works begins fits steps done.
       let fresh = fresh_execution kind lanes work ports rules in
       work_says meaning kind work works (history_of came_for (worked_out meaning) gave_for steps fresh nothing_yet) (after_all steps fresh)
-      (all_calls_kept meaning kind work works steps fresh nothing_yet fits done (fresh_work meaning kind lanes work ports rules works begins fits));
+      (all_calls_kept meaning kind work works steps fresh nothing_yet fits done (fresh_work meaning kind lanes work ports rules works begins fits))
+      (fits_after meaning kind work works steps fresh fits done);
 }

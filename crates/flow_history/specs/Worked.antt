@@ -1,19 +1,21 @@
 -- What becomes of the messages of a block with a function that a caller drives by hand, over any calls.
-use Rattle.std.specs.Prelude.{◌≡◌, ℕ, true, List, [], ◌++◌, Option, Some, Result}
+use Rattle.std.specs.Prelude.{◌≡◌, ℕ, true, List, [], ◌++◌, Option, Some, Result, ◌+◌, length}
 use Rattle.flow_value.specs.declared.value.Value.{Value}
 use Rattle.flow_value.specs.declared.work.WorkFault.{WorkFault}
 use Rattle.flow_link.specs.declared.draft.BlockKind.{BlockKind}
 use Rattle.flow_link.specs.Making.{Arrival}
 use Rattle.flow_link.specs.Plan.{has_work, is_one_taker}
-use Rattle.flow_intake.specs.Port.{PortState}
+use Rattle.flow_intake.specs.Port.{PortState, coming}
 use Rattle.flow_outlet.specs.declared.ends.LinkRule.{LinkRule}
-use Rattle.flow_block.specs.Block.{held_by, put_by_job}
+use Rattle.flow_block.specs.Block.{held_by, put_by_job, port_at}
 use Rattle.flow_block.specs.Jobs.{AreOf}
-use Rattle.flow_block.specs.NodeLaw.{MakesAs, FaultsOn}
+use Rattle.flow_block.specs.NodeLaw.{MakesAs, FaultsOn, WeighsAs}
 use Rattle.flow_block.specs.Peeks.{may_begin, may_end}
 use Rattle.flow_exec.specs.Calls.{Acts, Gives, Takes}
 use Rattle.flow_exec.specs.Execution.{ExecutionState, Runs, fresh_execution, begins_job, job_result, ends_own_job}
 use Rattle.flow_exec.specs.Works.{results_by}
+use Rattle.flow_link.specs.LinkOk.{IsWithin}
+use Rattle.flow_outlet.specs.Fits.{weight_of}
 use Rattle.flow_history.specs.Calls.{Call, MayCall, Fits, Step, AllDone, after_all}
 use Rattle.flow_history.specs.History.{Gift, History, nothing_yet, took_at, given, came_by, gave_by, history_of}
 use Rattle.flow_history.specs.Kept.{NothingCame}
@@ -71,6 +73,13 @@ module _ {W : Type 0} where
       -- its own fault is that of the message that it holds first
       pub faulted : (number : ℕ) → execution.block.fault ≡ Some number
           → FaultsOn (result_in execution) execution.block.kind (held_by execution.block) number
+      -- where it has a capacity, each message whose result is not wholly given has a weight; that, what it holds and what comes fit
+      -- into the capacity
+      pub weighs : WeighsAs (result_in execution) execution.block.kind (port_at 0 execution.block).capacity (took_at history 0)
+          (held_by execution.block) (given history.gave) execution.block.exits.left execution.block.exits.next
+          execution.block.exits.groups
+      pub within : IsWithin (port_at 0 execution.block).capacity
+          (length (held_by execution.block) + weight_of execution.block.exits.groups + coming (port_at 0 execution.block))
 
 -- over any calls, from an execution block to which nothing came
 pub record WorkIsKept (W : Type 0) : Type 0 where
