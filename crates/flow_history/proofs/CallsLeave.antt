@@ -255,7 +255,7 @@ module _ (took : ℕ → ℕ) (old : BlockState) (law : Ordered took old.ports) 
 
     pub offers_leave : (one : Bool) (place : Option ℕ) → Goes (offered_by one place old)
     offers_leave true place = record {
-      still = record { kind = refl; size = refl; count = refl; held = λ p. refl; ended = λ p e. e; capacity = refl; element = refl; once = refl };
+      still = record { kind = refl; size = refl; count = refl; held = λ p. refl; ended = λ p e. e; capacity = λ p. refl; element = refl; once = refl };
       jobs = refl;
       recorded = refl;
       fault = refl;
@@ -266,7 +266,7 @@ module _ (took : ℕ → ℕ) (old : BlockState) (law : Ordered took old.ports) 
 
     pub answers_leave : (one : Bool) (link header : ℕ) (how : MessageStatus) → Goes (answered_by one link header how old)
     answers_leave true link header how = record {
-      still = record { kind = refl; size = refl; count = refl; held = λ p. refl; ended = λ p e. e; capacity = refl; element = refl; once = refl };
+      still = record { kind = refl; size = refl; count = refl; held = λ p. refl; ended = λ p e. e; capacity = λ p. refl; element = refl; once = refl };
       jobs = refl;
       recorded = refl;
       fault = refl;
@@ -297,7 +297,7 @@ module _ (took : ℕ → ℕ) (old : BlockState) (law : Ordered took old.ports) 
             count = length_back exits old.copies old.kind head old.ports;
             held = λ p. kept_back exits old.copies old.kind head (λ (r : PortState). r.waiting) old.ports p (λ back port. refl);
             ended = λ p e. ap has_ended (kept_back exits old.copies old.kind head (λ (r : PortState). r.refusing) old.ports p (λ back port. refl)) ∙ e;
-            capacity = kept_back exits old.copies old.kind head (λ (r : PortState). r.capacity) old.ports 0 (λ back port. refl);
+            capacity = λ p. kept_back exits old.copies old.kind head (λ (r : PortState). r.capacity) old.ports p (λ back port. refl);
             element = refl;
             once = refl;
           };

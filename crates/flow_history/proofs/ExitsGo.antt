@@ -1,8 +1,7 @@
 -- What becomes of what a block shares out, where a call makes nothing: the first of it is given, or it stays.
-use Rattle.std.proofs.Common.{◌≡◌, ℕ, ◌+◌, ◌==◌, Bool, true, false, not, cond, is_some, List, [], ◌∷◌, Option, Some, None, Result, Ok, Err, refl, ap, sym, subst, ◌∙◌}
+use Rattle.std.proofs.Common.{◌≡◌, ℕ, ◌+◌, ◌==◌, Bool, true, false, not, cond, is_some, List, [], ◌∷◌, Option, Some, None, Ok, Err, refl, ap, sym, subst, ◌∙◌}
 use Rattle.std.proofs.lemmas.Bool.{and_parts, not-true}
 use Rattle.flow_value.specs.declared.value.Value.{Value}
-use Rattle.flow_value.specs.declared.message.MessageStatus.{MessageStatus}
 use Rattle.flow_link.specs.BlockCalls.{BlockCall}
 use Rattle.flow_link.specs.Plan.{is_one_taker}
 use Rattle.flow_link.specs.SourceCalls.{SourceCall}
@@ -15,7 +14,7 @@ use Rattle.flow_intake.specs.Calls.{port_closes}
 use Rattle.flow_outlet.specs.ByLink.{place_of, is_head, tests_consume, consumed, gives_home}
 use Rattle.flow_outlet.specs.Outlet.{OutletState, head_of, first_of, rest_of, is_empty, groups_after}
 use Rattle.flow_block.specs.Block.{BlockState, with_port, stops_by}
-use Rattle.flow_block.specs.Traits.{outcome_of, faults, shares, offer_next, offered_by, answered_by, taken_by, given_by, may_take, gives_over, with_port_of, wishing_port, wishes, notes}
+use Rattle.flow_block.specs.Traits.{outcome_of, faults, offer_next, offered_by, answered_by, taken_by, given_by, may_take, gives_over, with_port_of, wishing_port, wishes, notes}
 use Rattle.flow_history.specs.Calls.{Call, Does}
 use Rattle.flow_history.proofs.CallsLeave.{IsPlain}
 
@@ -29,6 +28,7 @@ pub record SameExits (old new : OutletState) : Type 0 where
   pub left : new.left ≡ old.left
   pub next : new.next ≡ old.next
   pub groups : new.groups ≡ old.groups
+  pub room : new.room ≡ old.room
 
 -- the first of it is given
 pub record GivesFirst (value : Value) (old new : OutletState) : Type 0 where
@@ -36,13 +36,18 @@ pub record GivesFirst (value : Value) (old new : OutletState) : Type 0 where
   pub left : new.left ≡ rest_of old.left
   pub next : new.next ≡ old.next + 1
   pub groups : new.groups ≡ groups_after old.next old.groups
+  pub room : new.room ≡ 0
 
 abbrev pub Goes : Option Value → OutletState → OutletState → Type 0
 Goes None old new = SameExits old new
 Goes (Some value) old new = GivesFirst value old new
 
 same_exits : (o : OutletState) → SameExits o o
-same_exits o = record { left = refl; next = refl; groups = refl }
+same_exits o = record { left = refl; next = refl; groups = refl; room = refl }
+
+pub no_head : (left : List Value) → is_empty left ≡ false → None ≡ first_of left → ⊥
+no_head [] there none = absurd (cc)
+no_head (v ∷ left) there none = absurd (cc)
 
 module _ (old : BlockState) where
   exits_stopped : (ended : Bool) (how : Outcome) → SameExits old.exits (cond ended old (stops_by how old)).exits
@@ -51,17 +56,13 @@ module _ (old : BlockState) where
 
   exits_offered : (place : Option ℕ) → SameExits old.exits (offered_by true place old).exits
   exits_offered None = same_exits old.exits
-  exits_offered (Some k) = record { left = refl; next = refl; groups = refl }
+  exits_offered (Some k) = record { left = refl; next = refl; groups = refl; room = refl }
 
   exits_wished : (place : Option ℕ) → SameExits old.exits (wishes place old).exits
   exits_wished None = same_exits old.exits
   exits_wished (Some p) = same_exits old.exits
 
   -- the head is given
-
-  no_head : (left : List Value) → is_empty left ≡ false → None ≡ first_of left → ⊥
-  no_head [] there none = absurd (cc)
-  no_head (v ∷ left) there none = absurd (cc)
 
   exits_given : (link header : ℕ) (value : Option Value) → is_head header old.exits ≡ true → value ≡ consumed header old.exits
       → Goes value old.exits (gives_over link header old).exits
@@ -77,6 +78,7 @@ module _ (old : BlockState) where
         left = ap (λ (b : Bool). (cond b (gives_home (place_of link old.exits.ends) header old.exits) old.exits).left) head;
         next = ap (λ (b : Bool). (cond b (gives_home (place_of link old.exits.ends) header old.exits) old.exits).next) head;
         groups = ap (λ (b : Bool). (cond b (gives_home (place_of link old.exits.ends) header old.exits) old.exits).groups) head;
+        room = refl;
       }
 
   none_given : (value : Option Value) → value ≡ None → Goes value old.exits old.exits
@@ -108,7 +110,7 @@ module _ (old new : BlockState) (one : is_one_taker old.kind ≡ true) where
       (exits_offered old (offer_next old))
   exits_give (SourceCall.noted link header how) does =
       exits_as None (answered_by true link header how old) (does ∙ ap (λ (b : Bool). answered_by b link header how old) one)
-      (record { left = refl; next = refl; groups = refl })
+      (record { left = refl; next = refl; groups = refl; room = refl })
   exits_give (SourceCall.consumed link header value) does =
       exits_as value (given_by true link header old) (does.1 ∙ ap (λ (b : Bool). given_by b link header old) one)
       (exits_consumed old link header value (may_take link header old.exits) refl

@@ -1,5 +1,5 @@
 -- Over any calls a batched join that a caller drives by hand keeps its messages.
-use Rattle.std.proofs.Common.{◌≡◌, ℕ, zero, suc, ◌+◌, ◌<◌, ◌^◌, ◌==◌, leb, ltb, Bool, true, false, not, ◌&&◌, ◌||◌, cond, List, [], ◌∷◌, ◌++◌, length, drop, take, Ok, Err, refl, ap, sym, subst, ◌∙◌, arith, append-nil}
+use Rattle.std.proofs.Common.{◌≡◌, ℕ, zero, suc, ◌+◌, ◌<◌, ◌^◌, ◌==◌, leb, ltb, Bool, true, false, not, ◌&&◌, ◌||◌, cond, List, [], ◌∷◌, ◌++◌, length, drop, take, Ok, Err, refl, ap, sym, subst, ◌∙◌, arith, append-nil, length-append, is_some, ◌≤◌, Option, Some, None}
 use Rattle.std.proofs.lemmas.Bool.{and_parts, and_from, ltb-true}
 use Rattle.std.proofs.lemmas.List.{length-set, length-drop}
 use Rattle.flow_value.specs.declared.value.Value.{Value}
@@ -7,18 +7,18 @@ use Rattle.flow_link.specs.declared.draft.BlockKind.TheVariants.{BatchedJoin}
 use Rattle.flow_link.specs.declared.traits.MakeFault.TheVariants as make_fault
 use Rattle.flow_link.specs.BlockCalls.{BlockCall}
 use Rattle.flow_link.specs.Lists.{is_empty}
-use Rattle.flow_link.specs.Making.{Arrival}
+use Rattle.flow_link.specs.Making.{Arrival, arrived_at, all_items, column}
 use Rattle.flow_link.specs.Plan.{is_one_taker, is_write_once}
 use Rattle.flow_link.specs.SourceCalls.{SourceCall}
 use Rattle.flow_link.specs.TargetCalls.{TargetCall, Wants}
-use Rattle.flow_intake.specs.Port.{PortState}
+use Rattle.flow_intake.specs.Port.{PortState, coming}
 use Rattle.flow_intake.specs.PortLaw.{PortLaw, has_ended}
 use Rattle.flow_intake.specs.ByLink.{arrives}
 use Rattle.flow_group.specs.Group.{group_of, has_group, takes_group}
 use Rattle.flow_group.specs.Groups.{GroupsLaw, arrival_at}
 use Rattle.flow_group.specs.Tuple.{held_at, all_ended}
 use Rattle.flow_group.specs.Tuples.{only_at}
-use Rattle.flow_group.proofs.GroupsCut.{as_many_taken, ended_later}
+use Rattle.flow_group.proofs.GroupsCut.{as_many_taken, ended_later, groups_tell}
 use Rattle.flow_group.proofs.GroupsKeep.{groups_kept}
 use Rattle.flow_outlet.specs.declared.ends.LinkRule.{LinkRule}
 use Rattle.flow_spread.specs.Spread.{is_spread_free}
@@ -31,13 +31,15 @@ use Rattle.flow_block.proofs.GroupPorts.{each_after_group, kept_by_group}
 use Rattle.flow_batched.specs.BatchedJoin.{JoinState, fresh_join}
 use Rattle.flow_batched.specs.Calls.{makes_next}
 use Rattle.flow_batched.proofs.OrderTells.{told_in_all}
+use Rattle.flow_link.specs.LinkOk.{IsWithin}
 use Rattle.flow_history.specs.Calls.{Call, MayCall, Does, Step, AllDone, after_all}
-use Rattle.flow_history.specs.History.{History, nothing_yet, took_at, came_by, made_by, copied_at_once, noted, history_of, gave_by}
-use Rattle.flow_history.specs.Grouped.{MayCallJoin, DoesToJoin, FitsJoin, came_to, grouped_by, GroupsAreKept}
+use Rattle.flow_history.specs.History.{History, nothing_yet, took_at, came_by, made_by, copied_at_once, noted, history_of, gave_by, Gift, given}
+use Rattle.flow_history.specs.Grouped.{MayCallJoin, DoesToJoin, FitsJoin, came_to, grouped_by, GroupsAreKept, KeepsGroups}
 use Rattle.flow_history.specs.Kept.{any_link, hands_on, NothingCame}
 use Rattle.flow_history.proofs.CallsLeave.{Leaves, IsPlain, call_leaves}
+use Rattle.flow_history.proofs.GroupsCounted.{messages_of, messages_parts, Counts, plain_counts, made_counts, came_counts}
 use Rattle.flow_history.proofs.Makes.{not_of, shared_more}
-use Rattle.flow_history.proofs.MessagesKept.{one_call, fresh_kept, none_at, nothing_added, only_made}
+use Rattle.flow_history.proofs.MessagesKept.{one_call, fresh_kept, none_at, nothing_added, only_made, given_then}
 use Rattle.flow_history.proofs.PortCalls.{less_waits}
 use Rattle.flow_history.proofs.Still.{shares_alone, Kept}
 use Rattle.flow_history.proofs.Takes.{held_more, open_port, refuses_so, there}
@@ -72,10 +74,14 @@ GroupsOf history join =
     GroupsLaw (length join.block.ports) join.block.size (all_ended join.block.ports) history.came history.made join.order
     (held_at join.block.ports)
 
+abbrev CountsOf : History → JoinState → Type 0
+CountsOf history join = Counts (λ p. length (took_at history p)) (given history.gave) join.block
+
 record KeptJoin (history : History) (join : JoinState) : Type 0 where
   pub kept : Kept false history join.block
   pub groups : GroupsOf history join
   pub some : 0 < join.block.size
+  pub counts : CountsOf history join
 
 -- no message came, and no group was made
 groups_stay : (came : List Arrival) (made : List Value) (old new : BlockState) (order later : List ℕ) (took : ℕ → ℕ) → Leaves took old new
@@ -116,6 +122,11 @@ module _ (h : History) (old new : JoinState) (kept : KeptJoin h old) (fits : Fit
             (ap (λ (m : List Value). h.made ++ m) grouped ∙ append-nil h.made)
             (groups_stay h.came h.made old.block new.block old.order new.order took leaves order kept.groups);
         some = subst (λ (size : ℕ). 0 < size) (sym leaves.still.size) kept.some;
+        counts =
+            subst (λ (c : List Arrival). Counts (λ p. length (arrived_at p c)) (given (h.gave ++ gave_by call)) new.block)
+            (sym (ap (λ (c : List Arrival). h.came ++ c) came ∙ append-nil h.came))
+            (subst (λ (gave : List Value). Counts took gave new.block) (sym (given_then h.gave call))
+            (plain_counts took (given h.gave) took old.block new.block fits.kind_is call plain does leaves kept.counts));
       }
 
   -- A group is made
@@ -174,6 +185,7 @@ module _ (h : History) (old new : JoinState) (kept : KeptJoin h old) (fits : Fit
         groups = subst (λ (n : ℕ). GroupsLaw n size (all_ended (takes_group size old.order ports)) h.came (h.made ++ group ∷ [])
             (drop size old.order) (held_at (takes_group size old.order ports))) (sym count) ended;
         some = kept.some;
+        counts = made_counts took (given h.gave) old.block.size old.order old.block kept.counts;
       }
 
   -- A message comes
@@ -238,6 +250,12 @@ module _ (h : History) (old new : JoinState) (kept : KeptJoin h old) (fits : Fit
             (h.came ++ arrival_at (port_into link old.block.ports) value ∷ []) h.made (old.order ++ port_into link old.block.ports ∷ []) (held_at b.ports))
             (sym same) (came_groups link header value may)));
         some = subst (λ (b : BlockState). 0 < b.size) (sym same) kept.some;
+        counts =
+            subst (λ (gave : List Gift). Counts (λ p. length (arrived_at p (h.came ++ arrival_at (port_into link old.block.ports) value ∷ [])))
+            (given gave) new.block) (sym (append-nil h.gave))
+            (subst (λ (b : BlockState). Counts (λ p. length (arrived_at p (h.came ++ arrival_at (port_into link old.block.ports) value ∷ [])))
+            (given h.gave) b) (sym same)
+            (came_counts false h old.block kept.kept link header value may kept.counts));
       }
 
   nothing_done : new ≡ old → KeptJoin (record { came = h.came ++ []; made = h.made ++ []; gave = h.gave ++ [] }) new
@@ -288,16 +306,40 @@ fresh_join_kept size ports rules some begins = record {
       groups_kept.same (length ports) size (all_ended ports) [] [] [] (λ p. []) (held_at ports)
       (groups_kept.fresh (length ports) size (all_ended ports)) (λ p l. none_at BatchedJoin 1 size ports rules begins p);
   some = some;
+  counts = record { no_room = refl; no_groups = refl; loads = λ p l limited. omega arith };
 }
+
+-- What the law says
+
+within_by : (capacity : Option ℕ) (came made given left held load comes : ℕ) → came ≡ made + held → made ≡ given + left
+    → (is_some capacity ≡ true → came ≤ load + given) → IsWithin capacity (load + comes) → IsWithin capacity (held + left + comes)
+within_by None came made given left held load comes all parts counted room = tt
+within_by (Some limit) came made given left held load comes all parts counted room =
+    let enough = counted refl in omega (arith, all, parts, enough, room)
+
+keeps_groups : (h : History) (join : JoinState) → KeptJoin h join → join.block.kind ≡ BatchedJoin → KeepsGroups h join
+keeps_groups h join kept is =
+    let shared = kept.kept.messages.shared (ap is_one_taker is) in
+    let ports = join.block.ports in
+    let says = groups_tell.each (length ports) join.block.size (all_ended ports) h.came h.made join.order (held_at ports) kept.groups in
+    record {
+      shared = shared;
+      groups = kept.groups;
+      within = λ p l.
+          let port = port_at p join.block in
+          let made = ap length (says.in_order p l) ∙ length-append (all_items (column p h.made)) (held_at ports p) in
+          let parts = ap (messages_of p) shared ∙ messages_parts p (given h.gave) join.block.exits.left in
+          within_by port.capacity (length (took_at h p)) (messages_of p h.made) (messages_of p (given h.gave))
+          (messages_of p join.block.exits.left) (length (held_at ports p)) port.load (coming port) made parts
+          (λ limited. kept.counts.loads p l limited) (kept.kept.in_order p l).room;
+    }
 
 pub groups_are_kept : GroupsAreKept
 groups_are_kept = record {
   each = λ size ports rules some begins fits steps done.
-      let after = all_calls steps (fresh_join size ports rules) nothing_yet fits done (fresh_join_kept size ports rules some begins) in
-      record {
-        shared = after.kept.messages.shared (ap is_one_taker (kind_after steps (fresh_join size ports rules) fits done));
-        groups = after.groups;
-      };
+      let fresh = fresh_join size ports rules in
+      keeps_groups (history_of came_to grouped_by gave_by steps fresh nothing_yet) (after_all steps fresh)
+      (all_calls steps fresh nothing_yet fits done (fresh_join_kept size ports rules some begins)) (kind_after steps fresh fits done);
 }
   where
     -- it stays a batched join

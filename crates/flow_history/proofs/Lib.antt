@@ -1,7 +1,9 @@
 pub mod CallsLeave
 pub mod CopiesGiven
 pub mod ExitsGo
+pub mod GroupsCounted
 pub mod GroupsKept
+pub mod LoadsGo
 pub mod Makes
 pub mod MessagesKept
 pub mod NewPorts

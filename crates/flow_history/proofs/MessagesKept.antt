@@ -1,33 +1,27 @@
 -- Over any calls a block that a caller drives by hand keeps its messages.
-use Rattle.std.proofs.Common.{◌≡◌, ℕ, zero, suc, ◌<◌, Bool, true, false, not, ◌==◌, ◌&&◌, cond, is_some, List, [], ◌∷◌, ◌++◌, length, Option, Some, None, Ok, Err, refl, ap, sym, subst, ◌∙◌, arith, append-nil, append_assoc, eq-eqb, ◌+◌, ◌≤◌}
-use Rattle.std.proofs.lemmas.Bool.{and_parts, not-true, or_right}
+use Rattle.std.proofs.Common.{◌≡◌, ℕ, zero, suc, ◌<◌, Bool, true, false, ◌&&◌, cond, is_some, List, [], ◌∷◌, ◌++◌, length, Option, Some, None, Ok, Err, refl, ap, sym, subst, ◌∙◌, arith, append-nil, append_assoc, eq-eqb, ◌+◌, ◌≤◌}
+use Rattle.std.proofs.lemmas.Bool.{and_parts, or_right}
 use Rattle.std.proofs.lemmas.List.{map-append}
 use Rattle.flow_value.specs.declared.value.Value.{Value}
-use Rattle.flow_value.specs.declared.message.MessageStatus.{MessageStatus}
 use Rattle.flow_link.specs.declared.draft.BlockKind.{BlockKind}
 use Rattle.flow_link.specs.declared.draft.BlockKind.TheVariants.{WriteOnce, Buffer, Batch, Join}
-use Rattle.flow_link.specs.declared.traits.MakeFault.TheVariants as make_fault
-use Rattle.flow_link.specs.declared.trace.Outcome.{Outcome}
-use Rattle.flow_link.specs.declared.trace.Outcome.TheVariants.{Faulted}
 use Rattle.flow_link.specs.BlockCalls.{BlockCall}
 use Rattle.flow_link.specs.Making.{Arrival, all_items, row_weight}
 use Rattle.flow_link.specs.Plan.{is_one_taker}
 use Rattle.flow_link.specs.SourceCalls.{SourceCall}
 use Rattle.flow_link.specs.TargetCalls.{TargetCall}
 use Rattle.flow_intake.specs.Port.{PortState, coming}
-use Rattle.flow_intake.specs.Calls.{port_closes}
-use Rattle.flow_intake.specs.ByLink.{answered, arrives}
+use Rattle.flow_intake.specs.ByLink.{arrives}
 use Rattle.flow_intake.specs.PortLaw.{has_ended}
 use Rattle.flow_group.specs.Groups.{arrival_at}
 use Rattle.flow_group.specs.Tuple.{held_at}
 use Rattle.flow_group.proofs.TuplesKeep.{tuples_kept}
-use Rattle.flow_outlet.specs.Outlet.{first_of, rest_of, head_of, is_empty, OutletState, groups_after}
-use Rattle.flow_outlet.specs.ByLink.{place_of, is_head, tests_consume, consumed, gives_home}
+use Rattle.flow_outlet.specs.Outlet.{rest_of, is_empty, OutletState, groups_after}
 use Rattle.flow_outlet.specs.declared.ends.LinkRule.{LinkRule}
-use Rattle.flow_block.specs.Block.{with_port, BlockState, port_in, is_batch, stops_by, port_at}
+use Rattle.flow_block.specs.Block.{BlockState, port_in, is_batch, port_at}
 use Rattle.flow_block.specs.BlockFits.{fresh_block, weight_out}
 use Rattle.flow_block.specs.Peeks.{holds_nothing}
-use Rattle.flow_block.specs.Traits.{outcome_of, made_next, shares, offer_next, offered_by, answered_by, may_take, taken_by, gives_over, given_by, port_into, with_port_of, wishing_port, wishes, notes, faults}
+use Rattle.flow_block.specs.Traits.{made_next, shares, port_into, with_port_of}
 use Rattle.flow_block.proofs.TestsTell.{none_left}
 use Rattle.flow_link.specs.LinkOk.{IsWithin}
 use Rattle.flow_outlet.specs.Fits.{weight_of}
@@ -38,9 +32,9 @@ use Rattle.flow_block.specs.NodeLaw.{weighed, rows_weighed}
 use Rattle.flow_block.proofs.RowsHold.{given_back}
 use Rattle.flow_block.proofs.WeightsOfResults.{weight_weighed, weight_rows}
 use Rattle.flow_history.specs.Calls.{Call, MayCall, Does, Fits, Step, AllDone, after_all}
-use Rattle.flow_history.specs.History.{Gift, History, nothing_yet, took_at, given, came_by, made_by, copied_at_once, gifts_of, noted, history_of, gave_by}
+use Rattle.flow_history.specs.History.{Gift, History, nothing_yet, took_at, given, came_by, made_by, copied_at_once, noted, history_of, gave_by}
 use Rattle.flow_history.specs.Kept.{NothingCame, MessagesAreKept, makes_freely, places_left, KeepsMessages}
-use Rattle.flow_history.proofs.CallsLeave.{Leaves, IsPlain, call_leaves, out_at}
+use Rattle.flow_history.proofs.CallsLeave.{IsPlain, call_leaves, out_at}
 use Rattle.flow_history.proofs.ExitsGo.{Goes, given_value, exits_go}
 use Rattle.flow_history.proofs.Makes.{makes_kept, alone_shares}
 use Rattle.flow_history.proofs.Still.{HasOneRoom, Kept, kept_still, shares_alone, weighs_left}

@@ -64,7 +64,7 @@ pub record Still (old new : BlockState) : Type 0 where
   pub count : length new.ports ≡ length old.ports
   pub held : (p : ℕ) → held_at new.ports p ≡ held_at old.ports p
   pub ended : (p : ℕ) → has_ended (port_at p old).refusing ≡ true → has_ended (port_at p new).refusing ≡ true
-  pub capacity : (port_at 0 new).capacity ≡ (port_at 0 old).capacity
+  pub capacity : (p : ℕ) → (port_at p new).capacity ≡ (port_at p old).capacity
   pub element : new.copies.element ≡ old.copies.element
   pub once : new.copies.once ≡ old.copies.once
 
@@ -98,7 +98,7 @@ still_at_one block p port same = record {
   count = length-set block.ports p port;
   held = λ q. kept_at_one (λ (r : PortState). r.waiting) block.ports p q port same.waiting;
   ended = λ q. ended_at_one block.ports p q port same;
-  capacity = kept_at_one (λ (r : PortState). r.capacity) block.ports p 0 port same.capacity;
+  capacity = λ q. kept_at_one (λ (r : PortState). r.capacity) block.ports p q port same.capacity;
   element = refl;
   once = refl;
 }
@@ -111,7 +111,7 @@ still_at_all block change same = record {
   count = length-map block.ports change;
   held = λ q. kept_at_all (λ (r : PortState). r.waiting) change block.ports q (λ port. (same port).waiting);
   ended = λ q. ended_at_all change block.ports q same;
-  capacity = kept_at_all (λ (r : PortState). r.capacity) change block.ports 0 (λ port. (same port).capacity);
+  capacity = λ q. kept_at_all (λ (r : PortState). r.capacity) change block.ports q (λ port. (same port).capacity);
   element = refl;
   once = refl;
 }
@@ -123,7 +123,7 @@ still_same block = record {
   count = refl;
   held = λ p. refl;
   ended = λ p e. e;
-  capacity = refl;
+  capacity = λ p. refl;
   element = refl;
   once = refl;
 }
@@ -157,7 +157,7 @@ kept_still single history gave old new kept still in_order shared weighs = recor
   weighs = λ alone.
       weighs (ap shares_alone (sym still.kind) ∙ alone)
       ∙ ap (λ (k : BlockKind). weighs_left k (port_at 0 old).capacity new.exits.next new.exits.left) (sym still.kind)
-      ∙ ap (λ (c : Option ℕ). weighs_left new.kind c new.exits.next new.exits.left) (sym still.capacity);
+      ∙ ap (λ (c : Option ℕ). weighs_left new.kind c new.exits.next new.exits.left) (sym (still.capacity 0));
   in_order = in_order;
   some = λ batch. subst (λ (size : ℕ). 0 < size) (sym still.size) (kept.some (ap is_batch (sym still.kind) ∙ batch));
   takes_once = λ once. still.once ∙ kept.takes_once (ap is_write_once (sym still.kind) ∙ once);
@@ -165,7 +165,7 @@ kept_still single history gave old new kept still in_order shared weighs = recor
   place = λ e. let before = kept.place e in record {
     once = ap is_write_once still.kind ∙ before.once;
     alone = still.count ∙ before.alone;
-    room = still.capacity ∙ before.room;
+    room = still.capacity 0 ∙ before.room;
   };
   one = kept.one;
 }

@@ -1,7 +1,7 @@
 -- A message that comes is held, behind those that came before it.
-use Rattle.std.proofs.Common.{◌≡◌, ℕ, zero, suc, ◌+◌, ◌<◌, ◌≤◌, ◌^◌, ◌==◌, ltb, Bool, true, false, not, ◌&&◌, ◌||◌, cond, List, [], ◌∷◌, ◌++◌, length, set, take, Option, Some, None, is_some, refl, ap, sym, subst, ◌∙◌, arith, append_assoc, append-nil, length-append, eqb-true, ne_eqb, eq-eqb}
-use Rattle.std.proofs.lemmas.Bool.{and_parts, not-true, or_right}
-use Rattle.std.proofs.lemmas.List.{length-set}
+use Rattle.std.proofs.Common.{◌≡◌, ℕ, ◌+◌, ◌<◌, ◌≤◌, ◌^◌, ◌==◌, ltb, Bool, true, false, not, ◌&&◌, ◌||◌, cond, List, [], ◌∷◌, ◌++◌, length, set, take, Option, Some, None, is_some, refl, ap, sym, subst, ◌∙◌, arith, append_assoc, append-nil, length-append, eqb-true, ne_eqb, eq-eqb}
+use Rattle.std.proofs.lemmas.Bool.{and_parts, not-true, or_right, eqb-false}
+use Rattle.std.proofs.lemmas.List.{length-set, get_or-set_same, get_or-set_other}
 use Rattle.flow_value.specs.declared.value.Value.{Value}
 use Rattle.flow_link.specs.declared.draft.BlockKind.{BlockKind}
 use Rattle.flow_link.specs.declared.draft.BlockKind.TheVariants as kind
@@ -11,9 +11,9 @@ use Rattle.flow_link.specs.Lists.{every}
 use Rattle.flow_link.specs.Making.{arrived_at, all_items}
 use Rattle.flow_link.specs.Plan.{is_write_once}
 use Rattle.flow_link.specs.TargetCalls.{Wants}
-use Rattle.flow_intake.specs.Port.{EndState, PortState, stage_at, is_coming, coming}
+use Rattle.flow_intake.specs.Port.{EndState, PortState, stage_at, is_coming, coming, fresh_port}
 use Rattle.flow_intake.specs.PortLaw.{PortLaw, has_ended}
-use Rattle.flow_intake.specs.Calls.{put_stage, takes}
+use Rattle.flow_intake.specs.Calls.{put_stage, takes, one_more}
 use Rattle.flow_intake.specs.ByLink.{arrives, arrives_at}
 use Rattle.flow_intake.proofs.CountsOfEnds.{count_there}
 use Rattle.flow_group.specs.Groups.{arrival_at}
@@ -24,7 +24,7 @@ use Rattle.flow_group.proofs.TuplesKeep.{tuples_kept, held_by_take}
 use Rattle.flow_outlet.specs.Outlet.{is_empty}
 use Rattle.flow_spread.specs.Spread.{SpreadState, is_spread_free}
 use Rattle.flow_block.specs.Block.{BlockState, port_in, port_at, held_by, is_batch, is_join, copies_at_once, copies_where, copies_taken}
-use Rattle.flow_block.specs.BlockFits.{GaveOut, AllGaveOut, weight_out}
+use Rattle.flow_block.specs.BlockFits.{weight_out}
 use Rattle.flow_block.specs.Copies.{weight_by, copies_left, copies_weight}
 use Rattle.flow_block.specs.NodeLaw.{is_whole}
 use Rattle.flow_block.specs.Traits.{port_into, target_over, with_port_of}
@@ -94,6 +94,23 @@ module _ (single : Bool) (history : History) (old : BlockState) (kept : Kept sin
   capacity_so q =
       kept_at_one (λ (r : PortState). r.capacity) old.ports p q (arrives link value port) (ap (λ (r : PortState). r.capacity) taken_is)
 
+  -- the port counts it, if it counts any
+  pub load_more : (q : ℕ) (here : Bool) → (p == q) ≡ here → is_some (port_in old.ports q).capacity ≡ true
+      → (port_in arrived.ports q).load ≡ (port_in old.ports q).load + cond here 1 0
+  load_more q true is limited =
+      let same : p ≡ q = eqb-true p q is in
+      subst (λ (n : ℕ). (port_in arrived.ports n).load ≡ (port_in old.ports n).load + 1) same
+      (ap (λ (r : PortState). r.load) (get_or-set_same old.ports p (arrives link value port) (fresh_port None) there)
+      ∙ ap (λ (r : PortState). r.load) taken_is
+      ∙ counted port.capacity port.load (subst (λ (n : ℕ). is_some (port_in old.ports n).capacity ≡ true) (sym same) limited))
+    where
+      counted : (capacity : Option ℕ) (load : ℕ) → is_some capacity ≡ true → one_more capacity load ≡ load + 1
+      counted None load limited = absurd (cc)
+      counted (Some limit) load limited = refl
+  load_more q false is limited =
+      let other = get_or-set_other old.ports p q (arrives link value port) (fresh_port None) (λ e. eqb-false p q is (sym e)) in
+      let same = ap (λ (r : PortState). r.load) other in omega (arith, same)
+
   -- it comes only while the port is open
   pub open_port : has_ended port.refusing ≡ false
   open_port = ((kept.in_order p there).each at.place at.there).coming at.comes
@@ -127,7 +144,7 @@ module _ (single : Bool) (history : History) (old : BlockState) (kept : Kept sin
       (sym (ap has_ended (refuses_so 0))) rows.whole)
 
   -- each port is in order, with one more message at this one
-  took_length : (q : ℕ) (here : Bool) → (p == q) ≡ here → length (took_at with_one q) ≡ length (took_at history q) + cond here 1 0
+  pub took_length : (q : ℕ) (here : Bool) → (p == q) ≡ here → length (took_at with_one q) ≡ length (took_at history q) + cond here 1 0
   took_length q true is =
       ap length (took_more q ∙ ap (λ (b : Bool). took_at history q ++ cond b (value ∷ []) []) is)
       ∙ length-append (took_at history q) (value ∷ [])

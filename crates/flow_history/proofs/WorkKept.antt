@@ -24,8 +24,8 @@ use Rattle.flow_group.specs.Tuples.{only_at}
 use Rattle.flow_outlet.specs.Outlet.{is_empty, OutletState, groups_with}
 use Rattle.flow_outlet.specs.declared.ends.LinkRule.{LinkRule}
 use Rattle.flow_spread.specs.Spread.{is_spread_free}
-use Rattle.flow_block.specs.Block.{BlockState, port_in, port_at, held_by, is_batch, is_join, with_jobs, keeps_results, fails, begins, yields_all, yields_where, ends_job, put_by_kind, put_where, put_by_job, job_message, copies_at_once, copies_where, copies_taken, unit_weight}
-use Rattle.flow_block.specs.Jobs.{Slot, AreOf, brings, comes_out, place_of}
+use Rattle.flow_block.specs.Block.{BlockState, port_in, port_at, held_by, is_batch, is_join, with_jobs, keeps_results, fails, begins, yields_all, yields_where, ends_job, put_by_kind, put_where, put_by_job, job_message, copies_at_once, copies_where, copies_taken, unit_weight, puts_out}
+use Rattle.flow_block.specs.Jobs.{Slot, AreOf, brings, comes_out, place_of, works_off}
 use Rattle.flow_block.specs.NodeLaw.{MakesAs, FaultsOn, WeighsAs, weighed, partly_weighed}
 use Rattle.flow_block.specs.Peeks.{may_begin, may_work}
 use Rattle.flow_block.specs.Traits.{makes_alone, has_turn, Makes, port_into, with_port_of}
@@ -262,47 +262,70 @@ module _ (result : Value → Result (List Value) ℕ) (kind : BlockKind) (works 
         one_ordered took old.ports 0 (takes_next (port_at 0 old)) before.kept.in_order
         (λ l law. moves_keep.take_next any_link (took 0) (port_at 0 old) law)
 
-    abbrev OutKept : BlockKind → List Value → Type 0
-    OutKept k values = Kept false (record h { made = h.made ++ put_by_kind k values }) (keeps_results k values old)
+    -- both transforms give the results on
+    abbrev given_on : List Value → BlockState
+    given_on values = with_jobs works_off (puts_out values old)
 
-    out_kept : (k : BlockKind) (values rest : List Value) (value : Value) → old.kind ≡ k → k ≡ kind → has_work k ≡ true → held_by old ≡ value ∷ rest
-        → OutKept k values
-    out_kept Action values rest value is same w held =
+    given_on_kept : (values rest : List Value) (value : Value) → held_by old ≡ value ∷ rest
+        → Kept false (record h { made = h.made ++ values }) (given_on values)
+    given_on_kept [] rest value held =
+        kept_with [] (given_on []) before.kind_is (sym (append-nil old.exits.left)) (back_ordered value rest held)
+    given_on_kept (v ∷ values) rest value held = kept_with (v ∷ values) (given_on (v ∷ values)) before.kind_is refl next_ordered
+
+    out_kept : (k : BlockKind) (values rest : List Value) (value : Value) → has_work k ≡ true → held_by old ≡ value ∷ rest
+        → Kept false (record h { made = h.made ++ put_by_kind k values }) (keeps_results k values old)
+    out_kept Action values rest value w held =
         kept_with [] (keeps_results Action values old) before.kind_is (sym (append-nil old.exits.left)) (back_ordered value rest held)
-    out_kept Transform [] rest value is same w held =
-        kept_with [] (keeps_results Transform [] old) before.kind_is (sym (append-nil old.exits.left)) (back_ordered value rest held)
-    out_kept Transform (v ∷ values) rest value is same w held =
-        kept_with (v ∷ values) (keeps_results Transform (v ∷ values) old) before.kind_is refl next_ordered
-    out_kept TransformMany [] rest value is same w held =
-        kept_with [] (keeps_results TransformMany [] old) before.kind_is (sym (append-nil old.exits.left)) (back_ordered value rest held)
-    out_kept TransformMany (v ∷ values) rest value is same w held =
-        kept_with (v ∷ values) (keeps_results TransformMany (v ∷ values) old) before.kind_is refl next_ordered
-    out_kept _ values rest value is same w held = absurd (cc)
+    out_kept Transform values rest value w held = given_on_kept values rest value held
+    out_kept TransformMany values rest value w held = given_on_kept values rest value held
+    out_kept _ values rest value w held = absurd (cc)
 
-    -- what else becomes of the block
-    record OutLeaves (k : BlockKind) (values : List Value) : Type 0 where
-      pub kind_stays : (keeps_results k values old).kind ≡ old.kind
-      pub ports_stay : length (keeps_results k values old).ports ≡ length old.ports
-      pub recorded : (keeps_results k values old).recorded ≡ old.recorded ++ recorded_by_kind k values
-      pub slots : (keeps_results k values old).jobs.slots ≡ drop 1 old.jobs.slots
-      pub fault : (keeps_results k values old).fault ≡ old.fault
-      pub capacity : (port_at 0 (keeps_results k values old)).capacity ≡ (port_at 0 old).capacity
-      pub left : (keeps_results k values old).exits.left ≡ old.exits.left ++ put_by_kind k values
-      pub next : (keeps_results k values old).exits.next ≡ old.exits.next
-      pub groups : (keeps_results k values old).exits.groups
-          ≡ groups_with (old.exits.next + length old.exits.left) (length (put_by_kind k values)) (unit_weight (port_at 0 old).capacity) old.exits.groups
+    -- what else becomes of the block, where it puts these values and records those
+    record OutLeaves (new : BlockState) (put recorded : List Value) : Type 0 where
+      pub kind_stays : new.kind ≡ old.kind
+      pub ports_stay : length new.ports ≡ length old.ports
+      pub records : new.recorded ≡ old.recorded ++ recorded
+      pub slots : new.jobs.slots ≡ drop 1 old.jobs.slots
+      pub fault : new.fault ≡ old.fault
+      pub capacity : (port_at 0 new).capacity ≡ (port_at 0 old).capacity
+      pub left : new.exits.left ≡ old.exits.left ++ put
+      pub next : new.exits.next ≡ old.exits.next
+      pub groups : new.exits.groups
+          ≡ groups_with (old.exits.next + length old.exits.left) (length put) (unit_weight (port_at 0 old).capacity) old.exits.groups
 
     room_kept : (port_in (set old.ports 0 (room_back (port_at 0 old))) 0).capacity ≡ (port_at 0 old).capacity
     room_kept = kept_at_one (λ (r : PortState). r.capacity) old.ports 0 0 (room_back (port_at 0 old)) refl
 
-    next_kept : (port_in (set old.ports 0 (takes_next (port_at 0 old))) 0).capacity ≡ (port_at 0 old).capacity
-    next_kept = kept_at_one (λ (r : PortState). r.capacity) old.ports 0 0 (takes_next (port_at 0 old)) refl
+    given_on_leaves : (values : List Value) → OutLeaves (given_on values) values []
+    given_on_leaves [] = record {
+      kind_stays = refl;
+      ports_stay = length-set old.ports 0 (room_back (port_at 0 old));
+      records = sym (append-nil old.recorded);
+      slots = refl;
+      fault = refl;
+      capacity = room_kept;
+      left = sym (append-nil old.exits.left);
+      next = refl;
+      groups = refl;
+    }
+    given_on_leaves (v ∷ values) = record {
+      kind_stays = refl;
+      ports_stay = length-set old.ports 0 (takes_next (port_at 0 old));
+      records = sym (append-nil old.recorded);
+      slots = refl;
+      fault = refl;
+      capacity = kept_at_one (λ (r : PortState). r.capacity) old.ports 0 0 (takes_next (port_at 0 old)) refl;
+      left = refl;
+      next = refl;
+      groups = refl;
+    }
 
-    out_leaves : (k : BlockKind) (values : List Value) → has_work k ≡ true → OutLeaves k values
+    out_leaves : (k : BlockKind) (values : List Value) → has_work k ≡ true
+        → OutLeaves (keeps_results k values old) (put_by_kind k values) (recorded_by_kind k values)
     out_leaves Action values w = record {
       kind_stays = refl;
       ports_stay = length-set old.ports 0 (room_back (port_at 0 old));
-      recorded = refl;
+      records = refl;
       slots = refl;
       fault = refl;
       capacity = room_kept;
@@ -310,50 +333,8 @@ module _ (result : Value → Result (List Value) ℕ) (kind : BlockKind) (works 
       next = refl;
       groups = refl;
     }
-    out_leaves Transform [] w = record {
-      kind_stays = refl;
-      ports_stay = length-set old.ports 0 (room_back (port_at 0 old));
-      recorded = sym (append-nil old.recorded);
-      slots = refl;
-      fault = refl;
-      capacity = room_kept;
-      left = sym (append-nil old.exits.left);
-      next = refl;
-      groups = refl;
-    }
-    out_leaves Transform (v ∷ values) w = record {
-      kind_stays = refl;
-      ports_stay = length-set old.ports 0 (takes_next (port_at 0 old));
-      recorded = sym (append-nil old.recorded);
-      slots = refl;
-      fault = refl;
-      capacity = next_kept;
-      left = refl;
-      next = refl;
-      groups = refl;
-    }
-    out_leaves TransformMany [] w = record {
-      kind_stays = refl;
-      ports_stay = length-set old.ports 0 (room_back (port_at 0 old));
-      recorded = sym (append-nil old.recorded);
-      slots = refl;
-      fault = refl;
-      capacity = room_kept;
-      left = sym (append-nil old.exits.left);
-      next = refl;
-      groups = refl;
-    }
-    out_leaves TransformMany (v ∷ values) w = record {
-      kind_stays = refl;
-      ports_stay = length-set old.ports 0 (takes_next (port_at 0 old));
-      recorded = sym (append-nil old.recorded);
-      slots = refl;
-      fault = refl;
-      capacity = next_kept;
-      left = refl;
-      next = refl;
-      groups = refl;
-    }
+    out_leaves Transform values w = given_on_leaves values
+    out_leaves TransformMany values w = given_on_leaves values
     out_leaves _ values w = absurd (cc)
 
     comes_kept : (values : List Value) (slots : List Slot) → old.jobs.slots ≡ Some (Ok values) ∷ slots → old.fault ≡ None
@@ -363,10 +344,10 @@ module _ (result : Value → Result (List Value) ℕ) (kind : BlockKind) (works 
         let left = out_leaves kind values works in
         let held = held_then kind values old first.message first.rest before.one_port first.held_is in
         record {
-          kept = out_kept kind values first.rest first.message before.kind_is refl works first.held_is;
+          kept = out_kept kind values first.rest first.message works first.held_is;
           kind_is = left.kind_stays ∙ before.kind_is;
           one_port = left.ports_stay ∙ before.one_port;
-          makes = rw (held, left.recorded)
+          makes = rw (held, left.records)
               (makes_as result kind (took_at h 0) first.rest h.made old.recorded values first.message works first.made_is
               (subst (λ (vs : List Value). MakesAs result kind (took_at h 0) vs [] h.made old.recorded) first.held_is before.makes));
           waits = rw (held, left.slots, at) first.others;
@@ -498,7 +479,7 @@ module _ (result : Value → Result (List Value) ℕ) (kind : BlockKind) (works 
           next_is =
               next_go result kind (given h.gave) (given_value call) old.exits new.exits goes kept.next_is
               ∙ ap (λ (vs : List Value). 1 + length vs) (sym (given_then h.gave call));
-          weighs = rw (still.held 0, still.capacity, same_came, given_then h.gave call)
+          weighs = rw (still.held 0, still.capacity 0, same_came, given_then h.gave call)
               (weighs_go result kind (port_at 0 old).capacity (took_at h 0) (held_by old) (given h.gave) (given_value call) old.exits new.exits goes
               kept.next_is kept.weighs);
         }

@@ -1,16 +1,18 @@
 -- What becomes of the messages of a batched join that a caller drives by hand, over any calls.
-use Rattle.std.specs.Prelude.{◌≡◌, ℕ, ◌<◌, true, List, [], ◌∷◌, ◌++◌, length, Ok}
+use Rattle.std.specs.Prelude.{◌≡◌, ℕ, ◌<◌, true, List, [], ◌∷◌, ◌++◌, length, Ok, ◌+◌}
 use Rattle.flow_value.specs.declared.value.Value.{Value}
 use Rattle.flow_link.specs.BlockCalls.{BlockCall}
 use Rattle.flow_link.specs.declared.draft.BlockKind.TheVariants.{BatchedJoin}
-use Rattle.flow_link.specs.Making.{Arrival}
-use Rattle.flow_intake.specs.Port.{PortState}
+use Rattle.flow_link.specs.Making.{Arrival, all_items, column}
+use Rattle.flow_intake.specs.Port.{PortState, coming}
 use Rattle.flow_group.specs.Group.{group_of}
 use Rattle.flow_group.specs.Groups.{GroupsLaw}
 use Rattle.flow_group.specs.Tuple.{held_at, all_ended}
 use Rattle.flow_outlet.specs.declared.ends.LinkRule.{LinkRule}
 use Rattle.flow_batched.specs.BatchedJoin.{JoinState, Tells, waits, fresh_join}
 use Rattle.flow_batched.specs.Calls.{Acts, Gives, Takes}
+use Rattle.flow_link.specs.LinkOk.{IsWithin}
+use Rattle.flow_block.specs.Block.{port_at}
 use Rattle.flow_history.specs.Calls.{Call, MayCall, Fits, Step, AllDone, after_all}
 use Rattle.flow_history.specs.History.{History, nothing_yet, given, came_by, history_of, gave_by}
 use Rattle.flow_history.specs.Kept.{NothingCame}
@@ -42,6 +44,10 @@ pub record KeepsGroups (history : History) (join : JoinState) : Type 0 where
   -- what came in is cut into groups, in the order in which it came, and what is held
   pub groups : GroupsLaw (length join.block.ports) join.block.size (all_ended join.block.ports) history.came history.made join.order
       (held_at join.block.ports)
+  -- what it holds at a port, the port's messages in groups that are not given, and what comes there fit into the port's capacity
+  pub within : (p : ℕ) → p < length join.block.ports
+      → IsWithin (port_at p join.block).capacity
+      (length (held_at join.block.ports p) + length (all_items (column p join.block.exits.left)) + coming (port_at p join.block))
 
 -- over any calls, from a batched join to which nothing came
 pub record GroupsAreKept : Type 0 where

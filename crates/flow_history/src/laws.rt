@@ -12,14 +12,15 @@ pub fn new_ports_took_nothing()
 
 /// Whatever is called, in whatever order: a buffer, a batch or a join gives each of its outputs once, in order, and has the
 /// rest left. A buffer, a broadcast and a write-once block make their outputs of their messages as they are, a batch makes
-/// rows of them, and a join tuples; what they made nothing of they hold. A write-once block with room for one message takes
-/// no second.
+/// rows of them, and a join tuples; what they made nothing of they hold. What they hold, what they have not wholly given and
+/// what comes fit into the capacity. A write-once block with room for one message takes no second.
 pub fn messages_are_kept()
     ensures { MessagesAreKept }
 {}
 
 /// Whatever is called, a batched join cuts what came in into groups, in the order in which it came over all ports, and
-/// holds the rest. It gives each group once, in order, and has the rest left.
+/// holds the rest. It gives each group once, in order, and has the rest left. At each port the messages that it holds, those
+/// of groups that it has left, and those that come fit into the port's capacity.
 pub fn groups_are_kept()
     ensures { GroupsAreKept }
 {}
@@ -33,7 +34,8 @@ pub fn copies_are_given()
 
 /// Whatever is called, an action, a transform or a transform-many gives, has left or has recorded the results of the
 /// messages that it took, in order, but for those that it holds. A result that came back out of turn is that of its
-/// message, and its own fault that of the message that it holds first.
+/// message, and its own fault that of the message that it holds first. What it holds, the messages whose results it has not
+/// wholly given, and what comes fit into the capacity.
 pub fn work_is_kept<W>()
     ensures { WorkIsKept W }
 {}

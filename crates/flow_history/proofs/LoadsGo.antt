@@ -1,0 +1,171 @@
+-- What becomes of what the ports of a block count, where a call makes nothing: it stays, but for the room that comes back with what is
+-- given.
+use Rattle.std.proofs.Common.{◌≡◌, ℕ, ◌+◌, ◌-◌, ◌<◌, ◌≤◌, min, Bool, true, false, cond, is_some, List, length, Option, Some, None, Ok, Err, refl, ap, sym, subst, ◌∙◌, arith, ◌==◌, not, ap₂, [], set}
+use Rattle.std.proofs.lemmas.Bool.{and_parts, not-true}
+use Rattle.flow_value.specs.declared.value.Value.{Value}
+use Rattle.flow_value.specs.declared.message.MessageStatus.{MessageStatus}
+use Rattle.flow_value.specs.declared.message.MessageStatus.TheVariants as status
+use Rattle.flow_link.specs.BlockCalls.{BlockCall}
+use Rattle.flow_link.specs.Plan.{is_one_taker}
+use Rattle.flow_link.specs.SourceCalls.{SourceCall}
+use Rattle.flow_link.specs.TargetCalls.{TargetCall}
+use Rattle.flow_link.specs.declared.trace.Outcome.{Outcome}
+use Rattle.flow_link.specs.declared.trace.Outcome.TheVariants.{Faulted}
+use Rattle.flow_link.specs.declared.traits.MakeFault.TheVariants as make_fault
+use Rattle.flow_link.specs.declared.traits.WishAnswer.{WishAnswer}
+use Rattle.flow_link.specs.declared.traits.WishAnswer.TheVariants as answer
+use Rattle.flow_intake.specs.Port.{PortState, stage_at}
+use Rattle.flow_intake.specs.ByLink.{place_of, with_link_at, closes_link, answered, drops_at, consumes_at, consumes_next}
+use Rattle.flow_intake.specs.Calls.{next_place, is_postponed, port_closes, consumes as port_consumes}
+use Rattle.flow_outlet.specs.ByLink.{place_of as out_place, is_head, tests_consume, consumes, consumed, gives_home}
+use Rattle.flow_outlet.specs.Outlet.{head_of, weight_at, is_empty}
+use Rattle.flow_block.specs.Block.{BlockState, port_in, port_at, with_port, row_count, stops_by}
+use Rattle.flow_block.specs.Traits.{outcome_of, faults, offer_next, offered_by, answered_by, taken_by, given_by, may_take, gives_over, with_port_of, port_into, wishing_port, wishes, holds_at, notes}
+use Rattle.flow_block.proofs.PortsChange.{kept_at_one, kept_at_all}
+use Rattle.flow_block.proofs.RoomBack.{port_back}
+use Rattle.flow_outlet.specs.Fits.{weight_of}
+use Rattle.flow_outlet.specs.declared.group.Group.{Group}
+use Rattle.flow_block.specs.Copies.{copies_weight}
+use Rattle.flow_history.specs.Calls.{Call, Does}
+use Rattle.flow_history.proofs.CallsLeave.{IsPlain}
+use Rattle.flow_history.proofs.ExitsGo.{given_value, no_head}
+
+-- At one port
+
+known_load : (link : ℕ) (port : PortState) (place : Option ℕ) → (with_link_at place link port).load ≡ port.load
+known_load link port None = refl
+known_load link port (Some k) = refl
+
+closed_load : (port : PortState) (place : Option ℕ) → (closes_link place port).load ≡ port.load
+closed_load port None = refl
+closed_load port (Some k) = refl
+
+answered_load : (link header : ℕ) (how : MessageStatus) (port : PortState) → (answered link header how port).load ≡ port.load
+answered_load link header status.Accepted port = known_load link port (place_of link port.ends)
+answered_load link header status.Postponed port = known_load link port (place_of link port.ends)
+answered_load link header status.DecliningPermanently port = closed_load port (place_of link port.ends)
+answered_load link header status.Declined port = refl
+answered_load link header status.NotAvailable port = refl
+
+consumed_load : (port : PortState) (place : Option ℕ) → (consumes_at place port).load ≡ port.load
+consumed_load port None = refl
+consumed_load port (Some k) = where_postponed (is_postponed (stage_at k port))
+  where
+    where_postponed : (postponed : Bool) → (cond postponed (port_consumes k port) port).load ≡ port.load
+    where_postponed true = refl
+    where_postponed false = refl
+
+held_load : (port : PortState) (place : Option ℕ) → (holds_at place port).load ≡ port.load
+held_load port None = refl
+held_load port (Some k) = refl
+
+dropped_load : (port : PortState) (place : Option ℕ) → (drops_at place port).load ≡ port.load
+dropped_load port None = refl
+dropped_load port (Some k) = refl
+
+noted_load : (told : WishAnswer) (link : ℕ) (port : PortState) → (notes told link port).load ≡ port.load
+noted_load answer.Coming link port = refl
+noted_load answer.Held link port = held_load port (place_of link port.ends)
+noted_load answer.NotAvailable link port = dropped_load port (place_of link port.ends)
+noted_load answer.Withdrawn link port = dropped_load port (place_of link port.ends)
+
+-- At all ports
+
+-- no more comes back than the head has messages of the port, where no room waits to come back
+abbrev pub LoadsAt : Option Value → BlockState → BlockState → ℕ → Type 0
+LoadsAt None old new p = (port_at p new).load ≡ (port_at p old).load
+LoadsAt (Some value) old new p = (port_at p old).load ≤ (port_at p new).load + row_count old.kind (Some value) p
+
+module _ (old : BlockState) (p : ℕ) where
+  at_one : (q : ℕ) (port : PortState) → port.load ≡ (port_at q old).load → (port_in (set old.ports q port) p).load ≡ (port_at p old).load
+  at_one q port same = kept_at_one (λ (r : PortState). r.load) old.ports q p port same
+
+  stopped_loads : (ended : Bool) (how : Outcome) → (port_at p (cond ended old (stops_by how old))).load ≡ (port_at p old).load
+  stopped_loads true how = refl
+  stopped_loads false how = kept_at_all (λ (r : PortState). r.load) port_closes old.ports p (λ port. refl)
+
+  wished_loads : (place : Option ℕ) → (port_at p (wishes place old)).load ≡ (port_at p old).load
+  wished_loads None = refl
+  wished_loads (Some q) = at_one q (consumes_next (port_at q old)) (consumed_load (port_at q old) (next_place (port_at q old)))
+
+  offered_loads : (place : Option ℕ) → (port_at p (offered_by true place old)).load ≡ (port_at p old).load
+  offered_loads place = refl
+
+  -- room comes back with the head
+  back_loads : (room weight count load waiting : ℕ) → room ≡ 0 → load ≤ load - (room + min count (load - waiting - room - weight)) + count
+  back_loads room weight count load waiting none = omega (arith, none)
+
+module _ (old : BlockState) (p : ℕ) (there : p < length old.ports) (no_room : old.exits.room ≡ 0) (no_groups : old.exits.groups ≡ []) where
+  given_loads : (link header : ℕ) (value : Option Value) → is_head header old.exits ≡ true → value ≡ consumed header old.exits
+      → LoadsAt value old (gives_over link header old) p
+  given_loads link header value head is = of_value value is
+    where
+      exits_are : (consumes link header old.exits).room ≡ 0
+      exits_are =
+          ap (λ (b : Bool). (cond b (gives_home (out_place link old.exits.ends) header old.exits) old.exits).room) head
+          ∙ ap₂ (λ (room : ℕ) (groups : List Group). room + weight_at old.exits.next groups) no_room no_groups
+
+      of_value : (value : Option Value) → value ≡ consumed header old.exits → LoadsAt value old (gives_over link header old) p
+      of_value None told =
+          absurd (no_head old.exits.left
+          (not-true (is_empty old.exits.left) (and_parts (header == old.exits.next) (not (is_empty old.exits.left)) head).1)
+          (told ∙ ap (λ (b : Bool). cond b (head_of old.exits) None) head))
+      of_value (Some v) told =
+          let exits = consumes link header old.exits in
+          let back = port_back exits old.copies old.kind (consumed header old.exits) old.ports p there in
+          let load = ap (λ (r : PortState). r.load) back in
+          let less = back_loads old p exits.room (weight_of exits.groups + copies_weight old.copies) (row_count old.kind (consumed header old.exits) p)
+          (port_at p old).load (length (port_at p old).waiting) exits_are in
+          let same : row_count old.kind (consumed header old.exits) p ≡ row_count old.kind (Some v) p =
+          ap (λ (h : Option Value). row_count old.kind h p) (sym told) in
+          omega (arith, load, less, same)
+
+  consumed_loads : (link header : ℕ) (value : Option Value) (taken : Bool) → may_take link header old.exits ≡ taken
+      → value ≡ cond taken (consumed header old.exits) None → LoadsAt value old (cond taken (gives_over link header old) old) p
+  consumed_loads link header value false is told = subst (λ (v : Option Value). LoadsAt v old old p) (sym told) refl
+  consumed_loads link header value true is told =
+      given_loads link header value
+      (and_parts (tests_consume (out_place link old.exits.ends) header old.exits) (is_head header old.exits) is).1 told
+
+module _ (old new : BlockState) (one : is_one_taker old.kind ≡ true) (p : ℕ) where
+  loads_as : (value : Option Value) (block : BlockState) → new ≡ block → LoadsAt value old block p → LoadsAt value old new p
+  loads_as value block is loads = subst (λ (b : BlockState). LoadsAt value old b p) (sym is) loads
+
+  loads_act : (call : BlockCall) → IsPlain (Call.acts call) → Does (Call.acts call) old new → LoadsAt None old new p
+  loads_act (BlockCall.completed q) plain does = loads_as None (with_port q port_closes old) does (at_one old p q (port_closes (port_at q old)) refl)
+  loads_act (BlockCall.faulted number) plain does =
+      loads_as None (faults number old) does (stopped_loads old p (is_some (outcome_of old)) (Faulted number))
+  loads_act (BlockCall.made (Ok true)) plain does = absurd plain
+  loads_act (BlockCall.made (Ok false)) plain does = loads_as None old does.1 refl
+  loads_act (BlockCall.made (Err make_fault.Ids)) plain does = loads_as None old does.1 refl
+  loads_act (BlockCall.made (Err make_fault.Memory)) plain does = loads_as None old does.1 refl
+
+  loads_take : (call : TargetCall) → IsPlain (Call.takes call) → Does (Call.takes call) old new → LoadsAt None old new p
+  loads_take (TargetCall.offered link header may_postpone how) plain does =
+      let q = port_into link old.ports in
+      loads_as None (with_port_of link (answered link header how) old) does.1
+      (at_one old p q (answered link header how (port_at q old)) (answered_load link header how (port_at q old)))
+  loads_take (TargetCall.handed link header value) plain does = absurd plain
+  loads_take (TargetCall.wished told) plain does =
+      loads_as None (wishes (wishing_port old.ports) old) does.1 (wished_loads old p (wishing_port old.ports))
+  loads_take (TargetCall.noted link told) plain does =
+      let q = port_into link old.ports in
+      loads_as None (with_port_of link (notes told link) old) does
+      (at_one old p q (notes told link (port_at q old)) (noted_load told link (port_at q old)))
+
+  module _ (there : p < length old.ports) (no_room : old.exits.room ≡ 0) (no_groups : old.exits.groups ≡ []) where
+    loads_give : (call : SourceCall) → Does (Call.gives call) old new → LoadsAt (given_value (Call.gives call)) old new p
+    loads_give (SourceCall.offered offer) does =
+        loads_as None (offered_by true (offer_next old) old) (does.1 ∙ ap (λ (b : Bool). offered_by b (offer_next old) old) one)
+        (offered_loads old p (offer_next old))
+    loads_give (SourceCall.noted link header how) does =
+        loads_as None (answered_by true link header how old) (does ∙ ap (λ (b : Bool). answered_by b link header how old) one) refl
+    loads_give (SourceCall.consumed link header value) does =
+        loads_as value (given_by true link header old) (does.1 ∙ ap (λ (b : Bool). given_by b link header old) one)
+        (consumed_loads old p there no_room no_groups link header value (may_take link header old.exits) refl
+        (does.0 ∙ ap (λ (b : Bool). taken_by b link header old) one))
+
+    pub loads_go : (call : Call) → IsPlain call → Does call old new → LoadsAt (given_value call) old new p
+    loads_go (Call.acts call) plain does = loads_act call plain does
+    loads_go (Call.gives call) plain does = loads_give call does
+    loads_go (Call.takes call) plain does = loads_take call plain does
