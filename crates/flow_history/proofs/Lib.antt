@@ -7,7 +7,9 @@ pub mod LoadsGo
 pub mod Makes
 pub mod MessagesKept
 pub mod NewPorts
+pub mod OrderKept
 pub mod PortCalls
+pub mod RulesKept
 pub mod Still
 pub mod Takes
 pub mod WorkKept

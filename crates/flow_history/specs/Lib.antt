@@ -3,4 +3,5 @@ pub mod Copied
 pub mod Grouped
 pub mod History
 pub mod Kept
+pub mod Ordered
 pub mod Worked

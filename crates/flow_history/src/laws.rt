@@ -3,6 +3,7 @@
 ghost use Rattle.flow_history.specs.Copied.{CopiesAreGiven};
 ghost use Rattle.flow_history.specs.Grouped.{GroupsAreKept};
 ghost use Rattle.flow_history.specs.Kept.{MessagesAreKept, NewPortsTookNothing};
+ghost use Rattle.flow_history.specs.Ordered.{MessagesGoByRule};
 ghost use Rattle.flow_history.specs.Worked.{WorkIsKept};
 
 /// Nothing came to ports that were just made. From a block with such ports the other laws begin.
@@ -16,6 +17,13 @@ pub fn new_ports_took_nothing()
 /// what comes fit into the capacity. A write-once block with room for one message takes no second.
 pub fn messages_are_kept()
     ensures { MessagesAreKept }
+{}
+
+/// Whatever is called, what a buffer, a batch or a join gives over a link is what the link's predicate admits, and no more
+/// than its limit. A message goes over a link only where each earlier one rejects it, need not take it at once, or is cut
+/// or refused.
+pub fn messages_go_by_rule()
+    ensures { MessagesGoByRule }
 {}
 
 /// Whatever is called, a batched join cuts what came in into groups, in the order in which it came over all ports, and

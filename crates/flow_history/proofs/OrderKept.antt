@@ -1,0 +1,294 @@
+-- Over any calls a block that shares its messages out gives them by the rules of its links, and in their order.
+use Rattle.std.proofs.Common.{◌≡◌, ℕ, ◌<◌, ◌^◌, ◌+◌, leb, Bool, true, false, cond, is_some, List, [], ◌∷◌, ◌++◌, length, map, take, Option, Some, None, Ok, Err, refl, ap, sym, subst, ◌∙◌, arith, append-nil, not, ◌==◌, zero, suc}
+use Rattle.std.proofs.lemmas.Bool.{and_parts, not-true}
+use Rattle.flow_value.specs.declared.value.Value.{Value}
+use Rattle.flow_link.specs.declared.draft.BlockKind.{BlockKind}
+use Rattle.flow_link.specs.declared.draft.BlockKind.TheVariants.{Buffer, Batch, Join}
+use Rattle.flow_link.specs.declared.trace.Outcome.{Outcome}
+use Rattle.flow_link.specs.declared.trace.Outcome.TheVariants.{Faulted}
+use Rattle.flow_link.specs.declared.traits.MakeFault.TheVariants as make_fault
+use Rattle.flow_link.specs.BlockCalls.{BlockCall}
+use Rattle.flow_link.specs.Plan.{is_broadcast, is_one_taker}
+use Rattle.flow_link.specs.SourceCalls.{SourceCall}
+use Rattle.flow_link.specs.TargetCalls.{TargetCall}
+use Rattle.flow_intake.specs.Port.{PortState}
+use Rattle.flow_intake.specs.Calls.{first_of, port_closes}
+use Rattle.flow_intake.specs.ByLink.{answered, arrives}
+use Rattle.flow_group.specs.Tuple.{tuple_of}
+use Rattle.flow_outlet.specs.ByLink.{place_of, is_head, tests_consume, consumed, gives_home}
+use Rattle.flow_outlet.specs.End.{fresh_end, end_in}
+use Rattle.flow_outlet.specs.Law.{may_go_past}
+use Rattle.flow_outlet.specs.Outlet.{OutletState, head_of, may_offer, lacks_ids, is_empty, end_at}
+use Rattle.flow_outlet.specs.declared.ends.LinkRule.{LinkRule}
+use Rattle.flow_outlet.proofs.LawKept.{calls_keep_law}
+use Rattle.flow_block.specs.Block.{BlockState, held_by, is_batch, is_join, row_of, next_group, with_port, makes_row, makes_tuple, puts_out, copies_next, copies_at_once, copies_where, copies_taken, stops_by}
+use Rattle.flow_block.specs.BlockFits.{fresh_block}
+use Rattle.flow_block.specs.Copies.{shared_rules}
+use Rattle.flow_block.specs.Traits.{outcome_of, faults, makes_alone, has_turn, makes_its_next, Makes, carries, offers_over, source_by, shares, offer_by, offer_next, offered_by, answered_by, may_take, taken_by, gives_over, given_by, with_port_of, wishing_port, wishes, notes}
+use Rattle.flow_history.specs.Calls.{Call, Fits, Does, Step, AllDone, after_all}
+use Rattle.flow_history.specs.History.{Gift, History, nothing_yet, came_by, made_by, gifts_of, gave_by, noted, history_of}
+use Rattle.flow_history.specs.Ordered.{MayCallSteadily, GoesInOrder, MessagesGoByRule}
+use Rattle.flow_history.proofs.ExitsGo.{no_head}
+use Rattle.flow_history.proofs.RulesKept.{GoesByRule, puts_by_rule, offers_by_rule, answers_by_rule, gives_by_rule, goes_past, rules_say}
+
+-- What is made is put behind the rest
+
+module _ (gave : List Gift) (old : BlockState) (goes : GoesByRule gave old.exits) where
+  handed_by_rule : (held : List Value) → lacks_ids (take 1 held) old.exits ≡ false → GoesByRule gave (puts_out (take 1 held) old).exits
+  handed_by_rule [] has = goes
+  handed_by_rule (value ∷ held) has = puts_by_rule gave old.exits (value ∷ []) _ has goes
+
+  abbrev made_by_kind : BlockKind → List Value
+  made_by_kind kind =
+      cond (is_batch kind) (row_of (next_group old) ∷ []) (cond (is_join kind) (tuple_of old.ports ∷ []) (take 1 (held_by old)))
+
+  abbrev next_by_kind : BlockKind → BlockState
+  next_by_kind kind =
+      cond (is_batch kind) (makes_row old)
+      (cond (is_join kind) (makes_tuple old)
+      (cond (is_broadcast kind) (copies_next (first_of (held_by old)) old) (puts_out (take 1 (held_by old)) old)))
+
+  by_kind : (kind : BlockKind) (ports : ℕ) → is_one_taker kind ≡ true → makes_alone kind ports ≡ true
+      → cond (is_broadcast kind) (leb (2 ^ 59) (old.copies.id + 1)) (lacks_ids (made_by_kind kind) old.exits) ≡ false
+      → GoesByRule gave (next_by_kind kind).exits
+  by_kind Buffer ports one alone has = handed_by_rule (held_by old) has
+  by_kind Batch ports one alone has = puts_by_rule gave old.exits (row_of (next_group old) ∷ []) _ has goes
+  by_kind Join ports one alone has = puts_by_rule gave old.exits (tuple_of old.ports ∷ []) _ has goes
+  by_kind _ ports one alone has = absurd (cc)
+
+  made_by_rule : is_one_taker old.kind ≡ true → Makes false old → GoesByRule gave (makes_its_next old).exits
+  made_by_rule one may =
+      let alone = (and_parts (makes_alone old.kind (length old.ports)) (has_turn (is_broadcast old.kind) old) may.by_itself).0 in
+      by_kind old.kind (length old.ports) one alone may.ids
+
+  -- exits that stay
+
+  stopped_stay : (ended : Bool) (how : Outcome) → (cond ended old (stops_by how old)).exits ≡ old.exits
+  stopped_stay true how = refl
+  stopped_stay false how = refl
+
+  wished_stay : (place : Option ℕ) → (wishes place old).exits ≡ old.exits
+  wished_stay None = refl
+  wished_stay (Some p) = refl
+
+  copied_stay : (arrived : BlockState) (once : Bool) → (copies_where once arrived).exits ≡ arrived.exits
+  copied_stay arrived true = next_stays (first_of (held_by arrived))
+    where
+      next_stays : (first : Option Value) → (copies_next first arrived).exits ≡ arrived.exits
+      next_stays None = refl
+      next_stays (Some value) = refl
+  copied_stay arrived false = refl
+
+  offered_by_rule : (place : Option ℕ) → offer_next old ≡ place → is_one_taker old.kind ≡ true → GoesByRule gave (offered_by true place old).exits
+  offered_by_rule None is one = goes
+  offered_by_rule (Some k) is one = offers_by_rule gave old.exits k (named (may_offer old.exits) next) goes
+    where
+      next : cond (is_some old.stopped) None (offers_over old.exits (may_offer old.exits)) ≡ Some k
+      next = sym (ap (λ (b : Bool). cond (is_some old.stopped) None (offer_by b old)) one) ∙ is
+
+      from_where : (stopped here : Bool) (j : ℕ) → cond stopped None (cond here (Some j) None) ≡ Some k → Some j ≡ Some k
+      from_where true here j e = absurd (cc)
+      from_where false true j e = e
+      from_where false false j e = absurd (cc)
+
+      none_named : (stopped : Bool) → cond stopped None None ≡ Some k → ⊥
+      none_named true e = absurd (cc)
+      none_named false e = absurd (cc)
+
+      named : (place : Option ℕ) → cond (is_some old.stopped) None (offers_over old.exits place) ≡ Some k → place ≡ Some k
+      named None e = absurd (none_named (is_some old.stopped) e)
+      named (Some j) e = from_where (is_some old.stopped) (carries j old.exits.ends) j e
+
+  nothing_given : (value : Option Value) (link : ℕ) → value ≡ None → GoesByRule (gave ++ gifts_of link value) old.exits
+  nothing_given value link none =
+      subst (λ (gifts : List Gift). GoesByRule gifts old.exits)
+      (sym (ap (λ (v : Option Value). gave ++ gifts_of link v) none ∙ append-nil gave)) goes
+
+  -- the head, where it is given
+  head_is : (link header : ℕ) (value : Value) → is_head header old.exits ≡ true → Some value ≡ consumed header old.exits → head_of old.exits ≡ Some value
+  head_is link header value head told = sym (told ∙ ap (λ (b : Bool). cond b (head_of old.exits) None) head)
+
+  head_there : (link header : ℕ) → may_take link header old.exits ≡ true → is_head header old.exits ≡ true
+  head_there link header takes = (and_parts (tests_consume (place_of link old.exits.ends) header old.exits) (is_head header old.exits) takes).1
+
+  consumed_by_rule : (link header : ℕ) (value : Option Value) (taken : Bool) → may_take link header old.exits ≡ taken
+      → value ≡ cond taken (consumed header old.exits) None → GoesByRule (gave ++ gifts_of link value) (cond taken (gives_over link header old) old).exits
+  consumed_by_rule link header value false takes told = nothing_given value link told
+  consumed_by_rule link header None true takes told =
+      absurd (none_taken (head_there link header takes) (told ∙ ap (λ (b : Bool). cond b (head_of old.exits) None) (head_there link header takes)))
+    where
+      none_taken : is_head header old.exits ≡ true → None ≡ head_of old.exits → ⊥
+      none_taken head none =
+          no_head old.exits.left (not-true (is_empty old.exits.left) (and_parts (header == old.exits.next) (not (is_empty old.exits.left)) head).1) none
+  consumed_by_rule link header (Some value) true takes told =
+      let head = head_there link header takes in
+      subst (λ (o : OutletState). GoesByRule (gave ++ gifts_of link (Some value)) o)
+      (sym (ap (λ (b : Bool). record (cond b (gives_home (place_of link old.exits.ends) header old.exits) old.exits) { room = 0 }) head))
+      (gives_by_rule gave old.exits goes link header value (head_is link header value head told) takes)
+
+-- One call
+
+module _ (gave : List Gift) (old new : BlockState) (one : is_one_taker old.kind ≡ true) (goes : GoesByRule gave old.exits) where
+  stays_so : (block : BlockState) → new ≡ block → block.exits ≡ old.exits → GoesByRule (gave ++ []) new.exits
+  stays_so block is same =
+      subst (λ (gifts : List Gift). GoesByRule gifts new.exits) (sym (append-nil gave))
+      (subst (λ (o : OutletState). GoesByRule gave o) (sym (ap (λ (b : BlockState). b.exits) is ∙ same)) goes)
+
+  becomes : (block : BlockState) → new ≡ block → GoesByRule gave block.exits → GoesByRule (gave ++ []) new.exits
+  becomes block is after =
+      subst (λ (gifts : List Gift). GoesByRule gifts new.exits) (sym (append-nil gave))
+      (subst (λ (b : BlockState). GoesByRule gave b.exits) (sym is) after)
+
+  acted : (call : BlockCall) → Does (Call.acts call) old new → GoesByRule (gave ++ []) new.exits
+  acted (BlockCall.completed p) does = stays_so (with_port p port_closes old) does refl
+  acted (BlockCall.faulted number) does =
+      stays_so (faults number old) does (stopped_stay gave old goes (is_some (outcome_of old)) (Faulted number))
+  acted (BlockCall.made (Ok true)) does = becomes (makes_its_next old) does.1 (made_by_rule gave old goes one does.0)
+  acted (BlockCall.made (Ok false)) does = stays_so old does.1 refl
+  acted (BlockCall.made (Err make_fault.Ids)) does = stays_so old does.1 refl
+  acted (BlockCall.made (Err make_fault.Memory)) does = stays_so old does.1 refl
+
+  given_so : (call : SourceCall) → MayCallSteadily (Call.gives call) old → Does (Call.gives call) old new
+      → GoesByRule (gave ++ gave_by (Call.gives call)) new.exits
+  given_so (SourceCall.offered offer) may does =
+      becomes (offered_by true (offer_next old) old) (does.1 ∙ ap (λ (b : Bool). offered_by b (offer_next old) old) one)
+      (offered_by_rule gave old goes (offer_next old) refl one)
+  given_so (SourceCall.noted link header how) may does =
+      becomes (answered_by true link header how old) (does ∙ ap (λ (b : Bool). answered_by b link header how old) one)
+      (answers_by_rule gave old.exits link header how (sym (ap (λ (b : Bool). source_by b old link) one) ∙ may.0) may.1 goes)
+  given_so (SourceCall.consumed link header value) may does =
+      let is : new ≡ given_by true link header old = does.1 ∙ ap (λ (b : Bool). given_by b link header old) one in
+      let told : value ≡ taken_by true link header old = does.0 ∙ ap (λ (b : Bool). taken_by b link header old) one in
+      subst (λ (b : BlockState). GoesByRule (gave ++ gifts_of link value) b.exits) (sym is)
+      (consumed_by_rule gave old goes link header value (may_take link header old.exits) refl told)
+
+  took_so : (call : TargetCall) → Does (Call.takes call) old new → GoesByRule (gave ++ []) new.exits
+  took_so (TargetCall.offered link header may_postpone how) does = stays_so (with_port_of link (answered link header how) old) does.1 refl
+  took_so (TargetCall.handed link header value) does =
+      let arrived = with_port_of link (arrives link value) old in
+      stays_so (copies_taken arrived) does (copied_stay gave old goes arrived (copies_at_once arrived))
+  took_so (TargetCall.wished told) does = stays_so (wishes (wishing_port old.ports) old) does.1 (wished_stay gave old goes (wishing_port old.ports))
+  took_so (TargetCall.noted link told) does = stays_so (with_port_of link (notes told link) old) does refl
+
+  pub call_by_rule : (call : Call) → MayCallSteadily call old → Does call old new → GoesByRule (gave ++ gave_by call) new.exits
+  call_by_rule (Call.acts call) may does = acted call does
+  call_by_rule (Call.gives call) may does = given_so call may does
+  call_by_rule (Call.takes call) may does = took_so call does
+
+  -- and in the order of the links
+  pub call_in_order : (call : Call) → Does call old new → GoesInOrder call old
+  call_in_order (Call.gives (SourceCall.consumed link header (Some value))) does =
+      let told : Some value ≡ taken_by true link header old = does.0 ∙ ap (λ (b : Bool). taken_by b link header old) one in
+      λ j before. taken_in_order (may_take link header old.exits) refl told j before
+    where
+      taken_in_order : (taken : Bool) → may_take link header old.exits ≡ taken → Some value ≡ cond taken (consumed header old.exits) None
+          → (j : ℕ) → j < place_of link old.exits.ends → may_go_past (Some value) (end_at old.exits j) ≡ true
+      taken_in_order false takes told j before = absurd (cc)
+      taken_in_order true takes told j before =
+          goes_past gave old.exits goes link header value
+          (head_is gave old goes link header value (head_there gave old goes link header takes) told) takes j before
+  call_in_order (Call.gives (SourceCall.consumed link header None)) does = tt
+  call_in_order (Call.gives (SourceCall.offered offer)) does = tt
+  call_in_order (Call.gives (SourceCall.noted link header how)) does = tt
+  call_in_order (Call.acts call) does = tt
+  call_in_order (Call.takes call) does = tt
+
+-- It stays of its kind
+
+module _ (old new : BlockState) (one : is_one_taker old.kind ≡ true) where
+  kind_as : (block : BlockState) → new ≡ block → block.kind ≡ old.kind → new.kind ≡ old.kind
+  kind_as block is same = ap (λ (b : BlockState). b.kind) is ∙ same
+
+  kind_where : (b : Bool) (first second : BlockState) → first.kind ≡ old.kind → second.kind ≡ old.kind → (cond b first second).kind ≡ old.kind
+  kind_where true first second here there = here
+  kind_where false first second here there = there
+
+  handed_kind : (values : List Value) → (puts_out values old).kind ≡ old.kind
+  handed_kind [] = refl
+  handed_kind (value ∷ values) = refl
+
+  copied_kind : (block : BlockState) (first : Option Value) → (copies_next first block).kind ≡ block.kind
+  copied_kind block None = refl
+  copied_kind block (Some value) = refl
+
+  taken_kind : (arrived : BlockState) (once : Bool) → (copies_where once arrived).kind ≡ arrived.kind
+  taken_kind arrived true = copied_kind arrived (first_of (held_by arrived))
+  taken_kind arrived false = refl
+
+  made_kind : (makes_its_next old).kind ≡ old.kind
+  made_kind =
+      let copied = copies_next (first_of (held_by old)) old in
+      let handed = puts_out (take 1 (held_by old)) old in
+      let others = cond (is_broadcast old.kind) copied handed in
+      kind_where (is_batch old.kind) (makes_row old) (cond (is_join old.kind) (makes_tuple old) others) refl
+      (kind_where (is_join old.kind) (makes_tuple old) others refl
+      (kind_where (is_broadcast old.kind) copied handed (copied_kind old (first_of (held_by old))) (handed_kind (take 1 (held_by old)))))
+
+  pub kind_stays : (call : Call) → Does call old new → new.kind ≡ old.kind
+  kind_stays (Call.acts (BlockCall.completed p)) does = kind_as (with_port p port_closes old) does refl
+  kind_stays (Call.acts (BlockCall.faulted number)) does =
+      kind_as (faults number old) does (kind_where (is_some (outcome_of old)) old (stops_by (Faulted number) old) refl refl)
+  kind_stays (Call.acts (BlockCall.made (Ok true))) does = kind_as (makes_its_next old) does.1 made_kind
+  kind_stays (Call.acts (BlockCall.made (Ok false))) does = kind_as old does.1 refl
+  kind_stays (Call.acts (BlockCall.made (Err make_fault.Ids))) does = kind_as old does.1 refl
+  kind_stays (Call.acts (BlockCall.made (Err make_fault.Memory))) does = kind_as old does.1 refl
+  kind_stays (Call.gives (SourceCall.offered offer)) does =
+      kind_as (offered_by true (offer_next old) old) (does.1 ∙ ap (λ (b : Bool). offered_by b (offer_next old) old) one) refl
+  kind_stays (Call.gives (SourceCall.noted link header how)) does =
+      kind_as (answered_by true link header how old) (does ∙ ap (λ (b : Bool). answered_by b link header how old) one) refl
+  kind_stays (Call.gives (SourceCall.consumed link header value)) does =
+      kind_as (given_by true link header old) (does.1 ∙ ap (λ (b : Bool). given_by b link header old) one)
+      (kind_where (may_take link header old.exits) (gives_over link header old) old refl refl)
+  kind_stays (Call.takes (TargetCall.offered link header may_postpone how)) does = kind_as (with_port_of link (answered link header how) old) does.1 refl
+  kind_stays (Call.takes (TargetCall.handed link header value)) does =
+      let arrived = with_port_of link (arrives link value) old in
+      kind_as (copies_taken arrived) does (taken_kind arrived (copies_at_once arrived))
+  kind_stays (Call.takes (TargetCall.wished told)) does = kind_as (wishes (wishing_port old.ports) old) does.1 (wished_kind (wishing_port old.ports))
+    where
+      wished_kind : (place : Option ℕ) → (wishes place old).kind ≡ old.kind
+      wished_kind None = refl
+      wished_kind (Some p) = refl
+  kind_stays (Call.takes (TargetCall.noted link told)) does = kind_as (with_port_of link (notes told link) old) does refl
+
+-- Over all
+
+record Shares (h : History) (block : BlockState) : Type 0 where
+  pub one : is_one_taker block.kind ≡ true
+  pub goes : GoesByRule h.gave block.exits
+
+all_by_rule : (steps : List (Step Call BlockState)) (old : BlockState) (h : History) → AllDone Fits MayCallSteadily Does steps old → Shares h old
+    → Shares (history_of came_by made_by gave_by steps old h) (after_all steps old)
+all_by_rule [] old h done shares = shares
+all_by_rule (step ∷ steps) old h done shares =
+    all_by_rule steps step.left (noted came_by made_by gave_by step.call old h) done.1.1.1
+    (record {
+      one = ap is_one_taker (kind_stays old step.left shares.one step.call done.1.0) ∙ shares.one;
+      goes = call_by_rule h.gave old step.left shares.one shares.goes step.call done.0 done.1.0;
+    })
+
+fresh_shares : (kind : BlockKind) (lanes size : ℕ) (ports : List PortState) (rules : List LinkRule) → is_one_taker kind ≡ true
+    → Shares nothing_yet (fresh_block kind lanes size ports rules)
+fresh_shares kind lanes size ports rules one = record {
+  one = one;
+  goes = record {
+    law = calls_keep_law.fresh true None (shared_rules kind rules) 1 (omega arith) (omega arith);
+    each = λ k l own. record { admitted = refl; counted = λ limited. none_given (shared_rules kind rules) k };
+  };
+}
+  where
+    none_given : (rules : List LinkRule) (k : ℕ) → (end_in (map fresh_end rules) k).given ≡ 0
+    none_given [] k = refl
+    none_given (rule ∷ rules) zero = refl
+    none_given (rule ∷ rules) (suc k) = none_given rules k
+
+pub messages_go : MessagesGoByRule
+messages_go = record {
+  each = λ kind lanes size ports rules one steps done k l own.
+      let fresh = fresh_block kind lanes size ports rules in
+      let shares = all_by_rule steps fresh nothing_yet done (fresh_shares kind lanes size ports rules one) in
+      rules_say (history_of came_by made_by gave_by steps fresh nothing_yet).gave (after_all steps fresh).exits shares.goes k l own;
+  next = λ kind lanes size ports rules one steps done call new may does.
+      let fresh = fresh_block kind lanes size ports rules in
+      let shares = all_by_rule steps fresh nothing_yet done (fresh_shares kind lanes size ports rules one) in
+      call_in_order (history_of came_by made_by gave_by steps fresh nothing_yet).gave (after_all steps fresh) new shares.one shares.goes call does;
+}
