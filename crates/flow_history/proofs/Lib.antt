@@ -7,6 +7,7 @@ pub mod LoadsGo
 pub mod Makes
 pub mod MessagesKept
 pub mod NewPorts
+pub mod OrderAlways
 pub mod OrderKept
 pub mod PortCalls
 pub mod RulesKept

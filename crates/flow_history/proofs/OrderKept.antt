@@ -1,5 +1,5 @@
--- Over any calls a block that shares its messages out gives them by the rules of its links, and in their order.
-use Rattle.std.proofs.Common.{◌≡◌, ℕ, ◌<◌, ◌^◌, ◌+◌, leb, Bool, true, false, cond, is_some, List, [], ◌∷◌, ◌++◌, length, map, take, Option, Some, None, Ok, Err, refl, ap, sym, subst, ◌∙◌, arith, append-nil, not, ◌==◌, zero, suc}
+-- By a call that all blocks have in common a block that shares its messages out gives them by the rules of its links, in order.
+use Rattle.std.proofs.Common.{◌≡◌, ℕ, ◌<◌, ◌^◌, ◌+◌, leb, Bool, true, false, cond, is_some, List, [], ◌∷◌, ◌++◌, length, take, Option, Some, None, Ok, Err, refl, ap, sym, subst, ◌∙◌, append-nil, not, ◌==◌}
 use Rattle.std.proofs.lemmas.Bool.{and_parts, not-true}
 use Rattle.flow_value.specs.declared.value.Value.{Value}
 use Rattle.flow_link.specs.declared.draft.BlockKind.{BlockKind}
@@ -11,25 +11,19 @@ use Rattle.flow_link.specs.BlockCalls.{BlockCall}
 use Rattle.flow_link.specs.Plan.{is_broadcast, is_one_taker}
 use Rattle.flow_link.specs.SourceCalls.{SourceCall}
 use Rattle.flow_link.specs.TargetCalls.{TargetCall}
-use Rattle.flow_intake.specs.Port.{PortState}
 use Rattle.flow_intake.specs.Calls.{first_of, port_closes}
 use Rattle.flow_intake.specs.ByLink.{answered, arrives}
 use Rattle.flow_group.specs.Tuple.{tuple_of}
 use Rattle.flow_outlet.specs.ByLink.{place_of, is_head, tests_consume, consumed, gives_home}
-use Rattle.flow_outlet.specs.End.{fresh_end, end_in}
 use Rattle.flow_outlet.specs.Law.{may_go_past}
 use Rattle.flow_outlet.specs.Outlet.{OutletState, head_of, may_offer, lacks_ids, is_empty, end_at}
-use Rattle.flow_outlet.specs.declared.ends.LinkRule.{LinkRule}
-use Rattle.flow_outlet.proofs.LawKept.{calls_keep_law}
 use Rattle.flow_block.specs.Block.{BlockState, held_by, is_batch, is_join, row_of, next_group, with_port, makes_row, makes_tuple, puts_out, copies_next, copies_at_once, copies_where, copies_taken, stops_by}
-use Rattle.flow_block.specs.BlockFits.{fresh_block}
-use Rattle.flow_block.specs.Copies.{shared_rules}
-use Rattle.flow_block.specs.Traits.{outcome_of, faults, makes_alone, has_turn, makes_its_next, Makes, carries, offers_over, source_by, shares, offer_by, offer_next, offered_by, answered_by, may_take, taken_by, gives_over, given_by, with_port_of, wishing_port, wishes, notes}
-use Rattle.flow_history.specs.Calls.{Call, Fits, Does, Step, AllDone, after_all}
-use Rattle.flow_history.specs.History.{Gift, History, nothing_yet, came_by, made_by, gifts_of, gave_by, noted, history_of}
-use Rattle.flow_history.specs.Ordered.{MayCallSteadily, GoesInOrder, MessagesGoByRule}
+use Rattle.flow_block.specs.Traits.{outcome_of, faults, makes_alone, has_turn, makes_its_next, Makes, carries, offers_over, source_by, offer_by, offer_next, offered_by, answered_by, may_take, taken_by, gives_over, given_by, with_port_of, wishing_port, wishes, notes}
+use Rattle.flow_history.specs.Calls.{Call, Does}
+use Rattle.flow_history.specs.History.{Gift, gifts_of, gave_by}
+use Rattle.flow_history.specs.Ordered.{MayCallSteadily, GoesInOrder}
 use Rattle.flow_history.proofs.ExitsGo.{no_head}
-use Rattle.flow_history.proofs.RulesKept.{GoesByRule, puts_by_rule, offers_by_rule, answers_by_rule, gives_by_rule, goes_past, rules_say}
+use Rattle.flow_history.proofs.RulesKept.{GoesByRule, puts_by_rule, offers_by_rule, answers_by_rule, gives_by_rule, goes_past}
 
 -- What is made is put behind the rest
 
@@ -176,7 +170,7 @@ module _ (gave : List Gift) (old new : BlockState) (one : is_one_taker old.kind 
   call_by_rule (Call.takes call) may does = took_so call does
 
   -- and in the order of the links
-  pub call_in_order : (call : Call) → Does call old new → GoesInOrder call old
+  pub call_in_order : (call : Call) → Does call old new → GoesInOrder call old.exits
   call_in_order (Call.gives (SourceCall.consumed link header (Some value))) does =
       let told : Some value ≡ taken_by true link header old = does.0 ∙ ap (λ (b : Bool). taken_by b link header old) one in
       λ j before. taken_in_order (may_take link header old.exits) refl told j before
@@ -249,46 +243,3 @@ module _ (old new : BlockState) (one : is_one_taker old.kind ≡ true) where
       wished_kind None = refl
       wished_kind (Some p) = refl
   kind_stays (Call.takes (TargetCall.noted link told)) does = kind_as (with_port_of link (notes told link) old) does refl
-
--- Over all
-
-record Shares (h : History) (block : BlockState) : Type 0 where
-  pub one : is_one_taker block.kind ≡ true
-  pub goes : GoesByRule h.gave block.exits
-
-all_by_rule : (steps : List (Step Call BlockState)) (old : BlockState) (h : History) → AllDone Fits MayCallSteadily Does steps old → Shares h old
-    → Shares (history_of came_by made_by gave_by steps old h) (after_all steps old)
-all_by_rule [] old h done shares = shares
-all_by_rule (step ∷ steps) old h done shares =
-    all_by_rule steps step.left (noted came_by made_by gave_by step.call old h) done.1.1.1
-    (record {
-      one = ap is_one_taker (kind_stays old step.left shares.one step.call done.1.0) ∙ shares.one;
-      goes = call_by_rule h.gave old step.left shares.one shares.goes step.call done.0 done.1.0;
-    })
-
-fresh_shares : (kind : BlockKind) (lanes size : ℕ) (ports : List PortState) (rules : List LinkRule) → is_one_taker kind ≡ true
-    → Shares nothing_yet (fresh_block kind lanes size ports rules)
-fresh_shares kind lanes size ports rules one = record {
-  one = one;
-  goes = record {
-    law = calls_keep_law.fresh true None (shared_rules kind rules) 1 (omega arith) (omega arith);
-    each = λ k l own. record { admitted = refl; counted = λ limited. none_given (shared_rules kind rules) k };
-  };
-}
-  where
-    none_given : (rules : List LinkRule) (k : ℕ) → (end_in (map fresh_end rules) k).given ≡ 0
-    none_given [] k = refl
-    none_given (rule ∷ rules) zero = refl
-    none_given (rule ∷ rules) (suc k) = none_given rules k
-
-pub messages_go : MessagesGoByRule
-messages_go = record {
-  each = λ kind lanes size ports rules one steps done k l own.
-      let fresh = fresh_block kind lanes size ports rules in
-      let shares = all_by_rule steps fresh nothing_yet done (fresh_shares kind lanes size ports rules one) in
-      rules_say (history_of came_by made_by gave_by steps fresh nothing_yet).gave (after_all steps fresh).exits shares.goes k l own;
-  next = λ kind lanes size ports rules one steps done call new may does.
-      let fresh = fresh_block kind lanes size ports rules in
-      let shares = all_by_rule steps fresh nothing_yet done (fresh_shares kind lanes size ports rules one) in
-      call_in_order (history_of came_by made_by gave_by steps fresh nothing_yet).gave (after_all steps fresh) new shares.one shares.goes call does;
-}

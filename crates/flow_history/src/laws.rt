@@ -19,11 +19,11 @@ pub fn messages_are_kept()
     ensures { MessagesAreKept }
 {}
 
-/// Whatever is called, what a buffer, a batch or a join gives over a link is what the link's predicate admits, and no more
+/// Whatever is called, what a block gives over a link, unless it copies, is what the link's predicate admits, and no more
 /// than its limit. A message goes over a link only where each earlier one rejects it, need not take it at once, or is cut
-/// or refused.
-pub fn messages_go_by_rule()
-    ensures { MessagesGoByRule }
+/// or refused. This holds of blocks with a function, whose jobs the caller begins and ends too, and of batched joins.
+pub fn messages_go_by_rule<W>()
+    ensures { MessagesGoByRule W }
 {}
 
 /// Whatever is called, a batched join cuts what came in into groups, in the order in which it came over all ports, and
