@@ -38,7 +38,6 @@ use Rattle.flow_block.specs.NodeRests.{NodesAreStill, NodesRest, HasNothingToDo,
 use Rattle.flow_block.specs.NodeSeen.{NodesAreLawful}
 use Rattle.flow_block.specs.Peeks.{may_make, may_begin, may_end, may_complete, next_fault, may_finish}
 use Rattle.flow_spread.specs.Spread.{link_at, stage_at as copy_stage}
-use Rattle.flow_spread.proofs.StagesTell.{number_below}
 use Rattle.flow_block.proofs.CopiesIdle.{copies_at}
 use Rattle.flow_block.proofs.PlacesOfCopies.{copy_out_is}
 use Rattle.flow_block.proofs.PlacesOfLinks.{end_in_is, end_out_is, shares_at}

@@ -10,14 +10,14 @@ use Rattle.flow_link.specs.declared.plan.LinkTarget.{LinkTarget}
 use Rattle.flow_link.specs.declared.plan.LinkTarget.TheVariants.{Port, Exit}
 use Rattle.flow_intake.specs.Calls.{gives_room}
 use Rattle.flow_intake.specs.Port.{PortState}
-use Rattle.flow_outlet.specs.Outlet.{head_of, gives, OutletState}
+use Rattle.flow_outlet.specs.Outlet.{head_of, gives}
 use Rattle.flow_link.specs.Plan.{is_one_taker}
 use Rattle.flow_block.specs.Copies.{CopyCall, copies_weight, after_copy}
 use Rattle.flow_block.specs.Node.{NodeState, with_block, hand_at, gives_from, takes_in, copies_by, holds_in}
 use Rattle.flow_spread.specs.End.{takes_up}
 use Rattle.flow_intake.specs.Calls.{first_of}
 use Rattle.flow_block.proofs.CopiesTaken.{taken_keeps}
-use Rattle.flow_block.specs.Block.{BlockState, copies_next, held_by}
+use Rattle.flow_block.specs.Block.{copies_next, held_by}
 use Rattle.flow_block.specs.NodeKeeps.{InAt, any_stage}
 use Rattle.flow_block.proofs.PortsChange.{port_of_map}
 use Rattle.flow_block.proofs.RoomBack.{length_back, port_back}

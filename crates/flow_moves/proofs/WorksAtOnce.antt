@@ -1,14 +1,13 @@
 -- A job that begins and ends at once, while nothing else is worked on: what becomes of its block is what its result makes of it.
-use Rattle.std.proofs.Common.{◌≡◌, ℕ, ◌<◌, drop, slice_index_or, ◌-◌, ◌&&◌, ltb, Bool, true, false, List, [], ◌∷◌, ◌++◌, length, get_or, set, Option, Some, None, is_none, Result, Ok, Err, pos, refl, ap, ap₂, sym, subst, ◌∙◌, append-nil, arith}
+use Rattle.std.proofs.Common.{◌≡◌, ℕ, ◌<◌, drop, slice_index_or, ◌-◌, ◌&&◌, ltb, Bool, true, false, List, [], ◌∷◌, ◌++◌, length, get_or, set, Some, None, is_none, Result, Ok, Err, pos, refl, ap, sym, ◌∙◌, append-nil, arith}
 use Rattle.std.proofs.lemmas.Bool.{and_parts}
 use Rattle.flow_value.specs.declared.value.Value.{Value}
 use Rattle.flow_value.specs.declared.value.Value.TheVariants.{Int}
 use Rattle.flow_link.specs.declared.draft.BlockKind.{BlockKind}
-use Rattle.flow_link.specs.declared.draft.BlockKind.TheVariants.{Buffer, Action}
 use Rattle.flow_link.specs.Plan.{has_work}
 use Rattle.flow_outlet.specs.Outlet.{lacks_ids}
-use Rattle.flow_block.specs.Block.{BlockState, with_jobs, held_by, made_of, put_by_kind, values_of_result, keeps_results, fails, yields_all, yields_where, put_where, job_message}
-use Rattle.flow_block.specs.Jobs.{Slot, comes_out}
+use Rattle.flow_block.specs.Block.{BlockState, held_by, made_of, put_by_kind, values_of_result, keeps_results, yields_all, yields_where, put_where, job_message}
+use Rattle.flow_block.specs.Jobs.{Slot}
 use Rattle.flow_block.specs.JobsEnd.{job_result}
 use Rattle.flow_block.specs.Node.{NodeState, with_block}
 use Rattle.flow_block.specs.Peeks.{may_work, may_begin}

@@ -24,7 +24,7 @@ use Rattle.flow_block.specs.declared.planned.Route.{Route}
 use Rattle.flow_block.specs.Routes.{route_of}
 use Rattle.flow_block.proofs.PlanMade.{mapped_at}
 use Rattle.flow_block.specs.Block.{BlockState}
-use Rattle.flow_block.specs.Peeks.{may_make, may_begin, may_end, may_complete, next_fault, may_finish}
+use Rattle.flow_block.specs.Peeks.{may_make, may_begin, may_end}
 use Rattle.flow_core.specs.Events.{NetEvent, LinkMay, MayHappen, is_of_source}
 use Rattle.flow_core.specs.Keeps.{NetKeeps}
 use Rattle.flow_core.specs.State.{NetState, node_at}

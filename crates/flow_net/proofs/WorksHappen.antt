@@ -1,5 +1,5 @@
 -- A block that works at once on a message: the job begins, and its result comes back.
-use Rattle.std.proofs.Common.{◌≡◌, ℕ, ◌-◌, ◌<◌, leb, Bool, true, false, List, [], ◌∷◌, ◌++◌, length, get_or, set, Option, Some, None, is_none, Result, refl, sym, ap, subst, ◌∙◌, arith, le-leb}
+use Rattle.std.proofs.Common.{◌≡◌, ℕ, ◌-◌, ◌<◌, leb, true, false, List, [], ◌∷◌, ◌++◌, length, get_or, set, None, is_none, Result, refl, sym, ap, subst, ◌∙◌, arith, le-leb}
 use Rattle.std.proofs.lemmas.Bool.{and_from}
 use Rattle.std.proofs.lemmas.List.{get_or-set_same, set-set}
 use Rattle.flow_value.specs.declared.value.Value.{Value}
@@ -11,7 +11,7 @@ use Rattle.flow_block.specs.Node.{NodeState}
 use Rattle.flow_block.specs.Peeks.{may_end}
 use Rattle.flow_block.specs.Planned.{block_makes}
 use Rattle.flow_block.proofs.GoingOn.{may_begin_tells}
-use Rattle.flow_core.specs.Events.{NetEvent, Enabled, MayHappen, with_node, after}
+use Rattle.flow_core.specs.Events.{NetEvent, Enabled, with_node, after}
 use Rattle.flow_core.specs.State.{NetState, node_at, no_node}
 use Rattle.flow_moves.specs.AtOnce.{begun, works_at_once, put_at_once}
 use Rattle.flow_net.specs.Happened.{Happened}

@@ -1,6 +1,5 @@
-use Rattle.std.proofs.Common.{◌≡◌, ◌<◌, ℕ, false, length, drop, option_map, Bor, List, Option, Some, None, Result, Ok, Err, OnOk, subst, ap, sym, ◌∙◌}
+use Rattle.std.proofs.Common.{◌≡◌, ℕ, false, drop, option_map, Bor, List, Result, Ok, Err, OnOk, subst, ap, sym, ◌∙◌}
 use Rattle.flow_value.specs.declared.value.Value.{Value}
-use Rattle.flow_link.specs.declared.draft.BlockKind.{BlockKind}
 use Rattle.flow_outlet.specs.Outlet.{lacks_ids}
 use Rattle.flow_block.specs.Block.{BlockState, port_at, put_by_kind, values_of_result}
 use Rattle.flow_block.specs.Jobs.{made_in}
