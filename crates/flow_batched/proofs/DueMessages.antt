@@ -29,7 +29,7 @@ use Rattle.flow_block.specs.Block.{BlockState, port_in, port_at, with_port, held
 use Rattle.flow_block.specs.Copies.{copies_weight}
 use Rattle.flow_block.specs.Groups.{makes_group}
 use Rattle.flow_block.specs.JournalFits.{port_due, ports_due}
-use Rattle.flow_block.specs.Traits.{Takes as BlockTakes, outcome_of, faults, shown_over, port_shown, port_into, target_over, with_port_of, names_itself, leads_to, wishing_port, wishes, holds_at, notes, shares, offer_next, offered_by, answered_by, may_take, gives_over, may_take_copy, copies_home, given_by}
+use Rattle.flow_block.specs.Traits.{Takes as BlockTakes, outcome_of, faults, shown_over, port_shown, port_into, target_over, with_port_of, names_itself, leads_to, wishing_port, wishes, holds_at, notes, shares, offered_by, answered_by, may_take, gives_over, may_take_copy, copies_home, given_by}
 use Rattle.flow_block.proofs.MarksFit.{due_set, due_moved, due_map}
 use Rattle.flow_block.proofs.RoomBack.{due_back}
 use Rattle.flow_block.proofs.TargetStands.{found, at_place}
@@ -271,9 +271,6 @@ module _ (old new : BlockState) (order : ArrivalsState) (fits : JoinFits old ord
   offered_where false None is = changed old is refl refl (omega arith)
   offered_where false (Some k) is =
       changed (offered_by false (Some k) old) is refl (copied_waits (offers k (prepares k old.copies))) (copied_due (offers k (prepares k old.copies)))
-
-  pub offer_fits : new ≡ offered_by (shares old) (offer_next old) old → Fits
-  offer_fits is = offered_where (shares old) (offer_next old) is
 
   answered_where : (one : Bool) (link header : ℕ) (how : MessageStatus) → new ≡ answered_by one link header how old → Fits
   answered_where true link header how is = changed (answered_by true link header how old) is refl refl (omega arith)

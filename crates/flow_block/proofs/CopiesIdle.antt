@@ -9,7 +9,6 @@ use Rattle.flow_spread.specs.Spread.{SpreadState, fresh_spread, is_at_rest}
 use Rattle.flow_block.specs.Copies.{copies_left}
 use Rattle.flow_block.specs.Node.{NodeState, left_in, out_view, source_view}
 use Rattle.flow_block.specs.NodeLaw.{NodeLaw}
-use Rattle.flow_block.specs.Peeks.{may_copy}
 
 -- what shares its messages out is no broadcast
 pub never_broadcast : (kind : BlockKind) → is_one_taker kind ≡ true → is_broadcast kind ≡ false
@@ -39,9 +38,6 @@ module _ {W : Type 0} (layout : Layout W) (meaning : ℕ → Value → Result (L
   no_copy_at k there =
       let none : length node.block.copies.ends ≡ 0 = ap (λ (copies : SpreadState). length copies.ends) copies_idle in
       omega (arith, none, there)
-
-  pub copies_freely : may_copy node.block ≡ true
-  copies_freely = rw (never_broadcast node.block.kind shares) refl
 
   pub left_is_shared : left_in node.block ≡ node.block.exits.left
   left_is_shared = rw shares refl

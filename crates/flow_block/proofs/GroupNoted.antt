@@ -11,11 +11,6 @@ pub record Noted (journal : List Mark) (from count : ℕ) (noted : List ℕ) (pl
   pub marks : from + marks_until (drop from journal) count ≡ place + marks_until (drop place journal) (count - length noted)
   pub few : length noted ≤ count
 
-pub noted_start : (journal : List Mark) (from count : ℕ) → Noted journal from count [] from
-noted_start journal from count =
-    let all : count - 0 ≡ count = omega arith in
-    record { ports = rw all refl; marks = rw all refl; few = omega arith }
-
 -- one mark more, where fewer messages are noted than are to be
 took_one : (marks : List Mark) (left p l : ℕ) (value : Value) → 0 < left
     → (take left (ports_in (Took p l value ∷ marks)) ≡ p ∷ take (left - 1) (ports_in marks))
@@ -87,10 +82,6 @@ module _ (journal : List Mark) (from count : ℕ) (noted : List ℕ) (place : �
         few = so_far.few;
       }
 
--- no more are noted: there are as many as were to be, or no mark is left
-none_until : (count : ℕ) → marks_until [] count ≡ 0
-none_until count = refl
-
 until_none : (marks : List Mark) → marks_until marks 0 ≡ 0
 until_none [] = refl
 until_none (Took p l value ∷ marks) = refl
@@ -105,10 +96,6 @@ drop_all [] (suc place) all = refl
 drop_all (mark ∷ journal) zero all = absurd (omega (arith, all))
 drop_all (mark ∷ journal) (suc place) all = drop_all journal place (omega (arith, all))
 
-take_nothing : (count : ℕ) → take {A = ℕ} count [] ≡ []
-take_nothing zero = refl
-take_nothing (suc count) = refl
-
 -- what is noted then
 pub record AllNoted (journal : List Mark) (from count : ℕ) (noted : List ℕ) (place : ℕ) : Type 0 where
   pub ports : noted ≡ take count (ports_in (drop from journal))
@@ -121,14 +108,4 @@ module _ (journal : List Mark) (from count : ℕ) (noted : List ℕ) (place : �
       let none : count - length noted ≡ 0 = omega (arith, enough) in
       let ports : noted ++ take (count - length noted) (ports_in (drop place journal)) ≡ noted = rw none (append-nil noted) in
       let marks : marks_until (drop place journal) (count - length noted) ≡ 0 = rw none (until_none (drop place journal)) in
-      record { ports = sym (so_far.ports ∙ ports); marks = omega (arith, so_far.marks, marks) }
-
-  pub noted_end : length journal ≤ place → AllNoted journal from count noted place
-  noted_end all =
-      let behind = drop_all journal place all in
-      let ports : noted ++ take (count - length noted) (ports_in (drop place journal)) ≡ noted =
-      ap (λ (marks : List Mark). noted ++ take (count - length noted) (ports_in marks)) behind
-      ∙ ap (λ (ports : List ℕ). noted ++ ports) (take_nothing (count - length noted)) ∙ append-nil noted in
-      let marks : marks_until (drop place journal) (count - length noted) ≡ 0 =
-      ap (λ (marks : List Mark). marks_until marks (count - length noted)) behind in
       record { ports = sym (so_far.ports ∙ ports); marks = omega (arith, so_far.marks, marks) }

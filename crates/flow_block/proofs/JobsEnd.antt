@@ -58,9 +58,6 @@ blank_of result held [] are = tt
 blank_of result [] (slot ∷ slots) are = absurd are
 blank_of result (value ∷ held) (slot ∷ slots) are = (tt, blank_of result held slots are.1)
 
-blank_none : (slots : List Slot) → slots ≡ [] → blank slots ≡ []
-blank_none slots none = ap blank none
-
 -- What a block with a function makes is the same whatever its slots are
 
 pub keeps_slots : (kind : BlockKind) (values : List Value) (slots : List Slot) (block : BlockState) → has_work kind ≡ true

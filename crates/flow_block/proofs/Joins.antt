@@ -36,10 +36,6 @@ pub works_unjoined : (kind : BlockKind) → has_work kind ≡ true → is_join k
 works_unjoined Join e = absurd (cc)
 works_unjoined _ e = refl
 
-pub batch_unjoined : (kind : BlockKind) → is_batch kind ≡ true → is_join kind ≡ false
-batch_unjoined Join e = absurd (cc)
-batch_unjoined _ e = refl
-
 pub copies_unjoined : (kind : BlockKind) → is_one_taker kind ≡ false → is_join kind ≡ false
 copies_unjoined Join e = absurd (cc)
 copies_unjoined _ e = refl
@@ -79,10 +75,6 @@ others_at_one Join grouped alone = absurd (cc)
 others_at_one BatchedJoin grouped alone = absurd (cc)
 others_at_one _ grouped alone = refl
 
-pub join_by_ports : (kind : BlockKind) → has_ports kind ≡ true → is_batched_join kind ≡ false → is_join kind ≡ true
-join_by_ports Join e grouped = refl
-join_by_ports _ e grouped = absurd (cc)
-
 -- A batched join has no function, makes no rows of messages of one port and no tuples, and shares its groups out
 
 pub batched_is : (kind : BlockKind) → is_batched_join kind ≡ true → kind ≡ BatchedJoin
@@ -120,10 +112,6 @@ copies_unbatched _ e = refl
 pub broadcast_unbatched : (kind : BlockKind) → is_broadcast kind ≡ true → is_batched_join kind ≡ false
 broadcast_unbatched BatchedJoin e = absurd (cc)
 broadcast_unbatched _ e = refl
-
-pub batch_unbatched : (kind : BlockKind) → is_batch kind ≡ true → is_batched_join kind ≡ false
-batch_unbatched BatchedJoin e = absurd (cc)
-batch_unbatched _ e = refl
 
 -- which tuples or groups it has made is a law of its own
 pub ports_make : (result : Value → Result (List Value) ℕ) (kind : BlockKind) (taken held given left recorded : List Value)

@@ -64,11 +64,6 @@ copying_single Broadcast e = refl
 copying_single WriteOnce e = refl
 copying_single _ e = absurd (cc)
 
--- nor has a broadcast
-pub broadcast_idle : (kind : BlockKind) → is_broadcast kind ≡ true → has_work kind ≡ false
-broadcast_idle Broadcast e = refl
-broadcast_idle _ e = absurd (cc)
-
 -- and it makes no rows
 pub broadcast_single : (kind : BlockKind) → is_broadcast kind ≡ true → is_batch kind ≡ false
 broadcast_single Broadcast e = refl

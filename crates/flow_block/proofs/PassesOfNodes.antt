@@ -78,9 +78,6 @@ module _ (p k i : ℕ) (value : Value) (node : NodeState) (l : p < length node.b
   port_is : port_at p after_open.block ≡ opened k i value (port_at p node.block)
   port_is = get_or-set_same node.block.ports p (opened k i value (port_at p node.block)) (fresh_port None) l
 
-  length_on : (change : PortState → PortState) → p < length (with_port p change node.block).ports
-  length_on change = rw (length-set node.block.ports p _) l
-
   opened_is : receives_on p k i value node ≡ takes_hand p k after_open
   opened_is =
       ap (λ (n : NodeState). takes_hand p k (on_port p (opens k value) (on_port p (looks k (Given i)) n)))

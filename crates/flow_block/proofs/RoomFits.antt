@@ -139,17 +139,6 @@ pub rows_only : (kind : BlockKind) (head : Option Value) → is_batched_join kin
 rows_only BatchedJoin head is = refl
 rows_only _ head is = absurd (cc)
 
--- the port that comes next
-pub rest_out : (room weight place : ℕ) (ports : List PortState) (port : PortState) → place < length ports
-    → port ≡ get_or ports place port → AllGaveOut (room + weight) (drop place ports)
-    → GaveOut (room + weight) port × AllGaveOut (room + weight) (drop (place + 1) ports)
-rest_out room weight place [] port there is all = absurd (omega (arith, there))
-rest_out room weight zero (first ∷ ports) port there is all =
-    (subst (λ (port : PortState). GaveOut (room + weight) port) (sym is) all.0, all.1)
-rest_out room weight (suc place) (first ∷ ports) port there is all =
-    let one : suc place + 1 ≡ suc (place + 1) = omega arith in
-    rw one (rest_out room weight place ports port (omega (arith, there)) is all)
-
 -- where no group is given, the same room comes back at each port
 pub none_beside : (room weight : ℕ) (counts : ℕ → ℕ) (first : ℕ) (ports : List PortState) → ((p : ℕ) → counts p ≡ 0)
     → map (gives_room room) ports ≡ gives_each room weight counts first ports
@@ -160,13 +149,6 @@ none_beside room weight counts first (port ∷ ports) none =
     ap (λ (back : ℕ). gives_room back port ∷ map (gives_room room) ports) same
     ∙ ap (λ (rest : List PortState). gives_room (room_at room weight (counts first) port) port ∷ rest)
     (none_beside room weight counts (suc first) ports none)
-
--- a port has so much out
-pub out_beside : (capacity : Option ℕ) (room weight count : ℕ) (waiting : List Value) (load : ℕ)
-    → cond (is_some capacity) (length waiting + (room + weight)) 0 ≤ load
-    → cond (is_some capacity) (room + min count (load - length waiting - room - weight)) 0 ≤ load - length waiting
-out_beside None room weight count waiting load out = omega arith
-out_beside (Some limit) room weight count waiting load out = omega (arith, out)
 
 module _ {ports : List PortState} {exits : OutletState} (copies : SpreadState) (fits : BlockFits ports exits (copies_weight copies)) (k : ℕ) where
   -- the room that comes with what is given was given out
@@ -350,21 +332,6 @@ fits_copied {ports} {exits} {copied} fits now less =
       few = fits.few;
     }
 
--- the message that waits longest is copied from now on
-waits_less : (capacity : Option ℕ) (waiting : List Value) (weight load now : ℕ) → 0 < length waiting → now ≤ 1
-    → cond (is_some capacity) (length waiting + (weight + 0)) 0 ≤ load
-    → cond (is_some capacity) (length (drop 1 waiting) + (weight + now)) 0 ≤ load - (1 - now)
-waits_less None waiting weight load now waits one out = omega arith
-waits_less (Some room) [] weight load now waits one out = absurd (omega arith)
-waits_less (Some room) (_ ∷ waiting) weight load now waits one out = omega arith
-
-pub room_of_copied : (capacity : Option ℕ) (waiting : List Value) (weight load now : ℕ) → 0 < length waiting → now ≤ 1
-    → cond (is_some capacity) (length waiting + weight) 0 ≤ load
-    → cond (is_some capacity) (1 - now) 0 ≤ load - length (drop 1 waiting)
-room_of_copied None waiting weight load now waits one out = omega arith
-room_of_copied (Some room) [] weight load now waits one out = absurd (omega arith)
-room_of_copied (Some room) (_ ∷ waiting) weight load now waits one out = omega arith
-
 module _ {ports : List PortState} {exits : OutletState} (fits : BlockFits ports exits 0) (port : PortState) (is : port ≡ get_or ports 0 port)
     (alone : length ports ≡ 1) (waits : 0 < length (port_in ports 0).waiting) (now : ℕ) (one : now ≤ 1) where
   first_is : port ≡ port_in ports 0
@@ -372,17 +339,3 @@ module _ {ports : List PortState} {exits : OutletState} (fits : BlockFits ports 
 
   first_out : GaveOut (weight_out exits 0) (port_in ports 0)
   first_out = out_there (weight_out exits 0) ports 0 (omega (arith, alone)) fits.room
-
-  pub copy_room : cond (is_some port.capacity) (1 - now) 0 ≤ port.load - length (drop 1 port.waiting)
-  copy_room =
-      let first = port_in ports 0 in
-      rw first_is (room_of_copied first.capacity first.waiting (weight_out exits 0) first.load now waits one first_out)
-
-  pub fits_copy : BlockFits (set ports 0 (gives_room (1 - now) (takes_next port))) exits now
-  fits_copy =
-      let first = port_in ports 0 in
-      rw first_is (record {
-        room = only_one (weight_out exits now) ports (gives_room (1 - now) (takes_next first)) alone
-            (waits_less first.capacity first.waiting (exits.room + weight_of exits.groups) first.load now waits one first_out);
-        few = fits.few;
-      })

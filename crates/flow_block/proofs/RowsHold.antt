@@ -50,10 +50,6 @@ not_second : (a b : Bool) → b ≡ false → (a && b) ≡ false
 not_second true b e = e
 not_second false b e = refl
 
-no_more_held : (held : List Value) (value : Value) → is_empty (held ++ value ∷ []) ≡ false
-no_more_held [] value = refl
-no_more_held (first ∷ held) value = refl
-
 pub given_on : (given left : List Value) (value : Value) → first_left left ≡ Some value
     → (given ++ value ∷ []) ++ rest_of left ≡ given ++ left
 given_on given [] value head = absurd (cc)

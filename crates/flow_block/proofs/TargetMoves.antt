@@ -1,5 +1,5 @@
 -- How a block's stages at the links into it change by the calls that name a link: the port into which the link leads changes.
-use Rattle.std.proofs.Common.{◌≡◌, ◌≢◌, ℕ, zero, suc, ◌+◌, ◌<◌, Bool, true, false, get_or, List, [], ◌∷◌, drop, ◌-◌, length, set, position, Option, Some, None, is_some, unwrap_or, Result, Ok, Err, IfOk, refl, ap, sym, ◌∙◌, subst, arith, eqb-true}
+use Rattle.std.proofs.Common.{◌≡◌, ◌≢◌, ℕ, zero, suc, ◌+◌, ◌<◌, Bool, true, false, get_or, List, [], ◌∷◌, drop, ◌-◌, length, set, position, Option, Some, None, unwrap_or, Result, Ok, Err, IfOk, refl, ap, sym, ◌∙◌, subst, arith, eqb-true}
 use Rattle.std.proofs.lemmas.Bool.{and_parts}
 use Rattle.std.proofs.lemmas.List.{length-set, get_or_read, get_or-set_same}
 use Rattle.std.proofs.lemmas.List.Quantifiers.{position-Some}
@@ -318,10 +318,6 @@ wishing_is ports p is =
       there = there;
       wishes = ap (wishes_at ports) (sym (number_at (length ports) p there)) ∙ first.1;
     }
-
-leads_is : (p : ℕ) (offer : Option (ℕ × ℕ)) (ports : List PortState) → leads_to p offer ports ≡ true → is_some offer ≡ true
-leads_is p None ports e = absurd (cc)
-leads_is p (Some offer) ports e = refl
 
 consumes_over : (ports : List PortState) (p : ℕ) (offer : Option (ℕ × ℕ)) → p < length ports → next_wish (port_in ports p) ≡ offer
     → names_itself (next_place (port_in ports p)) (port_in ports p) ≡ true → leads_to p offer ports ≡ true

@@ -283,24 +283,3 @@ consume_at port link id (Some k) own e =
       links = moved.links;
       moves = record { here = subst (λ (s : TargetStage). Consumes s (shown_over (consumes k port) link)) (sym before) after; elsewhere = moved.elsewhere };
     })
-
--- where it names nothing, nothing changes
-stays_unnamed : (port : PortState) (k own : ℕ) (stage : TargetStage) → wish_from own stage ≡ None
-    → cond (is_postponed stage) (consumes k port) port ≡ port
-stays_unnamed port k own (target.Postponed i) e = absurd (cc)
-stays_unnamed port k own target.Free e = refl
-stays_unnamed port k own (target.Offered _) e = refl
-stays_unnamed port k own (target.Posted _) e = refl
-stays_unnamed port k own (target.Accepted _) e = refl
-stays_unnamed port k own (target.Consuming _) e = refl
-stays_unnamed port k own (target.Asking _) e = refl
-stays_unnamed port k own (target.Holding _) e = refl
-stays_unnamed port k own (target.Claiming _) e = refl
-stays_unnamed port k own (target.Arrived _) e = refl
-stays_unnamed port k own (target.Hand _) e = refl
-stays_unnamed port k own (target.Refused _) e = refl
-stays_unnamed port k own (target.Ended _) e = refl
-
-pub none_consumed : (port : PortState) (place : Option ℕ) → wish_at place port ≡ None → consumes_at place port ≡ port
-none_consumed port None e = refl
-none_consumed port (Some k) e = stays_unnamed port k (link_in k port.ends) (stage_at k port) e

@@ -4,8 +4,6 @@ use Rattle.flow_value.specs.declared.steps.Steps.{Steps}
 use Rattle.flow_link.specs.Layout.{Layout}
 use Rattle.flow_link.specs.Trace.{Run}
 use Rattle.flow_core.specs.State.{NetState}
-use Rattle.flow_text.specs.declared.fault.TextFault.{TextFault}
-use Rattle.flow_text.specs.declared.fault.TextFault.TheVariants.{Write}
 use Rattle.flow_text.specs.declared.fault.TextRefusal.{TextRefusal}
 use Rattle.flow_text.specs.declared.fault.TextRefusal.TheVariants.{Fault}
 use Rattle.flow_run.specs.Left.{IsLeft}
@@ -14,7 +12,7 @@ use Rattle.flow_run.specs.Split.{IsSplit}
 use Rattle.flow_run.specs.declared.outcome.Ran.{Ran}
 use Rattle.flow_run.specs.declared.outcome.RunRefusal.{RunRefusal}
 use Rattle.flow_run.specs.declared.outcome.RunRefusal.TheVariants.{Text, Ids, Memory}
-use Rattle.flow_cli.specs.Failure.{IsUnread, fault_in_memory, refusal_in_memory}
+use Rattle.flow_cli.specs.Failure.{IsUnread}
 use Rattle.flow_cli.specs.Reported.{IsReportedIn, IsRefusedIn}
 
 -- what a fact of an answer implies holds of the answer
@@ -83,37 +81,3 @@ refused_in known read text before after is same split limit refusal r =
 -- a writer that nothing was written to is as it was
 pub untouched : (refusal : RunRefusal) (contents : Option (List ℕ)) → IsLeft refusal contents contents
 untouched refusal contents = record { in_front = λ front begins. begins; as_it_was = λ _. refl }
-
--- a report that was written somewhere, and from there elsewhere
-pub rewritten : (text : List ℕ) (records : Option (List ℕ)) (limit : ℕ) (ran : Ran) (Written Other : List ℕ → Type 0) → ((report : List ℕ) → Written report → Other report)
-    → IsReported text records limit Written ran → IsReported text records limit Other ran
-rewritten text records limit ran Written Other moves r = record {
-  layout = r.layout;
-  start = r.start;
-  now = r.now;
-  begins = r.begins;
-  settles = r.settles;
-  posted = r.posted;
-  written = moves _ r.written;
-  lawful = r.lawful;
-  quiet = r.quiet;
-  complete = r.complete;
-}
-
--- what was run and could not be written
-pub unwritten : (text : List ℕ) (records : Option (List ℕ)) (limit : ℕ) (ran : Ran) (Written : List ℕ → Type 0)
-    → IsReported text records limit Written ran → IsUnreported text records limit (Text Write)
-unwritten text records limit ran Written r =
-    inr (record { is_write = refl; layout = r.layout; start = r.start; now = r.now; settled = ran.settled; begins = r.begins; settles = r.settles })
-
--- why there was no report in memory
-fault_unreported : (text : List ℕ) (records : Option (List ℕ)) (limit : ℕ) (fault : TextFault) → IsUnreported text records limit (Text fault)
-    → IsUnreported text records limit (fault_in_memory fault)
-fault_unreported text records limit Write h = tt
-fault_unreported text records limit fault h = h
-
-pub unreported_in_memory : (text : List ℕ) (records : Option (List ℕ)) (limit : ℕ) (refusal : RunRefusal) → IsUnreported text records limit refusal
-    → IsUnreported text records limit (refusal_in_memory refusal)
-unreported_in_memory text records limit (Text fault) h = fault_unreported text records limit fault h
-unreported_in_memory text records limit Ids h = h
-unreported_in_memory text records limit Memory h = h

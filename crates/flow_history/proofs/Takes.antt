@@ -8,7 +8,7 @@ use Rattle.flow_link.specs.declared.draft.BlockKind.TheVariants as kind
 use Rattle.flow_link.specs.declared.stage.TargetStage.TheVariants as target
 use Rattle.flow_link.specs.LinkOk.{IsWithin}
 use Rattle.flow_link.specs.Lists.{every}
-use Rattle.flow_link.specs.Making.{arrived_at, all_items}
+use Rattle.flow_link.specs.Making.{all_items}
 use Rattle.flow_link.specs.Plan.{is_write_once}
 use Rattle.flow_link.specs.TargetCalls.{Wants}
 use Rattle.flow_intake.specs.Port.{EndState, PortState, stage_at, is_coming, coming, fresh_port}
@@ -38,10 +38,6 @@ use Rattle.flow_history.proofs.CallsLeave.{Ordered, out_at}
 use Rattle.flow_history.proofs.Makes.{copied_made}
 use Rattle.flow_history.proofs.PortCalls.{WantedAt, wanted_at, arrive_keeps}
 use Rattle.flow_history.proofs.Still.{weighs_left, HasOneRoom, Kept}
-
--- what came at a port by one message
-came_here : (p q : ℕ) (value : Value) → arrived_at q (arrival_at p value ∷ []) ≡ only_at p (value ∷ []) q
-came_here p q value = refl
 
 -- no element is kept where none has a weight
 no_element : (copies : SpreadState) → copies.once ≡ true → copies_weight copies ≡ 0 → copies.element ≡ None

@@ -6,7 +6,6 @@ use Rattle.flow_value.specs.declared.value.Value.{Value}
 use Rattle.flow_value.specs.declared.work.WorkFault.{WorkFault}
 use Rattle.flow_link.specs.declared.draft.BlockKind.{BlockKind}
 use Rattle.flow_link.specs.declared.draft.BlockKind.TheVariants.{Action, Transform, TransformMany, Batch}
-use Rattle.flow_link.specs.declared.stage.Refusal.{Refusal}
 use Rattle.flow_link.specs.declared.traits.MakeFault.TheVariants as make_fault
 use Rattle.flow_link.specs.BlockCalls.{BlockCall}
 use Rattle.flow_link.specs.Making.{Arrival, arrived_at, result_of}
@@ -15,8 +14,8 @@ use Rattle.flow_link.specs.TargetCalls.{TargetCall}
 use Rattle.flow_link.specs.Worked.{WorkedInto}
 use Rattle.flow_link.proofs.OneMoreWorked.{worked_more}
 use Rattle.flow_intake.specs.Port.{PortState, coming}
-use Rattle.flow_intake.specs.PortLaw.{PortLaw, has_ended}
-use Rattle.flow_intake.specs.Calls.{takes_next, gives_room, failing_from, port_fails}
+use Rattle.flow_intake.specs.PortLaw.{PortLaw}
+use Rattle.flow_intake.specs.Calls.{takes_next, gives_room, port_fails}
 use Rattle.flow_intake.specs.ByLink.{arrives}
 use Rattle.flow_intake.proofs.CallsKeepOrder.{moves_keep}
 use Rattle.flow_group.specs.Groups.{arrival_at}
@@ -361,13 +360,6 @@ module _ (result : Value → Result (List Value) ℕ) (kind : BlockKind) (works 
         }
 
     -- A fault is there first
-
-    failed_port : (port : PortState) → has_ended port.refusing ≡ true → has_ended (failing_from port.refusing) ≡ true
-    failed_port port e = of_refusing port.refusing e
-      where
-        of_refusing : (refusing : Option Refusal) → has_ended refusing ≡ true → has_ended (failing_from refusing) ≡ true
-        of_refusing None e = absurd (cc)
-        of_refusing (Some why) e = e
 
     fails_kept : (number : ℕ) (slots : List Slot) → old.jobs.slots ≡ Some (Err number) ∷ slots → BlockKept h (fails number old)
     fails_kept number slots at =

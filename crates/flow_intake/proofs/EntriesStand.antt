@@ -108,10 +108,6 @@ pub numbered-popped : (last : ℕ) (entries : List Entry) → AreNumbered last e
 numbered-popped last [] numbered = tt
 numbered-popped last (x ∷ entries) numbered = numbered.1
 
-pub first-stands : (turns : List ℕ) (entry : Entry) (entries : List Entry) → entry ≡ get_or entries 0 entry → get_or turns entry.place 0 ≡ entry.number → FirstStands turns entries
-first-stands turns entry [] first stands = tt
-first-stands turns entry (x ∷ entries) first stands = subst (λ (e : Entry). get_or turns e.place 0 ≡ e.number) first stands
-
 -- all that do not stand are dropped
 standing_one : (turns : List ℕ) (entry : Entry) (kept entries : List Entry) (now : Bool) → stands turns entry ≡ now
     → standing turns kept ≡ standing turns entries → standing turns (cond now (entry ∷ kept) kept) ≡ standing turns (entry ∷ entries)

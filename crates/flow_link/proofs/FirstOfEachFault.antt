@@ -292,9 +292,6 @@ module _ {W : Type 0} (blocks : List (BlockDef W)) (links : List LinkDef) where
       → IsLaidOut blocks planned
   laid_out_where_none planned ep e = subst (λ (all : List Link). IsLaidOut blocks all) (sym ep) (laid_out_of blocks links (known_where_none e))
 
-some_is_none : {A : Type 0} (x : A) → Some x ≡ None → ⊥
-some_is_none x e = cc
-
 contrary : (a b : Bool) → (a ≡ true → b ≡ true) → b ≡ false → a ≡ false
 contrary true b implies e = let h = implies refl in cc
 contrary false b implies e = refl

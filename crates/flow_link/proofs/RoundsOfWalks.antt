@@ -132,10 +132,6 @@ round_of (link ∷ links) end row reached block told =
     ∙ ap (λ b. (x && b) || (leads links block end || some rest n)) (into_target link.target end row reached told)
     ∙ ap (λ b. (x && goes_on end row link.target) || b) (round_of links end row reached block told)
 
--- the row of no walks, and the row of walks of one link more
-pub first_round : (links : List Link) (end : ℕ) (row : List Bool) → ((c : ℕ) → c < length row → get_or row c false ≡ false) → IsRound links 0 end row
-first_round links end row empty = empty
-
 pub next_round : (links : List Link) (steps end : ℕ) (row next : List Bool) → length next ≡ length row → IsRound links steps end row
     → ((c : ℕ) → c < length next → get_or next c false ≡ sets_out links end row c) → IsRound links (suc steps) end next
 next_round links steps end row next same told more = λ c low.

@@ -21,10 +21,10 @@ use Rattle.flow_block.specs.Block.{copies_next, held_by}
 use Rattle.flow_block.specs.NodeKeeps.{InAt, any_stage}
 use Rattle.flow_block.proofs.PortsChange.{port_of_map}
 use Rattle.flow_block.proofs.RoomBack.{length_back, port_back}
-use Rattle.flow_core.specs.Events.{out_call, copy_call, source_call, in_call, is_of_source, slot_after, with_line}
+use Rattle.flow_core.specs.Events.{out_call, copy_call, source_call, in_call, with_line}
 use Rattle.flow_core.specs.State.{NetState, LineState, node_at, no_node}
 use Rattle.flow_core.proofs.PlacesTell.{element_set}
-use Rattle.flow_moves.specs.Calls.{called, handed, left_in_slot, slot_after_source}
+use Rattle.flow_moves.specs.Calls.{called}
 use Rattle.flow_moves.specs.Ready.{SourceIsThere, TargetIsThere, exit_count}
 use Rattle.flow_moves.specs.Ways.{source_moved, target_moved}
 
@@ -140,11 +140,6 @@ module _ (makes : ℕ → Value → Result (List Value) ℕ) (next : Move) where
   source_lines (Block s) k net = refl
   source_lines (Input b) k net = refl
 
-  pub target_lines : (slot : Option Value) (target : LinkTarget) (k : ℕ) (net : NetState)
-      → (target_moved makes next slot target k net).lines ≡ net.lines
-  target_lines slot (Port t p) k net = refl
-  target_lines slot Exit k net = refl
-
 -- a change of a line leaves all ends
 pub source_beside : (l : ℕ) (line : LineState) (source : LinkSource) (k : ℕ) (net : NetState) → SourceIsThere net source k
     → SourceIsThere (with_line l line net) source k
@@ -159,27 +154,3 @@ target_beside l line Exit k net there = there
 -- blocks that make nothing of anything: what a move leaves is told whatever they make
 pub nothing_made : ℕ → Value → Result (List Value) ℕ
 nothing_made b value = Ok []
-
--- what lies in the slot, told for each end alone
-pub slot_by_source : (next : Move) (value slot : Option Value) → is_of_source next ≡ true
-    → slot_after_source next (handed next value) slot ≡ slot_after next value slot
-slot_by_source (move.Offer id) value slot turn = refl
-slot_by_source (move.Post id) value slot turn = refl
-slot_by_source move.Withdraw value slot turn = refl
-slot_by_source move.Deny value slot turn = refl
-slot_by_source move.Hold value slot turn = refl
-slot_by_source move.Give value slot turn = refl
-slot_by_source (move.End how) value slot turn = refl
-slot_by_source _ value slot turn = absurd (cc)
-
-pub slot_by_target : (next : Move) (value slot : Option Value) → is_of_source next ≡ false
-    → left_in_slot next slot ≡ slot_after next value slot
-slot_by_target (move.Offer id) value slot turn = absurd (cc)
-slot_by_target (move.Post id) value slot turn = absurd (cc)
-slot_by_target move.Withdraw value slot turn = absurd (cc)
-slot_by_target move.Deny value slot turn = absurd (cc)
-slot_by_target move.Hold value slot turn = absurd (cc)
-slot_by_target move.Give value slot turn = absurd (cc)
-slot_by_target (move.End how) value slot turn = absurd (cc)
-slot_by_target move.Open value slot turn = refl
-slot_by_target _ value slot turn = refl

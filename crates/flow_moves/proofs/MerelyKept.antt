@@ -1,7 +1,6 @@
 -- What is known of a network that merely is in order: it goes on being so, all that code asks of it holds, and its run is
 -- lawful, and quiet where nothing may happen any more.
 use Rattle.std.proofs.Common.{◌≡◌, ℕ, ◌<◌, ◌^◌, Bool, true, false, List, [], length, Some, Result, refl}
-use Rattle.std.specs.List.{count_by}
 use Rattle.std.proofs.Math.Logic.{∥∥₁_elim, ∥∥₁_map}
 use Rattle.std.proofs.Math.Nat.{ℕ_set}
 use Rattle.flow_value.specs.declared.value.Value.{Value}
@@ -69,9 +68,6 @@ module _ {W : Type 0} (layout : Layout W) (meaning : ℕ → Value → Result (L
 
   pub line_count_is : length net.lines ≡ length layout.links
   line_count_is = ∥∥₁_elim kept (ℕ_set _ _) (λ keeps. keeps.line_count)
-
-  pub input_count_is : length net.inputs ≡ count_by (λ block. block.input) layout.blocks
-  input_count_is = ∥∥₁_elim kept (ℕ_set _ _) (λ keeps. keeps.input_count)
 
   -- a block is of the kind that the plan has there, and has one port, if it is no join of either kind
   pub blocks_planned : (b : ℕ) → b < length layout.blocks → IsPlanned layout b (node_at net b).block

@@ -1,6 +1,7 @@
 //! All blocks, inputs and links of a network, and what a move of a link makes of them.
-ghost use Rattle.std.specs.Prelude.{◌≡◌, ℕ, ◌<◌, true, false, length, List, Result, OnOk, OnErr, IfOk, Some};
+ghost use Rattle.std.specs.Prelude.{◌≡◌, ℕ, ◌<◌, true, false, length, drop, List, Result, OnOk, OnErr, IfOk, option_map, Some};
 ghost use Rattle.flow_value.specs.declared.value.Value.{Value};
+ghost use Rattle.flow_intake.specs.Calls.{first_of};
 ghost use Rattle.flow_core.specs.Events.{is_of_source, with_line};
 ghost use Rattle.flow_core.specs.State.{node_at, line_at, fresh_line};
 ghost use Rattle.flow_moves.specs.Calls.{handed, left_in_slot, slot_after_source};
@@ -96,7 +97,9 @@ impl Parts {
     }
 
     /// The block with this number, if there is one.
-    pub fn find_node(&self, number: usize) -> Option<&Node> {
+    pub fn find_node(&self, number: usize) -> Option<&Node>
+        ensures { option_map (λ node. node.now) result ≡ first_of (drop number self.now.nodes) }
+    {
         self.nodes.get(number)
     }
 

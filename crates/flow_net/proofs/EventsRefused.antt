@@ -9,35 +9,18 @@ use Rattle.flow_core.specs.Events.{NetEvent, Enabled, MayHappen}
 use Rattle.flow_core.specs.State.{NetState}
 use Rattle.flow_outlet.specs.declared.fault.OutletFault.{OutletFault}
 use Rattle.flow_outlet.specs.declared.fault.OutletFault.TheVariants as outlet
-use Rattle.flow_net.specs.Events.{net_event, IsOfJob, IsRefused}
+use Rattle.flow_net.specs.Events.{IsRefused}
 use Rattle.flow_net.specs.OwnJobs.{IsOwnJob}
-use Rattle.flow_net.specs.There.{IsWhyNot}
 use Rattle.flow_net.specs.Told.{fault_of}
-use Rattle.flow_net.specs.declared.event.Event.{Event}
-use Rattle.flow_net.specs.declared.event.Event.TheVariants.{Link, Make, Begin, End, Complete, Fault, Done}
+use Rattle.flow_net.specs.declared.event.Event.TheVariants.{End}
 use Rattle.flow_net.specs.declared.fault.NetFault.{NetFault}
 use Rattle.flow_net.specs.declared.fault.NetFault.TheVariants.{NotEnabled, Ids, Memory}
-
--- an outlet's fault is no event that may not happen, and is told as ids where it is of ids
-pub always_enabled : (fault : OutletFault) → fault_of fault ≡ NotEnabled → ⊥
-always_enabled outlet.Ids is = absurd (cc)
-always_enabled outlet.Memory is = absurd (cc)
 
 pub ids_of_outlet : (fault : OutletFault) → fault_of fault ≡ Ids → fault ≡ outlet.Ids
 ids_of_outlet outlet.Ids is = refl
 ids_of_outlet outlet.Memory is = absurd (cc)
 
 module _ {W : Type 0} (equal : W → W → Bool) (layout : Layout W) (meaning : ℕ → Value → Result (List Value) ℕ) (net : NetState) where
-  pub driven_refused : {w : _} {e : _} (event : Event W w e) (fault : NetFault) → (IsOfJob event → ⊥)
-      → IsWhyNot layout meaning net (net_event event) fault → IsRefused equal layout meaning net event fault
-  driven_refused (Link l next) fault driven why = why
-  driven_refused (Make b) fault driven why = why
-  driven_refused (Begin b) fault driven why = why
-  driven_refused (End b done) fault driven why = absurd (driven tt)
-  driven_refused (Complete b p) fault driven why = why
-  driven_refused (Fault b) fault driven why = why
-  driven_refused (Done b) fault driven why = why
-
   pub result_refused : {w : _} {e : _} (b : ℕ) (done : JobResult W w e) (fault : NetFault)
       → (fault ≡ NotEnabled → IsOwnJob equal layout net b (job_in done) → ⊥)
       → (fault ≢ NotEnabled → Enabled layout net (NetEvent.end_job b (ticket_in (job_in done))))

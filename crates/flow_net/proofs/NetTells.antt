@@ -110,9 +110,6 @@ module _ {W : Type 0} (meaning : W → Value → Result (List Value) WorkFault) 
     pub left_is : left_in (node_at net b).block ≡ left_at run b
     left_is = ap (λ (trace : BlockTrace). trace.left) trace_is
 
-    pub record_is : (node_at net b).block.recorded ≡ (trace_of run b).recorded
-    record_is = ap (λ (trace : BlockTrace). trace.recorded) trace_is
-
     pub held_is : (p : ℕ) → (port_at p (node_at net b).block).waiting ≡ held_at run b p
     held_is p =
         sym (get_or-map (λ (port : PortState). port.waiting) (node_at net b).block.ports p (fresh_port None))

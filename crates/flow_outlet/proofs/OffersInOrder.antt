@@ -73,9 +73,6 @@ is_none_is : (offer : Option ℕ) → is_some offer ≡ false → offer ≡ None
 is_none_is None e = refl
 is_none_is (Some k) e = cc
 
-place_of_head : OutletState → ℕ
-place_of_head o = place_in o.next (head_of o) o.ends
-
 pub named_is : (o : OutletState) (k : ℕ) → may_offer o ≡ Some k → IsNextOffer o k
 named_is o k e =
     let place = place_in o.next (head_of o) o.ends in

@@ -15,9 +15,6 @@ use Rattle.flow_outlet.specs.declared.ends.OutEnd.{OutEnd}
 abbrev pub place_of : ℕ → List OutEnd → ℕ
 place_of link ends = unwrap_or (position (λ (end : OutEnd). end.rule.id == link) ends) (length ends)
 
-abbrev pub place_in_outlet : ℕ → OutletState → ℕ
-place_in_outlet link o = place_of link o.ends
-
 -- the next offer: its link, and the header of the head
 abbrev pub named_at : OutletState → Option ℕ → Option (ℕ × ℕ)
 named_at o None = None

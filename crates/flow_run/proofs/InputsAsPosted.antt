@@ -28,7 +28,6 @@ use Rattle.flow_run.specs.Left.{IsLeft}
 use Rattle.flow_run.specs.Ran.{Begins, IsPosted, HasUnreadRecords, UsesUpIds, HasUnwrittenReport, IsUnbegun, IsUnreported}
 use Rattle.flow_run.specs.Refusal.{refusal_of, IsToldAs}
 use Rattle.flow_run.specs.declared.outcome.RunRefusal.{RunRefusal}
-use Rattle.flow_run.specs.declared.outcome.RunRefusal.TheVariants as refused
 use Rattle.flow_text.specs.Records.{PostAll, input_names, posted_endings, posted_values}
 
 names_more : (b : Bool) (name : List ℕ) (rest : List (List ℕ)) → length (cond b (name ∷ []) [] ++ rest) ≡ cond {A = ℕ} b 1 0 + length rest
@@ -104,11 +103,6 @@ module _ (text : List ℕ) (records : Option (List ℕ)) where
   pub no_records : (refusal : TextRefusal) → HasUnreadRecords text records refusal → IsUnbegun text records (refusal_of refusal)
   no_records (Fault fault) h = inr h
   no_records Memory h = tt
-
-  pub no_network : (limit : ℕ) (refusal : RunRefusal) → IsUnbegun text records refusal → IsUnreported text records limit refusal
-  no_network limit (refused.Text fault) h = inl h
-  no_network limit refused.Ids h = absurd h
-  no_network limit refused.Memory h = tt
 
   pub no_end : (limit : ℕ) (fault : NetFault) (refusal : RunRefusal) → IsToldAs fault refusal → (fault ≡ net_fault.Ids → UsesUpIds text records limit)
       → IsUnreported text records limit refusal

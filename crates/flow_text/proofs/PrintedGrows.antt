@@ -32,11 +32,6 @@ weight-at (Row r ∷ vs) (suc k) v within is = omega (arith, weight-at vs k v (o
 pub row-count : (items : Items) → value_count (items_from (values_of items)) ≡ value_count items
 row-count items = ap value_count (items_from-values_of items)
 
--- nothing was written
-pub appends-none : (old : Option (List ℕ)) → Appends old old []
-appends-none None = tt
-appends-none (Some xs) = sym (append-nil xs)
-
 -- two parts, one after another
 pub appends-both : (old mid new : Option (List ℕ)) (front back : List ℕ) → Appends old mid front → Appends mid new back → Appends old new (front ++ back)
 appends-both None mid new front back f b = tt

@@ -1,7 +1,7 @@
 -- Tables that were read one by one, and the first whose function or predicate is none.
-use Rattle.std.proofs.Common.{◌≡◌, ℕ, zero, suc, ◌+◌, ◌<◌, ◌≤◌, Bool, true, List, [], ◌∷◌, ◌++◌, length, get_or, take, Some, is_some, refl, ap, sym, ◌∙◌, subst, arith}
+use Rattle.std.proofs.Common.{◌≡◌, ℕ, zero, suc, ◌+◌, ◌<◌, Bool, true, List, [], ◌∷◌, ◌++◌, length, get_or, take, Some, is_some, refl, ap, sym, ◌∙◌, subst, arith}
 use Rattle.std.proofs.lemmas.Bool.{and_parts}
-use Rattle.std.proofs.lemmas.List.{take_more, take_all}
+use Rattle.std.proofs.lemmas.List.{take_more}
 use Rattle.flow_link.specs.declared.draft.BlockDef.{BlockDef}
 use Rattle.flow_link.specs.declared.draft.LinkDef.{LinkDef}
 use Rattle.flow_value.specs.declared.steps.Steps.{Steps}
@@ -56,10 +56,6 @@ module _ {A : Type 0} (Is : Members → A → Type 0) where
   each_more vs i xs v ms x all lt same e is =
       let grown : take (i + 1) vs ≡ take i vs ++ v ∷ [] = take_more vs i v lt ∙ ap (λ u. take i vs ++ u ∷ []) (sym same) in
       subst (λ us. AreEach Is (items_view us) (xs ++ x ∷ [])) (sym grown) (one_more (take i vs) xs v ms x all e is)
-
-  -- all tables were read
-  pub each_of_all : (vs : List Value) (i : ℕ) (xs : List A) → AreEach Is (items_view (take i vs)) xs → length vs ≤ i → AreEach Is (items_view vs) xs
-  each_of_all vs i xs all past = subst (λ us. AreEach Is (items_view us) xs) (take_all i vs past) all
 
 items_before_view : (n : ℕ) (vs : List Value) → items_before n (items_view vs) ≡ items_view (take n vs)
 items_before_view zero vs = refl

@@ -47,8 +47,3 @@ wrote-same old mid new bytes rest before kept = record { done = before.done; par
     appends-same (Some xs) None new part appended kept = absurd appended
     appends-same (Some xs) (Some ys) None part appended kept = absurd kept
     appends-same (Some xs) (Some ys) (Some zs) part appended kept = kept ∙ appended
-
-pub wrote-all : (old new : Option (List ℕ)) (bytes rest : List ℕ) → WroteUpTo old new bytes rest → rest ≡ [] → Appends old new bytes
-wrote-all old new bytes rest wrote none =
-    let all : bytes ≡ wrote.done = wrote.parts ∙ ap (λ part. wrote.done ++ part) none ∙ append-nil wrote.done in
-    rw all wrote.appended

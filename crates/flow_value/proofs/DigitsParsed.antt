@@ -1,5 +1,5 @@
 -- What `parse` makes of digits, and of digits behind a minus sign.
-use Rattle.std.proofs.Common.{◌≡◌, ℕ, ◌<◌, List, [], ◌∷◌, length, drop, Bool, true, false, refl, ◌∙◌, ap, rules, cond, ◌&&◌, Decides, Ok, Err, ℤ, pos, negsuc, w64, eqb, subst}
+use Rattle.std.proofs.Common.{◌≡◌, ℕ, ◌<◌, List, [], ◌∷◌, length, drop, Bool, true, false, refl, ◌∙◌, ap, rules, cond, ◌&&◌, Decides, Err, ℤ, pos, negsuc, w64, eqb, subst}
 use Rattle.std.specs.Char.{is_ascii_digit}
 use Rattle.std.specs.List.{list_all}
 use Rattle.std.specs.Prelude.{FitsSigned}
@@ -8,7 +8,7 @@ use Rattle.std.proofs.lemmas.Bool.{eqb-true, false≢true, and_parts, cond-false
 use Rattle.std.proofs.lemmas.Bool.Decides.{Decides-ltb}
 use Rattle.std.proofs.lemmas.Str.Parse.{IsNumeralModel, numerals_by_value}
 use Rattle.flow_value.specs.Number.{without_minus, is_digits, is_i64, int_of}
-use Rattle.flow_value.specs.declared.work.WorkFault.TheVariants.{NotInt, Range}
+use Rattle.flow_value.specs.declared.work.WorkFault.TheVariants.{Range}
 
 pub numerals : IsNumeralModel (λ ds. list_all is_ascii_digit ds ≡ true) (digits_value 10)
 numerals = numerals_by_value _ (search rules)
@@ -45,17 +45,8 @@ numeral_behind_sign bs e =
     let same = sign_is_minus bs e in
     rw same ((Decides-ltb 0 (length (without_minus bs))).0 both.0, numerals.to (without_minus bs) both.1)
 
--- digits that fit are the number
-pub int_of-fits : (bs : List ℕ) → is_digits (without_minus bs) ≡ true → FitsSigned w64 (signed_digits_value 10 bs)
-    → int_of bs ≡ Ok (signed_digits_value 10 bs)
-int_of-fits bs digits fits = cond-true _ _ _ digits ∙ cond-true _ _ _ ((is_i64-Decides (signed_digits_value 10 bs)).1 fits)
-
 -- digits that do not fit are out of range
 pub int_of-over : (bs : List ℕ) → is_digits (without_minus bs) ≡ true → (FitsSigned w64 (signed_digits_value 10 bs) → ⊥)
     → int_of bs ≡ Err Range
 int_of-over bs digits over =
     cond-true _ _ _ digits ∙ cond-false _ _ _ (false_from_ne_true _ (λ e. over ((is_i64-Decides (signed_digits_value 10 bs)).0 e)))
-
--- what is not all digits is no number
-pub int_of-other : (bs : List ℕ) → is_digits (without_minus bs) ≡ false → int_of bs ≡ Err NotInt
-int_of-other bs other = cond-false _ _ _ other

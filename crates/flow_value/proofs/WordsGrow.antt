@@ -1,12 +1,10 @@
 -- How the words of the steps grow by one more value.
-use Rattle.std.proofs.Common.{◌≡◌, ℕ, zero, suc, ◌+◌, ◌<◌, ◌==◌, List, [], ◌∷◌, ◌++◌, length, get_or, replicate, Bool, true, Option, Some, None, refl, sym, ap, ◌∙◌, arith, ℤ, pos, ◌+ℤ◌, Ok}
+use Rattle.std.proofs.Common.{◌≡◌, ℕ, zero, suc, ◌+◌, ◌<◌, ◌==◌, List, [], ◌∷◌, ◌++◌, length, get_or, Bool, true, Option, Some, None, refl, sym, ap, ◌∙◌, arith, ℤ, pos, ◌+ℤ◌}
 use Rattle.std.specs.Option.{option_map}
 use Rattle.std.proofs.lemmas.Bool.{eqb-true, eq-eqb}
-use Rattle.std.proofs.lemmas.List.{replicate-append-replicate}
 use Rattle.std.proofs.lemmas.List.FromFn.{map-range_with_len_more}
 use Rattle.std.proofs.lemmas.List.Sums.{fold_push}
 use Rattle.flow_value.specs.Step.{numbers_of, total_of, ints_below}
-use Rattle.flow_value.specs.StepRuns.{int_in}
 use Rattle.flow_value.specs.declared.value.Value.{Value}
 use Rattle.flow_value.specs.declared.value.Value.TheVariants.{Int, Text, Row}
 
@@ -14,9 +12,6 @@ pub empty_test : {A : Type 0} (xs : List A) (n : ℕ) (b : Bool) → n ≡ lengt
 empty_test [] n b len test = (λ e. refl, λ e. test ∙ eq-eqb n 0 len)
 empty_test (x ∷ xs) n b len test =
     (λ e. let none : n ≡ 0 = eqb-true n 0 (sym test ∙ e) in absurd (omega arith), λ e. cc)
-
-pub replicate_push : {A : Type 0} (n : ℕ) (x : A) → replicate n x ++ x ∷ [] ≡ replicate (n + 1) x
-replicate_push n x = replicate-append-replicate n 1 x
 
 -- one more number in a row of numbers
 numbers_of-first : (m n : ℤ) (o : Option (List ℤ)) (ns : List ℤ) (more : Option (List ℤ))
@@ -52,8 +47,3 @@ total_of-push ns n = fold_push ◌+ℤ◌ (pos 0) ns n
 
 pub ints_below-push : (n : ℕ) → ints_below n ++ Int (pos n) ∷ [] ≡ ints_below (n + 1)
 ints_below-push n = sym (map-range_with_len_more (λ i. Int (pos i)) 0 n n (omega arith))
-
-pub int_in-is : (v : Value) (n : ℤ) → int_in v ≡ Ok n → v ≡ Int n
-int_in-is (Int m) n e = ap Int cc
-int_in-is (Text t) n e = cc
-int_in-is (Row r) n e = cc

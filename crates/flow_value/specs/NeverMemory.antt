@@ -1,9 +1,8 @@
 -- A function's faults are those of its steps, and a step's are its own: none is that memory was out.
-use Rattle.std.specs.Prelude.{◌≡◌, ◌≢◌, ℕ, ◌≤◌, nat_le, List, [], ◌∷◌, Bool, true, false, if◌then◌else◌, slice_get, Option, Some, None, Result, Ok, Err, ℤ, pos, negsuc, ◌+ℤ◌, ◌*ℤ◌}
+use Rattle.std.specs.Prelude.{◌≢◌, ℕ, nat_le, List, [], ◌∷◌, Bool, true, false, if◌then◌else◌, slice_get, Option, Some, None, Result, Ok, Err, ℤ, pos, negsuc, ◌+ℤ◌, ◌*ℤ◌}
 use Rattle.std.specs.Ordering.{int_eq}
 use Rattle.std.specs.Str.Parse.{signed_digits_value}
-use Rattle.std.proofs.Common.{ap, refl, arith}
-use Rattle.flow_value.specs.Fault.{number_of}
+use Rattle.std.proofs.Common.{ap}
 use Rattle.flow_value.specs.Function.{joined, each, then_each, meaning_of}
 use Rattle.flow_value.specs.Number.{is_i64, is_digits, without_minus, in_range, int_of}
 use Rattle.flow_value.specs.Step.{Given, one, one_int, one_field, numbers_of, total_of, summed, ints_below, counted_to, applied}
@@ -13,7 +12,7 @@ use Rattle.flow_value.specs.declared.step.Step.TheVariants.{Id, ToInt, ToText, A
 use Rattle.flow_value.specs.declared.value.Value.{Value}
 use Rattle.flow_value.specs.declared.value.Value.TheVariants.{Int, Text, Row}
 use Rattle.flow_value.specs.declared.work.WorkFault.{WorkFault}
-use Rattle.flow_value.specs.declared.work.WorkFault.TheVariants.{NotInt, NotText, NotRow, NoField, Range, Rejected, Memory}
+use Rattle.flow_value.specs.declared.work.WorkFault.TheVariants.{NotInt, Range, Rejected, Memory}
 
 one_int-never : (r : Result ℤ WorkFault) → r ≢ Err Memory → one_int r ≢ Err Memory
 one_int-never (Ok n) never e = cc
@@ -98,13 +97,3 @@ pub meaning_of-never : (steps : List Step) (v : Value) → meaning_of steps v �
 meaning_of-never [] v e = cc
 meaning_of-never (step ∷ rest) v e =
     then_each-never (applied step v) (meaning_of rest) (applied-never step v) (meaning_of-never rest) e
-
--- a fault that is not out of memory has a number, from 1 to 6
-pub number_of-some : (fault : WorkFault) → fault ≢ Memory → (n : ℕ) × (number_of fault ≡ Some n) × (1 ≤ n) × (n ≤ 6)
-number_of-some NotInt never = (1, refl, omega arith, omega arith)
-number_of-some NotText never = (2, refl, omega arith, omega arith)
-number_of-some NotRow never = (3, refl, omega arith, omega arith)
-number_of-some NoField never = (4, refl, omega arith, omega arith)
-number_of-some Range never = (5, refl, omega arith, omega arith)
-number_of-some Rejected never = (6, refl, omega arith, omega arith)
-number_of-some Memory never = absurd (never refl)
