@@ -4,7 +4,7 @@ use Rattle.flow_value.specs.declared.value.Value.{Value}
 use Rattle.flow_value.specs.declared.message.MessageStatus.{MessageStatus}
 use Rattle.flow_value.specs.declared.message.MessageStatus.TheVariants as status
 use Rattle.flow_link.specs.declared.stage.TargetStage.{TargetStage}
-use Rattle.flow_link.specs.declared.stage.TargetStage.TheVariants.{Free, Postponed, Accepted, Consuming, Asking, Holding, Claiming, Refused}
+use Rattle.flow_link.specs.declared.stage.TargetStage.TheVariants.{Free, Postponed, Accepted, Consuming, Asking, Holding, Claiming, Arrived, Hand, Refused}
 use Rattle.flow_link.specs.declared.traits.Wish.{Wish}
 use Rattle.flow_link.specs.declared.traits.Wish.TheVariants as wish
 use Rattle.flow_link.specs.declared.traits.WishAnswer.{WishAnswer}
@@ -41,6 +41,17 @@ Wants i (Accepted j) = j ≡ i
 Wants i (Consuming j) = j ≡ i
 Wants i (Claiming j) = j ≡ i
 Wants i _ = ⊥
+
+-- a message over this link is on its way to the target: wanted, asked for or reserved, and not taken yet
+abbrev pub is_awaited : TargetStage → Bool
+is_awaited (Accepted _) = true
+is_awaited (Consuming _) = true
+is_awaited (Asking _) = true
+is_awaited (Holding _) = true
+is_awaited (Claiming _) = true
+is_awaited (Arrived _) = true
+is_awaited (Hand _) = true
+is_awaited _ = false
 
 -- the stages from which and to which each wish leads
 abbrev pub Consumes : TargetStage → TargetStage → Type 0

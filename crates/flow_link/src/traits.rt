@@ -148,11 +148,12 @@ pub trait DataflowBlock: Completing {
 /// A block that gives messages to others.
 ///
 /// Microsoft: `ISourceBlock<TOutput>`.
-pub trait SourceBlock {
+pub trait SourceBlock: DataflowBlock {
     ghost use Rattle.std.specs.Prelude.{◌≡◌, ℕ, Bool, false, Ok, None, IfOk, IfSome, IfNone, IsSome, OnErr};
     ghost use Rattle.std.specs.Bool.{OnTrue};
     ghost use Rattle.flow_link.specs.declared.stage.SourceStage.{SourceStage};
     ghost use Rattle.flow_link.specs.declared.stage.SourceStage.TheVariants.{Out};
+    ghost use Rattle.flow_link.specs.BlockCalls.{Stays};
     ghost use Rattle.flow_link.specs.StagesMove.{MovesTo};
     ghost use Rattle.flow_link.specs.SourceCalls.{SourceCall, Offers, stage_answered, MayConsume, is_promised};
     ghost use Rattle.flow_link.specs.SourceCalls.{GivesOver, NothingOut};
@@ -174,7 +175,8 @@ pub trait SourceBlock {
         ensures gives { IfOk result (λ offer. gives self.old (SourceCall.offered offer) self.new) }
         ensures moves { IfOk result (λ offer. Offers offer (source_stage self.old) (source_stage self.new)) }
         ensures nothing { (result ≡ Ok None) → self.new ≡ self.old }
-        ensures kept { OnErr result (self.new ≡ self.old) };
+        ensures kept { OnErr result (self.new ≡ self.old) }
+        ensures outcome_stays { Stays (Self.outcome self.old) (Self.outcome self.new) };
 
     /// Notes what the target answered to the offer that is out over this link.
     ///
@@ -182,7 +184,8 @@ pub trait SourceBlock {
     fn note_answer(&mut self, link: LinkId, header: MessageHeader, status: MessageStatus)
         requires { source_stage self.old link ≡ Out header }
         ensures gives { gives self.old (SourceCall.noted link header status) self.new }
-        ensures moves { MovesTo (stage_answered status header) link (source_stage self.old) (source_stage self.new) };
+        ensures moves { MovesTo (stage_answered status header) link (source_stage self.old) (source_stage self.new) }
+        ensures outcome_stays { Stays (Self.outcome self.old) (Self.outcome self.new) };
 
     /// Gives the message over this link, unless it has gone elsewhere. What was accepted or reserved is there. Once a
     /// message is given, no link waits for it any more.
@@ -193,7 +196,8 @@ pub trait SourceBlock {
         ensures gives { gives self.old (SourceCall.consumed link header result) self.new }
         ensures moves { IfSome result (λ _. GivesOver link header (source_stage self.old) (source_stage self.new)) }
         ensures kept { IfNone result (self.new ≡ self.old) }
-        ensures promised { OnTrue (is_promised (source_stage self.old link)) (IsSome result) };
+        ensures promised { OnTrue (is_promised (source_stage self.old link)) (IsSome result) }
+        ensures outcome_stays { Stays (Self.outcome self.old) (Self.outcome self.new) };
 
     /// Without an offer out or accepted, wishes are answered.
     ghost rests: { (source : Self) → NothingOut (source_stage source) → is_busy source ≡ false };
@@ -202,15 +206,22 @@ pub trait SourceBlock {
 /// A block that takes messages from others.
 ///
 /// Microsoft: `ITargetBlock<TInput>`.
-pub trait TargetBlock {
-    ghost use Rattle.std.specs.Prelude.{◌≡◌, ℕ, IfOk, OnErr};
+pub trait TargetBlock: DataflowBlock {
+    ghost use Rattle.std.specs.Prelude.{◌≡◌, ℕ, ◌<◌, false, IfOk, OnErr};
     ghost use Rattle.flow_link.specs.declared.stage.TargetStage.{TargetStage};
     ghost use Rattle.flow_link.specs.declared.stage.TargetStage.TheVariants.{Free};
+    ghost use Rattle.flow_link.specs.BlockCalls.{Stays};
     ghost use Rattle.flow_link.specs.StagesMove.{MovesBy, MovesTo};
     ghost use Rattle.flow_link.specs.TargetCalls.{TargetCall, StandsAfter, Wants, Wishes, MayNote, stage_noted};
+    ghost use Rattle.flow_link.specs.TargetCalls.{is_awaited};
 
     /// Where it stands at each link.
     ghost target_stage: { Self → ℕ → TargetStage };
+
+    /// How many ports it has, and into which of them a link leads.
+    ghost port_count: { Self → ℕ };
+
+    ghost port_into: { Self → ℕ → ℕ };
 
     /// What its calls do: the target before, the call with its answer, the target after.
     ghost takes: { Self → TargetCall → Self → Type 0 };
@@ -231,7 +242,8 @@ pub trait TargetBlock {
             self.new) }
         ensures moves { IfOk result (λ status. MovesBy (λ _ stage. StandsAfter may_postpone status header stage) origin
             (target_stage self.old) (target_stage self.new)) }
-        ensures kept { OnErr result (self.new ≡ self.old) };
+        ensures kept { OnErr result (self.new ≡ self.old) }
+        ensures outcome_stays { Stays (Self.outcome self.old) (Self.outcome self.new) };
 
     /// Takes the message that it wants.
     ///
@@ -239,7 +251,8 @@ pub trait TargetBlock {
     fn hand_over(&mut self, origin: LinkId, header: MessageHeader, parcel: Parcel)
         requires { Wants header (target_stage self.old origin) }
         ensures takes { takes self.old (TargetCall.handed origin header parcel) self.new }
-        ensures moves { MovesTo Free origin (target_stage self.old) (target_stage self.new) };
+        ensures moves { MovesTo Free origin (target_stage self.old) (target_stage self.new) }
+        ensures outcome_stays { Stays (Self.outcome self.old) (Self.outcome self.new) };
 
     /// What it would do next about the messages that it put off; then it waits for the answer.
     ///
@@ -247,7 +260,8 @@ pub trait TargetBlock {
     fn next_wish(&mut self) -> Wish
         ensures takes { takes self.old (TargetCall.wished result) self.new }
         ensures moves { Wishes result (target_stage self.old) (target_stage self.new) }
-        ensures nothing { (result ≡ Wish.None) → self.new ≡ self.old };
+        ensures nothing { (result ≡ Wish.None) → self.new ≡ self.old }
+        ensures outcome_stays { Stays (Self.outcome self.old) (Self.outcome self.new) };
 
     /// Notes what came of its wish, or that an offer which it postponed is withdrawn.
     ///
@@ -256,5 +270,15 @@ pub trait TargetBlock {
         requires { MayNote answer (target_stage self.old origin) }
         ensures takes { takes self.old (TargetCall.noted origin answer) self.new }
         ensures moves { MovesTo (stage_noted answer (target_stage self.old origin)) origin (target_stage self.old)
-            (target_stage self.new) };
+            (target_stage self.new) }
+        ensures outcome_stays { Stays (Self.outcome self.old) (Self.outcome self.new) };
+
+    /// A port may complete while no message into it is awaited.
+    ghost may_complete_at_rest: { (target : Self) (port : ℕ) → port < port_count target
+        → ((link : ℕ) → port_into target link ≡ port → is_awaited (target_stage target link) ≡ false)
+        → Self.may_complete target port };
+
+    /// The block may fault while no message into it is awaited.
+    ghost may_fault_at_rest: { (target : Self)
+        → ((link : ℕ) → is_awaited (target_stage target link) ≡ false) → Self.may_fault target };
 }
