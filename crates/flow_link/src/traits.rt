@@ -89,7 +89,8 @@ pub trait Completing {
     /// How it has ended, as far as it knows.
     ghost outcome: { Self → Option Outcome };
 
-    /// What it learns when it is asked: before, after. A block learns nothing; who watches another thread's block may.
+    /// What it learns when it is asked: before, after. A block that has nothing left to do notes then that it is done, and
+    /// whoever watches another thread's block may learn of its end.
     ghost learns: { Self → Self → Type 0 };
 
     /// How it has ended, if it has. What was answered once is answered ever after.
@@ -125,7 +126,7 @@ pub trait DataflowBlock: Completing {
         ensures acts { acts self.old (BlockCall.completed port) self.new }
         ensures stays { Stays (Self.outcome self.old) (Self.outcome self.new) };
 
-    /// Ends at once, by a fault with this number. A block that has ended stays as it is.
+    /// Ends at once, by a fault with this number. A block that has told its end stays as it is.
     ///
     /// Microsoft: `IDataflowBlock.Fault`, with a number in place of the exception.
     fn fault(&mut self, number: u32)
