@@ -11,7 +11,8 @@ use Rattle.flow_link.specs.declared.draft.BlockKind.TheVariants.{BatchedJoin}
 use Rattle.flow_link.specs.declared.stage.Refusal.{Refusal}
 use Rattle.flow_link.specs.declared.stage.TargetStage.{TargetStage}
 use Rattle.flow_link.specs.declared.stage.TargetStage.TheVariants as target
-use Rattle.flow_link.specs.declared.trace.Outcome.TheVariants.{Faulted}
+use Rattle.flow_link.specs.declared.trace.Outcome.{Outcome}
+use Rattle.flow_link.specs.declared.trace.Outcome.TheVariants.{Done, Faulted}
 use Rattle.flow_link.specs.declared.traits.WishAnswer.{WishAnswer}
 use Rattle.flow_link.specs.declared.traits.WishAnswer.TheVariants as answer
 use Rattle.flow_link.specs.Lists.{is_empty}
@@ -29,14 +30,14 @@ use Rattle.flow_block.specs.Block.{BlockState, port_in, port_at, with_port, held
 use Rattle.flow_block.specs.Copies.{copies_weight}
 use Rattle.flow_block.specs.Groups.{makes_group}
 use Rattle.flow_block.specs.JournalFits.{port_due, ports_due}
-use Rattle.flow_block.specs.Traits.{Takes as BlockTakes, outcome_of, faults, shown_over, port_shown, port_into, target_over, with_port_of, names_itself, leads_to, wishing_port, wishes, holds_at, notes, shares, offered_by, answered_by, may_take, gives_over, may_take_copy, copies_home, given_by}
+use Rattle.flow_block.specs.Traits.{Takes as BlockTakes, outcome_of, settles, faults, shown_over, port_shown, port_into, target_over, with_port_of, names_itself, leads_to, wishing_port, wishes, holds_at, notes, shares, offered_by, answered_by, may_take, gives_over, may_take_copy, copies_home, given_by}
 use Rattle.flow_block.proofs.MarksFit.{due_set, due_moved, due_map}
 use Rattle.flow_block.proofs.RoomBack.{due_back}
 use Rattle.flow_block.proofs.TargetStands.{found, at_place}
 use Rattle.flow_block.proofs.TargetMoves.{wanted_there, shown_wanted, wishing_is}
 use Rattle.flow_batched.specs.BatchedJoin.{waits, Tells, JoinFits}
 use Rattle.flow_block.specs.BlockFits.{fresh_block}
-use Rattle.flow_block.specs.Peeks.{holds_nothing}
+use Rattle.flow_block.specs.Peeks.{holds_nothing, may_finish}
 use Rattle.flow_outlet.specs.declared.ends.LinkRule.{LinkRule}
 use Rattle.flow_batched.proofs.OrderTells.{tells_fresh, waits_map, waits_each, waits_at, waits_set, waits_kept, tells_more, tells_group}
 
@@ -253,10 +254,20 @@ module _ (old new : BlockState) (order : ArrivalsState) (fits : JoinFits old ord
   copied_waits : (copies : SpreadState) → waits (with_copies copies old).ports ≡ waits old.ports
   copied_waits copies = waits_map (gives_room (copies_weight old.copies - copies_weight copies)) old.ports (λ port. refl)
 
+  stop_fits : (how : Outcome) → new ≡ stops_by how old → Fits
+  stop_fits how is =
+      changed (stops_by how old) is refl (waits_map port_closes old.ports (λ port. refl)) (let same = due_map port_closes old.ports (λ port. refl) in omega (arith, same))
+
+  settle_where : (finishes : Bool) → new ≡ cond finishes (stops_by Done old) old → Fits
+  settle_where true is = stop_fits Done is
+  settle_where false is = changed old is refl refl (omega arith)
+
+  pub settle_fits : new ≡ settles old → Fits
+  settle_fits is = settle_where (may_finish old) is
+
   fault_where : (number : ℕ) (ended : Bool) → new ≡ cond ended old (stops_by (Faulted number) old) → Fits
   fault_where number true is = changed old is refl refl (omega arith)
-  fault_where number false is =
-      changed (stops_by (Faulted number) old) is refl (waits_map port_closes old.ports (λ port. refl)) (let same = due_map port_closes old.ports (λ port. refl) in omega (arith, same))
+  fault_where number false is = stop_fits (Faulted number) is
 
   pub fault_fits : (number : ℕ) → new ≡ faults number old → Fits
   fault_fits number is = fault_where number (is_some (outcome_of old)) is

@@ -1,51 +1,27 @@
 -- A batched join that has a next group has not ended, and while a port is open the group is whole.
-use Rattle.std.proofs.Common.{Bool, ◌≡◌, ◌≤◌, ◌<◌, leb, ltb, true, false, cond, not, ◌&&◌, ◌||◌, List, [], ◌∷◌, length, None, is_none, refl, ap, ap₂, sym, ◌∙◌, arith}
-use Rattle.std.proofs.lemmas.Bool.{and_parts, false_from_ne_true, ltb-true, leb-true}
-use Rattle.flow_value.specs.declared.value.Value.{Value}
+use Rattle.std.proofs.Common.{Bool, ◌≡◌, ◌≤◌, leb, ltb, true, false, cond, not, ◌&&◌, ◌||◌, length, None, is_none, refl, ap, sym, ◌∙◌, arith}
+use Rattle.std.proofs.lemmas.Bool.{and_parts, leb-true}
 use Rattle.flow_link.specs.declared.draft.BlockKind.{BlockKind}
 use Rattle.flow_link.specs.declared.draft.BlockKind.TheVariants.{BatchedJoin}
 use Rattle.flow_link.specs.Lists.{is_empty}
 use Rattle.flow_link.specs.Plan.{has_work}
-use Rattle.flow_intake.specs.Port.{PortState}
 use Rattle.flow_group.specs.Tuple.{all_ended, has_tuple}
 use Rattle.flow_block.specs.Block.{BlockState, held_by, is_batch, is_join, is_batched_join}
 use Rattle.flow_block.specs.Groups.{waiting_in_all}
-use Rattle.flow_block.specs.Peeks.{holds_nothing, has_group, may_copy, has_next, has_group_of_ports, may_work, may_make, may_finish}
-use Rattle.flow_block.specs.Traits.{ended_where, outcome_of}
+use Rattle.flow_block.specs.Peeks.{has_group, may_copy, has_next, has_group_of_ports, may_work, may_make}
+use Rattle.flow_block.specs.Traits.{outcome_of}
 use Rattle.flow_group.specs.Group.{ArrivalsState}
 use Rattle.flow_batched.specs.BatchedJoin.{JoinFits}
 use Rattle.flow_batched.proofs.OrderTells.{told_in_all}
-use Rattle.flow_block.proofs.GoingOn.{may_finish_tells}
-use Rattle.flow_block.proofs.TestsTell.{none_is}
-
-none_waits : (waiting : List Value) → is_empty waiting ≡ true → length waiting ≡ 0
-none_waits [] e = refl
-none_waits (_ ∷ _) e = absurd (cc)
-
-nothing_waits : (ports : List PortState) → holds_nothing ports ≡ true → waiting_in_all ports ≡ 0
-nothing_waits [] e = refl
-nothing_waits (port ∷ ports) e =
-    let both = and_parts (is_empty port.waiting) (holds_nothing ports) e in
-    let first = none_waits port.waiting both.0 in
-    let others = nothing_waits ports both.1 in
-    omega (arith, first, others)
+use Rattle.flow_block.proofs.MakingGoesOn.{working_goes_on}
 
 next_is_group : (block : BlockState) → block.kind ≡ BatchedJoin → has_next block ≡ has_group_of_ports block
 next_is_group block joins =
     ap (λ (k : BlockKind). cond (is_batch k) (has_group block) (cond (is_join k) (has_tuple block.ports)
     (cond (is_batched_join k) (has_group_of_ports block) (not (is_empty (held_by block)) && may_copy block)))) joins
 
-pub grouping_goes_on : (block : BlockState) → block.kind ≡ BatchedJoin → may_make block ≡ true → outcome_of block ≡ None
-grouping_goes_on block joins may =
-    let makes = and_parts (may_work block) (not (has_work block.kind)) may in
-    let works = and_parts (is_none block.stopped && is_none block.fault) (has_next block) makes.0 in
-    let going = none_is block.stopped (and_parts (is_none block.stopped) (is_none block.fault) works.0).0 in
-    let group : has_group_of_ports block ≡ true = sym (next_is_group block joins) ∙ works.1 in
-    let some : 0 < waiting_in_all block.ports =
-    ltb-true 0 (waiting_in_all block.ports) (and_parts (ltb 0 (waiting_in_all block.ports)) (leb block.size (waiting_in_all block.ports) || all_ended block.ports) group).0 in
-    let unfinished : may_finish block ≡ false = false_from_ne_true (may_finish block) (λ finishes.
-    let none = nothing_waits block.ports (may_finish_tells block finishes).empty in omega (arith, some, none)) in
-    ap₂ ended_where going unfinished
+pub grouping_goes_on : (block : BlockState) → may_make block ≡ true → outcome_of block ≡ None
+grouping_goes_on block may = working_goes_on block (and_parts (may_work block) (not (has_work block.kind)) may).0
 
 -- while a port is open
 pub groups_are_whole : (block : BlockState) (order : ArrivalsState) → JoinFits block order → may_make block ≡ true → all_ended block.ports ≡ false

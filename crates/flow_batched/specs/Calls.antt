@@ -10,7 +10,7 @@ use Rattle.flow_outlet.specs.Outlet.{lacks_ids}
 use Rattle.flow_group.specs.Group.{group_of}
 use Rattle.flow_block.specs.Groups.{makes_group}
 use Rattle.flow_block.specs.Peeks.{may_make}
-use Rattle.flow_block.specs.Traits.{Acts as BlockActs, Gives as BlockGives, Takes as BlockTakes, port_into}
+use Rattle.flow_block.specs.Traits.{settles, Acts as BlockActs, Gives as BlockGives, Takes as BlockTakes, port_into}
 use Rattle.flow_batched.specs.BatchedJoin.{JoinState}
 
 -- the next group is there to be given, and its messages are in no order any more
@@ -37,6 +37,10 @@ noted_by (TargetCall.handed link header value) join = join.order ++ port_into li
 noted_by _ join = join.order
 
 module _ (old : JoinState) where
+  -- when it is asked whether it has ended
+  abbrev pub Learns : JoinState → Type 0
+  Learns new = (new.block ≡ settles old.block) × (new.order ≡ old.order)
+
   abbrev pub Acts : BlockCall → JoinState → Type 0
   Acts (BlockCall.made result) new = Made result old new
   Acts call new = BlockActs old.block call new.block × (new.order ≡ old.order)

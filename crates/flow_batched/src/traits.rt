@@ -16,12 +16,12 @@ use std::alloc::{AllocError, Global};
 
 /// Microsoft: `IDataflowBlock.Completion`.
 impl Completing for BatchedJoin {
-    ghost use Rattle.std.specs.Prelude.{◌≡◌};
     ghost use Rattle.flow_block.specs.Traits.{outcome_of};
+    ghost use Rattle.flow_batched.specs.Calls.{Learns};
 
     ghost outcome = { λ join. outcome_of join.block };
 
-    ghost learns = { λ old new. new ≡ old };
+    ghost learns = { Learns };
 
     fn completion(&mut self) -> Option<Outcome> {
         self.block.completion()
@@ -87,10 +87,15 @@ impl SourceBlock for BatchedJoin {
 
 /// Microsoft: `ITargetBlock<TInput>`.
 impl TargetBlock for BatchedJoin {
-    ghost use Rattle.flow_block.specs.Traits.{target_over};
+    ghost use Rattle.std.specs.Prelude.{length};
+    ghost use Rattle.flow_block.specs.Traits.{target_over, port_into, completes_at_rest, faults_at_rest};
     ghost use Rattle.flow_batched.specs.Calls.{Takes};
 
     ghost target_stage = { λ join. target_over join.block.ports };
+
+    ghost port_count = { λ join. length join.block.ports };
+
+    ghost port_into = { λ join link. port_into link join.block.ports };
 
     ghost takes = { Takes };
 
@@ -119,6 +124,10 @@ impl TargetBlock for BatchedJoin {
     fn note_wish(&mut self, origin: LinkId, answer: WishAnswer) {
         self.block.note_wish(origin, answer);
     }
+
+    ghost may_complete_at_rest = { λ join port there rests. completes_at_rest join.block port there rests };
+
+    ghost may_fault_at_rest = { λ join rests. faults_at_rest join.block rests };
 }
 
 /// Sets memory aside to note one message more than those that may come anyway.

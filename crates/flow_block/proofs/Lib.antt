@@ -1,5 +1,4 @@
 pub mod Causes
-pub mod ClosingStays
 pub mod CompleteSeen
 pub mod CopiesStand
 pub mod CopierHolds
@@ -67,8 +66,10 @@ pub mod NodesAreStill
 pub mod NodesKept
 pub mod NodesRest
 pub mod NodesSeen
+pub mod NothingComes
 pub mod NothingToDo
 pub mod OnceHolds
+pub mod OutcomesStay
 pub mod PassesOfNodes
 pub mod PlacesNamed
 pub mod PlacesOfCopies

@@ -1,15 +1,16 @@
 -- Where each end of its ports is the one that its link names, a block stands at each link into it as its end does.
-use Rattle.std.proofs.Common.{◌≡◌, ℕ, ◌<◌, ◌&&◌, Bool, true, false, List, [], ◌∷◌, zero, suc, ◌≤◌, inl, inr, get_or, length, Option, Some, None, is_some, refl, ap, ap₂, ◌∙◌, arith, eq-eqb}
+use Rattle.std.proofs.Common.{◌≡◌, ℕ, ◌<◌, ◌&&◌, Bool, true, false, List, [], ◌∷◌, zero, suc, ◌≤◌, inl, inr, get_or, length, Option, Some, None, is_some, refl, ap, ap₂, sym, ◌∙◌, arith, eq-eqb}
 use Rattle.std.proofs.lemmas.Bool.{cases_lt}
 use Rattle.flow_link.specs.Lists.{below}
 use Rattle.flow_link.specs.declared.stage.TargetStage.{TargetStage}
 use Rattle.flow_link.specs.declared.stage.TargetStage.TheVariants as target
-use Rattle.flow_intake.specs.Port.{EndState, PortState, fresh_end, end_in, link_in, stage_at}
+use Rattle.flow_intake.specs.Port.{EndState, PortState, fresh_end, end_in, link_in, stage_at, is_coming, coming}
 use Rattle.flow_intake.specs.Calls.{next_place, is_at as is_place}
 use Rattle.flow_intake.specs.ByLink.{next_wish, wish_at, wish_from}
 use Rattle.flow_block.specs.Block.{port_in}
 use Rattle.flow_block.specs.Stands.{OwnPorts, PortsStandInOrder}
 use Rattle.flow_block.specs.Traits.{shown_over, port_shown, port_into, target_over, names_itself, leads_to, wishes_at, wishing_port}
+use Rattle.flow_block.proofs.NothingComes.{none_counted}
 use Rattle.flow_block.proofs.PlacesNamed.{place_none}
 use Rattle.flow_block.proofs.TargetMoves.{shown_is, number_at, below_count}
 
@@ -29,6 +30,14 @@ module _ (ports : List PortState) (own : OwnPorts ports) where
       shown_is ports link some
       ∙ ap (λ (q : ℕ). shown_over (port_in ports q) link) mine.port
       ∙ ap (λ (place : Option ℕ). port_shown place port) mine.place
+
+  rests : (p : ℕ) → p < length ports
+      → ((link : ℕ) → port_into link ports ≡ p → is_coming (target_over ports link) ≡ false)
+      → coming (port_in ports p) ≡ 0
+  rests p l none =
+      let ends = (port_in ports p).ends in
+      none_counted ends (λ k there.
+      ap is_coming (sym (stage_is p k l there)) ∙ none (link_in k ends) (own p k l there).port)
 
   -- a port that would consume an offer is found
   wishes_where : (p : ℕ) → p < length ports → (place : Option ℕ) → next_place (port_in ports p) ≡ place → is_some (wish_at place (port_in ports p)) ≡ true
@@ -66,4 +75,4 @@ module _ (ports : List PortState) (own : OwnPorts ports) where
           absurd (cc)
 
 pub ports_stand_in_order : PortsStandInOrder
-ports_stand_in_order ports own = record { stages = stage_is ports own; wishes = none_wishes ports own }
+ports_stand_in_order ports own = record { stages = stage_is ports own; at_rest = rests ports own; wishes = none_wishes ports own }

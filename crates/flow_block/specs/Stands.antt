@@ -4,7 +4,7 @@ use Rattle.flow_link.specs.SourceCalls.{MayConsume}
 use Rattle.flow_link.specs.declared.stage.SourceStage.{SourceStage}
 use Rattle.flow_link.specs.declared.stage.SourceStage.TheVariants as source
 use Rattle.flow_link.specs.declared.trace.Outcome.{Outcome}
-use Rattle.flow_intake.specs.Port.{PortState, stage_at as port_stage, link_in}
+use Rattle.flow_intake.specs.Port.{PortState, stage_at as port_stage, link_in, is_coming, coming}
 use Rattle.flow_intake.specs.ByLink.{place_of as port_place, next_wish}
 use Rattle.flow_outlet.specs.Outlet.{OutletState, end_at, stage_at, may_offer}
 use Rattle.flow_outlet.specs.ByLink.{place_of, is_head}
@@ -14,6 +14,7 @@ use Rattle.flow_spread.specs.ByLink.{place_of as copy_place}
 use Rattle.flow_spread.specs.Law.{SpreadLaw}
 use Rattle.flow_block.specs.Block.{port_in}
 use Rattle.flow_block.specs.NodeLaw.{is_kept}
+use Rattle.flow_block.specs.Peeks.{nothing_comes}
 use Rattle.flow_block.specs.Traits.{source_over, is_busy, offers_over, may_take, copy_over, copies_over, may_take_copy, port_into, target_over, wishing_port}
 
 -- Where it shares its messages out
@@ -90,8 +91,19 @@ pub record PortsStand (ports : List PortState) : Type 0 where
   -- it stands at each link as its end does
   pub stages : (p k : ℕ) → p < length ports → k < length (port_in ports p).ends
       → target_over ports (link_in k (port_in ports p).ends) ≡ port_stage k (port_in ports p)
+  -- where nothing comes over any link into a port, nothing comes there
+  pub at_rest : (p : ℕ) → p < length ports
+      → ((link : ℕ) → port_into link ports ≡ p → is_coming (target_over ports link) ≡ false)
+      → coming (port_in ports p) ≡ 0
   -- it wishes for nothing only where no port would consume an offer
   pub wishes : wishing_port ports ≡ None → (p : ℕ) → p < length ports → next_wish (port_in ports p) ≡ None
 
 abbrev pub PortsStandInOrder : Type 0
 PortsStandInOrder = (ports : List PortState) → OwnPorts ports → PortsStand ports
+
+-- and in any block: where nothing comes at a port, nothing comes over a link into it
+pub record PortsAtRest : Type 0 where
+  pub over_a_link : (ports : List PortState) (p : ℕ) → coming (port_in ports p) ≡ 0 → (link : ℕ) → port_into link ports ≡ p
+      → is_coming (target_over ports link) ≡ false
+  pub over_all_links : (ports : List PortState) → nothing_comes ports ≡ true → (link : ℕ)
+      → is_coming (target_over ports link) ≡ false

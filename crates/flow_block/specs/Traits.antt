@@ -4,7 +4,7 @@ use Rattle.std.specs.Prelude.{◌≡◌, ℕ, ◌+◌, ◌<◌, ◌^◌, ◌==�
 use Rattle.flow_value.specs.declared.value.Value.{Value}
 use Rattle.flow_link.specs.BlockCalls.{BlockCall}
 use Rattle.flow_link.specs.SourceCalls.{SourceCall, NothingOut, is_under_way}
-use Rattle.flow_link.specs.TargetCalls.{TargetCall, stage_noted}
+use Rattle.flow_link.specs.TargetCalls.{TargetCall, is_awaited, stage_noted}
 use Rattle.flow_value.specs.declared.message.MessageStatus.{MessageStatus}
 use Rattle.flow_link.specs.declared.draft.BlockKind.{BlockKind}
 use Rattle.flow_link.specs.declared.draft.BlockKind.TheVariants.{Buffer, Broadcast, Batch, Join}
@@ -23,7 +23,7 @@ use Rattle.flow_link.specs.declared.traits.Wish.{Wish}
 use Rattle.flow_link.specs.declared.traits.Wish.TheVariants as wish
 use Rattle.flow_link.specs.declared.traits.WishAnswer.{WishAnswer}
 use Rattle.flow_link.specs.declared.traits.WishAnswer.TheVariants as answer
-use Rattle.flow_intake.specs.Port.{PortState, stage_at as port_stage, link_in, coming}
+use Rattle.flow_intake.specs.Port.{PortState, stage_at as port_stage, link_in, is_coming}
 use Rattle.flow_intake.specs.Calls.{answer_to, first_of, next_place, refused_by, put_stage, port_closes, is_at as is_place}
 use Rattle.flow_intake.specs.ByLink.{place_of as port_place, answered as port_answered, arrives, drops, next_wish, consumes_next}
 use Rattle.flow_outlet.specs.End.{end_in}
@@ -36,25 +36,19 @@ use Rattle.flow_spread.specs.Spread.{SpreadState, end_at as copy_at, next_place 
 use Rattle.flow_spread.specs.ByLink.{place_of as copy_place, named_at as copy_named, answered as copy_answered, tests_consume as tests_copy, is_there, gives_home}
 use Rattle.flow_group.specs.Tuple.{tuple_of}
 use Rattle.flow_block.specs.Block.{BlockState, port_in, port_at, with_port, held_by, is_batch, is_join, row_of, next_group, makes_row, makes_tuple, copies_next, copies_taken, puts_out, stops_by, comes_back, with_copies}
-use Rattle.flow_block.specs.Peeks.{nothing_comes, may_make, may_finish, would_copy}
+use Rattle.flow_block.specs.Peeks.{may_make, may_finish, would_copy}
 
 -- How it ends
 
--- how it stopped; a block that may finish is done
-abbrev pub ended_where : Option Outcome → Bool → Option Outcome
-ended_where (Some how) finished = Some how
-ended_where None finished = cond finished (Some Done) None
-
+-- how it stopped. A block that may finish, and was not asked yet, has told nothing
 abbrev pub outcome_of : BlockState → Option Outcome
-outcome_of block = ended_where block.stopped (may_finish block)
+outcome_of block = block.stopped
 
-abbrev pub MayCompletePort : BlockState → ℕ → Type 0
-MayCompletePort block port = (port < length block.ports) × (coming (port_at port block) ≡ 0)
+-- a block that may finish stops as done when it is asked
+abbrev pub settles : BlockState → BlockState
+settles block = cond (may_finish block) (stops_by Done block) block
 
-abbrev pub MayFault : BlockState → Type 0
-MayFault block = nothing_comes block.ports ≡ true
-
--- a block that has ended does not fault
+-- a block that has stopped does not fault
 abbrev pub faults : ℕ → BlockState → BlockState
 faults number block = cond (is_some (outcome_of block)) block (stops_by (Faulted number) block)
 
@@ -293,6 +287,35 @@ port_into link ports = unwrap_or (position (has_link link) ports) 0
 abbrev pub target_over : List PortState → ℕ → TargetStage
 target_over [] link = target.Refused PortEnded
 target_over (port ∷ ports) link = shown_over (port_in (port ∷ ports) (port_into link (port ∷ ports))) link
+
+-- over no link into the port does a message come
+abbrev pub MayCompletePort : BlockState → ℕ → Type 0
+MayCompletePort block port =
+    (port < length block.ports)
+    × ((link : ℕ) → port_into link block.ports ≡ port → is_coming (target_over block.ports link) ≡ false)
+
+-- over no link into the block does a message come
+abbrev pub MayFault : BlockState → Type 0
+MayFault block = (link : ℕ) → is_coming (target_over block.ports link) ≡ false
+
+-- a message that is not awaited does not come
+pub comes_where_awaited : (stage : TargetStage) → is_awaited stage ≡ false → is_coming stage ≡ false
+comes_where_awaited (target.Accepted i) rest = rest
+comes_where_awaited (target.Consuming i) rest = rest
+comes_where_awaited (target.Claiming i) rest = rest
+comes_where_awaited (target.Arrived i) rest = rest
+comes_where_awaited (target.Hand i) rest = rest
+comes_where_awaited _ rest = refl
+
+-- a port may complete where no message into it is awaited, and a block may fault where none is
+pub completes_at_rest : (block : BlockState) (port : ℕ) → port < length block.ports
+    → ((link : ℕ) → port_into link block.ports ≡ port → is_awaited (target_over block.ports link) ≡ false)
+    → MayCompletePort block port
+completes_at_rest block port there rests =
+    (there, λ link into. comes_where_awaited (target_over block.ports link) (rests link into))
+
+pub faults_at_rest : (block : BlockState) → ((link : ℕ) → is_awaited (target_over block.ports link) ≡ false) → MayFault block
+faults_at_rest block rests = λ link. comes_where_awaited (target_over block.ports link) (rests link)
 
 -- What it takes
 

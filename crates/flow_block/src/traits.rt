@@ -11,7 +11,7 @@ ghost use Rattle.flow_link.specs.Plan.{is_broadcast};
 ghost use Rattle.flow_link.specs.declared.draft.BlockKind.TheVariants.{Buffer};
 ghost use Rattle.flow_outlet.specs.declared.fault.OutletFault.TheVariants.{Ids, Memory};
 ghost use Rattle.flow_block.specs.Traits.{makes_alone, makes_itself, makes_its_next, lacks_its_ids, shares};
-ghost use Rattle.flow_block.specs.Stands.{BlocksStandInOrder, CopiesStandInOrder, PortsStandInOrder};
+ghost use Rattle.flow_block.specs.Stands.{BlocksStandInOrder, CopiesStandInOrder, PortsStandInOrder, PortsAtRest};
 
 use crate::block::Block;
 use crate::by_link::{hold, port_into, wishing_port};
@@ -23,23 +23,22 @@ use flow_outlet::OutletFault;
 use flow_value::{MessageHeader, MessageStatus, Parcel};
 use std::alloc::{AllocError, Global};
 
-/// A block has ended when it has stopped, and also when nothing is left for it to do: then it is done.
+/// A block that has nothing left to do stops as done when it is asked: from then on it takes nothing more.
 ///
 /// Microsoft: `IDataflowBlock.Completion`.
 impl Completing for Block {
     ghost use Rattle.std.specs.Prelude.{◌≡◌};
-    ghost use Rattle.flow_block.specs.Traits.{outcome_of};
+    ghost use Rattle.flow_block.specs.Traits.{outcome_of, settles};
 
     ghost outcome = { outcome_of };
 
-    ghost learns = { λ old new. new ≡ old };
+    ghost learns = { λ old new. new ≡ settles old };
 
     fn completion(&mut self) -> Option<Outcome> {
-        match self.stopped {
-            Some(how) => Some(how),
-            None if self.may_finish() => Some(Outcome::Done),
-            None => None,
+        if self.may_finish() {
+            self.stop(Outcome::Done);
         }
+        self.stopped
     }
 }
 
@@ -58,7 +57,7 @@ impl DataflowBlock for Block {
     }
 
     fn fault(&mut self, number: u32) {
-        if self.completion().is_none() {
+        if self.stopped.is_none() {
             self.stop(Outcome::Faulted(number));
         }
     }
@@ -117,9 +116,14 @@ impl SourceBlock for Block {
 
 /// Microsoft: `ITargetBlock<TInput>`.
 impl TargetBlock for Block {
-    ghost use Rattle.flow_block.specs.Traits.{target_over, Takes};
+    ghost use Rattle.std.specs.Prelude.{length};
+    ghost use Rattle.flow_block.specs.Traits.{target_over, port_into, Takes, completes_at_rest, faults_at_rest};
 
     ghost target_stage = { λ block. target_over block.ports };
+
+    ghost port_count = { λ block. length block.ports };
+
+    ghost port_into = { λ block link. port_into link block.ports };
 
     ghost takes = { Takes };
 
@@ -160,16 +164,22 @@ impl TargetBlock for Block {
             }
         }
     }
+
+    ghost may_complete_at_rest = { λ block port there rests. completes_at_rest block port there rests };
+
+    ghost may_fault_at_rest = { λ block rests. faults_at_rest block rests };
 }
 
 /// A block whose exits are in order stands at each link out of it as its end does, but that nobody waits for a message
 /// that is gone. It is busy while an offer is out, offers what may be offered, and gives what a link may consume. One that
 /// copies does the same at each link for itself. At each link into it a block stands as its end does, and it wishes for
-/// nothing only where no port would consume what it postponed.
+/// nothing only where no port would consume what it postponed. Where nothing comes over any link into a port, nothing comes
+/// there; and in any block, where nothing comes at a port, nothing comes over a link into it.
 pub fn blocks_in_order_stand_as_their_ends()
     ensures exits { BlocksStandInOrder }
     ensures copies { CopiesStandInOrder }
     ensures ports { PortsStandInOrder }
+    ensures rests { PortsAtRest }
 {}
 
 impl Block {

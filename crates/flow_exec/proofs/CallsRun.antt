@@ -1,10 +1,12 @@
--- What holds of each execution block stays so when it faults and when it gives a message: what waits at its port stays.
+-- What holds of each execution block stays so when it is asked whether it has ended, when it faults and when it gives a message:
+-- what waits at its port stays.
 use Rattle.std.proofs.Common.{◌≡◌, ℕ, ◌+◌, Bool, true, false, cond, List, length, map, is_some, refl, ap, sym, subst, ◌∙◌, arith}
 use Rattle.std.proofs.lemmas.List.{length-map}
 use Rattle.flow_value.specs.declared.value.Value.{Value}
 use Rattle.flow_link.specs.declared.draft.BlockKind.{BlockKind}
 use Rattle.flow_link.specs.declared.draft.BlockKind.TheVariants.{BatchedJoin}
-use Rattle.flow_link.specs.declared.trace.Outcome.TheVariants.{Faulted}
+use Rattle.flow_link.specs.declared.trace.Outcome.{Outcome}
+use Rattle.flow_link.specs.declared.trace.Outcome.TheVariants.{Done, Faulted}
 use Rattle.flow_link.specs.Plan.{has_work}
 use Rattle.flow_intake.specs.Port.{PortState}
 use Rattle.flow_intake.specs.Calls.{gives_room, port_closes}
@@ -12,7 +14,8 @@ use Rattle.flow_outlet.specs.ByLink.{consumes, consumed}
 use Rattle.flow_outlet.specs.Fits.{weight_of}
 use Rattle.flow_block.specs.Block.{BlockState, held_by, stops_by, is_batched_join, row_count}
 use Rattle.flow_block.specs.Copies.{copies_weight}
-use Rattle.flow_block.specs.Traits.{outcome_of, faults, shares, may_take, gives_over, may_take_copy, copies_home, given_by}
+use Rattle.flow_block.specs.Peeks.{may_finish}
+use Rattle.flow_block.specs.Traits.{outcome_of, settles, faults, shares, may_take, gives_over, may_take_copy, copies_home, given_by}
 use Rattle.flow_block.proofs.PortsChange.{kept_at_all}
 use Rattle.flow_block.proofs.RoomFits.{no_rows, none_beside}
 use Rattle.flow_exec.specs.Execution.{Runs}
@@ -40,11 +43,20 @@ ports_run change block new same ports kind jobs fault runs =
       drained = moved.drained;
     }
 
+stop_runs : (how : Outcome) (block : BlockState) → Runs block → Runs (stops_by how block)
+stop_runs how block runs = ports_run port_closes block (stops_by how block) (λ port. refl) refl refl refl refl runs
+
+settle_where : (finishes : Bool) (block : BlockState) → Runs block → Runs (cond finishes (stops_by Done block) block)
+settle_where true block runs = stop_runs Done block runs
+settle_where false block runs = runs
+
+pub settle_runs : (old new : BlockState) → new ≡ settles old → Runs old → Runs new
+settle_runs old new is runs = subst Runs (sym is) (settle_where (may_finish old) old runs)
+
 fault_where : (number : ℕ) (ended : Bool) (block : BlockState) → Runs block
     → Runs (cond ended block (stops_by (Faulted number) block))
 fault_where number true block runs = runs
-fault_where number false block runs =
-    ports_run port_closes block (stops_by (Faulted number) block) (λ port. refl) refl refl refl refl runs
+fault_where number false block runs = stop_runs (Faulted number) block runs
 
 pub fault_runs : (number : ℕ) (old new : BlockState) → new ≡ faults number old → Runs old → Runs new
 fault_runs number old new is runs = subst Runs (sym is) (fault_where number (is_some (outcome_of old)) old runs)

@@ -10,12 +10,12 @@ use std::alloc::{AllocError, Global};
 
 /// Microsoft: `IDataflowBlock.Completion`.
 impl<W> Completing for Execution<W> {
-    ghost use Rattle.std.specs.Prelude.{◌≡◌};
     ghost use Rattle.flow_block.specs.Traits.{outcome_of};
+    ghost use Rattle.flow_exec.specs.Calls.{Learns};
 
     ghost outcome = { λ execution. outcome_of execution.block };
 
-    ghost learns = { λ old new. new ≡ old };
+    ghost learns = { Learns };
 
     fn completion(&mut self) -> Option<Outcome> {
         self.block.completion()
@@ -74,10 +74,15 @@ impl<W> SourceBlock for Execution<W> {
 
 /// Microsoft: `ITargetBlock<TInput>`.
 impl<W> TargetBlock for Execution<W> {
-    ghost use Rattle.flow_block.specs.Traits.{target_over};
+    ghost use Rattle.std.specs.Prelude.{length};
+    ghost use Rattle.flow_block.specs.Traits.{target_over, port_into, completes_at_rest, faults_at_rest};
     ghost use Rattle.flow_exec.specs.Calls.{Takes};
 
     ghost target_stage = { λ execution. target_over execution.block.ports };
+
+    ghost port_count = { λ execution. length execution.block.ports };
+
+    ghost port_into = { λ execution link. port_into link execution.block.ports };
 
     ghost takes = { Takes };
 
@@ -103,4 +108,8 @@ impl<W> TargetBlock for Execution<W> {
     fn note_wish(&mut self, origin: LinkId, answer: WishAnswer) {
         self.block.note_wish(origin, answer);
     }
+
+    ghost may_complete_at_rest = { λ execution port there rests. completes_at_rest execution.block port there rests };
+
+    ghost may_fault_at_rest = { λ execution rests. faults_at_rest execution.block rests };
 }

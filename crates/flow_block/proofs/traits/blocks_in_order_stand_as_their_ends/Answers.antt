@@ -1,4 +1,5 @@
 use Rattle.flow_block.proofs.CopiesStand.{copies_stand_in_order}
+use Rattle.flow_block.proofs.NothingComes.{ports_come_to_rest}
 use Rattle.flow_block.proofs.PortsStand.{ports_stand_in_order}
 use Rattle.flow_block.proofs.StandsInOrder.{stands_in_order}
 use Rattle.flow_block.proofs.traits.blocks_in_order_stand_as_their_ends.Goals as goal
@@ -11,3 +12,6 @@ returns-clause-copies c = copies_stand_in_order
 
 pub returns-clause-ports : goal.returns-clause-ports
 returns-clause-ports c = ports_stand_in_order
+
+pub returns-clause-rests : goal.returns-clause-rests
+returns-clause-rests c = ports_come_to_rest

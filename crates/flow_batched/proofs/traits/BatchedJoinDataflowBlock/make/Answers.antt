@@ -21,5 +21,5 @@ returns-clause-stays c =
     let inside = c.self.inside.block in
     let may : may_make inside ≡ true = ap (λ (join : JoinState). may_make join.block) c.self.view_is ∙ sym c.if-not-has_group.ensures.told in
     let same = ap (λ (join : JoinState). outcome_of join.block) c.self.view_is in
-    let going = grouping_goes_on inside c.self.invariant.kind_is may in
+    let going = grouping_goes_on inside may in
     subst (λ (before : Option Outcome). Stays before (outcome_of c.make_group.new.self)) (sym (sym same ∙ going)) tt

@@ -1,5 +1,7 @@
-use Rattle.flow_block.proofs.ClosingStays.{closing_stays_ended}
+use Rattle.std.proofs.Common.{ap}
+use Rattle.flow_block.specs.Block.{BlockState}
+use Rattle.flow_block.proofs.OutcomesStay.{stays_as}
 use Rattle.flow_block.proofs.traits.BlockDataflowBlock.complete.Goals as goal
 
 pub returns-clause-stays : goal.returns-clause-stays
-returns-clause-stays c = rw c.complete.ensures (closing_stays_ended c.args.self.now c.args.port)
+returns-clause-stays c = stays_as c.args.self.now c.complete.new.self (ap (λ (block : BlockState). block.stopped) c.complete.ensures)
