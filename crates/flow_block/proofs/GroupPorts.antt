@@ -1,13 +1,13 @@
 -- What a group that is made leaves of the ports: all of each but what waits there.
-use Rattle.std.proofs.Common.{◌≡◌, ℕ, zero, suc, ◌+◌, ◌<◌, List, [], ◌∷◌, length, map, set, take, Option, refl, ap, sym, ◌∙◌, arith, subst}
+use Rattle.std.proofs.Common.{◌≡◌, ℕ, zero, suc, ◌+◌, ◌<◌, List, [], ◌∷◌, length, map, set, take, Option, option_map, refl, ap, sym, ◌∙◌, arith, subst}
 use Rattle.flow_value.specs.declared.value.Value.{Value}
 use Rattle.flow_intake.specs.Port.{PortState}
 use Rattle.flow_group.specs.Group.{came_at, takes_first, takes_from, takes_group}
 use Rattle.flow_group.proofs.GroupsCut.{as_many_taken}
 use Rattle.flow_block.specs.Block.{port_in}
 use Rattle.flow_block.specs.Groups.{waiting_in_all}
-use Rattle.flow_block.specs.Peeks.{fault_at_ports}
-use Rattle.flow_intake.specs.Ended.{first_some, fault_at_ends}
+use Rattle.flow_block.specs.Peeks.{link_fault, fault_at_ports}
+use Rattle.flow_intake.specs.Ended.{of_lower_link, fault_at_ends}
 
 module _ (group : List ℕ) where
   kept_from : {A : Type 0} (f : PortState → A) (first : ℕ) (ports : List PortState) (q : ℕ)
@@ -28,14 +28,15 @@ module _ (group : List ℕ) where
       port_from (suc first) ports q (omega (arith, there))
       ∙ ap (λ (p : ℕ). takes_first (came_at p group) (port_in ports q)) same
 
-  seen_from : (first : ℕ) (ports : List PortState) → fault_at_ports (takes_from first group ports) ≡ fault_at_ports ports
+  seen_from : (first : ℕ) (ports : List PortState) → link_fault (takes_from first group ports) ≡ link_fault ports
   seen_from first [] = refl
   seen_from first (port ∷ ports) =
-      ap (λ (later : Option ℕ). first_some (fault_at_ends port.ends) later) (seen_from (suc first) ports)
+      ap (λ (later : Option (ℕ × ℕ)). of_lower_link (fault_at_ends port.ends) later) (seen_from (suc first) ports)
 
 module _ (size : ℕ) (order : List ℕ) where
   pub seen_by_group : (ports : List PortState) → fault_at_ports (takes_group size order ports) ≡ fault_at_ports ports
-  seen_by_group ports = seen_from (take size order) 0 ports
+  seen_by_group ports =
+      ap (λ (fault : Option (ℕ × ℕ)). option_map (λ (f : ℕ × ℕ). f.1) fault) (seen_from (take size order) 0 ports)
 
   pub length_by_group : (ports : List PortState) → length (takes_group size order ports) ≡ length ports
   length_by_group ports = as_many_taken 0 (take size order) ports

@@ -1,8 +1,8 @@
 -- What the room that comes back with a head leaves of the ports: all of each but its load.
-use Rattle.std.proofs.Common.{◌≡◌, ℕ, zero, suc, ◌+◌, ◌-◌, ◌<◌, ◌≤◌, min, cond, is_some, false, List, [], ◌∷◌, length, Option, Some, None, refl, ap, sym, ◌∙◌, arith, subst}
+use Rattle.std.proofs.Common.{◌≡◌, ℕ, zero, suc, ◌+◌, ◌-◌, ◌<◌, ◌≤◌, min, cond, is_some, false, List, [], ◌∷◌, length, Option, Some, None, option_map, refl, ap, sym, ◌∙◌, arith, subst}
 use Rattle.flow_value.specs.declared.value.Value.{Value}
 use Rattle.flow_link.specs.declared.draft.BlockKind.{BlockKind}
-use Rattle.flow_intake.specs.Ended.{first_some, fault_at_ends}
+use Rattle.flow_intake.specs.Ended.{of_lower_link, fault_at_ends}
 use Rattle.flow_intake.specs.Port.{PortState}
 use Rattle.flow_intake.specs.Calls.{gives_room}
 use Rattle.flow_outlet.specs.Fits.{weight_of}
@@ -11,7 +11,7 @@ use Rattle.flow_spread.specs.Spread.{SpreadState}
 use Rattle.flow_block.specs.Block.{port_in, is_batched_join, row_count, room_at, gives_each, comes_back}
 use Rattle.flow_block.specs.Copies.{copies_weight}
 use Rattle.flow_block.specs.JournalFits.{port_due, ports_due}
-use Rattle.flow_block.specs.Peeks.{fault_at_ports}
+use Rattle.flow_block.specs.Peeks.{link_fault, fault_at_ports}
 use Rattle.flow_block.proofs.RoomFits.{no_rows}
 
 module _ (room weight : ℕ) (counts : ℕ → ℕ) where
@@ -46,10 +46,10 @@ module _ (room weight : ℕ) (counts : ℕ → ℕ) where
   due_each first (port ∷ ports) = ap (λ (due : ℕ). port_due port + due) (due_each (suc first) ports)
 
   seen_each : (first : ℕ) (ports : List PortState)
-      → fault_at_ports (gives_each room weight counts first ports) ≡ fault_at_ports ports
+      → link_fault (gives_each room weight counts first ports) ≡ link_fault ports
   seen_each first [] = refl
   seen_each first (port ∷ ports) =
-      ap (λ (later : Option ℕ). first_some (fault_at_ends port.ends) later) (seen_each (suc first) ports)
+      ap (λ (later : Option (ℕ × ℕ)). of_lower_link (fault_at_ends port.ends) later) (seen_each (suc first) ports)
 
 rows_fit : (room weight count load waiting : ℕ) → room ≤ load - waiting
     → room + min count (load - waiting - room - weight) ≤ load - waiting
@@ -88,7 +88,9 @@ module _ (exits : OutletState) (copies : SpreadState) (kind : BlockKind) (head :
 
   pub seen_over_back : (ports : List PortState)
       → fault_at_ports (comes_back exits copies kind head ports) ≡ fault_at_ports ports
-  seen_over_back ports = seen_each exits.room (weight_of exits.groups + copies_weight copies) (row_count kind head) 0 ports
+  seen_over_back ports =
+      ap (λ (fault : Option (ℕ × ℕ)). option_map (λ (f : ℕ × ℕ). f.1) fault)
+      (seen_each exits.room (weight_of exits.groups + copies_weight copies) (row_count kind head) 0 ports)
 
   -- where no group is given, the same room comes back at each port
   pub back_plain : is_batched_join kind ≡ false → (q : ℕ) (port : PortState) → back_at q port ≡ exits.room

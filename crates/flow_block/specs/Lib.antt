@@ -20,6 +20,7 @@ pub mod Jobs
 pub mod JobsEnd
 pub mod JobsOut
 pub mod JournalFits
+pub mod LinkFaults
 pub mod NextCopies
 pub mod NextMoves
 pub mod Node

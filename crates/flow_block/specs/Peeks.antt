@@ -1,10 +1,10 @@
 -- What a block could do next by itself, told by its own data alone.
-use Rattle.std.specs.Prelude.{ℕ, ◌+◌, ◌^◌, ◌==◌, leb, ltb, Bool, not, ◌&&◌, ◌||◌, cond, List, [], ◌∷◌, length, Option, None, is_some, is_none, Result}
+use Rattle.std.specs.Prelude.{ℕ, ◌+◌, ◌^◌, ◌==◌, leb, ltb, Bool, not, ◌&&◌, ◌||◌, cond, List, [], ◌∷◌, length, Option, None, is_some, is_none, option_map, Result}
 use Rattle.flow_value.specs.declared.value.Value.{Value}
 use Rattle.flow_link.specs.Lists.{every}
 use Rattle.flow_link.specs.Plan.{has_work, is_broadcast, is_write_once}
 use Rattle.flow_intake.specs.Port.{PortState, coming}
-use Rattle.flow_intake.specs.Ended.{first_some, has_seen_completion, fault_at_ends}
+use Rattle.flow_intake.specs.Ended.{first_some, has_seen_completion, of_lower_link, fault_at_ends}
 use Rattle.flow_intake.specs.PortLaw.{has_ended}
 use Rattle.flow_outlet.specs.Outlet.{is_empty, is_at_rest, only_waits, lacks_ids}
 use Rattle.flow_spread.specs.Spread.{SpreadState, is_spread_free, is_at_rest as is_spread_at_rest, only_waits as spread_only_waits}
@@ -15,9 +15,13 @@ use Rattle.flow_block.specs.Jobs.{is_out}
 use Rattle.flow_block.specs.Groups.{has_group_at}
 use Rattle.flow_block.specs.Node.{NodeState, puts_next}
 
+-- of the faults that came over links the one over the link with the lowest number, with that link
+abbrev pub link_fault : List PortState → Option (ℕ × ℕ)
+link_fault [] = None
+link_fault (port ∷ ports) = of_lower_link (fault_at_ends port.ends) (link_fault ports)
+
 abbrev pub fault_at_ports : List PortState → Option ℕ
-fault_at_ports [] = None
-fault_at_ports (port ∷ ports) = first_some (fault_at_ends port.ends) (fault_at_ports ports)
+fault_at_ports ports = option_map (λ (fault : ℕ × ℕ). fault.1) (link_fault ports)
 
 abbrev pub holds_nothing : List PortState → Bool
 holds_nothing ports = every (λ (port : PortState). is_empty port.waiting) ports

@@ -3,6 +3,7 @@ ghost use Rattle.flow_block.specs.Causes.{NextMovesHaveCauses};
 ghost use Rattle.flow_block.specs.Fresh.{FreshInOrder};
 ghost use Rattle.flow_block.specs.InputKeeps.{InputsKeep, InputsAreParts};
 ghost use Rattle.flow_block.specs.JobsEnd.{JobsEndWell};
+ghost use Rattle.flow_block.specs.LinkFaults.{LowestLinkCounts};
 ghost use Rattle.flow_block.specs.NextMoves.{NextMovesMay};
 ghost use Rattle.flow_block.specs.NodeKeeps.{NodesKept};
 ghost use Rattle.flow_block.specs.NodeRests.{NodesAreStill, NodesRest};
@@ -52,6 +53,12 @@ pub fn blocks_in_order_are_lawful<W>()
 pub fn blocks_with_nothing_to_do_rest<W>()
     ensures still { NodesAreStill W }
     ensures rest { NodesRest W }
+{}
+
+/// Of the faults that came over links into a block, at whichever ports, the one over the link with the lowest number
+/// counts.
+pub fn fault_of_the_lowest_link_counts()
+    ensures { LowestLinkCounts }
 {}
 
 /// Each call keeps an input in order, and changes what its end of the link knows as the laws of one link have it.

@@ -59,8 +59,9 @@ pub use input::Input;
 pub use jobs::Answer;
 pub use laws::{
     blocks_in_order_are_lawful, blocks_with_nothing_to_do_rest, calls_keep_blocks_in_order,
-    calls_keep_inputs_in_order, calls_move_views, fresh_blocks_are_in_order, inputs_are_parts,
-    jobs_that_end_keep_blocks_in_order, next_moves_have_causes, next_moves_may_be_made,
+    calls_keep_inputs_in_order, calls_move_views, fault_of_the_lowest_link_counts,
+    fresh_blocks_are_in_order, inputs_are_parts, jobs_that_end_keep_blocks_in_order,
+    next_moves_have_causes, next_moves_may_be_made,
 };
 pub use node::Node;
 pub use planned::{Route, port_of, ports_of, routes_of, rules_from};

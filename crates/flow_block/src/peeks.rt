@@ -12,13 +12,13 @@ ghost use Rattle.flow_block.specs.Peeks.{may_work, may_make, may_begin, may_end,
 ghost use Rattle.flow_spread.specs.Spread.{out_move as copy_move};
 ghost use Rattle.flow_block.specs.Peeks.{may_copy, is_written, is_copy_held_up, would_copy, has_all_given};
 ghost use Rattle.flow_block.specs.Peeks.{is_copied_out, is_out_at_rest};
-ghost use Rattle.flow_block.specs.Peeks.{fault_cause, fault_at_ports, is_pending, has_group, has_next, is_worked_off, is_complete};
+ghost use Rattle.flow_block.specs.Peeks.{fault_cause, link_fault, fault_at_ports, is_pending, has_group, has_next, is_worked_off, is_complete};
 
 use crate::block::Block;
 use crate::copies::copies_left;
 use flow_group::{has_tuple, is_join_complete};
-use flow_intake::Intake;
-use flow_link::{BlockKind, Move};
+use flow_intake::{Intake, of_lower_link};
+use flow_link::{BlockKind, LinkId, Move};
 
 impl Block {
     /// Whether it goes on, and holds what it could make something of.
@@ -360,15 +360,23 @@ fn all_ended(ports: &[Intake]) -> bool
     ports.iter().all(|port| port.has_ended())
 }
 
-/// The fault that was seen at the ports, the first by the places of the ports.
+/// The fault that came over a link: of several the one over the link with the lowest number.
 fn fault_at_ports(ports: &[Intake]) -> Option<u32>
     ensures { result ≡ fault_at_ports ports.now }
 {
-    for port in ports {
-        let fault = port.fault_seen();
-        if fault.is_some() {
-            return fault;
-        }
+    match link_fault(ports) {
+        Some((_, number)) => Some(number),
+        None => None,
     }
-    None
+}
+
+/// That fault, and its link.
+fn link_fault(ports: &[Intake]) -> Option<(LinkId, u32)>
+    ensures { result ≡ link_fault ports.now }
+{
+    let mut lowest = None;
+    for port in ports {
+        lowest = of_lower_link(lowest, port.fault_seen());
+    }
+    lowest
 }

@@ -3,7 +3,7 @@ ghost use Rattle.std.specs.Prelude.{◌≡◌, Some, None, true};
 ghost use Rattle.flow_intake.specs.Port.{fresh_end, is_hand, is_coming as coming_at, is_queued as queued_at};
 ghost use Rattle.flow_intake.specs.Port.{is_owed as owed_at};
 ghost use Rattle.flow_intake.specs.Ended.{is_completion as completion_at, fault_seen as fault_at};
-ghost use Rattle.flow_intake.specs.Ended.{has_seen_fault as seen_fault_at};
+ghost use Rattle.flow_intake.specs.Ended.{has_seen_fault as seen_fault_at, fault_over, of_lower_link};
 ghost use Rattle.flow_intake.specs.ByLink.{is_free as free_at};
 ghost use Rattle.flow_link.specs.declared.stage.TargetStage.TheVariants.{Free, Hand};
 
@@ -83,6 +83,22 @@ pub(crate) fn fault_seen(stage: &TargetStage) -> Option<u32>
     }
 }
 
+/// Of two faults that came over links, the one over the link with the lower number.
+pub fn of_lower_link(
+    first: Option<(LinkId, u32)>,
+    later: Option<(LinkId, u32)>,
+) -> Option<(LinkId, u32)>
+    ensures { result ≡ of_lower_link first later }
+{
+    let Some(first) = first else {
+        return later;
+    };
+    match later {
+        Some(later) if later.0 < first.0 => Some(later),
+        Some(_) | None => Some(first),
+    }
+}
+
 /// Whether it has seen that its link ended with a fault.
 pub(crate) fn has_seen_fault(stage: &TargetStage) -> bool
     ensures { result ≡ seen_fault_at stage.now }
@@ -99,6 +115,16 @@ impl InEnd {
             link,
             stage: TargetStage::Free,
             parcel: None,
+        }
+    }
+
+    /// The fault with which it has seen its link end, and the link.
+    pub(crate) fn fault_over(&self) -> Option<(LinkId, u32)>
+        ensures { result ≡ fault_over self.now }
+    {
+        match fault_seen(&self.stage) {
+            Some(number) => Some((self.link, number)),
+            None => None,
         }
     }
 

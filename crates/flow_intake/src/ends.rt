@@ -7,7 +7,7 @@ ghost use Rattle.flow_intake.specs.ByLink.{place_of, is_free};
 ghost use Rattle.flow_intake.specs.Calls.{put_stage, put_hand};
 ghost use Rattle.flow_link.specs.declared.stage.TargetStage.TheVariants.{Free, Hand};
 
-use crate::end::{InEnd, fault_seen, has_seen_fault, is_coming, is_completion, is_owed};
+use crate::end::{InEnd, has_seen_fault, is_coming, is_completion, is_owed, of_lower_link};
 use flow_link::{LinkId, TargetStage};
 use flow_value::{MessageHeader, Parcel};
 use std::alloc::{AllocError, Global};
@@ -82,20 +82,18 @@ impl Ends {
         self.completed > 0
     }
 
-    /// The fault that was seen at one of them, the first by their places.
-    pub(crate) fn fault_seen(&self) -> Option<u32>
+    /// The fault that was seen at one of them, and its link: of several the one over the link with the lowest number.
+    pub(crate) fn fault_seen(&self) -> Option<(LinkId, u32)>
         ensures { result ≡ fault_at_ends self.now }
     {
         if self.faulted == 0 {
             return None;
         }
+        let mut lowest = None;
         for end in &self.ends {
-            let fault = fault_seen(&end.stage());
-            if fault.is_some() {
-                return fault;
-            }
+            lowest = of_lower_link(lowest, end.fault_over());
         }
-        None
+        lowest
     }
 
     /// How many ends there are.

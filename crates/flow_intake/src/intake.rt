@@ -169,8 +169,9 @@ impl Intake {
         self.ends.has_seen_completion()
     }
 
-    /// The fault that came over a link that has ended, the first by the places of the links.
-    pub fn fault_seen(&self) -> Option<u32>
+    /// The fault that came over a link that has ended, and the link: of several the one over the link with the lowest
+    /// number.
+    pub fn fault_seen(&self) -> Option<(LinkId, u32)>
         ensures { result ≡ fault_at_ends self.now.ends }
     {
         self.ends.fault_seen()

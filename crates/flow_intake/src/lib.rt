@@ -18,5 +18,6 @@ mod intake;
 mod laws;
 mod queue;
 
+pub use end::of_lower_link;
 pub use intake::Intake;
 pub use laws::{calls_keep_ports_in_order, ports_answer_in_order, ports_in_order_and_not};
