@@ -22,6 +22,7 @@ use Rattle.flow_link.specs.declared.draft.BlockKind.TheVariants.{Join, BatchedJo
 use Rattle.flow_group.specs.Tuple.{has_tuple}
 use Rattle.flow_block.specs.Block.{BlockState, port_at, held_by, is_batch, is_join, is_batched_join}
 use Rattle.flow_block.specs.Copies.{copies_left}
+use Rattle.flow_block.specs.Jobs.{out_count}
 use Rattle.flow_block.specs.Peeks.{could_stop, is_out_at_rest, is_copied_out, may_copy, has_group, has_next, may_work, may_begin, may_make, may_complete, next_fault, may_finish, fault_cause, nothing_comes, holds_nothing, is_complete, has_group_of_ports, is_written}
 use Rattle.flow_block.specs.NodeLaw.{EndsLaw, outcome_in}
 use Rattle.flow_block.proofs.JournalTells.{open_tells}
@@ -149,7 +150,7 @@ may_work_tells block e =
 
 pub may_begin_tells : (block : BlockState) → may_begin block ≡ true → MayMake block
 may_begin_tells block e =
-    let few = ltb (length block.jobs.slots) block.jobs.lanes in
+    let few = ltb (out_count block.jobs.slots) block.jobs.lanes in
     let outer =
     and_parts (may_work block && has_work block.kind && few) (ltb (length block.jobs.slots) (length (held_by block))) e in
     let inner = and_parts (may_work block && has_work block.kind) few outer.0 in

@@ -17,7 +17,7 @@ use Rattle.flow_outlet.specs.End.{end_in as out_end}
 use Rattle.flow_outlet.specs.Outlet.{OutletState, lacks_ids, puts}
 use Rattle.flow_group.specs.Tuple.{tuple_of}
 use Rattle.flow_block.specs.Block.{BlockState, port_at, unit_weight, with_jobs, is_join, makes_tuple, job_message, held_by, put_by_kind, values_of_result, put_of, fails, keeps_results, yields, copies_next, makes_of, makes_other, row_of, next_group, makes_row, makes, yields_all, yields_where, put_where, put_next}
-use Rattle.flow_block.specs.Jobs.{Slot, JobsState, no_slot, place_of, is_out, is_front_back, brings, comes_out, AreOf}
+use Rattle.flow_block.specs.Jobs.{Slot, JobsState, no_slot, out_count, place_of, is_out, is_front_back, brings, comes_out, AreOf}
 use Rattle.flow_block.specs.JobsEnd.{JobsEndWell, MayEndJob, EndsWell, ViewsStay, after_job, job_result}
 use Rattle.flow_block.specs.Node.{NodeState, NodeCall, with_block, view_of_in, view_of_out, makes_next_group, next_group_in}
 use Rattle.flow_block.specs.NodeKeeps.{NodesKept, MayMake}
@@ -26,6 +26,7 @@ use Rattle.flow_block.specs.Planned.{block_makes}
 use Rattle.flow_block.proofs.EndsHold.{jobs_change as ends_stay}
 use Rattle.flow_block.proofs.JobsHold.{back_at, makes_by_work, held_next}
 use Rattle.flow_block.proofs.CopierHolds.{jobs_change}
+use Rattle.flow_block.proofs.LanesBusy.{out_set}
 use Rattle.flow_block.proofs.KindsBuilt.{has_one_port, works_alone, works_shared}
 use Rattle.flow_block.proofs.LoadHolds.{jobs_change as load_stays}
 use Rattle.flow_block.proofs.MakesHold.{jobs_change as makes_stay}
@@ -36,27 +37,10 @@ use Rattle.flow_block.proofs.TestsTell.{none_is}
 use Rattle.flow_block.proofs.ViewsMove.{EndsStay, keeping_stays, yielding_stays}
 use Rattle.flow_block.proofs.Joins.{works_unjoined, works_unbatched, works_at_one}
 
--- Other slots, and slots of which nothing has come back
+-- Other slots
 
 abbrev pub with_slots : List Slot → BlockState → BlockState
 with_slots slots block = with_jobs (λ jobs. record jobs { slots = slots }) block
-
-abbrev blank : List Slot → List Slot
-blank slots = map (λ (slot : Slot). None) slots
-
-blank_out : (slots : List Slot) → every is_none (blank slots) ≡ true
-blank_out [] = refl
-blank_out (slot ∷ slots) = blank_out slots
-
-blank_front : (slots : List Slot) → is_front_back (blank slots) ≡ false
-blank_front [] = refl
-blank_front (slot ∷ slots) = refl
-
-blank_of : (result : Value → Result (List Value) ℕ) (held : List Value) (slots : List Slot) → AreOf result held slots
-    → AreOf result held (blank slots)
-blank_of result held [] are = tt
-blank_of result [] (slot ∷ slots) are = absurd are
-blank_of result (value ∷ held) (slot ∷ slots) are = (tt, blank_of result held slots are.1)
 
 -- What a block with a function makes is the same whatever its slots are
 
@@ -66,6 +50,15 @@ keeps_slots Action values slots block works = refl
 keeps_slots Buffer values slots block works = absurd (cc)
 keeps_slots _ [] slots block works = refl
 keeps_slots _ (value ∷ values) slots block works = refl
+
+-- and it has its lanes still
+keeps_lanes : (kind : BlockKind) (values : List Value) (block : BlockState)
+    → (keeps_results kind values block).jobs.lanes ≡ block.jobs.lanes
+keeps_lanes Action values block = refl
+keeps_lanes Buffer [] block = refl
+keeps_lanes Buffer (value ∷ values) block = refl
+keeps_lanes _ [] block = refl
+keeps_lanes _ (value ∷ values) block = refl
 
 -- it goes on as it did
 pub record Goes (block new : BlockState) : Type 0 where
@@ -187,7 +180,7 @@ module _ {W : Type 0} (kept : NodesKept W) (layout : Layout W) (meaning : ℕ �
 
   -- other slots, of which the law of jobs holds
   slots_stand : (block : BlockState) (journal : List Mark) (slots : List Slot) → InOrder block journal
-      → length slots ≤ block.jobs.lanes → (has_work block.kind ≡ false → slots ≡ [])
+      → out_count slots ≤ block.jobs.lanes → (has_work block.kind ≡ false → slots ≡ [])
       → AreOf result (held_by block) slots → (block.fault ≡ None → is_front_back slots ≡ false)
       → InOrder (with_slots slots block) journal
   slots_stand block journal slots law within only_works results drained =
@@ -245,14 +238,14 @@ module _ {W : Type 0} (kept : NodesKept W) (layout : Layout W) (meaning : ℕ �
       ∙ ap (λ (r : Result (List Value) ℕ). yields r block) (sym (makes_by_work result block.kind value works) ∙ is)
 
   made_next : (block : BlockState) (journal : List Mark) (made : Result (List Value) ℕ) (value : Value)
-      (rest : List Value) (slots : List Slot)
+      (rest : List Value)
       → has_work block.kind ≡ true → block.stopped ≡ None → block.fault ≡ None
       → held_by block ≡ value ∷ rest → result value ≡ made
       → lacks_ids (put_by_kind block.kind (values_of_result made)) block.exits ≡ false
-      → InOrder (with_slots (blank slots) block) journal
-      → InOrder (yields made (with_slots (blank slots) block)) journal
-  made_next block journal made value rest slots works going well held is ids law =
-      let old = with_slots (blank slots) block in
+      → InOrder (with_slots [] block) journal
+      → InOrder (yields made (with_slots [] block)) journal
+  made_next block journal made value rest works going well held is ids law =
+      let old = with_slots [] block in
       let node : NodeState = record { block = old; journal = journal; grouped = grouped } in
       let may : MayMake result node = record {
         waits = rw (
@@ -264,7 +257,7 @@ module _ {W : Type 0} (kept : NodesKept W) (layout : Layout W) (meaning : ℕ �
           held,
           works_shared block.kind works,
         ) refl;
-        all_out = blank_out slots;
+        all_out = refl;
         copy_id = λ broadcast. absurd (never_both (is_broadcast block.kind) broadcast (works_shared block.kind works));
         ids = ap (λ (batched : Bool). lacks_ids (cond batched (next_group_in node ∷ []) (put_next result old)) block.exits)
             (works_unbatched block.kind works)
@@ -291,43 +284,42 @@ module _ {W : Type 0} (kept : NodesKept W) (layout : Layout W) (meaning : ℕ �
   -- all that is there comes out in order
   out_keeps : (slots : List Slot) (block : BlockState) (journal : List Mark) (held : List Value)
       → held_by block ≡ held → has_work block.kind ≡ true → block.stopped ≡ None → block.fault ≡ None
-      → AreOf result held slots
+      → out_count slots ≤ block.jobs.lanes → AreOf result held slots
       → lacks_ids (put_by_kind block.kind (comes_out slots)) block.exits ≡ false
-      → InOrder (with_slots (blank slots) block) journal
+      → InOrder (with_slots [] block) journal
       → InOrder (yields_all slots (with_slots slots block)) journal
-  out_keeps [] block journal held same works going well are ids law = law
-  out_keeps (None ∷ slots) block journal held same works going well are ids law =
-      slots_stand (with_slots (blank (None ∷ slots)) block) journal (None ∷ slots) law
-      (subst (λ (n : ℕ). n ≤ block.jobs.lanes) (length-map (None ∷ slots) (λ (slot : Slot). None)) law.jobs.within)
+  out_keeps [] block journal held same works going well within are ids law = law
+  out_keeps (None ∷ slots) block journal held same works going well within are ids law =
+      slots_stand (with_slots [] block) journal (None ∷ slots) law within
       (λ idle. absurd (never_both (has_work block.kind) works idle))
       (subst (λ (vs : List Value). AreOf result vs (None ∷ slots)) (sym same) are)
       (λ none. refl)
-  out_keeps (Some made ∷ slots) block journal [] same works going well are ids law = absurd are
-  out_keeps (Some (Err number) ∷ slots) block journal (value ∷ rest) same works going well are ids law =
+  out_keeps (Some made ∷ slots) block journal [] same works going well within are ids law = absurd are
+  out_keeps (Some (Err number) ∷ slots) block journal (value ∷ rest) same works going well within are ids law =
       let all = Some (Err number) ∷ slots in
       let none = ap (λ (vs : List Value). lacks_ids vs block.exits) (put_nothing block.kind) in
       let failed =
-      made_next block journal (Err number) value rest all works going well same are.0 none law in
+      made_next block journal (Err number) value rest works going well same are.0 none law in
       let held = kept_at_all (λ (port : PortState). port.waiting) port_fails block.ports 0 (λ port. refl) in
-      slots_stand (fails number (with_slots (blank all) block)) journal all failed
-      (subst (λ (n : ℕ). n ≤ block.jobs.lanes) (length-map all (λ (slot : Slot). None)) law.jobs.within)
+      slots_stand (fails number (with_slots [] block)) journal all failed within
       (λ idle. absurd (never_both (has_work block.kind) works idle))
       (subst (λ (vs : List Value). AreOf result vs all) (sym (held ∙ same)) are)
       (λ none_stands. absurd (cc))
-  out_keeps (Some (Ok values) ∷ slots) block journal (value ∷ rest) same works going well are ids law =
+  out_keeps (Some (Ok values) ∷ slots) block journal (value ∷ rest) same works going well within are ids law =
       let all = Some (Ok values) ∷ slots in
       let kind = block.kind in
       let new = keeps_results kind values block in
       let goes = keeps_goes kind values block in
       let made =
-      made_next block journal (Ok values) value rest all works going well same are.0
+      made_next block journal (Ok values) value rest works going well same are.0
       (ids_first kind values (comes_out slots) block.exits ids) law in
-      let mid : InOrder (with_slots (blank slots) new) journal =
-      subst (λ (block : BlockState). InOrder block journal) (keeps_slots kind values (blank all) block works) made in
-      let one = has_one_port layout meaning b (with_slots (blank all) block) law.shape (works_at_one block.kind works) in
+      let mid : InOrder (with_slots [] new) journal =
+      subst (λ (block : BlockState). InOrder block journal) (keeps_slots kind values [] block works) made in
+      let one = has_one_port layout meaning b (with_slots [] block) law.shape (works_at_one block.kind works) in
       subst (λ (block : BlockState). InOrder (yields_all slots block) journal) (sym (keeps_slots kind values all block works))
       (out_keeps slots new journal rest (held_then kind values block value rest one same)
-      (ap has_work goes.kind ∙ works) (goes.stopped ∙ going) (goes.fault ∙ well) are.1
+      (ap has_work goes.kind ∙ works) (goes.stopped ∙ going) (goes.fault ∙ well)
+      (let lanes = keeps_lanes kind values block in omega (arith, within, lanes)) are.1
       (ap (λ (kind : BlockKind). lacks_ids (put_by_kind kind (comes_out slots)) new.exits) goes.kind
       ∙ ids_rest kind values (comes_out slots) block ids)
       mid)
@@ -335,16 +327,12 @@ module _ {W : Type 0} (kept : NodesKept W) (layout : Layout W) (meaning : ℕ �
   -- nothing comes out behind a fault of its own
   where_keeps : (block : BlockState) (journal : List Mark) (slots : List Slot) (well : Bool)
       → is_none block.fault ≡ well → has_work block.kind ≡ true → block.stopped ≡ None
-      → length slots ≤ block.jobs.lanes → AreOf result (held_by block) slots
+      → out_count slots ≤ block.jobs.lanes → AreOf result (held_by block) slots
       → lacks_ids (put_where well block.kind slots) block.exits ≡ false
       → InOrder block journal → InOrder (yields_where well (with_slots slots block)) journal
   where_keeps block journal slots true well works going within are ids law =
-      out_keeps slots block journal (held_by block) refl works going (none_is block.fault well) are ids
-      (slots_stand block journal (blank slots) law
-      (subst (λ (n : ℕ). n ≤ block.jobs.lanes) (sym (length-map slots (λ (slot : Slot). None))) within)
-      (λ idle. absurd (never_both (has_work block.kind) works idle))
-      (blank_of result (held_by block) slots are)
-      (λ none. blank_front slots))
+      out_keeps slots block journal (held_by block) refl works going (none_is block.fault well) within are ids
+      (slots_stand block journal [] law (omega arith) (λ idle. refl) tt (λ none. refl))
   where_keeps block journal slots false fails works going within are ids law =
       slots_stand block journal slots law within
       (λ idle. absurd (never_both (has_work block.kind) works idle)) are
@@ -365,7 +353,7 @@ module _ {W : Type 0} (kept : NodesKept W) (layout : Layout W) (meaning : ℕ �
       let both = and_parts (is_none block.stopped) (is_out ticket block.jobs) may.out in
       where_keeps kept layout meaning b node.grouped block node.journal (set block.jobs.slots k (Some made)) (is_none block.fault) refl works
       (none_is block.stopped both.0)
-      (subst (λ (n : ℕ). n ≤ block.jobs.lanes) (sym (length-set block.jobs.slots k (Some made))) law.jobs.within)
+      (omega (arith, out_set block.jobs.slots k made, law.jobs.within))
       (back_at (block_makes layout meaning b) (held_by block) block.jobs.slots k made
       (λ small. makes_by_work (block_makes layout meaning b) block.kind (job_message ticket block) works) law.jobs.results)
       may.ids law

@@ -24,8 +24,9 @@ use Rattle.flow_outlet.specs.Outlet.{OutletState, head_of, gives}
 use Rattle.flow_link.specs.Plan.{is_one_taker}
 use Rattle.flow_block.specs.Copies.{after_copy}
 use Rattle.flow_block.specs.Block.{BlockState, port_at, with_port, begins, held_by, made_of, yields, keeps_results, makes_of, is_batch, makes_row, stops_by, makes_tuple, copies_it, copies_next, has_ports}
+use Rattle.flow_block.proofs.LanesBusy.{out_begun, out_rest}
 use Rattle.flow_block.proofs.CopiesLeave.{took_by_copy, held_by_copy}
-use Rattle.flow_block.specs.Jobs.{Slot, is_front_back, AreOf}
+use Rattle.flow_block.specs.Jobs.{out_count, Slot, is_front_back, AreOf}
 use Rattle.flow_block.specs.Node.{NodeState, NodeCall, gives_from, copies_by, in_link_at, out_link_at, makes_next_group, holds_in}
 use Rattle.flow_block.proofs.CopiesTaken.{taken_in_keeps, makes_many}
 use Rattle.flow_block.proofs.CopiesIdle.{broadcast_copies, once_copies}
@@ -90,10 +91,6 @@ begun_held result held [] are = omega arith
 begun_held result [] (slot ∷ slots) are = absurd are
 begun_held result (value ∷ held) (slot ∷ slots) are =
     let rest = begun_held result held slots are.1 in omega (arith, rest)
-
-drop_shorter : (slots : List Slot) (most : ℕ) → length slots ≤ most → length (drop 1 slots) ≤ most
-drop_shorter [] most few = few
-drop_shorter (slot ∷ slots) most few = omega (arith, few)
 
 pub makes_by_work : (result : Value → Result (List Value) ℕ) (kind : BlockKind) (value : Value) → has_work kind ≡ true
     → result value ≡ made_of kind result value
@@ -213,16 +210,16 @@ module _ {W : Type 0} (layout : Layout W) (meaning : ℕ → Value → Result (L
   begun node law may =
       let block = node.block in
       let slots = block.jobs.slots in
-      let few = ltb (length slots) block.jobs.lanes in
+      let few = ltb (out_count slots) block.jobs.lanes in
       let held = ltb (length slots) (length (held_by block)) in
       let outer = and_parts (may_work block && has_work block.kind && few) held may in
       let inner = and_parts (may_work block && has_work block.kind) few outer.0 in
       let works = (and_parts (may_work block) (has_work block.kind) inner.0).1 in
-      let room = ltb-true (length slots) block.jobs.lanes inner.1 in
+      let room = ltb-true (out_count slots) block.jobs.lanes inner.1 in
       record {
         lanes_are = law.lanes_are;
         some_lane = law.some_lane;
-        within = rw (length-append slots (None ∷ [])) (omega (arith, room));
+        within = omega (arith, room, out_begun slots);
         only_works = λ none. absurd (never_both (has_work block.kind) works none);
         results = begun_more (block_makes layout meaning b) (held_by block) slots
             (ltb-true (length slots) (length (held_by block)) outer.1) law.results;
@@ -245,7 +242,7 @@ module _ {W : Type 0} (layout : Layout W) (meaning : ℕ → Value → Result (L
       record {
         lanes_are = rw jobs law.lanes_are;
         some_lane = rw jobs law.some_lane;
-        within = rw jobs (drop_shorter block.jobs.slots block.jobs.lanes law.within);
+        within = rw jobs (omega (arith, out_rest block.jobs.slots, law.within));
         only_works = λ none. absurd (never_both (has_work block.kind) works (rw (← kind) none));
         results = rw (held, jobs) (done_first (block_makes layout meaning b) value rest block.jobs.slots are);
         drained = λ well. rw jobs (front_out block.jobs.slots out);

@@ -6,7 +6,7 @@ use Rattle.flow_value.specs.declared.value.Value.{Value}
 use Rattle.flow_link.specs.Plan.{has_work}
 use Rattle.flow_link.proofs.ListTests.{never_both}
 use Rattle.flow_block.specs.Block.{BlockState, held_by, is_batch, is_join, is_batched_join}
-use Rattle.flow_block.specs.Jobs.{Slot, JobsState, no_slot, is_out, is_front_back}
+use Rattle.flow_block.specs.Jobs.{Slot, JobsState, no_slot, out_count, is_out, is_front_back}
 use Rattle.flow_outlet.specs.Outlet.{is_empty}
 use Rattle.flow_block.specs.Peeks.{may_copy, has_next, may_work, may_make, may_begin, may_end}
 
@@ -36,13 +36,14 @@ module _ (block : BlockState) (going : block.stopped ≡ None) (well : block.fau
       (and_from (may_work block) (not (has_work block.kind)) (works_on value rest is) (ap not idle)) makes
   goes_on value rest is true works [] at =
       let none : length block.jobs.slots ≡ 0 = ap (λ (slots : List Slot). length slots) at in
+      let none_out : out_count block.jobs.slots ≡ 0 = ap out_count at in
       let some : length (held_by block) ≡ length (value ∷ rest) = ap (λ (vs : List Value). length vs) is in
       never_both (may_begin block)
-      (and_from (may_work block && has_work block.kind && ltb (length block.jobs.slots) block.jobs.lanes)
+      (and_from (may_work block && has_work block.kind && ltb (out_count block.jobs.slots) block.jobs.lanes)
       (ltb (length block.jobs.slots) (length (held_by block)))
-      (and_from (may_work block && has_work block.kind) (ltb (length block.jobs.slots) block.jobs.lanes)
+      (and_from (may_work block && has_work block.kind) (ltb (out_count block.jobs.slots) block.jobs.lanes)
       (and_from (may_work block) (has_work block.kind) (works_on value rest is) works)
-      (lt-ltb (length block.jobs.slots) block.jobs.lanes (omega (arith, none, lane))))
+      (lt-ltb (out_count block.jobs.slots) block.jobs.lanes (omega (arith, none_out, lane))))
       (lt-ltb (length block.jobs.slots) (length (held_by block)) (omega (arith, none, some))))
       begins
   goes_on value rest is true works (None ∷ slots) at =

@@ -53,6 +53,7 @@ pub mod JournalTells
 pub mod Joins
 pub mod JoinsEnd
 pub mod KindsBuilt
+pub mod LanesBusy
 pub mod LinksFit
 pub mod LoadHolds
 pub mod MakesHold

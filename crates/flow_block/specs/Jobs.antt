@@ -1,6 +1,6 @@
 -- The jobs of a block: the messages that it works on, which are those that it holds first, and the results that have come back.
--- Results come out in the order of their messages, so one that comes back early waits in its slot.
-use Rattle.std.specs.Prelude.{◌≡◌, ℕ, ◌+◌, ◌-◌, ◌^◌, leb, ltb, Bool, false, ◌&&◌, List, [], ◌∷◌, ◌++◌, length, drop, get_or, set, Option, Some, None, is_none, is_some, Result, Ok, Err}
+-- Results come out in the order of their messages, so one that comes back early waits in its slot, and keeps no lane busy.
+use Rattle.std.specs.Prelude.{◌≡◌, ℕ, ◌+◌, ◌-◌, ◌^◌, leb, ltb, Bool, false, ◌&&◌, List, [], ◌∷◌, ◌++◌, length, drop, get_or, set, count_by, Option, Some, None, is_none, is_some, Result, Ok, Err}
 use Rattle.std.specs.declared.alloc.Global.{Global}
 use Rattle.std.specs.declared.vec.Vec.{Vec}
 use Rattle.flow_value.specs.declared.value.Value.{Value}
@@ -15,11 +15,11 @@ abbrev pub Slot : Type 0
 Slot = Option (Result (List Value) ℕ)
 
 pub record JobsState : Type 0 where
-  -- how many messages may be worked on at once
+  -- how many messages may be out at once
   pub lanes : ℕ
   -- the ticket of the message that is held first; tickets count the messages in the order in which they were taken
   pub first : ℕ
-  -- the messages that are worked on, oldest first
+  -- the messages that are worked on, or whose results wait for those before them, oldest first
   pub slots : List Slot
 
 abbrev pub fresh_jobs : ℕ → JobsState
@@ -38,6 +38,10 @@ place_of ticket jobs = ticket - jobs.first
 
 abbrev pub is_out : ℕ → JobsState → Bool
 is_out ticket jobs = leb jobs.first ticket && is_none (slot_at (place_of ticket jobs) jobs)
+
+-- how many tickets are out: each keeps a lane busy until its result has come back
+abbrev pub out_count : List Slot → ℕ
+out_count slots = count_by (λ (slot : Slot). is_none slot) slots
 
 -- the result of the message that is held first has come back
 abbrev pub is_front_back : List Slot → Bool

@@ -36,7 +36,7 @@ use Rattle.flow_group.specs.Tuples.{TuplesLaw}
 use Rattle.flow_block.specs.Block.{BlockState, port_at, held_by, is_batch, is_join, is_batched_join}
 use Rattle.flow_block.specs.Copier.{Copier}
 use Rattle.flow_block.specs.Copies.{copies_weight, shared_rules}
-use Rattle.flow_block.specs.Jobs.{AreOf, is_front_back}
+use Rattle.flow_block.specs.Jobs.{out_count, AreOf, is_front_back}
 use Rattle.flow_block.specs.Node.{NodeState}
 use Rattle.flow_block.specs.Peeks.{is_pending, holds_nothing}
 use Rattle.flow_block.specs.Planned.{lanes_of, size_of, links_to, links_from, rule_of, block_makes, room_of}
@@ -231,11 +231,12 @@ module _ {W : Type 0} (layout : Layout W) (meaning : ℕ → Value → Result (L
     pub makes : MakesAs (block_makes layout meaning b) block.kind (took journal) (held_by block) (gave journal) block.exits.left block.recorded
     pub fault_is : (number : ℕ) → block.fault ≡ Some number → FaultsOn (block_makes layout meaning b) block.kind (held_by block) number
 
-  -- it works on the messages that it holds first, no more than it has lanes, and the results that came back are theirs
+  -- it works on the messages that it holds first, no more of them are out than it has lanes, and the results that came back are
+  -- theirs
   pub record JobsLaw (block : BlockState) (journal : List Mark) : Type 0 where
     pub lanes_are : block.jobs.lanes ≡ lanes_of layout b
     pub some_lane : 0 < block.jobs.lanes
-    pub within : length block.jobs.slots ≤ block.jobs.lanes
+    pub within : out_count block.jobs.slots ≤ block.jobs.lanes
     pub only_works : has_work block.kind ≡ false → block.jobs.slots ≡ []
     pub results : AreOf (block_makes layout meaning b) (held_by block) block.jobs.slots
     -- a result that came back in its turn came out, unless it is the fault of the block's own function

@@ -11,7 +11,7 @@ use Rattle.flow_spread.specs.Spread.{SpreadState, is_spread_free, is_at_rest as 
 use Rattle.flow_group.specs.Tuple.{has_tuple, is_join_complete, all_ended as ports_ended}
 use Rattle.flow_block.specs.Block.{BlockState, port_at, held_by, is_batch, is_join, is_batched_join}
 use Rattle.flow_block.specs.Copies.{copies_left, may_put}
-use Rattle.flow_block.specs.Jobs.{is_out}
+use Rattle.flow_block.specs.Jobs.{out_count, is_out}
 use Rattle.flow_block.specs.Groups.{has_group_at}
 use Rattle.flow_block.specs.Node.{NodeState, puts_next}
 
@@ -77,11 +77,11 @@ lacks_next result node =
     cond (is_broadcast node.block.kind) (leb (2 ^ 59) (node.block.copies.id + 1))
     (lacks_ids (puts_next result node) node.block.exits)
 
--- it may work on one more of the messages that it holds
+-- it may work on one more of the messages that it holds: a lane is free, and not all that wait are begun
 abbrev pub may_begin : BlockState → Bool
 may_begin block =
     may_work block && has_work block.kind
-    && ltb (length block.jobs.slots) block.jobs.lanes && ltb (length block.jobs.slots) (length (held_by block))
+    && ltb (out_count block.jobs.slots) block.jobs.lanes && ltb (length block.jobs.slots) (length (held_by block))
 
 -- the result of this job may come back
 abbrev pub may_end : ℕ → BlockState → Bool

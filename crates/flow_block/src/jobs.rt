@@ -4,7 +4,7 @@ ghost use Rattle.std.specs.Prelude.{is_some, Some, Ok, Err, IfSome, OnOk, OnErr}
 ghost use Rattle.std.specs.Option.{IfNone};
 ghost use Rattle.flow_link.specs.Making.{result_of};
 ghost use Rattle.flow_block.specs.Jobs.{fresh_jobs, begins, has_ticket, works_off, is_out, place_of, brings};
-ghost use Rattle.flow_block.specs.Jobs.{faults_at_once, comes_out};
+ghost use Rattle.flow_block.specs.Jobs.{faults_at_once, comes_out, out_count};
 ghost use Rattle.flow_block.specs.JobsOut.{is_front_made, front_fault};
 
 use flow_link::BlockKind;
@@ -91,13 +91,16 @@ pub(crate) struct Jobs {
     /// The ticket of the message that is held first.
     first: u64,
     slots: VecDeque<Option<Answer>>,
+    /// How many tickets are out: of how many slots the result has not come back.
+    out: usize,
 }
 
 impl Model for Jobs {
     ghost use Rattle.std.specs.Coded.{codes};
     ghost use Rattle.std.specs.Prelude.{◌<◌, ◌+◌, ◌^◌, length};
     ghost use Rattle.flow_value.specs.contracts.value.Value as content;
-    ghost use Rattle.flow_block.specs.Jobs.{JobsState};
+    ghost use Rattle.std.specs.Prelude.{◌≡◌};
+    ghost use Rattle.flow_block.specs.Jobs.{JobsState, out_count};
 
     ghost Value = { JobsState };
 
@@ -105,7 +108,7 @@ impl Model for Jobs {
 
     ghost view = { λ j. record { lanes = j.lanes; first = j.first; slots = j.slots.items } };
 
-    ghost invariant = { λ j. j.first + length j.slots.items < 2 ^ 64 };
+    ghost invariant = { λ j. (j.first + length j.slots.items < 2 ^ 64) × (j.out ≡ out_count j.slots.items) };
 }
 
 impl Jobs {
@@ -117,17 +120,25 @@ impl Jobs {
             lanes,
             first: 0,
             slots: VecDeque::new(alloc),
+            out: 0,
         }
     }
 
-    /// How many messages are worked on.
+    /// How many messages are worked on, or have results that wait for those before them.
     pub(crate) fn len(&self) -> usize
         ensures { result ≡ length self.now.slots }
     {
         self.slots.len()
     }
 
-    /// How many may be worked on at once.
+    /// How many tickets are out: each keeps a lane busy.
+    pub(crate) fn out_count(&self) -> usize
+        ensures { result ≡ out_count self.now.slots }
+    {
+        self.out
+    }
+
+    /// How many may be out at once.
     pub(crate) fn lanes(&self) -> usize
         ensures { result ≡ self.now.lanes }
     {
@@ -135,6 +146,7 @@ impl Jobs {
     }
 
     /// One message more is worked on. It is refused too where tickets are used up, after 2^64 - 1 of them.
+    #[tactic(auto, using(crate::proofs::LanesBusy::out_at_most, crate::proofs::LanesBusy::out_begun))]
     pub(crate) fn begin(&mut self) -> Result<(), AllocError>
         ensures done { OnOk result (self.new ≡ begins self.old) }
         ensures kept { OnErr result (self.new ≡ self.old) }
@@ -144,6 +156,7 @@ impl Jobs {
         }
         self.slots.reserve(1)?;
         self.slots.push_back_reserved(None);
+        self.out += 1;
         Ok(())
     }
 
@@ -206,12 +219,14 @@ impl Jobs {
     }
 
     /// The result of a message comes back.
+    #[tactic(auto, using(crate::proofs::LanesBusy::out_back))]
     pub(crate) fn bring(&mut self, ticket: u64, answer: Answer)
         requires { is_out ticket self.old ≡ true }
         ensures { self.new ≡ brings ticket answer self.old }
     {
         let place = self.place(ticket);
         self.slots[place] = Some(answer);
+        self.out -= 1;
     }
 
     /// How many values come out where this is the result of the message that is held first; 2^64 - 1 of them stand for
@@ -233,6 +248,7 @@ impl Jobs {
     }
 
     /// The results that are there first come out of their slot, unless they are a fault.
+    #[tactic(auto, using(crate::proofs::LanesBusy::out_behind))]
     pub(crate) fn pop_out(&mut self) -> Option<Vec<Value>>
         ensures none { IfNone result (is_front_made self.old.slots ≡ false) }
         ensures kept { IfNone result (self.new ≡ self.old) }

@@ -88,16 +88,15 @@ impl Block {
         self.may_work() && !has_work(self.kind)
     }
 
-    /// Whether it may work on one more of the messages that it holds.
+    /// Whether it may work on one more of the messages that it holds: a lane is free, and not all of them are begun.
     pub fn may_begin(&self) -> bool
         requires { 0 < length self.now.ports }
         ensures { result ≡ may_begin self.now }
     {
-        let begun = self.jobs.len();
         self.may_work()
             && has_work(self.kind)
-            && begun < self.jobs.lanes()
-            && begun < self.ports[0].waiting().len()
+            && self.jobs.out_count() < self.jobs.lanes()
+            && self.jobs.len() < self.ports[0].waiting().len()
     }
 
     /// Whether the result of the job with this ticket may come back.

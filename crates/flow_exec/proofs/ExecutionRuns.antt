@@ -11,8 +11,9 @@ use Rattle.flow_link.proofs.ListTests.{never_both}
 use Rattle.flow_intake.specs.Port.{PortState}
 use Rattle.flow_intake.specs.Calls.{port_fails}
 use Rattle.flow_block.specs.Block.{BlockState, held_by, with_jobs, keeps_results, begins, ends_job, yields_all, yields_where}
-use Rattle.flow_block.specs.Jobs.{Slot, JobsState, place_of, is_front_back, brings, works_off}
+use Rattle.flow_block.specs.Jobs.{Slot, JobsState, out_count, place_of, is_front_back, brings, works_off}
 use Rattle.flow_block.specs.Peeks.{may_begin, may_work}
+use Rattle.flow_block.proofs.LanesBusy.{out_begun, out_set}
 use Rattle.flow_block.proofs.JobsEnd.{keeps_goes, ports_stay, held_then}
 use Rattle.flow_block.proofs.PortsChange.{kept_at_all}
 use Rattle.flow_exec.specs.Execution.{Runs}
@@ -29,7 +30,7 @@ record WorksOn (slots : List Slot) (block : BlockState) : Type 0 where
   one_port : length block.ports ≡ 1
   works : has_work block.kind ≡ true
   slots_are : block.jobs.slots ≡ slots
-  within : length slots ≤ block.jobs.lanes
+  within : out_count slots ≤ block.jobs.lanes
   held : length slots ≤ length (held_by block)
 
 runs_on : (slots : List Slot) (block : BlockState) → WorksOn slots block
@@ -37,7 +38,7 @@ runs_on : (slots : List Slot) (block : BlockState) → WorksOn slots block
 runs_on slots block on drained = record {
   one_port = on.one_port;
   works = on.works;
-  within = subst (λ (slots : List Slot). length slots ≤ block.jobs.lanes) (sym on.slots_are) on.within;
+  within = subst (λ (slots : List Slot). out_count slots ≤ block.jobs.lanes) (sym on.slots_are) on.within;
   held = subst (λ (slots : List Slot). length slots ≤ length (held_by block)) (sym on.slots_are) on.held;
   drained = λ none. ap is_front_back on.slots_are ∙ drained none;
 }
@@ -54,7 +55,7 @@ all_runs (Some (Err number) ∷ slots) held block holds on =
     record {
       one_port = length-map block.ports port_fails ∙ on.one_port;
       works = on.works;
-      within = subst (λ (slots : List Slot). length slots ≤ block.jobs.lanes) (sym on.slots_are) on.within;
+      within = subst (λ (slots : List Slot). out_count slots ≤ block.jobs.lanes) (sym on.slots_are) on.within;
       held = omega (arith, same, on.held, ap (λ (slots : List Slot). length slots) on.slots_are);
       drained = λ none. absurd (cc);
     }
@@ -88,7 +89,7 @@ ends_runs ticket made block runs =
       one_port = runs.one_port;
       works = runs.works;
       slots_are = refl;
-      within = omega (arith, same, runs.within);
+      within = omega (arith, out_set block.jobs.slots (place_of ticket block.jobs) made, runs.within);
       held = omega (arith, same, runs.held);
     })
 
@@ -100,15 +101,15 @@ front_stays (slot ∷ slots) none = none
 pub begins_runs : (block : BlockState) → may_begin block ≡ true → Runs block → Runs (begins block)
 begins_runs block may runs =
     let slots = block.jobs.slots in
-    let held = and_parts (may_work block && has_work block.kind && ltb (length slots) block.jobs.lanes)
+    let held = and_parts (may_work block && has_work block.kind && ltb (out_count slots) block.jobs.lanes)
     (ltb (length slots) (length (held_by block))) may in
-    let lanes = and_parts (may_work block && has_work block.kind) (ltb (length slots) block.jobs.lanes) held.0 in
-    let free = ltb-true (length slots) block.jobs.lanes lanes.1 in
+    let lanes = and_parts (may_work block && has_work block.kind) (ltb (out_count slots) block.jobs.lanes) held.0 in
+    let free = ltb-true (out_count slots) block.jobs.lanes lanes.1 in
     let waits = ltb-true (length slots) (length (held_by block)) held.1 in
     record {
       one_port = runs.one_port;
       works = runs.works;
-      within = omega (arith, free, length-append slots (None ∷ []));
+      within = omega (arith, free, out_begun slots);
       held = omega (arith, waits, length-append slots (None ∷ []));
       drained = λ none. front_stays slots (runs.drained none);
     }

@@ -13,7 +13,7 @@ use Rattle.flow_outlet.specs.declared.fault.OutletFault.{OutletFault}
 use Rattle.flow_outlet.specs.declared.fault.OutletFault.TheVariants as outlet
 use Rattle.flow_block.specs.Block.{BlockState, held_by, job_message, begins, ends_job, put_by_job}
 use Rattle.flow_block.specs.BlockFits.{fresh_block}
-use Rattle.flow_block.specs.Jobs.{is_front_back}
+use Rattle.flow_block.specs.Jobs.{out_count, is_front_back}
 use Rattle.flow_block.specs.Peeks.{may_end}
 use Rattle.flow_exec.specs.Jobs.{work_in, kind_in, message_in, ticket_in}
 use Rattle.flow_exec.specs.Works.{results_by}
@@ -30,8 +30,8 @@ pub record ExecutionState (W : Type 0) : Type 0 where
 pub record Runs (block : BlockState) : Type 0 where
   pub one_port : length block.ports ≡ 1
   pub works : has_work block.kind ≡ true
-  -- it works on no more messages than it has lanes, and on none that it does not hold
-  pub within : length block.jobs.slots ≤ block.jobs.lanes
+  -- no more messages are out than it has lanes, and it works on none that it does not hold
+  pub within : out_count block.jobs.slots ≤ block.jobs.lanes
   pub held : length block.jobs.slots ≤ length (held_by block)
   -- what came back in its turn came out, unless it is a fault
   pub drained : block.fault ≡ None → is_front_back block.jobs.slots ≡ false

@@ -163,7 +163,8 @@ impl<W> Execution<W> {
         }
     }
 
-    /// What holds of each of them: it has one port, and works on no more messages than it has lanes and holds.
+    /// What holds of each of them: it has one port, no more of its jobs are out than it has lanes, and it works on no more
+    /// messages than it holds.
     pub fn runs(&self)
         ensures { Runs self.now.block }
     {
@@ -210,7 +211,8 @@ impl<W: Work> Execution<W> {
     ghost use Rattle.flow_exec.specs.declared.fault.EndFault.TheVariants.{Strange, Ids};
 
     /// Begins a job of the oldest message that is not worked on yet. There is none where nothing waits, where all lanes
-    /// are busy, and where the block has faulted or stopped. It is refused where memory is out, and where tickets are
+    /// are busy, and where the block has faulted or stopped. A lane is busy until the result is back, and not while that
+    /// waits for an earlier one. It is refused where memory is out, and where tickets are
     /// used up, after 2^64 - 1 of them.
     pub fn begin(&mut self, alloc: Global) -> Result<Option<Job<W>>, AllocError>
         ensures none { (result ≡ Ok None) ↔ (may_begin self.old.block ≡ false) }
