@@ -8,3 +8,6 @@ pub mod CarriedValues
 pub mod LinksCopied
 pub mod MovesAllowed
 pub mod SendsOver
+pub mod NumberedElements
+pub mod ElementsAccounted
+pub mod AnyTarget

@@ -85,7 +85,7 @@ moved_had {older} {given} {element} {rule = rule} {owes = owes} had stage' owes'
 }
 
 -- the end at a place, where one end changes
-at_change : (P : CopyEnd → Type 0) (s : SpreadState) (j k : ℕ) (end : CopyEnd) → j < length s.ends
+pub at_change : (P : CopyEnd → Type 0) (s : SpreadState) (j k : ℕ) (end : CopyEnd) → j < length s.ends
     → P (end_at s k) → (k ≡ j → P end) → P (end_at (changes j end s) k)
 at_change P s j k end here elsewhere at_j = elim (cases_eq k j) [
   | inl same ↦ rw (same, get_or-set_same s.ends j end no_end here) (at_j same)
@@ -127,7 +127,7 @@ once_or_late true false late = inr (refl, late)
 
 -- What is given
 
-is_kept : (rule : LinkRule) (value : Value) (element : Option Value) → element ≡ Some value → admits_head rule.when element ≡ true
+pub is_kept : (rule : LinkRule) (value : Value) (element : Option Value) → element ≡ Some value → admits_head rule.when element ≡ true
     → admits rule.when value ≡ true
 is_kept rule value None is e = cc
 is_kept rule value (Some v) is e = let same : v ≡ value = cc in subst (λ (w : Value). admits rule.when w ≡ true) same e
@@ -198,14 +198,14 @@ given_had {older} {given} {element} {id} end value is law spoken out_or_off taki
 
 -- A new element
 
-closed_or_turned_away : (over cut admitted : Bool) → (not (over || cut) && admitted) ≡ false → (over ≡ true → cut ≡ true)
+pub closed_or_turned_away : (over cut admitted : Bool) → (not (over || cut) && admitted) ≡ false → (over ≡ true → cut ≡ true)
     → (cut || not admitted) ≡ true
 closed_or_turned_away over true admitted e f = refl
 closed_or_turned_away over false false e f = refl
 closed_or_turned_away false false true e f = cc
 closed_or_turned_away true false true e f = let no : false ≡ true = f refl in cc
 
-not_is : (b : Bool) → not b ≡ true → b ≡ false
+pub not_is : (b : Bool) → not b ≡ true → b ≡ false
 not_is true e = cc
 not_is false e = refl
 
@@ -214,7 +214,7 @@ refused_before Refused e = cc
 refused_before (Waiting _) e = refl
 refused_before stage e = e
 
-over_before : (stage : SourceStage) → is_over (forgotten_stage stage) ≡ true → forgotten_stage stage ≡ stage
+pub over_before : (stage : SourceStage) → is_over (forgotten_stage stage) ≡ true → forgotten_stage stage ≡ stage
 over_before (Waiting _) e = cc
 over_before stage e = refl
 
@@ -268,7 +268,7 @@ put_had {older} {given} {element} {id} end value law owes had =
 
 -- One call
 
-abbrev older_by : Call → Course → List Value → List Value
+abbrev pub older_by : Call → Course → List Value → List Value
 older_by (Call.put value) c older = older ++ listed c.spread.element
 older_by _ c older = older
 
@@ -301,14 +301,14 @@ with_none : {older given : List Value} {element : Option Value} {id : ℕ} {rule
 with_none {older} {given} {element} {id} {rule} {count} {last} {stage} {owes} had =
     subst (λ (gs : List Value). HadSoFar older gs element id rule count last stage owes) (sym (append-nil given)) had
 
-some_value : {Q : Type 0} (element : Option Value) → is_some element ≡ true → ((value : Value) → element ≡ Some value → Q) → Q
+pub some_value : {Q : Type 0} (element : Option Value) → is_some element ≡ true → ((value : Value) → element ≡ Some value → Q) → Q
 some_value None e f = absurd (cc)
 some_value (Some value) e f = f value refl
 
-other_number : (j k : ℕ) → k ≢ j → (j == k) ≡ false
+pub other_number : (j k : ℕ) → k ≢ j → (j == k) ≡ false
 other_number j k other = false_from_ne_true (j == k) (λ e. let same : j ≡ k = grind (arith, nat_tests) in other (sym same))
 
-same_number : (j : ℕ) → (j == j) ≡ true
+pub same_number : (j : ℕ) → (j == j) ≡ true
 same_number j = grind (arith, nat_tests)
 
 module _ {first : ℕ} {pending : Bool} {stopped : Option Outcome} (s : SpreadState) (law : SpreadLaw first pending stopped s) (j : ℕ) (here : j < length s.ends) (k : ℕ) {older given : List Value} (had : HadBy older given s.element s.id (end_at s k)) where
@@ -456,7 +456,7 @@ step_had first (Call.stop outcome) c may law k here had = with_none had
 
 -- All calls
 
-same_count : (call : Call) (c : Course) → length (after call c).spread.ends ≡ length c.spread.ends
+pub same_count : (call : Call) (c : Course) → length (after call c).spread.ends ≡ length c.spread.ends
 same_count (Call.put value) c = length-map c.spread.ends (takes_up value)
 same_count (Call.prepare k) c = length-set c.spread.ends k _
 same_count (Call.offer k) c = length-set c.spread.ends k _
@@ -469,7 +469,7 @@ same_count (Call.answer k header status) c = length-set c.spread.ends k _
 same_count Call.fault c = refl
 same_count (Call.stop outcome) c = refl
 
-one_put : (call : Call) (c : Course) (older : List Value)
+pub one_put : (call : Call) (c : Course) (older : List Value)
     → older_by call c older ++ listed (after call c).spread.element ≡ (older ++ listed c.spread.element) ++ put_by call
 one_put (Call.put value) c older = refl
 one_put (Call.prepare k) c older = sym (append-nil (older ++ listed c.spread.element))

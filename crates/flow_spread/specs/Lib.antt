@@ -1,3 +1,4 @@
+pub mod Accounts
 pub mod ByLink
 pub mod Copied
 pub mod End

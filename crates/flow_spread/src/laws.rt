@@ -1,4 +1,5 @@
 //! Laws about copies. Each stands on a function that does nothing: whoever calls it has the whole law.
+ghost use Rattle.flow_spread.specs.Accounts.{EachLinkHasItsAccounts};
 ghost use Rattle.flow_spread.specs.Copied.{EachLinkHasItsCopies};
 ghost use Rattle.flow_spread.specs.Keeps.{CallsKeepLaw, LawTells};
 ghost use Rattle.flow_spread.specs.Moves.{MovesAreAllowed, OffersInOrder};
@@ -19,6 +20,15 @@ pub fn calls_keep_the_law()
 #[tactic(auto, using(crate::proofs::LinksCopied::each_link_has))]
 pub fn each_link_has_its_copies()
     ensures { EachLinkHasItsCopies }
+{}
+
+/// Over any calls, whatever its target answers, each link is given some of the elements that were put, each once at most and
+/// in their order. They are admitted by its predicate, and no more than its limit. It lacks an element only where its
+/// predicate turns that away, its target declined it or put it off or had refused by then, or the link had carried its limit
+/// before; or where it still owes it, which is the newest.
+#[tactic(auto, using(crate::proofs::AnyTarget::each_link_accounts))]
+pub fn each_link_has_its_accounts()
+    ensures { EachLinkHasItsAccounts }
 {}
 
 /// What an end does next by itself, by the law of a spread, is what the call of that move requires.

@@ -25,7 +25,8 @@ mod spread;
 
 pub use end::CopyEnd;
 pub use laws::{
-    calls_keep_the_law, each_link_has_its_copies, next_moves_are_allowed, offers_go_in_order,
+    calls_keep_the_law, each_link_has_its_accounts, each_link_has_its_copies,
+    next_moves_are_allowed, offers_go_in_order,
 };
 pub use share::Share;
 pub use spread::Spread;
