@@ -1,5 +1,8 @@
 pub mod CallsLeave
+pub mod CopiesByRule
+pub mod CopiesFollow
 pub mod CopiesGiven
+pub mod ExitsAsked
 pub mod ExitsGo
 pub mod GroupsCounted
 pub mod GroupsKept

@@ -19,18 +19,22 @@ use Rattle.flow_outlet.specs.Law.{may_go_past}
 use Rattle.flow_outlet.specs.Outlet.{OutletState, head_of, may_offer, lacks_ids, is_empty, end_at}
 use Rattle.flow_block.specs.Block.{BlockState, held_by, is_batch, is_join, row_of, next_group, with_port, makes_row, makes_tuple, puts_out, copies_next, copies_at_once, copies_where, copies_taken, stops_by}
 use Rattle.flow_block.specs.Traits.{outcome_of, faults, makes_alone, has_turn, makes_its_next, Makes, carries, offers_over, source_by, offer_by, offer_next, offered_by, answered_by, may_take, taken_by, gives_over, given_by, with_port_of, wishing_port, wishes, notes}
-use Rattle.flow_history.specs.Calls.{Call, Does}
+use Rattle.flow_history.specs.Calls.{Call, MayCall, Does}
 use Rattle.flow_history.specs.History.{Gift, gifts_of, gave_by}
-use Rattle.flow_history.specs.Ordered.{MayCallSteadily, GoesInOrder}
+use Rattle.flow_history.specs.Ordered.{AnswersSteadily, GoesInOrder}
 use Rattle.flow_history.proofs.ExitsGo.{no_head}
 use Rattle.flow_history.proofs.RulesKept.{GoesByRule, puts_by_rule, offers_by_rule, answers_by_rule, gives_by_rule, goes_past}
 
+-- a call that may be made; where targets are asked to, one answers by rule
+abbrev pub MayCallAsked : Bool → Call → BlockState → Type 0
+MayCallAsked sure call block = MayCall call block × (sure ≡ true → AnswersSteadily call block.exits)
+
 -- What is made is put behind the rest
 
-module _ (gave : List Gift) (old : BlockState) (goes : GoesByRule gave old.exits) where
-  handed_by_rule : (held : List Value) → lacks_ids (take 1 held) old.exits ≡ false → GoesByRule gave (puts_out (take 1 held) old).exits
+module _ (sure : Bool) (gave : List Gift) (old : BlockState) (goes : GoesByRule sure gave old.exits) where
+  handed_by_rule : (held : List Value) → lacks_ids (take 1 held) old.exits ≡ false → GoesByRule sure gave (puts_out (take 1 held) old).exits
   handed_by_rule [] has = goes
-  handed_by_rule (value ∷ held) has = puts_by_rule gave old.exits (value ∷ []) _ has goes
+  handed_by_rule (value ∷ held) has = puts_by_rule sure gave old.exits (value ∷ []) _ has goes
 
   abbrev made_by_kind : BlockKind → List Value
   made_by_kind kind =
@@ -44,13 +48,13 @@ module _ (gave : List Gift) (old : BlockState) (goes : GoesByRule gave old.exits
 
   by_kind : (kind : BlockKind) (ports : ℕ) → is_one_taker kind ≡ true → makes_alone kind ports ≡ true
       → cond (is_broadcast kind) (leb (2 ^ 59) (old.copies.id + 1)) (lacks_ids (made_by_kind kind) old.exits) ≡ false
-      → GoesByRule gave (next_by_kind kind).exits
+      → GoesByRule sure gave (next_by_kind kind).exits
   by_kind Buffer ports one alone has = handed_by_rule (held_by old) has
-  by_kind Batch ports one alone has = puts_by_rule gave old.exits (row_of (next_group old) ∷ []) _ has goes
-  by_kind Join ports one alone has = puts_by_rule gave old.exits (tuple_of old.ports ∷ []) _ has goes
+  by_kind Batch ports one alone has = puts_by_rule sure gave old.exits (row_of (next_group old) ∷ []) _ has goes
+  by_kind Join ports one alone has = puts_by_rule sure gave old.exits (tuple_of old.ports ∷ []) _ has goes
   by_kind _ ports one alone has = absurd (cc)
 
-  made_by_rule : is_one_taker old.kind ≡ true → Makes false old → GoesByRule gave (makes_its_next old).exits
+  made_by_rule : is_one_taker old.kind ≡ true → Makes false old → GoesByRule sure gave (makes_its_next old).exits
   made_by_rule one may =
       let alone = (and_parts (makes_alone old.kind (length old.ports)) (has_turn (is_broadcast old.kind) old) may.by_itself).0 in
       by_kind old.kind (length old.ports) one alone may.ids
@@ -73,9 +77,9 @@ module _ (gave : List Gift) (old : BlockState) (goes : GoesByRule gave old.exits
       next_stays (Some value) = refl
   copied_stay arrived false = refl
 
-  offered_by_rule : (place : Option ℕ) → offer_next old ≡ place → is_one_taker old.kind ≡ true → GoesByRule gave (offered_by true place old).exits
+  offered_by_rule : (place : Option ℕ) → offer_next old ≡ place → is_one_taker old.kind ≡ true → GoesByRule sure gave (offered_by true place old).exits
   offered_by_rule None is one = goes
-  offered_by_rule (Some k) is one = offers_by_rule gave old.exits k (named (may_offer old.exits) next) goes
+  offered_by_rule (Some k) is one = offers_by_rule sure gave old.exits k (named (may_offer old.exits) next) goes
     where
       next : cond (is_some old.stopped) None (offers_over old.exits (may_offer old.exits)) ≡ Some k
       next = sym (ap (λ (b : Bool). cond (is_some old.stopped) None (offer_by b old)) one) ∙ is
@@ -93,9 +97,9 @@ module _ (gave : List Gift) (old : BlockState) (goes : GoesByRule gave old.exits
       named None e = absurd (none_named (is_some old.stopped) e)
       named (Some j) e = from_where (is_some old.stopped) (carries j old.exits.ends) j e
 
-  nothing_given : (value : Option Value) (link : ℕ) → value ≡ None → GoesByRule (gave ++ gifts_of link value) old.exits
+  nothing_given : (value : Option Value) (link : ℕ) → value ≡ None → GoesByRule sure (gave ++ gifts_of link value) old.exits
   nothing_given value link none =
-      subst (λ (gifts : List Gift). GoesByRule gifts old.exits)
+      subst (λ (gifts : List Gift). GoesByRule sure gifts old.exits)
       (sym (ap (λ (v : Option Value). gave ++ gifts_of link v) none ∙ append-nil gave)) goes
 
   -- the head, where it is given
@@ -106,7 +110,7 @@ module _ (gave : List Gift) (old : BlockState) (goes : GoesByRule gave old.exits
   head_there link header takes = (and_parts (tests_consume (place_of link old.exits.ends) header old.exits) (is_head header old.exits) takes).1
 
   consumed_by_rule : (link header : ℕ) (value : Option Value) (taken : Bool) → may_take link header old.exits ≡ taken
-      → value ≡ cond taken (consumed header old.exits) None → GoesByRule (gave ++ gifts_of link value) (cond taken (gives_over link header old) old).exits
+      → value ≡ cond taken (consumed header old.exits) None → GoesByRule sure (gave ++ gifts_of link value) (cond taken (gives_over link header old) old).exits
   consumed_by_rule link header value false takes told = nothing_given value link told
   consumed_by_rule link header None true takes told =
       absurd (none_taken (head_there link header takes) (told ∙ ap (λ (b : Bool). cond b (head_of old.exits) None) (head_there link header takes)))
@@ -116,60 +120,61 @@ module _ (gave : List Gift) (old : BlockState) (goes : GoesByRule gave old.exits
           no_head old.exits.left (not-true (is_empty old.exits.left) (and_parts (header == old.exits.next) (not (is_empty old.exits.left)) head).1) none
   consumed_by_rule link header (Some value) true takes told =
       let head = head_there link header takes in
-      subst (λ (o : OutletState). GoesByRule (gave ++ gifts_of link (Some value)) o)
+      subst (λ (o : OutletState). GoesByRule sure (gave ++ gifts_of link (Some value)) o)
       (sym (ap (λ (b : Bool). record (cond b (gives_home (place_of link old.exits.ends) header old.exits) old.exits) { room = 0 }) head))
-      (gives_by_rule gave old.exits goes link header value (head_is link header value head told) takes)
+      (gives_by_rule sure gave old.exits goes link header value (head_is link header value head told) takes)
 
 -- One call
 
-module _ (gave : List Gift) (old new : BlockState) (one : is_one_taker old.kind ≡ true) (goes : GoesByRule gave old.exits) where
-  stays_so : (block : BlockState) → new ≡ block → block.exits ≡ old.exits → GoesByRule (gave ++ []) new.exits
+module _ (sure : Bool) (gave : List Gift) (old new : BlockState) (one : is_one_taker old.kind ≡ true) (goes : GoesByRule sure gave old.exits) where
+  stays_so : (block : BlockState) → new ≡ block → block.exits ≡ old.exits → GoesByRule sure (gave ++ []) new.exits
   stays_so block is same =
-      subst (λ (gifts : List Gift). GoesByRule gifts new.exits) (sym (append-nil gave))
-      (subst (λ (o : OutletState). GoesByRule gave o) (sym (ap (λ (b : BlockState). b.exits) is ∙ same)) goes)
+      subst (λ (gifts : List Gift). GoesByRule sure gifts new.exits) (sym (append-nil gave))
+      (subst (λ (o : OutletState). GoesByRule sure gave o) (sym (ap (λ (b : BlockState). b.exits) is ∙ same)) goes)
 
-  becomes : (block : BlockState) → new ≡ block → GoesByRule gave block.exits → GoesByRule (gave ++ []) new.exits
+  becomes : (block : BlockState) → new ≡ block → GoesByRule sure gave block.exits → GoesByRule sure (gave ++ []) new.exits
   becomes block is after =
-      subst (λ (gifts : List Gift). GoesByRule gifts new.exits) (sym (append-nil gave))
-      (subst (λ (b : BlockState). GoesByRule gave b.exits) (sym is) after)
+      subst (λ (gifts : List Gift). GoesByRule sure gifts new.exits) (sym (append-nil gave))
+      (subst (λ (b : BlockState). GoesByRule sure gave b.exits) (sym is) after)
 
-  acted : (call : BlockCall) → Does (Call.acts call) old new → GoesByRule (gave ++ []) new.exits
+  acted : (call : BlockCall) → Does (Call.acts call) old new → GoesByRule sure (gave ++ []) new.exits
   acted (BlockCall.completed p) does = stays_so (with_port p port_closes old) does refl
   acted (BlockCall.faulted number) does =
-      stays_so (faults number old) does (stopped_stay gave old goes (is_some (outcome_of old)) (Faulted number))
-  acted (BlockCall.made (Ok true)) does = becomes (makes_its_next old) does.1 (made_by_rule gave old goes one does.0)
+      stays_so (faults number old) does (stopped_stay sure gave old goes (is_some (outcome_of old)) (Faulted number))
+  acted (BlockCall.made (Ok true)) does = becomes (makes_its_next old) does.1 (made_by_rule sure gave old goes one does.0)
   acted (BlockCall.made (Ok false)) does = stays_so old does.1 refl
   acted (BlockCall.made (Err make_fault.Ids)) does = stays_so old does.1 refl
   acted (BlockCall.made (Err make_fault.Memory)) does = stays_so old does.1 refl
 
-  given_so : (call : SourceCall) → MayCallSteadily (Call.gives call) old → Does (Call.gives call) old new
-      → GoesByRule (gave ++ gave_by (Call.gives call)) new.exits
+  given_so : (call : SourceCall) → MayCallAsked sure (Call.gives call) old → Does (Call.gives call) old new
+      → GoesByRule sure (gave ++ gave_by (Call.gives call)) new.exits
   given_so (SourceCall.offered offer) may does =
       becomes (offered_by true (offer_next old) old) (does.1 ∙ ap (λ (b : Bool). offered_by b (offer_next old) old) one)
-      (offered_by_rule gave old goes (offer_next old) refl one)
+      (offered_by_rule sure gave old goes (offer_next old) refl one)
   given_so (SourceCall.noted link header how) may does =
       becomes (answered_by true link header how old) (does ∙ ap (λ (b : Bool). answered_by b link header how old) one)
-      (answers_by_rule gave old.exits link header how (sym (ap (λ (b : Bool). source_by b old link) one) ∙ may.0) may.1 goes)
+      (answers_by_rule sure gave old.exits link header how (sym (ap (λ (b : Bool). source_by b old link) one) ∙ may.0) may.1 goes)
   given_so (SourceCall.consumed link header value) may does =
       let is : new ≡ given_by true link header old = does.1 ∙ ap (λ (b : Bool). given_by b link header old) one in
       let told : value ≡ taken_by true link header old = does.0 ∙ ap (λ (b : Bool). taken_by b link header old) one in
-      subst (λ (b : BlockState). GoesByRule (gave ++ gifts_of link value) b.exits) (sym is)
-      (consumed_by_rule gave old goes link header value (may_take link header old.exits) refl told)
+      subst (λ (b : BlockState). GoesByRule sure (gave ++ gifts_of link value) b.exits) (sym is)
+      (consumed_by_rule sure gave old goes link header value (may_take link header old.exits) refl told)
 
-  took_so : (call : TargetCall) → Does (Call.takes call) old new → GoesByRule (gave ++ []) new.exits
+  took_so : (call : TargetCall) → Does (Call.takes call) old new → GoesByRule sure (gave ++ []) new.exits
   took_so (TargetCall.offered link header may_postpone how) does = stays_so (with_port_of link (answered link header how) old) does.1 refl
   took_so (TargetCall.handed link header value) does =
       let arrived = with_port_of link (arrives link value) old in
-      stays_so (copies_taken arrived) does (copied_stay gave old goes arrived (copies_at_once arrived))
-  took_so (TargetCall.wished told) does = stays_so (wishes (wishing_port old.ports) old) does.1 (wished_stay gave old goes (wishing_port old.ports))
+      stays_so (copies_taken arrived) does (copied_stay sure gave old goes arrived (copies_at_once arrived))
+  took_so (TargetCall.wished told) does = stays_so (wishes (wishing_port old.ports) old) does.1 (wished_stay sure gave old goes (wishing_port old.ports))
   took_so (TargetCall.noted link told) does = stays_so (with_port_of link (notes told link) old) does refl
 
-  pub call_by_rule : (call : Call) → MayCallSteadily call old → Does call old new → GoesByRule (gave ++ gave_by call) new.exits
+  pub call_by_rule : (call : Call) → MayCallAsked sure call old → Does call old new → GoesByRule sure (gave ++ gave_by call) new.exits
   call_by_rule (Call.acts call) may does = acted call does
   call_by_rule (Call.gives call) may does = given_so call may does
   call_by_rule (Call.takes call) may does = took_so call does
 
-  -- and in the order of the links
+-- and in the order of the links, where targets answer by rule
+module _ (gave : List Gift) (old new : BlockState) (one : is_one_taker old.kind ≡ true) (goes : GoesByRule true gave old.exits) where
   pub call_in_order : (call : Call) → Does call old new → GoesInOrder call old.exits
   call_in_order (Call.gives (SourceCall.consumed link header (Some value))) does =
       let told : Some value ≡ taken_by true link header old = does.0 ∙ ap (λ (b : Bool). taken_by b link header old) one in
@@ -180,7 +185,7 @@ module _ (gave : List Gift) (old new : BlockState) (one : is_one_taker old.kind 
       taken_in_order false takes told j before = absurd (cc)
       taken_in_order true takes told j before =
           goes_past gave old.exits goes link header value
-          (head_is gave old goes link header value (head_there gave old goes link header takes) told) takes j before
+          (head_is true gave old goes link header value (head_there true gave old goes link header takes) told) takes j before
   call_in_order (Call.gives (SourceCall.consumed link header None)) does = tt
   call_in_order (Call.gives (SourceCall.offered offer)) does = tt
   call_in_order (Call.gives (SourceCall.noted link header how)) does = tt

@@ -1,34 +1,31 @@
 -- Over any calls what a block shares out goes by the rules of its links.
 use Rattle.std.proofs.Common.{inl, inr, ◌≡◌, ◌≢◌, ℕ, zero, suc, ◌<◌, ◌==◌, ltb, Bool, true, false, not, ◌&&◌, ◌||◌, cond, is_some, List, [], ◌∷◌, ◌++◌, length, map, set, get_or, position, Option, Some, None, unwrap_or, refl, ap, ap₂, sym, subst, ◌∙◌, arith, append-nil, length-append, eqb-true, eq-eqb, ne_eqb}
-use Rattle.std.proofs.lemmas.Bool.{and_parts, and_from, not-true, ltb-true, cases_eq}
+use Rattle.std.proofs.lemmas.Bool.{and_parts, ltb-true, cases_eq}
 use Rattle.std.proofs.lemmas.List.{length-map, length-set, get_or-set_same, get_or-set_other}
 use Rattle.std.proofs.lemmas.List.Quantifiers.{position-Some}
 use Rattle.std.proofs.Math.ListN.{get_or-map}
 use Rattle.std.proofs.Math.Seq.{map-set_same}
-use Rattle.std.specs.Bool.{OnTrue}
 use Rattle.flow_value.specs.When.{admits}
 use Rattle.flow_value.specs.declared.value.Value.{Value}
 use Rattle.flow_value.specs.declared.message.MessageStatus.{MessageStatus}
 use Rattle.flow_link.specs.declared.phase.Phase.TheVariants.{Idle, Wanted}
-use Rattle.flow_link.specs.declared.stage.SourceStage.{SourceStage}
 use Rattle.flow_link.specs.declared.stage.SourceStage.TheVariants as source
-use Rattle.flow_link.specs.LinkOk.{IsWithin, HasRoom}
+use Rattle.flow_link.specs.LinkOk.{IsWithin}
 use Rattle.flow_link.specs.Lists.{every}
 use Rattle.flow_link.specs.Stage.{source_looks}
 use Rattle.flow_link.proofs.OneMoreMark.{every_more}
-use Rattle.flow_outlet.specs.ByLink.{IsAsked, place_of, answered, answer_stage, answer_declined, is_head, is_taken, has_room, tests_take, tests_consume, forgotten, forgets, gives_home}
-use Rattle.flow_outlet.specs.End.{end_in, no_end, counted, is_out}
+use Rattle.flow_outlet.specs.ByLink.{IsAsked, place_of, answered, answer_stage, answer_declined, is_head, has_room, tests_take, tests_consume, forgotten, forgets, gives_home}
+use Rattle.flow_outlet.specs.End.{end_in, no_end, counted}
 use Rattle.flow_outlet.specs.KeepsByLink.{settles_it}
-use Rattle.flow_outlet.specs.Law.{OutletLaw, is_put_off, admits_head, may_go_past}
-use Rattle.flow_outlet.specs.Outlet.{OutletState, head_of, is_empty, is_at, end_at, stage_at, may_offer, puts, lacks_ids, prepares, offers, looks, may_give, is_wanted, offer_kept, gives, given_end}
+use Rattle.flow_outlet.specs.Law.{admits_head, may_go_past}
+use Rattle.flow_outlet.specs.Outlet.{OutletState, head_of, is_empty, is_at, end_at, stage_at, may_offer, puts, lacks_ids, prepares, offers, looks, gives, given_end}
 use Rattle.flow_outlet.specs.declared.ends.OutEnd.{OutEnd}
-use Rattle.flow_outlet.proofs.LawKept.{calls_keep_law, gives_in_order}
-use Rattle.flow_outlet.proofs.LinkCallsKeep.{link_calls_keep}
 use Rattle.flow_block.specs.Traits.{is_ready, end_shown, source_over, may_take}
 use Rattle.flow_block.proofs.PlacesNamed.{place_set, place_map}
 use Rattle.flow_block.proofs.SourceStands.{shown_known, shown_out}
 use Rattle.flow_history.specs.History.{Gift, given_over, gifts_of}
 use Rattle.flow_history.specs.Ordered.{NamesItsEnd, GivenByRule}
+use Rattle.flow_history.proofs.ExitsAsked.{AskedLaw, puts_law, offers_law, answers_law, gifts_law, admitted_by_law, within_by_law, past_by_law}
 
 -- Links that stay where they are, and what was given over each
 
@@ -97,14 +94,15 @@ pub record SoFar (o : OutletState) (gave : List Gift) (k : ℕ) : Type 0 where
   pub admitted : every (admits (end_at o k).rule.when) (given_over (end_at o k).rule.id gave) ≡ true
   pub counted : is_some (end_at o k).rule.max ≡ true → (end_at o k).given ≡ length (given_over (end_at o k).rule.id gave)
 
--- what holds of the exits of a block that shares its messages out
-pub record GoesByRule (gave : List Gift) (o : OutletState) : Type 0 where
-  pub law : OutletLaw true None o
+-- what holds of the exits of a block that shares its messages out, whether its targets are asked to answer by rule or not
+pub record GoesByRule (sure : Bool) (gave : List Gift) (o : OutletState) : Type 0 where
+  pub law : AskedLaw sure o
   pub each : (k : ℕ) → k < length o.ends → NamesItsEnd o k → SoFar o gave k
 
 -- where nothing is given
-stays_by_rule : (gave : List Gift) (old new : OutletState) → SameOuts old new → OutletLaw true None new → GoesByRule gave old → GoesByRule gave new
-stays_by_rule gave old new same law goes = record {
+stays_by_rule : (sure : Bool) (gave : List Gift) (old new : OutletState) → SameOuts old new → AskedLaw sure new → GoesByRule sure gave old
+    → GoesByRule sure gave new
+stays_by_rule sure gave old new same law goes = record {
   law = law;
   each = λ k l own.
       let near : k < length old.ends = (let count = same.count in omega (arith, l, count)) in
@@ -117,18 +115,18 @@ stays_by_rule gave old new same law goes = record {
       };
 }
 
-pub puts_by_rule : (gave : List Gift) (o : OutletState) (values : List Value) (weight : ℕ) → lacks_ids values o ≡ false → GoesByRule gave o
-    → GoesByRule gave (puts values weight o)
-puts_by_rule gave o values weight has goes =
-    stays_by_rule gave o (puts values weight o) (outs_same o (puts values weight o) refl) (calls_keep_law.put true None o goes.law values weight has) goes
+pub puts_by_rule : (sure : Bool) (gave : List Gift) (o : OutletState) (values : List Value) (weight : ℕ) → lacks_ids values o ≡ false
+    → GoesByRule sure gave o → GoesByRule sure gave (puts values weight o)
+puts_by_rule sure gave o values weight has goes =
+    stays_by_rule sure gave o (puts values weight o) (outs_same o (puts values weight o) refl) (puts_law sure o values weight has goes.law) goes
 
-pub offers_by_rule : (gave : List Gift) (o : OutletState) (k : ℕ) → may_offer o ≡ Some k → GoesByRule gave o → GoesByRule gave (offers k (prepares o))
-offers_by_rule gave o k may goes =
+pub offers_by_rule : (sure : Bool) (gave : List Gift) (o : OutletState) (k : ℕ) → may_offer o ≡ Some k → GoesByRule sure gave o
+    → GoesByRule sure gave (offers k (prepares o))
+offers_by_rule sure gave o k may goes =
     let ready = prepares o in
     let out = offers k ready in
     let end = record (end_at ready k) { declined = (end_at ready k).declined; stage = source.Out ready.next } in
-    stays_by_rule gave o out (outs_set o out k end refl refl refl)
-    (calls_keep_law.offer true ready (calls_keep_law.prepare true None o goes.law) k may refl) goes
+    stays_by_rule sure gave o out (outs_set o out k end refl refl refl) (offers_law sure o k may goes.law) goes
 
 -- An answer
 
@@ -154,59 +152,17 @@ asked_is o link header out = at (ltb (place_of link o.ends) (length o.ends)) ref
           out = at_is o.offer (place_of link o.ends) (and_parts (is_at o.offer (place_of link o.ends)) (not (is_empty o.left)) more.0).0;
         }
 
-pub answers_by_rule : (gave : List Gift) (o : OutletState) (link header : ℕ) (how : MessageStatus) → source_over o link ≡ source.Out header
-    → (settles_it how ≡ false → (end_at o (place_of link o.ends)).rule.steady ≡ false) → GoesByRule gave o
-    → GoesByRule gave (answered how header (place_of link o.ends) o)
-answers_by_rule gave o link header how out steady goes =
+pub answers_by_rule : (sure : Bool) (gave : List Gift) (o : OutletState) (link header : ℕ) (how : MessageStatus)
+    → source_over o link ≡ source.Out header
+    → (sure ≡ true → settles_it how ≡ false → (end_at o (place_of link o.ends)).rule.steady ≡ false) → GoesByRule sure gave o
+    → GoesByRule sure gave (answered how header (place_of link o.ends) o)
+answers_by_rule sure gave o link header how out steady goes =
     let k = place_of link o.ends in
     let end = record (end_at o k) { declined = answer_declined how header (end_at o k).declined; stage = answer_stage how header } in
-    stays_by_rule gave o (answered how header k o) (outs_set o (answered how header k o) k end refl refl refl)
-    (link_calls_keep.answer None o goes.law link header how (asked_is o link header out) steady) goes
+    stays_by_rule sure gave o (answered how header k o) (outs_set o (answered how header k o) k end refl refl refl)
+    (answers_law sure o link header how (asked_is o link header out) steady goes.law) goes
 
 -- A message is given
-
--- where it may be taken, a look finds it wanted
-record IsWanted (k header : ℕ) (o : OutletState) : Type 0 where
-  pub put_off : OnTrue (is_put_off (source_looks (stage_at o k) (Wanted header))) ((end_at o k).rule.steady ≡ false)
-  pub wanted : is_wanted o.next (is_some (looks k (Wanted header) o).offer) (source_looks (stage_at o k) (Wanted header)) ≡ true
-
--- an offer that is out no more is not put back by a look
-kept_none : (gone : Bool) (offer : Option ℕ) → is_some offer ≡ false → is_some (cond gone None offer) ≡ false
-kept_none true offer e = refl
-kept_none false offer e = e
-
-looked_offer : (k : ℕ) (stage : SourceStage) (offer : Option ℕ) → is_some offer ≡ false → is_some (offer_kept k stage offer) ≡ false
-looked_offer k stage offer e = kept_none (is_at offer k && not (is_out stage)) offer e
-
-wanted_where : (k header : ℕ) (o : OutletState) (stage : SourceStage) → stage_at o k ≡ stage → is_taken o.next (is_some o.offer) stage ≡ true
-    → OnTrue (is_put_off stage) ((end_at o k).rule.steady ≡ false) → IsWanted k header o
-wanted_where k header o (source.Accepted i) at taken may = record {
-  put_off = subst (λ (st : SourceStage). OnTrue (is_put_off (source_looks st (Wanted header))) ((end_at o k).rule.steady ≡ false)) (sym at) tt;
-  wanted = ap (λ (st : SourceStage). is_wanted o.next (is_some (looks k (Wanted header) o).offer) (source_looks st (Wanted header))) at ∙ taken;
-}
-wanted_where k header o (source.Waiting i) at taken may =
-    let both = and_parts (i == o.next) (not (is_some o.offer)) taken in
-    let none = looked_offer k (source_looks (stage_at o k) (Wanted header)) o.offer (not-true (is_some o.offer) both.1) in
-    record {
-      put_off = subst (λ (st : SourceStage). OnTrue (is_put_off (source_looks st (Wanted header))) ((end_at o k).rule.steady ≡ false)) (sym at) may;
-      wanted =
-          ap (λ (st : SourceStage). is_wanted o.next (is_some (looks k (Wanted header) o).offer) (source_looks st (Wanted header))) at
-          ∙ ap (λ (b : Bool). i == o.next && not b) none ∙ and_from (i == o.next) true both.0 refl;
-    }
-wanted_where k header o (source.Wished i) at taken may =
-    let both = and_parts (i == o.next) (not (is_some o.offer)) taken in
-    let none = looked_offer k (source_looks (stage_at o k) (Wanted header)) o.offer (not-true (is_some o.offer) both.1) in
-    record {
-      put_off = subst (λ (st : SourceStage). OnTrue (is_put_off (source_looks st (Wanted header))) ((end_at o k).rule.steady ≡ false)) (sym at) may;
-      wanted =
-          ap (λ (st : SourceStage). is_wanted o.next (is_some (looks k (Wanted header) o).offer) (source_looks st (Wanted header))) at
-          ∙ ap (λ (b : Bool). i == o.next && not b) none ∙ and_from (i == o.next) true both.0 refl;
-    }
-wanted_where k header o _ at taken may = absurd (cc)
-
-room_for : (max : Option ℕ) (given : ℕ) → has_room max given ≡ true → HasRoom max given
-room_for None given e = tt
-room_for (Some limit) given e = ltb-true given limit e
 
 own_link : (link : ℕ) (ends : List OutEnd) (place : Option ℕ) → position (λ (end : OutEnd). end.rule.id == link) ends ≡ place
     → unwrap_or place (length ends) < length ends → (end_in ends (unwrap_or place (length ends))).rule.id ≡ link
@@ -214,8 +170,8 @@ own_link link ends (Some k) at l =
     eqb-true (end_in ends k).rule.id link (position-Some (λ (end : OutEnd). end.rule.id == link) ends k no_end at).1
 own_link link ends None at l = absurd (omega (arith, l))
 
-module _ (gave : List Gift) (o : OutletState) (goes : GoesByRule gave o) (link header : ℕ) (value : Value) (head : head_of o ≡ Some value)
-    (takes : may_take link header o ≡ true) where
+module _ (sure : Bool) (gave : List Gift) (o : OutletState) (goes : GoesByRule sure gave o) (link header : ℕ) (value : Value)
+    (head : head_of o ≡ Some value) (takes : may_take link header o ≡ true) where
   abbrev at : ℕ
   at = place_of link o.ends
 
@@ -232,14 +188,6 @@ module _ (gave : List Gift) (o : OutletState) (goes : GoesByRule gave o) (link h
       second_of true b e or = or
       second_of false b e or = absurd (cc)
 
-  taken_parts : ((is_taken o.next (is_some o.offer) (stage_at o at) && is_some o.parcel) ≡ true) × (has_room (end_at o at).rule.max (end_at o at).given ≡ true)
-  taken_parts = and_parts (is_taken o.next (is_some o.offer) (stage_at o at) && is_some o.parcel) (has_room (end_at o at).rule.max (end_at o at).given) may_now
-
-  wanted_there : IsWanted at header o
-  wanted_there =
-      wanted_where at header o (stage_at o at) refl (and_parts (is_taken o.next (is_some o.offer) (stage_at o at)) (is_some o.parcel) taken_parts.0).0
-      (goes.law.each at near).put_off
-
   abbrev looked : OutletState
   looked = looks at (Wanted header) o
 
@@ -249,19 +197,8 @@ module _ (gave : List Gift) (o : OutletState) (goes : GoesByRule gave o) (link h
   looked_outs : SameOuts o looked
   looked_outs = outs_set o looked at looked_end refl refl refl
 
-  looked_law : OutletLaw true None looked
-  looked_law = calls_keep_law.look true None o goes.law at near (Wanted header) wanted_there.put_off
-
   near_looked : at < length looked.ends
   near_looked = (let l = near in let count = looked_outs.count in omega (arith, l, count))
-
-  may_give_it : may_give at looked ≡ true
-  may_give_it =
-      ap (λ (end : OutEnd). is_wanted o.next (is_some looked.offer) end.stage) (get_or-set_same o.ends at looked_end no_end near) ∙ wanted_there.wanted
-
-  room_looked : HasRoom (end_at looked at).rule.max (end_at looked at).given
-  room_looked =
-      rw (looked_outs.rules at, looked_outs.counts at) (room_for (end_at o at).rule.max (end_at o at).given taken_parts.1)
 
   abbrev gone : OutletState
   gone = gives at looked
@@ -269,28 +206,12 @@ module _ (gave : List Gift) (o : OutletState) (goes : GoesByRule gave o) (link h
   abbrev gone_end : OutEnd
   gone_end = given_end looked.next (end_at looked at)
 
-  gone_law : OutletLaw true None gone
-  gone_law = calls_keep_law.give true None looked looked_law at near_looked may_give_it room_looked
-
-  near_gone : at < length gone.ends
-  near_gone = (let l = near_looked in omega (arith, l, length-set looked.ends at gone_end))
-
-  home_free : OnTrue (is_put_off (source_looks (stage_at gone at) Idle)) ((end_at gone at).rule.steady ≡ false)
-  home_free =
-      let crossing : stage_at gone at ≡ source.Crossing = ap (λ (end : OutEnd). end.stage) (get_or-set_same looked.ends at gone_end no_end near_looked) in
-      subst (λ (stage : SourceStage). OnTrue (is_put_off (source_looks stage Idle)) ((end_at gone at).rule.steady ≡ false)) (sym crossing) tt
-
   abbrev home : OutletState
   home = looks at Idle gone
 
   -- all that becomes of the exits, once the room has come back
   abbrev given_exits : OutletState
   given_exits = record (gives_home at header o) { room = 0 }
-
-  given_law : OutletLaw true None given_exits
-  given_law =
-      calls_keep_law.room_back true None (gives_home at header o)
-      (link_calls_keep.forget true None home (calls_keep_law.look true None gone gone_law at near_gone Idle home_free))
 
   after_outs : SameOuts gone given_exits
   after_outs =
@@ -327,15 +248,7 @@ module _ (gave : List Gift) (o : OutletState) (goes : GoesByRule gave o) (link h
 
   admits_it : admits (end_at o at).rule.when value ≡ true
   admits_it =
-      sym (ap (λ (h : Option Value). admits_head (end_at o at).rule.when h) head)
-      ∙ ap (λ r. admits_head r.when (head_of o)) (sym (looked_outs.rules at))
-      ∙ gives_in_order.admitted true None looked looked_law at near_looked may_give_it
-
-  pub goes_past : (j : ℕ) → j < at → may_go_past (Some value) (end_at o j) ≡ true
-  goes_past j before =
-      ap (λ (h : Option Value). may_go_past h (end_at o j)) (sym head)
-      ∙ ap (may_go_past (head_of o)) (sym (get_or-set_other o.ends at j looked_end no_end (λ e. let far = before in omega (arith, far, e))))
-      ∙ gives_in_order.earlier true None looked looked_law at near_looked may_give_it j before
+      sym (ap (λ (h : Option Value). admits_head (end_at o at).rule.when h) head) ∙ admitted_by_law sure o goes.law at header near may_now
 
   counts_one : (max : Option ℕ) (given : ℕ) (values : List Value) → is_some max ≡ true → given ≡ length values
       → counted max given ≡ length (values ++ value ∷ [])
@@ -382,9 +295,9 @@ module _ (gave : List Gift) (o : OutletState) (goes : GoesByRule gave o) (link h
             ∙ ap (λ r. length (given_over r.id (gave ++ gifts_of link (Some value)))) (sym (rules_are k));
       }
 
-  pub gives_by_rule : GoesByRule (gave ++ gifts_of link (Some value)) given_exits
+  pub gives_by_rule : GoesByRule sure (gave ++ gifts_of link (Some value)) given_exits
   gives_by_rule = record {
-    law = given_law;
+    law = gifts_law sure o goes.law at header near may_now;
     each = λ k l own.
         let there : k < length o.ends = (let count = count_are in omega (arith, l, count)) in
         let names : NamesItsEnd o k =
@@ -399,14 +312,21 @@ module _ (gave : List Gift) (o : OutletState) (goes : GoesByRule gave o) (link h
 
 -- What the law says
 
+pub goes_past : (gave : List Gift) (o : OutletState) → GoesByRule true gave o → (link header : ℕ) (value : Value) → head_of o ≡ Some value
+    → may_take link header o ≡ true → (j : ℕ) → j < place_of link o.ends → may_go_past (Some value) (end_at o j) ≡ true
+goes_past gave o goes link header value head takes j before =
+    ap (λ (h : Option Value). may_go_past h (end_at o j)) (sym head)
+    ∙ past_by_law o goes.law (place_of link o.ends) header (near true gave o goes link header value head takes)
+    (may_now true gave o goes link header value head takes) j before
+
 within_rule : (max : Option ℕ) (given count : ℕ) → IsWithin max given → (is_some max ≡ true → given ≡ count) → IsWithin max count
 within_rule None given count within is = tt
 within_rule (Some limit) given count within is = let same = is refl in omega (arith, within, same)
 
-pub rules_say : (gave : List Gift) (o : OutletState) → GoesByRule gave o → (k : ℕ) → k < length o.ends → NamesItsEnd o k → GivenByRule o gave k
-rules_say gave o goes k l own =
+pub rules_say : (sure : Bool) (gave : List Gift) (o : OutletState) → GoesByRule sure gave o → (k : ℕ) → k < length o.ends → NamesItsEnd o k → GivenByRule o gave k
+rules_say sure gave o goes k l own =
     let so_far = goes.each k l own in
     record {
       admitted = so_far.admitted;
-      within = within_rule (end_at o k).rule.max (end_at o k).given (length (given_over (end_at o k).rule.id gave)) (goes.law.each k l).within so_far.counted;
+      within = within_rule (end_at o k).rule.max (end_at o k).given (length (given_over (end_at o k).rule.id gave)) (within_by_law sure o goes.law k l) so_far.counted;
     }

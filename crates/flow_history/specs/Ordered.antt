@@ -39,18 +39,20 @@ GoesInOrder (Call.gives (SourceCall.consumed link header (Some value))) exits =
     (j : ℕ) → j < place_of link exits.ends → may_go_past (Some value) (end_at exits j) ≡ true
 GoesInOrder _ exits = Unit {0}
 
-module _ {C S : Type 0} (exits_of : S → OutletState) (Fit : S → Type 0) (May : C → S → Type 0) (Do : C → S → S → Type 0)
-    (came : C → S → List Arrival) (makes : C → S → List Value) (gives : C → List Gift) (InOrder : C → OutletState → Type 0) where
-  -- over any calls from this state, and by one call more
-  pub record GivesByRule (fresh : S) : Type 0 where
+module _ {C S : Type 0} (exits_of : S → OutletState) (Fit : S → Type 0) (May : C → S → Type 0) (Do : C → S → S → Type 0) where
+  -- over any calls from this state
+  pub record GivesByRule (came : C → S → List Arrival) (makes : C → S → List Value) (gives : C → List Gift) (fresh : S) : Type 0 where
     pub each : (steps : List (Step C S)) → AllDone Fit May Do steps fresh
         → (k : ℕ) → k < length (exits_of (after_all steps fresh)).ends → NamesItsEnd (exits_of (after_all steps fresh)) k
         → GivenByRule (exits_of (after_all steps fresh)) (history_of came makes gives steps fresh nothing_yet).gave k
+
+  -- by a call that comes after any others
+  pub record KeepsLinkOrder (InOrder : C → OutletState → Type 0) (fresh : S) : Type 0 where
     pub next : (steps : List (Step C S)) → AllDone Fit May Do steps fresh
         → (call : C) (new : S) → May call (after_all steps fresh) → Do call (after_all steps fresh) new
         → InOrder call (exits_of (after_all steps fresh))
 
--- What is taken of the calls besides
+-- What the order of the links takes of the calls besides
 
 -- a target declines a message or puts it off only over a link that is not steady
 abbrev pub AnswersSteadily : Call → OutletState → Type 0
@@ -75,24 +77,42 @@ module _ {W : Type 0} where
   abbrev pub exits_of_work : ExecutionState W → OutletState
   exits_of_work execution = execution.block.exits
 
-  -- and a result comes back only where there are ids for what comes out
-  abbrev pub WorkAnswersSteadily : (W → Value → Result (List Value) WorkFault) → WorkCall → ExecutionState W → Type 0
-  WorkAnswersSteadily meaning (WorkCall.common call) execution = AnswersSteadily call execution.block.exits
-  WorkAnswersSteadily meaning WorkCall.began execution = Unit {0}
-  WorkAnswersSteadily meaning (WorkCall.ended ticket) execution = lacks_job_ids meaning ticket execution ≡ false
+  -- a result comes back only where there are ids for what comes out: else it is refused, and nothing changes
+  abbrev pub HasIds : (W → Value → Result (List Value) WorkFault) → WorkCall → ExecutionState W → Type 0
+  HasIds meaning (WorkCall.common call) execution = Unit {0}
+  HasIds meaning WorkCall.began execution = Unit {0}
+  HasIds meaning (WorkCall.ended ticket) execution = lacks_job_ids meaning ticket execution ≡ false
+
+  abbrev pub MayCallWorkWithIds : (W → Value → Result (List Value) WorkFault) → WorkCall → ExecutionState W → Type 0
+  MayCallWorkWithIds meaning call execution = MayCallWork call execution × HasIds meaning call execution
+
+  abbrev pub WorkAnswersSteadily : WorkCall → ExecutionState W → Type 0
+  WorkAnswersSteadily (WorkCall.common call) execution = AnswersSteadily call execution.block.exits
+  WorkAnswersSteadily _ execution = Unit {0}
 
   abbrev pub MayCallWorkSteadily : (W → Value → Result (List Value) WorkFault) → WorkCall → ExecutionState W → Type 0
-  MayCallWorkSteadily meaning call execution = MayCallWork call execution × WorkAnswersSteadily meaning call execution
+  MayCallWorkSteadily meaning call execution = MayCallWorkWithIds meaning call execution × WorkAnswersSteadily call execution
 
--- of a block, a batched join and an execution block to which nothing came
+-- of a block, a batched join and an execution block to which nothing came, whatever their targets answer
 pub record MessagesGoByRule (W : Type 0) : Type 0 where
   pub blocks : (kind : BlockKind) (lanes size : ℕ) (ports : List PortState) (rules : List LinkRule) → is_one_taker kind ≡ true
-      → GivesByRule (λ (block : BlockState). block.exits) Fits MayCallSteadily Does came_by made_by gave_by GoesInOrder
+      → GivesByRule (λ (block : BlockState). block.exits) Fits MayCall Does came_by made_by gave_by
       (fresh_block kind lanes size ports rules)
   pub joins : (size : ℕ) (ports : List PortState) (rules : List LinkRule)
-      → GivesByRule exits_of_join FitsJoin MayCallJoinSteadily DoesToJoin came_to grouped_by gave_by GoesInOrder
-      (fresh_join size ports rules)
+      → GivesByRule exits_of_join FitsJoin MayCallJoin DoesToJoin came_to grouped_by gave_by (fresh_join size ports rules)
   pub works : (meaning : W → Value → Result (List Value) WorkFault) (kind : BlockKind) (lanes : ℕ) (work : Option W)
       (ports : List PortState) (rules : List LinkRule) → has_work kind ≡ true
-      → GivesByRule exits_of_work FitsWork (MayCallWorkSteadily meaning) (DoesWork meaning) came_for (worked_out meaning) gave_for
-      WorkGoesInOrder (fresh_execution kind lanes work ports rules)
+      → GivesByRule exits_of_work FitsWork (MayCallWorkWithIds meaning) (DoesWork meaning) came_for (worked_out meaning) gave_for
+      (fresh_execution kind lanes work ports rules)
+
+-- and where their targets decline or put off over no steady link
+pub record MessagesGoInOrder (W : Type 0) : Type 0 where
+  pub blocks : (kind : BlockKind) (lanes size : ℕ) (ports : List PortState) (rules : List LinkRule) → is_one_taker kind ≡ true
+      → KeepsLinkOrder (λ (block : BlockState). block.exits) Fits MayCallSteadily Does GoesInOrder
+      (fresh_block kind lanes size ports rules)
+  pub joins : (size : ℕ) (ports : List PortState) (rules : List LinkRule)
+      → KeepsLinkOrder exits_of_join FitsJoin MayCallJoinSteadily DoesToJoin GoesInOrder (fresh_join size ports rules)
+  pub works : (meaning : W → Value → Result (List Value) WorkFault) (kind : BlockKind) (lanes : ℕ) (work : Option W)
+      (ports : List PortState) (rules : List LinkRule) → has_work kind ≡ true
+      → KeepsLinkOrder exits_of_work FitsWork (MayCallWorkSteadily meaning) (DoesWork meaning) WorkGoesInOrder
+      (fresh_execution kind lanes work ports rules)

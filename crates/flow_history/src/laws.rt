@@ -3,7 +3,7 @@
 ghost use Rattle.flow_history.specs.Copied.{CopiesAreGiven};
 ghost use Rattle.flow_history.specs.Grouped.{GroupsAreKept};
 ghost use Rattle.flow_history.specs.Kept.{MessagesAreKept, NewPortsTookNothing};
-ghost use Rattle.flow_history.specs.Ordered.{MessagesGoByRule};
+ghost use Rattle.flow_history.specs.Ordered.{MessagesGoByRule, MessagesGoInOrder};
 ghost use Rattle.flow_history.specs.Worked.{WorkIsKept};
 
 /// Nothing came to ports that were just made. From a block with such ports the other laws begin.
@@ -19,11 +19,17 @@ pub fn messages_are_kept()
     ensures { MessagesAreKept }
 {}
 
-/// Whatever is called, what a block gives over a link, unless it copies, is what the link's predicate admits, and no more
-/// than its limit. A message goes over a link only where each earlier one rejects it, need not take it at once, or is cut
-/// or refused. This holds of blocks with a function, whose jobs the caller begins and ends too, and of batched joins.
+/// Whatever is called, and whatever targets answer, what a block gives over a link, unless it copies, is what the link's
+/// predicate admits, and no more than its limit. This holds of blocks with a function, whose jobs the caller begins and ends
+/// too, and of batched joins.
 pub fn messages_go_by_rule<W>()
     ensures { MessagesGoByRule W }
+{}
+
+/// Where targets decline or put off over no link that is to take each message at once, a message goes over a link only where
+/// each earlier one rejects it, need not take it at once, or is cut or refused. This holds of the same blocks.
+pub fn messages_go_in_order<W>()
+    ensures { MessagesGoInOrder W }
 {}
 
 /// Whatever is called, a batched join cuts what came in into groups, in the order in which it came over all ports, and
@@ -33,9 +39,12 @@ pub fn groups_are_kept()
     ensures { GroupsAreKept }
 {}
 
-/// Whatever is called, each link out of a block that copies is given some of what the block made, in order and once each
-/// at most. If its target takes each message at once, it lacks none that its predicate admits, up to its limit, but for the
-/// newest while the link owes that, and for those behind a refusal.
+/// Whatever is called, and whatever targets answer, each link out of a block that copies is given some of what the block
+/// made, in order and once each at most: what its predicate admits, and no more than its limit. It lacks an element only
+/// where its predicate turns that away, its target declined it or put it off or had refused by then, or the link had carried
+/// its limit before; or where it still owes it, which is the newest. Where targets answer by the rules of their links, one
+/// whose target takes each message at once lacks none that its predicate admits, up to its limit, but for the newest while
+/// the link owes that, and for those behind a refusal.
 pub fn copies_are_given()
     ensures { CopiesAreGiven }
 {}

@@ -8,5 +8,5 @@ mod laws;
 
 pub use laws::{
     copies_are_given, groups_are_kept, messages_are_kept, messages_go_by_rule,
-    new_ports_took_nothing, work_is_kept,
+    messages_go_in_order, new_ports_took_nothing, work_is_kept,
 };

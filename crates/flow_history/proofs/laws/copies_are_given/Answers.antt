@@ -1,4 +1,4 @@
-use Rattle.flow_history.proofs.CopiesGiven as given
+use Rattle.flow_history.proofs.CopiesByRule as given
 use Rattle.flow_history.proofs.laws.copies_are_given.Goals as goal
 
 pub returns : goal.returns
