@@ -1,0 +1,105 @@
+//! A sender and a receiver in two threads, over one link.
+ghost use Rattle.std.specs.Prelude.{◌≡◌, IfOk};
+ghost use Rattle.flow_wire.specs.Ends.{Start, starts_out, starts_in};
+ghost use Rattle.flow_wire_rows.specs.Trials.{start_of};
+
+use crate::receiver::Receiver;
+use crate::sender::Sender;
+use flow_link::{LinkEnd, LinkState, Phase};
+use flow_wire::{SourceEnd, TargetEnd, Wire};
+use std::alloc::Global;
+use std::thread::{Threads, join, yield_now};
+
+/// How many numbers go over a link.
+const COUNT: u64 = 1_000;
+
+/// How many runs there are, each with a seed of its own; the target reserves in every other.
+const SEEDS: u64 = 100;
+
+/// More turns than an end needs, also where the other thread waits long for a processor.
+const TURNS: u64 = 50_000_000;
+
+// the sender's turns, until it is done or has had them all
+fn send(alloc: Global, wire: &Wire, mut sender: Sender) -> Sender
+    requires { sender.end.table ≡ wire.now }
+    ensures { result.end.table ≡ sender.end.table }
+{
+    for _ in 0..TURNS {
+        if sender.is_done() || sender.turn(alloc, wire).is_err() {
+            return sender;
+        }
+        yield_now();
+    }
+    sender
+}
+
+fn receive(wire: &Wire, mut receiver: Receiver) -> Receiver
+    requires { receiver.end.table ≡ wire.now }
+    ensures { result.end.table ≡ receiver.end.table }
+{
+    for _ in 0..TURNS {
+        if receiver.is_done() {
+            return receiver;
+        }
+        receiver.turn(wire);
+        yield_now();
+    }
+    receiver
+}
+
+// a link with nothing under way. The ends know what `start` says, which names the argument that nothing else reads
+fn link_that_starts(
+    alloc: Global,
+    reserves: bool,
+) -> Result<(Wire, SourceEnd, TargetEnd), LinkState>
+    ghost start: { Start }
+    requires { start ≡ start_of reserves }
+    ensures { IfOk result (λ made. (made.1 ≡ record { table = made.0; side = starts_out start }) × (made.2 ≡ record { table = made.0; side = starts_in start })) }
+{
+    let _ = reserves;
+    Wire::new(
+        alloc,
+        LinkState {
+            phase: Phase::Idle,
+            slot: None,
+        },
+    )
+}
+
+fn new_link(alloc: Global, reserves: bool) -> Result<(Wire, SourceEnd, TargetEnd), LinkState>
+    ensures { IfOk result (λ made. (made.1 ≡ record { table = made.0; side = starts_out (start_of reserves) }) × (made.2 ≡ record { table = made.0; side = starts_in (start_of reserves) })) }
+{
+    link_that_starts(alloc, reserves)
+}
+
+// whether all numbers crossed in order, and the link ended with nothing left in it
+fn crosses(rt: &(impl Threads + Sync), alloc: Global, reserves: bool, seed: u64) -> bool {
+    let Ok((wire, source, target)) = new_link(alloc, reserves) else {
+        return false
+    };
+    let sender = Sender::new(source, COUNT, seed);
+    let receiver = Receiver::new(target, reserves, seed ^ COUNT);
+    let shared = &wire;
+    let (sender, receiver) = join(
+        rt,
+        move ||
+            requires { sender.end.table ≡ shared.now }
+            ensures { result.end.table ≡ sender.end.table }
+        { send(alloc, shared, sender) },
+        move ||
+            requires { receiver.end.table ≡ shared.now }
+            ensures { result.end.table ≡ receiver.end.table }
+        { receive(shared, receiver) },
+    );
+    let all = sender.is_done() && receiver.is_done() && receiver.took_all(COUNT);
+    let last = wire.close(sender.into_end(), receiver.into_end());
+    all && last.phase == Phase::Ended(LinkEnd::Complete) && last.slot.is_none()
+}
+
+#[test]
+fn numbers_cross_once_and_in_order(rt: HostRuntime) {
+    for seed in 0..SEEDS {
+        let holds = crosses(&rt, rt.alloc(), seed % 2 == 1, seed);
+        assert!(rt; holds, "seed {seed}");
+    }
+}
