@@ -1,0 +1,5 @@
+pub mod CompletesLater
+pub mod DrivenFurther
+pub mod EachGoes
+pub mod RoundGoes
+pub mod WaitsFurther
