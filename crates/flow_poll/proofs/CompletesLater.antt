@@ -1,8 +1,8 @@
 -- A block that is asked in vain, and ends later, has ended so.
-use Rattle.std.proofs.Common.{◌≡◌, suc, Option, Some, None}
+use Rattle.std.proofs.Common.{suc, Option, Some, None}
 use Rattle.flow_link.specs.declared.trace.Outcome.{Outcome}
 use Rattle.flow_link.specs.BlockCalls.{Stays}
-use Rattle.flow_poll.specs.Completes.{IsAsked, Completes}
+use Rattle.flow_poll.specs.Completes.{Completes}
 
 -- it had not ended
 still_open : (before : Option Outcome) (how : Outcome) → Stays before None → Stays before (Some how)

@@ -1,5 +1,5 @@
 -- What is sent after a wait is sent from the beginning.
-use Rattle.std.proofs.Common.{◌≡◌, Bool, true, Option, Some, None, Result, Ok, Err, List, [], ◌∷◌, refl, sym}
+use Rattle.std.proofs.Common.{◌≡◌, Bool, true, Option, Some, None, Result, Ok, Err, [], refl, sym}
 use Rattle.std.specs.Prelude.{IfSome}
 use Rattle.flow_value.specs.declared.value.Value.{Value}
 use Rattle.flow_poll.specs.declared.send.Delivery.{Delivery}

@@ -1,4 +1,4 @@
-use Rattle.std.proofs.Common.{rules, arith, refl, sym}
+use Rattle.std.proofs.Common.{rules, refl}
 use Rattle.flow_poll.specs.declared.actor.TurnState.TheVariants.{Ended}
 use Rattle.flow_poll.specs.Turns.{TakesTurn}
 use Rattle.flow_poll.proofs.EachGoes.{each_set, each_stays, goes_further, goes_nowhere}
