@@ -41,6 +41,12 @@ module _ {W : Type 0} (layout : Layout W) (meaning : ℕ → Value → Result (L
 module _ {W : Type 0} (meaning : W → Value → Result (List Value) WorkFault) (first then_is : Plan W) (same : then_is ≡ first)
     (limit done : ℕ) (old mid new : NetState) (within : done ≤ limit)
     (before : Happened (layout_of first) (works_of meaning (layout_of first)) done old mid) where
+  pub happened_by_plan : (more : ℕ) → Happened (layout_of then_is) (works_of meaning (layout_of then_is)) more mid new
+      → Happened (layout_of first) (works_of meaning (layout_of first)) (done + more) old new
+  happened_by_plan more then_on =
+      happened_on (layout_of first) (works_of meaning (layout_of first)) done more old mid new before
+      (subst (λ (p : Plan W). Happened (layout_of p) (works_of meaning (layout_of p)) more mid new) same then_on)
+
   pub goes_on_by_plan : GoesOn (layout_of then_is) (works_of meaning (layout_of then_is)) (limit - done) mid new
       → GoesOn (layout_of first) (works_of meaning (layout_of first)) limit old new
   goes_on_by_plan goes =

@@ -16,11 +16,18 @@ use flow_exec::{Job, JobResult};
 use flow_link::{BlockDef, Plan};
 use flow_value::Work;
 use std::alloc::{AllocError, Global};
+use std::hint::spin_loop;
 use std::sync::{Arc, Wait};
-use std::thread::{Threads, join, join_mut, yield_now};
+use std::thread::{Threads, join, join_mut};
 
-/// How often a thread looks for a message before it sleeps until one comes: for about a millisecond.
-const LOOKS: u32 = 2_000;
+/// How often a thread looks for a message before it sleeps until one comes: for about a tenth of a millisecond.
+const LOOKS: u32 = 50;
+
+/// How many turns of an empty loop a thread waits between two looks.
+const TURNS: u32 = 64;
+
+/// How many jobs are out when a crew is called: with one of them its threads would have nothing to do beside the driver.
+const JOBS_FOR_CREW: usize = 2;
 
 /// A job, with the number of its block.
 #[derive(Drop)]
@@ -46,7 +53,9 @@ pub(crate) struct Desk<W: Work> {
     reports: Receiver<Report<W>>,
     /// How many jobs are queued, run or reported.
     out: usize,
-    /// Whether nothing is left to do.
+    /// Whether threads run jobs beside the driver.
+    has_crew: bool,
+    /// Whether the driver has nothing left to do.
     is_closed: bool,
 }
 
@@ -69,6 +78,7 @@ pub(crate) fn channels<W: Work>(
         queue,
         reports,
         out: 0,
+        has_crew: false,
         is_closed: false,
     };
     Ok((desk, ends))
@@ -115,14 +125,24 @@ fn lanes_of<W>(block: &BlockDef<W>) -> u32 {
 }
 
 impl<W: Work> Desk<W> {
-    /// Whether nothing is left to do.
+    /// Whether the driver has nothing left to do.
     pub(crate) fn is_closed(&self) -> bool {
         self.is_closed
     }
 
-    /// Nothing is left to do.
+    /// The driver has nothing left to do.
     pub(crate) fn close(&mut self) {
         self.is_closed = true;
+    }
+
+    /// Whether threads beside the driver would have something to do, and there are none yet.
+    pub(crate) fn wants_crew(&self) -> bool {
+        !self.is_closed && !self.has_crew && self.out >= JOBS_FOR_CREW
+    }
+
+    /// Threads run jobs beside the driver from now on.
+    pub(crate) fn call_crew(&mut self) {
+        self.has_crew = true;
     }
 
     /// Whether the jobs of this block are for the crew: it has several lanes.
@@ -237,7 +257,8 @@ fn work<W: Work, R: Wait>(
     }
 }
 
-/// The next message of a channel. A thread that sleeps takes long to wake, so this one looks for a while first.
+/// The next message of a channel. A thread that sleeps takes long to wake, so this one looks for a while first. It yields
+/// to no other: on a busy machine each yield gives a whole time slice away.
 fn next_of<T: Drop, R: Wait>(rt: &R, channel: &Receiver<T>) -> Option<T> {
     for _ in 0..LOOKS {
         if !channel.is_empty() {
@@ -245,7 +266,14 @@ fn next_of<T: Drop, R: Wait>(rt: &R, channel: &Receiver<T>) -> Option<T> {
                 return Some(message);
             }
         }
-        yield_now();
+        pause();
     }
     channel.recv(rt).ok()
+}
+
+/// Lets a moment pass without a call of the system.
+fn pause() {
+    for _ in 0..TURNS {
+        spin_loop();
+    }
 }

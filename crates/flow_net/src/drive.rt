@@ -69,14 +69,52 @@ impl<W: Work> Engine<W> {
         match channels(alloc, &self.plan, room) {
             Ok((desk, (queue, reports))) => {
                 let threads = room.min(workers - 1);
-                drive_beside(self, rt, alloc, desk, &queue, &reports, threads, limit)
+                self.drive_with(rt, alloc, desk, &queue, &reports, threads, limit)
             }
             Err(_) => 0,
         }
     }
 
-    /// Drives the network until nothing is left to do, an event fails, or so many events are done. Answers how many are.
-    fn drive<R: Wait>(&mut self, rt: &R, alloc: Global, mut desk: Desk<W>, limit: u64) -> u64
+    /// Drives the network alone until a second job is out, and from then on beside so many threads: a short run starts
+    /// none. Answers how many events are done.
+    fn drive_with<R: Threads + Wait + Sync>(
+        &mut self,
+        rt: &R,
+        alloc: Global,
+        mut desk: Desk<W>,
+        queue: &Receiver<Task<W>>,
+        reports: &Sender<Report<W>>,
+        threads: usize,
+        limit: u64,
+    ) -> u64
+        requires kept { ∥ NetKeeps (layout_of self.old.plan) (works_of W.meaning (layout_of self.old.plan))
+            self.old.parts ∥₁ }
+        ensures same_plan { self.new.plan ≡ self.old.plan }
+        ensures happened { Happened (layout_of self.old.plan) (works_of W.meaning (layout_of self.old.plan)) result
+            self.old.parts self.new.parts }
+        ensures within { result ≤ limit }
+    {
+        let alone = self.drive(rt, alloc, &mut desk, limit);
+        if alone == limit || !desk.wants_crew() {
+            return alone;
+        }
+        desk.call_crew();
+        let beside = drive_beside(
+            self,
+            rt,
+            alloc,
+            desk,
+            queue,
+            reports,
+            threads,
+            limit - alone,
+        );
+        alone + beside
+    }
+
+    /// Drives the network until nothing is left to do, an event fails, a crew is wanted, or so many events are done.
+    /// Answers how many are.
+    fn drive<R: Wait>(&mut self, rt: &R, alloc: Global, desk: &mut Desk<W>, limit: u64) -> u64
         requires kept { ∥ NetKeeps (layout_of self.old.plan) (works_of W.meaning (layout_of self.old.plan))
             self.old.parts ∥₁ }
         ensures same_plan { self.new.plan ≡ self.old.plan }
@@ -86,12 +124,12 @@ impl<W: Work> Engine<W> {
     {
         let mut rest = limit;
         for _ in rt.forever() {
-            if rest == 0 || desk.is_closed() {
+            if rest == 0 || desk.is_closed() || desk.wants_crew() {
                 break;
             }
-            match self.go_on(rt, alloc, &mut desk, rest) {
+            match self.go_on(rt, alloc, desk, rest) {
                 Ok(count) => rest -= count,
-                Err(_fault) => break,
+                Err(_fault) => desk.close(),
             }
         }
         limit - rest
@@ -275,7 +313,7 @@ fn drive_beside<W: Work, R: Threads + Wait + Sync>(
             engine.entry.now.parts engine.exit.now.parts × (result ≤ limit) }
     {
         match desk.take() {
-            Some(desk) => engine.drive(rt, alloc, desk, limit),
+            Some(mut desk) => engine.drive(rt, alloc, &mut desk, limit),
             None => 0,
         }
     };
