@@ -43,7 +43,8 @@ use Rattle.flow_core.specs.Events.{value_from, slot_after, source_moves, target_
 use Rattle.flow_core.specs.Events.{line_after, moved_by, after_move, after}
 use Rattle.flow_core.specs.Keeps.{IsRun, NetKeeps}
 use Rattle.flow_core.specs.OneMove.{SourceMoved, TargetMoved, BlocksMoveWell, InputsMoveWell, TargetsMoveWell}
-use Rattle.flow_core.specs.State.{NetState, LineState, node_at, line_at, input_at}
+use Rattle.flow_link.specs.declared.trace.LinkState.{LinkState}
+use Rattle.flow_core.specs.State.{NetState, node_at, line_at, input_at}
 use Rattle.flow_core.specs.Statements.{EventsKeep}
 use Rattle.flow_core.proofs.PartsChange.{PartsInOrder, NodeSteps, given_at, taken_at, given_as, taken_as, parts_in_order}
 use Rattle.flow_core.proofs.PartsChange.{node_changes, given_stays, taken_stays, line_changes}
@@ -193,7 +194,7 @@ module _ {W : Type 0} (kept : NodesKept W) (jobs : JobsEndWell W) (views : Calls
         let settled = (looks_keep Value).settle phase goes.view taken in
         net_keeps layout meaning net keeps (target_sees layout meaning l phase target moved) looks.parts
         l line goes.view (looking_in phase taken) there
-        (looks.lines ∙ ap (λ (all : List LineState). set all l line) goes.steps.lines)
+        (looks.lines ∙ ap (λ (all : List LinkState). set all l line) goes.steps.lines)
         (looks.sources l there ∙ goes.steps.given)
         (looks.taken ∙ ap (looking_in phase) (goes.steps.targets l there)) (
           (looks_keep Value).in_keeps (facts_in layout l) phase line.slot goes.view taken goes.well.in_order,
@@ -223,7 +224,7 @@ module _ {W : Type 0} (kept : NodesKept W) (jobs : JobsEndWell W) (views : Calls
         let settled = (looks_keep Value).settle phase given goes.view in
         net_keeps layout meaning net keeps (source_sees layout meaning l phase source moved) looks.parts
         l line (looking_out phase given) goes.view there
-        (looks.lines ∙ ap (λ (all : List LineState). set all l line) goes.steps.lines)
+        (looks.lines ∙ ap (λ (all : List LinkState). set all l line) goes.steps.lines)
         (looks.given ∙ ap (looking_out phase) (goes.steps.sources l there))
         (looks.targets l there ∙ goes.steps.taken) (
           (looks_keep Value).out_keeps (facts_in layout l) phase line.slot given goes.view goes.well.in_order,

@@ -9,22 +9,23 @@ use Rattle.flow_link.specs.LinkOk.{LinkOk}
 use Rattle.flow_link.specs.Looks.{Seen}
 use Rattle.flow_link.specs.Views.{SourceView, TargetView}
 use Rattle.flow_core.specs.Keeps.{LineKeeps, NetKeeps}
-use Rattle.flow_core.specs.State.{NetState, LineState, fresh_line, line_at}
+use Rattle.flow_link.specs.declared.trace.LinkState.{LinkState}
+use Rattle.flow_core.specs.State.{NetState, fresh_line, line_at}
 use Rattle.flow_core.proofs.PartsChange.{PartsInOrder, given_at, taken_at}
 
 module _ {W : Type 0} (layout : Layout W) where
   -- a link in order, of which both ends have seen the phase
-  abbrev pub IsKept : ℕ → LineState → SourceView Value → TargetView Value → Type 0
+  abbrev pub IsKept : ℕ → LinkState → SourceView Value → TargetView Value → Type 0
   IsKept k line source target =
       LinkOk (facts_in layout k) line.phase line.slot source target × Seen line.phase source target
 
-  pub line_keeps : (new : NetState) (k : ℕ) (line : LineState) (source : SourceView Value) (target : TargetView Value)
+  pub line_keeps : (new : NetState) (k : ℕ) (line : LinkState) (source : SourceView Value) (target : TargetView Value)
       → line_at new k ≡ line → given_at layout new k ≡ source → taken_at layout new k ≡ target
       → IsKept k line source target
       → LineKeeps layout new k
   line_keeps new k line source target line_is given_is taken_is is_kept =
       let now =
-      subst (λ (x : LineState). IsKept k x (given_at layout new k) (taken_at layout new k)) (sym line_is)
+      subst (λ (x : LinkState). IsKept k x (given_at layout new k) (taken_at layout new k)) (sym line_is)
       (subst (λ (view : SourceView Value). IsKept k line view (taken_at layout new k)) (sym given_is)
       (subst (λ (view : TargetView Value). IsKept k line source view) (sym taken_is) is_kept)) in
       record { in_order = now.0; seen = now.1 }
@@ -50,7 +51,7 @@ module _ {W : Type 0} (layout : Layout W) where
     }
 
     -- one line has changed, and of the ends only its own
-    pub net_keeps : (l : ℕ) (line : LineState) (source : SourceView Value) (target : TargetView Value)
+    pub net_keeps : (l : ℕ) (line : LinkState) (source : SourceView Value) (target : TargetView Value)
         → l < length layout.links → new.lines ≡ set net.lines l line
         → given_at layout new l ≡ source → taken_at layout new l ≡ target → IsKept l line source target
         → ((k : ℕ) → k < length layout.links → (k ≡ l → ⊥) → given_at layout new k ≡ given_at layout net k)
@@ -65,13 +66,13 @@ module _ {W : Type 0} (layout : Layout W) where
         here =
             let low : l < length net.lines = omega (arith, keeps.line_count) in
             let line_is : line_at new l ≡ line =
-            ap (λ (all : List LineState). get_or all l fresh_line) lines
+            ap (λ (all : List LinkState). get_or all l fresh_line) lines
             ∙ get_or-set_same net.lines l line fresh_line low in
             line_keeps new l line source target line_is given_is taken_is is_kept
 
         elsewhere : (k : ℕ) → k < length layout.links → (k ≡ l → ⊥) → LineKeeps layout new k
         elsewhere k low apart =
             let line_is : line_at new k ≡ line_at net k =
-            ap (λ (all : List LineState). get_or all k fresh_line) lines
+            ap (λ (all : List LinkState). get_or all k fresh_line) lines
             ∙ get_or-set_other net.lines l k line fresh_line apart in
             line_stays k low line_is (given k low apart) (taken k low apart)

@@ -18,7 +18,8 @@ use Rattle.flow_block.specs.NodeLaw.{NodeLaw}
 use Rattle.flow_block.specs.Planned.{in_place, out_place, input_place}
 use Rattle.flow_core.specs.Events.{with_node, with_input, with_line}
 use Rattle.flow_core.specs.Keeps.{IsRun, NetKeeps}
-use Rattle.flow_core.specs.State.{NetState, LineState, node_at, no_node, input_at, source_from}
+use Rattle.flow_link.specs.declared.trace.LinkState.{LinkState}
+use Rattle.flow_core.specs.State.{NetState, node_at, no_node, input_at, source_from}
 use Rattle.flow_core.specs.State.{target_from}
 use Rattle.flow_core.proofs.PlacesOfLinks.{exit_there, copy_there, port_there, entry_there}
 use Rattle.flow_core.proofs.SourcesByKind.{shared_view, copied_view, same_kind}
@@ -205,7 +206,7 @@ module _ {W : Type 0} (layout : Layout W) where
       taken_as_before k = taken_from k (link_in layout.links k).target
 
     -- A line changes
-    module _ (net : NetState) (parts : PartsInOrder net) (l : ℕ) (line : LineState) where
+    module _ (net : NetState) (parts : PartsInOrder net) (l : ℕ) (line : LinkState) where
       pub line_changes : PartsInOrder (with_line l line net)
       line_changes = record {
         node_count = parts.node_count;

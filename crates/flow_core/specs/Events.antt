@@ -23,7 +23,8 @@ use Rattle.flow_block.specs.NextMoves.{next_in, next_source}
 use Rattle.flow_block.specs.Node.{NodeState, NodeCall, given_next, after as after_call}
 use Rattle.flow_block.specs.Peeks.{lacks_next, may_make, may_begin, may_end, may_complete, next_fault, may_finish}
 use Rattle.flow_block.specs.Planned.{in_place, out_place, input_place, block_makes}
-use Rattle.flow_core.specs.State.{NetState, LineState, node_at, line_at, input_at}
+use Rattle.flow_link.specs.declared.trace.LinkState.{LinkState}
+use Rattle.flow_core.specs.State.{NetState, node_at, line_at, input_at}
 
 pub data NetEvent : Type 0 where
   -- a move at a link
@@ -102,7 +103,7 @@ slot_after _ given slot = slot
 abbrev pub with_node : ℕ → (NodeState → NodeState) → NetState → NetState
 with_node b change net = record net { nodes = set net.nodes b (change (node_at net b)) }
 
-abbrev pub with_line : ℕ → LineState → NetState → NetState
+abbrev pub with_line : ℕ → LinkState → NetState → NetState
 with_line l line net = record net { lines = set net.lines l line }
 
 module _ {W : Type 0} (layout : Layout W) where
@@ -178,7 +179,7 @@ module _ {W : Type 0} (layout : Layout W) (meaning : ℕ → Value → Result (L
   target_sees l phase (Port t p) net = with_node t (node_after t (Some (NodeCall.look_in p (in_place layout t p l) phase))) net
   target_sees l phase Exit net = net
 
-  abbrev pub line_after : ℕ → Move → Phase → LinkSource → NetState → LineState
+  abbrev pub line_after : ℕ → Move → Phase → LinkSource → NetState → LinkState
   line_after l next phase source net =
       record { phase = phase; slot = slot_after next (value_from layout net source) (line_at net l).slot }
 

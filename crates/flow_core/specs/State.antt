@@ -8,6 +8,7 @@ use Rattle.flow_link.specs.declared.plan.LinkSource.{LinkSource}
 use Rattle.flow_link.specs.declared.plan.LinkSource.TheVariants.{Block, Input}
 use Rattle.flow_link.specs.declared.plan.LinkTarget.{LinkTarget}
 use Rattle.flow_link.specs.declared.plan.LinkTarget.TheVariants.{Port, Exit}
+use Rattle.flow_link.specs.declared.trace.LinkState.{LinkState}
 use Rattle.flow_link.specs.Composes.{Ends, is_refused_phase}
 use Rattle.flow_link.specs.Layout.{Layout}
 use Rattle.flow_link.specs.Plan.{link_in}
@@ -20,18 +21,13 @@ use Rattle.flow_block.specs.Planned.{in_place, out_place, input_place, fresh_nod
 use Rattle.flow_link.specs.Lists.{below}
 use Rattle.std.specs.Prelude.{length, replicate}
 
--- a link: its phase, and what lies in its slot
-pub record LineState : Type 0 where
-  pub phase : Phase
-  pub slot : Option Value
-
--- blocks and links by their numbers, and inputs in the order of their blocks
+-- blocks and links by their numbers, and inputs in the order of their blocks. A link has its phase, and what lies in its slot
 pub record NetState : Type 0 where
   pub nodes : List NodeState
   pub inputs : List InputState
-  pub lines : List LineState
+  pub lines : List LinkState
 
-abbrev pub fresh_line : LineState
+abbrev pub fresh_line : LinkState
 fresh_line = record { phase = Idle; slot = None }
 
 abbrev pub no_node : NodeState
@@ -44,7 +40,7 @@ no_node = record {
 abbrev pub node_at : NetState → ℕ → NodeState
 node_at net b = get_or net.nodes b no_node
 
-abbrev pub line_at : NetState → ℕ → LineState
+abbrev pub line_at : NetState → ℕ → LinkState
 line_at net l = get_or net.lines l fresh_line
 
 -- an exit's end; nobody receives there yet

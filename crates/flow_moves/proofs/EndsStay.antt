@@ -22,7 +22,8 @@ use Rattle.flow_block.specs.NodeKeeps.{InAt, any_stage}
 use Rattle.flow_block.proofs.PortsChange.{port_of_map}
 use Rattle.flow_block.proofs.RoomBack.{length_back, port_back}
 use Rattle.flow_core.specs.Events.{out_call, copy_call, source_call, in_call, with_line}
-use Rattle.flow_core.specs.State.{NetState, LineState, node_at, no_node}
+use Rattle.flow_link.specs.declared.trace.LinkState.{LinkState}
+use Rattle.flow_core.specs.State.{NetState, node_at, no_node}
 use Rattle.flow_core.proofs.PlacesTell.{element_set}
 use Rattle.flow_moves.specs.Calls.{called}
 use Rattle.flow_moves.specs.Ready.{SourceIsThere, TargetIsThere, exit_count}
@@ -141,12 +142,12 @@ module _ (makes : ℕ → Value → Result (List Value) ℕ) (next : Move) where
   source_lines (Input b) k net = refl
 
 -- a change of a line leaves all ends
-pub source_beside : (l : ℕ) (line : LineState) (source : LinkSource) (k : ℕ) (net : NetState) → SourceIsThere net source k
+pub source_beside : (l : ℕ) (line : LinkState) (source : LinkSource) (k : ℕ) (net : NetState) → SourceIsThere net source k
     → SourceIsThere (with_line l line net) source k
 source_beside l line (Block s) k net there = there
 source_beside l line (Input b) k net there = there
 
-pub target_beside : (l : ℕ) (line : LineState) (target : LinkTarget) (k : ℕ) (net : NetState) → TargetIsThere net target k
+pub target_beside : (l : ℕ) (line : LinkState) (target : LinkTarget) (k : ℕ) (net : NetState) → TargetIsThere net target k
     → TargetIsThere (with_line l line net) target k
 target_beside l line (Port t p) k net there = there
 target_beside l line Exit k net there = there

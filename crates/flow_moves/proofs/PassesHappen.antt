@@ -37,7 +37,8 @@ use Rattle.flow_core.specs.Events.{NetEvent, LinkMay, MayHappen, is_of_source, a
 use Rattle.flow_core.specs.Events.{source_moves, target_moves, source_sees, target_sees, source_peek, target_peek, with_line}
 use Rattle.flow_core.specs.Events.{source_look}
 use Rattle.flow_core.specs.Keeps.{NetKeeps}
-use Rattle.flow_core.specs.State.{NetState, LineState, node_at, line_at, input_at, source_from, target_from, no_node, fresh_line}
+use Rattle.flow_link.specs.declared.trace.LinkState.{LinkState}
+use Rattle.flow_core.specs.State.{NetState, node_at, line_at, input_at, source_from, target_from, no_node, fresh_line}
 use Rattle.flow_core.proofs.NetworksInOrder.{all_events_keep}
 use Rattle.flow_core.proofs.SourcesByKind.{shared_view, shared_next, copied_view, copied_next}
 use Rattle.flow_moves.specs.Passes.{PassesHappen, are_apart, takes_now}
@@ -72,19 +73,19 @@ module _ {W : Type 0} (layout : Layout W) (meaning : ℕ → Value → Result (L
   into_sees_lines phase Exit net = refl
 
   module _ (net : NetState) (low : l < length net.lines) (next : Move) (phase : Phase) where
-    abbrev line_then : LineState
+    abbrev line_then : LinkState
     line_then = line_after layout meaning l next phase link.source net
 
     line_of_moved : (by_source : Bool) → line_at (moved_by layout meaning by_source l next phase link net) l ≡ line_then
     line_of_moved true =
         let moved = source_moves layout meaning l next link.source net in
-        ap (λ (lines : List LineState). get_or lines l fresh_line) (into_sees_lines phase link.target (with_line l line_then moved))
-        ∙ ap (λ (lines : List LineState). get_or (set lines l line_then) l fresh_line) (moves_lines next link.source net)
+        ap (λ (lines : List LinkState). get_or lines l fresh_line) (into_sees_lines phase link.target (with_line l line_then moved))
+        ∙ ap (λ (lines : List LinkState). get_or (set lines l line_then) l fresh_line) (moves_lines next link.source net)
         ∙ get_or-set_same net.lines l line_then fresh_line low
     line_of_moved false =
         let moved = target_moves layout meaning l next link.target net in
-        ap (λ (lines : List LineState). get_or lines l fresh_line) (from_sees_lines phase link.source (with_line l line_then moved))
-        ∙ ap (λ (lines : List LineState). get_or (set lines l line_then) l fresh_line) (takes_lines next link.target net)
+        ap (λ (lines : List LinkState). get_or lines l fresh_line) (from_sees_lines phase link.source (with_line l line_then moved))
+        ∙ ap (λ (lines : List LinkState). get_or (set lines l line_then) l fresh_line) (takes_lines next link.target net)
         ∙ get_or-set_same net.lines l line_then fresh_line low
 
     pub moved_is : phase_after (line_at net l).phase next ≡ Some phase
@@ -95,26 +96,26 @@ module _ {W : Type 0} (layout : Layout W) (meaning : ℕ → Value → Result (L
         → (line_at (after layout meaning (NetEvent.at_link l next) net) l).phase ≡ phase
     phase_then step =
         ap (λ (now : NetState). (line_at now l).phase) (moved_is step)
-        ∙ ap (λ (line : LineState). line.phase) (line_of_moved (is_of_source next))
+        ∙ ap (λ (line : LinkState). line.phase) (line_of_moved (is_of_source next))
 
   -- What the ends would do next
 
   module _ (i : ℕ) (net : NetState) where
     -- the target of an offer
-    abbrev offered : LinkSource → LineState → NetState
+    abbrev offered : LinkSource → LinkState → NetState
     offered from line = with_line l line (source_moves layout meaning l (Offer i) from net)
 
-    stays_beside : (from : LinkSource) (line : LineState) (t p : ℕ) → are_apart from (Port t p) ≡ true
+    stays_beside : (from : LinkSource) (line : LinkState) (t p : ℕ) → are_apart from (Port t p) ≡ true
         → node_at (offered from line) t ≡ node_at net t
     stays_beside (Input b) line t p apart = refl
     stays_beside (Block s) line t p apart =
         get_or-set_other net.nodes s t _ no_node (λ same. blocks_apart s t apart (sym same))
 
-    as_many : (from : LinkSource) (line : LineState) → length (offered from line).nodes ≡ length net.nodes
+    as_many : (from : LinkSource) (line : LinkState) → length (offered from line).nodes ≡ length net.nodes
     as_many (Input b) line = refl
     as_many (Block s) line = length-set net.nodes s _
 
-    wants_next : (from : LinkSource) (line : LineState) (into : LinkTarget) → TargetIsThere net into (target_place layout into l)
+    wants_next : (from : LinkSource) (line : LinkState) (into : LinkTarget) → TargetIsThere net into (target_place layout into l)
         → are_apart from into ≡ true → takes_now net into (target_place layout into l) ≡ true
         → target_peek layout (target_sees layout meaning l (Offered i) into (offered from line)) l into ≡ Some Want
     wants_next from line Exit there apart takes = absurd (cc)
@@ -130,19 +131,19 @@ module _ {W : Type 0} (layout : Layout W) (meaning : ℕ → Value → Result (L
         ∙ still_accepts k i port there.1.place takes
 
     -- the source of an offer that is wanted
-    abbrev wanted : LinkTarget → LineState → NetState
+    abbrev wanted : LinkTarget → LinkState → NetState
     wanted into line = with_line l line (target_moves layout meaning l Want into net)
 
-    node_beside : (into : LinkTarget) (line : LineState) (s : ℕ) → are_apart (Block s) into ≡ true
+    node_beside : (into : LinkTarget) (line : LinkState) (s : ℕ) → are_apart (Block s) into ≡ true
         → node_at (wanted into line) s ≡ node_at net s
     node_beside Exit line s apart = refl
     node_beside (Port t p) line s apart = get_or-set_other net.nodes t s _ no_node (blocks_apart s t apart)
 
-    count_beside : (into : LinkTarget) (line : LineState) → length (wanted into line).nodes ≡ length net.nodes
+    count_beside : (into : LinkTarget) (line : LinkState) → length (wanted into line).nodes ≡ length net.nodes
     count_beside Exit line = refl
     count_beside (Port t p) line = length-set net.nodes t _
 
-    inputs_beside : (into : LinkTarget) (line : LineState) → (wanted into line).inputs ≡ net.inputs
+    inputs_beside : (into : LinkTarget) (line : LinkState) → (wanted into line).inputs ≡ net.inputs
     inputs_beside Exit line = refl
     inputs_beside (Port t p) line = refl
 
@@ -177,7 +178,7 @@ module _ {W : Type 0} (layout : Layout W) (meaning : ℕ → Value → Result (L
     block_gives s k old true shares there out = shared_gives s k old shares there out
     block_gives s k old false copying there out = copied_gives s k old copying there out
 
-    gives_next : (from : LinkSource) (into : LinkTarget) (line : LineState) → SourceIsThere net from (source_place layout from l)
+    gives_next : (from : LinkSource) (into : LinkTarget) (line : LinkState) → SourceIsThere net from (source_place layout from l)
         → are_apart from into ≡ true → (source_from layout net l from).stage ≡ SourceSeen.out i
         → source_peek layout (source_sees layout meaning l (Wanted i) from (wanted into line)) l from ≡ Some Give
     gives_next (Block s) into line there apart out =
@@ -245,7 +246,7 @@ passes_happen W layout meaning run net keeps l i there would small may =
     ((looks_keep Value).seen_tells _ _ _ _ _ line.in_order line.seen) in
     let in_place_at : (now : NetState) → NetKeeps layout meaning now → IsThere now l (route_of layout l) =
     λ now kept. links_are_there W layout meaning run now kept l there in
-    let idle : (line_at net l).phase ≡ Idle = ap (λ (line : LineState). line.phase) tells.idle in
+    let idle : (line_at net l).phase ≡ Idle = ap (λ (line : LinkState). line.phase) tells.idle in
     -- the offer
     let offer : MayHappen layout meaning (NetEvent.at_link l (Offer i)) net =
     record { enabled = sources_may W layout meaning run net keeps l (Offer i) there would; ids = small } in

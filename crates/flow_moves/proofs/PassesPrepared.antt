@@ -21,7 +21,8 @@ use Rattle.flow_block.specs.Passes.{on_port, takes_hand, receives_on, input_send
 use Rattle.flow_block.proofs.PassesOfNodes.{with_twice}
 use Rattle.flow_block.specs.declared.planned.Route.{Route}
 use Rattle.flow_core.specs.Events.{with_node, with_line}
-use Rattle.flow_core.specs.State.{NetState, LineState, node_at, no_node, fresh_line}
+use Rattle.flow_link.specs.declared.trace.LinkState.{LinkState}
+use Rattle.flow_core.specs.State.{NetState, node_at, no_node, fresh_line}
 use Rattle.flow_moves.specs.Passed.{node_prepared, node_offers, node_sends_ready, source_prepared, target_prepared, sent_ready, received_by, offered_by, passed}
 use Rattle.flow_moves.specs.Passed.{BlockMaySend, InputMaySend, MaySend, BlockMayReceive, MayReceive}
 use Rattle.flow_moves.specs.Passes.{id_in, id_next, may_carry, takes_now, are_apart, offered_along}
@@ -257,7 +258,7 @@ lines_stay (Block s) k net = refl
 lines_stay (Input b) k net = refl
 
 -- the line and the target of a message that is only offered
-abbrev pub offered_then : (ℕ → Value → Result (List Value) ℕ) → ℕ → ℕ → LinkTarget → ℕ → List LineState → NetState → NetState
+abbrev pub offered_then : (ℕ → Value → Result (List Value) ℕ) → ℕ → ℕ → LinkTarget → ℕ → List LinkState → NetState → NetState
 offered_then makes l i target j lines moved =
     target_looked makes (Offered i) target j
     (with_line l (record { phase = Offered i; slot = (get_or lines l fresh_line).slot }) moved)
@@ -274,7 +275,7 @@ offered_is makes l id route net there =
     let first = source_prepared source k net in
     let i = id_next net source k in
     ap (λ (n : ℕ). offered_then makes l n route.target route.target_place first.lines (offered_by source k first)) (id_stays net id source k there)
-    ∙ ap (λ (lines : List LineState). offered_then makes l i route.target route.target_place lines (offered_by source k first))
+    ∙ ap (λ (lines : List LinkState). offered_then makes l i route.target route.target_place lines (offered_by source k first))
     (lines_stay source k net)
     ∙ ap (λ (moved : NetState). offered_then makes l i route.target route.target_place net.lines moved)
     (offered_ready net id makes i source k there)

@@ -18,7 +18,8 @@ use Rattle.flow_block.specs.Passes.{receives_on, input_sends}
 use Rattle.flow_block.specs.declared.planned.Route.{Route}
 use Rattle.flow_core.specs.Events.{source_call, source_look, in_call, input_call, input_after}
 use Rattle.flow_core.specs.Events.{slot_after, with_node, with_line}
-use Rattle.flow_core.specs.State.{NetState, LineState, node_at, line_at, no_node, fresh_line}
+use Rattle.flow_link.specs.declared.trace.LinkState.{LinkState}
+use Rattle.flow_core.specs.State.{NetState, node_at, line_at, no_node, fresh_line}
 use Rattle.flow_moves.specs.Calls.{called}
 use Rattle.flow_moves.specs.Passed.{passed, node_sends}
 use Rattle.flow_moves.specs.Passes.{may_pass, are_apart, is_idle_line, is_idle_phase, takes_now, may_carry, passed_along}
@@ -27,10 +28,10 @@ use Rattle.flow_moves.specs.Ways.{input_in, with_input_in, value_next, moved_by_
 use Rattle.flow_moves.proofs.SendsByKind.{given_wanted, sends_is}
 
 -- a line over which nothing is under way
-abbrev IdleLine : LineState
+abbrev IdleLine : LinkState
 IdleLine = record { phase = Idle; slot = None }
 
-abbrev line_of : Phase → Option Value → LineState
+abbrev line_of : Phase → Option Value → LinkState
 line_of phase slot = record { phase = phase; slot = slot }
 
 line_is_idle : (phase : Phase) (slot : Option Value) → is_idle_phase phase && is_none slot ≡ true
@@ -45,23 +46,23 @@ module _ (makes : ℕ → Value → Result (List Value) ℕ) (l i : ℕ) (value 
   abbrev way : Route
   way = record { source = Block s; source_place = k; target = Port t p; target_place = j }
 
-  abbrev at_ends : NodeState → NodeState → LineState → NetState
+  abbrev at_ends : NodeState → NodeState → LinkState → NetState
   at_ends a b line = record net { nodes = set (set net.nodes s a) t b; lines = set net.lines l line }
 
   t_still : (a : NodeState) → t < length (set net.nodes s a)
   t_still a = rw (length-set net.nodes s a) t_there
 
-  s_at : (a b : NodeState) (line : LineState) → node_at (at_ends a b line) s ≡ a
+  s_at : (a b : NodeState) (line : LinkState) → node_at (at_ends a b line) s ≡ a
   s_at a b line =
       get_or-set_other (set net.nodes s a) t s b no_node apart ∙ get_or-set_same net.nodes s a no_node s_there
 
-  t_at : (a b : NodeState) (line : LineState) → node_at (at_ends a b line) t ≡ b
+  t_at : (a b : NodeState) (line : LinkState) → node_at (at_ends a b line) t ≡ b
   t_at a b line = get_or-set_same (set net.nodes s a) t b no_node (t_still a)
 
-  l_at : (a b : NodeState) (line : LineState) → line_at (at_ends a b line) l ≡ line
+  l_at : (a b : NodeState) (line : LinkState) → line_at (at_ends a b line) l ≡ line
   l_at a b line = get_or-set_same net.lines l line fresh_line l_there
 
-  change_s : (f : NodeState → NodeState) (a b : NodeState) (line : LineState)
+  change_s : (f : NodeState → NodeState) (a b : NodeState) (line : LinkState)
       → with_node s f (at_ends a b line) ≡ at_ends (f a) b line
   change_s f a b line =
       ap (λ (x : NodeState). record (at_ends a b line) { nodes = set (set (set net.nodes s a) t b) s (f x) }) (s_at a b line)
@@ -69,18 +70,18 @@ module _ (makes : ℕ → Value → Result (List Value) ℕ) (l i : ℕ) (value 
       (set_comm (set net.nodes s a) t s b (f a) (λ same. apart (sym same))
       ∙ ap (λ (nodes : List NodeState). set nodes t b) (set-set net.nodes s a (f a)))
 
-  change_t : (f : NodeState → NodeState) (a b : NodeState) (line : LineState)
+  change_t : (f : NodeState → NodeState) (a b : NodeState) (line : LinkState)
       → with_node t f (at_ends a b line) ≡ at_ends a (f b) line
   change_t f a b line =
       ap (λ (x : NodeState). record (at_ends a b line) { nodes = set (set (set net.nodes s a) t b) t (f x) }) (t_at a b line)
       ∙ ap (λ (nodes : List NodeState). record (at_ends a b line) { nodes = nodes })
       (set-set (set net.nodes s a) t b (f b))
 
-  change_l : (other : LineState) (a b : NodeState) (line : LineState) → with_line l other (at_ends a b line) ≡ at_ends a b other
+  change_l : (other : LinkState) (a b : NodeState) (line : LinkState) → with_line l other (at_ends a b line) ≡ at_ends a b other
   change_l other a b line =
-      ap (λ (lines : List LineState). record (at_ends a b line) { lines = lines }) (set-set net.lines l line other)
+      ap (λ (lines : List LinkState). record (at_ends a b line) { lines = lines }) (set-set net.lines l line other)
 
-  abbrev line_then : Move → Phase → Option Value → LineState → LineState
+  abbrev line_then : Move → Phase → Option Value → LinkState → LinkState
   line_then next phase given line = record { phase = phase; slot = slot_after next given line.slot }
 
   abbrev s_moved : Move → NodeState → NodeState
@@ -95,14 +96,14 @@ module _ (makes : ℕ → Value → Result (List Value) ℕ) (l i : ℕ) (value 
   abbrev t_looked : Phase → NodeState → NodeState
   t_looked phase b = called (makes t) (Some (NodeCall.look_in p j phase)) b
 
-  by_source : (next : Move) (phase : Phase) (a b : NodeState) (line : LineState)
+  by_source : (next : Move) (phase : Phase) (a b : NodeState) (line : LinkState)
       → moved_by_source makes l next phase way (at_ends a b line)
       ≡ at_ends (s_moved next a) (t_looked phase b) (line_then next phase (given_next a) line)
   by_source next phase a b line =
       let old = at_ends a b line in
       ap (λ (x : NodeState). with_node t (t_looked phase) (with_line l (line_then next phase (given_next x) (line_at old l))
       (with_node s (s_moved next) old))) (s_at a b line)
-      ∙ ap (λ (x : LineState). with_node t (t_looked phase) (with_line l (line_then next phase (given_next a) x)
+      ∙ ap (λ (x : LinkState). with_node t (t_looked phase) (with_line l (line_then next phase (given_next a) x)
       (with_node s (s_moved next) old))) (l_at a b line)
       ∙ ap (λ (x : NetState). with_node t (t_looked phase) (with_line l (line_then next phase (given_next a) line) x))
       (change_s (s_moved next) a b line)
@@ -110,7 +111,7 @@ module _ (makes : ℕ → Value → Result (List Value) ℕ) (l i : ℕ) (value 
       (change_l (line_then next phase (given_next a) line) (s_moved next a) b line)
       ∙ change_t (t_looked phase) (s_moved next a) b (line_then next phase (given_next a) line)
 
-  by_target : (next : Move) (phase : Phase) (a b : NodeState) (line : LineState)
+  by_target : (next : Move) (phase : Phase) (a b : NodeState) (line : LinkState)
       → moved_by_target makes l next phase way (at_ends a b line)
       ≡ at_ends (s_looked phase a) (t_moved next line.slot b) (line_then next phase (given_next a) line)
   by_target next phase a b line =
@@ -118,7 +119,7 @@ module _ (makes : ℕ → Value → Result (List Value) ℕ) (l i : ℕ) (value 
       let after = line_then next phase (given_next a) line in
       ap (λ (x : NodeState). with_node s (s_looked phase) (with_line l (line_then next phase (given_next x) (line_at old l))
       (with_node t (t_moved next (line_at old l).slot) old))) (s_at a b line)
-      ∙ ap (λ (x : LineState). with_node s (s_looked phase) (with_line l (line_then next phase (given_next a) x)
+      ∙ ap (λ (x : LinkState). with_node s (s_looked phase) (with_line l (line_then next phase (given_next a) x)
       (with_node t (t_moved next x.slot) old))) (l_at a b line)
       ∙ ap (λ (x : NetState). with_node s (s_looked phase) (with_line l after x)) (change_t (t_moved next line.slot) a b line)
       ∙ ap (λ (x : NetState). with_node s (s_looked phase) x) (change_l after a (t_moved next line.slot b) line)
@@ -128,7 +129,7 @@ module _ (makes : ℕ → Value → Result (List Value) ℕ) (l i : ℕ) (value 
   begins = sym (
       ap (λ (nodes : List NodeState). record net { nodes = nodes; lines = set net.lines l (line_at net l) })
       (ap (λ (nodes : List NodeState). set nodes t (node_at net t)) (set-get_or net.nodes s no_node) ∙ set-get_or net.nodes t no_node)
-      ∙ ap (λ (lines : List LineState). record net { lines = lines }) (set-get_or net.lines l fresh_line))
+      ∙ ap (λ (lines : List LinkState). record net { lines = lines }) (set-get_or net.lines l fresh_line))
 
   module _ (head : given_next (node_at net s) ≡ Some value) (idle : line_at net l ≡ IdleLine) where
     abbrev s_old : NodeState
@@ -150,7 +151,7 @@ module _ (makes : ℕ → Value → Result (List Value) ℕ) (l i : ℕ) (value 
         let later = λ (x : NetState). moved_by_target makes l Close Idle way (moved_by_target makes l Open (Opened i) way x) in
         let then_on = λ (x : NetState). later (moved_by_source makes l Give (Given i) way (moved_by_target makes l Want (Wanted i) way x)) in
         ap (λ (x : NetState). then_on (moved_by_source makes l (Offer i) (Offered i) way x)) begins
-        ∙ ap (λ (x : LineState). then_on (moved_by_source makes l (Offer i) (Offered i) way (at_ends s_old t_old x))) idle
+        ∙ ap (λ (x : LinkState). then_on (moved_by_source makes l (Offer i) (Offered i) way (at_ends s_old t_old x))) idle
         ∙ ap then_on (by_source (Offer i) (Offered i) s_old t_old IdleLine)
         ∙ ap (λ (x : NetState). later (moved_by_source makes l Give (Given i) way x))
         (by_target Want (Wanted i) a1 b1 (line_of (Offered i) None))
@@ -165,7 +166,7 @@ module _ (makes : ℕ → Value → Result (List Value) ℕ) (l i : ℕ) (value 
     alone : passed i value way net ≡ at_ends (node_sends k i s_old) (receives_on p j i value t_old) IdleLine
     alone =
         ap (λ (x : NetState). with_node t (receives_on p j i value) (with_node s (node_sends k i) x)) begins
-        ∙ ap (λ (x : LineState). with_node t (receives_on p j i value) (with_node s (node_sends k i) (at_ends s_old t_old x))) idle
+        ∙ ap (λ (x : LinkState). with_node t (receives_on p j i value) (with_node s (node_sends k i) (at_ends s_old t_old x))) idle
         ∙ ap (λ (x : NetState). with_node t (receives_on p j i value) x) (change_s (node_sends k i) s_old t_old IdleLine)
         ∙ change_t (receives_on p j i value) (node_sends k i s_old) t_old IdleLine
 
@@ -178,36 +179,36 @@ module _ (makes : ℕ → Value → Result (List Value) ℕ) (l i : ℕ) (value 
   abbrev way_in : Route
   way_in = record { source = Input from; source_place = k; target = Port t p; target_place = j }
 
-  abbrev at_both : InputState → NodeState → LineState → NetState
+  abbrev at_both : InputState → NodeState → LinkState → NetState
   at_both a b line = record { nodes = set net.nodes t b; inputs = set net.inputs k a; lines = set net.lines l line }
 
-  k_at : (a : InputState) (b : NodeState) (line : LineState) → input_in (at_both a b line) k ≡ a
+  k_at : (a : InputState) (b : NodeState) (line : LinkState) → input_in (at_both a b line) k ≡ a
   k_at a b line = get_or-set_same net.inputs k a no_input k_there
 
-  b_at : (a : InputState) (b : NodeState) (line : LineState) → node_at (at_both a b line) t ≡ b
+  b_at : (a : InputState) (b : NodeState) (line : LinkState) → node_at (at_both a b line) t ≡ b
   b_at a b line = get_or-set_same net.nodes t b no_node t_there
 
-  line_is : (a : InputState) (b : NodeState) (line : LineState) → line_at (at_both a b line) l ≡ line
+  line_is : (a : InputState) (b : NodeState) (line : LinkState) → line_at (at_both a b line) l ≡ line
   line_is a b line = get_or-set_same net.lines l line fresh_line l_there
 
-  input_changed : (f : InputState → InputState) (a : InputState) (b : NodeState) (line : LineState)
+  input_changed : (f : InputState → InputState) (a : InputState) (b : NodeState) (line : LinkState)
       → with_input_in k f (at_both a b line) ≡ at_both (f a) b line
   input_changed f a b line =
       ap (λ (x : InputState). record (at_both a b line) { inputs = set (set net.inputs k a) k (f x) }) (k_at a b line)
       ∙ ap (λ (inputs : List InputState). record (at_both a b line) { inputs = inputs }) (set-set net.inputs k a (f a))
 
-  node_changed : (f : NodeState → NodeState) (a : InputState) (b : NodeState) (line : LineState)
+  node_changed : (f : NodeState → NodeState) (a : InputState) (b : NodeState) (line : LinkState)
       → with_node t f (at_both a b line) ≡ at_both a (f b) line
   node_changed f a b line =
       ap (λ (x : NodeState). record (at_both a b line) { nodes = set (set net.nodes t b) t (f x) }) (b_at a b line)
       ∙ ap (λ (nodes : List NodeState). record (at_both a b line) { nodes = nodes }) (set-set net.nodes t b (f b))
 
-  line_changed : (other : LineState) (a : InputState) (b : NodeState) (line : LineState)
+  line_changed : (other : LinkState) (a : InputState) (b : NodeState) (line : LinkState)
       → with_line l other (at_both a b line) ≡ at_both a b other
   line_changed other a b line =
-      ap (λ (lines : List LineState). record (at_both a b line) { lines = lines }) (set-set net.lines l line other)
+      ap (λ (lines : List LinkState). record (at_both a b line) { lines = lines }) (set-set net.lines l line other)
 
-  abbrev next_line : Move → Phase → Option Value → LineState → LineState
+  abbrev next_line : Move → Phase → Option Value → LinkState → LinkState
   next_line next phase given line = record { phase = phase; slot = slot_after next given line.slot }
 
   abbrev in_moved : Move → InputState → InputState
@@ -222,14 +223,14 @@ module _ (makes : ℕ → Value → Result (List Value) ℕ) (l i : ℕ) (value 
   abbrev node_looked : Phase → NodeState → NodeState
   node_looked phase b = called (makes t) (Some (NodeCall.look_in p j phase)) b
 
-  by_input : (next : Move) (phase : Phase) (a : InputState) (b : NodeState) (line : LineState)
+  by_input : (next : Move) (phase : Phase) (a : InputState) (b : NodeState) (line : LinkState)
       → moved_by_source makes l next phase way_in (at_both a b line)
       ≡ at_both (in_moved next a) (node_looked phase b) (next_line next phase (next_value a) line)
   by_input next phase a b line =
       let old = at_both a b line in
       ap (λ (x : InputState). with_node t (node_looked phase) (with_line l (next_line next phase (next_value x) (line_at old l))
       (with_input_in k (in_moved next) old))) (k_at a b line)
-      ∙ ap (λ (x : LineState). with_node t (node_looked phase) (with_line l (next_line next phase (next_value a) x)
+      ∙ ap (λ (x : LinkState). with_node t (node_looked phase) (with_line l (next_line next phase (next_value a) x)
       (with_input_in k (in_moved next) old))) (line_is a b line)
       ∙ ap (λ (x : NetState). with_node t (node_looked phase) (with_line l (next_line next phase (next_value a) line) x))
       (input_changed (in_moved next) a b line)
@@ -237,7 +238,7 @@ module _ (makes : ℕ → Value → Result (List Value) ℕ) (l i : ℕ) (value 
       (line_changed (next_line next phase (next_value a) line) (in_moved next a) b line)
       ∙ node_changed (node_looked phase) (in_moved next a) b (next_line next phase (next_value a) line)
 
-  by_block : (next : Move) (phase : Phase) (a : InputState) (b : NodeState) (line : LineState)
+  by_block : (next : Move) (phase : Phase) (a : InputState) (b : NodeState) (line : LinkState)
       → moved_by_target makes l next phase way_in (at_both a b line)
       ≡ at_both (in_looked phase a) (node_moved next line.slot b) (next_line next phase (next_value a) line)
   by_block next phase a b line =
@@ -245,7 +246,7 @@ module _ (makes : ℕ → Value → Result (List Value) ℕ) (l i : ℕ) (value 
       let after = next_line next phase (next_value a) line in
       ap (λ (x : InputState). with_input_in k (in_looked phase) (with_line l (next_line next phase (next_value x) (line_at old l))
       (with_node t (node_moved next (line_at old l).slot) old))) (k_at a b line)
-      ∙ ap (λ (x : LineState). with_input_in k (in_looked phase) (with_line l (next_line next phase (next_value a) x)
+      ∙ ap (λ (x : LinkState). with_input_in k (in_looked phase) (with_line l (next_line next phase (next_value a) x)
       (with_node t (node_moved next x.slot) old))) (line_is a b line)
       ∙ ap (λ (x : NetState). with_input_in k (in_looked phase) (with_line l after x)) (node_changed (node_moved next line.slot) a b line)
       ∙ ap (λ (x : NetState). with_input_in k (in_looked phase) x) (line_changed after a (node_moved next line.slot b) line)
@@ -257,7 +258,7 @@ module _ (makes : ℕ → Value → Result (List Value) ℕ) (l i : ℕ) (value 
       (set-get_or net.nodes t no_node)
       ∙ ap (λ (inputs : List InputState). record net { inputs = inputs; lines = set net.lines l (line_at net l) })
       (set-get_or net.inputs k no_input)
-      ∙ ap (λ (lines : List LineState). record net { lines = lines }) (set-get_or net.lines l fresh_line))
+      ∙ ap (λ (lines : List LinkState). record net { lines = lines }) (set-get_or net.lines l fresh_line))
 
   module _ (head : next_value (input_in net k) ≡ Some value) (idle : line_at net l ≡ IdleLine) where
     abbrev in_old : InputState
@@ -280,7 +281,7 @@ module _ (makes : ℕ → Value → Result (List Value) ℕ) (l i : ℕ) (value 
         let then_on = λ (x : NetState).
         later (moved_by_source makes l Give (Given i) way_in (moved_by_target makes l Want (Wanted i) way_in x)) in
         ap (λ (x : NetState). then_on (moved_by_source makes l (Offer i) (Offered i) way_in x)) starts
-        ∙ ap (λ (x : LineState). then_on (moved_by_source makes l (Offer i) (Offered i) way_in (at_both in_old to_old x))) idle
+        ∙ ap (λ (x : LinkState). then_on (moved_by_source makes l (Offer i) (Offered i) way_in (at_both in_old to_old x))) idle
         ∙ ap then_on (by_input (Offer i) (Offered i) in_old to_old IdleLine)
         ∙ ap (λ (x : NetState). later (moved_by_source makes l Give (Given i) way_in x))
         (by_block Want (Wanted i) a1 b1 (line_of (Offered i) None))
@@ -293,7 +294,7 @@ module _ (makes : ℕ → Value → Result (List Value) ℕ) (l i : ℕ) (value 
     alone_input : passed i value way_in net ≡ at_both (input_sends i in_old) (receives_on p j i value to_old) IdleLine
     alone_input =
         ap (λ (x : NetState). with_node t (receives_on p j i value) (with_input_in k (input_sends i) x)) starts
-        ∙ ap (λ (x : LineState). with_node t (receives_on p j i value) (with_input_in k (input_sends i) (at_both in_old to_old x))) idle
+        ∙ ap (λ (x : LinkState). with_node t (receives_on p j i value) (with_input_in k (input_sends i) (at_both in_old to_old x))) idle
         ∙ ap (λ (x : NetState). with_node t (receives_on p j i value) x) (input_changed (input_sends i) in_old to_old IdleLine)
         ∙ node_changed (receives_on p j i value) (input_sends i in_old) to_old IdleLine
 

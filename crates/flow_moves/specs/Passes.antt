@@ -20,7 +20,8 @@ use Rattle.flow_block.specs.Input.{next_id}
 use Rattle.flow_block.specs.Routes.{route_of}
 use Rattle.flow_block.specs.declared.planned.Route.{Route}
 use Rattle.flow_core.specs.Events.{NetEvent, MayHappen, after}
-use Rattle.flow_core.specs.State.{NetState, LineState, node_at, line_at}
+use Rattle.flow_link.specs.declared.trace.LinkState.{LinkState}
+use Rattle.flow_core.specs.State.{NetState, node_at, line_at}
 use Rattle.flow_moves.specs.Statements.{InEachNet, source_would}
 use Rattle.flow_moves.specs.Ways.{input_in, moved_along}
 
@@ -64,7 +65,7 @@ is_idle_phase Idle = true
 is_idle_phase _ = false
 
 -- nothing is under way
-abbrev pub is_idle_line : LineState → Bool
+abbrev pub is_idle_line : LinkState → Bool
 is_idle_line line = is_idle_phase line.phase && is_none line.slot
 
 -- what the source offers over the link may go over it in one call

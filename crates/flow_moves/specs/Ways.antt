@@ -13,7 +13,8 @@ use Rattle.flow_block.specs.Input.{InputState, InputCall, no_input, input_move, 
 use Rattle.flow_block.specs.NextMoves.{next_in, next_source}
 use Rattle.flow_block.specs.Node.{NodeState, NodeCall, given_next}
 use Rattle.flow_core.specs.Events.{source_call, source_look, in_call, input_call, input_after, slot_after, with_node, with_line}
-use Rattle.flow_core.specs.State.{NetState, LineState, node_at, line_at}
+use Rattle.flow_link.specs.declared.trace.LinkState.{LinkState}
+use Rattle.flow_core.specs.State.{NetState, node_at, line_at}
 use Rattle.flow_moves.specs.Calls.{called}
 
 -- the input at a place among all inputs
@@ -66,7 +67,7 @@ module _ (makes : ℕ → Value → Result (List Value) ℕ) where
   target_looked phase Exit k net = net
 
   -- the line after a move that leads to this phase
-  abbrev pub line_moved : ℕ → Move → Phase → Route → NetState → LineState
+  abbrev pub line_moved : ℕ → Move → Phase → Route → NetState → LinkState
   line_moved l next phase route net = record {
     phase = phase;
     slot = slot_after next (value_next net route.source route.source_place) (line_at net l).slot;

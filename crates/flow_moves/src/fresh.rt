@@ -6,9 +6,8 @@ ghost use Rattle.flow_link.specs.Planned.{layout_of};
 ghost use Rattle.flow_block.specs.Planned.{fresh_node};
 ghost use Rattle.flow_core.specs.State.{fresh_line};
 
-use crate::parts::Line;
 use flow_block::{Block, Node, ports_of, rules_from};
-use flow_link::Plan;
+use flow_link::{LinkState, Phase, Plan};
 use std::alloc::{AllocError, Global};
 
 /// The blocks of a plan, in their order. It fails only where memory is out.
@@ -42,12 +41,15 @@ fn node_of<W>(alloc: Global, plan: &Plan<W>, number: usize) -> Result<Node, Allo
 }
 
 /// So many links that nothing has crossed. It fails only where memory is out.
-pub fn lines_of(alloc: Global, count: usize) -> Result<Vec<Line>, AllocError>
+pub fn lines_of(alloc: Global, count: usize) -> Result<Vec<LinkState>, AllocError>
     ensures { IfOk result (λ lines. lines.items ≡ replicate count fresh_line) }
 {
     let mut lines = Vec::with_capacity(alloc, count)?;
     for _made in 0..count {
-        lines.push(Line::new())?;
+        lines.push(LinkState {
+            phase: Phase::Idle,
+            slot: None,
+        })?;
     }
     Ok(lines)
 }

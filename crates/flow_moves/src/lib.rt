@@ -19,4 +19,4 @@ pub use laws::{
     blocks_are_planned, links_are_there, moves_are_ready, moves_go_along_ways,
     next_moves_may_happen, nothing_next_is_still, passes_may_happen,
 };
-pub use parts::{Line, Parts, is_of_source};
+pub use parts::{Parts, is_of_source};

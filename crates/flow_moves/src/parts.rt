@@ -3,7 +3,7 @@ ghost use Rattle.std.specs.Prelude.{◌≡◌, ℕ, ◌<◌, true, false, length
 ghost use Rattle.flow_value.specs.declared.value.Value.{Value};
 ghost use Rattle.flow_intake.specs.Calls.{first_of};
 ghost use Rattle.flow_core.specs.Events.{is_of_source, with_line};
-ghost use Rattle.flow_core.specs.State.{node_at, line_at, fresh_line};
+ghost use Rattle.flow_core.specs.State.{node_at, line_at};
 ghost use Rattle.flow_moves.specs.Calls.{handed, left_in_slot, slot_after_source};
 ghost use Rattle.flow_moves.specs.Ready.{SourceIsThere, TargetIsThere, SourceIsReady, TargetIsReady, IsThere, IsReady};
 ghost use Rattle.flow_moves.specs.Ways.{input_in, source_next, target_next, lacks_id, value_next};
@@ -12,55 +12,17 @@ ghost use Rattle.flow_moves.specs.Ways.{moved_by_source, moved_by_target};
 
 use crate::ends::{look_exit, move_exit, move_in, move_input, next_of_exit};
 use flow_block::{Input, Node, Route};
-use flow_link::{LinkSource, LinkTarget, Move, Phase, SourceStage};
+use flow_link::{LinkSource, LinkState, LinkTarget, Move, Phase, SourceStage};
 use flow_value::Parcel;
 use std::alloc::{AllocError, Global};
 use std::marker::Model;
-
-/// A link between two moves: its phase, and what lies in its slot. Contracts see a `LineState`.
-#[derive(Drop)]
-pub struct Line {
-    pub(crate) phase: Phase,
-    pub(crate) slot: Option<Parcel>,
-}
-
-impl Model for Line {
-    ghost use Rattle.std.specs.Coded.{codes};
-    ghost use Rattle.flow_value.specs.contracts.value.Value as content;
-    ghost use Rattle.flow_core.specs.State.{LineState};
-
-    ghost Value = { LineState };
-
-    ghost coded = { Prim.hlevel (codes, content.the_row.coded) };
-
-    ghost view = { λ l. record { phase = l.phase; slot = l.slot } };
-}
-
-impl Line {
-    /// A link that nothing has crossed.
-    pub fn new() -> Line
-        ensures { result ≡ fresh_line }
-    {
-        Line {
-            phase: Phase::Idle,
-            slot: None,
-        }
-    }
-
-    /// How far the message over it has come.
-    pub fn phase(&self) -> Phase
-        ensures { result ≡ self.now.phase }
-    {
-        self.phase
-    }
-}
 
 /// All blocks and links by their numbers, and all inputs in the order of their blocks. Contracts see a `NetState`.
 #[derive(Drop)]
 pub struct Parts {
     pub(crate) nodes: Vec<Node>,
     pub(crate) inputs: Vec<Input>,
-    pub(crate) lines: Vec<Line>,
+    pub(crate) lines: Vec<LinkState>,
 }
 
 impl Model for Parts {
@@ -78,7 +40,7 @@ impl Model for Parts {
 
 impl Parts {
     /// A network of these blocks, inputs and links.
-    pub fn new(nodes: Vec<Node>, inputs: Vec<Input>, lines: Vec<Line>) -> Parts
+    pub fn new(nodes: Vec<Node>, inputs: Vec<Input>, lines: Vec<LinkState>) -> Parts
         ensures { result ≡ record { nodes = nodes.items; inputs = inputs.items; lines = lines.items } }
     {
         Parts {

@@ -15,8 +15,8 @@ use crate::engine::Engine;
 use crate::net::Net;
 use crate::posted::Posted;
 use flow_block::{Input, Node, Route, routes_of};
-use flow_link::Plan;
-use flow_moves::{Line, Parts, lines_of, nodes_of};
+use flow_link::{LinkState, Plan};
+use flow_moves::{Parts, lines_of, nodes_of};
 use flow_value::Work;
 use std::alloc::{AllocError, Global};
 
@@ -25,7 +25,7 @@ use std::alloc::{AllocError, Global};
 struct Frame {
     nodes: Vec<Node>,
     inputs: Vec<Input>,
-    lines: Vec<Line>,
+    lines: Vec<LinkState>,
     routes: Vec<Route>,
     agenda: Agenda,
 }

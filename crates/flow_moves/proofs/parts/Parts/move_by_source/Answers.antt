@@ -1,5 +1,6 @@
 use Rattle.std.proofs.Common.{◌<◌, ap, sym, subst, List, length, ◌∙◌}
-use Rattle.flow_core.specs.State.{NetState, LineState, line_at}
+use Rattle.flow_link.specs.declared.trace.LinkState.{LinkState}
+use Rattle.flow_core.specs.State.{NetState, line_at}
 use Rattle.flow_moves.specs.Calls.{slot_after_source}
 use Rattle.flow_moves.specs.Ready.{TargetIsThere}
 use Rattle.flow_moves.proofs.EndsStay.{target_stays, target_beside, source_lines, nothing_made}
@@ -11,7 +12,7 @@ pass_line-requires c =
     let old = c.args.self.now in
     let same = ap (λ (net : NetState). net.lines) (c.in_ok-given.ensures.done nothing_made)
     ∙ source_lines nothing_made c.args.next route.source route.source_place old in
-    subst (λ (lines : List LineState). c.args.id < length lines) (sym same) c.requires.there.line
+    subst (λ (lines : List LinkState). c.args.id < length lines) (sym same) c.requires.there.line
 
 pub target_looks-requires : goal.target_looks-requires
 target_looks-requires c =
