@@ -7,7 +7,7 @@ use Rattle.flow_link.specs.declared.draft.BlockKind.TheVariants.{Buffer, WriteOn
 use Rattle.flow_link.specs.Plan.{has_work, is_write_once}
 use Rattle.flow_intake.specs.Calls.{first_of}
 use Rattle.flow_outlet.specs.declared.fault.OutletFault.{OutletFault}
-use Rattle.flow_outlet.specs.declared.fault.OutletFault.TheVariants.{Ids}
+use Rattle.flow_outlet.specs.declared.fault.OutletFault.TheVariants.{Ids, Memory}
 use Rattle.flow_outlet.specs.Outlet.{is_empty, lacks_ids}
 use Rattle.flow_block.specs.Block.{BlockState, held_by, puts_out, makes_of, put_of}
 use Rattle.flow_block.specs.Node.{NodeState, with_block, makes_next}
@@ -53,6 +53,15 @@ pub ids_left : {T : Type 0} (result : Result T OutletFault) (lacks : Bool) → (
 ids_left (Ok x) false told = refl
 ids_left (Ok x) true told = let same : Ok x ≡ Err Ids = told.1 refl in absurd (cc)
 ids_left (Err fault) lacks told = tt
+
+-- and if memory is out
+pub ids_where_memory : {T : Type 0} (result : Result T OutletFault) (lacks : Bool) → (result ≡ Err Ids) ↔ (lacks ≡ true)
+    → result ≡ Err Memory → lacks ≡ false
+ids_where_memory result false told is = refl
+ids_where_memory result true told is =
+    let both = sym is ∙ told.1 refl in
+    let same : Memory ≡ Ids = cc in
+    absurd (cc)
 
 pub where_well : {T E : Type 0} {P Q : Type 0} (result : Result T E) → (P → Q) → OnOk result P → OnOk result Q
 where_well (Ok x) leads holds = leads holds

@@ -5,7 +5,7 @@ ghost use Rattle.flow_value.specs.declared.value.Value.{Value};
 ghost use Rattle.flow_link.specs.declared.draft.BlockKind.TheVariants.{Buffer};
 ghost use Rattle.flow_link.specs.Plan.{has_work, is_write_once};
 ghost use Rattle.flow_outlet.specs.Outlet.{lacks_ids};
-ghost use Rattle.flow_outlet.specs.declared.fault.OutletFault.TheVariants.{Ids};
+ghost use Rattle.flow_outlet.specs.declared.fault.OutletFault.TheVariants.{Ids, Memory};
 ghost use Rattle.flow_block.specs.Block.{held_by, has_ports, put_by_kind, ends_job, put_by_job};
 ghost use Rattle.flow_block.specs.Jobs.{has_ticket, is_out, is_front_back};
 ghost use Rattle.flow_block.specs.JobsEnd.{after_job, put_at_end};
@@ -14,6 +14,7 @@ ghost use Rattle.flow_block.specs.Peeks.{may_make, may_begin, lacks_next};
 ghost use Rattle.flow_core.specs.Events.{with_node};
 ghost use Rattle.flow_core.specs.State.{node_at};
 ghost use Rattle.flow_exec.specs.Works.{results_by};
+ghost use Rattle.flow_moves.specs.Rows.{builds_row};
 ghost use Rattle.flow_moves.specs.AtOnce.{put_at_once, works_at_once, works_out};
 
 use crate::parts::Parts;
@@ -27,6 +28,8 @@ use std::alloc::{AllocError, Global};
 impl Parts {
     /// A block without a function makes its next outputs: it hands on or copies the message that waits longest, or makes a
     /// row, a tuple or a group of those that wait. Where message ids are used up or memory is out, nothing has changed.
+    /// A row, a tuple or a group is built before an id for it is asked for, so memory may be told to be out where both are
+    /// wanting; of a message that is handed on or copied ids are told first.
     pub fn make(&mut self, alloc: Global, block: usize) -> Result<(), OutletFault>
         requires there { block < length self.old.nodes }
         requires alone { has_ports (node_at self.old block).block.kind ≡ false →
@@ -41,6 +44,8 @@ impl Parts {
         ensures kept { OnErr result (self.new ≡ self.old) }
         ensures used_up { result ≡ Err Ids → (result : Value → Result (List Value) ℕ) →
             lacks_next result (node_at self.old block) ≡ true }
+        ensures memory { result ≡ Err Memory → builds_row (node_at self.old block).block.kind ≡ false →
+            (result : Value → Result (List Value) ℕ) → lacks_next result (node_at self.old block) ≡ false }
     {
         make(&mut self.nodes[block], alloc)
     }
@@ -184,6 +189,8 @@ fn make(node: &mut Node, alloc: Global) -> Result<(), OutletFault>
     ensures kept { OnErr result (node.new ≡ node.old) }
     ensures used_up { result ≡ Err Ids → (result : Value → Result (List Value) ℕ) →
         lacks_next result node.old ≡ true }
+    ensures memory { result ≡ Err Memory → builds_row node.old.block.kind ≡ false →
+        (result : Value → Result (List Value) ℕ) → lacks_next result node.old ≡ false }
 {
     match node.block().kind() {
         BlockKind::Batch => node.make_row(alloc),

@@ -31,7 +31,7 @@ use Rattle.flow_exec.specs.Works.{results_by, works_of}
 use Rattle.flow_moves.specs.AtOnce.{works_at_once, put_at_once}
 use Rattle.flow_moves.proofs.MerelyKept.{blocks_planned, node_count_is}
 use Rattle.flow_net.specs.declared.fault.NetFault.{NetFault}
-use Rattle.flow_net.specs.declared.fault.NetFault.TheVariants.{Ids}
+use Rattle.flow_net.specs.declared.fault.NetFault.TheVariants.{Ids, Memory}
 use Rattle.flow_net.specs.Happened.{Happened}
 use Rattle.flow_net.specs.Told.{fault_of}
 use Rattle.flow_net.proofs.WorksHappen.{worked_happened}
@@ -123,3 +123,10 @@ pub ids_told : {T : Type 0} (result : Result T NetFault) (fault : OutletFault)
 ids_told (Err told) outlet.Ids tells is = refl
 ids_told (Err told) outlet.Memory tells is = absurd (cc)
 ids_told (Ok x) fault tells is = absurd (cc)
+
+-- and one that tells that memory is out is of one that says that
+pub memory_told : {T : Type 0} (result : Result T NetFault) (fault : OutletFault)
+    → IsErrAnd result (λ told. told ≡ fault_of fault) → result ≡ Err Memory → fault ≡ outlet.Memory
+memory_told (Err told) outlet.Memory tells is = refl
+memory_told (Err told) outlet.Ids tells is = absurd (cc)
+memory_told (Ok x) fault tells is = absurd (cc)

@@ -1,16 +1,17 @@
 -- Why an event of the program is refused, by why its event of the network's state is not done.
-use Rattle.std.proofs.Common.{◌≡◌, ◌≢◌, ℕ, Bool, List, Result, refl}
+use Rattle.std.proofs.Common.{◌≡◌, ◌≢◌, ℕ, Bool, List, Result, Ok, Err, IfErr, refl}
 use Rattle.flow_value.specs.declared.value.Value.{Value}
 use Rattle.flow_link.specs.Layout.{Layout}
 use Rattle.flow_exec.specs.Jobs.{ticket_in}
 use Rattle.flow_exec.specs.Results.{job_in}
 use Rattle.flow_exec.specs.declared.result.JobResult.{JobResult}
-use Rattle.flow_core.specs.Events.{NetEvent, Enabled, MayHappen}
+use Rattle.flow_core.specs.Events.{NetEvent, Enabled, HasIds, MayHappen}
 use Rattle.flow_core.specs.State.{NetState}
 use Rattle.flow_outlet.specs.declared.fault.OutletFault.{OutletFault}
 use Rattle.flow_outlet.specs.declared.fault.OutletFault.TheVariants as outlet
 use Rattle.flow_net.specs.Events.{IsRefused}
 use Rattle.flow_net.specs.OwnJobs.{IsOwnJob}
+use Rattle.flow_net.specs.There.{IsWhyNot, LacksMemory}
 use Rattle.flow_net.specs.Told.{fault_of}
 use Rattle.flow_net.specs.declared.event.Event.TheVariants.{End}
 use Rattle.flow_net.specs.declared.fault.NetFault.{NetFault}
@@ -20,20 +21,35 @@ pub ids_of_outlet : (fault : OutletFault) → fault_of fault ≡ Ids → fault �
 ids_of_outlet outlet.Ids is = refl
 ids_of_outlet outlet.Memory is = absurd (cc)
 
+pub not_ids_of_outlet : (fault : OutletFault) → fault_of fault ≡ Memory → fault ≢ outlet.Ids
+not_ids_of_outlet outlet.Ids is same = absurd (cc)
+not_ids_of_outlet outlet.Memory is same = absurd (cc)
+
+-- an event that is enabled and is not done is refused for ids or for memory
+module _ {W : Type 0} (layout : Layout W) (meaning : ℕ → Value → Result (List Value) ℕ) (net : NetState) (event : NetEvent) where
+  pub enabled_refused : {T : Type 0} (result : Result T NetFault) → Enabled layout net event
+      → (result ≡ Err Ids → MayHappen layout meaning event net → ⊥) → (result ≡ Err Memory → LacksMemory layout meaning net event)
+      → (result ≢ Err NotEnabled) → IfErr result (IsWhyNot layout meaning net event)
+  enabled_refused (Ok done) enabled used_up memory never = tt
+  enabled_refused (Err NotEnabled) enabled used_up memory never = absurd (never refl)
+  enabled_refused (Err Ids) enabled used_up memory never = record {
+    enabled = enabled;
+    none_left = λ ids. used_up refl (record { enabled = enabled; ids = ids });
+  }
+  enabled_refused (Err Memory) enabled used_up memory never = memory refl
+
+-- a result is refused where it is not of the block's own job, and else for ids or for memory
 module _ {W : Type 0} (equal : W → W → Bool) (layout : Layout W) (meaning : ℕ → Value → Result (List Value) ℕ) (net : NetState) where
   pub result_refused : {w : _} {e : _} (b : ℕ) (done : JobResult W w e) (fault : NetFault)
       → (fault ≡ NotEnabled → IsOwnJob equal layout net b (job_in done) → ⊥)
-      → (fault ≢ NotEnabled → Enabled layout net (NetEvent.end_job b (ticket_in (job_in done))))
-      → (fault ≡ Ids → MayHappen layout meaning (NetEvent.end_job b (ticket_in (job_in done))) net → ⊥)
+      → (fault ≢ NotEnabled → IsOwnJob equal layout net b (job_in done))
+      → (fault ≡ Ids → HasIds layout meaning (NetEvent.end_job b (ticket_in (job_in done))) net → ⊥)
+      → (fault ≡ Memory → HasIds layout meaning (NetEvent.end_job b (ticket_in (job_in done))) net)
       → IsRefused equal layout meaning net (End b done) fault
-  result_refused b done NotEnabled strange enabled used_up = strange refl
-  result_refused b done Ids strange enabled used_up =
-      let may : Enabled layout net (NetEvent.end_job b (ticket_in (job_in done))) = enabled (λ is. absurd (cc)) in (
-        record {
-          event = NetEvent.end_job b (ticket_in (job_in done));
-          enabled = may;
-          none_left = λ ids. used_up refl (record { enabled = may; ids = ids });
-        },
-        used_up refl,
-      )
-  result_refused b done Memory strange enabled used_up = enabled (λ is. absurd (cc))
+  result_refused b done NotEnabled strange own used_up ids = strange refl
+  result_refused b done Ids strange own used_up ids =
+      let its : IsOwnJob equal layout net b (job_in done) = own (λ is. absurd (cc)) in
+      (its, record { enabled = record { there = its.there; would = its.out }; none_left = used_up refl })
+  result_refused b done Memory strange own used_up ids =
+      let its : IsOwnJob equal layout net b (job_in done) = own (λ is. absurd (cc)) in
+      (its, record { enabled = record { there = its.there; would = its.out }; ids = λ no_row. ids refl })

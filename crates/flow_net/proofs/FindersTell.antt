@@ -13,6 +13,7 @@ use Rattle.flow_link.specs.declared.draft.BlockDef.{BlockDef}
 use Rattle.flow_link.specs.declared.draft.BlockKind.{BlockKind}
 use Rattle.flow_link.specs.declared.draft.BlockKind.TheVariants.{Join, BatchedJoin}
 use Rattle.flow_link.specs.declared.phase.Move.{Move}
+use Rattle.flow_link.specs.declared.phase.Move.TheVariants.{Offer}
 use Rattle.flow_link.specs.declared.plan.Plan.{Plan}
 use Rattle.flow_link.specs.Layout.{Layout}
 use Rattle.flow_link.specs.Plan.{block_in, port_count, ports_by_kind}
@@ -25,7 +26,7 @@ use Rattle.flow_block.specs.Routes.{route_of}
 use Rattle.flow_block.proofs.PlanMade.{mapped_at}
 use Rattle.flow_block.specs.Block.{BlockState}
 use Rattle.flow_block.specs.Peeks.{may_make, may_begin, may_end}
-use Rattle.flow_core.specs.Events.{NetEvent, LinkMay, MayHappen, is_of_source}
+use Rattle.flow_core.specs.Events.{NetEvent, LinkMay, HasIds, is_of_source}
 use Rattle.flow_core.specs.Keeps.{NetKeeps}
 use Rattle.flow_core.specs.State.{NetState, node_at}
 use Rattle.flow_moves.specs.Ready.{IsThere, SourceIsThere, TargetIsThere}
@@ -36,9 +37,9 @@ use Rattle.flow_moves.proofs.PlansRun.{plan_runs}
 use Rattle.flow_moves.proofs.MerelyKept.{links_there}
 use Rattle.std.specs.Option.{IfNone, option_eq}
 use Rattle.flow_net.specs.Opens.{IsOpen}
-use Rattle.flow_net.specs.There.{IsDue, NeedsId}
+use Rattle.flow_net.specs.There.{IsDue, NeedsId, OffersAnId}
 use Rattle.flow_net.specs.declared.due.Due.{Due}
-use Rattle.flow_net.proofs.IdsLeft.{source_is_due, target_is_due, source_would_do, target_would_do, needs_id, may_not_happen}
+use Rattle.flow_net.proofs.IdsLeft.{source_is_due, target_is_due, source_would_do, target_would_do, needs_id, not_enabled}
 
 -- The ways of the links
 
@@ -63,6 +64,12 @@ one_more P n all last k small =
     ⊎_elim (λ (same : k ≡ n). subst P (sym same) last) (λ (less : k < n). all k less) (eq-or-lt_of_le at_most)
 
 -- The two ends of a link
+
+-- a move whose message has an id needs no other
+id_of_move : {W : Type 0} (layout : Layout W) (meaning : ℕ → Value → Result (List Value) ℕ) (net : NetState) (l : ℕ) (next : Move)
+    → OffersAnId next → HasIds layout meaning (NetEvent.at_link l next) net
+id_of_move layout meaning net l (Offer id) has = has
+id_of_move layout meaning net l _ has = tt
 
 module _ {W : Type 0} (works : W → Value → Result (List Value) WorkFault) (plan : Plan W) (net : NetState)
     (kept : ∥ NetKeeps (layout_of plan) (works_of works (layout_of plan)) net ∥₁) (l : ℕ)
@@ -128,14 +135,17 @@ module _ {W : Type 0} (works : W → Value → Result (List Value) WorkFault) (p
         λ may. from (source_is ∙ source_would_do layout net l next may own),
       )
 
-    -- where it lacks one, that is wanting, and none of its moves may happen
+    -- where it lacks one, that is wanting, and none of its moves is enabled
     pub lacking_needs : lacks ≡ true → NeedsId layout meaning net
     lacking_needs e = needs_id layout meaning net l kept (plan_runs plan) there (sym (lacks_same lacks lacks_is) ∙ e)
 
-    pub lacking_may_not : lacks ≡ true → (next : Move) → is_of_source next ≡ true
-        → MayHappen layout meaning (NetEvent.at_link l next) net → ⊥
-    lacking_may_not e next own =
-        may_not_happen layout meaning net l kept (plan_runs plan) there (sym (lacks_same lacks lacks_is) ∙ e) next own
+    pub lacking_told : lacks ≡ true → (next : Move) → is_of_source next ≡ true → OffersAnId next
+        → IsTrue false ↔ LinkMay layout net l next
+    lacking_told e next own id = (
+      λ wrong. absurd (cc),
+      λ may. absurd (not_enabled layout meaning net l kept (plan_runs plan) there (sym (lacks_same lacks lacks_is) ∙ e) next own
+          (id_of_move layout meaning net l next id) may),
+    )
 
 -- what is found is told to be the same as itself
 pub found_same : (same : Move → Move → Bool) (found : Option Move) (next : Move) (told : Bool)

@@ -1,5 +1,5 @@
 -- For which moves an id is left: for each that an end of a link would make, but where an input has used up its ids. There
--- something would happen next for which none is left, and nothing that the source could do may happen.
+-- something would happen next for which none is left, and no move that has an id is the source's.
 use Rattle.std.proofs.Common.{◌≡◌, ℕ, ◌<◌, ◌^◌, ◌&&◌, not, ltb, Bool, true, false, List, [], ◌∷◌, length}
 use Rattle.std.proofs.Common.{Option, Some, Result, refl, sym, ◌∙◌, subst, arith, ltb-true, lt-ltb}
 use Rattle.std.proofs.Math.Bridge.{le_prop}
@@ -31,7 +31,7 @@ use Rattle.flow_block.specs.Routes.{source_place, target_place}
 use Rattle.flow_block.proofs.CopierHolds.{copies_lawful}
 use Rattle.flow_block.proofs.InputsInOrder.{inputs_keep}
 use Rattle.flow_block.proofs.NextMoves.{next_moves_may}
-use Rattle.flow_core.specs.Events.{NetEvent, LinkMay, HasIds, MayHappen, is_of_source, source_peek, target_peek, peek_by}
+use Rattle.flow_core.specs.Events.{NetEvent, LinkMay, HasIds, is_of_source, source_peek, target_peek, peek_by}
 use Rattle.flow_core.specs.Keeps.{IsRun, NetKeeps}
 use Rattle.flow_core.specs.State.{NetState, node_at, input_at}
 use Rattle.flow_core.proofs.NextIsAllowed.{of_target}
@@ -206,7 +206,7 @@ module _ {W : Type 0} (layout : Layout W) (meaning : ℕ → Value → Result (L
     id = id_for_target layout meaning net l next (would_be_of_target layout net l next would);
   }
 
-  -- where the source lacks an id, something would happen for which none is left, and none of its moves may happen
+  -- where the source lacks an id, something would happen for which none is left
   module _ (lacks : lacks_id_at ≡ true) where
     offer : OffersWithout (source_would layout net l)
     offer = source_offers net (link_in layout.links l).source (source_place layout (link_in layout.links l).source l) lacks
@@ -218,9 +218,9 @@ module _ {W : Type 0} (layout : Layout W) (meaning : ℕ → Value → Result (L
       none_left = offer.none_left;
     }
 
-    pub may_not_happen : (next : Move) → is_of_source next ≡ true
-        → MayHappen layout meaning (NetEvent.at_link l next) net → ⊥
-    may_not_happen next is may =
-        let both = sym (source_would_do layout net l next may.enabled is) ∙ offer.offers in
+    -- nor is any of its moves enabled whose message has an id
+    pub not_enabled : (next : Move) → is_of_source next ≡ true → IdIsLeft layout meaning net l next → LinkMay layout net l next → ⊥
+    not_enabled next is id may =
+        let both = sym (source_would_do layout net l next may is) ∙ offer.offers in
         let same : next ≡ move.Offer offer.id = cc in
-        offer.none_left (subst (IdIsLeft layout meaning net l) same may.ids)
+        offer.none_left (subst (IdIsLeft layout meaning net l) same id)

@@ -1,5 +1,5 @@
 -- A result that comes back from outside is that of its message: the job is of that message, and its work means what the block's does.
-use Rattle.std.proofs.Common.{◌≡◌, ◌↔◌, ℕ, Bool, true, false, List, Option, Some, None, Result, Ok, Err, refl, sym, ap, ◌∙◌, is_none}
+use Rattle.std.proofs.Common.{◌≡◌, ◌≢◌, ◌↔◌, ℕ, Bool, true, false, List, Option, Some, None, Result, Ok, Err, refl, sym, ap, ◌∙◌, is_none}
 use Rattle.std.proofs.lemmas.Bool.{and_parts, false_from_ne_true}
 use Rattle.flow_value.specs.declared.value.Value.{Value}
 use Rattle.flow_value.specs.declared.work.WorkFault.{WorkFault}
@@ -17,7 +17,7 @@ use Rattle.flow_exec.specs.Execution.{SameWork}
 use Rattle.flow_exec.specs.Jobs.{work_in, kind_in, message_in, ticket_in}
 use Rattle.flow_exec.specs.Works.{result_by_number, worked_by, results_by, works_of}
 use Rattle.flow_exec.specs.declared.job.Job.{Job}
-use Rattle.flow_core.specs.Events.{NetEvent, MayHappen, with_node, after}
+use Rattle.flow_core.specs.Events.{NetEvent, HasIds, MayHappen, with_node, after}
 use Rattle.flow_core.specs.Keeps.{NetKeeps}
 use Rattle.flow_core.specs.State.{NetState, node_at}
 use Rattle.flow_moves.specs.Statements.{IsPlanned}
@@ -30,6 +30,15 @@ ok_has : {T E : Type 0} (result : Result T E) (e : E) (lacks : Bool) → ((resul
     → result ≡ Ok x → lacks ≡ false
 ok_has result e lacks refused x is =
     false_from_ne_true lacks (λ e_lacks. let wrong : Ok x ≡ Err e = sym is ∙ refused.1 e_lacks in absurd (cc))
+
+-- nor where it is refused for something else
+err_has : {T E : Type 0} (result : Result T E) (e other : E) (lacks : Bool) → ((result ≡ Err e) ↔ (lacks ≡ true))
+    → result ≡ Err other → other ≢ e → lacks ≡ false
+err_has result e other lacks refused is differ =
+    false_from_ne_true lacks (λ e_lacks.
+    let both = sym is ∙ refused.1 e_lacks in
+    let same : other ≡ e = cc in
+    differ same)
 
 module _ {W : Type 0} (meaning : W → Value → Result (List Value) WorkFault) (equal : W → W → Bool)
     (same_meaning : (a b : W) → equal a b ≡ true → (value : Value) → meaning a value ≡ meaning b value) where
@@ -88,13 +97,22 @@ module _ {W : Type 0} (meaning : W → Value → Result (List Value) WorkFault) 
           ∙ ok_has result e (lacks_ids (put_by_job ticket answer block) block.exits) refused x done;
     }
 
-    pub returned_may_not : {T E : Type 0} (result : Result T E) (e : E) (answer : Result (List Value) ℕ)
+    -- it is refused for ids just where one is wanting
+    pub returned_lacks : {T E : Type 0} (result : Result T E) (e : E) (answer : Result (List Value) ℕ)
         → answer ≡ results_by (work_in job) (kind_in job) meaning (message_in job)
         → ((result ≡ Err e) ↔ (lacks_ids (put_by_job ticket answer block) block.exits ≡ true)) → result ≡ Err e
-        → MayHappen layout works (NetEvent.end_job b ticket) old → ⊥
-    returned_may_not result e answer is refused why may =
+        → HasIds layout works (NetEvent.end_job b ticket) old → ⊥
+    returned_lacks result e answer is refused why ids =
         let same : lacks_ids (put_by_job ticket answer block) block.exits
         ≡ lacks_ids (put_by_job ticket (job_result (block_makes layout works b) ticket block) block) block.exits =
         ap (λ (made : Result (List Value) ℕ). lacks_ids (put_by_job ticket made block) block.exits) (is ∙ answer_is) in
-        let wrong : true ≡ false = sym (refused.0 why) ∙ same ∙ may.ids in
+        let wrong : true ≡ false = sym (refused.0 why) ∙ same ∙ ids in
         absurd (cc)
+
+    pub returned_has : {T E : Type 0} (result : Result T E) (e other : E) (answer : Result (List Value) ℕ)
+        → answer ≡ results_by (work_in job) (kind_in job) meaning (message_in job)
+        → ((result ≡ Err e) ↔ (lacks_ids (put_by_job ticket answer block) block.exits ≡ true)) → result ≡ Err other → other ≢ e
+        → HasIds layout works (NetEvent.end_job b ticket) old
+    returned_has result e other answer is refused why differ =
+        ap (λ (made : Result (List Value) ℕ). lacks_ids (put_by_job ticket made block) block.exits) (sym (is ∙ answer_is))
+        ∙ err_has result e other (lacks_ids (put_by_job ticket answer block) block.exits) refused why differ

@@ -1,3 +1,4 @@
+pub mod EventsAnswer
 pub mod EventsCount
 pub mod EventsDone
 pub mod EventsRefused

@@ -19,6 +19,11 @@ IsEnd (Fault b) = Unit {0}
 IsEnd (Done b) = Unit {0}
 IsEnd _ = ⊥
 
+-- a result comes back
+abbrev pub IsEndOfJob : Due → Type 0
+IsEndOfJob (End b ticket) = Unit {0}
+IsEndOfJob _ = ⊥
+
 -- it works on its messages
 abbrev pub IsWork : Due → Type 0
 IsWork (Make b) = Unit {0}

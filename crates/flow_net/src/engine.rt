@@ -7,11 +7,11 @@ ghost use Rattle.flow_core.specs.Events.{Enabled, MayHappen, NetEvent, after};
 ghost use Rattle.flow_core.specs.Keeps.{NetKeeps};
 ghost use Rattle.flow_core.specs.State.{node_at};
 ghost use Rattle.flow_exec.specs.Works.{works_of};
-ghost use Rattle.flow_net.specs.Dues.{IsEnd};
+ghost use Rattle.flow_net.specs.Dues.{IsEnd, IsEndOfJob};
 ghost use Rattle.flow_net.specs.Dues.{event_of};
 ghost use Rattle.flow_net.specs.Happened.{Happened};
 ghost use Rattle.flow_net.specs.Settles.{Settles, GoesOn};
-ghost use Rattle.flow_net.specs.There.{IsDue, IsWhyNot, NeedsId};
+ghost use Rattle.flow_net.specs.There.{IsDue, IsWhyNot, LacksMemory, NeedsId};
 ghost use Rattle.flow_net.specs.declared.fault.NetFault.TheVariants.{NotEnabled, Ids, Memory};
 
 use crate::agenda::Agenda;
@@ -69,6 +69,8 @@ impl<W: Work> Engine<W> {
         ensures kept { OnErr result (self.new.parts ≡ self.old.parts) }
         ensures used_up { result ≡ Err Ids → MayHappen (layout_of self.old.plan)
             (works_of W.meaning (layout_of self.old.plan)) (NetEvent.make number) self.old.parts → ⊥ }
+        ensures memory { result ≡ Err Memory → LacksMemory (layout_of self.old.plan)
+            (works_of W.meaning (layout_of self.old.plan)) self.old.parts (NetEvent.make number) }
         ensures never { result ≢ Err NotEnabled }
     {
         self.parts.make(alloc, number)?;
@@ -167,6 +169,8 @@ impl<W: Work> Engine<W> {
         ensures kept { OnErr result (self.new.parts ≡ self.old.parts) }
         ensures used_up { result ≡ Err Ids → MayHappen (layout_of self.old.plan)
             (works_of W.meaning (layout_of self.old.plan)) (event_of event.now) self.old.parts → ⊥ }
+        ensures memory { result ≡ Err Memory → (IsEndOfJob event.now → ⊥) → LacksMemory (layout_of self.old.plan)
+            (works_of W.meaning (layout_of self.old.plan)) self.old.parts (event_of event.now) }
         ensures never { result ≢ Err NotEnabled }
     {
         match *event {
@@ -192,6 +196,8 @@ impl<W: Work> Engine<W> {
         ensures kept { OnErr result (self.new.parts ≡ self.old.parts) }
         ensures used_up { result ≡ Err Ids → MayHappen (layout_of self.old.plan)
             (works_of W.meaning (layout_of self.old.plan)) (event_of event.now) self.old.parts → ⊥ }
+        ensures memory { result ≡ Err Memory → (IsEndOfJob event.now → ⊥) → LacksMemory (layout_of self.old.plan)
+            (works_of W.meaning (layout_of self.old.plan)) self.old.parts (event_of event.now) }
         ensures never { result ≢ Err NotEnabled }
     {
         self.carry_out(alloc, event)?;
@@ -199,10 +205,11 @@ impl<W: Work> Engine<W> {
         Ok(())
     }
 
-    /// Does this event, if it may happen.
+    /// Does this event, if it may happen. It is no result that comes back: for that see `end_job`.
     pub(crate) fn event(&mut self, alloc: Global, event: &Due) -> Result<(), NetFault>
         requires kept { ∥ NetKeeps (layout_of self.old.plan) (works_of W.meaning (layout_of self.old.plan))
             self.old.parts ∥₁ }
+        requires driven { IsEndOfJob event.now → ⊥ }
         ensures same_plan { self.new.plan ≡ self.old.plan }
         ensures may { OnOk result (MayHappen (layout_of self.old.plan) (works_of W.meaning (layout_of self.old.plan))
             (event_of event.now) self.old.parts) }
@@ -214,7 +221,7 @@ impl<W: Work> Engine<W> {
         ensures goes_on { GoesOn (layout_of self.old.plan) (works_of W.meaning (layout_of self.old.plan)) 1
             self.old.parts self.new.parts }
     {
-        if self.is_due(event)? {
+        if self.is_due(event) {
             self.go(alloc, event)
         } else {
             Err(NetFault::NotEnabled)

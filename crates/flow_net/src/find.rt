@@ -5,7 +5,7 @@ ghost use Rattle.flow_link.specs.Plan.{block_in};
 ghost use Rattle.flow_block.specs.Peeks.{may_complete};
 ghost use Rattle.flow_block.specs.Planned.{input_place};
 ghost use Rattle.flow_block.specs.Routes.{route_of};
-ghost use Rattle.flow_core.specs.Events.{Enabled, MayHappen, NetEvent};
+ghost use Rattle.flow_core.specs.Events.{Enabled, NetEvent};
 ghost use Rattle.flow_core.specs.Keeps.{NetKeeps};
 ghost use Rattle.flow_core.specs.State.{node_at};
 ghost use Rattle.flow_core.specs.Statements.{IsStill};
@@ -15,7 +15,7 @@ ghost use Rattle.flow_exec.specs.Works.{works_of};
 ghost use Rattle.flow_net.specs.Dues.{IsOwn};
 ghost use Rattle.flow_net.specs.Dues.{event_of};
 ghost use Rattle.flow_net.specs.Opens.{IsOpen};
-ghost use Rattle.flow_net.specs.There.{IsDue, LinkHasId, NeedsId};
+ghost use Rattle.flow_net.specs.There.{IsDue, LinkHasId, NeedsId, OffersAnId};
 ghost use Rattle.flow_net.specs.declared.fault.NetFault.TheVariants.{Ids};
 
 use crate::agenda::Spot;
@@ -25,7 +25,7 @@ use crate::fault::NetFault;
 use flow_block::{Block, Input, Route};
 use flow_link::{LinkId, Move};
 use flow_moves::is_of_source;
-use flow_value::Work;
+use flow_value::{MAX_ID, Work};
 
 impl<W: Work> Engine<W> {
     /// The way of a link.
@@ -57,29 +57,25 @@ impl<W: Work> Engine<W> {
         Some(self.parts.input(place))
     }
 
-    /// Whether this move is what its end of the link would do next.
-    fn is_next(&self, id: usize, next: Move) -> Result<bool, NetFault>
+    /// Whether this move is what its end of the link would do next. A message for which no id is left has no header, so
+    /// nobody can name its offer.
+    fn is_next(&self, id: usize, next: Move) -> bool
         requires known { id < length (layout_of self.now.plan).links }
         requires kept { ∥ NetKeeps (layout_of self.now.plan) (works_of W.meaning (layout_of self.now.plan))
             self.now.parts ∥₁ }
-        ensures told { IfOk result (λ due. IsTrue due ↔ Enabled (layout_of self.now.plan) self.now.parts
-            (NetEvent.at_link id next)) }
-        ensures id { IfOk result (λ due. IsTrue due → LinkHasId (layout_of self.now.plan)
-            (works_of W.meaning (layout_of self.now.plan)) self.now.parts (NetEvent.at_link id next)) }
-        ensures ids { IfErr result (λ fault. fault ≡ Ids) }
-        ensures needed { IfErr result (λ fault. NeedsId (layout_of self.now.plan)
-            (works_of W.meaning (layout_of self.now.plan)) self.now.parts) }
-        ensures may_not { IfErr result (λ fault. MayHappen (layout_of self.now.plan)
-            (works_of W.meaning (layout_of self.now.plan)) (NetEvent.at_link id next) self.now.parts → ⊥) }
+        ensures told { IsTrue result ↔ Enabled (layout_of self.now.plan) self.now.parts (NetEvent.at_link id next) }
+        ensures id { IsTrue result → LinkHasId (layout_of self.now.plan) (works_of W.meaning (layout_of self.now.plan))
+            self.now.parts (NetEvent.at_link id next) }
     {
         let route = self.route(id);
         if !is_of_source(&next) {
-            return Ok(self.parts.next_of_target(route) == Some(next));
+            return self.parts.next_of_target(route) == Some(next);
         }
+        let _has_header = has_header(&next);
         if self.parts.lacks_id(route) {
-            return Err(NetFault::Ids);
+            return false;
         }
-        Ok(self.parts.next_of_source(route) == Some(next))
+        self.parts.next_of_source(route) == Some(next)
     }
 
     /// Whether a block would do this by itself.
@@ -127,28 +123,16 @@ impl<W: Work> Engine<W> {
     }
 
     /// Whether this event is due.
-    pub(crate) fn is_due(&self, event: &Due) -> Result<bool, NetFault>
+    pub(crate) fn is_due(&self, event: &Due) -> bool
         requires kept { ∥ NetKeeps (layout_of self.now.plan) (works_of W.meaning (layout_of self.now.plan))
             self.now.parts ∥₁ }
-        ensures told { IfOk result (λ due. IsTrue due ↔ Enabled (layout_of self.now.plan) self.now.parts
-            (event_of event.now)) }
-        ensures id { IfOk result (λ due. IsTrue due → LinkHasId (layout_of self.now.plan)
-            (works_of W.meaning (layout_of self.now.plan)) self.now.parts (event_of event.now)) }
-        ensures ids { IfErr result (λ fault. fault ≡ Ids) }
-        ensures needed { IfErr result (λ fault. NeedsId (layout_of self.now.plan)
-            (works_of W.meaning (layout_of self.now.plan)) self.now.parts) }
-        ensures may_not { IfErr result (λ fault. MayHappen (layout_of self.now.plan)
-            (works_of W.meaning (layout_of self.now.plan)) (event_of event.now) self.now.parts → ⊥) }
+        ensures told { IsTrue result ↔ Enabled (layout_of self.now.plan) self.now.parts (event_of event.now) }
+        ensures id { IsTrue result → LinkHasId (layout_of self.now.plan) (works_of W.meaning (layout_of self.now.plan))
+            self.now.parts (event_of event.now) }
     {
         match *event {
-            Due::Link(id, next) => {
-                if id < self.plan.link_count() {
-                    self.is_next(id, next)
-                } else {
-                    Ok(false)
-                }
-            }
-            _ => Ok(self.is_own(event)),
+            Due::Link(id, next) => id < self.plan.link_count() && self.is_next(id, next),
+            _ => self.is_own(event),
         }
     }
 
@@ -386,6 +370,17 @@ impl<W: Work> Engine<W> {
             Ok(next) => next.is_none(),
             Err(_fault) => false,
         }
+    }
+}
+
+/// Whether the message that a move offers, if it offers one, has an id. Each header has: who asks learns that.
+fn has_header(next: &Move) -> bool
+    ensures always { result ≡ true }
+    ensures id { OffersAnId next.now }
+{
+    match *next {
+        Move::Offer(header) => header.id() <= MAX_ID,
+        _ => true,
     }
 }
 

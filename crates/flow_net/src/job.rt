@@ -1,17 +1,18 @@
 //! Jobs that a caller runs: they begin in the network, and their results come back to it.
-ghost use Rattle.std.specs.Prelude.{◌≡◌, ◌≢◌, ◌↔◌, ◌+◌, ◌<◌, true, length, IsTrue, IfOk, IfErr, OnOk, OnErr};
+ghost use Rattle.std.specs.Prelude.{◌≡◌, ◌≢◌, ◌↔◌, ◌+◌, ◌<◌, true, length, option_map, IsTrue, IfOk, IfErr, OnOk, OnErr};
+ghost use Rattle.std.specs.Arc.{arc_value};
 ghost use Rattle.flow_link.specs.Planned.{layout_of};
 ghost use Rattle.flow_link.specs.Plan.{block_in};
 ghost use Rattle.flow_block.specs.Block.{job_message};
 ghost use Rattle.flow_block.specs.Peeks.{may_end};
-ghost use Rattle.flow_exec.specs.Execution.{SameWork};
+ghost use Rattle.flow_exec.specs.Execution.{SameWork, next_message, next_ticket};
 ghost use Rattle.flow_exec.specs.Jobs.{work_in, kind_in, message_in, ticket_in};
 ghost use Rattle.flow_exec.specs.Results.{job_in};
 ghost use Rattle.flow_exec.specs.Works.{works_of};
-ghost use Rattle.flow_core.specs.Events.{Enabled, MayHappen, NetEvent, after};
+ghost use Rattle.flow_core.specs.Events.{Enabled, HasIds, MayHappen, NetEvent, after};
 ghost use Rattle.flow_core.specs.Keeps.{NetKeeps};
 ghost use Rattle.flow_core.specs.State.{node_at};
-ghost use Rattle.flow_net.specs.OwnJobs.{IsOwnJob};
+ghost use Rattle.flow_net.specs.OwnJobs.{IsOwnJob, IsNextJob};
 ghost use Rattle.flow_net.specs.There.{IsWhyNot};
 ghost use Rattle.flow_net.specs.declared.fault.NetFault.TheVariants.{NotEnabled, Ids, Memory};
 
@@ -33,11 +34,12 @@ impl<W: Work> Engine<W> {
             (NetEvent.begin number) self.old.parts) }
         ensures done { OnOk result (self.new.parts ≡ after (layout_of self.old.plan)
             (works_of W.meaning (layout_of self.old.plan)) (NetEvent.begin number) self.old.parts) }
+        ensures next { IfOk result (IsNextJob W.eq (layout_of self.old.plan) self.old.parts number) }
         ensures kept { OnErr result (self.new.parts ≡ self.old.parts) }
         ensures why { IfErr result (IsWhyNot (layout_of self.old.plan) (works_of W.meaning (layout_of self.old.plan))
             self.old.parts (NetEvent.begin number)) }
     {
-        if !self.is_due(&Due::Begin(number))? {
+        if !self.is_due(&Due::Begin(number)) {
             return Err(NetFault::NotEnabled);
         }
         let work = self.copy_of_work(alloc, number)?;
@@ -51,6 +53,8 @@ impl<W: Work> Engine<W> {
         number: usize,
     ) -> Result<Option<Arc<W, Global>>, AllocError>
         requires known { number < length (layout_of self.now.plan).blocks }
+        ensures same { IfOk result (λ work. SameWork W.eq (block_in (layout_of self.now.plan).blocks number).work
+            (option_map (λ work. arc_value work) work)) }
     {
         match self.plan.block(number).work {
             Some(ref work) => Ok(Some(Arc::new(alloc, work.copy(alloc)?)?)),
@@ -73,6 +77,10 @@ impl<W: Work> Engine<W> {
             (NetEvent.begin number) self.old.parts) }
         ensures done { OnOk result (self.new.parts ≡ after (layout_of self.old.plan)
             (works_of W.meaning (layout_of self.old.plan)) (NetEvent.begin number) self.old.parts) }
+        ensures ticket { IfOk result (λ job. ticket_in job ≡ next_ticket (node_at self.old.parts number).block) }
+        ensures message { IfOk result (λ job. message_in job ≡ next_message (node_at self.old.parts number).block) }
+        ensures kind { IfOk result (λ job. kind_in job ≡ (node_at self.old.parts number).block.kind) }
+        ensures work { IfOk result (λ job. work_in job ≡ option_map (λ work. arc_value work) work) }
         ensures kept { OnErr result (self.new.parts ≡ self.old.parts) }
         ensures why { IfErr result (IsWhyNot (layout_of self.old.plan) (works_of W.meaning (layout_of self.old.plan))
             self.old.parts (NetEvent.begin number)) }
@@ -92,9 +100,10 @@ impl<W: Work> Engine<W> {
         requires kept { ∥ NetKeeps (layout_of self.now.plan) (works_of W.meaning (layout_of self.now.plan))
             self.now.parts ∥₁ }
         requires enabled { Enabled (layout_of self.now.plan) self.now.parts (NetEvent.begin number) }
-        ensures ticket { IfOk result (λ job. ticket_in job ≡ (node_at self.now.parts number).block.jobs.first +
-            length (node_at self.now.parts number).block.jobs.slots) }
+        ensures ticket { IfOk result (λ job. ticket_in job ≡ next_ticket (node_at self.now.parts number).block) }
+        ensures message { IfOk result (λ job. message_in job ≡ next_message (node_at self.now.parts number).block) }
         ensures kind { IfOk result (λ job. kind_in job ≡ (node_at self.now.parts number).block.kind) }
+        ensures work { IfOk result (λ job. work_in job ≡ option_map (λ work. arc_value work) work) }
     {
         let block = self.parts.node(number).block();
         if !block.has_ticket() {
@@ -120,13 +129,17 @@ impl<W: Work> Engine<W> {
             self.old.parts) }
         ensures kept { OnErr result (self.new.parts ≡ self.old.parts) }
         ensures back { IfErr result (λ refused. refused.0 ≡ done) }
+        ensures own { OnOk result (IsOwnJob W.eq (layout_of self.old.plan) self.old.parts number (job_in done)) }
         ensures strange { IfErr result (λ refused. refused.1 ≡ NotEnabled →
             IsOwnJob W.eq (layout_of self.old.plan) self.old.parts number (job_in done) → ⊥) }
-        ensures enabled { IfErr result (λ refused. refused.1 ≢ NotEnabled → Enabled (layout_of self.old.plan)
-            self.old.parts (NetEvent.end_job number (ticket_in (job_in done)))) }
-        ensures used_up { IfErr result (λ refused. refused.1 ≡ Ids → MayHappen (layout_of self.old.plan)
-            (works_of W.meaning (layout_of self.old.plan)) (NetEvent.end_job number (ticket_in (job_in done)))
-            self.old.parts → ⊥) }
+        ensures refused_own { IfErr result (λ refused. refused.1 ≢ NotEnabled →
+            IsOwnJob W.eq (layout_of self.old.plan) self.old.parts number (job_in done)) }
+        ensures used_up { IfErr result (λ refused. refused.1 ≡ Ids →
+            HasIds (layout_of self.old.plan) (works_of W.meaning (layout_of self.old.plan))
+            (NetEvent.end_job number (ticket_in (job_in done))) self.old.parts → ⊥) }
+        ensures ids { IfErr result (λ refused. refused.1 ≡ Memory →
+            HasIds (layout_of self.old.plan) (works_of W.meaning (layout_of self.old.plan))
+            (NetEvent.end_job number (ticket_in (job_in done))) self.old.parts) }
     {
         if !self.is_own_job(number, done.job()) {
             return Err((done, NetFault::NotEnabled));

@@ -41,7 +41,7 @@ impl<W: Work> Net<W> {
     ghost use Rattle.flow_core.specs.AtRest.{AtRest};
     ghost use Rattle.flow_core.specs.Events.{MayHappen, after};
     ghost use Rattle.flow_core.specs.Statements.{IsStill};
-    ghost use Rattle.flow_net.specs.Events.{IsRefused};
+    ghost use Rattle.flow_net.specs.Events.{Answers, IsOfOwnJob, IsRefused};
     ghost use Rattle.flow_net.specs.Net.{layout_in, parts_of, run_of};
     ghost use Rattle.flow_net.specs.States.{state_by};
     ghost use Rattle.flow_net.specs.Settles.{Settles, GoesOn};
@@ -104,8 +104,9 @@ impl<W: Work> Net<W> {
         self.engine.settle_with(rt, alloc, workers, limit)
     }
 
-    /// Does this event, if it may happen. One that names a link, block or port which the plan has not is not enabled.
-    /// After a refusal the network is as it was.
+    /// Does this event, if it may happen. Where a job begins, the answer is that job; of every other event it is that the
+    /// event is done. An event that names a link, block or port which the plan has not is not enabled, and nor is the
+    /// result of a job that is not the block's own. After a refusal the network is as it was.
     pub fn event(
         &mut self,
         alloc: Global,
@@ -116,11 +117,14 @@ impl<W: Work> Net<W> {
             (net_event event) (parts_of self.old)) }
         ensures moved { OnOk result (parts_of self.new ≡ after (layout_in self.old)
             (works_of W.meaning (layout_in self.old)) (net_event event) (parts_of self.old)) }
+        ensures answers { IfOk result (Answers W.eq (layout_in self.old) (parts_of self.old) event) }
+        ensures own { OnOk result (IsOfOwnJob W.eq (layout_in self.old) (parts_of self.old) event) }
         ensures kept { OnErr result (parts_of self.new ≡ parts_of self.old) }
         ensures why { IfErr result (λ refused. IsRefused W.eq (layout_in self.old)
             (works_of W.meaning (layout_in self.old)) (parts_of self.old) event refused.1) }
         ensures back { IfErr result (λ refused. refused.0 ≡ event) }
         ensures lawful { Lawful (run_of W.meaning self.new) }
+        ensures same_inputs { (run_of W.meaning self.new).trace.inputs ≡ (run_of W.meaning self.old).trace.inputs }
     {
         match due_of(&event) {
             Some(due) => self.step(alloc, due, event),
@@ -140,11 +144,14 @@ impl<W: Work> Net<W> {
             (net_event event) (parts_of self.old)) }
         ensures moved { OnOk result (parts_of self.new ≡ after (layout_in self.old)
             (works_of W.meaning (layout_in self.old)) (net_event event) (parts_of self.old)) }
+        ensures answers { IfOk result (Answers W.eq (layout_in self.old) (parts_of self.old) event) }
+        ensures own { OnOk result (IsOfOwnJob W.eq (layout_in self.old) (parts_of self.old) event) }
         ensures kept { OnErr result (parts_of self.new ≡ parts_of self.old) }
         ensures why { IfErr result (λ refused. IsRefused W.eq (layout_in self.old)
             (works_of W.meaning (layout_in self.old)) (parts_of self.old) event refused.1) }
         ensures back { IfErr result (λ refused. refused.0 ≡ event) }
         ensures lawful { Lawful (run_of W.meaning self.new) }
+        ensures same_inputs { (run_of W.meaning self.new).trace.inputs ≡ (run_of W.meaning self.old).trace.inputs }
     {
         match event {
             Event::Begin(number) => match self.engine.begin_job(alloc, number) {
@@ -173,11 +180,13 @@ impl<W: Work> Net<W> {
             (event_of due) (parts_of self.old)) }
         ensures moved { OnOk result (parts_of self.new ≡ after (layout_in self.old)
             (works_of W.meaning (layout_in self.old)) (event_of due) (parts_of self.old)) }
+        ensures answers { IfOk result (λ stepped. stepped ≡ Stepped.Moved) }
         ensures kept { OnErr result (parts_of self.new ≡ parts_of self.old) }
         ensures why { IfErr result (λ refused. IsWhyNot (layout_in self.old) (works_of W.meaning (layout_in self.old))
             (parts_of self.old) (event_of due) refused.1) }
         ensures back { IfErr result (λ refused. refused.0 ≡ event) }
         ensures lawful { Lawful (run_of W.meaning self.new) }
+        ensures same_inputs { (run_of W.meaning self.new).trace.inputs ≡ (run_of W.meaning self.old).trace.inputs }
     {
         match self.engine.event(alloc, &due) {
             Ok(()) => Ok(Stepped::Moved),

@@ -2,7 +2,7 @@ use Rattle.std.proofs.Common.{ℕ, take, List, Result, ap, sym, subst, ◌∙◌
 use Rattle.flow_value.specs.declared.value.Value.{Value}
 use Rattle.flow_outlet.specs.Outlet.{lacks_ids}
 use Rattle.flow_block.specs.Block.{BlockState, held_by}
-use Rattle.flow_moves.proofs.HandsOn.{OneMessageKind, handed_is, lacks_is, ids_left, where_well}
+use Rattle.flow_moves.proofs.HandsOn.{OneMessageKind, handed_is, lacks_is, ids_left, ids_where_memory, where_well}
 use Rattle.flow_moves.proofs.own.make.Goals as goal
 
 pub returns-in-Buffer : goal.returns-in-Buffer
@@ -23,4 +23,7 @@ returns-in-Buffer c =
       kept = c.hand_on.ensures.kept;
       used_up = λ is result.
           sym (lacks_is node c.requires.many c.requires.waits arm result) ∙ c.hand_on.ensures.ids.0 is;
+      memory = λ is no_row result.
+          sym (lacks_is node c.requires.many c.requires.waits arm result)
+          ∙ ids_where_memory c.hand_on.result lacks c.hand_on.ensures.ids is;
     }

@@ -16,8 +16,8 @@ use Rattle.flow_exec.specs.Works.{works_of}
 use Rattle.flow_exec.specs.declared.job.Job.{Job}
 use Rattle.flow_moves.proofs.MerelyKept.{blocks_planned}
 use Rattle.flow_net.specs.OwnJobs.{IsOwnJob}
-use Rattle.flow_net.proofs.EventsRefused.{ids_of_outlet}
-use Rattle.flow_net.proofs.JobsReturn.{returned_is_after, returned_may, returned_may_not}
+use Rattle.flow_net.proofs.EventsRefused.{ids_of_outlet, not_ids_of_outlet}
+use Rattle.flow_net.proofs.JobsReturn.{returned_is_after, returned_may, returned_lacks, returned_has}
 use Rattle.flow_net.proofs.engine.Engine.end_job.Goals as goal
 
 pub end_job-requires-clause-alone : goal.end_job-requires-clause-alone
@@ -93,8 +93,20 @@ pub returns-in-Err-clause-back : goal.returns-in-Err-clause-back
 returns-in-Err-clause-back g c =
     c.new.ensures.only c.args.done (sym (c.new.ensures.job ∙ c.into_parts-job.ensures.job))
 
+pub returns-in-Ok-clause-own : goal.returns-in-Ok-clause-own
+returns-in-Ok-clause-own g c =
+    let now = c.args.self.now in
+    subst (λ (job : Job _). IsOwnJob g.W.PartialEq.eq (layout_of now.plan) now.parts c.args.number job)
+    c.job.ensures (c.is_own_job.ensures.0 c.if-not-is_own_job.false)
+
+pub returns-in-Err-clause-refused_own : goal.returns-in-Err-clause-refused_own
+returns-in-Err-clause-refused_own g c other =
+    let now = c.args.self.now in
+    subst (λ (job : Job _). IsOwnJob g.W.PartialEq.eq (layout_of now.plan) now.parts c.args.number job)
+    c.job.ensures (c.is_own_job.ensures.0 c.if-not-is_own_job.false)
+
 pub returns-in-Err-clause-used_up : goal.returns-in-Err-clause-used_up
-returns-in-Err-clause-used_up g c is_ids may =
+returns-in-Err-clause-used_up g c is_ids =
     let now = c.args.self.now in
     let own = subst (λ (job : Job _). IsOwnJob g.W.PartialEq.eq (layout_of now.plan) now.parts c.args.number job)
     c.job.ensures (c.is_own_job.ensures.0 c.if-not-is_own_job.false) in
@@ -106,8 +118,26 @@ returns-in-Err-clause-used_up g c is_ids may =
     c.in-Err.ensures.back c.in-Err.is in
     let refused_for_ids = subst (λ (fault : OutletFault). c.end_job.result ≡ Err (answer, fault))
     (ids_of_outlet c.in-Err.fault (sym c.from.ensures ∙ is_ids)) refused in
-    returned_may_not g.W.Work.meaning g.W.PartialEq.eq works.same_meaning (layout_of now.plan) now.parts c.requires.kept
+    returned_lacks g.W.Work.meaning g.W.PartialEq.eq works.same_meaning (layout_of now.plan) now.parts c.requires.kept
     c.args.number (job_in c.args.done) own c.end_job.result (answer, Ids) answer c.into_parts-job.ensures.answer
     (subst (λ (ticket : ℕ). (c.end_job.result ≡ Err (answer, Ids)) ↔ (lacks_ids (put_by_job ticket answer block) block.exits ≡ true))
     ticket_is c.end_job.ensures.ids)
-    refused_for_ids may
+    refused_for_ids
+
+pub returns-in-Err-clause-ids : goal.returns-in-Err-clause-ids
+returns-in-Err-clause-ids g c is_memory =
+    let now = c.args.self.now in
+    let own = subst (λ (job : Job _). IsOwnJob g.W.PartialEq.eq (layout_of now.plan) now.parts c.args.number job)
+    c.job.ensures (c.is_own_job.ensures.0 c.if-not-is_own_job.false) in
+    let ticket_is = c.ticket-ticket.ensures ∙ ap ticket_in c.into_parts-job.ensures.job in
+    let works = g.met.W.Work g.world.𝓛 g.world.𝓜 g.world.𝓡 ((λ s x. x), (λ x. x), (λ x. x), λ x. x) in
+    let answer = c.into_parts-job.result.1 in
+    let block = (node_at now.parts c.args.number).block in
+    let refused = subst (λ (made : Result (List Value) ℕ). c.end_job.result ≡ Err (made, c.in-Err.fault))
+    c.in-Err.ensures.back c.in-Err.is in
+    returned_has g.W.Work.meaning g.W.PartialEq.eq works.same_meaning (layout_of now.plan) now.parts c.requires.kept
+    c.args.number (job_in c.args.done) own c.end_job.result (answer, Ids) (answer, c.in-Err.fault) answer c.into_parts-job.ensures.answer
+    (subst (λ (ticket : ℕ). (c.end_job.result ≡ Err (answer, Ids)) ↔ (lacks_ids (put_by_job ticket answer block) block.exits ≡ true))
+    ticket_is c.end_job.ensures.ids)
+    refused
+    (λ same. not_ids_of_outlet c.in-Err.fault (sym c.from.ensures ∙ is_memory) (ap (λ (pair : Result (List Value) ℕ × OutletFault). pair.1) same))

@@ -1,5 +1,5 @@
 use Rattle.std.proofs.Common.{rules}
-use Rattle.flow_net.proofs.FindersTell.{source_there, target_there, source_told, target_told, lacking_needs, lacking_may_not, found_same}
+use Rattle.flow_net.proofs.FindersTell.{source_there, target_there, source_told, target_told, lacking_told, found_same}
 use Rattle.flow_net.proofs.engine.Engine.is_next.Goals as goal
 
 pub next_of_target-requires : goal.next_of_target-requires
@@ -18,17 +18,11 @@ lacks_id-requires g c =
     source_there g.W.Work.meaning c.args.self.now.plan c.args.self.now.parts c.requires.kept c.args.id
     c.requires.known c.route-route.result.now c.route-route.ensures
 
-pub returns-then-lacks_id-clause-needed : goal.returns-then-lacks_id-clause-needed
-returns-then-lacks_id-clause-needed g c =
-    lacking_needs g.W.Work.meaning c.args.self.now.plan c.args.self.now.parts c.requires.kept c.args.id
+pub returns-then-lacks_id-clause-told : goal.returns-then-lacks_id-clause-told
+returns-then-lacks_id-clause-told g c =
+    lacking_told g.W.Work.meaning c.args.self.now.plan c.args.self.now.parts c.requires.kept c.args.id
     c.requires.known c.route-route.result.now c.route-route.ensures
-    c.lacks_id.result c.lacks_id.ensures c.if-lacks_id.true
-
-pub returns-then-lacks_id-clause-may_not : goal.returns-then-lacks_id-clause-may_not
-returns-then-lacks_id-clause-may_not g c =
-    lacking_may_not g.W.Work.meaning c.args.self.now.plan c.args.self.now.parts c.requires.kept c.args.id
-    c.requires.known c.route-route.result.now c.route-route.ensures
-    c.lacks_id.result c.lacks_id.ensures c.if-lacks_id.true c.args.next (search rules)
+    c.lacks_id.result c.lacks_id.ensures c.if-lacks_id.true c.args.next (search rules) c.has_header-_has_header.ensures.id
 
 pub next_of_source-requires : goal.next_of_source-requires
 next_of_source-requires g c =

@@ -7,7 +7,7 @@ use Rattle.flow_block.specs.Planned.{block_makes}
 use Rattle.flow_core.specs.State.{node_at}
 use Rattle.flow_exec.specs.Works.{works_of}
 use Rattle.flow_moves.proofs.MerelyKept.{blocks_planned}
-use Rattle.flow_net.proofs.EventsDone.{unmade_may_not, ids_told}
+use Rattle.flow_net.proofs.EventsDone.{unmade_may_not, ids_told, memory_told}
 use Rattle.flow_net.proofs.engine.Engine.make.Goals as goal
 
 pub make-requires-clause-alone : goal.make-requires-clause-alone
@@ -53,3 +53,13 @@ returns-in_err-make-clause-used_up g c is =
     let told = ids_told c.from_residual.result c.in_err-make.field-0.0 c.from_residual.ensures.1 is in
     unmade_may_not layout (works_of g.W.Work.meaning layout) old.parts c.args.number
     (c.in_err-make.ensures.used_up (ap Err told))
+
+pub returns-in_err-make-clause-memory : goal.returns-in_err-make-clause-memory
+returns-in_err-make-clause-memory g c is =
+    let layout = layout_of c.args.self.now.plan in
+    let told = memory_told c.from_residual.result c.in_err-make.field-0.0 c.from_residual.ensures.1 is in
+    record {
+      enabled = c.requires.enabled;
+      ids = λ no_row. c.in_err-make.ensures.memory (ap Err told) no_row
+          (block_makes layout (works_of g.W.Work.meaning layout) c.args.number);
+    }
