@@ -1,8 +1,7 @@
 -- The state of a network as plain data: what each block, input and link has come to, and the run that it stands for.
-use Rattle.std.specs.Prelude.{ℕ, List, [], get_or, map, Option, None, Result}
+use Rattle.std.specs.Prelude.{ℕ, List, [], get_or, map, None, Result}
 use Rattle.flow_value.specs.declared.value.Value.{Value}
 use Rattle.flow_link.specs.declared.draft.BlockKind.TheVariants.{Buffer}
-use Rattle.flow_link.specs.declared.phase.Phase.{Phase}
 use Rattle.flow_link.specs.declared.phase.Phase.TheVariants.{Idle}
 use Rattle.flow_link.specs.declared.plan.LinkSource.{LinkSource}
 use Rattle.flow_link.specs.declared.plan.LinkSource.TheVariants.{Block, Input}

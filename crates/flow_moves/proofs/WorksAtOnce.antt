@@ -7,7 +7,7 @@ use Rattle.flow_link.specs.declared.draft.BlockKind.{BlockKind}
 use Rattle.flow_link.specs.Plan.{has_work}
 use Rattle.flow_outlet.specs.Outlet.{lacks_ids}
 use Rattle.flow_block.specs.Block.{BlockState, held_by, made_of, put_by_kind, values_of_result, keeps_results, yields_all, yields_where, put_where, job_message}
-use Rattle.flow_block.specs.Jobs.{Slot}
+use Rattle.flow_block.specs.Jobs.{Slot, out_count}
 use Rattle.flow_block.specs.JobsEnd.{job_result}
 use Rattle.flow_block.specs.Node.{NodeState, with_block}
 use Rattle.flow_block.specs.Peeks.{may_work, may_begin}
@@ -23,7 +23,7 @@ record MayBegin (block : BlockState) : Type 0 where
 
 begin_tells : (block : BlockState) → may_begin block ≡ true → MayBegin block
 begin_tells block e =
-    let few = ltb (length block.jobs.slots) block.jobs.lanes in
+    let few = ltb (out_count block.jobs.slots) block.jobs.lanes in
     let outer = and_parts (may_work block && has_work block.kind && few) (ltb (length block.jobs.slots) (length (held_by block))) e in
     let inner = and_parts (may_work block && has_work block.kind) few outer.0 in
     let both = and_parts (may_work block) (has_work block.kind) inner.0 in

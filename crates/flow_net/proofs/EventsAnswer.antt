@@ -1,5 +1,5 @@
 -- What the answer to an event says that is no job's: that it is done.
-use Rattle.std.proofs.Common.{◌≡◌, ℕ, Bool, Result, Ok, Err, IfOk, OnOk}
+use Rattle.std.proofs.Common.{◌≡◌, Bool, Result, Ok, Err, IfOk, OnOk}
 use Rattle.flow_link.specs.Layout.{Layout}
 use Rattle.flow_core.specs.State.{NetState}
 use Rattle.flow_net.specs.Events.{Answers, IsOfJob, IsOfOwnJob}

@@ -4,6 +4,7 @@ pub mod EventsDone
 pub mod EventsRefused
 pub mod FindersTell
 pub mod IdsLeft
+pub mod JobsBegin
 pub mod JobsReturn
 pub mod KeptOn
 pub mod NetTells

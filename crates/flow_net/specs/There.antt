@@ -5,7 +5,7 @@ use Rattle.flow_link.specs.declared.phase.Move.{Move}
 use Rattle.flow_link.specs.declared.phase.Move.TheVariants.{Offer}
 use Rattle.flow_link.specs.Layout.{Layout}
 use Rattle.flow_moves.specs.Rows.{builds_row}
-use Rattle.flow_core.specs.Events.{NetEvent, Enabled, HasIds, MayHappen}
+use Rattle.flow_core.specs.Events.{NetEvent, Enabled, HasIds}
 use Rattle.flow_core.specs.State.{NetState, node_at}
 use Rattle.flow_net.specs.declared.fault.NetFault.{NetFault}
 use Rattle.flow_net.specs.declared.fault.NetFault.TheVariants.{NotEnabled, Ids, Memory}

@@ -2,8 +2,8 @@ use Rattle.std.proofs.Common.{refl}
 use Rattle.flow_net.proofs.EventsCount.{rounds_more}
 use Rattle.flow_net.proofs.engine.Engine.drive.Goals as goal
 
-pub loop-preserved : goal.loop-preserved
-loop-preserved g c =
+pub loop-preserved-in-Ok : goal.loop-preserved-in-Ok
+loop-preserved-in-Ok g c =
     let first = c.args.self.now in
     let before = c.loop.self in
     let last = c.go_on.new.self in

@@ -5,15 +5,15 @@ use Rattle.flow_net.proofs.EventsCount.{one_event_at_most}
 use Rattle.flow_net.proofs.EventsRefused.{enabled_refused}
 use Rattle.flow_net.proofs.engine.Engine.event.Goals as goal
 
-pub returns-then-branch-clause-goes_on : goal.returns-then-branch-clause-goes_on
-returns-then-branch-clause-goes_on g c =
+pub returns-then-is_due-clause-goes_on : goal.returns-then-is_due-clause-goes_on
+returns-then-is_due-clause-goes_on g c =
     let old = c.args.self.now in
     let layout = layout_of old.plan in
     one_event_at_most layout (works_of g.W.Work.meaning layout) c.go.result (event_of c.args.event.now) old.parts
     c.go.new.self.parts c.go.ensures.may c.go.ensures.done c.go.ensures.kept
 
-pub returns-then-branch-clause-why : goal.returns-then-branch-clause-why
-returns-then-branch-clause-why g c =
+pub returns-then-is_due-clause-why : goal.returns-then-is_due-clause-why
+returns-then-is_due-clause-why g c =
     let old = c.args.self.now in
     let layout = layout_of old.plan in
     enabled_refused layout (works_of g.W.Work.meaning layout) old.parts (event_of c.args.event.now) c.go.result

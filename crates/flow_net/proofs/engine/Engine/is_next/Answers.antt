@@ -22,7 +22,7 @@ pub returns-then-lacks_id-clause-told : goal.returns-then-lacks_id-clause-told
 returns-then-lacks_id-clause-told g c =
     lacking_told g.W.Work.meaning c.args.self.now.plan c.args.self.now.parts c.requires.kept c.args.id
     c.requires.known c.route-route.result.now c.route-route.ensures
-    c.lacks_id.result c.lacks_id.ensures c.if-lacks_id.true c.args.next (search rules) c.has_header-_has_header.ensures.id
+    c.lacks_id.result c.lacks_id.ensures c.if-lacks_id.true c.args.next (search rules) c.has_header-has_header.ensures.id
 
 pub next_of_source-requires : goal.next_of_source-requires
 next_of_source-requires g c =
