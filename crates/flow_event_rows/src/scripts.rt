@@ -58,6 +58,16 @@ const SCRIPTS: &[Script] = &[
          end 1 0, shows block t open ; held 0 [\"3\"] ; left [1,2]",
     ),
     (
+        "a result that waits keeps no lane busy",
+        TWO_LANES,
+        "'1 '2 '3 '4",
+        "bring 1, bring 2, bring 3, bring 4, begin 1, begin 1, not begin 1, \
+         end 1 1, begin 1, not begin 1, end 1 2, begin 1, not begin 1, \
+         shows block t open ; held 0 [\"1\",\"2\",\"3\",\"4\"] ; left [], \
+         end 1 0, shows block t open ; held 0 [\"4\"] ; left [1,2,3], \
+         end 1 3, shows block t open ; held 0 [] ; left [1,2,3,4]",
+    ),
+    (
         "a result is taken once",
         TWO_LANES,
         "'1 '2 '3",

@@ -1,7 +1,10 @@
 //! Blocks by the calls that all blocks have in common. The test carries what one says to the other.
-ghost use Rattle.std.specs.Prelude.{◌≡◌, [], ◌∷◌};
+ghost use Rattle.std.specs.Prelude.{◌≡◌, ℕ, ◌<◌, ◌≤◌, false, [], ◌∷◌};
 ghost use Rattle.flow_intake.specs.Port.{fresh_port};
+ghost use Rattle.flow_link.specs.BlockCalls.{BlockCall, ends_as};
+ghost use Rattle.flow_link.specs.TargetCalls.{is_awaited};
 ghost use Rattle.flow_link.specs.declared.stage.TargetStage.TheVariants.{Free};
+ghost use Rattle.flow_link.specs.declared.trace.Outcome.TheVariants.{Faulted};
 ghost use Rattle.flow_block.specs.BlockFits.{fresh_block};
 ghost use Rattle.flow_block.specs.Traits.{target_over};
 ghost use Rattle.flow_part_rows.specs.Driven.{link_to};
@@ -89,15 +92,33 @@ fn a_message_waits_for_room(rt: HostRuntime) {
     assert_eq!(rt; target.next_wish(), Wish::None);
 }
 
+/// Any target takes nothing more at its first port, where no message is awaited there.
+fn complete_first<T: TargetBlock>(target: &mut T)
+    requires port { 0 < T.port_count target.old }
+    requires rests { (link : ℕ) → T.port_into target.old link ≡ 0 → is_awaited (T.target_stage target.old link) ≡ false }
+    ensures completed { T.acts target.old (BlockCall.completed 0) target.new }
+{
+    target.complete(0);
+}
+
+/// Any target faults where it awaits no message, unless it has told its end.
+fn fault_at_rest<T: TargetBlock>(target: &mut T, number: u32)
+    requires is_fault { 1 ≤ number }
+    requires rests { (link : ℕ) → is_awaited (T.target_stage target.old link) ≡ false }
+    ensures ends { T.outcome target.new ≡ ends_as (Faulted number) (T.outcome target.old) }
+{
+    target.fault(number);
+}
+
 #[test]
 fn blocks_end_once(rt: HostRuntime) {
     let mut done = block(&rt, rt.alloc(), BlockKind::Buffer, 0, None);
     assert_eq!(rt; done.completion(), None);
-    DataflowBlock::complete(&mut done, 0);
+    complete_first(&mut done);
     assert_eq!(rt; done.completion(), Some(Outcome::Done));
 
     let mut faulted = block(&rt, rt.alloc(), BlockKind::Buffer, 0, None);
-    DataflowBlock::fault(&mut faulted, 3);
+    fault_at_rest(&mut faulted, 3);
     assert_eq!(rt; faulted.completion(), Some(Outcome::Faulted(3)));
 }
 

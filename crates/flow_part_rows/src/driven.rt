@@ -1,8 +1,10 @@
 //! Blocks that copy, and blocks with two ports, by the calls that all blocks have in common. The test plays what is at the
 //! far end of each link.
-ghost use Rattle.std.specs.Prelude.{◌≡◌, ◌<◌, [], ◌∷◌};
+ghost use Rattle.std.specs.Prelude.{◌≡◌, ◌<◌, [], ◌∷◌, length};
 ghost use Rattle.flow_link.specs.declared.draft.BlockKind.TheVariants as kind;
-ghost use Rattle.flow_intake.specs.Port.{fresh_port, fresh_end};
+ghost use Rattle.flow_intake.specs.Calls.{port_closes};
+ghost use Rattle.flow_intake.specs.Port.{fresh_port, fresh_end, coming};
+ghost use Rattle.flow_block.specs.Block.{port_at, with_port};
 ghost use Rattle.flow_block.specs.BlockFits.{fresh_block};
 ghost use Rattle.flow_batched.specs.BatchedJoin.{fresh_join};
 ghost use Rattle.flow_part_rows.specs.Driven.{Rests, two_ports, link_to};
@@ -208,4 +210,27 @@ fn a_write_once_block_copies_one_message(rt: HostRuntime) {
     assert_eq!(rt; source.completion(), None);
     assert!(rt; is_number(&give(&rt, rt.alloc(), &mut source), 8, 1, 5));
     assert_eq!(rt; source.completion(), Some(Outcome::Done));
+}
+
+/// The first port takes nothing more, since no message comes there.
+#[tactic(auto, using(flow_block::proofs::NothingComes::ports_come_to_rest))]
+fn close_first(block: &mut Block)
+    requires there { 0 < length block.old.ports }
+    requires rests { coming (port_at 0 block.old) ≡ 0 }
+    ensures { block.new ≡ with_port 0 port_closes block.old }
+{
+    DataflowBlock::complete(block, 0);
+}
+
+#[test]
+fn a_join_that_has_told_its_end_takes_nothing_more(rt: HostRuntime) {
+    let mut join = join(&rt, rt.alloc());
+    close_first(&mut join);
+    assert_eq!(rt; join.completion(), Some(Outcome::Done));
+    let one = header(&rt, 1);
+    let Ok(MessageStatus::DecliningPermanently) = join.offer_message(rt.alloc(), 1, one, true)
+    else {
+        panic!(&rt; "it takes one more");
+    };
+    assert_eq!(rt; join.completion(), Some(Outcome::Done));
 }

@@ -128,6 +128,26 @@ fn tickets_return_out_of_order(rt: HostRuntime) {
 }
 
 #[test]
+fn a_result_that_waits_keeps_no_lane_busy(rt: HostRuntime) {
+    let mut block = transform(&rt, rt.alloc());
+    take(&rt, rt.alloc(), &mut block, "1");
+    take(&rt, rt.alloc(), &mut block, "2");
+    take(&rt, rt.alloc(), &mut block, "3");
+    take(&rt, rt.alloc(), &mut block, "4");
+    let first = run_next(&rt, rt.alloc(), &mut block, 0);
+    let second = run_next(&rt, rt.alloc(), &mut block, 1);
+    bring_back(&rt, &mut block, second);
+    let third = run_next(&rt, rt.alloc(), &mut block, 2);
+    let Ok(None) = block.begin(rt.alloc()) else {
+        panic!(&rt; "three jobs are out");
+    };
+    bring_back(&rt, &mut block, third);
+    assert!(rt; are(block.left(), &[]));
+    bring_back(&rt, &mut block, first);
+    assert!(rt; are(block.left(), &[1, 2, 3]));
+}
+
+#[test]
 fn an_action_records(rt: HostRuntime) {
     let work = function(&rt, rt.alloc(), "int");
     let Ok(mut block) = Execution::action(rt.alloc(), 1, Some(1), work, Vec::new(rt.alloc())) else {
