@@ -1,11 +1,12 @@
 -- The calls by which no message comes and nothing is made: what waits stays, and each port stays in order.
-use Rattle.std.proofs.Common.{◌≡◌, ℕ, zero, suc, ◌+◌, ◌-◌, ◌<◌, ◌≤◌, ◌==◌, Bool, true, false, cond, List, [], ◌∷◌, length, set, map, Option, Some, None, is_some, Ok, Err, refl, ap, sym, subst, ◌∙◌, arith, eqb-true}
+use Rattle.std.proofs.Common.{is_none, ◌&&◌, ◌≡◌, ℕ, zero, suc, ◌+◌, ◌-◌, ◌<◌, ◌≤◌, ◌==◌, Bool, true, false, cond, List, [], ◌∷◌, length, set, map, Option, Some, None, is_some, Ok, Err, refl, ap, sym, subst, ◌∙◌, arith, eqb-true}
+use Rattle.std.proofs.lemmas.Bool.{and_parts}
 use Rattle.flow_value.specs.declared.message.MessageStatus.{MessageStatus}
 use Rattle.flow_value.specs.declared.message.MessageStatus.TheVariants as status
 use Rattle.flow_link.specs.declared.stage.Refusal.TheVariants.{PortEnded}
 use Rattle.flow_link.specs.declared.stage.TargetStage.{TargetStage}
 use Rattle.flow_link.specs.declared.stage.TargetStage.TheVariants as target
-use Rattle.flow_link.specs.declared.trace.Outcome.TheVariants.{Faulted}
+use Rattle.flow_link.specs.declared.trace.Outcome.TheVariants.{Done, Faulted}
 use Rattle.flow_link.specs.declared.traits.WishAnswer.{WishAnswer}
 use Rattle.flow_link.specs.declared.traits.WishAnswer.TheVariants as answer
 use Rattle.flow_link.specs.declared.traits.MakeFault.TheVariants as make_fault
@@ -17,7 +18,7 @@ use Rattle.flow_intake.specs.PortLaw.{PortLaw, has_ended}
 use Rattle.flow_intake.specs.Calls.{answer_to, next_place, is_postponed, gives_room, port_closes, consumes as port_consumes}
 use Rattle.flow_intake.specs.ByLink.{place_of, with_link_at, closes_link, answered, drops_at, consumes_at, consumes_next}
 use Rattle.flow_intake.proofs.CallsKeepOrder.{moves_keep}
-use Rattle.flow_outlet.specs.Outlet.{OutletState}
+use Rattle.flow_outlet.specs.Outlet.{is_empty, is_at_rest, OutletState}
 use Rattle.flow_outlet.specs.ByLink.{place_of as out_place, is_head, consumes, consumed, gives_home}
 use Rattle.flow_outlet.proofs.OutletFits.{weight_stays}
 use Rattle.flow_spread.specs.Spread.{SpreadState, prepares, offers}
@@ -25,13 +26,15 @@ use Rattle.flow_spread.specs.ByLink.{place_of as copy_place, answered as copy_an
 use Rattle.flow_block.specs.Block.{BlockState, port_in, port_at, with_port, stops_by, with_copies}
 use Rattle.flow_block.specs.BlockFits.{GaveOut, AllGaveOut, weight_out}
 use Rattle.flow_block.specs.Copies.{copies_weight}
-use Rattle.flow_block.specs.Traits.{MayCompletePort, MayFault, outcome_of, faults, port_into, target_over, with_port_of, wishing_port, wishes, holds_at, notes, shares, offer_next, offered_by, answered_by, may_take, may_take_copy, gives_over, copies_home, given_by}
+use Rattle.flow_block.specs.Traits.{settles, outcome_of, faults, port_into, target_over, with_port_of, wishing_port, wishes, holds_at, notes, shares, offer_next, offered_by, answered_by, may_take, may_take_copy, gives_over, copies_home, given_by}
 use Rattle.flow_block.proofs.PortsChange.{each_after_one, each_after_all}
 use Rattle.flow_block.proofs.RoomBack.{back_at, length_back, kept_back, each_after_back, back_fits}
 use Rattle.flow_block.proofs.TargetMoves.{some_port, shown_is}
 use Rattle.flow_block.proofs.TargetStands.{not_noted}
 use Rattle.flow_block.proofs.TestsTell.{every_tells}
-use Rattle.flow_history.specs.Calls.{Call, MayCall, Does, Fits}
+use Rattle.flow_block.specs.Peeks.{may_finish, could_stop, nothing_comes, is_complete, holds_nothing, is_copied_out}
+use Rattle.flow_link.specs.declared.trace.Outcome.{Outcome}
+use Rattle.flow_history.specs.Calls.{MayCallInOrder, Call, Does, Fits}
 use Rattle.flow_history.specs.Kept.{any_link}
 use Rattle.flow_history.proofs.PortCalls.{answer_keeps, wish_keeps, note_keeps, room_keeps}
 use Rattle.flow_history.proofs.Still.{Still, SamePort, still_at_one, still_at_all, still_same}
@@ -78,23 +81,18 @@ module _ (took : ℕ → ℕ) (old : BlockState) (law : Ordered took old.ports) 
   closed : (port : PortState) → SamePort port (port_closes port)
   closed port = record { waiting = refl; ended = λ e. refl; capacity = refl }
 
-  pub complete_leaves : (p : ℕ) → MayCompletePort old p → Goes (with_port p port_closes old)
-  complete_leaves p may = record {
+  pub complete_leaves : (p : ℕ) → coming (port_at p old) ≡ 0 → Goes (with_port p port_closes old)
+  complete_leaves p none = record {
     still = still_at_one old p (port_closes (port_at p old)) (closed (port_at p old));
     jobs = refl;
     recorded = refl;
     fault = refl;
     ordered = one_ordered took old.ports p (port_closes (port_at p old)) law
-        (λ there before. moves_keep.close_port any_link (took p) (port_at p old) before may.1);
+        (λ there before. moves_keep.close_port any_link (took p) (port_at p old) before none);
   }
 
-  none_comes : (p : ℕ) → p < length old.ports → MayFault old → coming (port_at p old) ≡ 0
-  none_comes p there may =
-      eqb-true (coming (port_at p old)) 0
-      (every_tells (λ (port : PortState). coming port == 0) old.ports (fresh_port None) p may there)
-
-  stopped : (number : ℕ) → MayFault old → Goes (stops_by (Faulted number) old)
-  stopped number may =
+  stopped : (how : Outcome) → ((p : ℕ) → p < length old.ports → coming (port_at p old) ≡ 0) → Goes (stops_by how old)
+  stopped how none =
       let still = still_at_all old port_closes closed in
       record {
         still = record {
@@ -111,15 +109,42 @@ module _ (took : ℕ → ℕ) (old : BlockState) (law : Ordered took old.ports) 
         recorded = refl;
         fault = refl;
         ordered = all_ordered took old.ports port_closes law
-            (λ p there before. moves_keep.close_port any_link (took p) (port_at p old) before (none_comes p there may));
+            (λ p there before. moves_keep.close_port any_link (took p) (port_at p old) before (none p there));
       }
 
-  fault_where : (number : ℕ) (ended : Bool) → MayFault old → Goes (cond ended old (stops_by (Faulted number) old))
-  fault_where number true may = nothing_leaves
-  fault_where number false may = stopped number may
+  none_at : nothing_comes old.ports ≡ true → (p : ℕ) → p < length old.ports → coming (port_at p old) ≡ 0
+  none_at none p there =
+      eqb-true (coming (port_at p old)) 0
+      (every_tells (λ (port : PortState). coming port == 0) old.ports (fresh_port None) p none there)
 
-  pub fault_leaves : (number : ℕ) → MayFault old → Goes (faults number old)
-  fault_leaves number may = fault_where number (is_some (outcome_of old)) may
+  pub fault_leaves : (number : ℕ) → nothing_comes old.ports ≡ true → Goes (faults number old)
+  fault_leaves number none = fault_where (is_some (outcome_of old))
+    where
+      fault_where : (ended : Bool) → Goes (cond ended old (stops_by (Faulted number) old))
+      fault_where true = nothing_leaves
+      fault_where false = stopped (Faulted number) (none_at none)
+
+  -- a block that may finish stops when it is asked; nothing comes there
+  pub settle_leaves : Goes (settles old)
+  settle_leaves = settle_where (may_finish old) refl
+    where
+      none_comes : may_finish old ≡ true → (p : ℕ) → p < length old.ports → coming (port_at p old) ≡ 0
+      none_comes may p there =
+          let a = could_stop old && is_complete old && holds_nothing old.ports && is_empty old.exits.left && is_at_rest old.exits in
+          let b = could_stop old && is_complete old && holds_nothing old.ports && is_empty old.exits.left in
+          let c = could_stop old && is_complete old && holds_nothing old.ports in
+          let d = could_stop old && is_complete old in
+          let e1 = (and_parts a (is_copied_out old.copies) may).0 in
+          let e2 = (and_parts b (is_at_rest old.exits) e1).0 in
+          let e3 = (and_parts c (is_empty old.exits.left) e2).0 in
+          let e4 = (and_parts d (holds_nothing old.ports) e3).0 in
+          let e5 = (and_parts (could_stop old) (is_complete old) e4).0 in
+          let e6 = (and_parts (is_none old.stopped) (nothing_comes old.ports) e5).1 in
+          none_at e6 p there
+
+      settle_where : (finished : Bool) → may_finish old ≡ finished → Goes (cond finished (stops_by Done old) old)
+      settle_where true is = stopped Done (none_comes is)
+      settle_where false is = nothing_leaves
 
   -- An offer is answered
 
@@ -335,10 +360,10 @@ module _ (took : ℕ → ℕ) (old new : BlockState) (law : Ordered took old.por
   left_as : (block : BlockState) → new ≡ block → Leaves took old block → Leaves took old new
   left_as block is leaves = subst (λ (b : BlockState). Leaves took old b) (sym is) leaves
 
-  acts_leave : (call : BlockCall) → IsPlain (Call.acts call) → MayCall (Call.acts call) old → Does (Call.acts call) old new
+  acts_leave : (call : BlockCall) → IsPlain (Call.acts call) → MayCallInOrder (Call.acts call) old → Does (Call.acts call) old new
       → Leaves took old new
-  acts_leave (BlockCall.completed p) plain may does = left_as (with_port p port_closes old) does (complete_leaves took old law p may)
-  acts_leave (BlockCall.faulted number) plain may does = left_as (faults number old) does (fault_leaves took old law number may)
+  acts_leave (BlockCall.completed p) plain may does = left_as (with_port p port_closes old) does (complete_leaves took old law p may.1)
+  acts_leave (BlockCall.faulted number) plain may does = left_as (faults number old) does (fault_leaves took old law number may.1)
   acts_leave (BlockCall.made (Ok true)) plain may does = absurd plain
   acts_leave (BlockCall.made (Ok false)) plain may does = left_as old does.1 (nothing_leaves took old law)
   acts_leave (BlockCall.made (Err make_fault.Ids)) plain may does = left_as old does.1 (nothing_leaves took old law)
@@ -352,17 +377,18 @@ module _ (took : ℕ → ℕ) (old new : BlockState) (law : Ordered took old.por
   gives_leave (SourceCall.consumed link header value) does =
       left_as (given_by (shares old) link header old) does.1 (gifts_leave took old law fits (shares old) link header)
 
-  takes_leave : (call : TargetCall) → IsPlain (Call.takes call) → MayCall (Call.takes call) old → Does (Call.takes call) old new
+  takes_leave : (call : TargetCall) → IsPlain (Call.takes call) → MayCallInOrder (Call.takes call) old → Does (Call.takes call) old new
       → Leaves took old new
   takes_leave (TargetCall.offered link header may_postpone how) plain may does =
-      left_as (with_port_of link (answered link header how) old) does.1 (offer_leaves took old law link header may_postpone how may does.0)
+      left_as (with_port_of link (answered link header how) old) does.1 (offer_leaves took old law link header may_postpone how may.0 does.0)
   takes_leave (TargetCall.handed link header value) plain may does = absurd plain
   takes_leave (TargetCall.wished told) plain may does =
       left_as (wishes (wishing_port old.ports) old) does.1 (wish_leaves took old law (wishing_port old.ports))
   takes_leave (TargetCall.noted link told) plain may does =
-      left_as (with_port_of link (notes told link) old) does (note_leaves took old law link told may)
+      left_as (with_port_of link (notes told link) old) does (note_leaves took old law link told may.0)
 
-  pub call_leaves : (call : Call) → IsPlain call → MayCall call old → Does call old new → Leaves took old new
+  pub call_leaves : (call : Call) → IsPlain call → MayCallInOrder call old → Does call old new → Leaves took old new
   call_leaves (Call.acts call) plain may does = acts_leave call plain may does
   call_leaves (Call.gives call) plain may does = gives_leave call does
   call_leaves (Call.takes call) plain may does = takes_leave call plain may does
+  call_leaves Call.asked plain may does = left_as (settles old) does (settle_leaves took old law)

@@ -6,7 +6,7 @@ use Rattle.std.proofs.lemmas.List.{length-map}
 use Rattle.flow_value.specs.declared.value.Value.{Value}
 use Rattle.flow_link.specs.declared.draft.BlockKind.{BlockKind}
 use Rattle.flow_link.specs.declared.draft.BlockKind.TheVariants.{Broadcast, WriteOnce}
-use Rattle.flow_link.specs.declared.trace.Outcome.TheVariants.{Faulted}
+use Rattle.flow_link.specs.declared.trace.Outcome.TheVariants.{Done, Faulted}
 use Rattle.flow_link.specs.declared.traits.MakeFault.TheVariants as make_fault
 use Rattle.flow_link.specs.BlockCalls.{BlockCall}
 use Rattle.flow_link.specs.Plan.{is_broadcast, is_one_taker, is_write_once}
@@ -27,8 +27,8 @@ use Rattle.flow_spread.proofs.AnyTarget.{each_link_accounts}
 use Rattle.flow_block.specs.Block.{BlockState, held_by, is_batch, is_join, row_of, next_group, with_port, makes_row, makes_tuple, puts_out, copies_next, copies_at_once, copies_where, stops_by}
 use Rattle.flow_block.specs.BlockFits.{fresh_block}
 use Rattle.flow_block.specs.Copies.{copied_rules}
-use Rattle.flow_block.specs.Peeks.{would_copy}
-use Rattle.flow_block.specs.Traits.{outcome_of, faults, makes_alone, has_turn, made_next, makes_its_next, Makes, carries_copy, copies_over, copy_over, may_take_copy, copies_home, shares, source_by, offer_by, offer_next, offered_by, answered_by, taken_by, given_by, with_port_of, wishing_port, wishes, notes}
+use Rattle.flow_block.specs.Peeks.{may_finish, would_copy}
+use Rattle.flow_block.specs.Traits.{settles, outcome_of, faults, makes_alone, has_turn, made_next, makes_its_next, Makes, carries_copy, copies_over, copy_over, may_take_copy, copies_home, shares, source_by, offer_by, offer_next, offered_by, answered_by, taken_by, given_by, with_port_of, wishing_port, wishes, notes}
 use Rattle.flow_history.specs.Calls.{Call, MayCall, Fits, Does, Step, AllDone, after_all}
 use Rattle.flow_history.specs.Copied.{told_by, told_over, link_id, NamesItself}
 use Rattle.flow_history.specs.History.{Gift, History, nothing_yet, given_over, came_by, copied_at_once, made_by, gifts_of, gave_by, noted, history_of}
@@ -238,6 +238,14 @@ module _ (old new : BlockState) (copies : is_one_taker old.kind ≡ false) where
   call_follows (Call.acts call) may does = acts_follow call does
   call_follows (Call.gives call) may does = gives_follow call may does
   call_follows (Call.takes call) may does = takes_follow call does
+  call_follows Call.asked may does =
+      let same = settled (may_finish old) in
+      stays Call.asked (settles old) does same.0 same.1 refl refl refl refl
+    where
+      settled : (finished : Bool) → ((cond finished (stops_by Done old) old).copies ≡ old.copies)
+          × ((cond finished (stops_by Done old) old).kind ≡ old.kind)
+      settled true = (refl, refl)
+      settled false = (refl, refl)
 
 -- Over all
 

@@ -7,14 +7,15 @@ use Rattle.flow_link.specs.Plan.{is_one_taker}
 use Rattle.flow_link.specs.SourceCalls.{SourceCall}
 use Rattle.flow_link.specs.TargetCalls.{TargetCall}
 use Rattle.flow_link.specs.declared.trace.Outcome.{Outcome}
-use Rattle.flow_link.specs.declared.trace.Outcome.TheVariants.{Faulted}
+use Rattle.flow_link.specs.declared.trace.Outcome.TheVariants.{Done, Faulted}
 use Rattle.flow_link.specs.declared.traits.MakeFault.TheVariants as make_fault
 use Rattle.flow_intake.specs.ByLink.{answered}
 use Rattle.flow_intake.specs.Calls.{port_closes}
 use Rattle.flow_outlet.specs.ByLink.{place_of, is_head, tests_consume, consumed, gives_home}
 use Rattle.flow_outlet.specs.Outlet.{OutletState, head_of, first_of, rest_of, is_empty, groups_after}
 use Rattle.flow_block.specs.Block.{BlockState, with_port, stops_by}
-use Rattle.flow_block.specs.Traits.{outcome_of, faults, offer_next, offered_by, answered_by, taken_by, given_by, may_take, gives_over, with_port_of, wishing_port, wishes, notes}
+use Rattle.flow_block.specs.Traits.{settles, outcome_of, faults, offer_next, offered_by, answered_by, taken_by, given_by, may_take, gives_over, with_port_of, wishing_port, wishes, notes}
+use Rattle.flow_block.specs.Peeks.{may_finish}
 use Rattle.flow_history.specs.Calls.{Call, Does}
 use Rattle.flow_history.proofs.CallsLeave.{IsPlain}
 
@@ -128,3 +129,8 @@ module _ (old new : BlockState) (one : is_one_taker old.kind ≡ true) where
   exits_go (Call.acts call) plain does = exits_act call plain does
   exits_go (Call.gives call) plain does = exits_give call does
   exits_go (Call.takes call) plain does = exits_take call plain does
+  exits_go Call.asked plain does = exits_as None (settles old) does (settled (may_finish old))
+    where
+      settled : (finished : Bool) → SameExits old.exits (cond finished (stops_by Done old) old).exits
+      settled true = exits_stopped old false Done
+      settled false = exits_stopped old true Done

@@ -32,9 +32,9 @@ use Rattle.flow_batched.specs.BatchedJoin.{JoinState, fresh_join}
 use Rattle.flow_batched.specs.Calls.{makes_next}
 use Rattle.flow_batched.proofs.OrderTells.{told_in_all}
 use Rattle.flow_link.specs.LinkOk.{IsWithin}
-use Rattle.flow_history.specs.Calls.{Call, MayCall, Does, Step, AllDone, after_all}
+use Rattle.flow_history.specs.Calls.{Call, MayCallInOrder, Does, Step, AllDone, after_all}
 use Rattle.flow_history.specs.History.{History, nothing_yet, took_at, came_by, made_by, copied_at_once, noted, history_of, gave_by, Gift, given}
-use Rattle.flow_history.specs.Grouped.{MayCallJoin, DoesToJoin, FitsJoin, came_to, grouped_by, GroupsAreKept, KeepsGroups}
+use Rattle.flow_history.specs.Grouped.{MayCallJoinInOrder, DoesToJoin, FitsJoin, came_to, grouped_by, GroupsAreKept, KeepsGroups}
 use Rattle.flow_history.specs.Kept.{any_link, hands_on, NothingCame}
 use Rattle.flow_history.proofs.CallsLeave.{Leaves, IsPlain, call_leaves}
 use Rattle.flow_history.proofs.GroupsCounted.{messages_of, messages_parts, Counts, plain_counts, made_counts, came_counts}
@@ -109,7 +109,7 @@ module _ (h : History) (old new : JoinState) (kept : KeptJoin h old) (fits : Fit
       subst (λ (c : List Arrival). GroupsLaw (length new.block.ports) new.block.size (all_ended new.block.ports) c made new.order (held_at new.block.ports)) (sym same_came)
       (subst (λ (m : List Value). GroupsLaw (length new.block.ports) new.block.size (all_ended new.block.ports) h.came m new.order (held_at new.block.ports)) (sym same_made) law)
 
-  plain_call : (call : Call) → IsPlain call → MayCall call old.block → Does call old.block new.block → new.order ≡ old.order
+  plain_call : (call : Call) → IsPlain call → MayCallInOrder call old.block → Does call old.block new.block → new.order ≡ old.order
       → came_by call old.block ≡ [] → made_by call old.block ≡ [] → grouped_by call old ≡ []
       → KeptJoin (noted came_to grouped_by gave_by call old h) new
   plain_call call plain may does order came made grouped =
@@ -230,14 +230,14 @@ module _ (h : History) (old new : JoinState) (kept : KeptJoin h old) (fits : Fit
 
   -- One call
 
-  took_one : (link header : ℕ) (value : Value) → MayCall (Call.takes (TargetCall.handed link header value)) old.block
+  took_one : (link header : ℕ) (value : Value) → MayCallInOrder (Call.takes (TargetCall.handed link header value)) old.block
       → new.block ≡ copies_taken (with_port_of link (arrives link value) old.block) → new.order ≡ old.order ++ port_into link old.block.ports ∷ []
       → KeptJoin (noted came_to grouped_by gave_by (Call.takes (TargetCall.handed link header value)) old h) new
   took_one link header value may is order =
       let call = Call.takes (TargetCall.handed link header value) in
       let arrived = with_port_of link (arrives link value) old.block in
-      let same : new.block ≡ arrived = is ∙ taken_is link header value may in
-      let none : copied_at_once arrived ≡ [] = ap (λ (once : Bool). cond once (take 1 (held_by arrived)) []) (copies_nothing link header value may) in
+      let same : new.block ≡ arrived = is ∙ taken_is link header value may.0 in
+      let none : copied_at_once arrived ≡ [] = ap (λ (once : Bool). cond once (take 1 (held_by arrived)) []) (copies_nothing link header value may.0) in
       record {
         kept = subst (λ (values : List Value). Kept false (record (noted came_by made_by gave_by call old.block h) { made = h.made ++ values }) new.block)
             none (one_call false h old.block new.block kept.kept fits.fits call may is);
@@ -248,21 +248,21 @@ module _ (h : History) (old new : JoinState) (kept : KeptJoin h old) (fits : Fit
             (h.came ++ arrival_at (port_into link old.block.ports) value ∷ []) h.made o (held_at new.block.ports)) (sym order)
             (subst (λ (b : BlockState). GroupsLaw (length b.ports) b.size (all_ended b.ports)
             (h.came ++ arrival_at (port_into link old.block.ports) value ∷ []) h.made (old.order ++ port_into link old.block.ports ∷ []) (held_at b.ports))
-            (sym same) (came_groups link header value may)));
+            (sym same) (came_groups link header value may.0)));
         some = subst (λ (b : BlockState). 0 < b.size) (sym same) kept.some;
         counts =
             subst (λ (gave : List Gift). Counts (λ p. length (arrived_at p (h.came ++ arrival_at (port_into link old.block.ports) value ∷ [])))
             (given gave) new.block) (sym (append-nil h.gave))
             (subst (λ (b : BlockState). Counts (λ p. length (arrived_at p (h.came ++ arrival_at (port_into link old.block.ports) value ∷ [])))
             (given h.gave) b) (sym same)
-            (came_counts false h old.block kept.kept link header value may kept.counts));
+            (came_counts false h old.block kept.kept link header value may.0 kept.counts));
       }
 
   nothing_done : new ≡ old → KeptJoin (record { came = h.came ++ []; made = h.made ++ []; gave = h.gave ++ [] }) new
   nothing_done is =
       subst (λ (x : History). KeptJoin x new) (sym (nothing_added h)) (subst (λ (join : JoinState). KeptJoin h join) (sym is) kept)
 
-  acted : (call : BlockCall) → MayCallJoin (Call.acts call) old → DoesToJoin (Call.acts call) old new
+  acted : (call : BlockCall) → MayCallJoinInOrder (Call.acts call) old → DoesToJoin (Call.acts call) old new
       → KeptJoin (noted came_to grouped_by gave_by (Call.acts call) old h) new
   acted (BlockCall.completed p) may does = plain_call (Call.acts (BlockCall.completed p)) tt may does.0 does.1 refl refl refl
   acted (BlockCall.faulted number) may does = plain_call (Call.acts (BlockCall.faulted number)) tt may does.0 does.1 refl refl refl
@@ -272,11 +272,11 @@ module _ (h : History) (old new : JoinState) (kept : KeptJoin h old) (fits : Fit
   acted (BlockCall.made (Err make_fault.Ids)) may does = nothing_done does.1.1
   acted (BlockCall.made (Err make_fault.Memory)) may does = nothing_done does.1
 
-  gave_one : (call : SourceCall) → MayCallJoin (Call.gives call) old → DoesToJoin (Call.gives call) old new
+  gave_one : (call : SourceCall) → MayCallJoinInOrder (Call.gives call) old → DoesToJoin (Call.gives call) old new
       → KeptJoin (noted came_to grouped_by gave_by (Call.gives call) old h) new
   gave_one call may does = plain_call (Call.gives call) tt may does.0 does.1 refl refl refl
 
-  took_call : (call : TargetCall) → MayCallJoin (Call.takes call) old → DoesToJoin (Call.takes call) old new
+  took_call : (call : TargetCall) → MayCallJoinInOrder (Call.takes call) old → DoesToJoin (Call.takes call) old new
       → KeptJoin (noted came_to grouped_by gave_by (Call.takes call) old h) new
   took_call (TargetCall.offered link header may_postpone how) may does =
       plain_call (Call.takes (TargetCall.offered link header may_postpone how)) tt may does.0 does.1 refl refl refl
@@ -284,14 +284,15 @@ module _ (h : History) (old new : JoinState) (kept : KeptJoin h old) (fits : Fit
   took_call (TargetCall.wished told) may does = plain_call (Call.takes (TargetCall.wished told)) tt may does.0 does.1 refl refl refl
   took_call (TargetCall.noted link told) may does = plain_call (Call.takes (TargetCall.noted link told)) tt may does.0 does.1 refl refl refl
 
-  join_call : (call : Call) → MayCallJoin call old → DoesToJoin call old new → KeptJoin (noted came_to grouped_by gave_by call old h) new
+  join_call : (call : Call) → MayCallJoinInOrder call old → DoesToJoin call old new → KeptJoin (noted came_to grouped_by gave_by call old h) new
   join_call (Call.acts call) may does = acted call may does
   join_call (Call.gives call) may does = gave_one call may does
   join_call (Call.takes call) may does = took_call call may does
+  join_call Call.asked may does = plain_call Call.asked tt may does.0 does.1 refl refl refl
 
 -- Over all
 
-all_calls : (steps : List (Step Call JoinState)) (old : JoinState) (h : History) → FitsJoin old → AllDone FitsJoin MayCallJoin DoesToJoin steps old
+all_calls : (steps : List (Step Call JoinState)) (old : JoinState) (h : History) → FitsJoin old → AllDone FitsJoin MayCallJoinInOrder DoesToJoin steps old
     → KeptJoin h old → KeptJoin (history_of came_to grouped_by gave_by steps old h) (after_all steps old)
 all_calls [] old h fits done kept = kept
 all_calls (step ∷ steps) old h fits done kept =
@@ -343,7 +344,7 @@ groups_are_kept = record {
 }
   where
     -- it stays a batched join
-    kind_after : (steps : List (Step Call JoinState)) (old : JoinState) → FitsJoin old → AllDone FitsJoin MayCallJoin DoesToJoin steps old
+    kind_after : (steps : List (Step Call JoinState)) (old : JoinState) → FitsJoin old → AllDone FitsJoin MayCallJoinInOrder DoesToJoin steps old
         → (after_all steps old).block.kind ≡ BatchedJoin
     kind_after [] old fits done = fits.kind_is
     kind_after (step ∷ steps) old fits done = kind_after steps step.left done.1.1.0 done.1.1.1

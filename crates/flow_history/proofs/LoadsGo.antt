@@ -10,7 +10,7 @@ use Rattle.flow_link.specs.Plan.{is_one_taker}
 use Rattle.flow_link.specs.SourceCalls.{SourceCall}
 use Rattle.flow_link.specs.TargetCalls.{TargetCall}
 use Rattle.flow_link.specs.declared.trace.Outcome.{Outcome}
-use Rattle.flow_link.specs.declared.trace.Outcome.TheVariants.{Faulted}
+use Rattle.flow_link.specs.declared.trace.Outcome.TheVariants.{Done, Faulted}
 use Rattle.flow_link.specs.declared.traits.MakeFault.TheVariants as make_fault
 use Rattle.flow_link.specs.declared.traits.WishAnswer.{WishAnswer}
 use Rattle.flow_link.specs.declared.traits.WishAnswer.TheVariants as answer
@@ -20,12 +20,13 @@ use Rattle.flow_intake.specs.Calls.{next_place, is_postponed, port_closes, consu
 use Rattle.flow_outlet.specs.ByLink.{place_of as out_place, is_head, tests_consume, consumes, consumed, gives_home}
 use Rattle.flow_outlet.specs.Outlet.{head_of, weight_at, is_empty}
 use Rattle.flow_block.specs.Block.{BlockState, port_in, port_at, with_port, row_count, stops_by}
-use Rattle.flow_block.specs.Traits.{outcome_of, faults, offer_next, offered_by, answered_by, taken_by, given_by, may_take, gives_over, with_port_of, port_into, wishing_port, wishes, holds_at, notes}
+use Rattle.flow_block.specs.Traits.{settles, outcome_of, faults, offer_next, offered_by, answered_by, taken_by, given_by, may_take, gives_over, with_port_of, port_into, wishing_port, wishes, holds_at, notes}
 use Rattle.flow_block.proofs.PortsChange.{kept_at_one, kept_at_all}
 use Rattle.flow_block.proofs.RoomBack.{port_back}
 use Rattle.flow_outlet.specs.Fits.{weight_of}
 use Rattle.flow_outlet.specs.declared.group.Group.{Group}
 use Rattle.flow_block.specs.Copies.{copies_weight}
+use Rattle.flow_block.specs.Peeks.{may_finish}
 use Rattle.flow_history.specs.Calls.{Call, Does}
 use Rattle.flow_history.proofs.CallsLeave.{IsPlain}
 use Rattle.flow_history.proofs.ExitsGo.{given_value, no_head}
@@ -169,3 +170,8 @@ module _ (old new : BlockState) (one : is_one_taker old.kind ≡ true) (p : ℕ)
     loads_go (Call.acts call) plain does = loads_act call plain does
     loads_go (Call.gives call) plain does = loads_give call does
     loads_go (Call.takes call) plain does = loads_take call plain does
+    loads_go Call.asked plain does = loads_as None (settles old) does (settled (may_finish old))
+      where
+        settled : (finished : Bool) → LoadsAt None old (cond finished (stops_by Done old) old) p
+        settled true = stopped_loads old p false Done
+        settled false = stopped_loads old p true Done

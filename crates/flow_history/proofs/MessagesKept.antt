@@ -31,7 +31,7 @@ use Rattle.flow_block.specs.Copies.{copies_weight}
 use Rattle.flow_block.specs.NodeLaw.{weighed, rows_weighed}
 use Rattle.flow_block.proofs.RowsHold.{given_back}
 use Rattle.flow_block.proofs.WeightsOfResults.{weight_weighed, weight_rows}
-use Rattle.flow_history.specs.Calls.{Call, MayCall, Does, Fits, Step, AllDone, after_all}
+use Rattle.flow_history.specs.Calls.{MayCallInOrder, Call, Does, Fits, Step, AllDone, after_all}
 use Rattle.flow_history.specs.History.{Gift, History, nothing_yet, took_at, given, came_by, made_by, copied_at_once, noted, history_of, gave_by}
 use Rattle.flow_history.specs.Kept.{NothingCame, MessagesAreKept, makes_freely, places_left, KeepsMessages}
 use Rattle.flow_history.proofs.CallsLeave.{IsPlain, call_leaves, out_at}
@@ -93,6 +93,7 @@ given_then gave call = map-append (λ (gift : Gift). gift.value) gave (gave_by c
     gifts_are (Call.gives (SourceCall.noted link header how)) = refl
     gifts_are (Call.acts call) = refl
     gifts_are (Call.takes call) = refl
+    gifts_are Call.asked = refl
 
 left_then : (value : Option Value) (old new : OutletState) → Goes value old new → old.left ≡ listed value ++ new.left
 left_then None old new goes = sym goes.left
@@ -119,7 +120,7 @@ module _ (single : Bool) (h : History) (old new : BlockState) (kept : Kept singl
   took_so_far p = length (took_at h p)
 
   -- nothing came, and nothing was made
-  plain_call : (call : Call) → IsPlain call → MayCall call old → Does call old new → came_by call old ≡ [] → made_by call old ≡ []
+  plain_call : (call : Call) → IsPlain call → MayCallInOrder call old → Does call old new → came_by call old ≡ [] → made_by call old ≡ []
       → Kept single (noted came_by made_by gave_by call old h) new
   plain_call call plain may does came made =
       let leaves = call_leaves took_so_far old new kept.in_order fits call plain may does in
@@ -138,7 +139,7 @@ module _ (single : Bool) (h : History) (old new : BlockState) (kept : Kept singl
       weighs_then old.kind (port_at 0 old).capacity (given_value call) old.exits new.exits
       (exits_go old new (alone_shares old.kind alone) call plain does) (kept.weighs alone)))
 
-  acted : (call : BlockCall) → MayCall (Call.acts call) old → Does (Call.acts call) old new
+  acted : (call : BlockCall) → MayCallInOrder (Call.acts call) old → Does (Call.acts call) old new
       → Kept single (noted came_by made_by gave_by (Call.acts call) old h) new
   acted (BlockCall.completed p) may does = plain_call (Call.acts (BlockCall.completed p)) tt may does refl refl
   acted (BlockCall.faulted number) may does = plain_call (Call.acts (BlockCall.faulted number)) tt may does refl refl
@@ -149,7 +150,7 @@ module _ (single : Bool) (h : History) (old new : BlockState) (kept : Kept singl
   acted (BlockCall.made (Ok false)) may does = plain_call (Call.acts (BlockCall.made (Ok false))) tt may does refl refl
   acted (BlockCall.made (Err fault)) may does = plain_call (Call.acts (BlockCall.made (Err fault))) tt may does refl refl
 
-  took_call : (call : TargetCall) → MayCall (Call.takes call) old → Does (Call.takes call) old new
+  took_call : (call : TargetCall) → MayCallInOrder (Call.takes call) old → Does (Call.takes call) old new
       → Kept single (noted came_by made_by gave_by (Call.takes call) old h) new
   took_call (TargetCall.offered link header may_postpone how) may does =
       plain_call (Call.takes (TargetCall.offered link header may_postpone how)) tt may does refl refl
@@ -159,18 +160,19 @@ module _ (single : Bool) (h : History) (old new : BlockState) (kept : Kept singl
       (subst (λ (b : BlockState). Kept single (record h {
         came = h.came ++ arrival_at (port_into link old.ports) value ∷ [];
         made = h.made ++ copied_at_once (with_port_of link (arrives link value) old);
-      }) b) (sym does) (taken_kept single h old kept link header value may fits))
+      }) b) (sym does) (taken_kept single h old kept link header value may.0 fits))
   took_call (TargetCall.wished told) may does = plain_call (Call.takes (TargetCall.wished told)) tt may does refl refl
   took_call (TargetCall.noted link told) may does = plain_call (Call.takes (TargetCall.noted link told)) tt may does refl refl
 
-  pub one_call : (call : Call) → MayCall call old → Does call old new → Kept single (noted came_by made_by gave_by call old h) new
+  pub one_call : (call : Call) → MayCallInOrder call old → Does call old new → Kept single (noted came_by made_by gave_by call old h) new
   one_call (Call.acts call) may does = acted call may does
   one_call (Call.gives call) may does = plain_call (Call.gives call) tt may does refl refl
   one_call (Call.takes call) may does = took_call call may does
+  one_call Call.asked may does = plain_call Call.asked tt may does refl refl
 
 -- Over all
 
-all_calls : (single : Bool) (steps : List (Step Call BlockState)) (old : BlockState) (h : History) → Fits old → AllDone Fits MayCall Does steps old → Kept single h old
+all_calls : (single : Bool) (steps : List (Step Call BlockState)) (old : BlockState) (h : History) → Fits old → AllDone Fits MayCallInOrder Does steps old → Kept single h old
     → Kept single (history_of came_by made_by gave_by steps old h) (after_all steps old)
 all_calls single [] old h fits done kept = kept
 all_calls single (step ∷ steps) old h fits done kept =
@@ -222,7 +224,7 @@ module _ (kind : BlockKind) (lanes size : ℕ) (ports : List PortState) (rules :
 
 -- What the law says
 
-fits_after : (steps : List (Step Call BlockState)) (old : BlockState) → Fits old → AllDone Fits MayCall Does steps old → Fits (after_all steps old)
+fits_after : (steps : List (Step Call BlockState)) (old : BlockState) → Fits old → AllDone Fits MayCallInOrder Does steps old → Fits (after_all steps old)
 fits_after [] old fits done = fits
 fits_after (step ∷ steps) old fits done = fits_after steps step.left done.1.1.0 done.1.1.1
 

@@ -121,12 +121,14 @@ join_keeps sure gave old new (Call.acts (BlockCall.faulted number)) shares may d
     common_keeps sure gave old.block new.block (Call.acts (BlockCall.faulted number)) shares may does.0
 join_keeps sure gave old new (Call.gives call) shares may does = common_keeps sure gave old.block new.block (Call.gives call) shares may does.0
 join_keeps sure gave old new (Call.takes call) shares may does = common_keeps sure gave old.block new.block (Call.takes call) shares may does.0
+join_keeps sure gave old new Call.asked shares may does = common_keeps sure gave old.block new.block Call.asked shares may does.0
 
 join_orders : (gave : List Gift) (old new : JoinState) (call : Call) → Shares true gave old.block → DoesToJoin call old new
     → GoesInOrder call old.block.exits
 join_orders gave old new (Call.acts call) shares does = tt
 join_orders gave old new (Call.gives call) shares does = common_orders gave old.block new.block (Call.gives call) shares does.0
 join_orders gave old new (Call.takes call) shares does = tt
+join_orders gave old new Call.asked shares does = tt
 
 -- One call of a block with a function
 
@@ -190,6 +192,8 @@ module _ {W : Type 0} (meaning : W → Value → Result (List Value) WorkFault) 
   work_keeps sure gave old new (WorkCall.common (Call.acts call)) shares may does = common_keeps sure gave old.block new.block (Call.acts call) shares (may.0.0, may.1) does.0
   work_keeps sure gave old new (WorkCall.common (Call.gives call)) shares may does = common_keeps sure gave old.block new.block (Call.gives call) shares (may.0.0, may.1) does.0
   work_keeps sure gave old new (WorkCall.common (Call.takes call)) shares may does = common_keeps sure gave old.block new.block (Call.takes call) shares (may.0.0, may.1) does.0
+  work_keeps sure gave old new (WorkCall.common Call.asked) shares may does =
+      common_keeps sure gave old.block new.block Call.asked shares (may.0.0, may.1) does.0
   work_keeps sure gave old new WorkCall.began shares may does =
       stays_given sure gave new.block _ (ap (λ (execution : ExecutionState W). execution.block) does) (record { one = shares.one; goes = shares.goes })
   work_keeps sure gave old new (WorkCall.ended ticket) shares may does =
@@ -201,6 +205,7 @@ module _ {W : Type 0} (meaning : W → Value → Result (List Value) WorkFault) 
   work_orders gave old new (WorkCall.common (Call.acts call)) shares does = tt
   work_orders gave old new (WorkCall.common (Call.gives call)) shares does = common_orders gave old.block new.block (Call.gives call) shares does.0
   work_orders gave old new (WorkCall.common (Call.takes call)) shares does = tt
+  work_orders gave old new (WorkCall.common Call.asked) shares does = tt
   work_orders gave old new WorkCall.began shares does = tt
   work_orders gave old new (WorkCall.ended ticket) shares does = tt
 

@@ -5,7 +5,7 @@ use Rattle.flow_value.specs.declared.value.Value.{Value}
 use Rattle.flow_link.specs.declared.draft.BlockKind.{BlockKind}
 use Rattle.flow_link.specs.declared.draft.BlockKind.TheVariants.{Buffer, Batch, Join}
 use Rattle.flow_link.specs.declared.trace.Outcome.{Outcome}
-use Rattle.flow_link.specs.declared.trace.Outcome.TheVariants.{Faulted}
+use Rattle.flow_link.specs.declared.trace.Outcome.TheVariants.{Done, Faulted}
 use Rattle.flow_link.specs.declared.traits.MakeFault.TheVariants as make_fault
 use Rattle.flow_link.specs.BlockCalls.{BlockCall}
 use Rattle.flow_link.specs.Plan.{is_broadcast, is_one_taker}
@@ -18,7 +18,8 @@ use Rattle.flow_outlet.specs.ByLink.{place_of, is_head, tests_consume, consumed,
 use Rattle.flow_outlet.specs.Law.{may_go_past}
 use Rattle.flow_outlet.specs.Outlet.{OutletState, head_of, may_offer, lacks_ids, is_empty, end_at}
 use Rattle.flow_block.specs.Block.{BlockState, held_by, is_batch, is_join, row_of, next_group, with_port, makes_row, makes_tuple, puts_out, copies_next, copies_at_once, copies_where, copies_taken, stops_by}
-use Rattle.flow_block.specs.Traits.{outcome_of, faults, makes_alone, has_turn, makes_its_next, Makes, carries, offers_over, source_by, offer_by, offer_next, offered_by, answered_by, may_take, taken_by, gives_over, given_by, with_port_of, wishing_port, wishes, notes}
+use Rattle.flow_block.specs.Traits.{settles, outcome_of, faults, makes_alone, has_turn, makes_its_next, Makes, carries, offers_over, source_by, offer_by, offer_next, offered_by, answered_by, may_take, taken_by, gives_over, given_by, with_port_of, wishing_port, wishes, notes}
+use Rattle.flow_block.specs.Peeks.{may_finish}
 use Rattle.flow_history.specs.Calls.{Call, MayCall, Does}
 use Rattle.flow_history.specs.History.{Gift, gifts_of, gave_by}
 use Rattle.flow_history.specs.Ordered.{AnswersSteadily, GoesInOrder}
@@ -172,6 +173,11 @@ module _ (sure : Bool) (gave : List Gift) (old new : BlockState) (one : is_one_t
   call_by_rule (Call.acts call) may does = acted call does
   call_by_rule (Call.gives call) may does = given_so call may does
   call_by_rule (Call.takes call) may does = took_so call does
+  call_by_rule Call.asked may does = stays_so (settles old) does (settled (may_finish old))
+    where
+      settled : (finished : Bool) → (cond finished (stops_by Done old) old).exits ≡ old.exits
+      settled true = refl
+      settled false = refl
 
 -- and in the order of the links, where targets answer by rule
 module _ (gave : List Gift) (old new : BlockState) (one : is_one_taker old.kind ≡ true) (goes : GoesByRule true gave old.exits) where
@@ -191,6 +197,7 @@ module _ (gave : List Gift) (old new : BlockState) (one : is_one_taker old.kind 
   call_in_order (Call.gives (SourceCall.noted link header how)) does = tt
   call_in_order (Call.acts call) does = tt
   call_in_order (Call.takes call) does = tt
+  call_in_order Call.asked does = tt
 
 -- It stays of its kind
 
@@ -248,3 +255,4 @@ module _ (old new : BlockState) (one : is_one_taker old.kind ≡ true) where
       wished_kind None = refl
       wished_kind (Some p) = refl
   kind_stays (Call.takes (TargetCall.noted link told)) does = kind_as (with_port_of link (notes told link) old) does refl
+  kind_stays Call.asked does = kind_as (settles old) does (kind_where (may_finish old) (stops_by Done old) old refl refl)

@@ -24,7 +24,7 @@ use Rattle.flow_outlet.specs.Outlet.{is_empty, OutletState, groups_with}
 use Rattle.flow_outlet.specs.declared.ends.LinkRule.{LinkRule}
 use Rattle.flow_spread.specs.Spread.{is_spread_free}
 use Rattle.flow_block.specs.Block.{BlockState, port_in, port_at, held_by, is_batch, is_join, with_jobs, keeps_results, fails, begins, yields_all, yields_where, ends_job, put_by_kind, put_where, put_by_job, job_message, copies_at_once, copies_where, copies_taken, unit_weight, puts_out}
-use Rattle.flow_block.specs.Jobs.{Slot, AreOf, brings, comes_out, place_of, works_off}
+use Rattle.flow_block.specs.Jobs.{out_count, Slot, AreOf, brings, comes_out, place_of, works_off}
 use Rattle.flow_block.specs.NodeLaw.{MakesAs, FaultsOn, WeighsAs, weighed, partly_weighed}
 use Rattle.flow_block.specs.Peeks.{may_begin, may_work}
 use Rattle.flow_block.specs.Traits.{makes_alone, has_turn, Makes, port_into, with_port_of}
@@ -41,10 +41,10 @@ use Rattle.flow_block.specs.BlockFits.{weight_out}
 use Rattle.flow_block.specs.Copies.{copies_weight}
 use Rattle.flow_block.proofs.WeightsOfResults.{weighs_taken, weighs_given, weighs_many, weighs_one}
 use Rattle.flow_history.proofs.ExitsGo.{Goes, given_value, exits_go}
-use Rattle.flow_history.specs.Calls.{Call, MayCall, Does, Fits, Step, AllDone, after_all}
+use Rattle.flow_history.specs.Calls.{Call, MayCall, MayCallInOrder, Does, Fits, Step, AllDone, after_all}
 use Rattle.flow_history.specs.History.{History, nothing_yet, took_at, given, came_by, copied_at_once, made_by, gave_by, noted, history_of, Gift}
 use Rattle.flow_history.specs.Kept.{any_link, hands_on, NothingCame}
-use Rattle.flow_history.specs.Worked.{WorkCall, gave_for, MayCallWork, FitsWork, came_for, DoesWork, worked_out, result_in, KeepsWork, WorkIsKept}
+use Rattle.flow_history.specs.Worked.{WorkCall, gave_for, MayCallWorkInOrder, FitsWork, came_for, DoesWork, worked_out, result_in, KeepsWork, WorkIsKept}
 use Rattle.flow_history.proofs.CallsLeave.{IsPlain, call_leaves, one_ordered, all_ordered, out_at}
 use Rattle.flow_history.proofs.Makes.{one_back}
 use Rattle.flow_history.proofs.MessagesKept.{nothing_added, only_made, one_call, fresh_kept, none_at, given_then, fits_in}
@@ -436,7 +436,7 @@ module _ (result : Value → Result (List Value) ℕ) (kind : BlockKind) (works 
   -- a job begins, and a job ends
   began_kept : (h : History) (block : BlockState) → may_begin block ≡ true → BlockKept h block → BlockKept h (begins block)
   began_kept h block may kept =
-      let few = (and_parts (may_work block && has_work block.kind && ltb (length block.jobs.slots) block.jobs.lanes)
+      let few = (and_parts (may_work block && has_work block.kind && ltb (out_count block.jobs.slots) block.jobs.lanes)
       (ltb (length block.jobs.slots) (length (held_by block))) may).1 in
       slots_kept h block (block.jobs.slots ++ None ∷ [])
       (more_begun result (held_by block) block.jobs.slots (ltb-true (length block.jobs.slots) (length (held_by block)) few) kept.waits) kept
@@ -453,7 +453,7 @@ module _ (result : Value → Result (List Value) ℕ) (kind : BlockKind) (works 
 
   -- a common call
   module _ (h : History) (old new : BlockState) (kept : BlockKept h old) (fits : Fits old) where
-    plain_kept : (call : Call) → IsPlain call → MayCall call old → Does call old new → made_by call old ≡ [] → came_by call old ≡ []
+    plain_kept : (call : Call) → IsPlain call → MayCallInOrder call old → Does call old new → made_by call old ≡ [] → came_by call old ≡ []
         → BlockKept (record { came = h.came ++ came_by call old; made = h.made ++ []; gave = h.gave ++ gave_by call }) new
     plain_kept call plain may does made came =
         let leaves = call_leaves (λ p. length (took_at h p)) old new kept.kept.in_order fits call plain may does in
@@ -499,7 +499,7 @@ module _ (result : Value → Result (List Value) ℕ) (kind : BlockKind) (works 
         took_more false h old kept.kept link header value may 0 ∙ ap (λ (vs : List Value). took_at h 0 ++ vs) only in
         record {
           kept = subst (λ (values : List Value). Kept false (record { came = h.came ++ arrival_at p value ∷ []; made = h.made ++ values; gave = h.gave ++ [] }) new) none
-              (one_call false h old new kept.kept fits call may is);
+              (one_call false h old new kept.kept fits call (may, tt) is);
           kind_is = ap (λ (b : BlockState). b.kind) same ∙ kept.kind_is;
           one_port = ap (λ (b : BlockState). length b.ports) same ∙ length-set old.ports p (arrives link value (port_at p old)) ∙ kept.one_port;
           makes = rw (held, taken, append-nil h.made, ap (λ (b : BlockState). b.recorded) same)
@@ -553,7 +553,7 @@ module _ {W : Type 0} (meaning : W → Value → Result (List Value) WorkFault) 
     abbrev After : WorkCall → Type 0
     After call = ExecutionKept (noted came_for (worked_out meaning) gave_for call old h) new
 
-    plainly : (call : Call) → IsPlain call → MayCall call old.block → Does call old.block new.block → new.work ≡ old.work
+    plainly : (call : Call) → IsPlain call → MayCallInOrder call old.block → Does call old.block new.block → new.work ≡ old.work
         → made_by call old.block ≡ [] → came_by call old.block ≡ [] → After (WorkCall.common call)
     plainly call plain may does same made came = record {
       block = plain_kept own kind works single h old.block new.block kept.block fits.fits call plain may does made came;
@@ -572,7 +572,7 @@ module _ {W : Type 0} (meaning : W → Value → Result (List Value) WorkFault) 
         not_alone TransformMany w alone = absurd (cc)
         not_alone _ w alone = absurd (cc)
 
-    acts_kept : (call : BlockCall) → MayCallWork (WorkCall.common (Call.acts call)) old → DoesWork meaning (WorkCall.common (Call.acts call)) old new
+    acts_kept : (call : BlockCall) → MayCallWorkInOrder (WorkCall.common (Call.acts call)) old → DoesWork meaning (WorkCall.common (Call.acts call)) old new
         → After (WorkCall.common (Call.acts call))
     acts_kept (BlockCall.completed p) may does = plainly (Call.acts (BlockCall.completed p)) tt may does.0 does.1 refl refl
     acts_kept (BlockCall.faulted number) may does = plainly (Call.acts (BlockCall.faulted number)) tt may does.0 does.1 refl refl
@@ -583,21 +583,22 @@ module _ {W : Type 0} (meaning : W → Value → Result (List Value) WorkFault) 
     acts_kept (BlockCall.made (Err make_fault.Memory)) may does =
         plainly (Call.acts (BlockCall.made (Err make_fault.Memory))) tt may does.0 does.1 refl refl
 
-    takes_kept : (call : TargetCall) → MayCallWork (WorkCall.common (Call.takes call)) old → DoesWork meaning (WorkCall.common (Call.takes call)) old new
+    takes_kept : (call : TargetCall) → MayCallWorkInOrder (WorkCall.common (Call.takes call)) old → DoesWork meaning (WorkCall.common (Call.takes call)) old new
         → After (WorkCall.common (Call.takes call))
     takes_kept (TargetCall.offered link header may_postpone how) may does =
         plainly (Call.takes (TargetCall.offered link header may_postpone how)) tt may does.0 does.1 refl refl
     takes_kept (TargetCall.handed link header value) may does = record {
-      block = handed_kept own kind works single h old.block new.block kept.block fits.fits link header value may does.0;
+      block = handed_kept own kind works single h old.block new.block kept.block fits.fits link header value may.0 does.0;
       work_is = does.1 ∙ kept.work_is;
     }
     takes_kept (TargetCall.wished told) may does = plainly (Call.takes (TargetCall.wished told)) tt may does.0 does.1 refl refl
     takes_kept (TargetCall.noted link told) may does = plainly (Call.takes (TargetCall.noted link told)) tt may does.0 does.1 refl refl
 
-    call_kept : (call : WorkCall) → MayCallWork call old → DoesWork meaning call old new → After call
+    call_kept : (call : WorkCall) → MayCallWorkInOrder call old → DoesWork meaning call old new → After call
     call_kept (WorkCall.common (Call.acts call)) may does = acts_kept call may does
     call_kept (WorkCall.common (Call.gives call)) may does = plainly (Call.gives call) tt may does.0 does.1 refl refl
     call_kept (WorkCall.common (Call.takes call)) may does = takes_kept call may does
+    call_kept (WorkCall.common Call.asked) may does = plainly Call.asked tt may does.0 does.1 refl refl
     call_kept WorkCall.began may does =
         subst (λ (x : History). ExecutionKept x new) (sym (nothing_added h))
         (subst (λ (e : ExecutionState W). ExecutionKept h e) (sym does)
@@ -612,7 +613,7 @@ module _ {W : Type 0} (meaning : W → Value → Result (List Value) WorkFault) 
         (record { block = ended_kept own kind works single ticket made h old.block is kept.block; work_is = kept.work_is }))
 
   all_calls_kept : (steps : List (Step WorkCall (ExecutionState W))) (old : ExecutionState W) (h : History) → FitsWork old
-      → AllDone FitsWork MayCallWork (DoesWork meaning) steps old → ExecutionKept h old
+      → AllDone FitsWork MayCallWorkInOrder (DoesWork meaning) steps old → ExecutionKept h old
       → ExecutionKept (history_of came_for (worked_out meaning) gave_for steps old h) (after_all steps old)
   all_calls_kept [] old h fits done kept = kept
   all_calls_kept (step ∷ steps) old h fits done kept =
@@ -654,7 +655,7 @@ module _ {W : Type 0} (meaning : W → Value → Result (List Value) WorkFault) 
       }
 
   fits_after : (steps : List (Step WorkCall (ExecutionState W))) (old : ExecutionState W) → FitsWork old
-      → AllDone FitsWork MayCallWork (DoesWork meaning) steps old → FitsWork (after_all steps old)
+      → AllDone FitsWork MayCallWorkInOrder (DoesWork meaning) steps old → FitsWork (after_all steps old)
   fits_after [] old fits done = fits
   fits_after (step ∷ steps) old fits done = fits_after steps step.left done.1.1.0 done.1.1.1
 

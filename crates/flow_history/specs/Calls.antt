@@ -1,21 +1,24 @@
 -- What a caller who drives a block by hand may call, and what each call does to the block.
-use Rattle.std.specs.Prelude.{◌≡◌, List, [], ◌∷◌}
+use Rattle.std.specs.Prelude.{◌≡◌, true, List, [], ◌∷◌}
 use Rattle.flow_link.specs.BlockCalls.{BlockCall}
 use Rattle.flow_link.specs.SourceCalls.{SourceCall, MayConsume}
 use Rattle.flow_link.specs.TargetCalls.{TargetCall, Wants, MayNote}
 use Rattle.flow_link.specs.declared.stage.SourceStage.TheVariants as source
 use Rattle.flow_link.specs.declared.stage.TargetStage.TheVariants as target
-use Rattle.flow_block.specs.Block.{BlockState}
+use Rattle.flow_intake.specs.Port.{coming}
+use Rattle.flow_block.specs.Block.{BlockState, port_at}
 use Rattle.flow_block.specs.BlockFits.{BlockFits}
 use Rattle.flow_block.specs.Copies.{copies_weight}
-use Rattle.flow_block.specs.Traits.{MayCompletePort, MayFault, Acts, Gives, Takes, source_at, is_source_busy, target_over}
+use Rattle.flow_block.specs.Peeks.{nothing_comes}
+use Rattle.flow_block.specs.Traits.{settles, MayCompletePort, MayFault, Acts, Gives, Takes, source_at, is_source_busy, target_over}
 
--- a call that all blocks have in common, with its answer. Where memory is out, or where it is asked how the block has ended, the block
--- stays as it was: neither is a call here
+-- a call that all blocks have in common, with its answer. Where memory is out the block stays as it was: that is no call here
 pub data Call : Type 0 where
   acts : BlockCall → Call
   gives : SourceCall → Call
   takes : TargetCall → Call
+  -- the block is asked whether it has ended
+  asked : Call
 
 -- When a block may be called so
 
@@ -39,6 +42,17 @@ abbrev pub MayCall : Call → BlockState → Type 0
 MayCall (Call.acts call) block = MayAct call block
 MayCall (Call.gives call) block = MayGive call block
 MayCall (Call.takes call) block = MayTake call block
+MayCall Call.asked block = Unit {0}
+
+-- a port completes where no message comes there, and a block faults where none comes at any port. Where each end at the ports is the
+-- one that its link names, the call's own contract asks the same
+abbrev pub NothingComesAt : Call → BlockState → Type 0
+NothingComesAt (Call.acts (BlockCall.completed port)) block = coming (port_at port block) ≡ 0
+NothingComesAt (Call.acts (BlockCall.faulted number)) block = nothing_comes block.ports ≡ true
+NothingComesAt _ block = Unit {0}
+
+abbrev pub MayCallInOrder : Call → BlockState → Type 0
+MayCallInOrder call block = MayCall call block × NothingComesAt call block
 
 -- What it does
 
@@ -46,6 +60,7 @@ abbrev pub Does : Call → BlockState → BlockState → Type 0
 Does (Call.acts call) old new = Acts old call new
 Does (Call.gives call) old new = Gives old call new
 Does (Call.takes call) old new = Takes old call new
+Does Call.asked old new = new ≡ settles old
 
 -- a fact of each block: the room that is to come back is room that its ports gave out
 abbrev pub Fits : BlockState → Type 0

@@ -10,20 +10,24 @@ use Rattle.flow_group.specs.Groups.{GroupsLaw}
 use Rattle.flow_group.specs.Tuple.{held_at, all_ended}
 use Rattle.flow_outlet.specs.declared.ends.LinkRule.{LinkRule}
 use Rattle.flow_batched.specs.BatchedJoin.{JoinState, Tells, waits, fresh_join}
-use Rattle.flow_batched.specs.Calls.{Acts, Gives, Takes}
+use Rattle.flow_batched.specs.Calls.{Learns, Acts, Gives, Takes}
 use Rattle.flow_link.specs.LinkOk.{IsWithin}
 use Rattle.flow_block.specs.Block.{port_at}
-use Rattle.flow_history.specs.Calls.{Call, MayCall, Fits, Step, AllDone, after_all}
+use Rattle.flow_history.specs.Calls.{MayCallInOrder, Call, MayCall, Fits, Step, AllDone, after_all}
 use Rattle.flow_history.specs.History.{History, nothing_yet, given, came_by, history_of, gave_by}
 use Rattle.flow_history.specs.Kept.{NothingCame}
 
 abbrev pub MayCallJoin : Call → JoinState → Type 0
 MayCallJoin call join = MayCall call join.block
 
+abbrev pub MayCallJoinInOrder : Call → JoinState → Type 0
+MayCallJoinInOrder call join = MayCallInOrder call join.block
+
 abbrev pub DoesToJoin : Call → JoinState → JoinState → Type 0
 DoesToJoin (Call.acts call) old new = Acts old call new
 DoesToJoin (Call.gives call) old new = Gives old call new
 DoesToJoin (Call.takes call) old new = Takes old call new
+DoesToJoin Call.asked old new = Learns old new
 
 -- facts of each batched join
 pub record FitsJoin (join : JoinState) : Type 0 where
@@ -53,6 +57,6 @@ pub record KeepsGroups (history : History) (join : JoinState) : Type 0 where
 pub record GroupsAreKept : Type 0 where
   pub each : (size : ℕ) (ports : List PortState) (rules : List LinkRule) → 0 < size → NothingCame ports
       → FitsJoin (fresh_join size ports rules)
-      → (steps : List (Step Call JoinState)) → AllDone FitsJoin MayCallJoin DoesToJoin steps (fresh_join size ports rules)
+      → (steps : List (Step Call JoinState)) → AllDone FitsJoin MayCallJoinInOrder DoesToJoin steps (fresh_join size ports rules)
       → KeepsGroups (history_of came_to grouped_by gave_by steps (fresh_join size ports rules) nothing_yet)
       (after_all steps (fresh_join size ports rules))

@@ -19,7 +19,7 @@ use Rattle.flow_block.specs.BlockFits.{fresh_block}
 use Rattle.flow_block.specs.Copies.{copies_weight}
 use Rattle.flow_block.specs.NodeLaw.{is_whole}
 use Rattle.flow_block.specs.Peeks.{holds_nothing}
-use Rattle.flow_history.specs.Calls.{MayCall, Does, Fits, Step, AllDone, after_all, Call}
+use Rattle.flow_history.specs.Calls.{MayCallInOrder, Does, Fits, Step, AllDone, after_all, Call}
 use Rattle.flow_history.specs.History.{History, nothing_yet, took_at, given, came_by, made_by, history_of, gave_by}
 
 -- nothing is said of the links into it
@@ -80,11 +80,11 @@ pub record KeepsMessages (history : History) (block : BlockState) : Type 0 where
 pub record MessagesAreKept : Type 0 where
   pub each : (kind : BlockKind) (lanes size : ℕ) (ports : List PortState) (rules : List LinkRule) → NothingCame ports
       → (is_batch kind ≡ true → 0 < size) → Fits (fresh_block kind lanes size ports rules)
-      → (steps : List (Step Call BlockState)) → AllDone Fits MayCall Does steps (fresh_block kind lanes size ports rules)
+      → (steps : List (Step Call BlockState)) → AllDone Fits MayCallInOrder Does steps (fresh_block kind lanes size ports rules)
       → KeepsMessages (history_of came_by made_by gave_by steps (fresh_block kind lanes size ports rules) nothing_yet)
       (after_all steps (fresh_block kind lanes size ports rules))
   -- what takes one message in all takes no second, where its port has room for one
   pub once : (lanes size : ℕ) (port : PortState) (rules : List LinkRule) → NothingCame (port ∷ []) → port.capacity ≡ Some 1
       → Fits (fresh_block WriteOnce lanes size (port ∷ []) rules)
-      → (steps : List (Step Call BlockState)) → AllDone Fits MayCall Does steps (fresh_block WriteOnce lanes size (port ∷ []) rules)
+      → (steps : List (Step Call BlockState)) → AllDone Fits MayCallInOrder Does steps (fresh_block WriteOnce lanes size (port ∷ []) rules)
       → length (took_at (history_of came_by made_by gave_by steps (fresh_block WriteOnce lanes size (port ∷ []) rules) nothing_yet) 0) ≤ 1

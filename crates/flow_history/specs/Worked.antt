@@ -11,12 +11,12 @@ use Rattle.flow_block.specs.Block.{held_by, put_by_job, port_at}
 use Rattle.flow_block.specs.Jobs.{AreOf}
 use Rattle.flow_block.specs.NodeLaw.{MakesAs, FaultsOn, WeighsAs}
 use Rattle.flow_block.specs.Peeks.{may_begin, may_end}
-use Rattle.flow_exec.specs.Calls.{Acts, Gives, Takes}
+use Rattle.flow_exec.specs.Calls.{Learns, Acts, Gives, Takes}
 use Rattle.flow_exec.specs.Execution.{ExecutionState, Runs, fresh_execution, begins_job, job_result, ends_own_job}
 use Rattle.flow_exec.specs.Works.{results_by}
 use Rattle.flow_link.specs.LinkOk.{IsWithin}
 use Rattle.flow_outlet.specs.Fits.{weight_of}
-use Rattle.flow_history.specs.Calls.{Call, MayCall, Fits, Step, AllDone, after_all}
+use Rattle.flow_history.specs.Calls.{MayCallInOrder, Call, MayCall, Fits, Step, AllDone, after_all}
 use Rattle.flow_history.specs.History.{Gift, History, nothing_yet, took_at, given, came_by, gave_by, history_of}
 use Rattle.flow_history.specs.Kept.{NothingCame}
 
@@ -36,6 +36,11 @@ module _ {W : Type 0} where
   MayCallWork WorkCall.began execution = may_begin execution.block ≡ true
   MayCallWork (WorkCall.ended ticket) execution = may_end ticket execution.block ≡ true
 
+  abbrev pub MayCallWorkInOrder : WorkCall → ExecutionState W → Type 0
+  MayCallWorkInOrder (WorkCall.common call) execution = MayCallInOrder call execution.block
+  MayCallWorkInOrder WorkCall.began execution = MayCallWork WorkCall.began execution
+  MayCallWorkInOrder (WorkCall.ended ticket) execution = MayCallWork (WorkCall.ended ticket) execution
+
   -- facts of each execution block
   pub record FitsWork (execution : ExecutionState W) : Type 0 where
     pub fits : Fits execution.block
@@ -50,6 +55,7 @@ module _ {W : Type 0} where
     DoesWork (WorkCall.common (Call.acts call)) old new = Acts old call new
     DoesWork (WorkCall.common (Call.gives call)) old new = Gives old call new
     DoesWork (WorkCall.common (Call.takes call)) old new = Takes old call new
+    DoesWork (WorkCall.common Call.asked) old new = Learns old new
     DoesWork WorkCall.began old new = new ≡ begins_job old
     DoesWork (WorkCall.ended ticket) old new = new ≡ ends_own_job meaning ticket old
 
@@ -87,7 +93,7 @@ pub record WorkIsKept (W : Type 0) : Type 0 where
       (ports : List PortState) (rules : List LinkRule) → has_work kind ≡ true → NothingCame ports
       → FitsWork (fresh_execution kind lanes work ports rules)
       → (steps : List (Step WorkCall (ExecutionState W)))
-      → AllDone FitsWork MayCallWork (DoesWork meaning) steps (fresh_execution kind lanes work ports rules)
+      → AllDone FitsWork MayCallWorkInOrder (DoesWork meaning) steps (fresh_execution kind lanes work ports rules)
       → KeepsWork meaning
       (history_of came_for (worked_out meaning) gave_for steps (fresh_execution kind lanes work ports rules) nothing_yet)
       (after_all steps (fresh_execution kind lanes work ports rules))

@@ -1,7 +1,9 @@
 //! A block that a caller drives by hand, over any calls: laws on plain data, without code.
 //!
-//! The calls are those that all blocks have in common, by the name of a link. What the laws ask of a call is what its contract asks,
-//! and what it does is what its contract says. So whoever makes such calls has the laws of what the block took, made and gave.
+//! The calls are those that all blocks have in common, by the name of a link, and that a block is asked whether it has ended. What
+//! the laws ask of a call is what its contract asks, and what it does is what its contract says. So whoever makes such calls has the
+//! laws of what the block took, made and gave. Those of what it keeps ask, as ports count, that nothing comes to a port that
+//! completes, or to a block that faults; where each end at the ports is the one that its link names, the contract asks the same.
 #![tactic(auto)]
 
 mod laws;
