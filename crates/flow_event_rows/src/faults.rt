@@ -6,17 +6,6 @@ use flow_value::{Steps, Text};
 use std::alloc::{AllocError, Global};
 use std::test::Fail;
 
-/// The first input faults with 5 over link 0, the second with 9 over link 1, and then the join faults.
-const BOTH_FAULT: &[Asked] = &[
-    Asked::Link(3, Move::End(LinkEnd::Fault(9))),
-    Asked::Fault(1),
-    Asked::Link(1, Move::End(LinkEnd::Fault(9))),
-    Asked::Link(2, Move::End(LinkEnd::Fault(5))),
-    Asked::Fault(0),
-    Asked::Link(0, Move::End(LinkEnd::Fault(5))),
-    Asked::Fault(2),
-];
-
 fn input(alloc: Global, name: &str) -> Result<BlockDef<Steps>, AllocError> {
     Ok(BlockDef {
         input: true,
@@ -59,7 +48,17 @@ fn crossed(alloc: Global) -> Result<Net<Steps>, Fail> {
 fn the_fault_over_the_lower_link_counts(rt: HostRuntime) -> Result<(), Fail> {
     let mut net = crossed(rt.alloc())?;
     let mut results = Vec::new(rt.alloc());
-    for asked in BOTH_FAULT {
+    let (five, nine) = (Move::End(LinkEnd::Fault(5)), Move::End(LinkEnd::Fault(9)));
+    let steps = [
+        Asked::Link(3, nine),
+        Asked::Fault(1),
+        Asked::Link(1, nine),
+        Asked::Link(2, five),
+        Asked::Fault(0),
+        Asked::Link(0, five),
+        Asked::Fault(2),
+    ];
+    for asked in steps.iter() {
         assert!(rt; is_done(rt.alloc(), &mut net, &mut results, *asked)?);
     }
     assert!(rt; came_to(rt.alloc(), &net, &["block j faulted 5"])?.is_some());
