@@ -5,11 +5,10 @@
 //!
 //! An [`Execution`] is a block with a function, for a caller who drives it by hand: messages come by the calls that all
 //! blocks have in common, `begin` gives a job of the oldest message that is not worked on yet, and `end` takes its
-//! result back. A block without a function is a [`Buffer`]: by its kind it hands on, or makes rows, tuples or copies.
+//! result back. A block without a function is a [`flow_block::Block`] alone.
 //!
-//! Microsoft: `ActionBlock`, `TransformBlock`, `TransformManyBlock`, `BufferBlock`, `BatchBlock`, `JoinBlock`,
-//! `BroadcastBlock`, `WriteOnceBlock`; the tasks in which an execution block calls its delegate,
-//! `ExecutionDataflowBlockOptions`.
+//! Microsoft: `ActionBlock`, `TransformBlock`, `TransformManyBlock`; the tasks in which an execution block calls its
+//! delegate, `ExecutionDataflowBlockOptions`.
 #![tactic(auto)]
 
 mod execution;
@@ -21,7 +20,6 @@ mod work;
 
 pub use execution::Execution;
 pub use fault::EndFault;
-pub use flow_block::Block as Buffer;
 pub use job::Job;
 pub use result::JobResult;
 pub use work::answer_of;

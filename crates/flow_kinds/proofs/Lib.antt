@@ -1,0 +1,3 @@
+pub mod KindsStay
+pub mod PlannedBlocks
+pub mod WorkKinds

@@ -1,0 +1,9 @@
+use Rattle.std.proofs.Common.{◌∙◌}
+use Rattle.flow_link.specs.BlockCalls.{BlockCall}
+use Rattle.flow_kinds.proofs.KindsStay.{acts_stay}
+use Rattle.flow_kinds.proofs.execution_calls.TypedExecutionDataflowBlock.make.Goals as goal
+
+pub invariant_of-self : goal.invariant_of-self
+invariant_of-self g c =
+    (acts_stay c.self.inside.execution.block c.make.new.self.block (BlockCall.made c.make.result) c.make.ensures.acts.0).kind
+    ∙ c.self.invariant

@@ -1,0 +1,30 @@
+//! The blocks by their types: each is made of a plan, and is driven by the calls that all blocks have in common.
+//!
+//! A [`flow_block::Block`] has the code of all kinds, and a field says which kind it is. Here each kind is a type of its
+//! own, thin over such a block: [`Buffer`], [`Broadcast`], [`WriteOnce`], [`Batch`] and [`GreedyJoin`] are a
+//! [`TypedBlock`], [`Action`], [`Transform`] and [`TransformMany`] a [`TypedExecution`], and a [`BatchedJoin`] keeps the
+//! order in which its messages came.
+//!
+//! `new` takes the block of a plan with its ports and links, as a network does. So a caller who drives blocks by hand
+//! writes no ports and no rules of links, and what the plan says of a link holds here too. That the block of the plan is
+//! of the type's kind is the caller's to know, from the plan.
+//!
+//! Contracts see a block as the plain data of what it stands on: a `BlockState`, an `ExecutionState` or a `JoinState`.
+//! So the laws about lists of calls by hand are laws of these types.
+//!
+//! Microsoft: `BufferBlock`, `BroadcastBlock`, `WriteOnceBlock`, `BatchBlock`, `JoinBlock`, `BatchedJoinBlock`,
+//! `ActionBlock`, `TransformBlock`, `TransformManyBlock`.
+#![tactic(auto)]
+
+mod batched_join;
+mod batched_join_calls;
+mod block;
+mod block_calls;
+mod execution;
+mod execution_calls;
+pub mod kind;
+mod planned;
+
+pub use batched_join::BatchedJoin;
+pub use block::{Batch, Broadcast, Buffer, GreedyJoin, TypedBlock, WriteOnce};
+pub use execution::{Action, Transform, TransformMany, TypedExecution};

@@ -1,0 +1,73 @@
+//! Small plans: a block between the buffers before it and those behind it.
+ghost use Rattle.std.specs.Prelude.{◌≡◌, ◌<◌, length};
+ghost use Rattle.flow_link.specs.Plan.{block_in};
+ghost use Rattle.flow_link.specs.Planned.{layout_of};
+
+use flow_link::{BlockDef, BlockKind, Draft, LinkDef, Plan, plan_check};
+use flow_value::{Steps, Text};
+use std::alloc::{AllocError, Global};
+use std::process::Abort;
+
+/// The number of the block in the middle.
+pub(crate) const MIDDLE: usize = 2;
+
+/// A link between the blocks with these names, into this port.
+fn link(alloc: Global, from: &str, to: &str, port: u32) -> Result<LinkDef, AllocError> {
+    let mut link = LinkDef::new(Text::from_str(alloc, from)?, Text::from_str(alloc, to)?);
+    link.port = Some(port);
+    Ok(link)
+}
+
+/// The block in the middle: with rows of two messages, or with a function that reads integers in two lanes, where its
+/// kind has these.
+fn middle(alloc: Global, kind: BlockKind) -> Result<BlockDef<Steps>, AllocError> {
+    let mut block = BlockDef::new(Text::from_str(alloc, "middle")?, kind);
+    match kind {
+        BlockKind::Batch | BlockKind::BatchedJoin => block.size = Some(2),
+        BlockKind::Action | BlockKind::Transform | BlockKind::TransformMany => {
+            block.lanes = Some(2);
+            block.work = Steps::read(alloc, &["int"]).ok();
+        }
+        BlockKind::Buffer | BlockKind::Broadcast | BlockKind::WriteOnce | BlockKind::Join => {}
+    }
+    Ok(block)
+}
+
+/// Links 0 and 1 lead from the first two blocks into the one in the middle, into its two ports where it has two. Links 2
+/// and 3 lead from there to the last two blocks, unless it is an action.
+fn draft(alloc: Global, kind: BlockKind) -> Result<Draft<Steps>, AllocError> {
+    let mut blocks = Vec::new(alloc);
+    for name in ["first", "second"] {
+        blocks.push(BlockDef::new(Text::from_str(alloc, name)?, BlockKind::Buffer))?;
+    }
+    blocks.push(middle(alloc, kind)?)?;
+    for name in ["third", "fourth"] {
+        blocks.push(BlockDef::new(Text::from_str(alloc, name)?, BlockKind::Buffer))?;
+    }
+    let port = u32::from(matches!(kind, BlockKind::Join | BlockKind::BatchedJoin));
+    let mut links = Vec::new(alloc);
+    links.push(link(alloc, "first", "middle", 0)?)?;
+    links.push(link(alloc, "second", "middle", port)?)?;
+    if kind != BlockKind::Action {
+        links.push(link(alloc, "middle", "third", 0)?)?;
+        links.push(link(alloc, "middle", "fourth", 0)?)?;
+    }
+    Ok(Draft { blocks, links })
+}
+
+/// A plan in whose middle is a block of this kind.
+pub(crate) fn plan(rt: &impl Abort, alloc: Global, kind: BlockKind) -> Plan<Steps>
+    ensures there { MIDDLE < length (layout_of result).blocks }
+    ensures kind { (block_in (layout_of result).blocks MIDDLE).kind ≡ kind }
+{
+    let Ok(draft) = draft(alloc, kind) else {
+        panic!(rt; "out of memory");
+    };
+    let Ok(plan) = plan_check(alloc, draft) else {
+        panic!(rt; "something is wrong with the draft");
+    };
+    if plan.block_count() <= MIDDLE || plan.block(MIDDLE).kind != kind {
+        panic!(rt; "the block in the middle is another");
+    }
+    plan
+}
