@@ -1,0 +1,3 @@
+pub mod LinksServed
+pub mod OnceByHand
+pub mod OnceInPlans
