@@ -38,6 +38,9 @@ fn crossed(alloc: Global) -> Result<Net<Steps>, Fail> {
         return Err(Fail::new("no plan"));
     };
     let posted = vec![in alloc; ends_by(alloc, 5), ends_by(alloc, 9)]?;
+    if posted.len() != plan.input_count() {
+        return Err(Fail::new("another number of inputs"));
+    }
     match Net::new(alloc, plan, posted) {
         Ok(net) => Ok(net),
         Err(_) => Err(Fail::new("out of memory")),

@@ -7,6 +7,7 @@ mod branches;
 mod check;
 #[cfg(test)]
 mod events;
+#[cfg(test)]
 mod faults;
 #[cfg(test)]
 mod lanes;
