@@ -77,7 +77,3 @@ pub refused_in : (known : Option (List ℕ)) (read text before after : List ℕ)
     → (limit : ℕ) (refusal : RunRefusal) → IsUnreported before (Some after) limit refusal → IsUnread refusal ⊎ IsRefusedIn known limit refusal
 refused_in known read text before after is same split limit refusal r =
     inr (record { text = text; whole = whole_as known read text is same; before = before; after = after; split = split; refused = r })
-
--- a writer that nothing was written to is as it was
-pub untouched : (refusal : RunRefusal) (contents : Option (List ℕ)) → IsLeft refusal contents contents
-untouched refusal contents = record { in_front = λ front begins. begins; as_it_was = λ _. refl }

@@ -103,11 +103,6 @@ pub one_room : (kind : BlockKind) (capacity : Option ℕ) → is_write_once kind
 one_room kinds.WriteOnce capacity e = refl
 one_room _ capacity e = absurd (cc)
 
-works_alone : (kind : BlockKind) → has_work kind ≡ true → has_ports kind ≡ false
-works_alone kinds.Join e = absurd (cc)
-works_alone kinds.BatchedJoin e = absurd (cc)
-works_alone _ e = refl
-
 none_owed : (links : List ℕ) → count_at is_owed (map fresh_end links) ≡ 0
 none_owed [] = refl
 none_owed (link ∷ links) = omega (arith, none_owed links)
@@ -136,9 +131,6 @@ module _ {W : Type 0} (layout : Layout W) (b : ℕ) where
 
   pub one_port : has_ports def.kind ≡ false → port_count def ≡ 1
   one_port = single_by def.kind def.ports
-
-  pub only_port : has_work def.kind ≡ true → length (ports_in (port_count def)) ≡ 1
-  only_port works = subst (λ (n : ℕ). length (ports_in n) ≡ 1) (sym (one_port (works_alone def.kind works))) refl
 
   -- nothing is under way over any link into it
 

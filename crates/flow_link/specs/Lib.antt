@@ -14,7 +14,6 @@ pub mod LawfulExamples
 pub mod Layout
 pub mod LeadsWell
 pub mod LinkOk
-pub mod LinkProof
 pub mod Lists
 pub mod Looks
 pub mod LooksKeep

@@ -114,10 +114,6 @@ module _ (text : List ℕ) (records : Option (List ℕ)) where
       → IsUnreported text records limit (refusal_of refusal)
   no_report limit refusal is h = subst (λ (r : TextRefusal). IsUnreported text records limit (refusal_of r)) (sym is) (inr h)
 
--- a writer that nothing was written to is as it was
-pub untouched : (refusal : RunRefusal) (contents : Option (List ℕ)) → IsLeft refusal contents contents
-untouched refusal contents = record { in_front = λ front begins. begins; as_it_was = λ _. refl }
-
 -- a writer that failed keeps what was there
 pub failed : (old new : Option (List ℕ)) (refusal : TextRefusal) → refusal ≡ Fault Write → StaysInFront old new → IsLeft (refusal_of refusal) old new
 failed old new refusal is stays = record {
