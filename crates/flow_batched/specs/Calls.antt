@@ -24,12 +24,12 @@ makes_next join = record {
 abbrev pub lacks_next : JoinState → Bool
 lacks_next join = lacks_ids (group_of join.block.size join.order join.block.ports ∷ []) join.block.exits
 
--- it looks for an id when it has the group, so memory may be out where ids are, too
+-- it looks for an id first, so where memory is out there are ids
 abbrev pub Made : Result Bool MakeFault → JoinState → JoinState → Type 0
 Made (Ok true) old new = (may_make old.block ≡ true) × ((lacks_next old ≡ false) × (new ≡ makes_next old))
 Made (Ok false) old new = (may_make old.block ≡ false) × (new ≡ old)
 Made (Err Ids) old new = (may_make old.block ≡ true) × ((lacks_next old ≡ true) × (new ≡ old))
-Made (Err Memory) old new = (may_make old.block ≡ true) × (new ≡ old)
+Made (Err Memory) old new = (may_make old.block ≡ true) × ((lacks_next old ≡ false) × (new ≡ old))
 
 -- a message that came is the last of those in no group
 abbrev pub noted_by : TargetCall → JoinState → List ℕ

@@ -93,12 +93,11 @@ pub record Makes (lacks : Bool) (old : BlockState) : Type 0 where
   pub by_itself : makes_itself old ≡ true
   pub ids : lacks_its_ids old ≡ lacks
 
--- memory is out. A buffer has the ids then; a batch and a join look for an id when they have their row, and so may have neither;
--- and a broadcast takes no memory for that
+-- memory is out, and there are ids. A broadcast takes no memory for that
 pub record LacksMemory (old : BlockState) : Type 0 where
   pub by_itself : makes_itself old ≡ true
   pub copies_none : is_broadcast old.kind ≡ false
-  pub ids : old.kind ≡ Buffer → lacks_its_ids old ≡ false
+  pub ids : lacks_its_ids old ≡ false
 
 abbrev pub Made : Result Bool MakeFault → BlockState → BlockState → Type 0
 Made (Ok true) old new = Makes false old × (new ≡ makes_its_next old)

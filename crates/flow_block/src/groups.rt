@@ -5,7 +5,7 @@
 ghost use Rattle.std.specs.Prelude.{◌≡◌, ◌<◌, ◌≤◌, ◌+◌, ◌^◌, true, false, [], ◌∷◌, take, drop, length, leb, Err, OnOk, OnErr};
 ghost use Rattle.flow_outlet.specs.Fits.{weight_of};
 ghost use Rattle.flow_outlet.specs.Outlet.{puts, lacks_ids};
-ghost use Rattle.flow_outlet.specs.declared.fault.OutletFault.TheVariants.{Ids};
+ghost use Rattle.flow_outlet.specs.declared.fault.OutletFault.TheVariants.{Ids, Memory};
 ghost use Rattle.flow_group.specs.Tuple.{all_ended};
 ghost use Rattle.flow_group.specs.Group.{group_of, takes_group, drops_group};
 ghost use Rattle.flow_block.specs.Groups.{makes_group, ports_in, marks_until, waiting_in_all, has_group_at};
@@ -34,7 +34,12 @@ impl Block {
             (lacks_ids (group_of self.old.size order.old.ports self.old.ports ∷ []) self.old.exits ≡ false) }
         ensures ids { result ≡ Err Ids →
             lacks_ids (group_of self.old.size order.old.ports self.old.ports ∷ []) self.old.exits ≡ true }
+        ensures memory { result ≡ Err Memory →
+            lacks_ids (group_of self.old.size order.old.ports self.old.ports ∷ []) self.old.exits ≡ false }
     {
+        if self.exits.lacks_ids(1) {
+            return Err(OutletFault::Ids);
+        }
         let Ok(row) = copy_group(alloc, order, &self.ports, self.size) else {
             return Err(OutletFault::Memory);
         };
@@ -88,7 +93,6 @@ fn put_rows(
     ensures stays { OnErr result (ports.new.items ≡ ports.old.items) }
     ensures order_kept { OnErr result (order.new ≡ order.old) }
     ensures kept { OnErr result (exits.new ≡ exits.old) }
-    ensures enough { OnOk result (lacks_ids (row ∷ []) exits.old ≡ false) }
     ensures ids { result ≡ Err Ids → lacks_ids (row ∷ []) exits.old ≡ true }
 {
     match exits.put_one(row, 0) {
@@ -110,7 +114,12 @@ impl Node {
             (lacks_ids (group_of self.old.block.size (order_in self.old) self.old.block.ports ∷ []) self.old.block.exits ≡ false) }
         ensures ids { result ≡ Err Ids →
             lacks_ids (group_of self.old.block.size (order_in self.old) self.old.block.ports ∷ []) self.old.block.exits ≡ true }
+        ensures memory { result ≡ Err Memory →
+            lacks_ids (group_of self.old.block.size (order_in self.old) self.old.block.ports ∷ []) self.old.block.exits ≡ false }
     {
+        if self.block.exits.lacks_ids(1) {
+            return Err(OutletFault::Ids);
+        }
         let size = self.block.size as usize;
         let mut order = Arrivals::new(alloc);
         let Ok(()) = order.prepare(size) else {

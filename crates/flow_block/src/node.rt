@@ -15,7 +15,7 @@ ghost use Rattle.flow_intake.specs.Calls.{looks as port_looks, port_closes};
 ghost use Rattle.flow_outlet.specs.End.{is_waiting, is_free};
 ghost use Rattle.flow_outlet.specs.Outlet.{end_at, stage_at, may_offer, may_give, is_wish, prepares, offers, denies};
 ghost use Rattle.flow_outlet.specs.Outlet.{withdraws, ends_link, looks, head_of, lacks_ids};
-ghost use Rattle.flow_outlet.specs.declared.fault.OutletFault.TheVariants.{Ids};
+ghost use Rattle.flow_outlet.specs.declared.fault.OutletFault.TheVariants.{Ids, Memory};
 ghost use Rattle.flow_block.specs.Block.{port_at, with_port, with_jobs, begins, held_by, records, puts_out, ends_job};
 ghost use Rattle.flow_block.specs.Block.{put_by_job, row_of, next_group, makes_row, fails, stops_by};
 ghost use Rattle.flow_block.specs.Jobs.{has_ticket, works_off, is_out, is_front_back, faults_at_once};
@@ -288,6 +288,8 @@ impl Node {
             (lacks_ids (row_of (next_group self.old.block) ∷ []) self.old.block.exits ≡ false) }
         ensures ids { result ≡ Err Ids →
             lacks_ids (row_of (next_group self.old.block) ∷ []) self.old.block.exits ≡ true }
+        ensures memory { result ≡ Err Memory →
+            lacks_ids (row_of (next_group self.old.block) ∷ []) self.old.block.exits ≡ false }
     {
         self.block.make_row(alloc)
     }

@@ -2,7 +2,7 @@
 ghost use Rattle.std.specs.Prelude.{◌≡◌, ◌<◌, ◌↔◌, true, false, [], ◌∷◌, length, take, Err, OnOk, OnErr, IfErr};
 ghost use Rattle.flow_intake.specs.Calls.{gives_room, port_closes, takes_next};
 ghost use Rattle.flow_outlet.specs.Outlet.{lacks_ids};
-ghost use Rattle.flow_outlet.specs.declared.fault.OutletFault.TheVariants.{Ids};
+ghost use Rattle.flow_outlet.specs.declared.fault.OutletFault.TheVariants.{Ids, Memory};
 ghost use Rattle.flow_block.specs.Block.{with_port, with_jobs, begins, held_by, records, puts_out, fails, stops_by};
 ghost use Rattle.flow_block.specs.Block.{row_of, next_group, makes_row};
 ghost use Rattle.flow_block.specs.Jobs.{has_ticket, works_off};
@@ -39,7 +39,11 @@ impl Block {
         ensures kept { OnErr result (self.new ≡ self.old) }
         ensures enough { OnOk result (lacks_ids (row_of (next_group self.old) ∷ []) self.old.exits ≡ false) }
         ensures ids { result ≡ Err Ids → lacks_ids (row_of (next_group self.old) ∷ []) self.old.exits ≡ true }
+        ensures memory { result ≡ Err Memory → lacks_ids (row_of (next_group self.old) ∷ []) self.old.exits ≡ false }
     {
+        if self.exits.lacks_ids(1) {
+            return Err(OutletFault::Ids);
+        }
         let Ok(values) = copy_group(alloc, &self.ports[0], self.size) else {
             return Err(OutletFault::Memory);
         };

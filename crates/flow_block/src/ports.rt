@@ -117,7 +117,6 @@ pub(crate) fn put_group(
     ensures there { OnOk result (exits.new ≡ puts (row ∷ []) weight exits.old) }
     ensures stays { OnErr result (port.new ≡ port.old) }
     ensures kept { OnErr result (exits.new ≡ exits.old) }
-    ensures enough { OnOk result (lacks_ids (row ∷ []) exits.old ≡ false) }
     ensures ids { result ≡ Err Ids → lacks_ids (row ∷ []) exits.old ≡ true }
 {
     match exits.put_one(row, weight) {

@@ -224,7 +224,7 @@ impl Block {
         ensures enough { OnOk result (lacks_its_ids self.old ≡ false) }
         ensures ids { result ≡ Err Ids → lacks_its_ids self.old ≡ true }
         ensures copies_none { result ≡ Err Memory → is_broadcast self.old.kind ≡ false }
-        ensures memory { result ≡ Err Memory → self.old.kind ≡ Buffer → lacks_its_ids self.old ≡ false }
+        ensures memory { result ≡ Err Memory → lacks_its_ids self.old ≡ false }
     {
         match self.kind {
             BlockKind::Batch => self.make_row(alloc),

@@ -2,7 +2,7 @@
 ghost use Rattle.std.specs.Prelude.{◌≡◌, ◌<◌, ◌+◌, ◌^◌, true, false, [], ◌∷◌, length, Err, OnOk, OnErr};
 ghost use Rattle.flow_outlet.specs.Fits.{weight_of};
 ghost use Rattle.flow_outlet.specs.Outlet.{puts, lacks_ids};
-ghost use Rattle.flow_outlet.specs.declared.fault.OutletFault.TheVariants.{Ids};
+ghost use Rattle.flow_outlet.specs.declared.fault.OutletFault.TheVariants.{Ids, Memory};
 ghost use Rattle.flow_group.specs.Tuple.{has_tuple, tuple_of, takes_tuple};
 ghost use Rattle.flow_block.specs.Node.{with_block};
 ghost use Rattle.flow_block.specs.Block.{makes_tuple};
@@ -26,7 +26,11 @@ impl Block {
         ensures kept { OnErr result (self.new ≡ self.old) }
         ensures enough { OnOk result (lacks_ids (tuple_of self.old.ports ∷ []) self.old.exits ≡ false) }
         ensures ids { result ≡ Err Ids → lacks_ids (tuple_of self.old.ports ∷ []) self.old.exits ≡ true }
+        ensures memory { result ≡ Err Memory → lacks_ids (tuple_of self.old.ports ∷ []) self.old.exits ≡ false }
     {
+        if self.exits.lacks_ids(1) {
+            return Err(OutletFault::Ids);
+        }
         let Ok(row) = copy_tuple(alloc, &self.ports) else {
             return Err(OutletFault::Memory);
         };
@@ -50,7 +54,6 @@ fn put_tuple(
     ensures there { OnOk result (exits.new ≡ puts (row ∷ []) weight exits.old) }
     ensures stays { OnErr result (ports.new.items ≡ ports.old.items) }
     ensures kept { OnErr result (exits.new ≡ exits.old) }
-    ensures enough { OnOk result (lacks_ids (row ∷ []) exits.old ≡ false) }
     ensures ids { result ≡ Err Ids → lacks_ids (row ∷ []) exits.old ≡ true }
 {
     match exits.put_one(row, weight) {
@@ -72,6 +75,8 @@ impl Node {
         ensures kept { OnErr result (self.new ≡ self.old) }
         ensures enough { OnOk result (lacks_ids (tuple_of self.old.block.ports ∷ []) self.old.block.exits ≡ false) }
         ensures ids { result ≡ Err Ids → lacks_ids (tuple_of self.old.block.ports ∷ []) self.old.block.exits ≡ true }
+        ensures memory { result ≡ Err Memory →
+            lacks_ids (tuple_of self.old.block.ports ∷ []) self.old.block.exits ≡ false }
     {
         self.block.make_tuple(alloc)?;
         Ok(())

@@ -270,7 +270,7 @@ module _ (h : History) (old new : JoinState) (kept : KeptJoin h old) (fits : Fit
       subst (λ (x : History). KeptJoin x new) (sym (only_made h (group ∷ []))) (made_kept (makes_kept does.0) does.1.1)
   acted (BlockCall.made (Ok false)) may does = nothing_done does.1
   acted (BlockCall.made (Err make_fault.Ids)) may does = nothing_done does.1.1
-  acted (BlockCall.made (Err make_fault.Memory)) may does = nothing_done does.1
+  acted (BlockCall.made (Err make_fault.Memory)) may does = nothing_done does.1.1
 
   gave_one : (call : SourceCall) → MayCallJoinInOrder (Call.gives call) old → DoesToJoin (Call.gives call) old new
       → KeptJoin (noted came_to grouped_by gave_by (Call.gives call) old h) new

@@ -114,7 +114,7 @@ join_keeps sure gave old new (Call.acts (BlockCall.made (Ok false))) shares may 
 join_keeps sure gave old new (Call.acts (BlockCall.made (Err make_fault.Ids))) shares may does =
     stays_given sure gave new.block old.block (ap (λ (join : JoinState). join.block) does.1.1) shares
 join_keeps sure gave old new (Call.acts (BlockCall.made (Err make_fault.Memory))) shares may does =
-    stays_given sure gave new.block old.block (ap (λ (join : JoinState). join.block) does.1) shares
+    stays_given sure gave new.block old.block (ap (λ (join : JoinState). join.block) does.1.1) shares
 join_keeps sure gave old new (Call.acts (BlockCall.completed p)) shares may does =
     common_keeps sure gave old.block new.block (Call.acts (BlockCall.completed p)) shares may does.0
 join_keeps sure gave old new (Call.acts (BlockCall.faulted number)) shares may does =

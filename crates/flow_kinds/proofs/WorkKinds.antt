@@ -69,7 +69,7 @@ module _ (old new : JoinState) where
   join_acts (BlockCall.made (Ok true)) does = ap kind_in does.1.1
   join_acts (BlockCall.made (Ok false)) does = ap kind_in does.1
   join_acts (BlockCall.made (Err make_fault.Ids)) does = ap kind_in does.1.1
-  join_acts (BlockCall.made (Err make_fault.Memory)) does = ap kind_in does.1
+  join_acts (BlockCall.made (Err make_fault.Memory)) does = ap kind_in does.1.1
 
   pub join_offers : (result : Result (Option (ℕ × ℕ)) AllocError) → IfOk result (λ offer. JoinGives old (SourceCall.offered offer) new)
       → OnErr result (new ≡ old) → new.block.kind ≡ old.block.kind

@@ -2,7 +2,6 @@ pub mod Calls
 pub mod Passed
 pub mod Passes
 pub mod Ready
-pub mod Rows
 pub mod Statements
 pub mod Ways
 pub mod AtOnce

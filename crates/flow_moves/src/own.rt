@@ -14,7 +14,6 @@ ghost use Rattle.flow_block.specs.Peeks.{may_make, may_begin, lacks_next};
 ghost use Rattle.flow_core.specs.Events.{with_node};
 ghost use Rattle.flow_core.specs.State.{node_at};
 ghost use Rattle.flow_exec.specs.Works.{results_by};
-ghost use Rattle.flow_moves.specs.Rows.{builds_row};
 ghost use Rattle.flow_moves.specs.AtOnce.{put_at_once, works_at_once, works_out};
 
 use crate::parts::Parts;
@@ -27,9 +26,8 @@ use std::alloc::{AllocError, Global};
 
 impl Parts {
     /// A block without a function makes its next outputs: it hands on or copies the message that waits longest, or makes a
-    /// row, a tuple or a group of those that wait. Where message ids are used up or memory is out, nothing has changed.
-    /// A row, a tuple or a group is built before an id for it is asked for, so memory may be told to be out where both are
-    /// wanting; of a message that is handed on or copied ids are told first.
+    /// row, a tuple or a group of those that wait. Where message ids are used up or memory is out, nothing has changed;
+    /// where both are wanting, ids are told.
     pub fn make(&mut self, alloc: Global, block: usize) -> Result<(), OutletFault>
         requires there { block < length self.old.nodes }
         requires alone { has_ports (node_at self.old block).block.kind ≡ false →
@@ -44,7 +42,7 @@ impl Parts {
         ensures kept { OnErr result (self.new ≡ self.old) }
         ensures used_up { result ≡ Err Ids → (result : Value → Result (List Value) ℕ) →
             lacks_next result (node_at self.old block) ≡ true }
-        ensures memory { result ≡ Err Memory → builds_row (node_at self.old block).block.kind ≡ false →
+        ensures memory { result ≡ Err Memory →
             (result : Value → Result (List Value) ℕ) → lacks_next result (node_at self.old block) ≡ false }
     {
         make(&mut self.nodes[block], alloc)
@@ -189,7 +187,7 @@ fn make(node: &mut Node, alloc: Global) -> Result<(), OutletFault>
     ensures kept { OnErr result (node.new ≡ node.old) }
     ensures used_up { result ≡ Err Ids → (result : Value → Result (List Value) ℕ) →
         lacks_next result node.old ≡ true }
-    ensures memory { result ≡ Err Memory → builds_row node.old.block.kind ≡ false →
+    ensures memory { result ≡ Err Memory →
         (result : Value → Result (List Value) ℕ) → lacks_next result node.old ≡ false }
 {
     match node.block().kind() {

@@ -11,7 +11,7 @@ use Rattle.flow_outlet.specs.declared.fault.OutletFault.{OutletFault}
 use Rattle.flow_outlet.specs.declared.fault.OutletFault.TheVariants as outlet
 use Rattle.flow_net.specs.Events.{IsRefused}
 use Rattle.flow_net.specs.OwnJobs.{IsOwnJob}
-use Rattle.flow_net.specs.There.{IsWhyNot, LacksMemory}
+use Rattle.flow_net.specs.There.{IsWhyNot}
 use Rattle.flow_net.specs.Told.{fault_of}
 use Rattle.flow_net.specs.declared.event.Event.TheVariants.{End}
 use Rattle.flow_net.specs.declared.fault.NetFault.{NetFault}
@@ -28,7 +28,7 @@ not_ids_of_outlet outlet.Memory is same = absurd (cc)
 -- an event that is enabled and is not done is refused for ids or for memory
 module _ {W : Type 0} (layout : Layout W) (meaning : ℕ → Value → Result (List Value) ℕ) (net : NetState) (event : NetEvent) where
   pub enabled_refused : {T : Type 0} (result : Result T NetFault) → Enabled layout net event
-      → (result ≡ Err Ids → MayHappen layout meaning event net → ⊥) → (result ≡ Err Memory → LacksMemory layout meaning net event)
+      → (result ≡ Err Ids → MayHappen layout meaning event net → ⊥) → (result ≡ Err Memory → MayHappen layout meaning event net)
       → (result ≢ Err NotEnabled) → IfErr result (IsWhyNot layout meaning net event)
   enabled_refused (Ok done) enabled used_up memory never = tt
   enabled_refused (Err NotEnabled) enabled used_up memory never = absurd (never refl)
@@ -52,4 +52,4 @@ module _ {W : Type 0} (equal : W → W → Bool) (layout : Layout W) (meaning : 
       (its, record { enabled = record { there = its.there; would = its.out }; none_left = used_up refl })
   result_refused b done Memory strange own used_up ids =
       let its : IsOwnJob equal layout net b (job_in done) = own (λ is. absurd (cc)) in
-      (its, record { enabled = record { there = its.there; would = its.out }; ids = λ no_row. ids refl })
+      (its, record { enabled = record { there = its.there; would = its.out }; ids = ids refl })

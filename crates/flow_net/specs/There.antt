@@ -1,12 +1,11 @@
 -- Which events may be done, and why one is not.
-use Rattle.std.specs.Prelude.{◌≡◌, ℕ, ◌<◌, ◌^◌, Bool, false, List, Result}
+use Rattle.std.specs.Prelude.{◌≡◌, ℕ, ◌<◌, ◌^◌, List, Result}
 use Rattle.flow_value.specs.declared.value.Value.{Value}
 use Rattle.flow_link.specs.declared.phase.Move.{Move}
 use Rattle.flow_link.specs.declared.phase.Move.TheVariants.{Offer}
 use Rattle.flow_link.specs.Layout.{Layout}
-use Rattle.flow_moves.specs.Rows.{builds_row}
-use Rattle.flow_core.specs.Events.{NetEvent, Enabled, HasIds}
-use Rattle.flow_core.specs.State.{NetState, node_at}
+use Rattle.flow_core.specs.Events.{NetEvent, Enabled, HasIds, MayHappen}
+use Rattle.flow_core.specs.State.{NetState}
 use Rattle.flow_net.specs.declared.fault.NetFault.{NetFault}
 use Rattle.flow_net.specs.declared.fault.NetFault.TheVariants.{NotEnabled, Ids, Memory}
 
@@ -27,26 +26,16 @@ module _ {W : Type 0} (layout : Layout W) (meaning : ℕ → Value → Result (L
     pub enabled : Enabled layout net event
     pub none_left : HasIds layout meaning event net → ⊥
 
-  -- a batch or a join would build a row
-  abbrev pub makes_row : NetEvent → Bool
-  makes_row (NetEvent.make b) = builds_row (node_at net b).block.kind
-  makes_row _ = false
-
   -- the event is enabled, and an id is wanting for what would come out
   pub record LacksIds (event : NetEvent) : Type 0 where
     pub enabled : Enabled layout net event
     pub none_left : HasIds layout meaning event net → ⊥
 
-  -- the event is enabled and there are ids, so it may happen but for memory. A row is built before an id is asked for
-  pub record LacksMemory (event : NetEvent) : Type 0 where
-    pub enabled : Enabled layout net event
-    pub ids : makes_row event ≡ false → HasIds layout meaning event net
-
-  -- why an event is not done: it is not enabled; or else ids are wanting; or else memory
+  -- why an event is not done: it is not enabled; or else ids are wanting; or else it may happen, and memory is out
   abbrev pub IsWhyNot : NetEvent → NetFault → Type 0
   IsWhyNot event NotEnabled = Enabled layout net event → ⊥
   IsWhyNot event Ids = LacksIds event
-  IsWhyNot event Memory = LacksMemory event
+  IsWhyNot event Memory = MayHappen layout meaning event net
 
 -- what a move offers has an id
 abbrev pub OffersAnId : Move → Type 0

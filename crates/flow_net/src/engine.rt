@@ -11,7 +11,7 @@ ghost use Rattle.flow_net.specs.Dues.{IsEnd, IsEndOfJob};
 ghost use Rattle.flow_net.specs.Dues.{event_of};
 ghost use Rattle.flow_net.specs.Happened.{Happened};
 ghost use Rattle.flow_net.specs.Settles.{Settles, GoesOn};
-ghost use Rattle.flow_net.specs.There.{IsDue, IsWhyNot, LacksMemory, NeedsId};
+ghost use Rattle.flow_net.specs.There.{IsDue, IsWhyNot, NeedsId};
 ghost use Rattle.flow_net.specs.declared.fault.NetFault.TheVariants.{NotEnabled, Ids, Memory};
 
 use crate::agenda::Agenda;
@@ -69,8 +69,8 @@ impl<W: Work> Engine<W> {
         ensures kept { OnErr result (self.new.parts ≡ self.old.parts) }
         ensures used_up { result ≡ Err Ids → MayHappen (layout_of self.old.plan)
             (works_of W.meaning (layout_of self.old.plan)) (NetEvent.make number) self.old.parts → ⊥ }
-        ensures memory { result ≡ Err Memory → LacksMemory (layout_of self.old.plan)
-            (works_of W.meaning (layout_of self.old.plan)) self.old.parts (NetEvent.make number) }
+        ensures memory { result ≡ Err Memory → MayHappen (layout_of self.old.plan)
+            (works_of W.meaning (layout_of self.old.plan)) (NetEvent.make number) self.old.parts }
         ensures never { result ≢ Err NotEnabled }
     {
         self.parts.make(alloc, number)?;
@@ -169,8 +169,8 @@ impl<W: Work> Engine<W> {
         ensures kept { OnErr result (self.new.parts ≡ self.old.parts) }
         ensures used_up { result ≡ Err Ids → MayHappen (layout_of self.old.plan)
             (works_of W.meaning (layout_of self.old.plan)) (event_of event.now) self.old.parts → ⊥ }
-        ensures memory { result ≡ Err Memory → (IsEndOfJob event.now → ⊥) → LacksMemory (layout_of self.old.plan)
-            (works_of W.meaning (layout_of self.old.plan)) self.old.parts (event_of event.now) }
+        ensures memory { result ≡ Err Memory → (IsEndOfJob event.now → ⊥) → MayHappen (layout_of self.old.plan)
+            (works_of W.meaning (layout_of self.old.plan)) (event_of event.now) self.old.parts }
         ensures never { result ≢ Err NotEnabled }
     {
         match *event {
@@ -196,8 +196,8 @@ impl<W: Work> Engine<W> {
         ensures kept { OnErr result (self.new.parts ≡ self.old.parts) }
         ensures used_up { result ≡ Err Ids → MayHappen (layout_of self.old.plan)
             (works_of W.meaning (layout_of self.old.plan)) (event_of event.now) self.old.parts → ⊥ }
-        ensures memory { result ≡ Err Memory → (IsEndOfJob event.now → ⊥) → LacksMemory (layout_of self.old.plan)
-            (works_of W.meaning (layout_of self.old.plan)) self.old.parts (event_of event.now) }
+        ensures memory { result ≡ Err Memory → (IsEndOfJob event.now → ⊥) → MayHappen (layout_of self.old.plan)
+            (works_of W.meaning (layout_of self.old.plan)) (event_of event.now) self.old.parts }
         ensures never { result ≢ Err NotEnabled }
     {
         self.carry_out(alloc, event)?;

@@ -161,7 +161,7 @@ impl Outlet {
         ensures back { IfErr result (λ refused. refused.0 ≡ values) }
         ensures ids { (result ≡ Err (values, Ids)) ↔ (lacks_ids values.items self.old ≡ true) }
     {
-        if self.lacks_ids(&values) {
+        if self.lacks_ids_of(&values) {
             return Err((values, OutletFault::Ids));
         }
         let count = count(&values);
@@ -203,10 +203,17 @@ impl Outlet {
         Ok(())
     }
 
-    fn lacks_ids(&self, values: &Vec<Value>) -> bool
+    fn lacks_ids_of(&self, values: &Vec<Value>) -> bool
         ensures { result ≡ lacks_ids values.now.items self.now }
     {
-        !values.is_empty() && values.len() as u64 > self.free_ids()
+        self.lacks_ids(values.len())
+    }
+
+    /// Whether message ids are wanting for so many values more. An id is at most 2^59 - 1.
+    pub fn lacks_ids(&self, count: usize) -> bool
+        ensures { result ≡ lacks_ids_for count self.now }
+    {
+        count as u64 > self.free_ids()
     }
 
     // how many ids are neither used nor set aside
@@ -223,7 +230,7 @@ impl Outlet {
         ensures kept { OnErr result (self.new ≡ self.old) }
         ensures ids { (result ≡ Err Ids) ↔ (lacks_ids_for count self.old ≡ true) }
     {
-        if count as u64 > self.free_ids() {
+        if self.lacks_ids(count) {
             return Err(OutletFault::Ids);
         }
         let spare = self.spare + count;

@@ -23,7 +23,7 @@ returns-in-Buffer c =
       kept = c.hand_on.ensures.kept;
       used_up = λ is result.
           sym (lacks_is node c.requires.many c.requires.waits arm result) ∙ c.hand_on.ensures.ids.0 is;
-      memory = λ is no_row result.
+      memory = λ is result.
           sym (lacks_is node c.requires.many c.requires.waits arm result)
           ∙ ids_where_memory c.hand_on.result lacks c.hand_on.ensures.ids is;
     }

@@ -60,6 +60,6 @@ returns-in_err-make-clause-memory g c is =
     let told = memory_told c.from_residual.result c.in_err-make.field-0.0 c.from_residual.ensures.1 is in
     record {
       enabled = c.requires.enabled;
-      ids = λ no_row. c.in_err-make.ensures.memory (ap Err told) no_row
+      ids = c.in_err-make.ensures.memory (ap Err told)
           (block_makes layout (works_of g.W.Work.meaning layout) c.args.number);
     }

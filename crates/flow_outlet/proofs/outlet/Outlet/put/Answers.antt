@@ -8,7 +8,7 @@ pub invariant_of-self-2 : goal.invariant_of-self-2
 invariant_of-self-2 c =
     let small = subst (λ (o : OutletState). o.room + weight_of o.groups + c.args.weight < 2 ^ 32) (sym c.self.view_is) c.requires in
     let enough = subst (λ (o : OutletState). lacks_ids c.args.values.items o ≡ false) (sym c.self.view_is)
-    (rw c.lacks_ids.ensures at c.if-lacks_ids.false) in
+    (rw c.lacks_ids_of.ensures at c.if-lacks_ids_of.false) in
     let ids = ids_there c.args.values.items c.self.inside.left.items c.self.inside.next c.self.inside.spare c.self.invariant.ids_fit enough in
     rw (
       c.cursor_with-self-inside.ensures,
