@@ -18,4 +18,4 @@ pub use step::Step;
 pub use steps::{Steps, StepsError};
 pub use value::{Row, Text, Value, is_plain_byte};
 pub use when::When;
-pub use work::{Work, WorkFault};
+pub use work::{Runs, Work, WorkFault};

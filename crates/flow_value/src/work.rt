@@ -95,3 +95,48 @@ pub trait Work: Eq + Send + Sync + Drop {
 
     ghost never_memory: { (work : Self) (value : Value) → meaning work value ≢ Err Memory };
 }
+
+/// A function that a block applies to each message, as a network asks for it.
+///
+/// It asks for no leave to go to another thread. So it is for a port that owns a network on one thread: a method of the
+/// port's own trait may call what is generic over it, as it may not call what is generic over `Work`. Each `Work` is one.
+pub trait Runs: Eq + Drop {
+    ghost use Rattle.std.specs.Prelude.{◌≡◌, ◌≢◌, true, List, Result, Err};
+    ghost use Rattle.flow_value.specs.declared.value.Value.{Value};
+    ghost use Rattle.flow_value.specs.declared.work.WorkFault.{WorkFault};
+    ghost use Rattle.flow_value.specs.declared.work.WorkFault.TheVariants.{Memory};
+    ghost use Rattle.flow_value.specs.Meaning.{RunsAs};
+
+    /// The values that it gives for a value, or its fault. It holds whatever memory there is, so its fault is never
+    /// out of memory.
+    ghost meaning: { Self → Value → Result (List Value) WorkFault };
+
+    /// Applies it to a value on this thread. Unless memory is out, the answer is its meaning.
+    fn run_here(&self, alloc: Global, value: &Value) -> Result<Vec<Value>, WorkFault>
+        ensures { RunsAs (meaning self.now value.now) result };
+
+    /// A second one that is equal to this one, for this thread.
+    fn copy_here(&self, alloc: Global) -> Result<Self, AllocError>
+        ensures { IfOk result (λ work. IsTrue (Self.eq self.now work)) };
+
+    ghost same_meaning: { (first second : Self) → Self.eq first second ≡ true → (value : Value) → meaning first value
+        ≡ meaning second value };
+
+    ghost never_memory: { (work : Self) (value : Value) → meaning work value ≢ Err Memory };
+}
+
+impl<W: Work> Runs for W {
+    ghost meaning = { W.meaning };
+
+    ghost same_meaning = { W.same_meaning };
+
+    ghost never_memory = { W.never_memory };
+
+    fn run_here(&self, alloc: Global, value: &Value) -> Result<Vec<Value>, WorkFault> {
+        self.run(alloc, value)
+    }
+
+    fn copy_here(&self, alloc: Global) -> Result<W, AllocError> {
+        self.copy(alloc)
+    }
+}
