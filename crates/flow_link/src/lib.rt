@@ -10,6 +10,7 @@
 //! keeps its own laws, and show by examples what the definitions let through and what they refuse.
 #![tactic(auto)]
 
+mod builder;
 mod check;
 mod cycle;
 mod draft;
@@ -22,6 +23,7 @@ mod stage;
 mod trace;
 mod traits;
 
+pub use builder::DraftRefused;
 pub use check::{PlanRefusal, plan_check};
 pub use draft::{BlockDef, BlockKind, Draft, LinkDef};
 pub use laws::{
