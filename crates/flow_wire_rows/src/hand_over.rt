@@ -66,7 +66,10 @@ fn link_that_starts(
     )
 }
 
-fn new_link(alloc: Global, reserves: bool) -> Result<(Wire, SourceEnd, TargetEnd), LinkState>
+pub(crate) fn new_link(
+    alloc: Global,
+    reserves: bool,
+) -> Result<(Wire, SourceEnd, TargetEnd), LinkState>
     ensures { IfOk result (λ made. (made.1 ≡ record { table = made.0; side = starts_out (start_of reserves) }) × (made.2 ≡ record { table = made.0; side = starts_in (start_of reserves) })) }
 {
     link_that_starts(alloc, reserves)

@@ -1,4 +1,5 @@
-//! Tests of the two ends of a link on two threads: each value crosses once and in order, whatever the schedule.
+//! Tests of the two ends of a link. On two threads each value crosses once and in order, whatever the schedule; on one a target
+//! refuses for good.
 #![tactic(auto)]
 
 #[cfg(test)]
@@ -7,5 +8,7 @@ mod chance;
 mod hand_over;
 #[cfg(test)]
 mod receiver;
+#[cfg(test)]
+mod refusals;
 #[cfg(test)]
 mod sender;
