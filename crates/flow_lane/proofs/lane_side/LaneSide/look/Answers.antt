@@ -1,0 +1,20 @@
+use Rattle.std.proofs.Common.{rules}
+use Rattle.flow_lane.specs.Items.{as_job, as_result, state_of, state_in}
+use Rattle.flow_lane.proofs.LaneStepsKeep.{looks, looked_is, look_leaves, look_tells}
+use Rattle.flow_lane.proofs.lane_side.LaneSide.look.Goals as goal
+
+pub load-requires : goal.load-requires
+load-requires g c = (search rules, search rules, looks as_job as_result state_of state_in _ _ _ c.self.invariant.me_is)
+
+pub invariant_of-self : goal.invariant_of-self
+invariant_of-self g c = record {
+  words = search rules;
+  slots = search rules;
+  me_is = looked_is _ _ c.load.ensures.2.0 c.self.invariant.me_is c.load.ensures.2.2;
+}
+
+pub returns-clause-found : goal.returns-clause-found
+returns-clause-found g c = let told = c.load.ensures.2 in look_tells _ c.self.inside.seat.me _ _ _ _ told.3 told.1 c.phase_of.ensures c.self.view_is
+
+pub returns-clause-stands : goal.returns-clause-stands
+returns-clause-stands g c = let told = c.load.ensures.2 in look_leaves c.self.inside.seat.me _ _ _ _ told.3 told.1 c.phase_of.ensures told.2

@@ -1,0 +1,48 @@
+//! What of a lane may go to another thread, or be seen by two.
+ghost use Rattle.std.specs.Thread.{IsSend, IsSync};
+ghost use Rattle.flow_lane.specs.contracts.block_side.BlockSide as block;
+ghost use Rattle.flow_lane.specs.contracts.item.LaneItem as item;
+ghost use Rattle.flow_lane.specs.contracts.lane_side.LaneSide as lane_side;
+ghost use Rattle.flow_lane.specs.contracts.table.Lane as lane;
+
+use crate::block_side::BlockSide;
+use crate::item::LaneItem;
+use crate::lane_side::LaneSide;
+use crate::table::Lane;
+use flow_value::Work;
+
+fn crosses<T: Send>()
+    ensures { IsSend T.row }
+{}
+
+fn is_shared<T: Sync>()
+    ensures { IsSync T.row }
+{}
+
+/// Jobs and results cross threads, so what lies in a lane does. Call it before a lane or a side of it is sent or shared
+/// where the kind of work is a parameter.
+pub fn items_cross<W: Work>()
+    ensures { IsSend (item.the_row W.row (record { meaning = W.meaning }) (record { eq = W.eq })) }
+{
+    crosses::<LaneItem<W>>();
+}
+
+/// So the two sides of a lane cross threads.
+pub fn sides_cross<W: Work>()
+    ensures block { IsSend (block.the_row W.row (record { meaning = W.meaning }) (record { eq = W.eq })) }
+    ensures lane { IsSend (lane_side.the_row W.row (record { meaning = W.meaning }) (record { eq = W.eq })) }
+{
+    items_cross::<W>();
+    crosses::<BlockSide<W>>();
+    crosses::<LaneSide<W>>();
+}
+
+/// So a lane crosses threads, and two may share it.
+pub fn lanes_cross<W: Work>()
+    ensures sent { IsSend (lane.the_row W.row (record { meaning = W.meaning }) (record { eq = W.eq }) (record {})) }
+    ensures shared { IsSync (lane.the_row W.row (record { meaning = W.meaning }) (record { eq = W.eq }) (record {})) }
+{
+    items_cross::<W>();
+    crosses::<Lane<W>>();
+    is_shared::<Lane<W>>();
+}

@@ -1,0 +1,35 @@
+//! One lane that a block and the thread of the lane share: its phase in a word, a job or its result in a slot beside it, and
+//! a side for each.
+//!
+//! Each phase is left by one side alone, and that side's own stage tells it. So each move is a store, without a lock, and
+//! nothing is ever compared and lost.
+//!
+//! phase      what is in the slot            who leaves it
+//! Free       nothing                        block: put, end
+//! Job        the job that was put           lane: open
+//! Working    nothing: the job is in hand    lane: finish
+//! Result     what came of that job          block: fetch
+//! Fetching   nothing: that is in hand       block: clear
+//! Ended      nothing                        nobody
+//!
+//! A look is a load. A put loads first, and where the lane is not free it hands the job back. Where it is free, only the
+//! block can reach the slot from that load to the store of Job. From open to finish only the lane can, and from fetch to
+//! clear only the block.
+#![tactic(auto)]
+
+mod block_side;
+mod item;
+mod lane_side;
+mod laws;
+mod phase;
+mod plays;
+mod table;
+mod view;
+
+pub use block_side::BlockSide;
+pub use item::LaneItem;
+pub use lane_side::LaneSide;
+pub use laws::{items_cross, lanes_cross, sides_cross};
+pub use phase::LanePhase;
+pub use table::{Lane, LaneRule, LaneState};
+pub use view::View;
