@@ -1,0 +1,94 @@
+//! A lane takes one job at a time.
+ghost use Rattle.flow_lane_rows.specs.Rests.{Rests};
+
+use crate::jobs;
+use flow_exec::{Execution, Job};
+use flow_lane::{Lane, LaneItem, LanePhase, LaneState};
+use flow_link::TargetBlock;
+use flow_value::{MessageHeader, MessageStatus, Parcel, Steps, Value};
+use std::alloc::Global;
+use std::process::Abort;
+
+/// A transform with two lanes, in which nothing is.
+fn transform(rt: &impl Abort, alloc: Global) -> Execution<Steps>
+    ensures { Rests result }
+{
+    let work = Some(jobs::function(rt, alloc));
+    let Ok(transform) = Execution::transform(alloc, 2, None, work, Vec::new(alloc)) else {
+        panic!(rt; "out of memory");
+    };
+    transform
+}
+
+/// The transform takes a number over link 0.
+fn take(rt: &impl Abort, alloc: Global, transform: &mut Execution<Steps>, number: i64)
+    requires { Rests transform.old }
+    ensures { Rests transform.new }
+{
+    let Some(header) = MessageHeader::new(1) else {
+        panic!(rt; "no header");
+    };
+    let Ok(parcel) = Parcel::new(alloc, Value::Int(number)) else {
+        panic!(rt; "out of memory");
+    };
+    let Ok(MessageStatus::Accepted) = transform.offer_message(alloc, 0, header, true) else {
+        panic!(rt; "it is not accepted");
+    };
+    transform.hand_over(0, header, parcel);
+}
+
+fn begin(rt: &impl Abort, alloc: Global, transform: &mut Execution<Steps>) -> Job<Steps> {
+    let Ok(Some(job)) = transform.begin(alloc) else {
+        panic!(rt; "no job begins");
+    };
+    job
+}
+
+/// A lane that is closed after two jobs were put, of which the second came back.
+fn closed_after_two(
+    rt: &impl Abort,
+    alloc: Global,
+    first: Job<Steps>,
+    second: Job<Steps>,
+) -> LaneState<Steps> {
+    let Ok((lane, mut block, side)) = Lane::new(alloc) else {
+        panic!(rt; "out of memory");
+    };
+    let Ok(()) = block.put(&lane, first) else {
+        panic!(rt; "a free lane takes no job");
+    };
+    let Err(back) = block.put(&lane, second) else {
+        panic!(rt; "a lane takes two jobs");
+    };
+    assert_eq!(rt; back.ticket(), 1);
+    lane.close(block, side)
+}
+
+/// The job that a closed lane has.
+fn job_in(rt: &impl Abort, left: LaneState<Steps>) -> Job<Steps> {
+    let LaneState { phase, slot } = left;
+    assert_eq!(rt; phase, LanePhase::Job);
+    match slot {
+        Some(LaneItem::Job(job)) => job,
+        Some(LaneItem::Result(_)) | None => panic!(rt; "the lane has no job"),
+    }
+}
+
+#[test]
+fn a_second_put_gives_the_job_back(rt: HostRuntime) {
+    let mut transform = transform(&rt, rt.alloc());
+    take(&rt, rt.alloc(), &mut transform, 5);
+    take(&rt, rt.alloc(), &mut transform, 6);
+    let first = begin(&rt, rt.alloc(), &mut transform);
+    let second = begin(&rt, rt.alloc(), &mut transform);
+    let job = job_in(&rt, closed_after_two(&rt, rt.alloc(), first, second));
+    assert_eq!(rt; job.ticket(), 0);
+    let Ok(done) = job.run(rt.alloc()) else {
+        panic!(&rt; "out of memory");
+    };
+    assert!(rt; transform.end(done).is_ok());
+    let Some(value) = transform.left().front() else {
+        panic!(&rt; "nothing came out");
+    };
+    assert_eq!(rt; value.as_int(), Some(15));
+}
