@@ -6,7 +6,7 @@ ghost use Rattle.flow_lane.specs.Views.{BlockStage, LaneStage, has_in_hand};
 
 use crate::jobs;
 use flow_exec::{Job, JobResult};
-use flow_lane::{BlockSide, Lane, LanePhase, LaneSide};
+use flow_lane::{BlockSide, Lane, LanePhase, LaneSide, items_cross, sides_cross};
 use flow_value::Steps;
 use std::alloc::Global;
 use std::sync::Arc;
@@ -19,7 +19,7 @@ const JOBS: u32 = 1_000;
 const LOOKS: u32 = 1_000_000_000;
 
 /// How many looks a side takes before it lets other threads run.
-const LOOKS_A_TURN: u32 = 100;
+const LOOKS_A_TURN: u32 = 1_000;
 
 fn let_others_run(looks: u32) {
     if looks % LOOKS_A_TURN == 0 {
@@ -142,6 +142,8 @@ fn done_by_two(
     let Ok((lane, block, side)) = Lane::new(alloc) else {
         return None
     };
+    items_cross::<Steps>();
+    sides_cross::<Steps>();
     let shared = &lane;
     let ((block, right), (side, count)) = join(
         rt,
