@@ -1,0 +1,60 @@
+//! Blocks and links as plain data.
+use crate::admits::Admits;
+use crate::kind::Kind;
+use flow_reading::{PrintedList, Report};
+
+/// A block of a network.
+#[derive(Clone, Copy, Debug, PartialEq, Eq)]
+pub struct BlockOutline<'a> {
+    pub name: &'a str,
+    pub kind: Kind,
+    /// Whether records are sent to it.
+    pub input: bool,
+    /// Whether a caller receives from it.
+    pub exit: bool,
+    /// How many messages it has room for, without bound where absent.
+    pub capacity: Option<u32>,
+    /// How many jobs may run at once, one where absent.
+    pub lanes: Option<u32>,
+    /// How many messages a group has.
+    pub size: Option<u32>,
+    /// How many ports it has, at least one.
+    pub ports: u32,
+}
+
+/// A link of a network.
+#[derive(Clone, Copy, Debug, PartialEq, Eq)]
+pub struct LinkOutline {
+    /// The number of its source among the blocks.
+    pub from: usize,
+    /// The number of its target among the blocks.
+    pub to: usize,
+    /// The port of the target.
+    pub port: u32,
+    pub when: Admits,
+    /// How many messages may cross, without bound where absent.
+    pub max: Option<u32>,
+    /// Whether the end of the source ends the target.
+    pub propagate: bool,
+}
+
+/// A network: its blocks and links, each by its number.
+#[derive(Debug, Drop)]
+pub struct Outline<'a> {
+    pub blocks: Vec<BlockOutline<'a>>,
+    pub links: Vec<LinkOutline>,
+}
+
+/// What crossed the link with this number, by a report of its network.
+pub fn given_over<'a>(
+    outline: &Outline,
+    report: &Report<'a>,
+    number: usize,
+) -> Option<PrintedList<'a>> {
+    let source = report.blocks.get(outline.links.get(number)?.from)?;
+    let link = source
+        .links
+        .iter()
+        .find(|link| link.number as usize == number)?;
+    Some(link.given)
+}
