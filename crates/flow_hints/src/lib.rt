@@ -1,0 +1,14 @@
+//! What may have been meant: words that are near to another, and warnings of what was hardly meant in a network that is
+//! accepted.
+//!
+//! A warning is of a network that surely ends with status 1, or of a part of it that never does what was meant.
+#![tactic(auto)]
+
+mod matching;
+mod near;
+mod sorts;
+mod warnings;
+mod ways;
+
+pub use near::{did_you_mean, nearest, quoted};
+pub use warnings::{Warning, warnings_of};

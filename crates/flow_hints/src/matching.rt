@@ -1,0 +1,104 @@
+//! Whether the messages at the ports of a join belong together by their places.
+use crate::ways::{Way, Ways};
+use flow_link::BlockKind;
+use flow_value::When;
+use std::alloc::{AllocError, Global};
+
+/// Whether each port of a join gets one message for each message of one block, in the same order.
+///
+/// Only then is it sure that what stands in one row came from one message.
+pub(crate) fn belongs_together(
+    alloc: Global,
+    ways: &Ways<'_>,
+    join: usize,
+    ports: u32,
+) -> Result<bool, AllocError> {
+    let into = ways.into_block(alloc, join)?;
+    let mut common = None;
+    for port in 0..ports {
+        let root = match only_way(into.as_slice(), port) {
+            Some(way) if is_whole(ways, way) => root_of(ways, way.source),
+            _ => return Ok(false),
+        };
+        if common.is_some_and(|common| common != root) {
+            return Ok(false);
+        }
+        common = Some(root);
+    }
+    Ok(true)
+}
+
+// The only link to this port.
+fn only_way(into: &[Way], port: u32) -> Option<Way> {
+    let mut found = None;
+    for way in into {
+        if way.port == port {
+            if found.is_some() {
+                return None;
+            }
+            found = Some(*way);
+        }
+    }
+    found
+}
+
+// Whether all that a link's source gives crosses the link.
+fn is_whole(ways: &Ways<'_>, way: Way) -> bool {
+    if way.when != When::Any || way.max.is_some() {
+        return false;
+    }
+    if ways.copies(way.source) {
+        return has_room(ways, way.target);
+    }
+    ways.ways.iter().all(|other| other.source != way.source || other.link == way.link)
+}
+
+// Whether a block always takes what it is offered.
+fn has_room(ways: &Ways<'_>, block: usize) -> bool {
+    match ways.block(block) {
+        Some(block) => block.capacity.is_none() && block.kind != BlockKind::WriteOnce,
+        None => false,
+    }
+}
+
+// The block of whose messages this block gives one for each.
+fn root_of(ways: &Ways<'_>, block: usize) -> usize {
+    let mut root = block;
+    for _ in 0..ways.blocks.len() {
+        match block_before(ways, root) {
+            Some(before) => root = before,
+            None => break,
+        }
+    }
+    root
+}
+
+// The block for each of whose messages this one gives one.
+fn block_before(ways: &Ways<'_>, number: usize) -> Option<usize> {
+    let block = ways.block(number)?;
+    if block.input || !gives_one_for_one(block.kind) {
+        return None;
+    }
+    let mut found = None;
+    for way in ways.ways.iter() {
+        if way.target == number {
+            if found.is_some() || !is_whole(ways, *way) {
+                return None;
+            }
+            found = Some(way.source);
+        }
+    }
+    found
+}
+
+fn gives_one_for_one(kind: BlockKind) -> bool {
+    match kind {
+        BlockKind::Buffer | BlockKind::Broadcast | BlockKind::Transform => true,
+        BlockKind::WriteOnce
+        | BlockKind::Action
+        | BlockKind::TransformMany
+        | BlockKind::Batch
+        | BlockKind::Join
+        | BlockKind::BatchedJoin => false,
+    }
+}

@@ -1,0 +1,110 @@
+//! A plan as its blocks and the links between them.
+use flow_link::{BlockDef, BlockKind, LinkSource, LinkTarget, Plan};
+use flow_value::{Steps, When};
+use std::alloc::{AllocError, Global};
+
+/// A link from a block to a port of another.
+#[derive(Clone, Copy)]
+pub(crate) struct Way {
+    pub(crate) link: usize,
+    pub(crate) source: usize,
+    pub(crate) target: usize,
+    pub(crate) port: u32,
+    pub(crate) when: When,
+    pub(crate) max: Option<u32>,
+    pub(crate) propagate: bool,
+}
+
+/// The blocks of a plan and the links between them.
+#[derive(Drop)]
+pub(crate) struct Ways<'p> {
+    pub(crate) blocks: Vec<&'p BlockDef<Steps>>,
+    pub(crate) ways: Vec<Way>,
+}
+
+/// The blocks of a plan and the links between them.
+pub(crate) fn ways_of<'p>(alloc: Global, plan: &'p Plan<Steps>) -> Result<Ways<'p>, AllocError> {
+    let mut blocks = Vec::new(alloc);
+    for number in 0..plan.block_count() {
+        blocks.push(plan.block(number))?;
+    }
+    let mut ways = Vec::new(alloc);
+    for link in 0..plan.link_count() {
+        let found = plan.link(link);
+        if let (LinkSource::Block(source), LinkTarget::Port(target, port)) = (
+            found.source,
+            found.target,
+        ) {
+            ways.push(Way {
+                link,
+                source,
+                target,
+                port,
+                when: found.when,
+                max: found.max,
+                propagate: found.propagate,
+            })?;
+        }
+    }
+    Ok(Ways { blocks, ways })
+}
+
+impl<'p> Ways<'p> {
+    /// The block with this number.
+    pub(crate) fn block(&self, number: usize) -> Option<&'p BlockDef<Steps>> {
+        self.blocks.get(number).copied()
+    }
+
+    /// The links into this block.
+    pub(crate) fn into_block(&self, alloc: Global, block: usize) -> Result<Vec<Way>, AllocError> {
+        self.ways
+            .iter()
+            .filter(|way| way.target == block)
+            .copied()
+            .collect(alloc)
+    }
+
+    /// The links out of this block, in order.
+    pub(crate) fn out_of(&self, alloc: Global, block: usize) -> Result<Vec<Way>, AllocError> {
+        self.ways
+            .iter()
+            .filter(|way| way.source == block)
+            .copied()
+            .collect(alloc)
+    }
+
+    /// Whether the block gives a copy of each message to each of its links.
+    pub(crate) fn copies(&self, block: usize) -> bool {
+        match self.block(block) {
+            Some(block) => is_copier(block.kind),
+            None => false,
+        }
+    }
+}
+
+fn is_copier(kind: BlockKind) -> bool {
+    match kind {
+        BlockKind::Broadcast | BlockKind::WriteOnce => true,
+        BlockKind::Buffer
+        | BlockKind::Action
+        | BlockKind::Transform
+        | BlockKind::TransformMany
+        | BlockKind::Batch
+        | BlockKind::Join
+        | BlockKind::BatchedJoin => false,
+    }
+}
+
+/// How many ports a block of this kind has, where it says this of its ports.
+pub(crate) fn port_count(kind: BlockKind, ports: Option<u32>) -> u32 {
+    match kind {
+        BlockKind::Join | BlockKind::BatchedJoin => ports.unwrap_or(2),
+        BlockKind::Buffer
+        | BlockKind::Broadcast
+        | BlockKind::WriteOnce
+        | BlockKind::Action
+        | BlockKind::Transform
+        | BlockKind::TransformMany
+        | BlockKind::Batch => 1,
+    }
+}
