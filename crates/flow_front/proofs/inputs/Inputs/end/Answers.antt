@@ -1,0 +1,9 @@
+use Rattle.std.proofs.Common.{refl, sym, ◌∙◌}
+use Rattle.flow_front.specs.Inputs.{with_ending}
+use Rattle.flow_front.proofs.InputsChange.{at_place, changes_one}
+use Rattle.flow_front.proofs.inputs.Inputs.end.Goals as goal
+
+pub returns-in-Some-clause-ended : goal.returns-in-Some-clause-ended
+returns-in-Some-clause-ended g c =
+    at_place _ _ c.in-Some.place (sym c.place.ensures.place ∙ c.in-Some.is)
+    (changes_one _ _ c.index_mut.result.now _ (with_ending c.args.ending) c.in-Some.ensures.within c.index_mut.ensures.value refl)
