@@ -2,84 +2,28 @@
 // cents.
 #![tactic(auto)]
 
-use anyhow::{Result, anyhow};
-use flow_link::{BlockDef, BlockKind, Draft, LinkDef, plan_check};
-use flow_net::{Ending, Net, Posted, Settled};
+use anyhow::Result;
+use flow_front::{Inputs, record_of};
+use flow_link::{BlockDef, BlockKind, Draft, LinkDef};
 use flow_value::{Steps, Text, Value};
-use std::alloc::{AllocError, Global};
-
-/// More events than this run has.
-const LIMIT: u64 = 10_000;
 
 fn main(rt: HostRuntime) -> Result<()> {
     let alloc = rt.alloc();
-    let plan = plan_check(alloc, draft(alloc)?).map_err(|(_, refusal)| refusal)?;
-    let posted = vec![in alloc;
-        Posted {
-            values: prices(alloc)?,
-            ending: Ending::Complete
-        },
-    ]?;
-    if posted.len() != plan.input_count() {
-        return Err(anyhow!("there is one list for each input"));
-    }
-    let mut net = Net::new(alloc, plan, posted).map_err(|_| AllocError)?;
-    let settled = net.settle(alloc, LIMIT)?;
-    println!(rt; "{settled:?}")?;
-    for block in 0..net.plan().block_count() {
-        let name = net.plan().block(block).name.as_str();
-        println!(rt;
-            "{name}: {:?}, recorded {:?}",
-            net.state(block),
-            net.record(block)
-        )?;
-    }
-    Ok(())
-}
-
-/// Three blocks in a chain.
-fn draft(alloc: Global) -> Result<Draft<Steps>> {
-    let input = BlockDef::new(text(alloc, "prices")?, BlockKind::Buffer);
-    let parse = BlockDef::new(text(alloc, "parse")?, BlockKind::Transform);
-    let ledger = BlockDef::new(text(alloc, "ledger")?, BlockKind::Action);
-    let blocks = vec![in alloc;
-        BlockDef {
-            input: true,
-            ..input
-        },
-        BlockDef {
-            work: Some(Steps::read(alloc, &["int"])?),
-            ..parse
-        },
-        BlockDef {
-            work: Some(Steps::read(alloc, &["mul 100"])?),
-            ..ledger
-        },
-    ]?;
-    let links = vec![in alloc;
-        link(alloc, "prices", "parse")?,
-        link(alloc, "parse", "ledger")?,
-    ]?;
-    Ok(Draft { blocks, links })
-}
-
-/// A link that hands the end of its source on.
-fn link(alloc: Global, from: &str, to: &str) -> Result<LinkDef, AllocError> {
-    let link = LinkDef::new(text(alloc, from)?, text(alloc, to)?);
-    Ok(LinkDef {
-        propagate: true,
-        ..link
-    })
-}
-
-fn prices(alloc: Global) -> Result<Vec<Value>, AllocError> {
-    let mut values = Vec::new(alloc);
+    let int = Steps::read(alloc, &["int"])?;
+    let cents = Steps::read(alloc, &["mul 100"])?;
+    let plan = Draft::new(alloc)
+        .block(BlockDef::named(alloc, "prices", BlockKind::Buffer)?.input())?
+        .block(BlockDef::named(alloc, "parse", BlockKind::Transform)?.work(int))?
+        .block(BlockDef::named(alloc, "ledger", BlockKind::Action)?.work(cents))?
+        .link(LinkDef::between(alloc, "prices", "parse")?.propagate())?
+        .link(LinkDef::between(alloc, "parse", "ledger")?.propagate())?
+        .check(alloc)?;
+    let mut inputs = Inputs::of(alloc, plan)?;
     for price in ["12", "7", "120"] {
-        values.push(Value::Text(text(alloc, price)?))?;
+        inputs.post("prices", Value::Text(Text::from_str(alloc, price)?))?;
     }
-    Ok(values)
-}
-
-fn text(alloc: Global, content: &str) -> Result<Text, AllocError> {
-    Text::from_str(alloc, content)
+    let mut net = inputs.start(alloc)?;
+    let settled = net.settle(alloc, 10_000)?;
+    println!(rt; "{settled:?}: {:?}", record_of(&net, "ledger"))?;
+    Ok(())
 }
