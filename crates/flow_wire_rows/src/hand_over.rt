@@ -16,19 +16,24 @@ const COUNT: u64 = 1_000;
 /// How many runs there are, each with a seed of its own; the target reserves in every other.
 const SEEDS: u64 = 100;
 
+/// How many turns an end takes before it yields. On free cores it seldom yields; on a busy one the other thread comes soon.
+const TURNS_IN_ONE_GO: u64 = 1_000;
+
 /// More turns than an end needs, also where the other thread waits long for a processor.
-const TURNS: u64 = 50_000_000;
+const TURNS: u64 = 2_000_000_000;
 
 // the sender's turns, until it is done or has had them all
 fn send(alloc: Global, wire: &Wire, mut sender: Sender) -> Sender
     requires { sender.end.table ≡ wire.now }
     ensures { result.end.table ≡ sender.end.table }
 {
-    for _ in 0..TURNS {
+    for turn in 0..TURNS {
         if sender.is_done() || sender.turn(alloc, wire).is_err() {
             return sender;
         }
-        yield_now();
+        if turn % TURNS_IN_ONE_GO == 0 {
+            yield_now();
+        }
     }
     sender
 }
@@ -37,12 +42,14 @@ fn receive(wire: &Wire, mut receiver: Receiver) -> Receiver
     requires { receiver.end.table ≡ wire.now }
     ensures { result.end.table ≡ receiver.end.table }
 {
-    for _ in 0..TURNS {
+    for turn in 0..TURNS {
         if receiver.is_done() {
             return receiver;
         }
         receiver.turn(wire);
-        yield_now();
+        if turn % TURNS_IN_ONE_GO == 0 {
+            yield_now();
+        }
     }
     receiver
 }
