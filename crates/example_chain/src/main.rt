@@ -1,5 +1,4 @@
-// Builds a network in code, and runs it: texts go in, a transform reads them as numbers, and an action keeps them in
-// cents.
+// Texts go in, a transform reads them as numbers, and an action keeps them in cents.
 #![tactic(auto)]
 
 use anyhow::Result;
