@@ -1,0 +1,106 @@
+//! What is posted to a name is at the input of that name, and what is asked of a name is told of that block.
+use anyhow::Result;
+use flow_front::{Inputs, NoInput, PostRefused, record_of, state_of};
+use flow_link::{BlockDef, BlockKind, Draft, Ending, LinkDef};
+use flow_net::{Net, Settled, State};
+use flow_value::{Steps, Value};
+use std::alloc::Global;
+use std::process::Abort;
+
+/// An action, two inputs of it, and between these a buffer that is none.
+fn inputs(alloc: Global) -> Result<Inputs<Steps>> {
+    let work = Steps::read(alloc, &["id"])?;
+    let plan = Draft::new(alloc)
+        .block(BlockDef::named(alloc, "out", BlockKind::Action)?.work(work))?
+        .block(BlockDef::named(alloc, "left", BlockKind::Buffer)?.input())?
+        .block(BlockDef::named(alloc, "middle", BlockKind::Buffer)?)?
+        .block(BlockDef::named(alloc, "right", BlockKind::Buffer)?.input())?
+        .link(LinkDef::between(alloc, "left", "out")?)?
+        .link(LinkDef::between(alloc, "right", "out")?)?
+        .check(alloc)?;
+    Ok(Inputs::of(alloc, plan)?)
+}
+
+/// The inputs with 1 and 3 posted to the right one, and 2 to the left one between these.
+fn filled(rt: &impl Abort, alloc: Global) -> Inputs<Steps> {
+    let Ok(mut inputs) = inputs(alloc) else {
+        panic!(rt; "no plan");
+    };
+    for (name, number) in [("right", 1), ("left", 2), ("right", 3)] {
+        assert!(rt; inputs.post(name, Value::Int(number)).is_ok());
+    }
+    inputs
+}
+
+/// The network of these inputs, where nothing can move any more.
+fn settled(rt: &impl Abort, alloc: Global, inputs: Inputs<Steps>) -> Net<Steps> {
+    let Ok(mut net) = inputs.start(alloc) else {
+        panic!(rt; "no memory");
+    };
+    assert!(rt; matches!(net.settle(alloc, 1_000), Ok(Settled::Quiet)));
+    net
+}
+
+/// Asserts that these numbers were posted to the block with this name.
+fn has_posted(rt: &impl Abort, net: &Net<Steps>, name: &str, numbers: &[i64]) {
+    let Some(block) = net.plan().find(name) else {
+        panic!(rt; "no block {name}");
+    };
+    are_numbers(rt, net.posted(block), numbers);
+}
+
+fn are_numbers(rt: &impl Abort, values: &[Value], numbers: &[i64]) {
+    assert_eq!(rt; values.len(), numbers.len());
+    for (value, number) in values.iter().zip(numbers) {
+        assert_eq!(rt; value.as_int(), Some(*number));
+    }
+}
+
+#[test]
+fn values_stand_at_the_input_of_their_name(rt: HostRuntime) {
+    let alloc = rt.alloc();
+    let Ok(net) = filled(&rt, alloc).start(alloc) else {
+        panic!(rt; "no memory");
+    };
+    has_posted(&rt, &net, "left", &[2]);
+    has_posted(&rt, &net, "middle", &[]);
+    has_posted(&rt, &net, "right", &[1, 3]);
+}
+
+#[test]
+fn a_name_of_no_input_is_refused(rt: HostRuntime) {
+    let mut inputs = filled(&rt, rt.alloc());
+    for name in ["out", "middle", "nobody", "lef", ""] {
+        let refused = inputs.post(name, Value::Int(7));
+        assert!(rt; matches!(refused, Err(PostRefused::NoInput(Value::Int(7)))));
+        assert!(rt; matches!(inputs.end(name, Ending::Open), Err(NoInput)));
+    }
+}
+
+#[test]
+fn blocks_tell_by_their_names(rt: HostRuntime) {
+    let alloc = rt.alloc();
+    let mut inputs = filled(&rt, alloc);
+    assert!(rt; inputs.end("left", Ending::Open).is_ok());
+    let net = settled(&rt, alloc, inputs);
+    assert!(rt; matches!(state_of(&net, "left"), Some(State::Open)));
+    assert!(rt; matches!(state_of(&net, "right"), Some(State::Done)));
+    assert!(rt; state_of(&net, "nobody").is_none());
+    let Some(recorded) = record_of(&net, "out") else {
+        panic!(rt; "no block");
+    };
+    assert_eq!(rt; recorded.len(), 3);
+    assert!(rt; record_of(&net, "nobody").is_none());
+}
+
+#[test]
+fn an_input_ends_as_it_is_told(rt: HostRuntime) {
+    let alloc = rt.alloc();
+    let Ok(mut inputs) = inputs(alloc) else {
+        panic!(rt; "no plan");
+    };
+    assert!(rt; inputs.end("right", Ending::Fault(9)).is_ok());
+    let net = settled(&rt, alloc, inputs);
+    assert!(rt; matches!(state_of(&net, "left"), Some(State::Done)));
+    assert!(rt; matches!(state_of(&net, "right"), Some(State::Faulted(9))));
+}
