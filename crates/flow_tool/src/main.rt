@@ -1,0 +1,71 @@
+//! The program for people at a terminal: what is beside a run of `flow_run`, before it and after it.
+#![tactic(auto)]
+
+mod command;
+mod files;
+mod output;
+mod parts;
+mod sifting;
+mod stop;
+
+use crate::command::command_line;
+use crate::parts::{merge, split};
+use crate::sifting::sift;
+use crate::stop::Stop;
+use clap::ArgMatches;
+use clap::error::ErrorKind;
+use std::env::Env;
+use std::fs::Files;
+use std::io::{Input, Write};
+use std::process::ExitCode;
+use std::{env, io};
+
+fn main(rt: HostRuntime) -> ExitCode {
+    match perform(&rt) {
+        Ok(status) => ExitCode::from(status),
+        Err(stop) => {
+            // Nobody is left to tell where standard error fails.
+            let _ = stop.tell(&mut rt.stderr());
+            ExitCode::from(stop.status())
+        }
+    }
+}
+
+/// Does what the arguments of the process ask for, and answers the status.
+fn perform<R: Env + Files + Input + Print + Eprint + AllocGlobal>(rt: &R) -> Result<u8, Stop> {
+    let Ok(arguments) = env::args(rt) else {
+        return Err(Stop::usage("an argument is not UTF-8"));
+    };
+    let words: Vec<String> = arguments.collect(rt.alloc())?;
+    answer(rt, &words)
+}
+
+/// Does what these words ask for, of which the first is the program's name.
+fn answer<R: Files + Input + Print + Eprint + AllocGlobal>(
+    rt: &R,
+    words: &[String],
+) -> Result<u8, Stop> {
+    match command_line(rt.alloc())?.try_get_matches_from(words) {
+        Ok(matches) => dispatch(rt, &matches),
+        Err(error) => match error.kind() {
+            ErrorKind::DisplayHelp | ErrorKind::DisplayVersion => {
+                write!(io::writer(rt), "{error}")?;
+                Ok(0)
+            }
+            _ => Err(Stop::of_arguments(rt.alloc(), &error)?),
+        },
+    }
+}
+
+/// Does what a command line that was accepted asks for.
+fn dispatch<R: Files + Input + Print + Eprint + AllocGlobal>(
+    rt: &R,
+    matches: &ArgMatches<'_>,
+) -> Result<u8, Stop> {
+    match matches.subcommand() {
+        Some(("sift", given)) => sift(rt, given),
+        Some(("split", given)) => split(rt, given),
+        Some(("merge", given)) => merge(rt, given),
+        _ => Err(Stop::usage("a command is needed; `flow --help` lists them")),
+    }
+}

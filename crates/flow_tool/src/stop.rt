@@ -1,0 +1,111 @@
+//! Why a command ends before its work is done: a line for standard error, and a status.
+use anyhow::anyhow;
+use flow_run::{RunRefusal, status};
+use std::alloc::{AllocError, AllocFailed, Global};
+use std::fmt::Display;
+use std::io;
+use std::io::{ErrorKind, Write};
+
+/// Why a command ends before its work is done.
+#[derive(Debug, Drop)]
+pub struct Stop {
+    status: u8,
+    why: anyhow::Error,
+}
+
+impl Stop {
+    /// The arguments are not those of a command.
+    pub fn usage(why: &str) -> Stop {
+        Stop {
+            status: 2,
+            why: anyhow!("{why}"),
+        }
+    }
+
+    /// Something that was read is refused: this is wrong with the file of this name.
+    pub fn refused(path: &str, why: &impl Display) -> Stop {
+        Stop {
+            status: 2,
+            why: anyhow!("{path}: {why}"),
+        }
+    }
+
+    /// The file of this name could not be written.
+    pub fn unwritten(path: &str, why: &impl Display) -> Stop {
+        Stop {
+            status: 5,
+            why: anyhow!("{path}: {why}"),
+        }
+    }
+
+    /// Standard output failed.
+    pub fn no_output() -> Stop {
+        Stop {
+            status: 5,
+            why: anyhow!("standard output failed"),
+        }
+    }
+
+    /// What was asked for can't be done, and the program ends with this status.
+    pub fn with_status(status: u8, why: &impl Display) -> Stop {
+        Stop {
+            status,
+            why: anyhow!("{why}"),
+        }
+    }
+
+    /// A run, or what a run reads, was refused.
+    pub fn of_run(path: &str, refusal: RunRefusal) -> Stop {
+        Stop {
+            status: status(&Err(refusal)),
+            why: anyhow!("{path}: {refusal}"),
+        }
+    }
+
+    /// The first lines of what clap says of arguments, as one line.
+    pub fn of_arguments(alloc: Global, error: &clap::Error) -> Result<Stop, AllocError> {
+        let text = error.to_string(alloc)?;
+        let text = text.as_str();
+        let text = text.strip_prefix("error: ").unwrap_or(text);
+        let mut line = String::new(alloc);
+        for part in text.lines().take_while(|part| !part.is_empty()) {
+            if !line.is_empty() {
+                line.push_str(" ")?;
+            }
+            line.push_str(part.trim())?;
+        }
+        Ok(Stop::usage(line.as_str()))
+    }
+
+    /// The status that the program ends with.
+    pub fn status(&self) -> u8 {
+        self.status
+    }
+
+    /// Writes the line that standard error gets.
+    pub fn tell<W: Write>(&self, writer: &mut W) -> io::Result<()> {
+        let why = &self.why;
+        writeln!(writer, "flow: {why}")
+    }
+}
+
+impl From<AllocError> for Stop {
+    fn from(_error: AllocError) -> Stop {
+        Stop::with_status(4, &"memory")
+    }
+}
+
+impl<T: Drop> From<AllocFailed<T>> for Stop {
+    fn from(_error: AllocFailed<T>) -> Stop {
+        Stop::with_status(4, &"memory")
+    }
+}
+
+impl From<io::Error> for Stop {
+    fn from(error: io::Error) -> Stop {
+        match error.kind() {
+            ErrorKind::OutOfMemory => Stop::from(AllocError),
+            _ => Stop::with_status(5, &error),
+        }
+    }
+}
