@@ -6,12 +6,38 @@ const ABOUT: &str = "What is beside a run of flow_run, before it and after it.";
 
 const NETWORK_HELP: &str = "The file with the network";
 
+const REPORT_HELP: &str = "The file with the report of a run, or - for standard input";
+
 const STATUSES: &str = "\
 status:
   0     all is well
   1, 3  faults were found, or a run ended with this status
   2     wrong arguments, or an input that can't be read; standard error says why in a line
   4, 5  out of memory; a file or stream failed";
+
+const DRAW_EXAMPLE: &str = "\
+With a report it tells what crossed each link, what is held and left, and how each block ended.
+
+example:
+  bin/flow draw network.toml run.report
+  bin/flow draw --dot network.toml | dot -Tsvg > network.svg";
+
+const WHY_EXAMPLE: &str = "\
+The status is that of the run.
+
+example:
+  bin/flow why network.toml run.report";
+
+const RESULTS_EXAMPLE: &str = "\
+example:
+  bin/flow results run.report ledger > ledger.csv
+  bin/flow_run network.toml 1 < records.csv | bin/flow results --jsonl -";
+
+const TRACE_EXAMPLE: &str = "\
+VALUE is as the report prints it, or a text without its quotes. The status is 1 where it is nowhere.
+
+example:
+  bin/flow trace run.report seven";
 
 const SIFT_EXAMPLE: &str = "\
 A record faults where it can't be read, or where a block faults when the record is run alone. The status is 1 where one did.
@@ -41,9 +67,74 @@ pub fn command_line<'a>(alloc: Global) -> Result<Command<'a>, AllocError> {
         .after_help(STATUSES)
         .disable_help_subcommand(true)
         .subcommand_required(true)
+        .subcommand(draw(alloc)?)?
+        .subcommand(why(alloc)?)?
+        .subcommand(results(alloc)?)?
+        .subcommand(trace(alloc)?)?
         .subcommand(sift(alloc)?)?
         .subcommand(split(alloc)?)?
         .subcommand(merge(alloc)?)
+}
+
+fn draw<'a>(alloc: Global) -> Result<Command<'a>, AllocError> {
+    let report = Arg::new(alloc, "report")
+        .value_name("REPORT")
+        .help(REPORT_HELP);
+    let dot = Arg::new(alloc, "dot")
+        .long("dot")
+        .action(ArgAction::SetTrue)
+        .help("Draws for Graphviz");
+    Command::new(alloc, "draw")
+        .about("Draws a network, and what became of it")
+        .after_help(DRAW_EXAMPLE)
+        .arg(file(alloc, "network", "NET", NETWORK_HELP))?
+        .arg(report)?
+        .arg(dot)
+}
+
+fn why<'a>(alloc: Global) -> Result<Command<'a>, AllocError> {
+    Command::new(alloc, "why")
+        .about("Tells why a run ended with its status")
+        .after_help(WHY_EXAMPLE)
+        .arg(file(alloc, "network", "NET", NETWORK_HELP))?
+        .arg(file(alloc, "report", "REPORT", REPORT_HELP))
+}
+
+fn results<'a>(alloc: Global) -> Result<Command<'a>, AllocError> {
+    let blocks = Arg::new(alloc, "blocks")
+        .value_name("BLOCK")
+        .help("The actions whose results are printed, all where none is named")
+        .action(ArgAction::Append)
+        .num_args(0..);
+    let csv = form(alloc, "csv", "A row for each result, which is the default");
+    let jsonl = form(alloc, "jsonl", "A JSON object for each result");
+    let json = form(alloc, "json", "One JSON object")
+        .conflicts_with("csv")?
+        .conflicts_with("jsonl")?;
+    Command::new(alloc, "results")
+        .about("Prints what actions recorded")
+        .after_help(RESULTS_EXAMPLE)
+        .arg(file(alloc, "report", "REPORT", REPORT_HELP))?
+        .arg(blocks)?
+        .arg(csv)?
+        .arg(jsonl.conflicts_with("csv")?)?
+        .arg(json)
+}
+
+/// A flag for a form of results.
+fn form<'a>(alloc: Global, name: &'a str, help: &'a str) -> Arg<'a> {
+    Arg::new(alloc, name)
+        .long(name)
+        .action(ArgAction::SetTrue)
+        .help(help)
+}
+
+fn trace<'a>(alloc: Global) -> Result<Command<'a>, AllocError> {
+    Command::new(alloc, "trace")
+        .about("Tells where a value was: the blocks that took it and the links that it crossed")
+        .after_help(TRACE_EXAMPLE)
+        .arg(file(alloc, "report", "REPORT", REPORT_HELP))?
+        .arg(file(alloc, "value", "VALUE", "The value"))
 }
 
 fn sift<'a>(alloc: Global) -> Result<Command<'a>, AllocError> {

@@ -5,23 +5,26 @@ mod command;
 mod files;
 mod output;
 mod parts;
+mod reports;
 mod sifting;
 mod stop;
 
 use crate::command::command_line;
 use crate::parts::{merge, split};
+use crate::reports::{draw, results, trace, why};
 use crate::sifting::sift;
 use crate::stop::Stop;
 use clap::ArgMatches;
 use clap::error::ErrorKind;
 use std::env::Env;
 use std::fs::Files;
-use std::io::{Input, Write};
+use std::io::{Input, IsTerminal, Write};
 use std::process::ExitCode;
 use std::{env, io};
 
 fn main(rt: HostRuntime) -> ExitCode {
-    match perform(&rt) {
+    let is_terminal = rt.stdout().is_terminal();
+    match perform(&rt, is_terminal) {
         Ok(status) => ExitCode::from(status),
         Err(stop) => {
             // Nobody is left to tell where standard error fails.
@@ -31,22 +34,35 @@ fn main(rt: HostRuntime) -> ExitCode {
     }
 }
 
-/// Does what the arguments of the process ask for, and answers the status.
-fn perform<R: Env + Files + Input + Print + Eprint + AllocGlobal>(rt: &R) -> Result<u8, Stop> {
+/// Does what the arguments of the process ask for, and answers the status. Standard output may be a terminal.
+fn perform<R: Env + Files + Input + Print + Eprint + AllocGlobal>(
+    rt: &R,
+    is_terminal: bool,
+) -> Result<u8, Stop> {
     let Ok(arguments) = env::args(rt) else {
         return Err(Stop::usage("an argument is not UTF-8"));
     };
     let words: Vec<String> = arguments.collect(rt.alloc())?;
-    answer(rt, &words)
+    let coloured = is_terminal && !is_set(rt, "NO_COLOR");
+    answer(rt, &words, coloured)
+}
+
+/// Whether a variable of the environment has any text.
+fn is_set<R: Env + AllocGlobal>(rt: &R, name: &str) -> bool {
+    match env::var(rt, name) {
+        Ok(text) => !text.is_empty(),
+        Err(_) => false,
+    }
 }
 
 /// Does what these words ask for, of which the first is the program's name.
 fn answer<R: Files + Input + Print + Eprint + AllocGlobal>(
     rt: &R,
     words: &[String],
+    coloured: bool,
 ) -> Result<u8, Stop> {
     match command_line(rt.alloc())?.try_get_matches_from(words) {
-        Ok(matches) => dispatch(rt, &matches),
+        Ok(matches) => dispatch(rt, &matches, coloured),
         Err(error) => match error.kind() {
             ErrorKind::DisplayHelp | ErrorKind::DisplayVersion => {
                 write!(io::writer(rt), "{error}")?;
@@ -61,8 +77,13 @@ fn answer<R: Files + Input + Print + Eprint + AllocGlobal>(
 fn dispatch<R: Files + Input + Print + Eprint + AllocGlobal>(
     rt: &R,
     matches: &ArgMatches<'_>,
+    coloured: bool,
 ) -> Result<u8, Stop> {
     match matches.subcommand() {
+        Some(("draw", given)) => draw(rt, given, coloured),
+        Some(("why", given)) => why(rt, given),
+        Some(("results", given)) => results(rt, given),
+        Some(("trace", given)) => trace(rt, given),
         Some(("sift", given)) => sift(rt, given),
         Some(("split", given)) => split(rt, given),
         Some(("merge", given)) => merge(rt, given),
