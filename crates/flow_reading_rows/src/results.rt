@@ -1,0 +1,107 @@
+//! Results in each form.
+use crate::check::check;
+use crate::reports::IMPORT;
+use flow_results::{ResultsForm, write_results};
+use std::alloc::Global;
+use std::test::Fail;
+
+/// Values of each kind, at two actions.
+const VALUES: &str = "block a done
+port 0 []
+held 0 []
+record [-9223372036854775808,\"\",\"a,b\",\"\\\"q\\\"\",\"\\\\x41\",\"\\x0a\\x1f\",[1,\"x\",[2,\"\\x7f\"]],[]]
+block b done
+port 0 []
+held 0 []
+left [7]
+block c open
+port 0 []
+held 0 []
+record [9223372036854775807]
+quiet
+";
+
+const CSV: &str = "a,-9223372036854775808
+a,
+a,\"a,b\"
+a,\"\"\"q\"\"\"
+a,\\x41
+a,\"
+\u{1f}\"
+a,1,x,\"[2,\"\"\\u007f\"\"]\"
+a
+c,9223372036854775807
+";
+
+const JSON_LINES: &str = r#"{"block":"a","value":-9223372036854775808}
+{"block":"a","value":""}
+{"block":"a","value":"a,b"}
+{"block":"a","value":"\"q\""}
+{"block":"a","value":"\\x41"}
+{"block":"a","value":"\u000a\u001f"}
+{"block":"a","value":[1,"x",[2,"\u007f"]]}
+{"block":"a","value":[]}
+{"block":"c","value":9223372036854775807}
+"#;
+
+const JSON: &str = r#"{
+"a":[-9223372036854775808,"","a,b","\"q\"","\\x41","\u000a\u001f",[1,"x",[2,"\u007f"]],[]],
+"c":[9223372036854775807]
+}
+"#;
+
+/// What is written of a report, or why nothing is.
+fn results(
+    alloc: Global,
+    report: &[u8],
+    names: &[&str],
+    form: ResultsForm,
+) -> Result<String, Fail> {
+    let mut text: Vec<u8> = Vec::new(alloc);
+    match write_results(alloc, report, names, form, &mut text) {
+        Ok(()) => Ok(String::from_str(alloc, str::from_utf8(&text)?)?),
+        Err(error) => Ok(format!(in alloc; "{error}")?),
+    }
+}
+
+#[test]
+fn results_come_in_three_forms(rt: HostRuntime) -> Result<(), Fail> {
+    for (form, due) in [
+        (ResultsForm::Csv, CSV),
+        (ResultsForm::JsonLines, JSON_LINES),
+        (ResultsForm::Json, JSON),
+    ] {
+        let text = results(rt.alloc(), VALUES.as_bytes(), &[], form)?;
+        assert_eq!(rt; text.as_str(), due);
+    }
+    Ok(())
+}
+
+#[test]
+fn results_of_blocks_by_name(rt: HostRuntime) -> Result<(), Fail> {
+    let numbers = results(rt.alloc(), IMPORT, &["order_numbers"], ResultsForm::Csv)?;
+    assert_eq!(rt;
+        numbers.as_str(),
+        "order_numbers,1001\norder_numbers,1002\norder_numbers,1003\n"
+    );
+    let labels = results(rt.alloc(), IMPORT, &["labels"], ResultsForm::Json)?;
+    check(
+        &rt,
+        "labels",
+        labels.as_str()
+            == "{\n\"labels\":[\"Ada Lovelace\",\"Hopper, Grace\",\"Zoë \\\"Zed\\\" Müller\"]\n}\n",
+    );
+    for (name, due) in [
+        ("nobody", "the report has no block nobody"),
+        ("orders", "block orders is no action, so it has no results"),
+    ] {
+        let text = results(
+            rt.alloc(),
+            IMPORT,
+            &["labels", name],
+            ResultsForm::JsonLines,
+        )?;
+        check(&rt, name, text.as_str() == due);
+    }
+    Ok(())
+}

@@ -1,0 +1,69 @@
+//! Where values were in a run.
+use crate::reports;
+use flow_reading::read_report;
+use flow_verdict::write_trace;
+use std::alloc::Global;
+use std::test::Fail;
+
+/// In each row the report of a run, a value, and where it was.
+const TRACES: &[(&str, &str, &str)] = &[
+    (
+        reports::FAULT,
+        "seven",
+        "prices took it at port 0: number 3
+prices gave it over link 0: number 3
+cents took it at port 0: number 3
+cents holds it at port 0: number 1
+",
+    ),
+    (
+        reports::FAULT,
+        "\"120\"",
+        "prices took it at port 0: number 4
+prices left it: number 1
+",
+    ),
+    (reports::FAULT, "1200", "cents recorded it: number 1\n"),
+    (reports::FAULT, "sev", ""),
+    (reports::FAULT, "", ""),
+    (
+        reports::ROUTES,
+        "60",
+        "orders took it at port 0: number 6
+orders gave it over link 0: number 6
+sizes took it at port 0: number 6
+sizes gave it over link 2: number 2
+small took it at port 0: number 2
+small recorded it: number 2
+",
+    ),
+    (
+        "block a open
+input [\"x\",\"y\",\"x\"]
+port 0 [[\"x\",1],[[\"x\"]],[2,\"x\"]]
+held 0 []
+left [\"y\"]
+quiet
+",
+        "x",
+        "a waits at the input: number 1, 3
+a took it at port 0: number 1, 3
+",
+    ),
+];
+
+fn trace(alloc: Global, report: &str, value: &str) -> Result<String, Fail> {
+    let report = read_report(alloc, report.as_bytes())?;
+    let mut trace: Vec<u8> = Vec::new(alloc);
+    write_trace(&report, value, &mut trace)?;
+    Ok(String::from_str(alloc, str::from_utf8(&trace)?)?)
+}
+
+#[test]
+fn values_are_traced(rt: HostRuntime) -> Result<(), Fail> {
+    for (report, value, due) in TRACES {
+        let trace = trace(rt.alloc(), report, value)?;
+        assert_eq!(rt; trace.as_str(), *due);
+    }
+    Ok(())
+}
