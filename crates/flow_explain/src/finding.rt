@@ -1,0 +1,39 @@
+//! Flaws of a text, for which it is refused.
+use flow_places::Span;
+use flow_text::TextFault;
+use std::alloc::AllocError;
+
+/// The most flaws that are told of one text.
+const MOST_FLAWS: usize = 100;
+
+/// Something for which a text is refused.
+#[derive(Debug, Drop)]
+pub struct Flaw {
+    /// What a run says of it, once it is the first.
+    pub fault: TextFault,
+    pub span: Span,
+    /// A sentence or more, on one line.
+    pub message: String,
+}
+
+/// Whether no more flaws are told.
+pub(crate) fn is_full(flaws: &[Flaw]) -> bool {
+    flaws.len() >= MOST_FLAWS
+}
+
+/// Adds a flaw, if there are not too many.
+pub(crate) fn add_flaw(
+    flaws: &mut Vec<Flaw>,
+    fault: TextFault,
+    span: Span,
+    message: String,
+) -> Result<(), AllocError> {
+    if !is_full(flaws) {
+        flaws.push(Flaw {
+            fault,
+            span,
+            message,
+        })?;
+    }
+    Ok(())
+}

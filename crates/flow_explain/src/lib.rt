@@ -1,0 +1,28 @@
+//! Explains why a network or its records are refused, with the place in the text and what may have been meant, and
+//! warns of what was hardly meant in a network that is accepted.
+//!
+//! The verdict is that of `flow_text`, which reads the texts for a run. What is found beside it never changes it.
+#![tactic(auto)]
+
+mod cause;
+mod check;
+mod circle;
+mod encoding;
+mod explain;
+mod finding;
+mod keys;
+mod network;
+mod options;
+mod plan;
+mod print;
+mod records;
+mod rows;
+mod shape;
+mod words;
+
+pub use check::{Verdict, check_both, check_network, check_records};
+pub use explain::{Answer, explain_network};
+pub use finding::Flaw;
+pub use flow_hints::Warning;
+pub use print::{Source, Style};
+pub use records::explain_records;

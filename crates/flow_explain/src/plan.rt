@@ -1,0 +1,446 @@
+//! Flaws of a network as a whole, which make it no plan.
+use crate::circle::circle;
+use crate::finding::{Flaw, add_flaw, is_full};
+use crate::keys::{kind_word, knows};
+use crate::network::Network;
+use crate::options::{OPTIONS, allows, is_name, needed, port_count, range_of};
+use flow_hints::{did_you_mean, quoted};
+use flow_link::{BlockKind, Place, PlanFault};
+use flow_places::Part;
+use flow_text::TextFault;
+use std::alloc::{AllocError, Global};
+
+/// The most blocks, and the most links.
+const MOST_BLOCKS: usize = 256;
+
+const MOST_LINKS: usize = 1_024;
+
+/// The blocks between which a link leads, as far as they are there.
+#[derive(Clone, Copy)]
+pub(crate) struct Ends {
+    pub(crate) source: Option<usize>,
+    pub(crate) target: Option<usize>,
+}
+
+/// Adds the flaws for which a network is no plan.
+pub(crate) fn add_plan_flaws(
+    alloc: Global,
+    network: Network<'_>,
+    flaws: &mut Vec<Flaw>,
+) -> Result<(), AllocError> {
+    if add_limit_flaws(alloc, network, flaws)? {
+        return Ok(());
+    }
+    let names = all_names(alloc, network)?;
+    for block in 0..network.block_count() {
+        add_double_name(alloc, network, &names, block, flaws)?;
+    }
+    let ends = all_ends(alloc, network, &names)?;
+    for (link, ends) in ends.iter().enumerate() {
+        add_unknown_blocks(alloc, network, &names, link, *ends, flaws)?;
+    }
+    for (link, ends) in ends.iter().enumerate() {
+        add_port_flaw(alloc, network, link, ends.target, flaws)?;
+    }
+    for (link, ends) in ends.iter().enumerate() {
+        add_no_output(alloc, network, link, ends.source, flaws)?;
+    }
+    add_all_options(alloc, network, flaws)?;
+    for block in 0..network.block_count() {
+        add_small_capacity(alloc, network, block, flaws)?;
+    }
+    add_circle(alloc, network, ends.as_slice(), flaws)
+}
+
+// Adds the names and options of blocks and links that are none, or are out of range.
+fn add_all_options(
+    alloc: Global,
+    network: Network<'_>,
+    flaws: &mut Vec<Flaw>,
+) -> Result<(), AllocError> {
+    for block in 0..network.block_count() {
+        add_bad_name(alloc, network, block, flaws)?;
+        add_option_flaws(alloc, network, block, flaws)?;
+    }
+    for link in 0..network.link_count() {
+        add_range_flaw(alloc, network, Part::Link(link), "max", flaws)?;
+    }
+    Ok(())
+}
+
+// Adds that there are too many blocks or links, and answers whether there are.
+fn add_limit_flaws(
+    alloc: Global,
+    network: Network<'_>,
+    flaws: &mut Vec<Flaw>,
+) -> Result<bool, AllocError> {
+    let blocks = network.block_count();
+    let links = network.link_count();
+    if blocks > MOST_BLOCKS {
+        let message = format!(in alloc; "there are {blocks} blocks, and {MOST_BLOCKS} at most.")?;
+        let span = network.span_of(Part::Block(MOST_BLOCKS));
+        add_flaw(flaws, TextFault::Plan(PlanFault::Limit), span, message)?;
+    }
+    if links > MOST_LINKS {
+        let message = format!(in alloc; "there are {links} links, and {MOST_LINKS} at most.")?;
+        let span = network.span_of(Part::Link(MOST_LINKS));
+        add_flaw(flaws, TextFault::Plan(PlanFault::Limit), span, message)?;
+    }
+    Ok(blocks > MOST_BLOCKS || links > MOST_LINKS)
+}
+
+fn bad_block(block: usize) -> TextFault {
+    TextFault::Plan(PlanFault::BadOption(Place::Block(block)))
+}
+
+// Adds that a name is there twice.
+fn add_double_name(
+    alloc: Global,
+    network: Network<'_>,
+    names: &[Option<&str>],
+    block: usize,
+    flaws: &mut Vec<Flaw>,
+) -> Result<(), AllocError> {
+    let Some(name) = network.name_of(block) else {
+        return Ok(());
+    };
+    let other = named(names, name).unwrap_or(block);
+    if other >= block {
+        return Ok(());
+    }
+    let shown = quoted(alloc, name)?;
+    let message = format!(in alloc; "block {block} is named {shown}, as block {other} is.")?;
+    let fault = TextFault::Plan(PlanFault::DuplicateName(block));
+    let span = network.value_span(Part::Block(block), "name");
+    add_flaw(flaws, fault, span, message)
+}
+
+// Adds that a name is none.
+fn add_bad_name(
+    alloc: Global,
+    network: Network<'_>,
+    block: usize,
+    flaws: &mut Vec<Flaw>,
+) -> Result<(), AllocError> {
+    let Some(name) = network.name_of(block) else {
+        return Ok(());
+    };
+    if is_name(name) {
+        return Ok(());
+    }
+    let shown = quoted(alloc, name)?;
+    let message = format!(in alloc;
+        "{shown} is no name: a name has 1 to 64 letters, digits, \"_\", \"-\" and \".\"."
+    )?;
+    let span = network.value_span(Part::Block(block), "name");
+    add_flaw(flaws, bad_block(block), span, message)
+}
+
+// The first block that has this name.
+fn named(names: &[Option<&str>], name: &str) -> Option<usize> {
+    names.iter().position(|other| *other == Some(name))
+}
+
+// Adds the options that a block has and its kind has not, that it lacks, and that are out of range.
+fn add_option_flaws(
+    alloc: Global,
+    network: Network<'_>,
+    block: usize,
+    flaws: &mut Vec<Flaw>,
+) -> Result<(), AllocError> {
+    let Some(kind) = network.kind_of(block) else {
+        return Ok(());
+    };
+    for option in OPTIONS {
+        add_option_flaw(alloc, network, block, kind, option, flaws)?;
+    }
+    add_needed(alloc, network, block, kind, flaws)
+}
+
+fn add_option_flaw(
+    alloc: Global,
+    network: Network<'_>,
+    block: usize,
+    kind: BlockKind,
+    option: &str,
+    flaws: &mut Vec<Flaw>,
+) -> Result<(), AllocError> {
+    let part = Part::Block(block);
+    if !has_option(network, part, option) {
+        return Ok(());
+    }
+    if allows(kind, option) {
+        return add_range_flaw(alloc, network, part, option, flaws);
+    }
+    let title = network.title(alloc, part)?;
+    let kind = kind_word(kind);
+    let message = format!(in alloc; "{title} is {kind}, which has no {option:?}.")?;
+    add_flaw(
+        flaws,
+        bad_block(block),
+        network.key_span(part, option),
+        message,
+    )
+}
+
+// Whether a part has an option; an input that is false is none.
+fn has_option(network: Network<'_>, part: Part, option: &str) -> bool {
+    if option == "input" {
+        network.flag_at(part, option)
+    } else {
+        network.value(part, option).is_some()
+    }
+}
+
+// Adds that a block lacks what its kind needs, unless it has a key that may stand for it.
+fn add_needed(
+    alloc: Global,
+    network: Network<'_>,
+    block: usize,
+    kind: BlockKind,
+    flaws: &mut Vec<Flaw>,
+) -> Result<(), AllocError> {
+    let part = Part::Block(block);
+    let Some(option) = needed(kind) else {
+        return Ok(());
+    };
+    if has_option(network, part, option) || has_unknown_key(network, part) {
+        return Ok(());
+    }
+    let title = network.title(alloc, part)?;
+    let kind = kind_word(kind);
+    let message = format!(in alloc; "{title} is {kind}, and lacks {option:?}.")?;
+    add_flaw(flaws, bad_block(block), network.span_of(part), message)
+}
+
+fn has_unknown_key(network: Network<'_>, part: Part) -> bool {
+    match network.table(part) {
+        Some(table) => table.keys().any(|key| !knows(part, key.as_str())),
+        None => false,
+    }
+}
+
+// Adds that a number is out of the range of its option.
+fn add_range_flaw(
+    alloc: Global,
+    network: Network<'_>,
+    part: Part,
+    option: &str,
+    flaws: &mut Vec<Flaw>,
+) -> Result<(), AllocError> {
+    let Some((low, high)) = range_of(option) else {
+        return Ok(());
+    };
+    let Some(number) = network.count_at(part, option) else {
+        return Ok(());
+    };
+    let place = match part {
+        Part::Top => return Ok(()),
+        Part::Block(block) => Place::Block(block),
+        Part::Link(link) => Place::Link(link),
+    };
+    if low <= number && number <= high {
+        return Ok(());
+    }
+    let title = network.title(alloc, part)?;
+    let message = format!(in alloc;
+        "{option:?} of {title} is {number}, and is to be {low} to {high}."
+    )?;
+    let fault = TextFault::Plan(PlanFault::BadOption(place));
+    add_flaw(flaws, fault, network.value_span(part, option), message)
+}
+
+fn add_small_capacity(
+    alloc: Global,
+    network: Network<'_>,
+    block: usize,
+    flaws: &mut Vec<Flaw>,
+) -> Result<(), AllocError> {
+    let part = Part::Block(block);
+    let Some(BlockKind::Batch) = network.kind_of(block) else {
+        return Ok(());
+    };
+    let (Some(capacity), Some(size)) = (
+        network.count_at(part, "capacity"),
+        network.count_at(part, "size"),
+    ) else {
+        return Ok(());
+    };
+    if capacity >= size {
+        return Ok(());
+    }
+    let title = network.title(alloc, part)?;
+    let message = format!(in alloc;
+        "{title} has room for {capacity} messages, and its groups have {size}."
+    )?;
+    let fault = TextFault::Plan(PlanFault::CapacityBelowSize(block));
+    add_flaw(flaws, fault, network.value_span(part, "capacity"), message)
+}
+
+// The names of all blocks, in order, as far as they are texts.
+fn all_names<'t>(alloc: Global, network: Network<'t>) -> Result<Vec<Option<&'t str>>, AllocError> {
+    let mut names = Vec::new(alloc);
+    for block in 0..network.block_count() {
+        names.push(network.name_of(block))?;
+    }
+    Ok(names)
+}
+
+// The ends of all links.
+fn all_ends(
+    alloc: Global,
+    network: Network<'_>,
+    names: &[Option<&str>],
+) -> Result<Vec<Ends>, AllocError> {
+    let mut all = Vec::new(alloc);
+    for link in 0..network.link_count() {
+        all.push(Ends {
+            source: end_of(network, names, link, "from"),
+            target: end_of(network, names, link, "to"),
+        })?;
+    }
+    Ok(all)
+}
+
+fn end_of(network: Network<'_>, names: &[Option<&str>], link: usize, end: &str) -> Option<usize> {
+    named(names, network.text_at(Part::Link(link), end)?)
+}
+
+// Adds that a link names no block.
+fn add_unknown_blocks(
+    alloc: Global,
+    network: Network<'_>,
+    names: &[Option<&str>],
+    link: usize,
+    ends: Ends,
+    flaws: &mut Vec<Flaw>,
+) -> Result<(), AllocError> {
+    if ends.source.is_none() {
+        add_unknown_block(alloc, network, names, link, "from", flaws)?;
+    }
+    if ends.target.is_none() {
+        add_unknown_block(alloc, network, names, link, "to", flaws)?;
+    }
+    Ok(())
+}
+
+// Adds that a link leaves a block that gives nothing.
+fn add_no_output(
+    alloc: Global,
+    network: Network<'_>,
+    link: usize,
+    source: Option<usize>,
+    flaws: &mut Vec<Flaw>,
+) -> Result<(), AllocError> {
+    let Some(source) = source else {
+        return Ok(());
+    };
+    let Some(BlockKind::Action) = network.kind_of(source) else {
+        return Ok(());
+    };
+    let title = network.title(alloc, Part::Block(source))?;
+    let message = format!(in alloc;
+        "link {link} comes from {title}, which is an action and gives nothing."
+    )?;
+    let fault = TextFault::Plan(PlanFault::NoOutput(link));
+    let span = network.value_span(Part::Link(link), "from");
+    add_flaw(flaws, fault, span, message)
+}
+
+fn add_unknown_block(
+    alloc: Global,
+    network: Network<'_>,
+    names: &[Option<&str>],
+    link: usize,
+    end: &str,
+    flaws: &mut Vec<Flaw>,
+) -> Result<(), AllocError> {
+    let part = Part::Link(link);
+    let Some(name) = network.text_at(part, end) else {
+        return Ok(());
+    };
+    // a block without a name may be the one that is meant
+    if is_full(flaws) || names.iter().any(|other| other.is_none()) {
+        return Ok(());
+    }
+    let shown = quoted(alloc, name)?;
+    let known = known_names(alloc, names)?;
+    let near = did_you_mean(alloc, name, known.as_slice())?;
+    let message = if end == "from" {
+        format!(in alloc; "link {link} comes from {shown}, and no block has that name.{near}")?
+    } else {
+        format!(in alloc; "link {link} leads to {shown}, and no block has that name.{near}")?
+    };
+    let fault = TextFault::Plan(PlanFault::UnknownBlock(link));
+    add_flaw(flaws, fault, network.value_span(part, end), message)
+}
+
+fn known_names<'t>(alloc: Global, names: &[Option<&'t str>]) -> Result<Vec<&'t str>, AllocError> {
+    let mut known = Vec::new(alloc);
+    for name in names {
+        if let Some(name) = name {
+            known.push(*name)?;
+        }
+    }
+    Ok(known)
+}
+
+fn add_port_flaw(
+    alloc: Global,
+    network: Network<'_>,
+    link: usize,
+    target: Option<usize>,
+    flaws: &mut Vec<Flaw>,
+) -> Result<(), AllocError> {
+    let part = Part::Link(link);
+    let Some(target) = target else {
+        return Ok(());
+    };
+    let Some(kind) = network.kind_of(target) else {
+        return Ok(());
+    };
+    let port = network.count_at(part, "port").unwrap_or(0);
+    let count = port_count(kind, network.count_at(Part::Block(target), "ports"));
+    if port < count {
+        return Ok(());
+    }
+    let title = network.title(alloc, Part::Block(target))?;
+    let message = match count.checked_sub(1) {
+        None => format!(in alloc;
+            "link {link} leads to port {port} of {title}, which has no port."
+        )?,
+        Some(0) => format!(in alloc;
+            "link {link} leads to port {port} of {title}, which has port 0 alone."
+        )?,
+        Some(last) => format!(in alloc;
+            "link {link} leads to port {port} of {title}, which has ports 0 to {last}."
+        )?,
+    };
+    let fault = TextFault::Plan(PlanFault::Port(link));
+    add_flaw(flaws, fault, network.value_span(part, "port"), message)
+}
+
+// Adds that links lead in a circle, at one of them.
+fn add_circle(
+    alloc: Global,
+    network: Network<'_>,
+    ends: &[Ends],
+    flaws: &mut Vec<Flaw>,
+) -> Result<(), AllocError> {
+    let links = circle(alloc, network.block_count(), ends)?;
+    let Some(first) = links.first() else {
+        return Ok(());
+    };
+    let mut way = String::new(alloc);
+    for link in links.iter() {
+        let from = network.text_at(Part::Link(*link), "from").unwrap_or("");
+        let shown = quoted(alloc, from)?;
+        way.push_str(shown.as_str())?;
+        way.push_str(" to ")?;
+    }
+    let from = network.text_at(Part::Link(*first), "from").unwrap_or("");
+    let start = quoted(alloc, from)?;
+    let message = format!(in alloc; "messages could go round for ever: {way}{start}.")?;
+    let fault = TextFault::Plan(PlanFault::Cycle);
+    add_flaw(flaws, fault, network.span_of(Part::Link(*first)), message)
+}

@@ -1,0 +1,239 @@
+//! Flaws of keys, and of the types of their values.
+use crate::finding::{Flaw, add_flaw, is_full};
+use crate::keys::{Form, KINDS, Key, key_names, keys_of, kind_named, knows, place_of, plural};
+use crate::network::Network;
+use flow_hints::{did_you_mean, nearest, quoted};
+use flow_places::Part;
+use flow_text::TextFault;
+use std::alloc::{AllocError, Global};
+use toml::Value;
+
+/// Adds the keys that this part has, and that such parts do not have.
+pub(crate) fn add_unknown_keys(
+    alloc: Global,
+    network: Network<'_>,
+    part: Part,
+    flaws: &mut Vec<Flaw>,
+) -> Result<(), AllocError> {
+    let Some(table) = network.table(part) else {
+        return Ok(());
+    };
+    for key in table.keys() {
+        if !knows(part, key.as_str()) && !is_full(flaws) {
+            add_unknown_key(alloc, network, part, key.as_str(), flaws)?;
+        }
+    }
+    Ok(())
+}
+
+fn add_unknown_key(
+    alloc: Global,
+    network: Network<'_>,
+    part: Part,
+    key: &str,
+    flaws: &mut Vec<Flaw>,
+) -> Result<(), AllocError> {
+    let title = network.title(alloc, part)?;
+    let name = quoted(alloc, key)?;
+    let plural = plural(part);
+    let hint = key_hint(alloc, part, key)?;
+    let message = format!(in alloc; "{title} has a key {name}, which {plural} do not have.{hint}")?;
+    let fault = TextFault::UnknownKey(place_of(part));
+    add_flaw(flaws, fault, network.key_span(part, key), message)
+}
+
+// What may have been meant by a key that a part does not have.
+fn key_hint(alloc: Global, part: Part, key: &str) -> Result<String, AllocError> {
+    if key == "greedy" || key == "ordered" || key == "groups" {
+        return String::from_str(alloc, " It is not built yet.");
+    }
+    let near = did_you_mean(alloc, key, key_names(part))?;
+    if !near.is_empty() {
+        return Ok(near);
+    }
+    let home = if knows(Part::Block(0), key) {
+        " It is a key of blocks."
+    } else if knows(Part::Link(0), key) {
+        " It is a key of links."
+    } else if knows(Part::Top, key) {
+        " It stands before the first block."
+    } else {
+        ""
+    };
+    String::from_str(alloc, home)
+}
+
+// Whether a part has a key that may be this one, and is told as unknown.
+fn is_misspelt(
+    alloc: Global,
+    network: Network<'_>,
+    part: Part,
+    key: &str,
+) -> Result<bool, AllocError> {
+    let Some(table) = network.table(part) else {
+        return Ok(false);
+    };
+    for other in table.keys() {
+        let other = other.as_str();
+        if !knows(part, other) && nearest(alloc, other, key_names(part))? == Some(key) {
+            return Ok(true);
+        }
+    }
+    Ok(false)
+}
+
+/// Adds the keys that this part lacks.
+pub(crate) fn add_missing_keys(
+    alloc: Global,
+    network: Network<'_>,
+    part: Part,
+    flaws: &mut Vec<Flaw>,
+) -> Result<(), AllocError> {
+    for key in keys_of(part) {
+        if key.is_required && network.value(part, key.name).is_none() {
+            add_missing(alloc, network, part, key, flaws)?;
+        }
+    }
+    Ok(())
+}
+
+// Adds a key that a part lacks, unless it is there in another spelling.
+fn add_missing(
+    alloc: Global,
+    network: Network<'_>,
+    part: Part,
+    key: &Key,
+    flaws: &mut Vec<Flaw>,
+) -> Result<(), AllocError> {
+    if is_full(flaws) || is_misspelt(alloc, network, part, key.name)? {
+        return Ok(());
+    }
+    let title = network.title(alloc, part)?;
+    let name = key.name;
+    let plural = plural(part);
+    let message = format!(in alloc; "{title} has no key {name:?}, which all {plural} have.")?;
+    let fault = TextFault::MissingKey(place_of(part));
+    add_flaw(flaws, fault, network.span_of(part), message)
+}
+
+/// Adds the values of this part that are not what their keys want.
+pub(crate) fn add_misfits(
+    alloc: Global,
+    network: Network<'_>,
+    part: Part,
+    flaws: &mut Vec<Flaw>,
+) -> Result<(), AllocError> {
+    for key in keys_of(part) {
+        if let Some(value) = network.value(part, key.name) {
+            add_misfit(alloc, network, part, key, value, flaws)?;
+        }
+    }
+    Ok(())
+}
+
+fn add_misfit(
+    alloc: Global,
+    network: Network<'_>,
+    part: Part,
+    key: &Key,
+    value: &Value,
+    flaws: &mut Vec<Flaw>,
+) -> Result<(), AllocError> {
+    if fits(key.form, value) || is_full(flaws) {
+        return Ok(());
+    }
+    let message = match value.as_str() {
+        Some(word) if key.form == Form::Kind => unknown_kind(alloc, word)?,
+        _ => misfit(alloc, network, part, key, value)?,
+    };
+    let span = match bad_item(key.form, value) {
+        Some(item) => network.item_span(alloc, part, key.name, item)?,
+        None => network.value_span(part, key.name),
+    };
+    add_flaw(flaws, TextFault::WrongType(place_of(part)), span, message)
+}
+
+// Whether a value is of this form.
+fn fits(form: Form, value: &Value) -> bool {
+    match form {
+        Form::Boolean => value.is_bool(),
+        Form::Integer => value.is_integer(),
+        Form::Count => is_count(value),
+        Form::Text => value.is_str(),
+        Form::Kind => match value.as_str() {
+            Some(word) => kind_named(word).is_some(),
+            None => false,
+        },
+        Form::Texts | Form::Tables => value.is_array() && bad_item(form, value).is_none(),
+    }
+}
+
+fn is_count(value: &Value) -> bool {
+    match value.as_integer() {
+        Some(number) => u32::try_from(number).is_ok(),
+        None => false,
+    }
+}
+
+// The number of the first item of an array that is not what items are to be.
+fn bad_item(form: Form, value: &Value) -> Option<usize> {
+    let items = value.as_array()?;
+    match form {
+        Form::Texts => items.iter().position(|item| !item.is_str()),
+        Form::Tables => items.iter().position(|item| !item.is_table()),
+        Form::Boolean | Form::Integer | Form::Count | Form::Text | Form::Kind => None,
+    }
+}
+
+fn unknown_kind(alloc: Global, word: &str) -> Result<String, AllocError> {
+    let name = quoted(alloc, word)?;
+    let near = did_you_mean(alloc, word, KINDS)?;
+    if near.is_empty() {
+        let kinds = KINDS.join(alloc, ", ")?;
+        return format!(in alloc; "{name} is no kind of block. The kinds are {kinds}.");
+    }
+    format!(in alloc; "{name} is no kind of block.{near}")
+}
+
+fn misfit(
+    alloc: Global,
+    network: Network<'_>,
+    part: Part,
+    key: &Key,
+    value: &Value,
+) -> Result<String, AllocError> {
+    let title = network.title(alloc, part)?;
+    let name = key.name;
+    let wanted = wanted(key);
+    let found = match bad_item(key.form, value) {
+        Some(item) => format!(in alloc; "has something else as item {item}")?,
+        None => found(alloc, value)?,
+    };
+    format!(in alloc; "{name:?} of {title} is to be {wanted}, and {found}.")
+}
+
+// What the value at a key is to be, in words.
+fn wanted(key: &Key) -> &'static str {
+    match key.form {
+        Form::Boolean => "true or false",
+        Form::Integer => "a whole number",
+        Form::Count => "a whole number from 0 to 4294967295",
+        Form::Text => "a text in quotes",
+        Form::Kind => "the word for a kind of block in quotes",
+        Form::Texts => "an array of texts in quotes",
+        Form::Tables => "an array of tables, each under a header in double brackets",
+    }
+}
+
+// What a value is, in words.
+fn found(alloc: Global, value: &Value) -> Result<String, AllocError> {
+    match value {
+        Value::Integer(number) => format!(in alloc; "is {number}"),
+        Value::String(_) => String::from_str(alloc, "is a text"),
+        Value::Float(_) => String::from_str(alloc, "is a number with a fraction"),
+        Value::Boolean(flag) => format!(in alloc; "is {flag}"),
+        Value::Datetime(_) => String::from_str(alloc, "is a date or a time"),
+        Value::Array(_) => String::from_str(alloc, "is an array"),
+        Value::Table(_) => String::from_str(alloc, "is a table"),
+    }
+}
