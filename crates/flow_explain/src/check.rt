@@ -1,8 +1,8 @@
 //! Checks a network and its records, and prints all that is to be said of them.
-ghost use Rattle.std.specs.Prelude.{IfOk};
+ghost use Rattle.std.specs.Prelude.{ℕ, List, IfOk};
 ghost use Rattle.flow_link.specs.Planned.{layout_of};
 ghost use Rattle.flow_text.specs.Records.{input_names};
-ghost use Rattle.flow_explain.specs.Answers.{IsVerdictOn, IsRecordsVerdict};
+ghost use Rattle.flow_explain.specs.Answers.{IsAnswerTo, IsVerdictOn, IsRecordsAnswer, IsRecordsVerdict};
 
 use crate::encoding::without_mark;
 use crate::explain::{Answer, explain_network};
@@ -37,7 +37,10 @@ pub fn check_network<W: Write>(
 ) -> io::Result<Verdict>
     ensures { IfOk result (IsVerdictOn source.entry.text.now) }
 {
-    let answer = explain_network(alloc, source.text).map_err(out_of_memory)?;
+    let answer = match explain_network(alloc, source.text) {
+        Ok(answer) => answer,
+        Err(error) => return Err(out_of_memory(error)),
+    };
     write_answer(alloc, source, &answer, style, out)?;
     Ok(verdict_of(&answer))
 }
@@ -54,7 +57,10 @@ pub fn check_records<W: Write>(
 ) -> io::Result<Verdict>
     ensures { IfOk result (IsRecordsVerdict (input_names (layout_of plan.now).blocks) source.entry.text.now) }
 {
-    let answer = explain_records(alloc, plan, source.text).map_err(out_of_memory)?;
+    let answer = match explain_records(alloc, plan, source.text) {
+        Ok(answer) => answer,
+        Err(error) => return Err(out_of_memory(error)),
+    };
     write_answer(alloc, source, &answer, style, out)?;
     Ok(verdict_of(&answer))
 }
@@ -77,7 +83,11 @@ pub fn check_both<W: Write>(
     }
 }
 
-fn verdict_of(answer: &Answer) -> Verdict {
+fn verdict_of(answer: &Answer) -> Verdict
+    ensures of_network { (text : List ℕ) → IsAnswerTo text answer.now → IsVerdictOn text result }
+    ensures of_records { (names : List (List ℕ)) (text : List ℕ) → IsRecordsAnswer names text answer.now
+        → IsRecordsVerdict names text result }
+{
     match answer {
         Answer::Accepted(_) => Verdict::Accepted,
         Answer::Refused(flaw, _) => Verdict::Refused(flaw.fault),

@@ -23,7 +23,10 @@ pub fn explain_records(alloc: Global, plan: &Plan<Steps>, text: &[u8]) -> Result
     ensures { IfOk result (IsRecordsAnswer (input_names (layout_of plan.now).blocks) text.now) }
 {
     match read_records(alloc, text, plan) {
-        Ok(_) => Ok(Answer::Accepted(record_warnings(alloc, without_mark(text))?)),
+        Ok(_posted) => {
+            let warnings = record_warnings(alloc, without_mark(text))?;
+            Ok(Answer::Accepted(warnings))
+        }
         Err(TextRefusal::Memory) => Err(AllocError),
         Err(TextRefusal::Fault(fault)) => {
             let (span, message) = cause_of(alloc, plan, without_mark(text), fault)?;
