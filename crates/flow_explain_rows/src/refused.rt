@@ -1,0 +1,367 @@
+//! Networks that are refused: each is explained by its fault, at the place where it stands.
+use crate::told::{check, first_flaw, is_flaw_at, lines_of, unmarked};
+use flow_places::line_of;
+use std::alloc::{AllocError, Global};
+use std::process::Abort;
+use std::test::Fail;
+
+/// A whole text, the line of its refusal, and the line of the text where the fault stands.
+const WHOLE: &[(&[u8], &str, usize)] = &[
+    (b"format", "1 Syntax", 1),
+    (b"format = 1\nformat = 1\nblock = []\n", "1 Syntax", 2),
+    (b"format = 1\nblock = []\n# \xff\n", "1 Syntax", 3),
+    (b"\xff", "1 Syntax", 1),
+    (b"format = 1\nblock = [", "1 Syntax", 2),
+    (b"format = 9223372036854775808\n", "1 Syntax", 1),
+    (b"format = 2\n[[block]\n", "1 Syntax", 2),
+    (b"\xef\xbbformat = 1\nblock = []\n", "1 Syntax", 1),
+    (b"", "3 MissingKey top", 1),
+    (b"block = 3\nstrange = 1\n", "3 MissingKey top", 1),
+    (b"format = \"1\"\nblock = []\n", "4 WrongType top", 1),
+    (b"format = 1.0\nblock = []\n", "4 WrongType top", 1),
+    (b"\n\nformat = true\nstrange = 1\n", "4 WrongType top", 3),
+    (b"format = 0\nstrange = 1\n", "7 BadFormat", 1),
+    (b"format = 3\nblock = [{strange = 1}]\n", "7 BadFormat", 1),
+    (b"block = 3\n# one\nformat = -1\n", "7 BadFormat", 3),
+    (b"format = 4294967297\nblock = []\n", "7 BadFormat", 1),
+    (b"\xef\xbb\xbf\nformat = 3\n", "7 BadFormat", 2),
+];
+
+/// In each row the line of a refusal, and a text without its first line, which names the format; ' ; ' stands for the
+/// end of a line. What the fault is about stands in double angles; where nothing does, it is the start of the text.
+const TEXTS: &str = r#"
+# Keys that there are not.
+2 UnknownKey top | block = [] ; <<exit>> = []
+2 UnknownKey top | block = [] ; <<Format>> = 1
+2 UnknownKey top | block = [] ; <<"">> = 1
+2 UnknownKey block 0 | block = [{name = "a", kind = "buffer", <<capasity>> = 1}]
+2 UnknownKey block 0 | block = [{<<sise>> = 1}]
+2 UnknownKey block 0 | block = [{<<port>> = 1}]
+2 UnknownKey block 0 | block = [{<<greedy>> = true}]
+2 UnknownKey block 0 | block = [{<<output>> = true}]
+2 UnknownKey block 2 | block = [{}, {}, {<<strange>> = 1}, {strange = 1}]
+2 UnknownKey link 0 | block = [] ; link = [{<<ports>> = 1}]
+2 UnknownKey link 1 | block = [] ; link = [{}, {<<strange>> = 1}]
+# Keys that are required.
+3 MissingKey top | # nothing else
+3 MissingKey top | link = []
+3 MissingKey block 0 | block = [<<{kind = "buffer"}>>, {name = "a", kind = "transfrom"}]
+3 MissingKey block 0 | block = [<<{name = "a"}>>]
+3 MissingKey block 1 | block = [{name = "a", kind = "buffer"}, <<{}>>]
+3 MissingKey link 0 | block = [] ; link = [<<{to = "a"}>>]
+3 MissingKey link 0 | block = [] ; link = [<<{from = "a"}>>]
+3 MissingKey link 0 | block = [] ; link = [<<{port = 0}>>]
+3 MissingKey link 1 | block = [] ; link = [{from = "a", to = "a"}, <<{}>>]
+# Values of other types.
+4 WrongType top | block = <<3>>
+4 WrongType top | block = <<"[]">>
+4 WrongType top | <<[block]>> ; name = "a" ; kind = "buffer"
+4 WrongType top | block = [<<1>>]
+4 WrongType top | block = [{name = "a", kind = "buffer"}, <<1>>]
+4 WrongType top | block = [] ; link = <<3>>
+4 WrongType top | block = [] ; link = [<<1>>]
+4 WrongType block 0 | block = [{name = <<1>>, kind = "buffer"}]
+4 WrongType block 0 | block = [{name = "a", kind = <<1>>}]
+4 WrongType block 0 | block = [{name = "a", kind = <<"Buffer">>}]
+4 WrongType block 0 | block = [{name = "a", kind = <<"transfrom">>}]
+4 WrongType block 0 | block = [{name = "a", kind = <<"writeonce">>}]
+4 WrongType block 0 | block = [{name = "a", kind = "buffer", input = <<"true">>}]
+4 WrongType block 0 | block = [{name = "a", kind = "action", work = <<"id">>}]
+4 WrongType block 0 | block = [{name = "a", kind = "action", work = ["id", <<2>>]}]
+4 WrongType link 0 | block = [] ; link = [{from = <<1>>, to = "a"}]
+4 WrongType link 0 | block = [] ; link = [{from = "a", to = <<0>>}]
+4 WrongType link 0 | block = [] ; link = [{from = "a", to = "b", propagate = <<"true">>}]
+4 WrongType link 1 | block = [] ; link = [{from = "a", to = "b"}, {from = "a", to = "b", propagate = <<1>>}]
+4 WrongType block 0 | block = [{name = "a", kind = "buffer", capacity = <<"1">>}]
+4 WrongType block 0 | block = [{name = "a", kind = "buffer", capacity = <<1.0>>}]
+4 WrongType block 0 | block = [{name = "a", kind = "buffer", capacity = <<-1>>}]
+4 WrongType block 0 | block = [{name = "a", kind = "buffer", capacity = <<4294967296>>}]
+4 WrongType block 0 | block = [{name = "a", kind = "action", work = [], lanes = <<4294967296>>}]
+4 WrongType block 0 | block = [{name = "a", kind = "batch", size = <<"1">>}]
+4 WrongType block 0 | block = [{name = "a", kind = "batch", size = <<-1>>}]
+4 WrongType link 0 | block = [] ; link = [{from = "a", to = "b", when = <<2>>}]
+4 WrongType link 0 | block = [] ; link = [{from = "a", to = "b", when = <<["even"]>>}]
+4 WrongType link 0 | block = [] ; link = [{from = "a", to = "b", max = <<true>>}]
+4 WrongType link 0 | block = [] ; link = [{from = "a", to = "b", max = <<-1>>}]
+4 WrongType link 0 | block = [] ; link = [{from = "a", to = "b", max = <<4294967296>>}]
+4 WrongType block 0 | block = [{name = "a", kind = "buffer", ports = <<-1>>}]
+4 WrongType link 0 | block = [] ; link = [{from = "a", to = "b", port = <<"0">>}]
+4 WrongType link 0 | block = [] ; link = [{from = "a", to = "b", port = <<4294967296>>}]
+# Predicates that there are not.
+6 BadWhen link 0 | block = [] ; link = [{from = "a", to = "b", when = <<"evn">>}]
+6 BadWhen link 0 | block = [] ; link = [{from = "a", to = "b", when = <<"">>}]
+6 BadWhen link 1 | link = [{from = "a", to = "b", when = "eq -0"}, {from = "a", to = "b", when = <<"lt">>}] ; block = []
+# Blocks that are in no plan.
+8 Plan 2 DuplicateName block 1 | block = [{name = "a", kind = "buffer"}, {name = <<"a">>, kind = "buffer"}]
+8 Plan 6 BadOption block 0 | block = [<<{name = "a", kind = "action"}>>]
+8 Plan 6 BadOption block 0 | block = [<<{name = "a", kind = "transform"}>>]
+8 Plan 6 BadOption block 0 | block = [<<{name = "a", kind = "transform_many"}>>]
+8 Plan 6 BadOption block 0 | block = [{name = "a", kind = "buffer", <<work>> = []}]
+8 Plan 6 BadOption block 1 | block = [{name = "a", kind = "buffer"}, {name = <<"">>, kind = "buffer"}]
+8 Plan 6 BadOption block 0 | block = [{name = <<"a b">>, kind = "buffer"}]
+8 Plan 6 BadOption block 0 | block = [{name = <<"\u00e9">>, kind = "buffer"}]
+8 Plan 6 BadOption block 0 | block = [{name = "a", kind = "buffer", capacity = <<0>>}]
+8 Plan 6 BadOption block 0 | block = [{name = "a", kind = "buffer", capacity = <<2147483648>>}]
+8 Plan 6 BadOption block 0 | block = [{name = "a", kind = "buffer", capacity = <<4294967295>>}]
+8 Plan 6 BadOption block 0 | block = [{name = "a", kind = "buffer", <<lanes>> = 1}]
+8 Plan 6 BadOption block 0 | block = [{name = "a", kind = "buffer", <<ports>> = 1}]
+8 Plan 6 BadOption block 0 | block = [{name = "a", kind = "broadcast", <<work>> = []}]
+8 Plan 6 BadOption block 0 | block = [{name = "a", kind = "write_once", <<capacity>> = 1}]
+8 Plan 6 BadOption block 0 | block = [{name = "a", kind = "broadcast", capacity = <<0>>}]
+8 Plan 4 Port link 0 | block = [{name = "a", kind = "buffer"}, {name = "b", kind = "broadcast"}] ; link = [{from = "a", to = "b", port = <<1>>}]
+8 Plan 6 BadOption block 0 | block = [{name = "a", kind = "action", work = [], lanes = <<0>>}]
+8 Plan 6 BadOption block 0 | block = [{name = "a", kind = "action", work = [], lanes = <<17>>}]
+# Batches without a size, with a size out of range, and with less room than one.
+8 Plan 6 BadOption block 0 | block = [<<{name = "a", kind = "batch"}>>]
+8 Plan 6 BadOption block 0 | block = [{name = "a", kind = "batch", size = <<4097>>}]
+8 Plan 6 BadOption block 0 | block = [{name = "a", kind = "batch", size = 1, <<work>> = []}]
+8 Plan 6 BadOption block 0 | block = [{name = "a", kind = "batch", size = 1, <<lanes>> = 1}]
+8 Plan 6 BadOption block 0 | block = [{name = "a", kind = "buffer", <<size>> = 1}]
+8 Plan 6 BadOption block 0 | block = [{name = "a", kind = "transform_many", work = [], <<size>> = 1}]
+8 Plan 6 BadOption block 2 | block = [{name = "in", kind = "buffer", input = true}, {name = "t", kind = "transform", work = ["int"]}, {name = "b", kind = "batch", size = <<0>>}, {name = "out", kind = "action", work = []}]
+8 Plan 7 CapacityBelowSize block 2 | block = [{name = "in", kind = "buffer", input = true}, {name = "t", kind = "transform", work = ["int"]}, {name = "b", kind = "batch", size = 3, capacity = <<2>>}, {name = "out", kind = "action", work = []}]
+8 Plan 6 BadOption block 1 | block = [{name = "a", kind = "batch", size = 3, capacity = 2}, <<{name = "b", kind = "batch"}>>]
+# Links that are in no plan. Only the first port is there.
+8 Plan 4 Port link 0 | block = [{name = "a", kind = "buffer"}, {name = "b", kind = "buffer"}] ; link = [{from = "a", to = "b", port = <<1>>}]
+8 Plan 4 Port link 1 | block = [{name = "a", kind = "buffer"}, {name = "b", kind = "buffer", ports = 2}] ; link = [{from = "a", to = "b", port = 0}, {from = "a", to = "b", port = <<1>>}]
+8 Plan 6 BadOption block 1 | block = [{name = "a", kind = "buffer"}, {name = "b", kind = "buffer", <<ports>> = 2}] ; link = [{from = "a", to = "b", port = 0}]
+8 Plan 6 BadOption link 0 | block = [{name = "a", kind = "buffer"}] ; link = [{from = "a", to = "a", max = <<0>>}]
+8 Plan 6 BadOption link 0 | block = [{name = "a", kind = "buffer"}] ; link = [{from = "a", to = "a", max = <<2147483648>>}]
+# With two faults the first in order counts.
+# An unknown key comes before one that is missing, wherever they stand.
+2 UnknownKey link 0 | block = [{}] ; link = [{<<strange>> = 1}]
+2 UnknownKey block 0 | block = [{<<strange>> = 1, name = 1, kind = 1}]
+# A missing key comes before a wrong type.
+3 MissingKey link 0 | block = [{name = 1, kind = "buffer"}] ; link = [<<{from = "a"}>>]
+3 MissingKey block 1 | block = [{name = "a", kind = "no"}, <<{}>>]
+3 MissingKey top | link = 3
+3 MissingKey block 0 | block = [<<{capacity = -1}>>]
+3 MissingKey link 0 | block = [] ; link = [<<{when = 2}>>]
+3 MissingKey link 0 | block = [] ; link = [<<{max = -1}>>]
+# A wrong type comes before a function that is none.
+4 WrongType link 0 | block = [{name = "a", kind = "action", work = ["no"]}] ; link = [{from = <<1>>, to = "a"}]
+4 WrongType block 1 | block = [{name = "a", kind = "action", work = ["no"]}, {name = "a", kind = <<"no">>}]
+4 WrongType block 0 | block = [{name = "a", kind = "action", work = ["no", <<1>>]}]
+# A wrong type comes before a predicate that is none.
+4 WrongType link 1 | block = [] ; link = [{from = "a", to = "b", when = "no"}, {from = "a", to = "b", max = <<-1>>}]
+# A function that is none comes before a predicate that is none.
+5 BadWork block 0 | block = [{name = "a", kind = "action", work = [<<"">>]}] ; link = [{from = "a", to = "b", when = "no"}]
+# A predicate that is none comes before what is wrong with the plan.
+6 BadWhen link 0 | block = [{name = "a", kind = "action"}] ; link = [{from = "a", to = "b", when = <<"no">>}]
+# What is read as it should be, in networks that are in no plan for another cause.
+8 Plan 2 DuplicateName block 1 | block = [{name = "a", kind = "buffer", capacity = 1}, {name = <<"a">>, kind = "buffer"}]
+8 Plan 3 UnknownBlock link 0 | block = [] ; link = [{from = <<"a">>, to = "b", when = "any"}]
+8 Plan 3 UnknownBlock link 0 | block = [] ; link = [{from = <<"a">>, to = "b", max = 4294967295}]
+# A function that is none comes before what is wrong with the plan, and is looked at where its kind has none too.
+5 BadWork block 1 | block = [{name = "a", kind = "buffer"}, {name = "a", kind = "buffer", work = [<<"no">>]}]
+5 BadWork block 0 | block = [{name = "a", kind = "action", work = [<<"no">>]}, {name = "b", kind = "action", work = ["no"]}]
+# Within a pass the top comes first, the blocks then, the links last.
+2 UnknownKey top | <<strange>> = 1 ; block = [{strange = 1}]
+2 UnknownKey block 1 | link = [{strange = 1}] ; block = [{}, {<<strange>> = 1}]
+3 MissingKey top | link = [{}]
+3 MissingKey block 1 | link = [{}] ; block = [{name = "a", kind = "buffer"}, <<{name = "a"}>>]
+4 WrongType top | link = [<<1>>] ; block = [{name = 1, kind = "buffer"}]
+4 WrongType block 0 | link = [{from = 1, to = 1}] ; block = [{name = <<1>>, kind = "buffer"}]
+# What is no array of tables is skipped until its type is looked at.
+4 WrongType top | block = [{strange = 1}, <<1>>]
+2 UnknownKey link 0 | block = [1, {strange = 1}] ; link = [{<<strange>> = 1}]
+4 WrongType top | block = [{}, <<1>>] ; link = [{from = "a", to = "a", propagate = 1}]
+"#;
+
+/// In each row what stands for the function of an action, with the text in it that is no step.
+const WORKS: &str = r#"
+[<<"addd 1">>]
+["int", <<"addd 1">>]
+["int", <<"">>]
+[<<"Int">>]
+[<<" int">>]
+[<<"int ">>]
+[<<"id 1">>]
+[<<"add">>]
+[<<"add ">>]
+[<<"add  1">>]
+[<<"add +1">>]
+[<<"add -">>]
+[<<"add 1.0">>]
+[<<"add 9223372036854775808">>]
+[<<"add -9223372036854775809">>]
+["id", 'id', <<"field">>, "int"]
+[<<"field -1">>]
+[<<'field 4096'>>]
+[<<"repeat -1">>]
+[<<"repeat 1001">>]
+["id","id","id","id","id","id","id","id","id","id","id","id","id","id","id","id",<<"id">>]
+"#;
+
+/// In each row the line of a refusal, and a network under headers, with what the fault is about in double angles.
+const HEADERS: &str = r#"
+2 UnknownKey block 0 | [[block]] ; name = "in" ; kind = "buffer" ; <<capasity>> = 3
+2 UnknownKey block 1 | [[block]] ; name = "in" ; kind = "buffer" ; [[ "block" ]] ; kind = "buffer" ; name = "out" ; <<"wrok">> = []
+2 UnknownKey link 1 | block = [] ; [[link]] ; from = "a" ; to = "b" ; [[link]] ; <<form>> = "a" ; to = "b"
+2 UnknownKey block 0 | [[block]] ; name = "in" ; kind = "buffer" ; <<more.of.it>> = 3
+2 UnknownKey block 0 | [[block]] ; name = "in" ; kind = "buffer" ; [<<block.more>>] ; of = 3
+2 UnknownKey top | block = [] ; [<<strange>>] ; of = 3
+2 UnknownKey top | block = [] ; [[<<strange.still>>]] ; of = 3
+2 UnknownKey top | block = [] ; <<blok.name>> = "a"
+3 MissingKey block 1 | [[block]] ; name = "in" ; kind = "buffer" ; <<[[block]]>> ; name = "out"
+3 MissingKey link 1 | block = [] ; [[link]] ; from = "a" ; to = "b" ; <<[[link]]>> ; to = "b"
+4 WrongType block 1 | [[block]] ; name = "in" ; kind = "buffer" ; [[block]] # another ; name = "t" ; kind = <<"transfrom">> # a word
+4 WrongType block 0 | [[block]] ; name = "in" ; kind = "buffer" ; capacity = <<-1>>
+4 WrongType block 0 | [[block]] ; name = "in" ; kind = "buffer" ; input = <<1979-05-27 07:32:00>>
+4 WrongType block 0 | [[block]] ; name = <<[["x]", 'y}'], {z = "{"}]>> ; kind = "buffer"
+4 WrongType top | [[block]] ; name = "in" ; kind = "buffer" ; <<[link]>> ; from = "in" ; to = "in"
+4 WrongType top | [[block]] ; name = "in" ; kind = "buffer" ; <<[[link.from]]>> ; to = "in"
+6 BadWhen link 0 | block = [] ; [[link]] ; from = "a" ; to = "b" ; when = <<'evn'>>
+8 Plan 2 DuplicateName block 1 | [[block]] ; name = "t" ; kind = "buffer" ; [[block]] ; name = <<"t">> ; kind = "buffer"
+8 Plan 3 UnknownBlock link 0 | [[block]] ; name = "out" ; kind = "buffer" ; [[link]] ; from = "out" ; to = <<"oot">>
+8 Plan 6 BadOption block 0 | [[block]] ; name = "t" ; kind = "buffer" ; <<work>> = [ ; "id" ]
+5 BadWork block 0 | [[block]] ; name = "t" ; kind = "action" ; work = [ # steps ] ; "id", # one, ; <<"repeat 1001">>, ; ]
+"#;
+
+/// Three buffers, an action and an input.
+const FIVE: &str = r#"block = [
+    {name = "a", kind = "buffer"}, {name = "b", kind = "buffer"}, {name = "c", kind = "buffer"},
+    {name = "out", kind = "action", work = []}, {name = "in", kind = "buffer", input = true},
+]"#;
+
+/// In each row the line of a refusal, links among those five, and the lines at one of which the fault is told: the
+/// header of the first link is line 7, that of the second line 11.
+const LINKS: &str = "
+8 Plan 3 UnknownBlock link 0 | no>b | 8
+8 Plan 3 UnknownBlock link 1 | a>b b>oot | 13
+8 Plan 5 NoOutput link 1 | a>b out>c | 12
+8 Plan 9 Cycle | a>b b>a | 7 11
+8 Plan 9 Cycle | b>b | 7
+8 Plan 9 Cycle | in>out c>a a>b b>c | 11 15 19
+8 Plan 3 UnknownBlock link 1 | out>b a>oot | 13
+8 Plan 5 NoOutput link 1 | a>in out>b | 12
+8 Plan 9 Cycle | a>b b>a c>b | 7 11
+";
+
+// Tests that the first flaw of a text has this fault and stands on one of these lines.
+fn is_told_on(
+    rt: &(impl Abort + Print),
+    alloc: Global,
+    text: &[u8],
+    line: &str,
+    wanted: &str,
+) -> Result<(), Fail> {
+    let (fault, span) = first_flaw(alloc, text)?;
+    let text = text.strip_prefix(b"\xef\xbb\xbf").unwrap_or(text);
+    let found = line_of(text, span.start).to_string(alloc)?;
+    check(
+        rt,
+        line,
+        fault.as_str() == line && wanted.split(" ").any(|one| one == found.as_str()),
+    );
+    Ok(())
+}
+
+#[test]
+fn whole_texts_are_told_on_their_lines(rt: HostRuntime) -> Result<(), Fail> {
+    for (text, line, wanted) in WHOLE {
+        let wanted = wanted.to_string(rt.alloc())?;
+        is_told_on(&rt, rt.alloc(), text, line, wanted.as_str())?;
+    }
+    Ok(())
+}
+
+// Tests each row of a table, in which the line of a refusal stands before what makes a marked text.
+fn check_rows(rt: &(impl Abort + Print), alloc: Global, table: &str) -> Result<(), Fail> {
+    for row in table.lines().skip(1) {
+        if row.starts_with("#") {
+            continue;
+        }
+        let (line, others) = row.split_once(" | ").ok_or("no row")?;
+        let marked = lines_of(alloc, others)?;
+        let (text, span) = unmarked(alloc, marked.as_str())?;
+        check(rt, row, is_flaw_at(alloc, text.as_bytes(), line, span)?);
+    }
+    Ok(())
+}
+
+#[test]
+fn faults_are_told_where_they_stand(rt: HostRuntime) -> Result<(), Fail> {
+    check_rows(&rt, rt.alloc(), TEXTS)
+}
+
+#[test]
+fn faults_under_headers_are_told_where_they_stand(rt: HostRuntime) -> Result<(), Fail> {
+    check_rows(&rt, rt.alloc(), HEADERS)
+}
+
+#[test]
+fn steps_that_there_are_not_are_told(rt: HostRuntime) -> Result<(), Fail> {
+    let alloc = rt.alloc();
+    for work in WORKS.lines().skip(1) {
+        let marked = format!(in alloc;
+            "format = 1\nblock = [{{name = \"a\", kind = \"action\", work = {work}}}]\n"
+        )?;
+        let (text, span) = unmarked(alloc, marked.as_str())?;
+        check(
+            &rt,
+            work,
+            is_flaw_at(alloc, text.as_bytes(), "5 BadWork block 0", span)?,
+        );
+    }
+    Ok(())
+}
+
+// The five blocks with these links, each written as `a>b`.
+fn linked(alloc: Global, links: &str) -> Result<String, Fail> {
+    let mut text = String::from_str(alloc, "format = 1\n")?;
+    text.push_str(FIVE)?;
+    for link in links.split(" ") {
+        let (from, to) = link.split_once(">").ok_or("no link")?;
+        let link = format!(in alloc; "\n\n[[link]]\nfrom = {from:?}\nto = {to:?}")?;
+        text.push_str(link.as_str())?;
+    }
+    Ok(text)
+}
+
+#[test]
+fn links_are_told_on_their_lines(rt: HostRuntime) -> Result<(), Fail> {
+    for row in LINKS.lines().skip(1) {
+        let (line, others) = row.split_once(" | ").ok_or("no row")?;
+        let (links, wanted) = others.split_once(" | ").ok_or("no line")?;
+        let text = linked(rt.alloc(), links)?;
+        is_told_on(&rt, rt.alloc(), text.as_bytes(), line, wanted)?;
+    }
+    Ok(())
+}
+
+/// So many buffers in a chain, so many links to no block, the line of the refusal, and the line of the text. A block is
+/// three lines, and so is a link; the first block begins on line 2.
+const LARGE: &[(usize, usize, &str, &str)] = &[
+    (257, 1, "8 Plan 1 Limit", "770"),
+    (1, 1_025, "8 Plan 1 Limit", "3077"),
+    (1, 1_024, "8 Plan 3 UnknownBlock link 0", "7"),
+    (256, 769, "8 Plan 3 UnknownBlock link 255", "1537"),
+    (256, 770, "8 Plan 1 Limit", "3842"),
+];
+
+fn large(alloc: Global, buffers: usize, strays: usize) -> Result<String, AllocError> {
+    let mut text = String::from_str(alloc, "format = 1\n")?;
+    for number in 0..buffers {
+        let block = format!(in alloc; "[[block]]\nname = \"b{number}\"\nkind = \"buffer\"\n")?;
+        text.push_str(block.as_str())?;
+    }
+    for number in 1..buffers {
+        let before = number.saturating_sub(1);
+        let link = format!(in alloc; "[[link]]\nfrom = \"b{before}\"\nto = \"b{number}\"\n")?;
+        text.push_str(link.as_str())?;
+    }
+    for _ in 0..strays {
+        text.push_str("[[link]]\nfrom = \"b0\"\nto = \"no\"\n")?;
+    }
+    Ok(text)
+}
+
+#[test]
+fn limits_are_told_at_what_is_too_much(rt: HostRuntime) -> Result<(), Fail> {
+    for (buffers, strays, line, wanted) in LARGE {
+        let text = large(rt.alloc(), *buffers, *strays)?;
+        is_told_on(&rt, rt.alloc(), text.as_bytes(), line, wanted)?;
+    }
+    Ok(())
+}

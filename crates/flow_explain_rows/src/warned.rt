@@ -1,0 +1,136 @@
+//! Networks that are accepted: what is told of them, each once.
+use crate::told::{begin_with, check, lines_of, printed};
+use flow_explain::{Style, Verdict};
+use std::test::Fail;
+
+/// A situation: its name, the lines of a network, between which ' ; ' stands, and how the warnings begin.
+///
+/// A block stands on each line from the third on, and behind a line that closes them and one that opens the links a link.
+const WARNED: &[(&str, &str, &[&str])] = &[
+    (
+        "a chain",
+        r#"block = [ ; {name = "in", kind = "buffer", input = true}, ; {name = "t", kind = "transform", work = ["int"]}, ; {name = "out", kind = "action", work = []}, ; ] ; link = [ ; {from = "in", to = "t", propagate = true}, ; {from = "t", to = "out", propagate = true}, ; ]"#,
+        &[],
+    ),
+    (
+        "a block by itself",
+        r#"block = [ ; {name = "in", kind = "buffer", input = true}, ; {name = "lost", kind = "transform", work = ["id"]}, ; {name = "out", kind = "action", work = []}, ; ] ; link = [ ; {from = "in", to = "out", propagate = true}, ; ]"#,
+        &[
+            "net:4:1: warning: nothing leads into block 1 \"lost\": it is no input",
+            "net:4:1: warning: nothing leads out of block 1 \"lost\": what it makes stays",
+        ],
+    ),
+    (
+        "a copy that goes nowhere",
+        r#"block = [ ; {name = "in", kind = "buffer", input = true}, ; {name = "all", kind = "broadcast"}, ; ] ; link = [ ; {from = "in", to = "all", propagate = true}, ; ]"#,
+        &["net:4:1: warning: nothing leads out of block 1 \"all\": what it takes goes nowhere"],
+    ),
+    (
+        "no end is handed on",
+        r#"block = [ ; {name = "in", kind = "buffer", input = true}, ; {name = "out", kind = "action", work = []}, ; ] ; link = [ ; {from = "in", to = "out"}, ; ]"#,
+        &["net:7:1: warning: no link hands its end on to block 1 \"out\""],
+    ),
+    (
+        "an end that may be cut",
+        r#"block = [ ; {name = "in", kind = "buffer", input = true}, ; {name = "out", kind = "action", work = []}, ; ] ; link = [ ; {from = "in", to = "out", propagate = true, max = 2}, ; ]"#,
+        &[
+            "net:7:51: warning: the end is handed on to block 1 \"out\" only over a link with \"max\"",
+        ],
+    ),
+    (
+        "an end over one of two links",
+        r#"block = [ ; {name = "in", kind = "buffer", input = true}, ; {name = "out", kind = "action", work = []}, ; ] ; link = [ ; {from = "in", to = "out", max = 2}, ; {from = "in", to = "out", propagate = true}, ; ]"#,
+        &[],
+    ),
+    (
+        "predicates with a gap",
+        r#"block = [ ; {name = "in", kind = "buffer", input = true}, ; {name = "t", kind = "transform", work = ["int"]}, ; {name = "out", kind = "action", work = []}, ; {name = "other", kind = "action", work = []}, ; ] ; link = [ ; {from = "in", to = "t", propagate = true}, ; {from = "t", to = "out", propagate = true, when = "lt 3"}, ; {from = "t", to = "other", propagate = true, when = "ge 5"}, ; ]"#,
+        &["net:10:51: warning: each link out of block 1 \"t\" has a \"when\""],
+    ),
+    (
+        "predicates without a gap",
+        r#"block = [ ; {name = "in", kind = "buffer", input = true}, ; {name = "t", kind = "transform", work = ["int"]}, ; {name = "out", kind = "action", work = []}, ; {name = "other", kind = "action", work = []}, ; ] ; link = [ ; {from = "in", to = "t", propagate = true}, ; {from = "t", to = "out", propagate = true, when = "lt 5"}, ; {from = "t", to = "other", propagate = true, when = "ge 3"}, ; ]"#,
+        &[],
+    ),
+    (
+        "even and odd",
+        r#"block = [ ; {name = "in", kind = "buffer", input = true}, ; {name = "t", kind = "transform", work = ["int"]}, ; {name = "out", kind = "action", work = []}, ; {name = "other", kind = "action", work = []}, ; ] ; link = [ ; {from = "in", to = "t", propagate = true}, ; {from = "t", to = "out", propagate = true, when = "odd"}, ; {from = "t", to = "other", propagate = true, when = "even"}, ; ]"#,
+        &[],
+    ),
+    (
+        "a predicate on texts",
+        r#"block = [ ; {name = "in", kind = "buffer", input = true}, ; {name = "out", kind = "action", work = []}, ; {name = "other", kind = "action", work = []}, ; ] ; link = [ ; {from = "in", to = "out", propagate = true, when = "even"}, ; {from = "in", to = "other", propagate = true}, ; ]"#,
+        &[
+            "net:8:52: warning: nothing crosses link 0: its \"when\" admits numbers alone, and block 0 \"in\" gives texts.",
+        ],
+    ),
+    (
+        "a predicate on rows",
+        r#"block = [ ; {name = "in", kind = "buffer", input = true}, ; {name = "b", kind = "batch", size = 2}, ; {name = "out", kind = "action", work = []}, ; {name = "other", kind = "action", work = []}, ; ] ; link = [ ; {from = "in", to = "b", propagate = true}, ; {from = "b", to = "out", propagate = true, when = "even"}, ; {from = "b", to = "other", propagate = true}, ; ]"#,
+        &[
+            "net:10:51: warning: nothing crosses link 1: its \"when\" admits numbers alone, and block 1 \"b\" gives rows.",
+        ],
+    ),
+    (
+        "a link behind one that takes all",
+        r#"block = [ ; {name = "in", kind = "buffer", input = true}, ; {name = "out", kind = "action", work = []}, ; {name = "other", kind = "action", work = []}, ; ] ; link = [ ; {from = "in", to = "out", propagate = true}, ; {from = "in", to = "other", propagate = true}, ; ]"#,
+        &["net:9:1: warning: nothing crosses link 1 while link 0 is open"],
+    ),
+    (
+        "a link behind one with little room",
+        r#"block = [ ; {name = "in", kind = "buffer", input = true}, ; {name = "out", kind = "action", work = [], capacity = 1}, ; {name = "other", kind = "action", work = []}, ; ] ; link = [ ; {from = "in", to = "out", propagate = true}, ; {from = "in", to = "other", propagate = true}, ; ]"#,
+        &[],
+    ),
+    (
+        "links of a block that copies",
+        r#"block = [ ; {name = "in", kind = "buffer", input = true}, ; {name = "all", kind = "broadcast"}, ; {name = "out", kind = "action", work = []}, ; {name = "other", kind = "action", work = []}, ; ] ; link = [ ; {from = "in", to = "all", propagate = true}, ; {from = "all", to = "out", propagate = true}, ; {from = "all", to = "other", propagate = true}, ; ]"#,
+        &[],
+    ),
+    (
+        "a join of two inputs",
+        r#"block = [ ; {name = "in", kind = "buffer", input = true}, ; {name = "more", kind = "buffer", input = true}, ; {name = "j", kind = "join"}, ; {name = "out", kind = "action", work = []}, ; ] ; link = [ ; {from = "in", to = "j", propagate = true}, ; {from = "more", to = "j", port = 1}, ; {from = "j", to = "out", propagate = true}, ; ]"#,
+        &["net:5:1: warning: block 2 \"j\" matches by order"],
+    ),
+    (
+        "a join of one input",
+        r#"block = [ ; {name = "in", kind = "buffer", input = true}, ; {name = "all", kind = "broadcast"}, ; {name = "t", kind = "transform", work = ["int"]}, ; {name = "j", kind = "join"}, ; {name = "out", kind = "action", work = []}, ; ] ; link = [ ; {from = "in", to = "all", propagate = true}, ; {from = "all", to = "t", propagate = true}, ; {from = "t", to = "j", propagate = true}, ; {from = "all", to = "j", port = 1, propagate = true}, ; {from = "j", to = "out", propagate = true}, ; ]"#,
+        &[],
+    ),
+    (
+        "a port to which nothing leads",
+        r#"block = [ ; {name = "in", kind = "buffer", input = true}, ; {name = "more", kind = "buffer", input = true}, ; {name = "j", kind = "join", ports = 3}, ; {name = "out", kind = "action", work = []}, ; ] ; link = [ ; {from = "in", to = "j", propagate = true}, ; {from = "more", to = "j", port = 1}, ; {from = "j", to = "out", propagate = true}, ; ]"#,
+        &[
+            "net:5:1: warning: no link leads to port 2 of block 2 \"j\"",
+            "net:5:1: warning: block 2 \"j\" matches by order",
+        ],
+    ),
+    (
+        "an end at one port of two",
+        r#"block = [ ; {name = "in", kind = "buffer", input = true}, ; {name = "more", kind = "buffer", input = true}, ; {name = "j", kind = "batched_join", size = 2}, ; {name = "out", kind = "action", work = []}, ; ] ; link = [ ; {from = "in", to = "j", propagate = true}, ; {from = "more", to = "j", port = 1}, ; {from = "j", to = "out", propagate = true}, ; ]"#,
+        &["net:10:1: warning: no link hands its end on to block 2 \"j\""],
+    ),
+    (
+        "a step that faults at each message",
+        r#"block = [ ; {name = "in", kind = "buffer", input = true}, ; {name = "out", kind = "action", work = ["text", "add 1"]}, ; ] ; link = [ ; {from = "in", to = "out", propagate = true}, ; ]"#,
+        &["net:4:49: warning: step 1 of block 1 \"out\" faults at each message"],
+    ),
+    (
+        "the first alone",
+        r#"block = [ ; {name = "in", kind = "buffer", input = true}, ; {name = "first", kind = "write_once"}, ; {name = "out", kind = "action", work = []}, ; ] ; link = [ ; {from = "in", to = "first"}, ; {from = "first", to = "out", propagate = true}, ; ]"#,
+        &[],
+    ),
+];
+
+#[test]
+fn what_was_hardly_meant_is_told(rt: HostRuntime) -> Result<(), Fail> {
+    for (name, lines, wanted) in WARNED {
+        let text = lines_of(rt.alloc(), lines)?;
+        let (verdict, told) = printed(rt.alloc(), text.as_bytes(), Style::Short)?;
+        check(
+            &rt,
+            name,
+            verdict == Verdict::Accepted && begin_with(told.as_str(), wanted),
+        );
+    }
+    Ok(())
+}
