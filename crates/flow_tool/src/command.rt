@@ -15,6 +15,13 @@ status:
   2     wrong arguments, or an input that can't be read; standard error says why in a line
   4, 5  out of memory; a file or stream failed";
 
+const CHECK_EXAMPLE: &str = "\
+Of a network that is accepted it tells what surely leads to status 1 or never does what was meant. The status is 1 where the
+network or a record is refused.
+
+example:
+  bin/flow check network.toml records.csv";
+
 const DRAW_EXAMPLE: &str = "\
 With a report it tells what crossed each link, what is held and left, and how each block ended.
 
@@ -67,6 +74,7 @@ pub fn command_line<'a>(alloc: Global) -> Result<Command<'a>, AllocError> {
         .after_help(STATUSES)
         .disable_help_subcommand(true)
         .subcommand_required(true)
+        .subcommand(check(alloc)?)?
         .subcommand(draw(alloc)?)?
         .subcommand(why(alloc)?)?
         .subcommand(results(alloc)?)?
@@ -74,6 +82,22 @@ pub fn command_line<'a>(alloc: Global) -> Result<Command<'a>, AllocError> {
         .subcommand(sift(alloc)?)?
         .subcommand(split(alloc)?)?
         .subcommand(merge(alloc)?)
+}
+
+fn check<'a>(alloc: Global) -> Result<Command<'a>, AllocError> {
+    let records = Arg::new(alloc, "records")
+        .value_name("RECORDS")
+        .help("The file with records, or - for standard input");
+    let short = Arg::new(alloc, "short")
+        .long("short")
+        .action(ArgAction::SetTrue)
+        .help("Prints a line for each thing that it tells");
+    Command::new(alloc, "check")
+        .about("Tells what is wrong with a network and its records, and where")
+        .after_help(CHECK_EXAMPLE)
+        .arg(file(alloc, "network", "NET", NETWORK_HELP))?
+        .arg(records)?
+        .arg(short)
 }
 
 fn draw<'a>(alloc: Global) -> Result<Command<'a>, AllocError> {

@@ -1,6 +1,7 @@
 //! The program for people at a terminal: what is beside a run of `flow_run`, before it and after it.
 #![tactic(auto)]
 
+mod checking;
 mod command;
 mod files;
 mod output;
@@ -9,6 +10,7 @@ mod reports;
 mod sifting;
 mod stop;
 
+use crate::checking::check;
 use crate::command::command_line;
 use crate::parts::{merge, split};
 use crate::reports::{draw, results, trace, why};
@@ -80,6 +82,7 @@ fn dispatch<R: Files + Input + Print + Eprint + AllocGlobal>(
     coloured: bool,
 ) -> Result<u8, Stop> {
     match matches.subcommand() {
+        Some(("check", given)) => check(rt, given),
         Some(("draw", given)) => draw(rt, given, coloured),
         Some(("why", given)) => why(rt, given),
         Some(("results", given)) => results(rt, given),
