@@ -1,8 +1,8 @@
 //! Values, functions and predicates where no text reaches them, and each of their calls once.
 use crate::check::check;
 use flow_value::{
-    MAX_ID, MessageHeader, MessageStatus, Parcel, Row, Steps, StepsError, Text, Value, When, Work,
-    WorkFault,
+    MAX_ID, MessageHeader, MessageStatus, Parcel, Row, Runs, Steps, StepsError, Text, Value, When,
+    Work, WorkFault,
 };
 use flow_words::{atom, cells, row_of, values_of};
 use std::alloc::{AllocError, Global};
@@ -186,6 +186,25 @@ fn functions_are_copied(rt: HostRuntime) -> Result<(), Fail> {
     assert!(rt; Work::copy(&steps, rt.alloc())? == steps && other != steps);
     assert!(rt; steps.as_slice().len() == 2);
     Ok(())
+}
+
+/// Tests what a work makes of 1 on this thread, and that its copy makes the same.
+fn makes_two<W: Runs>(rt: &impl Abort, alloc: Global, work: &W) -> Result<(), Fail> {
+    let copy = work.copy_here(alloc)?;
+    assert!(rt; copy == *work);
+    for each in [work, &copy] {
+        match each.run_here(alloc, &Value::Int(1)) {
+            Ok(values) => assert!(rt; values.len() == 1 && values[0].as_int() == Some(2)),
+            Err(fault) => assert!(rt; fault == WorkFault::Memory),
+        }
+    }
+    Ok(())
+}
+
+#[test]
+fn functions_run_on_one_thread(rt: HostRuntime) -> Result<(), Fail> {
+    let steps = Steps::read(rt.alloc(), &["add 1"])?;
+    makes_two(&rt, rt.alloc(), &steps)
 }
 
 #[test]
