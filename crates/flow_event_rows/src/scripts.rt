@@ -12,7 +12,7 @@
 use flow_link::{Ending, LinkEnd, Move};
 use flow_net::Net;
 use flow_trial::{Asked, PAIR, Results, THREE, came_to, is_done, network, settles};
-use flow_value::{MessageHeader, Steps};
+use flow_value::{MessageHeader, Runs, Steps};
 use std::alloc::Global;
 use std::mem::swap;
 use std::process::Abort;
@@ -82,7 +82,10 @@ const BRING: &str = "link 2 offer #, link 2 want, link 2 give, link 2 open, link
 
 /// A network that is driven, one equal to it, and the results of both that did not come back.
 #[derive(Drop)]
-struct Stage {
+struct Stage
+where
+    Steps: Runs,
+{
     net: Net<Steps>,
     other: Net<Steps>,
     results: Results,

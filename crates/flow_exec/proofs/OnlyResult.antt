@@ -3,7 +3,7 @@ use Rattle.std.proofs.Common.{◌≡◌, ℕ, List, Result, ap, sym, subst, ◌�
 use Rattle.std.specs.Coded.{Coded-set, codes}
 use Rattle.flow_value.specs.contracts.value.Value as content
 use Rattle.flow_value.specs.declared.value.Value.{Value}
-use Rattle.flow_value.specs.declared.work.Work.{Ghosts}
+use Rattle.flow_value.specs.declared.work.Runs.{Ghosts}
 use Rattle.flow_exec.specs.Jobs.{work_in, kind_in, message_in}
 use Rattle.flow_exec.specs.Works.{results_by}
 use Rattle.flow_exec.specs.declared.job.Job.{Job}

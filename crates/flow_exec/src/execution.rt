@@ -18,7 +18,7 @@ use flow_block::{Answer, Block};
 use flow_intake::Intake;
 use flow_link::BlockKind;
 use flow_outlet::{LinkRule, OutletFault};
-use flow_value::{Value, Work};
+use flow_value::{Runs, Value};
 use std::alloc::{AllocError, Global};
 use std::collections::VecDeque;
 use std::marker::Model;
@@ -204,7 +204,7 @@ impl<W> Execution<W> {
 }
 
 // Its jobs.
-impl<W: Work> Execution<W> {
+impl<W: Runs> Execution<W> {
     ghost use Rattle.flow_exec.specs.Jobs.{work_in, kind_in, message_in, ticket_in};
     ghost use Rattle.flow_exec.specs.Results.{job_in};
     ghost use Rattle.flow_exec.specs.Execution.{IsNextJob, next_ticket, next_message, IsOwnJob, SameWork, with_block, begins_job, ends_own_job, lacks_job_ids};

@@ -6,18 +6,18 @@ ghost use Rattle.flow_exec.specs.Works.{results_by};
 use crate::job::Job;
 use crate::work::answer_of;
 use flow_block::Answer;
-use flow_value::Work;
+use flow_value::Runs;
 use std::alloc::Global;
 
 /// A job that was done: what came of its message.
 #[derive(Drop)]
-pub struct JobResult<W: Work> {
+pub struct JobResult<W: Runs> {
     job: Job<W>,
     answer: Answer,
     ghost made: { answer ≡ results_by (work_in job) (kind_in job) W.meaning (message_in job) },
 }
 
-impl<W: Work> Job<W> {
+impl<W: Runs> Job<W> {
     ghost use Rattle.flow_exec.specs.Results.{job_in};
 
     /// Works on the message. Where memory is out, the job comes back.
@@ -31,7 +31,7 @@ impl<W: Work> Job<W> {
     }
 }
 
-impl<W: Work> JobResult<W> {
+impl<W: Runs> JobResult<W> {
     ghost use Rattle.flow_exec.specs.Results.{job_in, IsOnly};
 
     /// The result of a job that gave this answer.

@@ -4,12 +4,12 @@ ghost use Rattle.flow_exec.specs.Works.{results_by};
 
 use flow_block::Answer;
 use flow_link::BlockKind;
-use flow_value::{Value, Work};
+use flow_value::{Runs, Value};
 use std::alloc::{AllocError, Global};
 
 /// What a block of this kind makes of a message by its work: its results, or the number of its fault. Without a work it
 /// is the message itself.
-pub fn answer_of<W: Work>(
+pub fn answer_of<W: Runs>(
     alloc: Global,
     kind: BlockKind,
     work: Option<&W>,
@@ -23,7 +23,7 @@ pub fn answer_of<W: Work>(
         values.push_reserved(message.copy(alloc)?);
         return Ok(Answer::shaped(kind, values));
     };
-    match work.run(alloc, message) {
+    match work.run_here(alloc, message) {
         Ok(values) => Ok(Answer::shaped(kind, values)),
         Err(fault) => match fault.number() {
             Some(number) => Ok(Answer::fault(number)),

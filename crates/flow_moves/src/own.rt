@@ -21,7 +21,7 @@ use flow_block::{Answer, Node};
 use flow_exec::answer_of;
 use flow_link::BlockKind;
 use flow_outlet::OutletFault;
-use flow_value::{Value, Work};
+use flow_value::{Runs, Value};
 use std::alloc::{AllocError, Global};
 
 impl Parts {
@@ -61,7 +61,7 @@ impl Parts {
 
     /// A block works at once on the message that waits longest, by this work: the job begins, and its result comes back.
     /// Where message ids are used up or memory is out, nothing has changed.
-    pub fn work<W: Work>(
+    pub fn work<W: Runs>(
         &mut self,
         alloc: Global,
         block: usize,
@@ -113,7 +113,7 @@ impl Parts {
 
     /// The message of a job of a block is worked on by this work, and the result comes back. Where message ids are used
     /// up or memory is out, nothing has changed.
-    pub fn finish_job<W: Work>(
+    pub fn finish_job<W: Runs>(
         &mut self,
         alloc: Global,
         block: usize,
@@ -206,7 +206,7 @@ fn make(node: &mut Node, alloc: Global) -> Result<(), OutletFault>
 /// A block works at once on the message that waits longest. Where message ids are used up or memory is out, nothing has
 /// changed.
 #[tactic(auto, using(crate::proofs::WorksAtOnce::worked_is, crate::proofs::WorksAtOnce::put_is))]
-fn work_at_once<W: Work>(
+fn work_at_once<W: Runs>(
     node: &mut Node,
     alloc: Global,
     work: Option<&W>,
@@ -243,7 +243,7 @@ fn work_at_once<W: Work>(
 
 /// The message of a job is worked on by this work, and the result comes back.
 #[tactic(auto, using(crate::proofs::WorksAtOnce::result_is))]
-fn finish_job<W: Work>(
+fn finish_job<W: Runs>(
     node: &mut Node,
     alloc: Global,
     ticket: u64,

@@ -14,7 +14,7 @@ ghost use Rattle.std.specs.Thread.{IsSend, IsSync};
 use crossbeam_channel::{Receiver, Sender, bounded};
 use flow_exec::{Job, JobResult};
 use flow_link::{BlockDef, Plan};
-use flow_value::Work;
+use flow_value::{Runs, Work};
 use std::alloc::{AllocError, Global};
 use std::hint::spin_loop;
 use std::sync::{Arc, Wait};
@@ -38,14 +38,14 @@ pub(crate) struct Task<W> {
 
 /// What came of a job of a block: nothing, where memory was out.
 #[derive(Drop)]
-pub(crate) struct Report<W: Work> {
+pub(crate) struct Report<W: Runs> {
     pub number: usize,
     pub done: Option<JobResult<W>>,
 }
 
 /// The driver's ends of the channels. The workers stop when it is dropped.
 #[derive(Drop)]
-pub(crate) struct Desk<W: Work> {
+pub(crate) struct Desk<W: Runs> {
     /// A share of the work of each block with several lanes, by the blocks' numbers.
     shares: Vec<Option<Arc<W, Global>>>,
     tasks: Sender<Task<W>>,

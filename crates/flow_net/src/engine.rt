@@ -21,7 +21,7 @@ use crate::posted::Settled;
 use flow_block::Route;
 use flow_link::{Move, Plan, step_of};
 use flow_moves::Parts;
-use flow_value::Work;
+use flow_value::Runs;
 use std::alloc::Global;
 
 /// A plan with what has become of its blocks and links, and where to look next.
@@ -35,7 +35,7 @@ pub(crate) struct Engine<W> {
     ghost routed: { routes.items ≡ map (route_of (layout_of plan)) (below (length (layout_of plan).links)) },
 }
 
-impl<W: Work> Engine<W> {
+impl<W: Runs> Engine<W> {
     /// Does an event that is due: a link's move.
     fn move_link(&mut self, alloc: Global, id: usize, next: &Move) -> Result<(), NetFault>
         requires kept { ∥ NetKeeps (layout_of self.old.plan) (works_of W.meaning (layout_of self.old.plan))

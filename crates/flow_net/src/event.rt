@@ -1,11 +1,11 @@
 //! What can happen next in a network: a move of a link, or what a block does by itself.
 use flow_exec::{Job, JobResult};
 use flow_link::Move;
-use flow_value::Work;
+use flow_value::Runs;
 
 /// One thing that can happen in a network with works of type `W`, at a link or at a block, by their numbers.
 #[derive(Drop)]
-pub enum Event<W: Work> {
+pub enum Event<W: Runs> {
     /// An end of this link makes a move.
     Link(usize, Move),
     /// This block, which has no function, makes its next outputs: a buffer hands a message on, a broadcast takes up an

@@ -25,9 +25,9 @@ use crate::fault::NetFault;
 use flow_block::{Block, Input, Route};
 use flow_link::{LinkId, Move};
 use flow_moves::is_of_source;
-use flow_value::{MAX_ID, Work};
+use flow_value::{MAX_ID, Runs};
 
-impl<W: Work> Engine<W> {
+impl<W: Runs> Engine<W> {
     /// The way of a link.
     pub(crate) fn route(&self, id: usize) -> &Route
         requires { id < length (layout_of self.now.plan).links }

@@ -20,11 +20,11 @@ use crate::due::Due;
 use crate::engine::Engine;
 use crate::fault::NetFault;
 use flow_exec::{Job, JobResult};
-use flow_value::Work;
+use flow_value::Runs;
 use std::alloc::{AllocError, Global};
 use std::sync::Arc;
 
-impl<W: Work> Engine<W> {
+impl<W: Runs> Engine<W> {
     /// Begins a job of a block, if it may.
     pub(crate) fn begin_job(&mut self, alloc: Global, number: usize) -> Result<Job<W>, NetFault>
         requires kept { ∥ NetKeeps (layout_of self.old.plan) (works_of W.meaning (layout_of self.old.plan))
@@ -57,7 +57,7 @@ impl<W: Work> Engine<W> {
             (option_map (λ work. arc_value work) work)) }
     {
         match self.plan.block(number).work {
-            Some(ref work) => Ok(Some(Arc::new(alloc, work.copy(alloc)?)?)),
+            Some(ref work) => Ok(Some(Arc::new(alloc, work.copy_here(alloc)?)?)),
             None => Ok(None),
         }
     }

@@ -17,7 +17,7 @@ use crate::posted::Posted;
 use flow_block::{Input, Node, Route, routes_of};
 use flow_link::{LinkState, Plan};
 use flow_moves::{Parts, lines_of, nodes_of};
-use flow_value::Work;
+use flow_value::Runs;
 use std::alloc::{AllocError, Global};
 
 /// All of a network but what is posted to it, with room for that.
@@ -30,7 +30,7 @@ struct Frame {
     agenda: Agenda,
 }
 
-impl<W: Work> Net<W> {
+impl<W: Runs> Net<W> {
     ghost use Rattle.flow_net.specs.Net.{layout_in, parts_of, run_of};
 
     /// A network in which nothing has happened, with these posted values and endings: one list for each block that is

@@ -17,7 +17,7 @@ use crate::posted::{Settled, State};
 use flow_block::Block;
 use flow_link::{Mark, Outcome, Plan};
 use flow_moves::shares_out;
-use flow_value::{Value, Work};
+use flow_value::{Runs, Value, Work};
 use std::alloc::Global;
 use std::collections::VecDeque;
 use std::slice::from_ref;
@@ -26,12 +26,12 @@ use std::thread::Threads;
 
 /// Blocks and links with what has become of them so far.
 #[derive(Drop)]
-pub struct Net<W: Work> {
+pub struct Net<W: Runs> {
     pub(crate) engine: Engine<W>,
     ghost kept: { ∥ NetKeeps (layout_of engine.plan) (works_of W.meaning (layout_of engine.plan)) engine.parts ∥₁ },
 }
 
-impl<W: Work> Net<W> {
+impl<W: Runs> Net<W> {
     ghost use Rattle.std.specs.Prelude.{◌≢◌, IsTrue, IfOk, IfErr, OnOk, OnErr, ◌↔◌, ◌<◌, ◌++◌, Ok, Err};
     ghost use Rattle.std.specs.Prelude.{true, false, [], length};
     ghost use Rattle.flow_link.specs.Lawful.{Lawful};
@@ -66,42 +66,6 @@ impl<W: Work> Net<W> {
         ensures same_inputs { (run_of W.meaning self.new).trace.inputs ≡ (run_of W.meaning self.old).trace.inputs }
     {
         self.engine.settle(alloc, limit)
-    }
-
-    /// The same as `settle`, by several threads: the calling one, and at most one fewer than there are workers.
-    ///
-    /// A block with several `lanes` (in .NET its `MaxDegreeOfParallelism`) works on up to so many messages at a time, each
-    /// in one of these threads; its results go on in the order of its messages. All that blocks with one lane do, and all
-    /// links, are the calling thread's, which runs jobs too before it waits for others. So workers above the lanes of all
-    /// blocks are not made use of.
-    ///
-    /// The threads are made for this call, and have ended when it returns, whatever comes of it: there is no
-    /// `TaskScheduler`, and nothing goes on behind the caller's back. Where no thread can be made, where there is no
-    /// memory for the crew, with no worker or one, and in a network without such blocks, the calling thread does all of it.
-    ///
-    /// Where the limit stops it, jobs may be out: their messages are in their blocks, and are worked on anew by the next
-    /// call of this or of `settle`.
-    pub fn settle_with<R: Threads + Wait + Sync>(
-        &mut self,
-        rt: &R,
-        alloc: Global,
-        workers: usize,
-        limit: u64,
-    ) -> Result<Settled, NetFault>
-        ensures same_plan { layout_in self.new ≡ layout_in self.old }
-        ensures settled { IfOk result (Settles (layout_in self.old) (works_of W.meaning (layout_in self.old)) limit
-            (parts_of self.old) (parts_of self.new)) }
-        ensures goes_on { GoesOn (layout_in self.old) (works_of W.meaning (layout_in self.old)) limit
-            (parts_of self.old) (parts_of self.new) }
-        ensures lawful { Lawful (run_of W.meaning self.new) }
-        ensures quiet { result ≡ Ok Settled.Quiet → Quiet (run_of W.meaning self.new) }
-        ensures at_rest { result ≡ Ok Settled.Quiet → AtRest (layout_in self.new) (parts_of self.new) }
-        ensures used_up { result ≡ Err Ids → NeedsId (layout_in self.new) (works_of W.meaning (layout_in self.new))
-            (parts_of self.new) }
-        ensures never { result ≢ Err NotEnabled }
-        ensures same_inputs { (run_of W.meaning self.new).trace.inputs ≡ (run_of W.meaning self.old).trace.inputs }
-    {
-        self.engine.settle_with(rt, alloc, workers, limit)
     }
 
     /// Does this event, if it may happen. Where a job begins, the answer is that job; of every other event it is that the
@@ -267,8 +231,57 @@ impl<W: Work> Net<W> {
     }
 }
 
+// What sends works to other threads.
+impl<W: Work> Net<W> {
+    ghost use Rattle.std.specs.Prelude.{◌≡◌, ◌≢◌, IfOk, Ok, Err};
+    ghost use Rattle.flow_link.specs.Lawful.{Lawful};
+    ghost use Rattle.flow_link.specs.Quiet.{Quiet};
+    ghost use Rattle.flow_core.specs.AtRest.{AtRest};
+    ghost use Rattle.flow_net.specs.Net.{layout_in, parts_of, run_of};
+    ghost use Rattle.flow_net.specs.Settles.{Settles, GoesOn};
+    ghost use Rattle.flow_net.specs.There.{NeedsId};
+    ghost use Rattle.flow_net.specs.declared.fault.NetFault.TheVariants.{NotEnabled, Ids};
+    ghost use Rattle.flow_net.specs.declared.posted.Settled.TheVariants as Settled;
+
+    /// The same as `settle`, by several threads: the calling one, and at most one fewer than there are workers.
+    ///
+    /// A block with several `lanes` (in .NET its `MaxDegreeOfParallelism`) works on up to so many messages at a time, each
+    /// in one of these threads; its results go on in the order of its messages. All that blocks with one lane do, and all
+    /// links, are the calling thread's, which runs jobs too before it waits for others. So workers above the lanes of all
+    /// blocks are not made use of.
+    ///
+    /// The threads are made for this call, and have ended when it returns, whatever comes of it: there is no
+    /// `TaskScheduler`, and nothing goes on behind the caller's back. Where no thread can be made, where there is no
+    /// memory for the crew, with no worker or one, and in a network without such blocks, the calling thread does all of it.
+    ///
+    /// Where the limit stops it, jobs may be out: their messages are in their blocks, and are worked on anew by the next
+    /// call of this or of `settle`.
+    pub fn settle_with<R: Threads + Wait + Sync>(
+        &mut self,
+        rt: &R,
+        alloc: Global,
+        workers: usize,
+        limit: u64,
+    ) -> Result<Settled, NetFault>
+        ensures same_plan { layout_in self.new ≡ layout_in self.old }
+        ensures settled { IfOk result (Settles (layout_in self.old) (works_of W.meaning (layout_in self.old)) limit
+            (parts_of self.old) (parts_of self.new)) }
+        ensures goes_on { GoesOn (layout_in self.old) (works_of W.meaning (layout_in self.old)) limit
+            (parts_of self.old) (parts_of self.new) }
+        ensures lawful { Lawful (run_of W.meaning self.new) }
+        ensures quiet { result ≡ Ok Settled.Quiet → Quiet (run_of W.meaning self.new) }
+        ensures at_rest { result ≡ Ok Settled.Quiet → AtRest (layout_in self.new) (parts_of self.new) }
+        ensures used_up { result ≡ Err Ids → NeedsId (layout_in self.new) (works_of W.meaning (layout_in self.new))
+            (parts_of self.new) }
+        ensures never { result ≢ Err NotEnabled }
+        ensures same_inputs { (run_of W.meaning self.new).trace.inputs ≡ (run_of W.meaning self.old).trace.inputs }
+    {
+        self.engine.settle_with(rt, alloc, workers, limit)
+    }
+}
+
 /// The event as a driver finds it; none where a job begins or its result comes back.
-fn due_of<W: Work>(event: &Event<W>) -> Option<Due>
+fn due_of<W: Runs>(event: &Event<W>) -> Option<Due>
     ensures same { IfSome result (λ due. net_event event.now ≡ event_of due) }
     ensures driven { IfSome result (λ due. IsOfJob event.now → ⊥) }
     ensures job { result ≡ None → IsOfJob event.now }

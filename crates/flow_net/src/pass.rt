@@ -18,7 +18,7 @@ use crate::due::Due;
 use crate::engine::Engine;
 use crate::fault::NetFault;
 use flow_link::Move;
-use flow_value::Work;
+use flow_value::Runs;
 use std::alloc::Global;
 
 /// The events of a message that goes over a link in one call: it is offered, wanted, given, opened and taken.
@@ -27,7 +27,7 @@ const PASS: u64 = 5;
 /// The events of a message that is worked on at once: the job begins, and its result comes back.
 const WORK: u64 = 2;
 
-impl<W: Work> Engine<W> {
+impl<W: Runs> Engine<W> {
     /// Goes on with the message that moved last, where it can. Answers how many events that took, of at most so many.
     pub(crate) fn carry_on(&mut self, alloc: Global, most: u64) -> Result<u64, NetFault>
         requires kept { ∥ NetKeeps (layout_of self.old.plan) (works_of W.meaning (layout_of self.old.plan))

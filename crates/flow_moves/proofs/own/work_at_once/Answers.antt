@@ -11,7 +11,7 @@ use Rattle.flow_moves.proofs.own.work_at_once.Goals as goal
 pub returns-in-Ok-into_made-clause-done : goal.returns-in-Ok-into_made-clause-done
 returns-in-Ok-into_made-clause-done g c =
     let node = c.args.node.now in
-    let result = results_by (option_map (λ (work : Bor g.row.W.Denot). work.now) c.args.work) node.block.kind g.W.Work.meaning in
+    let result = results_by (option_map (λ (work : Bor g.row.W.Denot). work.now) c.args.work) node.block.kind g.W.Runs.meaning in
     let message = c.in-Some.message.now in
     let items = c.waiting.ensures ∙ ap (λ (block : BlockState). (port_at 0 block).waiting) c.block-3.ensures in
     let held = front_held c.waiting.result.now.items (port_at 0 node.block).waiting message items c.in-Some.ensures.item.3.0 c.in-Some.ensures.lookup in
@@ -26,7 +26,7 @@ returns-in-Ok-into_made-clause-done g c =
 pub returns-in-Ok-into_made-clause-ids : goal.returns-in-Ok-into_made-clause-ids
 returns-in-Ok-into_made-clause-ids g c =
     let node = c.args.node.now in
-    let result = results_by (option_map (λ (work : Bor g.row.W.Denot). work.now) c.args.work) node.block.kind g.W.Work.meaning in
+    let result = results_by (option_map (λ (work : Bor g.row.W.Denot). work.now) c.args.work) node.block.kind g.W.Runs.meaning in
     let message = c.in-Some.message.now in
     let items = c.waiting.ensures ∙ ap (λ (block : BlockState). (port_at 0 block).waiting) c.block-3.ensures in
     let held = front_held c.waiting.result.now.items (port_at 0 node.block).waiting message items c.in-Some.ensures.item.3.0 c.in-Some.ensures.lookup in
@@ -41,7 +41,7 @@ returns-in-Ok-into_made-clause-ids g c =
 pub returns-in-Err-clause-ids : goal.returns-in-Err-clause-ids
 returns-in-Err-clause-ids g c =
     let node = c.args.node.now in
-    let result = results_by (option_map (λ (work : Bor g.row.W.Denot). work.now) c.args.work) node.block.kind g.W.Work.meaning in
+    let result = results_by (option_map (λ (work : Bor g.row.W.Denot). work.now) c.args.work) node.block.kind g.W.Runs.meaning in
     let message = c.in-Some.message.now in
     let items = c.waiting.ensures ∙ ap (λ (block : BlockState). (port_at 0 block).waiting) c.block-3.ensures in
     let held = front_held c.waiting.result.now.items (port_at 0 node.block).waiting message items c.in-Some.ensures.item.3.0 c.in-Some.ensures.lookup in
@@ -59,7 +59,7 @@ returns-in-Err-clause-ids g c =
 pub returns-in-Ok-into_made-clause-used_up : goal.returns-in-Ok-into_made-clause-used_up
 returns-in-Ok-into_made-clause-used_up g c =
     let node = c.args.node.now in
-    let result = results_by (option_map (λ (work : Bor g.row.W.Denot). work.now) c.args.work) node.block.kind g.W.Work.meaning in
+    let result = results_by (option_map (λ (work : Bor g.row.W.Denot). work.now) c.args.work) node.block.kind g.W.Runs.meaning in
     let message = c.in-Some.message.now in
     let items = c.waiting.ensures ∙ ap (λ (block : BlockState). (port_at 0 block).waiting) c.block-3.ensures in
     let held = front_held c.waiting.result.now.items (port_at 0 node.block).waiting message items c.in-Some.ensures.item.3.0 c.in-Some.ensures.lookup in

@@ -6,4 +6,4 @@ use Rattle.flow_net.proofs.engine.Engine.begin.Goals as goal
 pub returns-clause-done : goal.returns-clause-done
 returns-clause-done g c =
     let layout = layout_of c.args.self.now.plan in
-    c.in_ok-begin.ensures.done (block_makes layout (works_of g.W.Work.meaning layout) c.args.number)
+    c.in_ok-begin.ensures.done (block_makes layout (works_of g.W.Runs.meaning layout) c.args.number)

@@ -13,14 +13,14 @@ use Rattle.flow_net.proofs.engine.Engine.end.Goals as goal
 pub returns-in_ok-complete-in-Complete-clause-done : goal.returns-in_ok-complete-in-Complete-clause-done
 returns-in_ok-complete-in-Complete-clause-done g c =
     let layout = layout_of c.args.self.now.plan in
-    let meaning = works_of g.W.Work.meaning layout in
+    let meaning = works_of g.W.Runs.meaning layout in
     subst (λ (e : Due). c.complete.new.self ≡ after layout meaning (event_of e) c.args.self.now.parts) (sym c.in-Complete.is)
     (c.in_ok-complete-in-Complete.ensures.done (block_makes layout meaning c.in-Complete.number))
 
 pub returns-in_ok-fault-in-Fault-clause-done : goal.returns-in_ok-fault-in-Fault-clause-done
 returns-in_ok-fault-in-Fault-clause-done g c =
     let layout = layout_of c.args.self.now.plan in
-    let meaning = works_of g.W.Work.meaning layout in
+    let meaning = works_of g.W.Runs.meaning layout in
     let old = c.args.self.now.parts in
     let block_is = c.block.ensures ∙ ap (λ (node : NodeState). node.block) c.node.ensures in
     let would = ap next_fault (sym block_is) ∙ sym c.next_fault.ensures ∙ c.in-Some.is in
@@ -31,6 +31,6 @@ returns-in_ok-fault-in-Fault-clause-done g c =
 pub returns-in_ok-finish-in-Done-clause-done : goal.returns-in_ok-finish-in-Done-clause-done
 returns-in_ok-finish-in-Done-clause-done g c =
     let layout = layout_of c.args.self.now.plan in
-    let meaning = works_of g.W.Work.meaning layout in
+    let meaning = works_of g.W.Runs.meaning layout in
     subst (λ (e : Due). c.finish.new.self ≡ after layout meaning (event_of e) c.args.self.now.parts) (sym c.in-Done.is)
     (c.in_ok-finish-in-Done.ensures.done (block_makes layout meaning c.in-Done.number))

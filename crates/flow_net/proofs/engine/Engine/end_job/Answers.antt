@@ -25,7 +25,7 @@ end_job-requires-clause-alone g c =
     let now = c.args.self.now in
     let own = subst (λ (job : Job _). IsOwnJob g.W.PartialEq.eq (layout_of now.plan) now.parts c.args.number job)
     c.job.ensures (c.is_own_job.ensures.0 c.if-not-is_own_job.false) in
-    let planned = blocks_planned (layout_of now.plan) (works_of g.W.Work.meaning (layout_of now.plan)) now.parts
+    let planned = blocks_planned (layout_of now.plan) (works_of g.W.Runs.meaning (layout_of now.plan)) now.parts
     c.requires.kept c.args.number own.there in
     let block = (node_at now.parts c.args.number).block in
     let ticket = ticket_in (job_in c.args.done) in
@@ -36,7 +36,7 @@ end_job-requires-clause-works g c =
     let now = c.args.self.now in
     let own = subst (λ (job : Job _). IsOwnJob g.W.PartialEq.eq (layout_of now.plan) now.parts c.args.number job)
     c.job.ensures (c.is_own_job.ensures.0 c.if-not-is_own_job.false) in
-    let planned = blocks_planned (layout_of now.plan) (works_of g.W.Work.meaning (layout_of now.plan)) now.parts
+    let planned = blocks_planned (layout_of now.plan) (works_of g.W.Runs.meaning (layout_of now.plan)) now.parts
     c.requires.kept c.args.number own.there in
     let block = (node_at now.parts c.args.number).block in
     let ticket = ticket_in (job_in c.args.done) in
@@ -47,7 +47,7 @@ end_job-requires-clause-held g c =
     let now = c.args.self.now in
     let own = subst (λ (job : Job _). IsOwnJob g.W.PartialEq.eq (layout_of now.plan) now.parts c.args.number job)
     c.job.ensures (c.is_own_job.ensures.0 c.if-not-is_own_job.false) in
-    let planned = blocks_planned (layout_of now.plan) (works_of g.W.Work.meaning (layout_of now.plan)) now.parts
+    let planned = blocks_planned (layout_of now.plan) (works_of g.W.Runs.meaning (layout_of now.plan)) now.parts
     c.requires.kept c.args.number own.there in
     planned.begun
 
@@ -56,7 +56,7 @@ end_job-requires-clause-drained g c =
     let now = c.args.self.now in
     let own = subst (λ (job : Job _). IsOwnJob g.W.PartialEq.eq (layout_of now.plan) now.parts c.args.number job)
     c.job.ensures (c.is_own_job.ensures.0 c.if-not-is_own_job.false) in
-    let planned = blocks_planned (layout_of now.plan) (works_of g.W.Work.meaning (layout_of now.plan)) now.parts
+    let planned = blocks_planned (layout_of now.plan) (works_of g.W.Runs.meaning (layout_of now.plan)) now.parts
     c.requires.kept c.args.number own.there in
     planned.drained
 
@@ -66,9 +66,9 @@ returns-in-Ok-clause-done g c =
     let own = subst (λ (job : Job _). IsOwnJob g.W.PartialEq.eq (layout_of now.plan) now.parts c.args.number job)
     c.job.ensures (c.is_own_job.ensures.0 c.if-not-is_own_job.false) in
     let ticket_is = c.ticket-ticket.ensures ∙ ap ticket_in c.into_parts-job.ensures.job in
-    let works = g.met.W.Work g.world.𝓛 g.world.𝓜 g.world.𝓡 ((λ s x. x), (λ x. x), (λ x. x), λ x. x) in
+    let works = g.met.W.Runs in
     let answer = c.into_parts-job.result.1 in
-    returned_is_after g.W.Work.meaning g.W.PartialEq.eq works.same_meaning (layout_of now.plan) now.parts c.requires.kept
+    returned_is_after g.W.Runs.meaning g.W.PartialEq.eq works.same_meaning (layout_of now.plan) now.parts c.requires.kept
     c.args.number (job_in c.args.done) own answer c.end_job.new.self c.into_parts-job.ensures.answer
     (c.in-Ok.ensures.done
     ∙ ap (λ (ticket : ℕ). with_node c.args.number
@@ -80,10 +80,10 @@ returns-in-Ok-clause-may g c =
     let own = subst (λ (job : Job _). IsOwnJob g.W.PartialEq.eq (layout_of now.plan) now.parts c.args.number job)
     c.job.ensures (c.is_own_job.ensures.0 c.if-not-is_own_job.false) in
     let ticket_is = c.ticket-ticket.ensures ∙ ap ticket_in c.into_parts-job.ensures.job in
-    let works = g.met.W.Work g.world.𝓛 g.world.𝓜 g.world.𝓡 ((λ s x. x), (λ x. x), (λ x. x), λ x. x) in
+    let works = g.met.W.Runs in
     let answer = c.into_parts-job.result.1 in
     let block = (node_at now.parts c.args.number).block in
-    returned_may g.W.Work.meaning g.W.PartialEq.eq works.same_meaning (layout_of now.plan) now.parts c.requires.kept
+    returned_may g.W.Runs.meaning g.W.PartialEq.eq works.same_meaning (layout_of now.plan) now.parts c.requires.kept
     c.args.number (job_in c.args.done) own c.end_job.result (answer, Ids) answer _ c.into_parts-job.ensures.answer
     (subst (λ (ticket : ℕ). (c.end_job.result ≡ Err (answer, Ids)) ↔ (lacks_ids (put_by_job ticket answer block) block.exits ≡ true))
     ticket_is c.end_job.ensures.ids)
@@ -111,14 +111,14 @@ returns-in-Err-clause-used_up g c is_ids =
     let own = subst (λ (job : Job _). IsOwnJob g.W.PartialEq.eq (layout_of now.plan) now.parts c.args.number job)
     c.job.ensures (c.is_own_job.ensures.0 c.if-not-is_own_job.false) in
     let ticket_is = c.ticket-ticket.ensures ∙ ap ticket_in c.into_parts-job.ensures.job in
-    let works = g.met.W.Work g.world.𝓛 g.world.𝓜 g.world.𝓡 ((λ s x. x), (λ x. x), (λ x. x), λ x. x) in
+    let works = g.met.W.Runs in
     let answer = c.into_parts-job.result.1 in
     let block = (node_at now.parts c.args.number).block in
     let refused = subst (λ (made : Result (List Value) ℕ). c.end_job.result ≡ Err (made, c.in-Err.fault))
     c.in-Err.ensures.back c.in-Err.is in
     let refused_for_ids = subst (λ (fault : OutletFault). c.end_job.result ≡ Err (answer, fault))
     (ids_of_outlet c.in-Err.fault (sym c.from.ensures ∙ is_ids)) refused in
-    returned_lacks g.W.Work.meaning g.W.PartialEq.eq works.same_meaning (layout_of now.plan) now.parts c.requires.kept
+    returned_lacks g.W.Runs.meaning g.W.PartialEq.eq works.same_meaning (layout_of now.plan) now.parts c.requires.kept
     c.args.number (job_in c.args.done) own c.end_job.result (answer, Ids) answer c.into_parts-job.ensures.answer
     (subst (λ (ticket : ℕ). (c.end_job.result ≡ Err (answer, Ids)) ↔ (lacks_ids (put_by_job ticket answer block) block.exits ≡ true))
     ticket_is c.end_job.ensures.ids)
@@ -130,12 +130,12 @@ returns-in-Err-clause-ids g c is_memory =
     let own = subst (λ (job : Job _). IsOwnJob g.W.PartialEq.eq (layout_of now.plan) now.parts c.args.number job)
     c.job.ensures (c.is_own_job.ensures.0 c.if-not-is_own_job.false) in
     let ticket_is = c.ticket-ticket.ensures ∙ ap ticket_in c.into_parts-job.ensures.job in
-    let works = g.met.W.Work g.world.𝓛 g.world.𝓜 g.world.𝓡 ((λ s x. x), (λ x. x), (λ x. x), λ x. x) in
+    let works = g.met.W.Runs in
     let answer = c.into_parts-job.result.1 in
     let block = (node_at now.parts c.args.number).block in
     let refused = subst (λ (made : Result (List Value) ℕ). c.end_job.result ≡ Err (made, c.in-Err.fault))
     c.in-Err.ensures.back c.in-Err.is in
-    returned_has g.W.Work.meaning g.W.PartialEq.eq works.same_meaning (layout_of now.plan) now.parts c.requires.kept
+    returned_has g.W.Runs.meaning g.W.PartialEq.eq works.same_meaning (layout_of now.plan) now.parts c.requires.kept
     c.args.number (job_in c.args.done) own c.end_job.result (answer, Ids) (answer, c.in-Err.fault) answer c.into_parts-job.ensures.answer
     (subst (λ (ticket : ℕ). (c.end_job.result ≡ Err (answer, Ids)) ↔ (lacks_ids (put_by_job ticket answer block) block.exits ≡ true))
     ticket_is c.end_job.ensures.ids)

@@ -9,12 +9,12 @@ pub returns-then-is_due-clause-goes_on : goal.returns-then-is_due-clause-goes_on
 returns-then-is_due-clause-goes_on g c =
     let old = c.args.self.now in
     let layout = layout_of old.plan in
-    one_event_at_most layout (works_of g.W.Work.meaning layout) c.go.result (event_of c.args.event.now) old.parts
+    one_event_at_most layout (works_of g.W.Runs.meaning layout) c.go.result (event_of c.args.event.now) old.parts
     c.go.new.self.parts c.go.ensures.may c.go.ensures.done c.go.ensures.kept
 
 pub returns-then-is_due-clause-why : goal.returns-then-is_due-clause-why
 returns-then-is_due-clause-why g c =
     let old = c.args.self.now in
     let layout = layout_of old.plan in
-    enabled_refused layout (works_of g.W.Work.meaning layout) old.parts (event_of c.args.event.now) c.go.result
+    enabled_refused layout (works_of g.W.Runs.meaning layout) old.parts (event_of c.args.event.now) c.go.result
     (c.is_due.ensures.told.0 c.if-is_due.true) c.go.ensures.used_up (λ is. c.go.ensures.memory is c.requires.driven) c.go.ensures.never

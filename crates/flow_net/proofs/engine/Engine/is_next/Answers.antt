@@ -4,34 +4,34 @@ use Rattle.flow_net.proofs.engine.Engine.is_next.Goals as goal
 
 pub next_of_target-requires : goal.next_of_target-requires
 next_of_target-requires g c =
-    target_there g.W.Work.meaning c.args.self.now.plan c.args.self.now.parts c.requires.kept c.args.id
+    target_there g.W.Runs.meaning c.args.self.now.plan c.args.self.now.parts c.requires.kept c.args.id
     c.requires.known c.route-route.result.now c.route-route.ensures
 
 pub returns-then-not-is_of_source-clause-told : goal.returns-then-not-is_of_source-clause-told
 returns-then-not-is_of_source-clause-told g c =
-    target_told g.W.Work.meaning c.args.self.now.plan c.args.self.now.parts c.requires.kept c.args.id
+    target_told g.W.Runs.meaning c.args.self.now.plan c.args.self.now.parts c.requires.kept c.args.id
     c.requires.known c.route-route.result.now c.route-route.ensures
     c.next_of_target.result c.next_of_target.ensures c.args.next c.eq.result (search rules) (search rules) (search rules)
 
 pub lacks_id-requires : goal.lacks_id-requires
 lacks_id-requires g c =
-    source_there g.W.Work.meaning c.args.self.now.plan c.args.self.now.parts c.requires.kept c.args.id
+    source_there g.W.Runs.meaning c.args.self.now.plan c.args.self.now.parts c.requires.kept c.args.id
     c.requires.known c.route-route.result.now c.route-route.ensures
 
 pub returns-then-lacks_id-clause-told : goal.returns-then-lacks_id-clause-told
 returns-then-lacks_id-clause-told g c =
-    lacking_told g.W.Work.meaning c.args.self.now.plan c.args.self.now.parts c.requires.kept c.args.id
+    lacking_told g.W.Runs.meaning c.args.self.now.plan c.args.self.now.parts c.requires.kept c.args.id
     c.requires.known c.route-route.result.now c.route-route.ensures
     c.lacks_id.result c.lacks_id.ensures c.if-lacks_id.true c.args.next (search rules) c.has_header-has_header.ensures.id
 
 pub next_of_source-requires : goal.next_of_source-requires
 next_of_source-requires g c =
-    source_there g.W.Work.meaning c.args.self.now.plan c.args.self.now.parts c.requires.kept c.args.id
+    source_there g.W.Runs.meaning c.args.self.now.plan c.args.self.now.parts c.requires.kept c.args.id
     c.requires.known c.route-route.result.now c.route-route.ensures
 
 pub returns-clause-told : goal.returns-clause-told
 returns-clause-told g c =
-    source_told g.W.Work.meaning c.args.self.now.plan c.args.self.now.parts c.requires.kept c.args.id
+    source_told g.W.Runs.meaning c.args.self.now.plan c.args.self.now.parts c.requires.kept c.args.id
     c.requires.known c.route-route.result.now c.route-route.ensures
     c.lacks_id.result c.lacks_id.ensures c.if-lacks_id.false c.next_of_source.result c.next_of_source.ensures.next
     c.args.next c.eq-2.result (search rules) (search rules)

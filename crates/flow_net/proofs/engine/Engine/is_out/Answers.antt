@@ -11,7 +11,7 @@ use Rattle.flow_net.proofs.engine.Engine.is_out.Goals as goal
 pub job_message-requires-clause-ports : goal.job_message-requires-clause-ports
 job_message-requires-clause-ports g c =
     let now = c.args.self.now in
-    let planned = blocks_planned (layout_of now.plan) (works_of g.W.Work.meaning (layout_of now.plan)) now.parts
+    let planned = blocks_planned (layout_of now.plan) (works_of g.W.Runs.meaning (layout_of now.plan)) now.parts
     c.requires.kept c.args.number c.requires.known in
     let block_is = c.block-block.ensures ∙ ap (λ (node : NodeState). node.block) c.node.ensures in
     subst (λ (block : BlockState). 0 < length block.ports) (sym block_is) planned.some_port
@@ -19,7 +19,7 @@ job_message-requires-clause-ports g c =
 pub job_message-requires-clause-held : goal.job_message-requires-clause-held
 job_message-requires-clause-held g c =
     let now = c.args.self.now in
-    let planned = blocks_planned (layout_of now.plan) (works_of g.W.Work.meaning (layout_of now.plan)) now.parts
+    let planned = blocks_planned (layout_of now.plan) (works_of g.W.Runs.meaning (layout_of now.plan)) now.parts
     c.requires.kept c.args.number c.requires.known in
     let block_is = c.block-block.ensures ∙ ap (λ (node : NodeState). node.block) c.node.ensures in
     subst (λ (block : BlockState). length block.jobs.slots ≤ length (held_by block)) (sym block_is) planned.begun

@@ -9,7 +9,7 @@ use Rattle.flow_net.proofs.engine.Engine.job_of.Goals as goal
 pub begun_message-requires-clause-ports : goal.begun_message-requires-clause-ports
 begun_message-requires-clause-ports g c =
     let now = c.args.self.now in
-    let planned = blocks_planned (layout_of now.plan) (works_of g.W.Work.meaning (layout_of now.plan)) now.parts
+    let planned = blocks_planned (layout_of now.plan) (works_of g.W.Runs.meaning (layout_of now.plan)) now.parts
     c.requires.kept c.args.number c.requires.enabled.there in
     let block_is = c.block-block.ensures ∙ ap (λ (node : NodeState). node.block) c.node.ensures in
     subst (λ (block : BlockState). 0 < length block.ports) (sym block_is) planned.some_port

@@ -12,4 +12,4 @@ may_pass-requires g c =
     let now = c.args.self.now in
     let layout = layout_of now.plan in
     subst (λ (r : Route). IsThere now.parts c.args.id r) (sym c.route.ensures)
-    (links_there layout (works_of g.W.Work.meaning layout) now.parts c.requires.kept (plan_runs now.plan) c.args.id c.requires.known)
+    (links_there layout (works_of g.W.Runs.meaning layout) now.parts c.requires.kept (plan_runs now.plan) c.args.id c.requires.known)

@@ -24,7 +24,7 @@ move_along-requires-clause-there g c =
     let there = c.requires.due.enabled.there in
     subst (λ (r : Route). IsThere old.parts c.args.id r)
     (sym (c.index.ensures ∙ route_at layout old.routes.items old.routed c.args.id there _))
-    (links_there layout (works_of g.W.Work.meaning layout) old.parts c.requires.kept (plan_runs old.plan) c.args.id there)
+    (links_there layout (works_of g.W.Runs.meaning layout) old.parts c.requires.kept (plan_runs old.plan) c.args.id there)
 
 pub move_along-requires-clause-ready : goal.move_along-requires-clause-ready
 move_along-requires-clause-ready g c =
@@ -33,7 +33,7 @@ move_along-requires-clause-ready g c =
     let due = c.requires.due in
     subst (λ (r : Route). IsReady old.parts c.args.id r c.args.next.now)
     (sym (c.index.ensures ∙ route_at layout old.routes.items old.routed c.args.id due.enabled.there _))
-    (moves_ready layout (works_of g.W.Work.meaning layout) old.parts c.requires.kept (plan_runs old.plan) c.args.id
+    (moves_ready layout (works_of g.W.Runs.meaning layout) old.parts c.requires.kept (plan_runs old.plan) c.args.id
     c.args.next.now due.enabled due.id)
 
 pub returns-clause-done : goal.returns-clause-done
@@ -43,5 +43,5 @@ returns-clause-done g c =
     let way = c.index.ensures ∙ route_at layout old.routes.items old.routed c.args.id c.requires.due.enabled.there _ in
     let leads =
     ap (λ (phase : Phase). phase_after phase c.args.next.now) (sym c.phase.ensures) ∙ sym c.step_of.ensures ∙ c.in-Some.is in
-    moved_is_after layout (works_of g.W.Work.meaning layout) old.parts c.move_along.new.self c.args.id c.args.next.now
+    moved_is_after layout (works_of g.W.Runs.meaning layout) old.parts c.move_along.new.self c.args.id c.args.next.now
     c.in-Some.phase c.index.result.now way leads c.in_ok-move_along.ensures.done

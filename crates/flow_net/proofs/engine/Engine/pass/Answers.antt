@@ -25,7 +25,7 @@ pass-requires-clause-there g c =
     let there = c.requires.due.enabled.there in
     subst (λ (r : Route). IsThere old.parts c.args.id r)
     (sym (c.index-route.ensures ∙ route_at layout old.routes.items old.routed c.args.id there _))
-    (links_there layout (works_of g.W.Work.meaning layout) old.parts c.requires.kept (plan_runs old.plan) c.args.id there)
+    (links_there layout (works_of g.W.Runs.meaning layout) old.parts c.requires.kept (plan_runs old.plan) c.args.id there)
 
 pub pass-requires-clause-ready : goal.pass-requires-clause-ready
 pass-requires-clause-ready g c =
@@ -34,7 +34,7 @@ pass-requires-clause-ready g c =
     let due = c.requires.due in
     subst (λ (r : Route). SourceIsReady (Offer (id_next old.parts r.source r.source_place)) old.parts r.source r.source_place)
     (sym (c.index-route.ensures ∙ route_at layout old.routes.items old.routed c.args.id due.enabled.there _))
-    (moves_ready layout (works_of g.W.Work.meaning layout) old.parts c.requires.kept (plan_runs old.plan) c.args.id
+    (moves_ready layout (works_of g.W.Runs.meaning layout) old.parts c.requires.kept (plan_runs old.plan) c.args.id
     (Offer (next_id_of layout old.parts c.args.id)) due.enabled due.id)
 
 pub pass-requires-clause-passes : goal.pass-requires-clause-passes
@@ -48,7 +48,7 @@ pub returns-then-branch-clause-happened : goal.returns-then-branch-clause-happen
 returns-then-branch-clause-happened g c =
     let old = c.args.self.now in
     let layout = layout_of old.plan in
-    let works = works_of g.W.Work.meaning layout in
+    let works = works_of g.W.Runs.meaning layout in
     let makes = block_makes layout works in
     let found = c.index-route.result.now in
     let way = c.index-route.ensures ∙ route_at layout old.routes.items old.routed c.args.id c.requires.due.enabled.there _ in
@@ -62,7 +62,7 @@ pub returns-else-branch-clause-happened : goal.returns-else-branch-clause-happen
 returns-else-branch-clause-happened g c =
     let old = c.args.self.now in
     let layout = layout_of old.plan in
-    let works = works_of g.W.Work.meaning layout in
+    let works = works_of g.W.Runs.meaning layout in
     let makes = block_makes layout works in
     let found = c.index-route.result.now in
     let way = c.index-route.ensures ∙ route_at layout old.routes.items old.routed c.args.id c.requires.due.enabled.there _ in

@@ -15,7 +15,7 @@ overflow_cast-result g c =
     let block_is = c.block-block.ensures ∙ ap (λ (node : NodeState). node.block) c.node.ensures in
     let few : length c.block-block.result.now.ports ≤ 3 =
     subst (λ (block : BlockState). length block.ports ≤ 3) (sym block_is)
-    (few_ports now.plan (works_of g.W.Work.meaning (layout_of now.plan)) now.parts c.requires.kept c.args.number c.requires.known) in
+    (few_ports now.plan (works_of g.W.Runs.meaning (layout_of now.plan)) now.parts c.requires.kept c.args.number c.requires.known) in
     omega (arith, few, c.loop-port-test.true, c.port_count-port-end.ensures)
 
 pub loop-port-preserved : goal.loop-port-preserved

@@ -12,9 +12,9 @@ loop-rest-preserved-in-Some g c =
     let last = c.advance.new.self in
     let done = c.in_ok-rest-in-Some in
     let layout = layout_of before.plan in
-    let same = none_happened layout (works_of g.W.Work.meaning layout) c.in_ok-count.count before.parts c.carry_on.new.self.parts
+    let same = none_happened layout (works_of g.W.Runs.meaning layout) c.in_ok-count.count before.parts c.carry_on.new.self.parts
     c.in-0.is c.in_ok-count.ensures.happened in
-    rounds_more g.W.Work.meaning first.plan before.plan found.plan last.plan first.parts before.parts found.parts last.parts
+    rounds_more g.W.Runs.meaning first.plan before.plan found.plan last.plan first.parts before.parts found.parts last.parts
     c.args.limit c.loop-rest.rest done.field-0 c.loop-rest.invariant (c.next_event.ensures.same_plan ∙ c.carry_on.ensures.same_plan)
     (c.next_event.ensures.same_parts ∙ same) c.advance.ensures.same_plan done.ensures.within done.ensures.happened
 
@@ -23,6 +23,6 @@ loop-rest-preserved g c =
     let first = c.args.self.now in
     let before = c.loop-rest.self in
     let last = c.carry_on.new.self in
-    rounds_more g.W.Work.meaning first.plan before.plan before.plan last.plan first.parts before.parts before.parts last.parts
+    rounds_more g.W.Runs.meaning first.plan before.plan before.plan last.plan first.parts before.parts before.parts last.parts
     c.args.limit c.loop-rest.rest c.in_ok-count.count c.loop-rest.invariant refl refl c.carry_on.ensures.same_plan
     c.in_ok-count.ensures.within c.in_ok-count.ensures.happened

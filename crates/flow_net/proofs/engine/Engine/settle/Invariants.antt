@@ -9,7 +9,7 @@ use Rattle.flow_net.proofs.engine.Engine.settle.Given as goal
 abbrev pub invariant-loop-rest : goal.invariant-loop-rest
 invariant-loop-rest g l =
     let layout = layout_of l.initial.self.plan in
-    let meaning = works_of g.W.Work.meaning layout in
+    let meaning = works_of g.W.Runs.meaning layout in
     (l.self.plan ≡ l.initial.self.plan) × ∥ NetKeeps layout meaning l.self.parts ∥₁ × (l.rest ≤ l.initial.rest)
     × Happened layout meaning (l.initial.rest - l.rest) l.initial.self.parts l.self.parts
 

@@ -2,12 +2,14 @@ use Rattle.flow_net.proofs.KeptOn.{kept_by_plan}
 use Rattle.flow_net.proofs.RunsGoOn.{goes_on_by_plan, settled_by_plan}
 use Rattle.flow_net.proofs.engine.Engine.settle_with.Goals as goal
 
-pub settle-requires-clause-kept : goal.settle-requires-clause-kept
-settle-requires-clause-kept g c κs within =
+pub settle-requires : goal.settle-requires
+settle-requires g c =
     let start = c.args.self.now in
     let mid = c.work_with-done.new.self in
-    kept_by_plan g.W.Work.meaning start.plan mid.plan c.work_with-done.result start.parts mid.parts c.work_with-done.ensures.same_plan
-    c.work_with-done.ensures.happened c.requires.kept
+    record {
+      kept = kept_by_plan g.W.Work.meaning start.plan mid.plan c.work_with-done.result start.parts mid.parts
+          c.work_with-done.ensures.same_plan c.work_with-done.ensures.happened c.requires.kept;
+    }
 
 pub returns-clause-settled : goal.returns-clause-settled
 returns-clause-settled g c =

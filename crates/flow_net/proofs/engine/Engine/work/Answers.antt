@@ -7,16 +7,16 @@ use Rattle.flow_net.proofs.EventsDone.{worked_so}
 use Rattle.flow_net.proofs.engine.Engine.work.Goals as goal
 
 pub work-requires-clause-alone : goal.work-requires-clause-alone
-work-requires-clause-alone g c κs within =
+work-requires-clause-alone g c =
     let old = c.args.self.now in
     let layout = layout_of old.plan in
-    let meaning = works_of g.W.Work.meaning layout in
+    let meaning = works_of g.W.Runs.meaning layout in
     let planned = blocks_planned layout meaning old.parts c.requires.kept c.args.number c.requires.enabled.there in
     planned.alone_at_work (begin_works (node_at old.parts c.args.number).block c.requires.enabled.would)
 
 pub returns-clause-happened : goal.returns-clause-happened
 returns-clause-happened g c =
     let old = c.args.self.now in
-    worked_so g.W.Work.meaning (layout_of old.plan) old.parts c.requires.kept c.args.number c.requires.enabled.there _
+    worked_so g.W.Runs.meaning (layout_of old.plan) old.parts c.requires.kept c.args.number c.requires.enabled.there _
     c.block.result.now c.block.ensures c.as_ref-work.ensures.value c.requires.enabled c.requires.idle c.work.new.self
     c.in_ok-work.ensures.done c.in_ok-work.ensures.ids

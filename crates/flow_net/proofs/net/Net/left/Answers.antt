@@ -8,4 +8,4 @@ pub returns : goal.returns
 returns g c =
     let engine = c.args.self.now.engine in
     c.left_of.ensures ∙ ap left_in (c.block.ensures ∙ ap (λ (node : NodeState). node.block) c.node.ensures)
-    ∙ left_is g.W.Work.meaning (layout_of engine.plan) engine.parts c.args.block
+    ∙ left_is g.W.Runs.meaning (layout_of engine.plan) engine.parts c.args.block

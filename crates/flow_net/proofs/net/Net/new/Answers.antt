@@ -15,7 +15,7 @@ use Rattle.flow_net.proofs.net.Net.new.Goals as goal
 pub invariant_of-result-in-Ok : goal.invariant_of-result-in-Ok
 invariant_of-result-in-Ok g c =
     let layout = layout_of c.args.plan in
-    let meaning = works_of g.W.Work.meaning layout in
+    let meaning = works_of g.W.Runs.meaning layout in
     let posted = map input_of c.args.posted.items in
     let count = length-map c.args.posted.items input_of ∙ c.requires.one_each in
     let kept : NetKeeps layout meaning (fresh_net layout posted) =

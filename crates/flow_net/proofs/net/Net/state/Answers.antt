@@ -13,4 +13,4 @@ returns g c =
     let block_is = c.block.ensures ∙ ap (λ (node : NodeState). node.block) c.node.ensures in
     c.state_of.ensures
     ∙ ap (λ (block : BlockState). state_told block.stopped (is_complete block)) block_is
-    ∙ sym (state_is g.W.Work.meaning (layout_in net) (parts_of net) net.kept c.args.block c.requires)
+    ∙ sym (state_is g.W.Runs.meaning (layout_in net) (parts_of net) net.kept c.args.block c.requires)

@@ -8,30 +8,30 @@ pub invariant_of-self : goal.invariant_of-self
 invariant_of-self g c =
     let start = c.args.self.now.engine in
     record {
-      kept = kept_by_plan g.W.Work.meaning start.plan c.event.new.self.plan c.event.ensures.goes_on.count start.parts c.event.new.self.parts
+      kept = kept_by_plan g.W.Runs.meaning start.plan c.event.new.self.plan c.event.ensures.goes_on.count start.parts c.event.new.self.parts
           c.event.ensures.same_plan c.event.ensures.goes_on.happened c.args.self.now.kept;
     }
 
 pub returns-in-Ok-clause-lawful : goal.returns-in-Ok-clause-lawful
 returns-in-Ok-clause-lawful g c =
     let start = c.args.self.now.engine in
-    lawful_by_plan g.W.Work.meaning start.plan c.event.new.self.plan c.event.ensures.goes_on.count start.parts c.event.new.self.parts
+    lawful_by_plan g.W.Runs.meaning start.plan c.event.new.self.plan c.event.ensures.goes_on.count start.parts c.event.new.self.parts
     c.event.ensures.same_plan c.event.ensures.goes_on.happened c.args.self.now.kept
 
 pub returns-in-Err-clause-lawful : goal.returns-in-Err-clause-lawful
 returns-in-Err-clause-lawful g c =
     let start = c.args.self.now.engine in
-    lawful_by_plan g.W.Work.meaning start.plan c.event.new.self.plan c.event.ensures.goes_on.count start.parts c.event.new.self.parts
+    lawful_by_plan g.W.Runs.meaning start.plan c.event.new.self.plan c.event.ensures.goes_on.count start.parts c.event.new.self.parts
     c.event.ensures.same_plan c.event.ensures.goes_on.happened c.args.self.now.kept
 
 pub returns-in-Ok-clause-same_inputs : goal.returns-in-Ok-clause-same_inputs
 returns-in-Ok-clause-same_inputs g c =
     let start = c.args.self.now.engine in
-    posted_on (layout_of start.plan) (works_of g.W.Work.meaning (layout_of start.plan)) (plan_runs start.plan)
+    posted_on (layout_of start.plan) (works_of g.W.Runs.meaning (layout_of start.plan)) (plan_runs start.plan)
     c.event.ensures.goes_on.count start.parts c.event.new.self.parts c.event.ensures.goes_on.happened
 
 pub returns-in-Err-clause-same_inputs : goal.returns-in-Err-clause-same_inputs
 returns-in-Err-clause-same_inputs g c =
     let start = c.args.self.now.engine in
-    posted_on (layout_of start.plan) (works_of g.W.Work.meaning (layout_of start.plan)) (plan_runs start.plan)
+    posted_on (layout_of start.plan) (works_of g.W.Runs.meaning (layout_of start.plan)) (plan_runs start.plan)
     c.event.ensures.goes_on.count start.parts c.event.new.self.parts c.event.ensures.goes_on.happened

@@ -17,10 +17,10 @@ pub invariant_of-self : goal.invariant_of-self
 invariant_of-self g c =
     let start = c.args.self.now.engine in
     let layout = layout_of start.plan in
-    let on = one_event_at_most layout (works_of g.W.Work.meaning layout) c.begin_job.result (NetEvent.begin c.in-Begin.number)
+    let on = one_event_at_most layout (works_of g.W.Runs.meaning layout) c.begin_job.result (NetEvent.begin c.in-Begin.number)
     start.parts c.begin_job.new.self.parts c.begin_job.ensures.may c.begin_job.ensures.done c.begin_job.ensures.kept in
     record {
-      kept = kept_by_plan g.W.Work.meaning start.plan c.begin_job.new.self.plan on.count start.parts c.begin_job.new.self.parts
+      kept = kept_by_plan g.W.Runs.meaning start.plan c.begin_job.new.self.plan on.count start.parts c.begin_job.new.self.parts
           c.begin_job.ensures.same_plan on.happened c.args.self.now.kept;
     }
 
@@ -28,11 +28,11 @@ pub invariant_of-self-in-End : goal.invariant_of-self-in-End
 invariant_of-self-in-End g c =
     let start = c.args.self.now.engine in
     let layout = layout_of start.plan in
-    let on = one_event_at_most layout (works_of g.W.Work.meaning layout) c.end_job.result
+    let on = one_event_at_most layout (works_of g.W.Runs.meaning layout) c.end_job.result
     (NetEvent.end_job c.in-End.number (ticket_in (job_in c.in-End.done)))
     start.parts c.end_job.new.self.parts c.end_job.ensures.may c.end_job.ensures.done c.end_job.ensures.kept in
     record {
-      kept = kept_by_plan g.W.Work.meaning start.plan c.end_job.new.self.plan on.count start.parts c.end_job.new.self.parts
+      kept = kept_by_plan g.W.Runs.meaning start.plan c.end_job.new.self.plan on.count start.parts c.end_job.new.self.parts
           c.end_job.ensures.same_plan on.happened c.args.self.now.kept;
     }
 
@@ -40,38 +40,38 @@ pub returns-in-Ok-clause-lawful : goal.returns-in-Ok-clause-lawful
 returns-in-Ok-clause-lawful g c =
     let start = c.args.self.now.engine in
     let layout = layout_of start.plan in
-    let on = one_event_at_most layout (works_of g.W.Work.meaning layout) c.begin_job.result (NetEvent.begin c.in-Begin.number)
+    let on = one_event_at_most layout (works_of g.W.Runs.meaning layout) c.begin_job.result (NetEvent.begin c.in-Begin.number)
     start.parts c.begin_job.new.self.parts c.begin_job.ensures.may c.begin_job.ensures.done c.begin_job.ensures.kept in
-    lawful_by_plan g.W.Work.meaning start.plan c.begin_job.new.self.plan on.count start.parts c.begin_job.new.self.parts
+    lawful_by_plan g.W.Runs.meaning start.plan c.begin_job.new.self.plan on.count start.parts c.begin_job.new.self.parts
     c.begin_job.ensures.same_plan on.happened c.args.self.now.kept
 
 pub returns-in-Err-clause-lawful : goal.returns-in-Err-clause-lawful
 returns-in-Err-clause-lawful g c =
     let start = c.args.self.now.engine in
     let layout = layout_of start.plan in
-    let on = one_event_at_most layout (works_of g.W.Work.meaning layout) c.begin_job.result (NetEvent.begin c.in-Begin.number)
+    let on = one_event_at_most layout (works_of g.W.Runs.meaning layout) c.begin_job.result (NetEvent.begin c.in-Begin.number)
     start.parts c.begin_job.new.self.parts c.begin_job.ensures.may c.begin_job.ensures.done c.begin_job.ensures.kept in
-    lawful_by_plan g.W.Work.meaning start.plan c.begin_job.new.self.plan on.count start.parts c.begin_job.new.self.parts
+    lawful_by_plan g.W.Runs.meaning start.plan c.begin_job.new.self.plan on.count start.parts c.begin_job.new.self.parts
     c.begin_job.ensures.same_plan on.happened c.args.self.now.kept
 
 pub returns-in-Ok-end_job-clause-lawful : goal.returns-in-Ok-end_job-clause-lawful
 returns-in-Ok-end_job-clause-lawful g c =
     let start = c.args.self.now.engine in
     let layout = layout_of start.plan in
-    let on = one_event_at_most layout (works_of g.W.Work.meaning layout) c.end_job.result
+    let on = one_event_at_most layout (works_of g.W.Runs.meaning layout) c.end_job.result
     (NetEvent.end_job c.in-End.number (ticket_in (job_in c.in-End.done)))
     start.parts c.end_job.new.self.parts c.end_job.ensures.may c.end_job.ensures.done c.end_job.ensures.kept in
-    lawful_by_plan g.W.Work.meaning start.plan c.end_job.new.self.plan on.count start.parts c.end_job.new.self.parts
+    lawful_by_plan g.W.Runs.meaning start.plan c.end_job.new.self.plan on.count start.parts c.end_job.new.self.parts
     c.end_job.ensures.same_plan on.happened c.args.self.now.kept
 
 pub returns-in-Err-end_job-clause-lawful : goal.returns-in-Err-end_job-clause-lawful
 returns-in-Err-end_job-clause-lawful g c =
     let start = c.args.self.now.engine in
     let layout = layout_of start.plan in
-    let on = one_event_at_most layout (works_of g.W.Work.meaning layout) c.end_job.result
+    let on = one_event_at_most layout (works_of g.W.Runs.meaning layout) c.end_job.result
     (NetEvent.end_job c.in-End.number (ticket_in (job_in c.in-End.done)))
     start.parts c.end_job.new.self.parts c.end_job.ensures.may c.end_job.ensures.done c.end_job.ensures.kept in
-    lawful_by_plan g.W.Work.meaning start.plan c.end_job.new.self.plan on.count start.parts c.end_job.new.self.parts
+    lawful_by_plan g.W.Runs.meaning start.plan c.end_job.new.self.plan on.count start.parts c.end_job.new.self.parts
     c.end_job.ensures.same_plan on.happened c.args.self.now.kept
 
 pub returns-in-Err-end_job-clause-why : goal.returns-in-Err-end_job-clause-why
@@ -79,16 +79,16 @@ returns-in-Err-end_job-clause-why g c =
     let start = c.args.self.now.engine in
     let layout = layout_of start.plan in
     let fault = c.in-Err-end_job.fault in
-    subst (λ (event : Event _ _ _). IsRefused g.W.PartialEq.eq layout (works_of g.W.Work.meaning layout) start.parts event fault)
+    subst (λ (event : Event _ _ _). IsRefused g.W.PartialEq.eq layout (works_of g.W.Runs.meaning layout) start.parts event fault)
     (sym c.in-End.is)
-    (result_refused g.W.PartialEq.eq layout (works_of g.W.Work.meaning layout) start.parts c.in-End.number c.in-End.done fault
+    (result_refused g.W.PartialEq.eq layout (works_of g.W.Runs.meaning layout) start.parts c.in-End.number c.in-End.done fault
     c.in-Err-end_job.ensures.strange c.in-Err-end_job.ensures.refused_own c.in-Err-end_job.ensures.used_up c.in-Err-end_job.ensures.ids)
 
 pub returns-in-Ok-clause-same_inputs : goal.returns-in-Ok-clause-same_inputs
 returns-in-Ok-clause-same_inputs g c =
     let start = c.args.self.now.engine in
     let layout = layout_of start.plan in
-    let meaning = works_of g.W.Work.meaning layout in
+    let meaning = works_of g.W.Runs.meaning layout in
     let on = one_event_at_most layout meaning c.begin_job.result (NetEvent.begin c.in-Begin.number)
     start.parts c.begin_job.new.self.parts c.begin_job.ensures.may c.begin_job.ensures.done c.begin_job.ensures.kept in
     posted_on layout meaning (plan_runs start.plan) on.count start.parts c.begin_job.new.self.parts on.happened
@@ -97,7 +97,7 @@ pub returns-in-Err-clause-same_inputs : goal.returns-in-Err-clause-same_inputs
 returns-in-Err-clause-same_inputs g c =
     let start = c.args.self.now.engine in
     let layout = layout_of start.plan in
-    let meaning = works_of g.W.Work.meaning layout in
+    let meaning = works_of g.W.Runs.meaning layout in
     let on = one_event_at_most layout meaning c.begin_job.result (NetEvent.begin c.in-Begin.number)
     start.parts c.begin_job.new.self.parts c.begin_job.ensures.may c.begin_job.ensures.done c.begin_job.ensures.kept in
     posted_on layout meaning (plan_runs start.plan) on.count start.parts c.begin_job.new.self.parts on.happened
@@ -106,7 +106,7 @@ pub returns-in-Ok-end_job-clause-same_inputs : goal.returns-in-Ok-end_job-clause
 returns-in-Ok-end_job-clause-same_inputs g c =
     let start = c.args.self.now.engine in
     let layout = layout_of start.plan in
-    let meaning = works_of g.W.Work.meaning layout in
+    let meaning = works_of g.W.Runs.meaning layout in
     let on = one_event_at_most layout meaning c.end_job.result (NetEvent.end_job c.in-End.number (ticket_in (job_in c.in-End.done)))
     start.parts c.end_job.new.self.parts c.end_job.ensures.may c.end_job.ensures.done c.end_job.ensures.kept in
     posted_on layout meaning (plan_runs start.plan) on.count start.parts c.end_job.new.self.parts on.happened
@@ -115,7 +115,7 @@ pub returns-in-Err-end_job-clause-same_inputs : goal.returns-in-Err-end_job-clau
 returns-in-Err-end_job-clause-same_inputs g c =
     let start = c.args.self.now.engine in
     let layout = layout_of start.plan in
-    let meaning = works_of g.W.Work.meaning layout in
+    let meaning = works_of g.W.Runs.meaning layout in
     let on = one_event_at_most layout meaning c.end_job.result (NetEvent.end_job c.in-End.number (ticket_in (job_in c.in-End.done)))
     start.parts c.end_job.new.self.parts c.end_job.ensures.may c.end_job.ensures.done c.end_job.ensures.kept in
     posted_on layout meaning (plan_runs start.plan) on.count start.parts c.end_job.new.self.parts on.happened
