@@ -14,7 +14,7 @@ use crate::kind::{self, WorkKind};
 use flow_block::{ports_of, rules_from};
 use flow_exec::{EndFault, Execution, Job, JobResult};
 use flow_link::Plan;
-use flow_value::{Value, Work};
+use flow_value::{Runs, Value};
 use std::alloc::{AllocError, Global};
 use std::marker::{Model, PhantomData};
 use std::sync::Arc;
@@ -84,7 +84,7 @@ impl<W> Action<W> {
     }
 }
 
-impl<K: WorkKind, W: Work> TypedExecution<K, W> {
+impl<K: WorkKind, W: Runs> TypedExecution<K, W> {
     ghost use Rattle.flow_exec.specs.Jobs.{ticket_in};
     ghost use Rattle.flow_exec.specs.Results.{job_in};
     ghost use Rattle.flow_exec.specs.Execution.{IsNextJob, IsOwnJob, begins_job, ends_own_job, lacks_job_ids};
@@ -150,13 +150,13 @@ impl<K: WorkKind, W: Work> TypedExecution<K, W> {
 }
 
 /// A shared copy of a work, which is equal to it.
-fn copy_of<W: Work>(alloc: Global, work: &Option<W>) -> Result<Option<Arc<W, Global>>, AllocError>
+fn copy_of<W: Runs>(alloc: Global, work: &Option<W>) -> Result<Option<Arc<W, Global>>, AllocError>
     ensures { IfOk result (λ copy. SameWork W.eq work.now (option_map (λ shared. arc_value shared) copy)) }
 {
     let Some(work) = work else {
         return Ok(None);
     };
-    let copy = work.copy(alloc)?;
+    let copy = work.copy_here(alloc)?;
     match Arc::new(alloc, copy) {
         Ok(shared) => Ok(Some(shared)),
         Err(_) => Err(AllocError),

@@ -8,7 +8,7 @@ use Rattle.flow_kinds.proofs.execution.TypedExecution.end.Goals as goal
 
 pub invariant_of-self : goal.invariant_of-self
 invariant_of-self g c =
-    end_kind c.self.inside.execution c.end.new.self g.W.Work.meaning (ticket_in (job_in c.args.done)) c.end.result c.end.ensures.done
+    end_kind c.self.inside.execution c.end.new.self g.W.Runs.meaning (ticket_in (job_in c.args.done)) c.end.result c.end.ensures.done
     c.end.ensures.kept
     ∙ c.self.invariant
 
@@ -20,4 +20,4 @@ returns-clause-strange g c =
 pub returns-clause-ids : goal.returns-clause-ids
 returns-clause-ids g c =
     subst (λ (old : ExecutionState _). IfErr c.end.result (λ refused. (refused.1 ≡ Ids) ↔ (IsOwnJob g.W.PartialEq.eq old (job_in c.args.done)
-    × (lacks_job_ids g.W.Work.meaning (ticket_in (job_in c.args.done)) old ≡ true)))) c.self.view_is c.end.ensures.ids
+    × (lacks_job_ids g.W.Runs.meaning (ticket_in (job_in c.args.done)) old ≡ true)))) c.self.view_is c.end.ensures.ids
