@@ -9,16 +9,16 @@ use crate::phase::{LanePhase, phase_of, word_of};
 use crate::plays::{BlockLook, Clear, End, Fetch, Put, SlotOut};
 use crate::table::{Lane, SideSeat};
 use flow_exec::{Job, JobResult};
-use flow_value::Work;
+use flow_value::Runs;
 use std::marker::Model;
 
 /// The block's side of a lane. It belongs to one `Lane`, and each call takes that one.
 #[derive(Drop)]
-pub struct BlockSide<W: Work> {
+pub struct BlockSide<W: Runs> {
     pub(crate) seat: SideSeat<W>,
 }
 
-impl<W: Work> Model for BlockSide<W> {
+impl<W: Runs> Model for BlockSide<W> {
     ghost use Rattle.std.specs.Coded.{codes};
     ghost use Rattle.atomic_table.specs.Seated.{table_id_coded};
     ghost use Rattle.flow_value.specs.contracts.value.Value as content;
@@ -35,7 +35,7 @@ impl<W: Work> Model for BlockSide<W> {
     ghost invariant = { λ b. IsBlockSeat b.seat.table_id b.seat.me };
 }
 
-impl<W: Work> BlockSide<W> {
+impl<W: Runs> BlockSide<W> {
     /// The phase, which the lane may leave at once. The side goes to the stage that the phase tells.
     pub fn look(&mut self, lane: &Lane<W>) -> LanePhase
         requires { self.old.table ≡ lane.now }

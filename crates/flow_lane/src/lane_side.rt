@@ -9,16 +9,16 @@ use crate::phase::{LanePhase, phase_of, word_of};
 use crate::plays::{Finish, LaneLook, Open};
 use crate::table::{Lane, SideSeat};
 use flow_exec::{Job, JobResult};
-use flow_value::Work;
+use flow_value::Runs;
 use std::marker::Model;
 
 /// The side of the thread that works on the lane's jobs. It belongs to one `Lane`, and each call takes that one.
 #[derive(Drop)]
-pub struct LaneSide<W: Work> {
+pub struct LaneSide<W: Runs> {
     pub(crate) seat: SideSeat<W>,
 }
 
-impl<W: Work> Model for LaneSide<W> {
+impl<W: Runs> Model for LaneSide<W> {
     ghost use Rattle.std.specs.Coded.{codes};
     ghost use Rattle.atomic_table.specs.Seated.{table_id_coded};
     ghost use Rattle.flow_value.specs.contracts.value.Value as content;
@@ -35,7 +35,7 @@ impl<W: Work> Model for LaneSide<W> {
     ghost invariant = { λ l. IsLaneSeat l.seat.table_id l.seat.me };
 }
 
-impl<W: Work> LaneSide<W> {
+impl<W: Runs> LaneSide<W> {
     /// The phase, which the block may leave at once. The side goes to the stage that the phase tells.
     pub fn look(&mut self, lane: &Lane<W>) -> LanePhase
         requires { self.old.table ≡ lane.now }

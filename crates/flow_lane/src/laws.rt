@@ -9,7 +9,7 @@ use crate::block_side::BlockSide;
 use crate::item::LaneItem;
 use crate::lane_side::LaneSide;
 use crate::table::Lane;
-use flow_value::Work;
+use flow_value::Runs;
 
 fn crosses<T: Send>()
     ensures { IsSend T.row }
@@ -21,14 +21,14 @@ fn is_shared<T: Sync>()
 
 /// Jobs and results cross threads, so what lies in a lane does. Call it before a lane or a side of it is sent or shared
 /// where the kind of work is a parameter.
-pub fn items_cross<W: Work>()
+pub fn items_cross<W: Runs + Send + Sync>()
     ensures { IsSend (item.the_row W.row (record { meaning = W.meaning }) (record { eq = W.eq })) }
 {
     crosses::<LaneItem<W>>();
 }
 
 /// So the two sides of a lane cross threads.
-pub fn sides_cross<W: Work>()
+pub fn sides_cross<W: Runs + Send + Sync>()
     ensures block { IsSend (block.the_row W.row (record { meaning = W.meaning }) (record { eq = W.eq })) }
     ensures lane { IsSend (lane_side.the_row W.row (record { meaning = W.meaning }) (record { eq = W.eq })) }
 {
@@ -38,7 +38,7 @@ pub fn sides_cross<W: Work>()
 }
 
 /// So a lane crosses threads, and two may share it.
-pub fn lanes_cross<W: Work>()
+pub fn lanes_cross<W: Runs + Send + Sync>()
     ensures sent { IsSend (lane.the_row W.row (record { meaning = W.meaning }) (record { eq = W.eq }) (record {})) }
     ensures shared { IsSync (lane.the_row W.row (record { meaning = W.meaning }) (record { eq = W.eq }) (record {})) }
 {

@@ -2,11 +2,11 @@
 use crate::item::LaneItem;
 use crate::view::View;
 use atomic_table::{Join, Play, Split};
-use flow_value::Work;
+use flow_value::Runs;
 
 pub(crate) struct BlockLook;
 
-impl<W: Work> Play<Option<LaneItem<W>>, View<W>> for BlockLook {
+impl<W: Runs> Play<Option<LaneItem<W>>, View<W>> for BlockLook {
     ghost use Rattle.flow_lane.specs.Plays.{block_looks};
 
     ghost then = { block_looks };
@@ -14,7 +14,7 @@ impl<W: Work> Play<Option<LaneItem<W>>, View<W>> for BlockLook {
 
 pub(crate) struct SlotOut;
 
-impl<W: Work> Play<Option<LaneItem<W>>, View<W>> for SlotOut {
+impl<W: Runs> Play<Option<LaneItem<W>>, View<W>> for SlotOut {
     ghost use Rattle.flow_lane.specs.Plays.{takes_slot};
 
     ghost then = { takes_slot };
@@ -22,7 +22,7 @@ impl<W: Work> Play<Option<LaneItem<W>>, View<W>> for SlotOut {
 
 pub(crate) struct Put;
 
-impl<W: Work> Play<Option<LaneItem<W>>, View<W>> for Put {
+impl<W: Runs> Play<Option<LaneItem<W>>, View<W>> for Put {
     ghost use Rattle.flow_lane.specs.Items.{as_job, as_result, state_of, state_in};
     ghost use Rattle.flow_lane.specs.Plays.{put};
 
@@ -31,7 +31,7 @@ impl<W: Work> Play<Option<LaneItem<W>>, View<W>> for Put {
 
 pub(crate) struct Fetch;
 
-impl<W: Work> Play<Option<LaneItem<W>>, View<W>> for Fetch {
+impl<W: Runs> Play<Option<LaneItem<W>>, View<W>> for Fetch {
     ghost use Rattle.flow_lane.specs.Items.{as_job, as_result, state_of, state_in};
     ghost use Rattle.flow_lane.specs.Plays.{fetched};
 
@@ -40,7 +40,7 @@ impl<W: Work> Play<Option<LaneItem<W>>, View<W>> for Fetch {
 
 pub(crate) struct Clear;
 
-impl<W: Work> Play<Option<LaneItem<W>>, View<W>> for Clear {
+impl<W: Runs> Play<Option<LaneItem<W>>, View<W>> for Clear {
     ghost use Rattle.flow_lane.specs.Plays.{cleared};
 
     ghost then = { cleared };
@@ -48,7 +48,7 @@ impl<W: Work> Play<Option<LaneItem<W>>, View<W>> for Clear {
 
 pub(crate) struct End;
 
-impl<W: Work> Play<Option<LaneItem<W>>, View<W>> for End {
+impl<W: Runs> Play<Option<LaneItem<W>>, View<W>> for End {
     ghost use Rattle.flow_lane.specs.Plays.{ended};
 
     ghost then = { ended };
@@ -56,7 +56,7 @@ impl<W: Work> Play<Option<LaneItem<W>>, View<W>> for End {
 
 pub(crate) struct LaneLook;
 
-impl<W: Work> Play<Option<LaneItem<W>>, View<W>> for LaneLook {
+impl<W: Runs> Play<Option<LaneItem<W>>, View<W>> for LaneLook {
     ghost use Rattle.flow_lane.specs.Plays.{lane_looks};
 
     ghost then = { lane_looks };
@@ -64,7 +64,7 @@ impl<W: Work> Play<Option<LaneItem<W>>, View<W>> for LaneLook {
 
 pub(crate) struct Open;
 
-impl<W: Work> Play<Option<LaneItem<W>>, View<W>> for Open {
+impl<W: Runs> Play<Option<LaneItem<W>>, View<W>> for Open {
     ghost use Rattle.flow_lane.specs.Items.{as_job, as_result, state_of, state_in};
     ghost use Rattle.flow_lane.specs.Plays.{opened};
 
@@ -73,7 +73,7 @@ impl<W: Work> Play<Option<LaneItem<W>>, View<W>> for Open {
 
 pub(crate) struct Finish;
 
-impl<W: Work> Play<Option<LaneItem<W>>, View<W>> for Finish {
+impl<W: Runs> Play<Option<LaneItem<W>>, View<W>> for Finish {
     ghost use Rattle.flow_lane.specs.Plays.{finished};
 
     ghost then = { finished };
@@ -82,7 +82,7 @@ impl<W: Work> Play<Option<LaneItem<W>>, View<W>> for Finish {
 // the block gives the slot back as the table is closed
 pub(crate) struct Part;
 
-impl<W: Work> Play<Option<LaneItem<W>>, View<W>> for Part {
+impl<W: Runs> Play<Option<LaneItem<W>>, View<W>> for Part {
     ghost use Rattle.flow_lane.specs.Plays.{parted};
 
     ghost then = { parted };

@@ -12,14 +12,14 @@ use crate::phase::{LanePhase, phase_of, word_of};
 use crate::plays::{BothSides, Halves, Part};
 use crate::view::View;
 use atomic_table::{Seat, Table, TableRule};
-use flow_value::Work;
+use flow_value::Runs;
 use std::alloc::{AllocError, Global};
 use std::marker::Model;
 
 /// The rule of a lane's table: between any two atomic steps the slot and the two sides stand as its phase says.
 pub struct LaneRule;
 
-impl<W: Work> TableRule<Option<LaneItem<W>>, View<W>, ()> for LaneRule {
+impl<W: Runs> TableRule<Option<LaneItem<W>>, View<W>, ()> for LaneRule {
     ghost use Rattle.flow_lane.specs.Items.{as_job, as_result, state_of, state_in};
     ghost use Rattle.flow_lane.specs.Rule.{Ruled};
     ghost use Rattle.flow_lane.specs.Views.{SeatView};
@@ -36,11 +36,11 @@ pub(crate) type LaneTable<W> = Table<Option<LaneItem<W>>, View<W>, (), LaneRule,
 
 /// The table of one lane, which its two sides share. It may lie where both threads see it, behind a `&`.
 #[derive(Drop)]
-pub struct Lane<W: Work> {
+pub struct Lane<W: Runs> {
     pub(crate) table: LaneTable<W>,
 }
 
-impl<W: Work> Model for Lane<W> {
+impl<W: Runs> Model for Lane<W> {
     ghost use Rattle.std.specs.Prelude.{◌≡◌};
     ghost use Rattle.atomic_table.specs.Seated.{TableId, table_id_coded};
 
@@ -56,12 +56,12 @@ impl<W: Work> Model for Lane<W> {
 /// What a closed table has: where the lane stood, and the job or the result that was in its slot. At Working and Fetching
 /// that is in a side's hand, and the slot is empty.
 #[derive(Drop)]
-pub struct LaneState<W: Work> {
+pub struct LaneState<W: Runs> {
     pub phase: LanePhase,
     pub slot: Option<LaneItem<W>>,
 }
 
-impl<W: Work> Lane<W> {
+impl<W: Runs> Lane<W> {
     /// The table of a lane in which nothing is, and its two sides.
     pub fn new(alloc: Global) -> Result<(Lane<W>, BlockSide<W>, LaneSide<W>), AllocError>
         ensures { IfOk result (λ made. (made.1 ≡ record { table = made.0; side = starts_block }) × (made.2 ≡ record { table = made.0; side = starts_lane })) }
@@ -97,7 +97,7 @@ impl<W: Work> Lane<W> {
 }
 
 // the lane that a closed table was
-fn state_of_word<W: Work>(word: u64, found: Option<LaneItem<W>>) -> LaneState<W>
+fn state_of_word<W: Runs>(word: u64, found: Option<LaneItem<W>>) -> LaneState<W>
     requires { IsWord word }
     ensures slot { result.slot ≡ slot_at result.phase found }
     ensures its_word { word ≡ word_of_phase result.phase }
