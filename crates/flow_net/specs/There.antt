@@ -1,5 +1,5 @@
 -- Which events may be done, and why one is not.
-use Rattle.std.specs.Prelude.{◌≡◌, ℕ, ◌<◌, ◌^◌, List, Result}
+use Rattle.std.specs.Prelude.{ℕ, ◌<◌, ◌^◌, List, Result}
 use Rattle.flow_value.specs.declared.value.Value.{Value}
 use Rattle.flow_link.specs.declared.phase.Move.{Move}
 use Rattle.flow_link.specs.declared.phase.Move.TheVariants.{Offer}
