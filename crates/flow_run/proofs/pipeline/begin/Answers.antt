@@ -10,10 +10,11 @@ use Rattle.flow_text.specs.Records.{input_names}
 use Rattle.flow_run.proofs.InputsAsPosted.{names_count, as_many, posts_to_inputs, begins_as, no_plan, no_records}
 use Rattle.flow_run.proofs.pipeline.begin.Goals as goal
 
-pub new-requires-clause-one_each : goal.new-requires-clause-one_each
-new-requires-clause-one_each g c _ =
+pub new-requires : goal.new-requires
+new-requires g c =
     let blocks = (layout_of c.in_ok-plan.plan).blocks in
-    as_many c.in_ok-posted.posted.items (length (input_names blocks)) c.in_ok-posted.ensures.endings ∙ names_count blocks
+    let posted = c.in_ok-posted in
+    record { one_each = as_many posted.posted.items (length (input_names blocks)) posted.ensures.endings ∙ names_count blocks }
 
 pub returns-in-Ok-clause-begins : goal.returns-in-Ok-clause-begins
 returns-in-Ok-clause-begins g c =
