@@ -1,9 +1,7 @@
--- What becomes of the inputs where one of the lists changes, and that an input has a place among them.
-use Rattle.std.proofs.Common.{◌≡◌, ℕ, ◌+◌, ◌<◌, ◌≤◌, Bool, true, cond, List, length, map, take, get_or, set, Option, Some, IfSome, ap, sym, ◌∙◌, subst, arith}
-use Rattle.std.specs.List.{count_by}
+-- What becomes of the inputs where one of the lists changes.
+use Rattle.std.proofs.Common.{◌≡◌, ℕ, ◌<◌, List, length, map, get_or, set, Option, Some, IfSome, ap, sym, ◌∙◌, subst}
 use Rattle.std.proofs.lemmas.List.{map-set, get_or-map}
 use Rattle.std.proofs.Math.Seq.{map-set_same}
-use Rattle.std.proofs.lemmas.List.Sums.{sum_by_more_le}
 use Rattle.flow_link.specs.Trace.{InputTrace}
 use Rattle.flow_net.specs.declared.posted.Posted.{Posted}
 use Rattle.flow_net.specs.Posted.{input_of}
@@ -28,15 +26,6 @@ pub changes_none : (lists : List Posted) (place : ℕ) (old new : Posted)
     → map input_of (set lists place new) ≡ map input_of lists
 changes_none lists place old new low is same =
     map-set_same input_of lists place new old (same ∙ ap input_of is)
-
--- before an element that passes there are fewer than in all
-pub count_within : {A : Type 0} (test : A → Bool) (xs : List A) (i : ℕ) (d : A) → i < length xs
-    → test (get_or xs i d) ≡ true
-    → count_by test (take i xs) < count_by test xs
-count_within test xs i d low e =
-    let more = sum_by_more_le (λ x. cond (test x) 1 0) xs i d low in
-    let one = subst (λ (b : Bool). count_by test (take i xs) + cond b 1 0 ≤ count_by test xs) e more in
-    omega (arith, one)
 
 -- what holds at a place holds at the place that is looked up there
 pub at_place : (P : ℕ → Type 0) (found : Option ℕ) (place : ℕ) → found ≡ Some place → P place → IfSome found P

@@ -1,10 +1,8 @@
 -- Blocks by their names.
 use Rattle.std.specs.Prelude.{ℕ, cond, List, position, take, count_by, Option, Some, None}
 use Rattle.std.specs.Str.{bytes_eq}
-use Rattle.flow_value.specs.declared.value.Value.{Value}
 use Rattle.flow_link.specs.Layout.{Layout}
 use Rattle.flow_link.specs.Plan.{block_in}
-use Rattle.flow_link.specs.Trace.{Run, trace_of}
 
 module _ {W : Type 0} (layout : Layout W) where
   -- the number of the block with this name
@@ -22,8 +20,3 @@ module _ {W : Type 0} (layout : Layout W) where
   -- the place of the input with this name among the inputs
   abbrev pub input_named : List ℕ → Option ℕ
   input_named name = input_at (block_named name)
-
--- what the block with this number records, if there is one
-abbrev pub recorded_by : {W : Type 0} → Run W → Option ℕ → Option (List Value)
-recorded_by run None = None
-recorded_by run (Some block) = Some (trace_of run block).recorded

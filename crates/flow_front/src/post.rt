@@ -10,7 +10,7 @@ use crate::inputs::Inputs;
 use crate::refused::{NoInput, PostRefused};
 use flow_link::{Ending, Plan};
 use flow_net::{Net, Posted};
-use flow_value::{Value, Work};
+use flow_value::{Runs, Value};
 use std::alloc::{AllocError, AllocFailed, Global};
 
 impl<W: Drop> Inputs<W> {
@@ -101,7 +101,7 @@ impl<W: Drop> Inputs<W> {
     }
 }
 
-impl<W: Work> Inputs<W> {
+impl<W: Runs> Inputs<W> {
     ghost use Rattle.flow_net.specs.Net.{run_of};
     ghost use Rattle.flow_net.specs.Net as net;
     ghost use Rattle.flow_core.specs.State.{fresh_net};
