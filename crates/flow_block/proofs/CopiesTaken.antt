@@ -1,6 +1,6 @@
 -- What a taking makes of a block: it holds what it took, or copies it at once.
-use Rattle.std.proofs.Common.{◌≡◌, ℕ, ◌+◌, ◌^◌, ◌<◌, ◌≤◌, ◌==◌, Bool, true, false, not, ◌&&◌, ltb, List, [], length, Option, Some, None, is_none, Result, refl, ap, ◌∙◌, arith, eqb-true, ltb-true}
-use Rattle.std.proofs.lemmas.Bool.{and_parts, false_from_ne_true}
+use Rattle.std.proofs.Common.{◌≡◌, ℕ, ◌+◌, ◌^◌, ◌<◌, ◌≤◌, ◌==◌, Bool, true, false, not, ◌&&◌, ltb, List, length, Option, Some, None, refl, ap, ◌∙◌, arith, eqb-true, ltb-true}
+use Rattle.std.proofs.lemmas.Bool.{and_parts}
 use Rattle.flow_value.specs.declared.value.Value.{Value}
 use Rattle.flow_link.specs.declared.trace.Mark.{Mark}
 use Rattle.flow_link.specs.declared.draft.BlockKind.{BlockKind}
@@ -9,12 +9,6 @@ use Rattle.flow_link.specs.Plan.{is_write_once, is_broadcast, is_one_taker}
 use Rattle.flow_outlet.specs.Outlet.{is_empty}
 use Rattle.flow_spread.specs.Spread.{is_spread_free}
 use Rattle.flow_intake.specs.Calls.{first_of}
-use Rattle.flow_link.specs.Layout.{Layout}
-use Rattle.flow_block.proofs.Joins.{copies_unjoined, copies_unbatched}
-use Rattle.flow_block.proofs.KindsBuilt.{copying_single}
-use Rattle.flow_block.proofs.CopiesIdle.{once_copies}
-use Rattle.flow_block.specs.Peeks.{may_work, has_next}
-use Rattle.flow_block.specs.NodeLaw.{NodeLaw}
 use Rattle.flow_block.specs.Block.{BlockState, held_by, copies_next, copies_at_once, copies_where, copies_taken}
 use Rattle.flow_block.specs.JournalFits.{marks_due}
 use Rattle.flow_block.specs.Node.{NodeState, holds_in, takes_in, with_block}
@@ -64,25 +58,6 @@ taken_where P block true is held copied = copied (at_once_tells block is)
 pub taken_keeps : (P : BlockState → Type 0) (block : BlockState) → P block
     → (CopiesAtOnce block → P (copies_next (first_of (held_by block)) block)) → P (copies_taken block)
 taken_keeps P block held copied = taken_where P block (copies_at_once block) refl held copied
-
--- it never has something to make
-pub none_next : (block : BlockState) → is_write_once block.kind ≡ true → (is_write_once block.kind ≡ true → held_by block ≡ [])
-    → may_work block ≡ true → ⊥
-none_next block once none may =
-    let copying = once_copies block.kind once in
-    let goes = and_parts (is_none block.stopped && is_none block.fault) (has_next block) may in
-    let never : false ≡ true = rw (
-      copying_single block.kind copying,
-      copies_unjoined block.kind copying,
-      copies_unbatched block.kind copying,
-      none once,
-    ) at goes.1 in
-    absurd (cc)
-
-pub makes_many : {W : Type 0} (layout : Layout W) (meaning : ℕ → Value → Result (List Value) ℕ) (b : ℕ) (node : NodeState)
-    → NodeLaw layout meaning b node → may_work node.block ≡ true → is_write_once node.block.kind ≡ false
-makes_many layout meaning b node law may =
-    false_from_ne_true (is_write_once node.block.kind) (λ once. none_next node.block once law.none_held may)
 
 -- of a node, whose marks tell of the message either way
 pub taken_in_keeps : (P : BlockState → List Mark → Type 0) (p k : ℕ) (hand : Option Value) (node : NodeState)

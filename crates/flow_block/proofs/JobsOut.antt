@@ -10,7 +10,7 @@ use Rattle.flow_block.specs.Block.{BlockState, held_by, keeps_results, yields_al
 use Rattle.flow_block.specs.BlockFits.{BlockFits}
 use Rattle.flow_block.specs.Jobs.{Slot, comes_out}
 use Rattle.flow_block.specs.JobsOut.{is_front_made, front_fault, fails_where, uses_aside, puts_front, MayPutOut, puts_rest}
-use Rattle.flow_block.proofs.JobsEnd.{keeps_goes, ports_stay, held_then}
+use Rattle.flow_block.proofs.ResultsKept.{keeps_goes, ports_stay, held_then}
 
 -- What is set aside
 

@@ -1,5 +1,5 @@
 -- An input as plain data: values that are posted, which it gives over one link, in order.
-use Rattle.std.specs.Prelude.{ℕ, ◌+◌, ltb, Bool, cond, List, [], length, drop, take, Option, Some, None}
+use Rattle.std.specs.Prelude.{ℕ, ◌+◌, ltb, Bool, true, false, cond, List, [], length, drop, take, Option, Some, None}
 use Rattle.flow_value.specs.declared.value.Value.{Value}
 use Rattle.flow_link.specs.declared.phase.LinkEnd.{LinkEnd}
 use Rattle.flow_link.specs.declared.phase.LinkEnd.TheVariants as link_end
@@ -59,6 +59,12 @@ move_from input _ = None
 
 abbrev pub input_move : InputState → Option Move
 input_move input = move_from input input.stage
+
+-- the target wants what it was offered
+abbrev pub is_wanted : SourceStage → Bool
+is_wanted (Accepted _) = true
+is_wanted (Wished _) = true
+is_wanted _ = false
 
 -- its calls, and what they make of it
 pub data InputCall : Type 0 where

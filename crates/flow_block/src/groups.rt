@@ -66,7 +66,7 @@ fn has_group_at(ports: &[Intake], size: u32) -> bool
 }
 
 /// Whether so many messages or more wait at these ports.
-#[tactic(auto, using(crate::proofs::GroupsPeek::waiting_more))]
+#[tactic(auto, using(crate::proofs::WaitingAtPorts::waiting_more))]
 fn has_at_least(ports: &[Intake], count: usize) -> bool
     ensures { result ≡ leb count (waiting_in_all ports.now) }
 {

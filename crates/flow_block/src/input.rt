@@ -5,8 +5,7 @@ ghost use Rattle.std.specs.Option.{option_copied};
 ghost use Rattle.flow_link.specs.declared.stage.SourceStage.TheVariants.{Free};
 ghost use Rattle.flow_intake.specs.Calls.{first_of};
 ghost use Rattle.flow_outlet.specs.End.{is_free};
-ghost use Rattle.flow_block.specs.Input.{InputCall, after_input, input_move, next_value, next_id, has_next, end_by};
-ghost use Rattle.flow_block.specs.InputKeeps.{is_wanted};
+ghost use Rattle.flow_block.specs.Input.{InputCall, after_input, input_move, next_value, next_id, has_next, end_by, is_wanted};
 
 use flow_link::{Ending, LinkEnd, Move, Phase, SourceStage};
 use flow_value::{MAX_ID, MessageHeader, Parcel, Value};

@@ -20,19 +20,18 @@
 //!
 //! Contracts see plain data (`specs/Block.antt`, `specs/Node.antt`, `specs/Input.antt`), and each call as a function on
 //! them. A call that takes memory may be refused, and then nothing has changed; all other calls take none.
+//!
+//! What follows from these functions alone, as that each call keeps a block in order, stands in `flow_block_law`.
 #![tactic(auto)]
 
 mod answer;
 mod block;
 mod by_link;
 mod copies;
-mod copies_laws;
 mod copying;
-mod group_laws;
 mod groups;
 mod input;
 mod jobs;
-mod laws;
 mod moves;
 mod node;
 mod own;
@@ -41,29 +40,11 @@ mod peeks;
 mod planned;
 mod ports;
 mod traits;
-mod tuple_laws;
 mod tuples;
 mod work;
 
 pub use block::Block;
-pub use copies_laws::{
-    copiers_are_parts, copiers_with_nothing_to_do_rest, copies_move_views, next_copies_have_causes,
-    next_copies_may_be_made,
-};
-pub use group_laws::{
-    batched_joins_are_parts, batched_joins_rest, calls_keep_group_loads, calls_keep_groups,
-    calls_keep_groups_in_order, calls_keep_groups_whole, fresh_batched_joins_are_in_order,
-    fresh_blocks_have_made_nothing, ports_tell_of_groups,
-};
 pub use input::Input;
 pub use jobs::Answer;
-pub use laws::{
-    blocks_in_order_are_lawful, blocks_with_nothing_to_do_rest, calls_keep_blocks_in_order,
-    calls_keep_inputs_in_order, calls_move_views, fault_of_the_lowest_link_counts,
-    fresh_blocks_are_in_order, inputs_are_parts, jobs_that_end_keep_blocks_in_order,
-    next_moves_have_causes, next_moves_may_be_made,
-};
 pub use node::Node;
 pub use planned::{Route, port_of, ports_of, routes_of, rules_from};
-pub use traits::blocks_in_order_stand_as_their_ends;
-pub use tuple_laws::joins_are_parts;

@@ -11,7 +11,6 @@ ghost use Rattle.flow_link.specs.Plan.{is_broadcast};
 ghost use Rattle.flow_link.specs.declared.draft.BlockKind.TheVariants.{Buffer};
 ghost use Rattle.flow_outlet.specs.declared.fault.OutletFault.TheVariants.{Ids, Memory};
 ghost use Rattle.flow_block.specs.Traits.{makes_alone, makes_itself, makes_its_next, lacks_its_ids, shares};
-ghost use Rattle.flow_block.specs.Stands.{BlocksStandInOrder, CopiesStandInOrder, PortsStandInOrder, PortsAtRest};
 
 use crate::block::Block;
 use crate::by_link::{hold, port_into, wishing_port};
@@ -169,18 +168,6 @@ impl TargetBlock for Block {
 
     ghost may_fault_at_rest = { λ block rests. faults_at_rest block rests };
 }
-
-/// A block whose exits are in order stands at each link out of it as its end does, but that nobody waits for a message
-/// that is gone. It is busy while an offer is out, offers what may be offered, and gives what a link may consume. One that
-/// copies does the same at each link for itself. At each link into it a block stands as its end does, and it wishes for
-/// nothing only where no port would consume what it postponed. Where nothing comes over any link into a port, nothing comes
-/// there; and in any block, where nothing comes at a port, nothing comes over a link into it.
-pub fn blocks_in_order_stand_as_their_ends()
-    ensures exits { BlocksStandInOrder }
-    ensures copies { CopiesStandInOrder }
-    ensures ports { PortsStandInOrder }
-    ensures rests { PortsAtRest }
-{}
 
 impl Block {
     /// Whether its links share its messages; else each is given a copy.

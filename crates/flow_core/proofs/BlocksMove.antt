@@ -35,17 +35,17 @@ use Rattle.flow_outlet.proofs.OffersInOrder.{offers_in_order}
 use Rattle.flow_spread.specs.End.{is_open}
 use Rattle.flow_spread.specs.Law.{CopyEndLaw, speaks}
 use Rattle.flow_spread.specs.Spread.{SpreadState, end_at as copy_end, link_at, is_wanted as is_wanted_copy, is_asked_by, asked_id}
-use Rattle.flow_block.specs.Copier.{Copier}
+use Rattle.flow_block_law.specs.Copier.{Copier}
 use Rattle.flow_block.specs.Copies.{CopyCall}
-use Rattle.flow_block.specs.NextCopies.{MayMoveCopy}
-use Rattle.flow_block.specs.NextMoves.{NextMovesMay, MayMoveOut, next_source}
+use Rattle.flow_block_law.specs.NextCopies.{MayMoveCopy}
+use Rattle.flow_block_law.specs.NextMoves.{NextMovesMay, MayMoveOut, next_source}
 use Rattle.flow_block.specs.Node.{NodeState, NodeCall, given_next, out_view, copy_view, source_view}
-use Rattle.flow_block.specs.NodeKeeps.{NodesKept}
-use Rattle.flow_block.specs.NodeLaw.{NodeLaw}
+use Rattle.flow_block_law.specs.NodeKeeps.{NodesKept}
+use Rattle.flow_block_law.specs.NodeLaw.{NodeLaw}
 use Rattle.flow_block.specs.Planned.{out_place, rule_of}
-use Rattle.flow_block.specs.ViewsMove.{CallsMoveViews}
-use Rattle.flow_block.proofs.CopierHolds.{copies_lawful}
-use Rattle.flow_block.proofs.PlacesOfLinks.{shares_at}
+use Rattle.flow_block_law.specs.ViewsMove.{CallsMoveViews}
+use Rattle.flow_block_law.proofs.CopierHolds.{copies_lawful}
+use Rattle.flow_block_law.proofs.PlacesOfLinks.{shares_at}
 use Rattle.flow_core.specs.Events.{node_after, out_call, copy_call, source_call, slot_after}
 use Rattle.flow_core.specs.Keeps.{IsRun}
 use Rattle.flow_core.specs.OneMove.{SourceMoved, BlocksMoveWell}

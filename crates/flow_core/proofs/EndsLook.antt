@@ -23,12 +23,12 @@ use Rattle.flow_outlet.specs.Outlet.{stage_at}
 use Rattle.flow_spread.specs.Spread.{stage_at as copy_stage}
 use Rattle.flow_outlet.specs.declared.ends.LinkRule.{LinkRule}
 use Rattle.flow_block.specs.Input.{InputCall}
-use Rattle.flow_block.specs.InputKeeps.{InputsKeep}
+use Rattle.flow_block_law.specs.InputKeeps.{InputsKeep}
 use Rattle.flow_block.specs.Copies.{CopyCall}
 use Rattle.flow_block.specs.Node.{NodeCall, out_view, copy_view}
-use Rattle.flow_block.specs.NodeKeeps.{NodesKept, MayCall}
+use Rattle.flow_block_law.specs.NodeKeeps.{NodesKept, MayCall}
 use Rattle.flow_block.specs.Planned.{in_place, out_place}
-use Rattle.flow_block.specs.ViewsMove.{CallsMoveViews}
+use Rattle.flow_block_law.specs.ViewsMove.{CallsMoveViews}
 use Rattle.flow_core.specs.Events.{node_after, input_after, source_look, source_sees, target_sees, with_node}
 use Rattle.flow_core.specs.Keeps.{IsRun}
 use Rattle.flow_core.specs.State.{NetState, node_at, input_at}

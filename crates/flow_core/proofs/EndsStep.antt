@@ -10,15 +10,15 @@ use Rattle.flow_link.specs.Layout.{Layout}
 use Rattle.flow_link.specs.Plan.{link_in, is_one_taker}
 use Rattle.flow_link.specs.Views.{SourceView, TargetView}
 use Rattle.flow_block.specs.Input.{InputState, InputCall, input_view}
-use Rattle.flow_block.specs.InputKeeps.{InputLaw, InputsKeep, MayMoveInput}
+use Rattle.flow_block_law.specs.InputKeeps.{InputLaw, InputsKeep, MayMoveInput}
 use Rattle.flow_block.specs.Copies.{CopyCall, copy_place}
-use Rattle.flow_block.specs.NextCopies.{MayMoveCopy}
-use Rattle.flow_block.specs.NextMoves.{MayMoveIn, MayMoveOut}
+use Rattle.flow_block_law.specs.NextCopies.{MayMoveCopy}
+use Rattle.flow_block_law.specs.NextMoves.{MayMoveIn, MayMoveOut}
 use Rattle.flow_block.specs.Node.{NodeState, NodeCall, in_view, source_view}
-use Rattle.flow_block.specs.NodeKeeps.{NodesKept, MayCall, after_call}
-use Rattle.flow_block.specs.NodeLaw.{NodeLaw}
+use Rattle.flow_block_law.specs.NodeKeeps.{NodesKept, MayCall, after_call}
+use Rattle.flow_block_law.specs.NodeLaw.{NodeLaw}
 use Rattle.flow_block.specs.Planned.{is_out_of, is_into, in_place, out_place}
-use Rattle.flow_block.specs.ViewsMove.{CallsMoveViews, IsAboutIn, IsAboutOut, IsAboutCopy}
+use Rattle.flow_block_law.specs.ViewsMove.{CallsMoveViews, IsAboutIn, IsAboutOut, IsAboutCopy}
 use Rattle.flow_core.specs.Events.{node_after, out_call, copy_call, source_call, in_call, input_call, input_after, with_node, with_input}
 use Rattle.flow_core.specs.Keeps.{IsRun}
 use Rattle.flow_core.specs.State.{NetState, node_at, input_at}

@@ -23,20 +23,20 @@ use Rattle.flow_outlet.specs.Outlet.{lacks_ids}
 use Rattle.flow_group.specs.Tuple.{tuple_of}
 use Rattle.flow_block.specs.Block.{held_by, is_batch, is_join, row_of, next_group, put_of, is_batched_join}
 use Rattle.flow_block.specs.Input.{input_view}
-use Rattle.flow_block.specs.InputKeeps.{InputsKeep}
+use Rattle.flow_block_law.specs.InputKeeps.{InputsKeep}
 use Rattle.flow_block.specs.Jobs.{Slot}
-use Rattle.flow_block.specs.JobsEnd.{JobsEndWell, after_job}
-use Rattle.flow_block.specs.NextMoves.{NextMovesMay}
+use Rattle.flow_block_law.specs.JobsEnd.{JobsEndWell, after_job}
+use Rattle.flow_block_law.specs.NextMoves.{NextMovesMay}
 use Rattle.flow_block.specs.Node.{NodeState, NodeCall, in_view, source_view, puts_next, next_group_in}
-use Rattle.flow_block.specs.NodeKeeps.{NodesKept, MayCall}
-use Rattle.flow_block.specs.NodeLaw.{NodeLaw}
+use Rattle.flow_block_law.specs.NodeKeeps.{NodesKept, MayCall}
+use Rattle.flow_block_law.specs.NodeLaw.{NodeLaw}
 use Rattle.flow_block.specs.Peeks.{lacks_next, may_work, may_make, may_end, next_fault}
 use Rattle.flow_block.specs.Planned.{in_place, out_place, block_makes}
-use Rattle.flow_block.specs.ViewsMove.{CallsMoveViews, IsAboutIn, IsAboutOut, IsAboutCopy}
+use Rattle.flow_block_law.specs.ViewsMove.{CallsMoveViews, IsAboutIn, IsAboutOut, IsAboutCopy}
 use Rattle.flow_link.proofs.ListTests.{never_both}
-use Rattle.flow_block.proofs.CopiesIdle.{broadcast_copies}
-use Rattle.flow_block.proofs.Joins.{broadcast_unjoined, broadcast_unbatched}
-use Rattle.flow_block.proofs.KindsBuilt.{broadcast_single}
+use Rattle.flow_block_law.proofs.CopiesIdle.{broadcast_copies}
+use Rattle.flow_block_law.proofs.Joins.{broadcast_unjoined, broadcast_unbatched}
+use Rattle.flow_block_law.proofs.KindsBuilt.{broadcast_single}
 use Rattle.flow_core.specs.Events.{NetEvent, MayHappen, HasIds, LinkMay, is_of_source, node_after, source_call, in_call}
 use Rattle.flow_core.specs.Events.{input_call, input_after, with_node, with_line, source_peek, target_peek, peek_by}
 use Rattle.flow_core.specs.Events.{value_from, slot_after, source_moves, target_moves, source_sees, target_sees}

@@ -26,11 +26,11 @@ use Rattle.flow_spread.specs.declared.end.CopyEnd.{CopyEnd}
 use Rattle.flow_spread.specs.End.{fresh_end as fresh_copy, no_end as no_copy}
 use Rattle.flow_block.specs.Copies.{shared_rules, copied_rules}
 use Rattle.flow_block.specs.Block.{is_batch, is_batched_join}
-use Rattle.flow_block.specs.Fresh.{FreshInOrder}
+use Rattle.flow_block_law.specs.Fresh.{FreshInOrder}
 use Rattle.flow_block.specs.Input.{fresh_input, no_input, input_view}
-use Rattle.flow_block.specs.InputKeeps.{InputLaw, InputsKeep}
+use Rattle.flow_block_law.specs.InputKeeps.{InputLaw, InputsKeep}
 use Rattle.flow_block.specs.Node.{in_view, out_view, copy_view, source_view, view_of_in, view_of_out}
-use Rattle.flow_block.specs.NodeLaw.{NodeLaw}
+use Rattle.flow_block_law.specs.NodeLaw.{NodeLaw}
 use Rattle.flow_block.specs.Planned.{fresh_node, port_of_plan, links_from, links_to, rule_of, in_place, out_place, input_place}
 use Rattle.flow_core.specs.Keeps.{LineKeeps}
 use Rattle.flow_core.specs.State.{NetState, fresh_net, fresh_line, source_from, target_from, no_node}

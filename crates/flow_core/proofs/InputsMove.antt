@@ -16,8 +16,8 @@ use Rattle.flow_link.specs.Moves.{giving}
 use Rattle.flow_link.specs.Phase.{phase_after}
 use Rattle.flow_link.specs.Views.{SourceStage, SourceView, TargetView, LinkFacts, crossed}
 use Rattle.flow_outlet.specs.End.{id_of}
-use Rattle.flow_block.specs.Input.{InputState, InputCall, end_by, input_view, next_id, next_value}
-use Rattle.flow_block.specs.InputKeeps.{InputLaw, InputsKeep, MayMoveInput, is_wanted}
+use Rattle.flow_block.specs.Input.{InputState, InputCall, end_by, input_view, next_id, next_value, is_wanted}
+use Rattle.flow_block_law.specs.InputKeeps.{InputLaw, InputsKeep, MayMoveInput}
 use Rattle.flow_core.specs.Events.{input_after, input_call, slot_after}
 use Rattle.flow_core.specs.OneMove.{SourceMoved, InputsMoveWell}
 use Rattle.flow_core.proofs.BlocksMove.{standing, is_at_home, offers_on, ends_on, gives_on}

@@ -15,9 +15,9 @@ use Rattle.flow_intake.specs.Port.{PortState}
 use Rattle.flow_link.specs.PlanFaults.{is_in}
 use Rattle.std.proofs.lemmas.Bool.{ne_eqb}
 use Rattle.flow_block.specs.Input.{no_input, input_trace}
-use Rattle.flow_block.specs.InputKeeps.{InputLaw, InputsAreParts, IsInputOf}
+use Rattle.flow_block_law.specs.InputKeeps.{InputLaw, InputsAreParts, IsInputOf}
 use Rattle.flow_block.specs.Node.{node_trace}
-use Rattle.flow_block.specs.NodeSeen.{NodesAreLawful, IsNodeOf}
+use Rattle.flow_block_law.specs.NodeSeen.{NodesAreLawful, IsNodeOf}
 use Rattle.flow_block.specs.Planned.{input_place}
 use Rattle.flow_core.specs.Keeps.{IsRun, NetKeeps}
 use Rattle.flow_core.specs.State.{NetState, no_node, node_at, input_at, ends_of, source_from, target_from, run_of_net}

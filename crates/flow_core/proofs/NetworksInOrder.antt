@@ -1,14 +1,14 @@
 -- The laws of networks, from those of their blocks and inputs.
-use Rattle.flow_block.proofs.FreshNodes.{fresh_in_order}
-use Rattle.flow_block.proofs.InputsAreParts.{inputs_are_parts}
-use Rattle.flow_block.proofs.InputsInOrder.{inputs_keep}
-use Rattle.flow_block.proofs.JobsEnd.{jobs_end_well}
-use Rattle.flow_block.proofs.NextMoves.{next_moves_may}
-use Rattle.flow_block.proofs.NodesAreLawful.{nodes_are_lawful}
-use Rattle.flow_block.proofs.NodesAreStill.{nodes_are_still}
-use Rattle.flow_block.proofs.NodesKept.{nodes_kept}
-use Rattle.flow_block.proofs.NodesRest.{nodes_rest}
-use Rattle.flow_block.proofs.ViewsMove.{calls_move_views}
+use Rattle.flow_block_law.proofs.FreshNodes.{fresh_in_order}
+use Rattle.flow_block_law.proofs.InputsAreParts.{inputs_are_parts}
+use Rattle.flow_block_law.proofs.InputsInOrder.{inputs_keep}
+use Rattle.flow_block_law.proofs.JobsEnd.{jobs_end_well}
+use Rattle.flow_block_law.proofs.NextMoves.{next_moves_may}
+use Rattle.flow_block_law.proofs.NodesAreLawful.{nodes_are_lawful}
+use Rattle.flow_block_law.proofs.NodesAreStill.{nodes_are_still}
+use Rattle.flow_block_law.proofs.NodesKept.{nodes_kept}
+use Rattle.flow_block_law.proofs.NodesRest.{nodes_rest}
+use Rattle.flow_block_law.proofs.ViewsMove.{calls_move_views}
 use Rattle.flow_core.specs.Numbers.{BlocksFaultByNumber}
 use Rattle.flow_core.specs.Statements.{EventsKeep, FreshKeeps, KeptIsLawful, StillIsQuiet, SchedulesGoWell}
 use Rattle.flow_core.proofs.BlocksMove.{blocks_move}

@@ -33,8 +33,8 @@ use Rattle.flow_outlet.specs.Outlet.{OutletState, stage_at, end_at, end_of, free
 use Rattle.flow_block.specs.Block.{port_at}
 use Rattle.flow_block.specs.Input.{InputState, move_from, end_move, end_by, has_next, next_id}
 use Rattle.flow_spread.specs.Spread.{SpreadState, link_at, stage_at as copy_stage, may_offer as may_offer_copy, free_move as free_copy_move, move_at as copy_move_at}
-use Rattle.flow_block.specs.NextCopies.{next_copy}
-use Rattle.flow_block.specs.NextMoves.{next_out}
+use Rattle.flow_block_law.specs.NextCopies.{next_copy}
+use Rattle.flow_block_law.specs.NextMoves.{next_out}
 use Rattle.flow_block.specs.Node.{out_view, copy_view}
 use Rattle.flow_block.specs.Peeks.{is_held_up, is_copy_held_up}
 use Rattle.flow_block.specs.Planned.{in_place, out_place}

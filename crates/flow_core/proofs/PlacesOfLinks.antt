@@ -13,10 +13,10 @@ use Rattle.flow_outlet.specs.Outlet.{end_at}
 use Rattle.flow_spread.specs.Spread.{link_at}
 use Rattle.flow_block.specs.Block.{port_at}
 use Rattle.flow_block.specs.Node.{NodeState}
-use Rattle.flow_block.specs.NodeLaw.{NodeLaw}
+use Rattle.flow_block_law.specs.NodeLaw.{NodeLaw}
 use Rattle.flow_block.specs.Planned.{is_out_of, is_into, links_to, rule_of, out_place, in_place}
-use Rattle.flow_block.proofs.PlacesOfCopies.{copy_out_of}
-use Rattle.flow_block.proofs.PlacesOfLinks.{end_out_of}
+use Rattle.flow_block_law.proofs.PlacesOfCopies.{copy_out_of}
+use Rattle.flow_block_law.proofs.PlacesOfLinks.{end_out_of}
 use Rattle.flow_core.specs.Keeps.{IsRun}
 use Rattle.flow_core.proofs.PlacesTell.{place_rises, place_finds}
 

@@ -15,7 +15,7 @@ use Rattle.flow_link.specs.Layout.{Layout}
 use Rattle.flow_link.specs.Lists.{every}
 use Rattle.flow_link.specs.Plan.{block_in, link_in, no_link, ends_at, ends_at_port, links_into, is_sole, is_reserving}
 use Rattle.flow_link.specs.Trace.{took_at, took_over}
-use Rattle.flow_block.specs.NodeLaw.{run_seen_by}
+use Rattle.flow_block_law.specs.NodeLaw.{run_seen_by}
 use Rattle.flow_core.proofs.PlacesOfLinks.{ends_here}
 use Rattle.flow_core.proofs.PlacesTell.{count_within, counts_differ}
 

@@ -3,10 +3,10 @@ use Rattle.std.proofs.Common.{◌≡◌, ℕ, Bool, true, false, List, Result, r
 use Rattle.flow_value.specs.declared.value.Value.{Value}
 use Rattle.flow_link.specs.Layout.{Layout}
 use Rattle.flow_link.specs.Plan.{is_one_taker}
-use Rattle.flow_block.specs.NextCopies.{next_copy}
-use Rattle.flow_block.specs.NextMoves.{next_source, next_out}
+use Rattle.flow_block_law.specs.NextCopies.{next_copy}
+use Rattle.flow_block_law.specs.NextMoves.{next_source, next_out}
 use Rattle.flow_block.specs.Node.{NodeState, source_view, out_view, copy_view}
-use Rattle.flow_block.specs.NodeLaw.{NodeLaw}
+use Rattle.flow_block_law.specs.NodeLaw.{NodeLaw}
 
 pub shared_view : (k : ℕ) (node : NodeState) → is_one_taker node.block.kind ≡ true → source_view k node ≡ out_view k node
 shared_view k node shares = rw shares refl

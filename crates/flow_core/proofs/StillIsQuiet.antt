@@ -30,17 +30,17 @@ use Rattle.flow_intake.specs.Port.{end_in}
 use Rattle.flow_outlet.specs.Outlet.{end_at, stage_at}
 use Rattle.flow_block.specs.Block.{port_at}
 use Rattle.flow_block.specs.Input.{input_move}
-use Rattle.flow_block.specs.InputKeeps.{InputsAreParts}
-use Rattle.flow_block.specs.NextCopies.{next_copy}
-use Rattle.flow_block.specs.NextMoves.{next_in, next_out, next_source}
+use Rattle.flow_block_law.specs.InputKeeps.{InputsAreParts}
+use Rattle.flow_block_law.specs.NextCopies.{next_copy}
+use Rattle.flow_block_law.specs.NextMoves.{next_in, next_out, next_source}
 use Rattle.flow_block.specs.Node.{NodeState, in_view, source_view}
-use Rattle.flow_block.specs.NodeRests.{NodesAreStill, NodesRest, HasNothingToDo, EndsRest, NoneReserve, rests_in, rests_out, is_asked, is_reserving}
-use Rattle.flow_block.specs.NodeSeen.{NodesAreLawful}
+use Rattle.flow_block_law.specs.NodeRests.{NodesAreStill, NodesRest, HasNothingToDo, EndsRest, NoneReserve, rests_in, rests_out, is_asked, is_reserving}
+use Rattle.flow_block_law.specs.NodeSeen.{NodesAreLawful}
 use Rattle.flow_block.specs.Peeks.{may_make, may_begin, may_end, may_complete, next_fault, may_finish}
 use Rattle.flow_spread.specs.Spread.{link_at, stage_at as copy_stage}
-use Rattle.flow_block.proofs.CopiesIdle.{copies_at}
-use Rattle.flow_block.proofs.PlacesOfCopies.{copy_out_is}
-use Rattle.flow_block.proofs.PlacesOfLinks.{end_in_is, end_out_is, shares_at}
+use Rattle.flow_block_law.proofs.CopiesIdle.{copies_at}
+use Rattle.flow_block_law.proofs.PlacesOfCopies.{copy_out_is}
+use Rattle.flow_block_law.proofs.PlacesOfLinks.{end_in_is, end_out_is, shares_at}
 use Rattle.flow_core.proofs.SourcesByKind.{shared_view, copied_view, shared_next, copied_next}
 use Rattle.flow_core.specs.Events.{NetEvent, is_of_source, peek_by, source_peek, target_peek}
 use Rattle.flow_core.specs.Keeps.{IsRun, NetKeeps}

@@ -12,10 +12,10 @@ use Rattle.flow_link.specs.Layout.{Layout}
 use Rattle.flow_link.specs.LinkOk.{CrossedAt, IsHome}
 use Rattle.flow_link.specs.RestsByParts.{is_at_rest}
 use Rattle.flow_link.specs.Views.{TargetStage}
-use Rattle.flow_block.proofs.InputsAreParts.{inputs_are_parts}
-use Rattle.flow_block.proofs.NodesAreLawful.{nodes_are_lawful}
-use Rattle.flow_block.proofs.NodesAreStill.{nodes_are_still}
-use Rattle.flow_block.proofs.NodesRest.{nodes_rest}
+use Rattle.flow_block_law.proofs.InputsAreParts.{inputs_are_parts}
+use Rattle.flow_block_law.proofs.NodesAreLawful.{nodes_are_lawful}
+use Rattle.flow_block_law.proofs.NodesAreStill.{nodes_are_still}
+use Rattle.flow_block_law.proofs.NodesRest.{nodes_rest}
 use Rattle.flow_core.specs.AtRest.{AtRest, LinkRests}
 use Rattle.flow_core.specs.Keeps.{IsRun, NetKeeps}
 use Rattle.flow_core.specs.State.{NetState, ends_of}

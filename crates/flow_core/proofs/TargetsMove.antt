@@ -23,11 +23,11 @@ use Rattle.flow_link.proofs.TargetMoves.{target_moves_keep}
 use Rattle.flow_intake.specs.Calls.{is_offered, is_posted, is_postponed, is_arrived, may_be_refused, message_of}
 use Rattle.flow_intake.specs.Port.{EndState, end_in, is_offer, is_hand}
 use Rattle.flow_block.specs.Block.{port_at}
-use Rattle.flow_block.specs.NextMoves.{NextMovesMay, MayMoveIn}
+use Rattle.flow_block_law.specs.NextMoves.{NextMovesMay, MayMoveIn}
 use Rattle.flow_block.specs.Node.{NodeState, NodeCall, in_view}
-use Rattle.flow_block.specs.NodeLaw.{NodeLaw}
+use Rattle.flow_block_law.specs.NodeLaw.{NodeLaw}
 use Rattle.flow_block.specs.Planned.{in_place}
-use Rattle.flow_block.specs.ViewsMove.{CallsMoveViews}
+use Rattle.flow_block_law.specs.ViewsMove.{CallsMoveViews}
 use Rattle.flow_core.specs.Events.{node_after, in_call, slot_after}
 use Rattle.flow_core.specs.OneMove.{TargetMoved, TargetsMoveWell}
 use Rattle.flow_core.proofs.LinksTakeFreely.{takes_freely}

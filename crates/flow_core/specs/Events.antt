@@ -18,8 +18,8 @@ use Rattle.flow_link.specs.Plan.{link_in, is_one_taker}
 use Rattle.flow_outlet.specs.Outlet.{lacks_ids}
 use Rattle.flow_block.specs.Copies.{CopyCall}
 use Rattle.flow_block.specs.Input.{InputState, InputCall, input_move, after_input, next_value}
-use Rattle.flow_block.specs.JobsEnd.{after_job, put_at_end}
-use Rattle.flow_block.specs.NextMoves.{next_in, next_source}
+use Rattle.flow_block_law.specs.JobsEnd.{after_job, put_at_end}
+use Rattle.flow_block_law.specs.NextMoves.{next_in, next_source}
 use Rattle.flow_block.specs.Node.{NodeState, NodeCall, given_next, after as after_call}
 use Rattle.flow_block.specs.Peeks.{lacks_next, may_make, may_begin, may_end, may_complete, next_fault, may_finish}
 use Rattle.flow_block.specs.Planned.{in_place, out_place, input_place, block_makes}

@@ -10,8 +10,8 @@ use Rattle.flow_link.specs.LinkOk.{LinkOk}
 use Rattle.flow_link.specs.Looks.{Seen}
 use Rattle.flow_link.specs.Plan.{block_in, link_in, is_reserving}
 use Rattle.flow_link.specs.WellFormed.{IsWellFormed}
-use Rattle.flow_block.specs.InputKeeps.{InputLaw}
-use Rattle.flow_block.specs.NodeLaw.{NodeLaw}
+use Rattle.flow_block_law.specs.InputKeeps.{InputLaw}
+use Rattle.flow_block_law.specs.NodeLaw.{NodeLaw}
 use Rattle.flow_core.specs.State.{NetState, node_at, input_at, ends_of}
 
 module _ {W : Type 0} (layout : Layout W) where

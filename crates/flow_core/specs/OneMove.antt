@@ -14,10 +14,10 @@ use Rattle.flow_link.specs.Phase.{phase_after}
 use Rattle.flow_link.specs.Plan.{link_in}
 use Rattle.flow_link.specs.Views.{SourceView, TargetView, LinkFacts}
 use Rattle.flow_block.specs.Input.{InputState, input_move, input_view, next_value}
-use Rattle.flow_block.specs.InputKeeps.{InputLaw}
-use Rattle.flow_block.specs.NextMoves.{next_in, next_source}
+use Rattle.flow_block_law.specs.InputKeeps.{InputLaw}
+use Rattle.flow_block_law.specs.NextMoves.{next_in, next_source}
 use Rattle.flow_block.specs.Node.{NodeState, in_view, given_next, source_view}
-use Rattle.flow_block.specs.NodeLaw.{NodeLaw}
+use Rattle.flow_block_law.specs.NodeLaw.{NodeLaw}
 use Rattle.flow_block.specs.Planned.{in_place, out_place}
 use Rattle.flow_core.specs.Events.{node_after, source_call, in_call, input_call, input_after, slot_after}
 use Rattle.flow_core.specs.Keeps.{IsRun}

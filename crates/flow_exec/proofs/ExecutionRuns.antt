@@ -14,7 +14,7 @@ use Rattle.flow_block.specs.Block.{BlockState, held_by, with_jobs, keeps_results
 use Rattle.flow_block.specs.Jobs.{Slot, JobsState, out_count, place_of, is_front_back, brings, works_off}
 use Rattle.flow_block.specs.Peeks.{may_begin, may_work}
 use Rattle.flow_block.proofs.LanesBusy.{out_begun, out_set}
-use Rattle.flow_block.proofs.JobsEnd.{keeps_goes, ports_stay, held_then}
+use Rattle.flow_block.proofs.ResultsKept.{keeps_goes, ports_stay, held_then}
 use Rattle.flow_block.proofs.PortsChange.{kept_at_all}
 use Rattle.flow_exec.specs.Execution.{Runs}
 

@@ -17,7 +17,7 @@ use Rattle.flow_outlet.specs.declared.group.Group.{Group}
 use Rattle.flow_block.specs.Block.{BlockState, port_at, row_count}
 use Rattle.flow_block.specs.Groups.{makes_group}
 use Rattle.flow_block.specs.Traits.{target_over, port_into, with_port_of}
-use Rattle.flow_block.proofs.GroupPorts.{kept_by_group, length_by_group}
+use Rattle.flow_block_law.proofs.GroupPorts.{kept_by_group, length_by_group}
 use Rattle.flow_history.specs.Calls.{Call, Does}
 use Rattle.flow_history.specs.History.{History, took_at, given}
 use Rattle.flow_history.proofs.CallsLeave.{Leaves, IsPlain}

@@ -26,8 +26,8 @@ use Rattle.flow_block.specs.Block.{BlockState, port_in, port_at, held_by, is_bat
 use Rattle.flow_block.specs.Groups.{waiting_in_all}
 use Rattle.flow_block.specs.Peeks.{may_make}
 use Rattle.flow_block.specs.Traits.{target_over, port_into, with_port_of}
-use Rattle.flow_block.proofs.GoingOn.{may_make_tells}
-use Rattle.flow_block.proofs.GroupPorts.{each_after_group, kept_by_group}
+use Rattle.flow_block_law.proofs.GoingOn.{may_make_tells}
+use Rattle.flow_block_law.proofs.GroupPorts.{each_after_group, kept_by_group}
 use Rattle.flow_batched.specs.BatchedJoin.{JoinState, fresh_join}
 use Rattle.flow_batched.specs.Calls.{makes_next}
 use Rattle.flow_batched.proofs.OrderTells.{told_in_all}

@@ -21,12 +21,12 @@ use Rattle.flow_outlet.specs.declared.group.Group.{Group}
 use Rattle.flow_spread.specs.Spread.{is_spread_free, puts}
 use Rattle.flow_block.specs.Block.{BlockState, port_in, port_at, held_by, is_batch, is_join, is_batched_join, row_of, next_group, takes_group, makes_row, makes_tuple, copies_next, puts_out, unit_weight, group_weight}
 use Rattle.flow_block.specs.Copies.{copies_weight}
-use Rattle.flow_block.specs.NodeLaw.{is_whole, weighed, rows_weighed}
+use Rattle.flow_block_law.specs.NodeLaw.{is_whole, weighed, rows_weighed}
 use Rattle.flow_block.specs.Peeks.{has_group, has_group_of_ports, has_next, may_copy, may_work, may_make}
 use Rattle.flow_block.specs.Traits.{makes_alone, has_turn, makes_itself, made_next, makes_its_next}
-use Rattle.flow_block.proofs.GroupsOfRows.{groups_more, group_there, group_fits, whole_or_last, group_tells}
+use Rattle.flow_block_law.proofs.GroupsOfRows.{groups_more, group_there, group_fits, whole_or_last, group_tells}
 use Rattle.flow_block.proofs.PortsChange.{kept_at_one, kept_at_all}
-use Rattle.flow_block.proofs.WeightsOfResults.{rows_put, weighs_one}
+use Rattle.flow_block_law.proofs.WeightsOfResults.{rows_put, weighs_one}
 use Rattle.flow_history.specs.History.{History, took_at, given}
 use Rattle.flow_history.specs.Kept.{any_link, hands_on}
 use Rattle.flow_history.proofs.CallsLeave.{one_ordered, all_ordered}

@@ -28,9 +28,9 @@ use Rattle.flow_outlet.specs.Fits.{weight_of}
 use Rattle.flow_outlet.specs.History.{listed}
 use Rattle.flow_outlet.specs.declared.group.Group.{Group}
 use Rattle.flow_block.specs.Copies.{copies_weight}
-use Rattle.flow_block.specs.NodeLaw.{weighed, rows_weighed}
-use Rattle.flow_block.proofs.RowsHold.{given_back}
-use Rattle.flow_block.proofs.WeightsOfResults.{weight_weighed, weight_rows}
+use Rattle.flow_block_law.specs.NodeLaw.{weighed, rows_weighed}
+use Rattle.flow_block_law.proofs.RowsHold.{given_back}
+use Rattle.flow_block_law.proofs.WeightsOfResults.{weight_weighed, weight_rows}
 use Rattle.flow_history.specs.Calls.{MayCallInOrder, Call, Does, Fits, Step, AllDone, after_all}
 use Rattle.flow_history.specs.History.{Gift, History, nothing_yet, took_at, given, came_by, made_by, copied_at_once, noted, history_of, gave_by}
 use Rattle.flow_history.specs.Kept.{NothingCame, MessagesAreKept, makes_freely, places_left, KeepsMessages}

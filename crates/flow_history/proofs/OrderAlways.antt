@@ -19,7 +19,7 @@ use Rattle.flow_block.specs.Block.{BlockState, with_jobs, keeps_results, put_by_
 use Rattle.flow_block.specs.BlockFits.{fresh_block}
 use Rattle.flow_block.specs.Copies.{shared_rules}
 use Rattle.flow_block.specs.Jobs.{Slot, brings, comes_out}
-use Rattle.flow_block.proofs.JobsEnd.{keeps_goes}
+use Rattle.flow_block.proofs.ResultsKept.{keeps_goes}
 use Rattle.flow_batched.specs.BatchedJoin.{JoinState, fresh_join}
 use Rattle.flow_exec.specs.Execution.{ExecutionState, fresh_execution, job_result}
 use Rattle.flow_history.specs.Calls.{Call, MayCall, Fits, Does, Step, AllDone, after_all}

@@ -16,7 +16,7 @@ use Rattle.flow_group.proofs.TuplesKeep.{tuples_kept}
 use Rattle.flow_outlet.specs.Outlet.{is_empty}
 use Rattle.flow_block.specs.Block.{BlockState, port_in, port_at, held_by, is_batch, is_join}
 use Rattle.flow_outlet.specs.declared.group.Group.{Group}
-use Rattle.flow_block.specs.NodeLaw.{is_whole, weighed, rows_weighed}
+use Rattle.flow_block_law.specs.NodeLaw.{is_whole, weighed, rows_weighed}
 use Rattle.flow_block.proofs.PortsChange.{kept_at_one, kept_at_all}
 use Rattle.flow_history.specs.History.{Gift, History, took_at, given}
 use Rattle.flow_history.specs.Kept.{any_link, hands_on, RowsMade}

@@ -26,9 +26,9 @@ use Rattle.flow_spread.specs.Spread.{SpreadState, is_spread_free}
 use Rattle.flow_block.specs.Block.{BlockState, port_in, port_at, held_by, is_batch, is_join, copies_at_once, copies_where, copies_taken}
 use Rattle.flow_block.specs.BlockFits.{weight_out}
 use Rattle.flow_block.specs.Copies.{weight_by, copies_left, copies_weight}
-use Rattle.flow_block.specs.NodeLaw.{is_whole}
+use Rattle.flow_block_law.specs.NodeLaw.{is_whole}
 use Rattle.flow_block.specs.Traits.{port_into, target_over, with_port_of}
-use Rattle.flow_block.proofs.CopiesIdle.{once_copies}
+use Rattle.flow_block_law.proofs.CopiesIdle.{once_copies}
 use Rattle.flow_block.proofs.PortsChange.{kept_at_one, each_after_one}
 use Rattle.flow_block.proofs.TargetMoves.{wanted_there, shown_wanted}
 use Rattle.flow_history.specs.Calls.{Fits}

@@ -25,11 +25,12 @@ use Rattle.flow_outlet.specs.declared.ends.LinkRule.{LinkRule}
 use Rattle.flow_spread.specs.Spread.{is_spread_free}
 use Rattle.flow_block.specs.Block.{BlockState, port_in, port_at, held_by, is_batch, is_join, with_jobs, keeps_results, fails, begins, yields_all, yields_where, ends_job, put_by_kind, put_where, put_by_job, job_message, copies_at_once, copies_where, copies_taken, unit_weight, puts_out}
 use Rattle.flow_block.specs.Jobs.{out_count, Slot, AreOf, brings, comes_out, place_of, works_off}
-use Rattle.flow_block.specs.NodeLaw.{MakesAs, FaultsOn, WeighsAs, weighed, partly_weighed}
+use Rattle.flow_block_law.specs.NodeLaw.{MakesAs, FaultsOn, WeighsAs, weighed, partly_weighed}
 use Rattle.flow_block.specs.Peeks.{may_begin, may_work}
 use Rattle.flow_block.specs.Traits.{makes_alone, has_turn, Makes, port_into, with_port_of}
-use Rattle.flow_block.proofs.JobsEnd.{put_nothing, held_then}
-use Rattle.flow_block.proofs.JobsHold.{back_at}
+use Rattle.flow_block_law.proofs.JobsEnd.{put_nothing}
+use Rattle.flow_block.proofs.ResultsKept.{held_then}
+use Rattle.flow_block_law.proofs.JobsHold.{back_at}
 use Rattle.flow_block.proofs.PortsChange.{kept_at_all, kept_at_one}
 use Rattle.flow_block.proofs.TestsTell.{none_is}
 use Rattle.flow_exec.specs.Execution.{ExecutionState, fresh_execution, job_result}
@@ -39,7 +40,7 @@ use Rattle.flow_outlet.specs.History.{listed}
 use Rattle.flow_outlet.specs.declared.group.Group.{Group}
 use Rattle.flow_block.specs.BlockFits.{weight_out}
 use Rattle.flow_block.specs.Copies.{copies_weight}
-use Rattle.flow_block.proofs.WeightsOfResults.{weighs_taken, weighs_given, weighs_many, weighs_one}
+use Rattle.flow_block_law.proofs.WeightsOfResults.{weighs_taken, weighs_given, weighs_many, weighs_one}
 use Rattle.flow_history.proofs.ExitsGo.{Goes, given_value, exits_go}
 use Rattle.flow_history.specs.Calls.{Call, MayCall, MayCallInOrder, Does, Fits, Step, AllDone, after_all}
 use Rattle.flow_history.specs.History.{History, nothing_yet, took_at, given, came_by, copied_at_once, made_by, gave_by, noted, history_of, Gift}

@@ -17,7 +17,7 @@ use Rattle.flow_outlet.specs.declared.ends.LinkRule.{LinkRule}
 use Rattle.flow_block.specs.Block.{BlockState, port_in, port_at, held_by, is_batch, is_join}
 use Rattle.flow_block.specs.BlockFits.{fresh_block}
 use Rattle.flow_block.specs.Copies.{copies_weight}
-use Rattle.flow_block.specs.NodeLaw.{is_whole}
+use Rattle.flow_block_law.specs.NodeLaw.{is_whole}
 use Rattle.flow_block.specs.Peeks.{holds_nothing}
 use Rattle.flow_history.specs.Calls.{MayCallInOrder, Does, Fits, Step, AllDone, after_all, Call}
 use Rattle.flow_history.specs.History.{History, nothing_yet, took_at, given, came_by, made_by, history_of, gave_by}

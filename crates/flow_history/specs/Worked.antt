@@ -9,7 +9,7 @@ use Rattle.flow_intake.specs.Port.{PortState, coming}
 use Rattle.flow_outlet.specs.declared.ends.LinkRule.{LinkRule}
 use Rattle.flow_block.specs.Block.{held_by, put_by_job, port_at}
 use Rattle.flow_block.specs.Jobs.{AreOf}
-use Rattle.flow_block.specs.NodeLaw.{MakesAs, FaultsOn, WeighsAs}
+use Rattle.flow_block_law.specs.NodeLaw.{MakesAs, FaultsOn, WeighsAs}
 use Rattle.flow_block.specs.Peeks.{may_begin, may_end}
 use Rattle.flow_exec.specs.Calls.{Learns, Acts, Gives, Takes}
 use Rattle.flow_exec.specs.Execution.{ExecutionState, Runs, fresh_execution, begins_job, job_result, ends_own_job}

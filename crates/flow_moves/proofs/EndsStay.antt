@@ -18,7 +18,7 @@ use Rattle.flow_spread.specs.End.{takes_up}
 use Rattle.flow_intake.specs.Calls.{first_of}
 use Rattle.flow_block.proofs.CopiesTaken.{taken_keeps}
 use Rattle.flow_block.specs.Block.{copies_next, held_by}
-use Rattle.flow_block.specs.NodeKeeps.{InAt, any_stage}
+use Rattle.flow_block_law.specs.NodeKeeps.{InAt, any_stage}
 use Rattle.flow_block.proofs.PortsChange.{port_of_map}
 use Rattle.flow_block.proofs.RoomBack.{length_back, port_back}
 use Rattle.flow_core.specs.Events.{out_call, copy_call, source_call, in_call, with_line}

@@ -14,11 +14,11 @@ use Rattle.flow_block.specs.Routes.{route_of}
 use Rattle.flow_block.specs.Block.{held_by}
 use Rattle.flow_block.specs.Jobs.{JobsState, is_out}
 use Rattle.flow_block.specs.Planned.{block_makes}
-use Rattle.flow_block.proofs.CopiesTaken.{makes_many}
-use Rattle.flow_block.proofs.JobsEnd.{none_out}
-use Rattle.flow_block.proofs.JobsHold.{begun_held}
-use Rattle.flow_block.proofs.Joins.{works_at_one}
-use Rattle.flow_block.proofs.KindsBuilt.{has_one_port}
+use Rattle.flow_block_law.proofs.OnceMakesNone.{makes_many}
+use Rattle.flow_block_law.proofs.JobsEnd.{none_out}
+use Rattle.flow_block_law.proofs.JobsHold.{begun_held}
+use Rattle.flow_block_law.proofs.Joins.{works_at_one}
+use Rattle.flow_block_law.proofs.KindsBuilt.{has_one_port}
 use Rattle.flow_core.specs.Events.{NetEvent, LinkMay, HasIds, MayHappen, after}
 use Rattle.flow_core.specs.Keeps.{IsRun, NetKeeps}
 use Rattle.flow_core.specs.State.{NetState, node_at, run_of_net}

@@ -28,7 +28,7 @@ use Rattle.flow_spread.specs.Spread.{stage_at as copy_stage_at}
 use Rattle.flow_block.specs.Block.{port_at}
 use Rattle.flow_block.specs.Copies.{CopyCall}
 use Rattle.flow_block.specs.Input.{InputState, InputCall, no_input, input_move, move_from, after_input}
-use Rattle.flow_block.specs.NextMoves.{next_in, next_source}
+use Rattle.flow_block_law.specs.NextMoves.{next_in, next_source}
 use Rattle.flow_block.specs.Node.{NodeState, NodeCall, source_view}
 use Rattle.flow_block.specs.Peeks.{is_held_up, is_copy_held_up}
 use Rattle.flow_block.specs.Planned.{in_place, out_place, input_place}

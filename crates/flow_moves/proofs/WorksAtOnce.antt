@@ -8,12 +8,12 @@ use Rattle.flow_link.specs.Plan.{has_work}
 use Rattle.flow_outlet.specs.Outlet.{lacks_ids}
 use Rattle.flow_block.specs.Block.{BlockState, held_by, made_of, put_by_kind, values_of_result, keeps_results, yields_all, yields_where, put_where, job_message}
 use Rattle.flow_block.specs.Jobs.{Slot, out_count}
-use Rattle.flow_block.specs.JobsEnd.{job_result}
+use Rattle.flow_block_law.specs.JobsEnd.{job_result}
 use Rattle.flow_block.specs.Node.{NodeState, with_block}
 use Rattle.flow_block.specs.Peeks.{may_work, may_begin}
-use Rattle.flow_block.proofs.GoingOn.{may_work_tells}
-use Rattle.flow_block.proofs.JobsEnd.{with_slots, keeps_slots, put_nothing}
-use Rattle.flow_block.proofs.JobsHold.{makes_by_work}
+use Rattle.flow_block_law.proofs.GoingOn.{may_work_tells}
+use Rattle.flow_block_law.proofs.JobsEnd.{with_slots, keeps_slots, put_nothing}
+use Rattle.flow_block_law.proofs.JobsHold.{makes_by_work}
 use Rattle.flow_moves.specs.AtOnce.{begun, works_at_once, works_out, put_at_once}
 
 -- what a block that may begin a job knows

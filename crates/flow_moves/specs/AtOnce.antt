@@ -2,7 +2,7 @@
 use Rattle.std.specs.Prelude.{ℕ, List, [], ◌∷◌, Some, Result, Ok, Err}
 use Rattle.flow_value.specs.declared.value.Value.{Value}
 use Rattle.flow_block.specs.Block.{BlockState, with_jobs, keeps_results, fails}
-use Rattle.flow_block.specs.JobsEnd.{after_job, put_at_end}
+use Rattle.flow_block_law.specs.JobsEnd.{after_job, put_at_end}
 use Rattle.flow_block.specs.Node.{NodeState, NodeCall, after}
 
 -- a result comes out at once, where nothing else is worked on

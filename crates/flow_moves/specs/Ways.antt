@@ -10,7 +10,7 @@ use Rattle.flow_link.specs.declared.plan.LinkTarget.TheVariants.{Port, Exit}
 use Rattle.flow_outlet.specs.End.{is_free}
 use Rattle.flow_block.specs.declared.planned.Route.{Route}
 use Rattle.flow_block.specs.Input.{InputState, InputCall, no_input, input_move, after_input, next_value, next_id, has_next}
-use Rattle.flow_block.specs.NextMoves.{next_in, next_source}
+use Rattle.flow_block_law.specs.NextMoves.{next_in, next_source}
 use Rattle.flow_block.specs.Node.{NodeState, NodeCall, given_next}
 use Rattle.flow_core.specs.Events.{source_call, source_look, in_call, input_call, input_after, slot_after, with_node, with_line}
 use Rattle.flow_link.specs.declared.trace.LinkState.{LinkState}

@@ -2,7 +2,7 @@
 ghost use Rattle.std.specs.Prelude.{◌≡◌, ◌<◌, None, OnOk, OnErr, IfOk, Some};
 ghost use Rattle.flow_link.specs.Plan.{is_one_taker};
 ghost use Rattle.flow_block.specs.Input.{next_value};
-ghost use Rattle.flow_block.specs.NextMoves.{next_source};
+ghost use Rattle.flow_block_law.specs.NextMoves.{next_source};
 ghost use Rattle.flow_block.specs.Node.{given_next};
 ghost use Rattle.flow_core.specs.Events.{out_call, copy_call, source_call, source_look, in_call, input_call, input_after};
 ghost use Rattle.flow_outlet.specs.Outlet.{head_of};

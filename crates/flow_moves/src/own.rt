@@ -8,7 +8,7 @@ ghost use Rattle.flow_outlet.specs.Outlet.{lacks_ids};
 ghost use Rattle.flow_outlet.specs.declared.fault.OutletFault.TheVariants.{Ids, Memory};
 ghost use Rattle.flow_block.specs.Block.{held_by, has_ports, put_by_kind, ends_job, put_by_job};
 ghost use Rattle.flow_block.specs.Jobs.{has_ticket, is_out, is_front_back};
-ghost use Rattle.flow_block.specs.JobsEnd.{after_job, put_at_end};
+ghost use Rattle.flow_block_law.specs.JobsEnd.{after_job, put_at_end};
 ghost use Rattle.flow_block.specs.Node.{NodeCall, after, with_block};
 ghost use Rattle.flow_block.specs.Peeks.{may_make, may_begin, lacks_next};
 ghost use Rattle.flow_core.specs.Events.{with_node};

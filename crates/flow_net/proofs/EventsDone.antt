@@ -17,7 +17,7 @@ use Rattle.flow_outlet.specs.declared.fault.OutletFault.{OutletFault}
 use Rattle.flow_outlet.specs.declared.fault.OutletFault.TheVariants as outlet
 use Rattle.flow_outlet.specs.Outlet.{lacks_ids}
 use Rattle.flow_block.specs.declared.planned.Route.{Route}
-use Rattle.flow_block.specs.JobsEnd.{after_job, put_at_end}
+use Rattle.flow_block_law.specs.JobsEnd.{after_job, put_at_end}
 use Rattle.flow_block.specs.Node.{NodeCall, after as after_call}
 use Rattle.flow_block.specs.Peeks.{lacks_next, next_fault}
 use Rattle.flow_block.specs.Planned.{block_makes}

@@ -10,7 +10,7 @@ use Rattle.flow_link.specs.Plan.{block_in}
 use Rattle.flow_outlet.specs.Outlet.{lacks_ids}
 use Rattle.flow_block.specs.Block.{BlockState, ends_job, job_message, put_by_job}
 use Rattle.flow_block.specs.Jobs.{is_out}
-use Rattle.flow_block.specs.JobsEnd.{job_result}
+use Rattle.flow_block_law.specs.JobsEnd.{job_result}
 use Rattle.flow_block.specs.Node.{NodeState, with_block}
 use Rattle.flow_block.specs.Planned.{block_makes}
 use Rattle.flow_exec.specs.Execution.{SameWork}

@@ -22,11 +22,11 @@ use Rattle.flow_intake.specs.Port.{PortState, fresh_port}
 use Rattle.flow_block.specs.Block.{port_at}
 use Rattle.flow_block.specs.Input.{no_input, input_trace}
 use Rattle.flow_block.specs.Node.{left_in, node_trace}
-use Rattle.flow_block.specs.NodeLaw.{outcome_in, NodeLaw}
+use Rattle.flow_block_law.specs.NodeLaw.{outcome_in, NodeLaw}
 use Rattle.flow_block.specs.Planned.{input_place}
 use Rattle.flow_block.specs.Peeks.{is_complete}
-use Rattle.flow_block.proofs.CompleteSeen.{complete_told}
-use Rattle.flow_block.proofs.JournalTells.{done_marked, goes_on}
+use Rattle.flow_block_law.proofs.CompleteSeen.{complete_told}
+use Rattle.flow_block_law.proofs.JournalTells.{done_marked, goes_on}
 use Rattle.flow_core.specs.Keeps.{NetKeeps}
 use Rattle.flow_core.specs.State.{NetState, no_node, node_at}
 use Rattle.flow_core.proofs.PlacesTell.{count_within}

@@ -6,11 +6,11 @@ use Rattle.flow_value.specs.declared.value.Value.{Value}
 use Rattle.flow_link.specs.Layout.{Layout}
 use Rattle.flow_outlet.specs.Outlet.{lacks_ids}
 use Rattle.flow_block.specs.Jobs.{JobsState, no_slot, is_out, begins}
-use Rattle.flow_block.specs.JobsEnd.{after_job, put_at_end}
+use Rattle.flow_block_law.specs.JobsEnd.{after_job, put_at_end}
 use Rattle.flow_block.specs.Node.{NodeState}
 use Rattle.flow_block.specs.Peeks.{may_end}
 use Rattle.flow_block.specs.Planned.{block_makes}
-use Rattle.flow_block.proofs.GoingOn.{may_begin_tells}
+use Rattle.flow_block_law.proofs.GoingOn.{may_begin_tells}
 use Rattle.flow_core.specs.Events.{NetEvent, Enabled, with_node, after}
 use Rattle.flow_core.specs.State.{NetState, node_at, no_node}
 use Rattle.flow_moves.specs.AtOnce.{begun, works_at_once, put_at_once}

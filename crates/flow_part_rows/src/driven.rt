@@ -213,7 +213,7 @@ fn a_write_once_block_copies_one_message(rt: HostRuntime) {
 }
 
 /// The first port takes nothing more, since no message comes there.
-#[tactic(auto, using(flow_block::proofs::NothingComes::ports_come_to_rest))]
+#[tactic(auto, using(flow_block_law::proofs::NothingComes::ports_come_to_rest))]
 fn close_first(block: &mut Block)
     requires there { 0 < length block.old.ports }
     requires rests { coming (port_at 0 block.old) ≡ 0 }

@@ -1,5 +1,0 @@
-use Rattle.flow_block.proofs.CopiesGoOn.{next_copies_have_causes}
-use Rattle.flow_block.proofs.copies_laws.next_copies_have_causes.Goals as goal
-
-pub returns : goal.returns
-returns g c = next_copies_have_causes _

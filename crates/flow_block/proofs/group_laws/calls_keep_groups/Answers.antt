@@ -1,5 +1,0 @@
-use Rattle.flow_block.proofs.GroupsStand.{groups_stand}
-use Rattle.flow_block.proofs.group_laws.calls_keep_groups.Goals as goal
-
-pub returns : goal.returns
-returns g c = groups_stand _

@@ -1,5 +1,0 @@
-use Rattle.flow_block.proofs.GroupsRest.{groups_begin}
-use Rattle.flow_block.proofs.group_laws.fresh_batched_joins_are_in_order.Goals as goal
-
-pub returns : goal.returns
-returns g c = groups_begin _

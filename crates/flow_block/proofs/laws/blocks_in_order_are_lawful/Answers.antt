@@ -1,5 +1,0 @@
-use Rattle.flow_block.proofs.NodesAreLawful.{nodes_are_lawful}
-use Rattle.flow_block.proofs.laws.blocks_in_order_are_lawful.Goals as goal
-
-pub returns : goal.returns
-returns g c = nodes_are_lawful _

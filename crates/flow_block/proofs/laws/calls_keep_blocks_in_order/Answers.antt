@@ -1,5 +1,0 @@
-use Rattle.flow_block.proofs.NodesKept.{nodes_kept}
-use Rattle.flow_block.proofs.laws.calls_keep_blocks_in_order.Goals as goal
-
-pub returns : goal.returns
-returns g c = nodes_kept _

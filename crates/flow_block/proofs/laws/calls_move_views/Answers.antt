@@ -1,5 +1,0 @@
-use Rattle.flow_block.proofs.ViewsMove.{calls_move_views}
-use Rattle.flow_block.proofs.laws.calls_move_views.Goals as goal
-
-pub returns : goal.returns
-returns g c = calls_move_views _

@@ -1,5 +1,0 @@
-use Rattle.flow_block.proofs.FaultsSeen.{lowest_link_counts}
-use Rattle.flow_block.proofs.laws.fault_of_the_lowest_link_counts.Goals as goal
-
-pub returns : goal.returns
-returns c = lowest_link_counts

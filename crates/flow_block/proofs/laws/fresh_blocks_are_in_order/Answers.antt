@@ -1,5 +1,0 @@
-use Rattle.flow_block.proofs.FreshNodes.{fresh_in_order}
-use Rattle.flow_block.proofs.laws.fresh_blocks_are_in_order.Goals as goal
-
-pub returns : goal.returns
-returns g c = fresh_in_order _

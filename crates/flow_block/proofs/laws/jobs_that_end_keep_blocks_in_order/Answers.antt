@@ -1,5 +1,0 @@
-use Rattle.flow_block.proofs.JobsEnd.{jobs_end_well}
-use Rattle.flow_block.proofs.laws.jobs_that_end_keep_blocks_in_order.Goals as goal
-
-pub returns : goal.returns
-returns g c = jobs_end_well _

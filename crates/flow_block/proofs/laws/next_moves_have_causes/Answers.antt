@@ -1,5 +1,0 @@
-use Rattle.flow_block.proofs.Causes.{next_moves_have_causes}
-use Rattle.flow_block.proofs.laws.next_moves_have_causes.Goals as goal
-
-pub returns : goal.returns
-returns g c = next_moves_have_causes _

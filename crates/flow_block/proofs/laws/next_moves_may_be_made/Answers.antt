@@ -1,5 +1,0 @@
-use Rattle.flow_block.proofs.NextMoves.{next_moves_may}
-use Rattle.flow_block.proofs.laws.next_moves_may_be_made.Goals as goal
-
-pub returns : goal.returns
-returns g c = next_moves_may

@@ -1,5 +1,0 @@
-use Rattle.flow_block.proofs.TuplesSeen.{joins_are_parts}
-use Rattle.flow_block.proofs.tuple_laws.joins_are_parts.Goals as goal
-
-pub returns : goal.returns
-returns g c = joins_are_parts _

@@ -1,0 +1,598 @@
+-- A node in order keeps what each block of a lawful run keeps.
+use Rattle.std.proofs.Common.{zero, suc, ◌≡◌, ℕ, ◌+◌, ◌==◌, ◌<◌, ltb, Bool, true, false, not, ◌&&◌, ◌||◌, is_some, List, [], ◌∷◌, ◌++◌, length, Option, Some, None, refl, ap, ap₂, sym, subst, ◌∙◌, arith, ⊎_elim, eq-eqb, eqb-true, ltb-true, le-leb, cond}
+use Rattle.std.proofs.lemmas.Bool.{OnTrue_at, and_from, and_parts, or_left, or_right, or_cases}
+use Rattle.std.proofs.Math.Bool.{or_comm}
+use Rattle.flow_value.specs.When.{admits}
+use Rattle.flow_value.specs.declared.value.Value.{Value}
+use Rattle.flow_link.specs.declared.draft.BlockKind.{BlockKind}
+use Rattle.flow_link.specs.declared.draft.BlockKind.TheVariants.{Buffer, Action, Transform, TransformMany, Batch, Join, BatchedJoin}
+use Rattle.flow_link.specs.declared.phase.LinkEnd.{LinkEnd}
+use Rattle.flow_link.specs.declared.phase.LinkEnd.TheVariants as link_end
+use Rattle.flow_link.specs.declared.plan.LinkSource.TheVariants.{Block}
+use Rattle.flow_link.specs.declared.plan.LinkTarget.TheVariants.{Port}
+use Rattle.flow_link.specs.declared.stage.Refusal.{Refusal}
+use Rattle.flow_link.specs.declared.stage.Refusal.TheVariants as refusal
+use Rattle.flow_link.specs.declared.trace.Mark.{Mark}
+use Rattle.flow_link.specs.declared.trace.Mark.TheVariants.{Took, Gave, Complete, Fault, Done}
+use Rattle.flow_link.specs.declared.trace.Outcome.TheVariants as outcome
+use Rattle.flow_link.specs.Composes.{Ends, SourceKeeps, TargetKeeps, SpeaksForOne, WorksInto, NodeMakes, NodeKeeps, RefusesFor, as_seen, is_refused_stage, is_coming, is_spoken_for, has_seen_completion, has_seen_fault, has_seen_cause, has_room_at, coming}
+use Rattle.flow_link.specs.Copies.{copies_as}
+use Rattle.flow_link.specs.Endings.{own_fault, is_number, is_complete, has_nothing, stops, completes_once, is_complete_as}
+use Rattle.flow_link.specs.Law.{is_own_mark, has_own_marks, has_room_for, takes_level, is_passed, gives_in_order, keeps_link_order}
+use Rattle.flow_link.specs.LinkOk.{IsWithin}
+use Rattle.flow_link.specs.Lists.{every, some, below, is_empty, same_values, numbers_from}
+use Rattle.flow_link.specs.Making.{outputs, load, group_size, all_items, are_groups, row_weight, before_complete, whole_until, join_makes, batched_join_makes}
+use Rattle.flow_link.specs.Plan.{begins_at, ends_at, ends_at_port, is_one_taker, is_reserving, is_steady, port_count, is_write_once}
+use Rattle.flow_link.specs.Stage.{source_stage_of, target_stage_of, refusal_of}
+use Rattle.flow_link.specs.Trace.{BlockTrace, Run, took, gave, gave_over, took_over, has_complete, has_fault, has_ended, is_done, is_faulted, is_used_up, is_cut, block_of, link_of, link_numbers, trace_of, marks_of, held_at, left_at, ports_of, given_by, took_at}
+use Rattle.flow_link.specs.Views as views
+use Rattle.flow_link.specs.Worked.{WorkedInto}
+use Rattle.flow_block_law.proofs.OnceHolds.{room_once}
+use Rattle.flow_block_law.proofs.WrittenOnce.{message_is, written_weighs}
+use Rattle.flow_link.proofs.RoundsOfWalks.{some_here_below}
+use Rattle.flow_link.proofs.ListTests.{or_not, every_below, every_weaker_below, length_numbers, or_others, same_values_where}
+use Rattle.flow_intake.specs.Port.{EndState, PortState, end_in, fresh_end, fresh_port, coming as coming_at, is_coming as is_coming_at}
+use Rattle.flow_intake.specs.PortLaw.{has_ended as has_port_ended}
+use Rattle.flow_intake.specs.Ended.{is_completion}
+use Rattle.flow_outlet.specs.declared.ends.LinkRule.{LinkRule}
+use Rattle.flow_outlet.specs.declared.ends.OutEnd.{OutEnd}
+use Rattle.flow_outlet.specs.End.{no_end, is_cut as is_end_cut}
+use Rattle.flow_outlet.specs.Law.{is_refused}
+use Rattle.flow_outlet.specs.Outlet.{end_at, end_of}
+use Rattle.flow_block.specs.Block.{port_at, held_by, is_batch, is_join, port_in, is_batched_join}
+use Rattle.flow_block.specs.Node.{NodeState, in_view, out_view, order_in}
+use Rattle.flow_block_law.specs.NodeLaw.{NodeLaw, MakesAs, RowsLaw, is_whole, RefusesFor as RefusesBy, refuses_over, run_seen_by, is_fault_seen, have_completed, has_its_message}
+use Rattle.flow_block_law.specs.NodeSeen.{IsNodeOf, NodesAreLawful, EachMayCarry}
+use Rattle.flow_block.specs.Planned.{out_place, in_place, block_makes}
+use Rattle.flow_block_law.specs.CopiesSeen.{CopierSeen}
+use Rattle.flow_block_law.proofs.CopierOf.{copier_seen, makes_copies}
+use Rattle.flow_block_law.proofs.CopiesIdle.{left_is_shared, view_is_shared, once_copies}
+use Rattle.flow_block_law.proofs.EndsTell.{ended_complete, ended_fault, ended_plain, used_up_told, ended_stage, refused_told, spoken_is_out, refusal_told, coming_told, completion_told, fault_told}
+use Rattle.flow_block_law.proofs.JournalTells.{stopped_tells, every_mark, complete_own, done_outcome, done_marked, fault_marked, passed_by}
+use Rattle.flow_block_law.proofs.KindsBuilt.{by_kind, within_capacity}
+use Rattle.flow_block_law.proofs.NodesSeen.{held_is, none_held, own_fault_is, load_is, is_joining, join_seen, is_grouping, as_ports, complete_by_port}
+use Rattle.flow_block_law.proofs.PlacesOfLinks.{IsEndIn, HasEndOut, end_in_is, end_in_of, end_out_is, end_out_of, count_of_links, there_at_port, there_at_block, source_there}
+use Rattle.flow_block.proofs.TestsTell.{some_tells, every_tells}
+use Rattle.flow_block.specs.Peeks.{holds_nothing}
+use Rattle.flow_block_law.proofs.GroupsSeen.{batched_joins_are_parts}
+use Rattle.flow_block_law.specs.GroupsLaw.{KeepsGroups, WholeBefore}
+use Rattle.flow_block_law.proofs.Joins.{copies_unbatched}
+
+-- what is left of rows that are all whole is whole
+every_behind : (test : Value → Bool) (front rest : List Value) → every test (front ++ rest) ≡ true → every test rest ≡ true
+every_behind test [] rest all = all
+every_behind test (first ∷ front) rest all =
+    every_behind test front rest (and_parts (test first) (every test (front ++ rest)) all).1
+
+left_whole : (complete none : Bool) (test : Value → Bool) (given left : List Value)
+    → ((complete && none) || every test (given ++ left)) ≡ true → (complete || every test left) ≡ true
+left_whole true none test given left e = refl
+left_whole false none test given left e = every_behind test given left e
+
+-- one of three
+or_one : (a b c : Bool) → a ≡ true → a || b || c ≡ true
+or_one true b c e = refl
+or_one false b c e = absurd (cc)
+
+-- what counts only where there is a capacity fits
+fits : {W : Type 0} (run : Run W) (capacity : Option ℕ) (count kept : ℕ) → (is_some capacity ≡ true → kept ≡ count)
+    → IsWithin capacity kept → has_room_for run capacity count ≡ true
+fits run None count kept same within = refl
+fits run (Some capacity) count kept same within = le-leb count capacity (omega (arith, same refl, within))
+
+-- a test that holds of a place before the last holds somewhere
+record HoldsAt (test : ℕ → Bool) (count : ℕ) : Type 0 where
+  place : ℕ
+  there : place < count
+  holds : test place ≡ true
+
+holds_from : (test : ℕ → Bool) (first count : ℕ) → some test (numbers_from first count) ≡ true
+    → (place : ℕ) × (place < first + count) × (test place ≡ true)
+holds_from test first zero e = absurd (cc)
+holds_from test first (suc count) e =
+    ⊎_elim
+    (λ here. (first, omega arith, here))
+    (λ later. let found = holds_from test (suc first) count later in (found.0, omega (arith, found.1), found.2))
+    (or_cases (test first) (some test (numbers_from (suc first) count)) e)
+
+found_below : (test : ℕ → Bool) (count : ℕ) → some test (below count) ≡ true → HoldsAt test count
+found_below test count e =
+    let found = holds_from test 0 count e in record { place = found.0; there = omega (arith, found.1); holds = found.2 }
+
+some_there : (values : List Value) → 0 < length values → not (is_empty values) ≡ true
+some_there [] there = absurd (omega (arith, there))
+some_there (value ∷ values) there = refl
+
+pub join_is : (kind : BlockKind) → is_join kind ≡ true → kind ≡ Join
+join_is Join e = refl
+join_is _ e = absurd (cc)
+
+none_waits : (ports : List PortState) (p : ℕ) → holds_nothing ports ≡ true → p < length ports
+    → is_empty (port_in ports p).waiting ≡ true
+none_waits ports p none there = every_tells (λ (port : PortState). is_empty port.waiting) ports (fresh_port None) p none there
+
+module _ {W : Type 0} (run : Run W) (ends : ℕ → Ends) (b : ℕ) (node : NodeState)
+    (law : NodeLaw run.layout run.meaning b node) (is : IsNodeOf run ends b node)
+    (known : (l p : ℕ) → l < length run.layout.links → (link_of run l).target ≡ Port b p
+    → p < length node.block.ports)
+    (carries : is_write_once node.block.kind ≡ true → EachMayCarry run b) where
+  abbrev ends_of : ℕ → List EndState
+  ends_of p = (port_at p node.block).ends
+
+  abbrev end_into : ℕ → ℕ → EndState
+  end_into p k = end_in k (ends_of p)
+
+  abbrev place_of : ℕ → ℕ
+  place_of l = out_place run.layout b l
+
+  abbrev end_from : ℕ → OutEnd
+  end_from l = end_at node.block.exits (place_of l)
+
+  -- the links over which completion, or a fault, is seen to come
+  abbrev completes_over : ℕ → ℕ → Bool
+  completes_over p l = ends_at_port b p (link_of run l).target && has_seen_completion (ends l).target.stage
+
+  abbrev faults_over : ℕ → ℕ → Bool
+  faults_over number l = ends_at b (link_of run l).target && has_seen_fault number (ends l).target.stage
+
+  -- the run as the node's own ends know it
+  abbrev own_run : Run W
+  own_run = run_seen_by run.layout run.meaning b node.block.exits.ends
+
+  abbrev MakesAsKind : BlockKind → Type 0
+  MakesAsKind kind =
+      MakesAs (block_makes run.layout run.meaning b) kind (took node.journal) (held_by node.block) (gave node.journal)
+      node.block.exits.left node.block.recorded
+
+  -- the links and their ends stand where the plan has them
+  into_is : (p k : ℕ) → p < length node.block.ports → k < length (ends_of p)
+      → IsEndIn run.layout run.meaning b node.block law.shape p k (end_into p k).link
+  into_is p k there small = end_in_is run.layout run.meaning b node.block law.shape p k there small
+
+  marks_are : marks_of run b ≡ node.journal
+  marks_are = ap (λ (t : BlockTrace). t.journal) is.trace
+
+  -- what is shown of the journal holds of the marks
+  of_marks : (P : List Mark → Type 0) → P node.journal → P (marks_of run b)
+  of_marks P h = subst P (sym marks_are) h
+
+  port_there : (p : ℕ) → p < port_count (block_of run b) → p < length node.block.ports
+  port_there p small = omega (arith, law.shape.port_count_is)
+
+  own_marks_so : has_own_marks run b ≡ true
+  own_marks_so = of_marks (λ marks. every (is_own_mark run b) marks ≡ true) law.marks.own
+
+  -- what its ends of the links into it know
+  seen_stage : (p k : ℕ) → p < length node.block.ports → k < length (ends_of p)
+      → (ends (end_into p k).link).target.stage ≡ target_stage_of (end_into p k).stage (end_into p k).hand
+  seen_stage p k there small =
+      let link = into_is p k there small in
+      ap (λ (view : views.TargetView Value). view.stage)
+      (is.targets (end_into p k).link p link.there link.leads ∙ ap (λ (j : ℕ). in_view p j node) link.place)
+
+  -- room
+  coming_is : (p : ℕ) → p < length node.block.ports → coming run ends b p ≡ coming_at (port_at p node.block)
+  coming_is p there =
+      count_of_links run.layout run.meaning b node.block law.shape p is_coming_at
+      (λ l. is_coming (ends l).target.stage) there
+      (λ k small. ap is_coming (seen_stage p k there small) ∙ coming_told (end_into p k).stage (end_into p k).hand)
+
+  place_taken : (p : ℕ) → p < length node.block.ports → is_some (block_of run b).capacity ≡ true
+      → (port_at p node.block).load + coming_at (port_at p node.block) ≡ load run b p + coming run ends b p
+  place_taken p there bounded =
+      omega (arith, load_is run ends b node law is p there bounded, coming_is p there)
+
+  room_so : every (has_room_at run ends b) (ports_of run b) ≡ true
+  room_so =
+      every_below (has_room_at run ends b) (port_count (block_of run b))
+      (λ p small. let there = port_there p small in
+      let kept = (port_at p node.block).load + coming_at (port_at p node.block) in
+      fits run (block_of run b).capacity (load run b p + coming run ends b p) kept
+      (place_taken p there)
+      (within_capacity run.layout run.meaning b node.block law.shape kept
+      (subst (λ (capacity : Option ℕ). IsWithin capacity kept) (law.shape.ports p there).capacity
+      (law.ports p there).room)))
+
+  level_so : takes_level run b ≡ true
+  level_so =
+      or_left (not (is_reserving (block_of run b))) _ (ap not law.shape.takes_freely)
+
+  -- how it ends
+  complete_so : (join : Bool) → is_join node.block.kind ≡ join → holds_nothing node.block.ports ≡ true
+      → have_completed node.block.kind (length node.block.ports) node.journal ≡ true → is_complete run b ≡ true
+  complete_so true joins nothing completed =
+      let one : some (λ p. has_complete p node.journal) (below (length node.block.ports)) ≡ true =
+      ap (λ (join : Bool). cond join (some (λ p. has_complete p node.journal) (below (length node.block.ports)))
+      (every (λ p. has_complete p node.journal) (below (length node.block.ports))
+      || has_its_message node.block.kind node.journal)) (sym joins) ∙ completed in
+      let all : ℕ → Bool = λ p. has_complete p (marks_of run b) && is_empty (held_at run b p) in
+      let first = found_below (λ p. has_complete p node.journal) (length node.block.ports) one in
+      ap (λ (kind : BlockKind). is_complete_as run kind b) (join_is (block_of run b).kind (is_joining run ends b node law is ∙ joins))
+      ∙ or_right (every (λ p. has_complete p (marks_of run b)) (ports_of run b)) (some all (ports_of run b))
+      (some_here_below all (port_count (block_of run b)) first.place
+      (subst (λ (count : ℕ). first.place < count) law.shape.port_count_is first.there)
+      (and_from (has_complete first.place (marks_of run b)) (is_empty (held_at run b first.place))
+      (ap (has_complete first.place) marks_are ∙ first.holds)
+      (ap is_empty (held_is run ends b node law is first.place)
+      ∙ none_waits node.block.ports first.place nothing first.there)))
+  complete_so false joins nothing completed =
+      let message = has_its_message node.block.kind node.journal in
+      complete_by_port run b node law (is_joining run ends b node law is ∙ joins)
+      ∙ of_marks (λ marks.
+      (every (λ p. has_complete p marks) (ports_of run b) || has_its_message (block_of run b).kind marks) ≡ true)
+      (subst (λ (kind : BlockKind).
+      (every (λ p. has_complete p node.journal) (ports_of run b) || has_its_message kind node.journal) ≡ true)
+      law.shape.kind_is
+      (subst (λ (n : ℕ). (every (λ p. has_complete p node.journal) (below n) || message) ≡ true) law.shape.port_count_is
+      (ap (λ (join : Bool). cond join (some (λ p. has_complete p node.journal) (below (length node.block.ports)))
+      (every (λ p. has_complete p node.journal) (below (length node.block.ports)) || message)) (sym joins) ∙ completed)))
+
+  -- a block that takes one message in all completes by that
+  message_seen : (p : ℕ) → p < length node.block.ports → has_its_message node.block.kind node.journal ≡ true
+      → (is_write_once (block_of run b).kind && not (is_empty (took_at p (marks_of run b)))) ≡ true
+  message_seen p there has =
+      let written = sym (message_is run.layout run.meaning b node law) ∙ has in
+      let once = (and_parts (is_write_once node.block.kind) (is_some node.block.copies.element) written).0 in
+      let room = room_once (block_of run b).kind (block_of run b).capacity (ap is_write_once (sym law.shape.kind_is) ∙ once) in
+      let grouped = copies_unbatched node.block.kind (once_copies node.block.kind once) in
+      let counts = (law.load grouped).load p there (ap is_some room) in
+      let one = written_weighs run.layout run.meaning b node law written in
+      let taken : 0 < length (took_at p node.journal) = omega (arith, counts, one, (law.ports p there).took) in
+      and_from (is_write_once (block_of run b).kind) (not (is_empty (took_at p (marks_of run b))))
+      (ap is_write_once (sym law.shape.kind_is) ∙ once)
+      (of_marks (λ marks. not (is_empty (took_at p marks)) ≡ true) (some_there (took_at p node.journal) taken))
+
+  by_message : (p : ℕ) → p < length node.block.ports → has_complete p node.journal ≡ true → (message : Bool)
+      → has_its_message node.block.kind node.journal ≡ message → has_seen_cause run ends b (Complete p) ≡ true
+  by_message p there e true has = or_right (some (completes_over p) (link_numbers run)) _ (message_seen p there has)
+  by_message p there e false has =
+      let at = some_tells (λ (end : EndState). is_completion end.stage) (ends_of p) (fresh_end 0)
+      (law.ends.complete_cause p there e has) in
+      let end = end_into p at.place in
+      let link = into_is p at.place there at.there in
+      or_left (some (completes_over p) (link_numbers run)) _
+      (some_here_below (completes_over p) (length run.layout.links) end.link link.there
+      (and_from (ends_at_port b p (link_of run end.link).target) (has_seen_completion (ends end.link).target.stage)
+      (there_at_port b p (link_of run end.link).target link.leads)
+      (ap has_seen_completion (seen_stage p at.place there at.there) ∙ completion_told end.stage end.hand at.passes)))
+
+  completion_seen : (p : ℕ) → has_complete p node.journal ≡ true → has_seen_cause run ends b (Complete p) ≡ true
+  completion_seen p e =
+      let own = ltb-true p (length (ports_of run b)) (complete_own run b p node.journal law.marks.own e) in
+      let there = port_there p (omega (arith, own, length_numbers 0 (port_count (block_of run b)))) in
+      by_message p there e (has_its_message node.block.kind node.journal) refl
+
+  fault_came : (number : ℕ)
+      → some (λ (port : PortState). some (λ (end : EndState). is_fault_seen number end) port.ends) node.block.ports
+      ≡ true
+      → some (faults_over number) (link_numbers run) ≡ true
+  fault_came number e =
+      let seen : EndState → Bool = λ end. is_fault_seen number end in
+      let port = some_tells (λ (port : PortState). some seen port.ends) node.block.ports (fresh_port None) e in
+      let p = port.place in
+      let at = some_tells seen (ends_of p) (fresh_end 0) port.passes in
+      let end = end_into p at.place in
+      let link = into_is p at.place port.there at.there in
+      some_here_below (faults_over number) (length run.layout.links) end.link link.there
+      (and_from (ends_at b (link_of run end.link).target) (has_seen_fault number (ends end.link).target.stage)
+      (there_at_block b p (link_of run end.link).target link.leads)
+      (ap (has_seen_fault number) (seen_stage p at.place port.there at.there)
+      ∙ fault_told number end.stage end.hand at.passes))
+
+  fault_so : (number : ℕ) → has_fault number node.journal ≡ true → has_seen_cause run ends b (Fault number) ≡ true
+  fault_so number e =
+      let over = some (faults_over number) (link_numbers run) in
+      ⊎_elim
+      (λ own. or_left (is_number number (own_fault run b)) over
+      (ap (is_number number) (own_fault_is run ends b node law is number own) ∙ eq-eqb number number refl))
+      (λ came. or_right (is_number number (own_fault run b)) over (fault_came number came))
+      (law.ends.fault_cause number e)
+
+  causes_so : every (has_seen_cause run ends b) (marks_of run b) ≡ true
+  causes_so =
+      of_marks (λ marks. every (has_seen_cause run ends b) marks ≡ true)
+      (every_mark (has_seen_cause run ends b) node.journal (λ p l v. refl) (λ l v. refl) refl completion_seen fault_so)
+
+  -- its ends of the links into it
+  has_own_fault : (fault : Option ℕ) → node.block.fault ≡ fault → is_some fault ≡ true
+      → is_some (own_fault run b) ≡ true
+  has_own_fault None same e = absurd (cc)
+  has_own_fault (Some number) same e = ap is_some (own_fault_is run ends b node law is number same)
+
+  refuses_so : (p : ℕ) → p < length node.block.ports → (why : Refusal)
+      → RefusesBy (port_at p node.block).refusing node.block.fault why → RefusesFor run ends b p (refusal_of why)
+  refuses_so p there refusal.PortEnded refused =
+      of_marks (λ marks. has_ended p marks ≡ true) (sym (law.ends.ended_is p there) ∙ ap has_port_ended refused)
+  refuses_so p there refusal.OwnFault refused = has_own_fault node.block.fault refl refused
+
+  target_keeps : (l p : ℕ) → l < length run.layout.links → (link_of run l).target ≡ Port b p
+      → TargetKeeps run ends l b p
+  target_keeps l p small leads =
+      let view = is.targets l p small leads in
+      let there = known l p small leads in
+      let has = end_in_of run.layout run.meaning b node.block law.shape p l there small leads in
+      let place = in_place run.layout b p l in
+      let end = end_in place (ends_of p) in
+      record {
+        from_start = ap (λ (v : views.TargetView Value). v.before) view;
+        taken = ap (λ (v : views.TargetView Value). v.taken) view
+            ∙ ap (λ (n : ℕ). took_over n node.journal) has.link_is ∙ sym (ap (took_over l) marks_are);
+        refuses = λ why e.
+            let told = refusal_told end.stage end.hand why
+            (sym (ap (λ (v : views.TargetView Value). v.stage) view) ∙ e) in
+            subst (RefusesFor run ends b p) told.same
+            (refuses_so p there told.reason (law.ends.refused p place there has.there told.reason told.stage_is));
+      }
+
+  -- Where it shares its messages out
+
+  module _ (shares : is_one_taker node.block.kind ≡ true) where
+    left_is : left_at run b ≡ node.block.exits.left
+    left_is = ap (λ (t : BlockTrace). t.left) is.trace ∙ left_is_shared run.layout run.meaning b node law shares
+
+    from_has : (l : ℕ) → l < length run.layout.links → (link_of run l).source ≡ Block b
+        → HasEndOut run.layout run.meaning b node.block law.shape l
+    from_has l small begins = end_out_of run.layout run.meaning b node.block law.shape shares l small begins
+
+    -- what it makes
+    works_so : (made of_trace : List Value) → made ≡ of_trace
+        → WorkedInto (block_makes run.layout run.meaning b) (took node.journal) (held_by node.block) made
+        → WorksInto run ends b of_trace
+    works_so made of_trace same into = record {
+      done = into.done;
+      results = into.results;
+      taken = ap took marks_are ∙ into.taken_is
+          ∙ ap (λ (held : List Value). into.done ++ held) (sym (held_is run ends b node law is 0));
+      worked = into.worked;
+      all = sym same ∙ into.all;
+    }
+
+    outputs_are : gave node.journal ++ node.block.exits.left ≡ outputs run b
+    outputs_are = sym (ap (λ (t : BlockTrace). gave t.journal ++ t.left) is.trace
+        ∙ ap (λ (left : List Value). gave node.journal ++ left) (left_is_shared run.layout run.meaning b node law shares))
+
+    makes_by : (kind : BlockKind) → is_one_taker kind ≡ true
+        → (is_join kind ≡ true → join_makes run b ≡ true) → (is_batched_join kind ≡ true → batched_join_makes run b ≡ true)
+        → (is_batch kind ≡ true → RowsLaw node.block.size node.journal (held_by node.block) node.block.exits.left)
+        → MakesAsKind kind → NodeMakes run ends b kind
+    makes_by Buffer sharing joins groups rows makes =
+        ap took marks_are ∙ makes ∙ ap (λ (made : List Value). made ++ held_by node.block) outputs_are
+        ∙ ap (λ (held : List Value). outputs run b ++ held) (sym (held_is run ends b node law is 0))
+    makes_by Action sharing joins groups rows makes = record {
+      works = works_so node.block.recorded (trace_of run b).recorded
+          (sym (ap (λ (t : BlockTrace). t.recorded) is.trace)) makes.0;
+      none_left = left_is ∙ makes.1;
+    }
+    makes_by Transform sharing joins groups rows makes =
+        works_so (gave node.journal ++ node.block.exits.left) (outputs run b) outputs_are makes
+    makes_by TransformMany sharing joins groups rows makes =
+        works_so (gave node.journal ++ node.block.exits.left) (outputs run b) outputs_are makes
+    makes_by Batch sharing joins groups rows makes =
+        let size : node.block.size ≡ group_size run b = law.shape.size_is in
+        let law_of = rows refl in
+        let outs = outputs run b in
+        let taken = took (marks_of run b) in
+        let all = all_items outs ++ held_at run b 0 in
+        let same : taken ≡ all =
+        ap took marks_are ∙ makes ∙ ap (λ (made : List Value). all_items made ++ held_by node.block) outputs_are
+        ∙ ap (λ (held : List Value). all_items outs ++ held) (sym (held_is run ends b node law is 0)) in
+        let groups : are_groups row_weight (group_size run b) outs ≡ true =
+        ap₂ (λ (n : ℕ) (made : List Value). are_groups row_weight n made) (sym size) (sym outputs_are) ∙ law_of.groups in
+        let before : every (is_whole (group_size run b)) (gave (before_complete 0 (marks_of run b))) ≡ true =
+        ap₂ (λ (n : ℕ) (marks : List Mark). every (is_whole n) (gave (before_complete 0 marks))) (sym size) marks_are
+        ∙ law_of.whole_before in
+        let left : (has_complete 0 (marks_of run b) || every (is_whole (group_size run b)) (left_at run b)) ≡ true =
+        ap₂ (λ (n : ℕ) (marks : List Mark). has_complete 0 marks || every (is_whole n) (left_at run b)) (sym size) marks_are
+        ∙ ap (λ (made : List Value). has_complete 0 node.journal || every (is_whole node.block.size) made) left_is
+        ∙ left_whole (has_complete 0 node.journal) (is_empty (held_by node.block)) (is_whole node.block.size)
+        (gave node.journal) node.block.exits.left law_of.whole in
+        and_from (same_values taken all && are_groups row_weight (group_size run b) outs)
+        (whole_until row_weight (group_size run b) (marks_of run b) (left_at run b) 0)
+        (and_from (same_values taken all) (are_groups row_weight (group_size run b) outs)
+        (same_values_where taken all same) groups)
+        (and_from (every (is_whole (group_size run b)) (gave (before_complete 0 (marks_of run b))))
+        (has_complete 0 (marks_of run b) || every (is_whole (group_size run b)) (left_at run b)) before left)
+    makes_by Join sharing joins groups rows makes = joins refl
+    makes_by BatchedJoin sharing joins groups rows makes = groups refl
+    makes_by _ sharing joins groups rows makes = absurd (cc)
+
+    -- the groups of a batched join
+    groups_make : is_batched_join node.block.kind ≡ true → batched_join_makes run b ≡ true
+    groups_make batched =
+        let law_of = law.groups batched in
+        let size : node.block.size ≡ group_size run b = law.shape.size_is in
+        (batched_joins_are_parts W run b node (as_ports run ends b node law is batched)).makes (order_in node)
+        (subst (λ (n : ℕ). KeepsGroups n (order_in node) node.block node.journal) size law_of.groups)
+        (subst (λ (n : ℕ). WholeBefore (length node.block.ports) n node.journal) size law_of.whole)
+
+    makes_shared : NodeMakes run ends b (block_of run b).kind
+    makes_shared =
+        makes_by (block_of run b).kind (ap is_one_taker (sym law.shape.kind_is) ∙ shares)
+        (λ join.
+        let here = sym (is_joining run ends b node law is) ∙ join in
+        (join_seen run ends b node law is here).makes (law.tuples here))
+        (λ batched. groups_make (sym (is_grouping run ends b node law is) ∙ batched))
+        (λ batch. law.rows (ap is_batch law.shape.kind_is ∙ batch))
+        (subst MakesAsKind law.shape.kind_is law.makes.makes)
+
+    copies_shared : copies_as (as_seen run ends) b (block_of run b).kind ≡ true
+    copies_shared =
+        by_kind (λ kind. is_one_taker kind ≡ true → copies_as (as_seen run ends) b kind ≡ true) (λ _. refl) (λ _. refl) (λ _. refl)
+        (λ _. refl) (λ _. refl) (λ _. refl) (λ sharing. absurd (cc)) (λ sharing. absurd (cc)) (λ _. refl) (block_of run b).kind
+        (ap is_one_taker (sym law.shape.kind_is) ∙ shares)
+
+    -- its ends of the links out of it
+    source_seen : (l : ℕ) → l < length run.layout.links → (link_of run l).source ≡ Block b
+        → (ends l).source ≡ out_view (place_of l) node
+    source_seen l small begins =
+        is.sources l small begins ∙ view_is_shared run.layout run.meaning b node law shares (place_of l)
+
+    seen_out : (l : ℕ) → l < length run.layout.links → (link_of run l).source ≡ Block b
+        → (ends l).source.stage ≡ source_stage_of (end_from l).stage
+    seen_out l small begins =
+        ap (λ (view : views.SourceView Value). view.stage)
+        (source_seen l small begins)
+
+    refused_seen : (l : ℕ) → l < length run.layout.links → (link_of run l).source ≡ Block b
+        → refuses_over node.block.exits.ends l ≡ true → is_refused_stage (ends l).source.stage ≡ true
+    refused_seen l small begins e =
+        let at = some_tells (λ (end : OutEnd). end.rule.id == l && is_refused end.stage) node.block.exits.ends no_end e in
+        let end = end_at node.block.exits at.place in
+        let both = and_parts (end.rule.id == l) (is_refused end.stage) at.passes in
+        let stands = end_out_is run.layout run.meaning b node.block law.shape at.place at.there in
+        let place : place_of l ≡ at.place = ap place_of (sym (eqb-true end.rule.id l both.0)) ∙ stands.place in
+        ap is_refused_stage
+        (seen_out l small begins ∙ ap (λ (k : ℕ). source_stage_of (end_at node.block.exits k).stage) place)
+        ∙ refused_told end.stage both.1
+
+    passed_so : (before : List Mark) (value : Value) (l : ℕ) → l < length run.layout.links
+        → is_passed own_run b before value l ≡ true → is_passed (as_seen run ends) b before value l ≡ true
+    passed_so before value l small e =
+        passed_by (begins_at b (link_of run l).source) (not (admits (link_of run l).when value))
+        (not (is_steady run.layout.blocks (link_of run l).target)) (is_used_up (link_of run l).max (gave_over l before))
+        (refuses_over node.block.exits.ends l) (is_refused_stage (ends l).source.stage)
+        (λ begins. refused_seen l small (source_there b (link_of run l).source begins)) e
+
+    order_so : (before marks : List Mark) → every (is_own_mark run b) marks ≡ true
+        → gives_in_order own_run b before marks ≡ true → gives_in_order (as_seen run ends) b before marks ≡ true
+    order_so before [] own e = refl
+    order_so before (Gave link value ∷ marks) own e =
+        let mine = and_parts (is_own_mark run b (Gave link value)) (every (is_own_mark run b) marks) own in
+        let there = ltb-true link (length run.layout.links)
+        (and_parts (ltb link (length run.layout.links)) (begins_at b (link_of run link).source) mine.0).0 in
+        let both = and_parts (every (is_passed own_run b before value) (below link))
+        (gives_in_order own_run b (before ++ Gave link value ∷ []) marks) e in
+        and_from (every (is_passed (as_seen run ends) b before value) (below link))
+        (gives_in_order (as_seen run ends) b (before ++ Gave link value ∷ []) marks)
+        (every_weaker_below (is_passed own_run b before value) (is_passed (as_seen run ends) b before value) link
+        (λ l less. passed_so before value l (omega (arith, there))) both.0)
+        (order_so (before ++ Gave link value ∷ []) marks mine.1 both.1)
+    order_so before (Took p l v ∷ marks) own e =
+        order_so before marks (and_parts (is_own_mark run b (Took p l v)) (every (is_own_mark run b) marks) own).1 e
+    order_so before (Complete p ∷ marks) own e =
+        order_so before marks (and_parts (is_own_mark run b (Complete p)) (every (is_own_mark run b) marks) own).1 e
+    order_so before (Fault n ∷ marks) own e = order_so before marks own e
+    order_so before (Done ∷ marks) own e = order_so before marks own e
+
+    order_shared : keeps_link_order (as_seen run ends) b ≡ true
+    order_shared =
+        or_right (not (is_one_taker (block_of run b).kind)) (gives_in_order (as_seen run ends) b [] (marks_of run b))
+        (of_marks (λ marks. gives_in_order (as_seen run ends) b [] marks ≡ true)
+        (order_so [] node.journal law.marks.own (law.gave shares).in_order))
+
+    -- the end that speaks for the head is that of the offer
+    is_offered : (l : ℕ) → l < length run.layout.links → (link_of run l).source ≡ Block b
+        → is_spoken_for (ends l).source.stage ≡ true → node.block.exits.offer ≡ Some (place_of l)
+    is_offered l small begins spoken =
+        let has = from_has l small begins in
+        let mine = law.exits.law.each (place_of l) has.there in
+        OnTrue_at
+        (spoken_is_out (end_from l).stage mine.offers (law.exits.none_kept (place_of l) has.there)
+        (ap is_spoken_for (sym (seen_out l small begins)) ∙ spoken))
+        mine.out
+
+    one_so : SpeaksForOne run ends b
+    one_so k l small smaller first second spoken heard =
+        let one = is_offered k small first spoken in
+        let other = is_offered l smaller second heard in
+        let same : place_of k ≡ place_of l = cc in
+        sym (ap (λ (rule : LinkRule). rule.id) (from_has k small first).rule_is)
+        ∙ ap (λ (j : ℕ). (end_at node.block.exits j).rule.id) same
+        ∙ ap (λ (rule : LinkRule). rule.id) (from_has l smaller second).rule_is
+
+    source_shared : (l : ℕ) → l < length run.layout.links → (link_of run l).source ≡ Block b → SourceKeeps run ends l b
+    source_shared l small begins =
+        let view = source_seen l small begins in
+        let has = from_has l small begins in
+        let end = end_from l in
+        let mine = (law.gave shares).each (place_of l) has.there in
+        let stopped : (how : LinkEnd) → (ends l).source.stage ≡ views.SourceStage.ended how
+        → end_of end node.block.stopped ≡ Some how =
+        λ how e. (law.exits.law.each (place_of l) has.there).ended how
+        (ended_stage end.stage how (sym (seen_out l small begins) ∙ e)) in
+        let told = sym law.ends.stopped_is in
+        record {
+          from_start = ap (λ (v : views.SourceView Value). v.before) view;
+          given = ap (λ (v : views.SourceView Value). v.given) view
+              ∙ ap (λ (rule : LinkRule). gave_over rule.id node.journal) has.rule_is ∙ sym (ap (gave_over l) marks_are);
+          admitted = of_marks (λ marks. every (admits (link_of run l).when) (gave_over l marks) ≡ true)
+              (subst (λ (rule : LinkRule). every (admits rule.when) (gave_over rule.id node.journal) ≡ true) has.rule_is
+              mine.admitted);
+          after_done = λ e. of_marks (λ marks. is_done marks ≡ true)
+              (done_marked node.journal
+              (told ∙ ended_complete (is_end_cut end) end.rule.passes node.block.stopped (stopped link_end.Complete e)));
+          after_fault = λ number e. of_marks (λ marks. has_fault number marks ≡ true)
+              (fault_marked node.journal number
+              (told ∙ ended_fault (is_end_cut end) end.rule.passes node.block.stopped number
+              (stopped (link_end.Fault number) e)));
+          after_plain = λ e. ⊎_elim
+              (λ cut. or_one (is_cut run l) (is_done (marks_of run b)) (is_faulted (marks_of run b))
+              (ap (λ (values : List Value). is_used_up (link_of run l).max values) (ap (given_by run l) begins)
+              ∙ of_marks (λ marks. is_used_up (link_of run l).max (gave_over l marks) ≡ true)
+              (subst (λ (rule : LinkRule). is_used_up rule.max (gave_over rule.id node.journal) ≡ true) has.rule_is
+              (used_up_told end.rule.max end.given (gave_over end.rule.id node.journal) mine.counted cut))))
+              (λ ended. or_others (is_cut run l) (is_done (marks_of run b)) (is_faulted (marks_of run b))
+              (of_marks (λ marks. is_done marks || is_faulted marks ≡ true)
+              (or_comm (is_done node.journal) (is_faulted node.journal)
+              ∙ sym (stopped_tells node.journal) ∙ ap is_some told ∙ ended)))
+              (ended_plain (is_end_cut end) end.rule.passes node.block.stopped (stopped link_end.Plain e));
+        }
+
+  -- What it makes, gives and has left, whether it shares its messages out or copies them
+
+  copying_seen : is_one_taker node.block.kind ≡ false → CopierSeen run ends b node
+  copying_seen copying = copier_seen run ends b node law is copying
+
+  makes_so : (sharing : Bool) → is_one_taker node.block.kind ≡ sharing → NodeMakes run ends b (block_of run b).kind
+  makes_so true shares = makes_shared shares
+  makes_so false copying =
+      makes_copies run ends b (block_of run b).kind (ap is_one_taker (sym law.shape.kind_is) ∙ copying) (copying_seen copying).makes
+
+  copies_so : (sharing : Bool) → is_one_taker node.block.kind ≡ sharing → copies_as (as_seen run ends) b (block_of run b).kind ≡ true
+  copies_so true shares = copies_shared shares
+  copies_so false copying =
+      (copying_seen copying).copies (λ once. record { none_held = law.none_held once; carries = carries once })
+
+  order_seen_so : (sharing : Bool) → is_one_taker node.block.kind ≡ sharing → keeps_link_order (as_seen run ends) b ≡ true
+  order_seen_so true shares = order_shared shares
+  order_seen_so false copying = (copying_seen copying).order
+
+  source_keeps : (sharing : Bool) → is_one_taker node.block.kind ≡ sharing → (l : ℕ) → l < length run.layout.links
+      → (link_of run l).source ≡ Block b → SourceKeeps run ends l b
+  source_keeps true shares l small begins = source_shared shares l small begins
+  source_keeps false copying l small begins = (copying_seen copying).sources l small begins
+
+  left_gone_by : (sharing : Bool) → is_one_taker node.block.kind ≡ sharing → node.block.stopped ≡ Some outcome.Done
+      → node.block.exits.left ≡ [] → is_empty (left_at run b) ≡ true
+  left_gone_by true shares done none = ap is_empty (left_is shares ∙ none)
+  left_gone_by false copying done none = ap is_empty ((copying_seen copying).done done)
+
+  done_so : is_done (marks_of run b) ≡ true → (is_complete run b && has_nothing run b) ≡ true
+  done_so e =
+      let ended : is_done node.journal ≡ true = ap is_done (sym marks_are) ∙ e in
+      let nothing = law.ends.done_empty (law.ends.stopped_is ∙ done_outcome node.journal law.marks.last ended) in
+      and_from (is_complete run b) (has_nothing run b)
+      (complete_so (is_join node.block.kind) refl nothing.0 (law.ends.done_complete ended))
+      (and_from (every (λ p. is_empty (held_at run b p)) (ports_of run b)) (is_empty (left_at run b))
+      (none_held run ends b node law is nothing.0) (left_gone_by (is_one_taker node.block.kind) refl
+      (law.ends.stopped_is ∙ done_outcome node.journal law.marks.last ended) nothing.1))
+
+  node_keeps : NodeKeeps run ends b
+  node_keeps = record {
+    own_marks = own_marks_so;
+    makes = makes_so (is_one_taker node.block.kind) refl;
+    room = room_so;
+    level = level_so;
+    copies_seen = copies_so (is_one_taker node.block.kind) refl;
+    last = of_marks (λ marks. stops marks ≡ true) law.marks.last;
+    once = of_marks (λ marks. completes_once marks ≡ true) law.marks.once;
+    done = or_not (is_done (marks_of run b)) (is_complete run b && has_nothing run b) done_so;
+    causes = causes_so;
+    order_seen = order_seen_so (is_one_taker node.block.kind) refl;
+    one_at_a_time = λ kind. one_so (ap is_one_taker law.shape.kind_is ∙ kind);
+    sources = source_keeps (is_one_taker node.block.kind) refl;
+    targets = target_keeps;
+  }
+
+pub nodes_are_lawful : (W : Type 0) → NodesAreLawful W
+nodes_are_lawful W run ends b node there law is known carries = node_keeps run ends b node law is known carries

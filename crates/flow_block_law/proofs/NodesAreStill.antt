@@ -1,0 +1,197 @@
+-- A node that has nothing to do is still.
+use Rattle.std.proofs.Common.{◌≡◌, ℕ, ◌<◌, Bool, true, false, cond, ◌&&◌, length, is_some, Option, Some, None, refl, ap, sym, ◌∙◌}
+use Rattle.std.proofs.lemmas.Bool.{and_from}
+use Rattle.flow_value.specs.declared.value.Value.{Value}
+use Rattle.flow_value.specs.declared.message.MessageStatus.TheVariants.{Postponed as put_off, Declined}
+use Rattle.flow_link.specs.declared.plan.LinkSource.TheVariants.{Block}
+use Rattle.flow_link.specs.declared.plan.LinkTarget.TheVariants.{Port}
+use Rattle.flow_link.specs.declared.stage.Refusal.{Refusal}
+use Rattle.flow_link.specs.declared.stage.SourceStage.{SourceStage}
+use Rattle.flow_link.specs.declared.stage.SourceStage.TheVariants as source
+use Rattle.flow_link.specs.declared.stage.TargetStage.{TargetStage}
+use Rattle.flow_link.specs.declared.stage.TargetStage.TheVariants as target
+use Rattle.flow_link.specs.declared.trace.Outcome.{Outcome}
+use Rattle.flow_link.specs.Composes.{Ends}
+use Rattle.flow_link.specs.Plan.{begins_at, is_one_taker}
+use Rattle.flow_link.specs.RestsByParts.{NodeIsStill, is_to_hand_over, is_wished_for, is_to_receive, is_holding, is_out, has_offer_out}
+use Rattle.flow_link.specs.Stage.{source_stage_of, target_stage_of}
+use Rattle.flow_link.specs.Trace.{Run, link_of}
+use Rattle.flow_link.specs.Views.{SourceView, TargetView}
+use Rattle.flow_link.proofs.RoundsOfWalks.{some_here_below}
+use Rattle.flow_link.proofs.ListTests.{never_both}
+use Rattle.flow_intake.specs.Port.{PortState, hand_in, stage_at as port_stage}
+use Rattle.flow_intake.specs.Calls.{answer_where, move_of, move_at as move_in}
+use Rattle.flow_outlet.specs.End.{is_out as is_offer_out}
+use Rattle.flow_outlet.specs.Outlet.{OutletState, end_at, stage_at, move_at}
+use Rattle.flow_block.specs.Block.{port_at}
+use Rattle.flow_block.specs.Node.{NodeState}
+use Rattle.flow_block_law.specs.NodeLaw.{NodeLaw, is_kept}
+use Rattle.flow_block_law.specs.NodeRests.{HasNothingToDo, NoneReserve, NodesAreStill, is_asked, is_reserving}
+use Rattle.flow_block_law.specs.NodeSeen.{IsNodeOf}
+use Rattle.flow_block.specs.Peeks.{is_held_up}
+use Rattle.flow_block.specs.Planned.{out_place, in_place}
+use Rattle.flow_block_law.proofs.CopierOf.{copier_still}
+use Rattle.flow_block_law.proofs.CopiesIdle.{view_is_shared}
+use Rattle.flow_block_law.proofs.PlacesOfLinks.{end_in_of, end_out_is, end_out_of, there_at_source}
+use Rattle.flow_block.proofs.TestsTell.{some_is}
+
+-- What an end that has no move tells
+
+gives_nothing : (o : OutletState) (k : ℕ) (stopped : Option Outcome) (held_up : Bool) (stage : SourceStage)
+    → is_kept stage ≡ false
+    → move_at o k stopped held_up stage ≡ None → is_to_hand_over (source_stage_of stage) ≡ false
+gives_nothing o k stopped held_up (source.Accepted i) kept none = absurd (cc)
+gives_nothing o k stopped held_up (source.Claimed i) kept none = absurd (cc)
+gives_nothing o k stopped held_up _ kept none = refl
+
+waits_for_offer : {A : Type 0} (out : Bool) (move : A) → cond out None (Some move) ≡ None → out ≡ true
+waits_for_offer true move none = refl
+waits_for_offer false move none = absurd (cc)
+
+answers_late : (o : OutletState) (k : ℕ) (stopped : Option Outcome) (held_up : Bool) (stage : SourceStage)
+    → is_asked stage ≡ false
+    → move_at o k stopped held_up stage ≡ None → is_wished_for (source_stage_of stage) ≡ true → is_some o.offer ≡ true
+answers_late o k stopped held_up (source.Wished i) asked none wished = waits_for_offer (is_some o.offer) _ none
+answers_late o k stopped held_up (source.AskedBy i) asked none wished = absurd (cc)
+answers_late o k stopped held_up _ asked none wished = absurd (cc)
+
+out_is_seen : (o : OutletState) (k : ℕ) (stopped : Option Outcome) (held_up : Bool) (stage : SourceStage)
+    → is_offer_out stage ≡ true
+    → move_at o k stopped held_up stage ≡ None → is_out (source_stage_of stage) ≡ true
+out_is_seen o k stopped held_up (source.Out i) out none = refl
+out_is_seen o k stopped held_up (source.Accepted i) out none = absurd (cc)
+out_is_seen o k stopped held_up _ out none = absurd (cc)
+
+each_is_answered : (refusing : Option Refusal) (reserves free may_postpone : Bool)
+    → move_of (answer_where refusing reserves free (cond may_postpone put_off Declined)) ≡ None → ⊥
+each_is_answered (Some _) reserves free may_postpone none = cc
+each_is_answered None true free true none = cc
+each_is_answered None true free false none = cc
+each_is_answered None false true may_postpone none = cc
+each_is_answered None false false true none = cc
+each_is_answered None false false false none = cc
+
+receives_nothing : (place : ℕ) (port : PortState) (stage : TargetStage) (hand : Option Value)
+    → move_in place port stage ≡ None
+    → is_to_receive (target_stage_of stage hand) ≡ false
+receives_nothing place port (target.Offered i) hand none =
+    absurd (each_is_answered port.refusing port.reserves _ true none)
+receives_nothing place port (target.Posted i) hand none =
+    absurd (each_is_answered port.refusing port.reserves _ false none)
+receives_nothing place port (target.Arrived i) hand none = absurd (cc)
+receives_nothing place port (target.Hand i) hand none = absurd (cc)
+receives_nothing place port _ hand none = refl
+
+holds_nothing : (stage : TargetStage) (hand : Option Value) → is_reserving stage ≡ false
+    → is_holding (target_stage_of stage hand) ≡ false
+holds_nothing (target.Holding i) hand free = absurd (cc)
+holds_nothing _ hand free = refl
+
+module _ {W : Type 0} (run : Run W) (ends : ℕ → Ends) (b : ℕ) (node : NodeState)
+    (law : NodeLaw run.layout run.meaning b node)
+    (part : IsNodeOf run ends b node)
+    (ports : (l p : ℕ) → l < length run.layout.links → (link_of run l).target ≡ Port b p → p < length node.block.ports)
+    (nothing : HasNothingToDo node) (none : NoneReserve node) where
+  abbrev exits : OutletState
+  exits = node.block.exits
+
+  abbrev place : ℕ → ℕ
+  place l = out_place run.layout b l
+
+  target_is : (l p : ℕ) → l < length run.layout.links → (link_of run l).target ≡ Port b p
+      → (ends l).target.stage ≡ target_stage_of (port_stage (in_place run.layout b p l) (port_at p node.block))
+      (hand_in (in_place run.layout b p l) (port_at p node.block).ends)
+  target_is l p small to = ap (λ (view : TargetView Value). view.stage) (part.targets l p small to)
+
+  module _ (shares : is_one_taker node.block.kind ≡ true) where
+    source_is : (l : ℕ) → l < length run.layout.links → (link_of run l).source ≡ Block b
+        → (ends l).source.stage ≡ source_stage_of (stage_at exits (place l))
+    source_is l small from = ap (λ (view : SourceView Value). view.stage)
+        (part.sources l small from
+        ∙ view_is_shared run.layout run.meaning b node law shares (place l))
+
+    there : (l : ℕ) → l < length run.layout.links → (link_of run l).source ≡ Block b → place l < length exits.ends
+    there l small from = (end_out_of run.layout run.meaning b node.block law.shape shares l small from).there
+
+    gives_shared : (l : ℕ) → l < length run.layout.links → (link_of run l).source ≡ Block b
+        → is_to_hand_over (ends l).source.stage ≡ false
+    gives_shared l small from =
+        let k = place l in
+        let near = there l small from in
+        ap is_to_hand_over (source_is l small from)
+        ∙ gives_nothing exits k node.block.stopped (is_held_up node.block) (stage_at exits k) (law.exits.none_kept k near)
+        (nothing.outs k near)
+
+    offer_out : (j : ℕ) → exits.offer ≡ Some j → has_offer_out run ends b ≡ true
+    offer_out j e =
+        let near = law.exits.law.offer_there j e in
+        let link = end_out_is run.layout run.meaning b node.block law.shape j near in
+        let l = (end_at exits j).rule.id in
+        let out : is_out (source_stage_of (stage_at exits j)) ≡ true =
+        out_is_seen exits j node.block.stopped (is_held_up node.block) (stage_at exits j) (law.exits.law.offer_out j e)
+        (nothing.outs j near) in
+        let seen : is_out (ends l).source.stage ≡ true =
+        ap is_out (source_is l link.there link.begins)
+        ∙ ap (λ (k : ℕ). is_out (source_stage_of (stage_at exits k))) link.place ∙ out in
+        some_here_below (λ n. begins_at b (link_of run n).source && is_out (ends n).source.stage)
+        (length run.layout.links) l link.there
+        (and_from (begins_at b (link_of run l).source) (is_out (ends l).source.stage)
+        (there_at_source b (link_of run l).source link.begins) seen)
+
+    answers_shared : (l : ℕ) → l < length run.layout.links → (link_of run l).source ≡ Block b
+        → is_wished_for (ends l).source.stage ≡ true
+        → has_offer_out run ends b ≡ true
+    answers_shared l small from wished =
+        let k = place l in
+        let near = there l small from in
+        let offer = some_is exits.offer
+        (answers_late exits k node.block.stopped (is_held_up node.block) (stage_at exits k) (none.outs k near)
+        (nothing.outs k near)
+        (ap is_wished_for (sym (source_is l small from)) ∙ wished)) in
+        offer_out offer.0 offer.1
+
+  gives : (sharing : Bool) → is_one_taker node.block.kind ≡ sharing → (l : ℕ) → l < length run.layout.links
+      → (link_of run l).source ≡ Block b → is_to_hand_over (ends l).source.stage ≡ false
+  gives true shares l small from = gives_shared shares l small from
+  gives false copying l small from = (copier_still run ends b node law part copying nothing).gives l small from
+
+  answers : (sharing : Bool) → is_one_taker node.block.kind ≡ sharing → (l : ℕ) → l < length run.layout.links
+      → (link_of run l).source ≡ Block b → is_wished_for (ends l).source.stage ≡ true → has_offer_out run ends b ≡ true
+  answers true shares l small from wished = answers_shared shares l small from wished
+  answers false copying l small from wished =
+      never_both (is_wished_for (ends l).source.stage) wished ((copier_still run ends b node law part copying nothing).answers l small from)
+
+  is_in_place : (l p : ℕ) → l < length run.layout.links → (link_of run l).target ≡ Port b p
+      → in_place run.layout b p l < length (port_at p node.block).ends
+  is_in_place l p small to =
+      (end_in_of run.layout run.meaning b node.block law.shape p l (ports l p small to) small to).there
+
+  receives : (l p : ℕ) → l < length run.layout.links → (link_of run l).target ≡ Port b p
+      → is_to_receive (ends l).target.stage ≡ false
+  receives l p small to =
+      let k = in_place run.layout b p l in
+      let port = port_at p node.block in
+      ap is_to_receive (target_is l p small to)
+      ∙ receives_nothing k port (port_stage k port) (hand_in k port.ends)
+      (nothing.ins p k (ports l p small to) (is_in_place l p small to))
+
+  never_holds : (l p : ℕ) → l < length run.layout.links → (link_of run l).target ≡ Port b p
+      → is_holding (ends l).target.stage ≡ false
+  never_holds l p small to =
+      let k = in_place run.layout b p l in
+      let port = port_at p node.block in
+      ap is_holding (target_is l p small to)
+      ∙ holds_nothing (port_stage k port) (hand_in k port.ends)
+      (none.ins p k (ports l p small to) (is_in_place l p small to))
+
+  is_still : NodeIsStill run ends b
+  is_still = record {
+    gives = gives (is_one_taker node.block.kind) refl;
+    answers = answers (is_one_taker node.block.kind) refl;
+    receives = receives;
+    claims = λ l p small to holds. never_both (is_holding (ends l).target.stage) holds (never_holds l p small to);
+  }
+
+pub nodes_are_still : (W : Type 0) → NodesAreStill W
+nodes_are_still W run ends b node small law part ports nothing none =
+    is_still run ends b node law part ports nothing none

@@ -1,0 +1,189 @@
+-- Where its exits are in order, a block stands at each link out of it as its end does.
+use Rattle.std.proofs.Common.{◌≡◌, ℕ, ◌<◌, ◌==◌, ltb, Bool, true, false, not, ◌&&◌, ◌||◌, cond, List, [], ◌∷◌, length, Option, Some, None, is_some, refl, ap, sym, ◌∙◌, subst, arith, eq-eqb}
+use Rattle.std.proofs.lemmas.Bool.{OnTrue_at, lt-ltb, ltb-true}
+use Rattle.flow_value.specs.declared.value.Value.{Value}
+use Rattle.flow_value.specs.declared.when.When.{When}
+use Rattle.flow_link.specs.LinkOk.{IsWithin, HasRoom}
+use Rattle.flow_link.specs.SourceCalls.{MayConsume, is_under_way}
+use Rattle.flow_link.specs.declared.stage.SourceStage.{SourceStage}
+use Rattle.flow_link.specs.declared.stage.SourceStage.TheVariants as source
+use Rattle.flow_link.specs.declared.trace.Outcome.{Outcome}
+use Rattle.flow_outlet.specs.End.{end_in, is_out, is_cut, is_limit, is_over, is_passed, is_free, speaks_of, rejects, place_in}
+use Rattle.flow_outlet.specs.Outlet.{OutletState, end_at, stage_at, is_at, is_empty, first_of, head_of, may_offer}
+use Rattle.flow_outlet.specs.ByLink.{has_room, is_head, is_taken, tests_take, tests_consume}
+use Rattle.flow_outlet.specs.Law.{OutletLaw, admits_head}
+use Rattle.flow_outlet.proofs.OffersInOrder.{stops_there}
+use Rattle.flow_outlet.proofs.StagesTell.{speaks_id}
+use Rattle.flow_block_law.specs.NodeLaw.{is_kept}
+use Rattle.flow_block_law.specs.Stands.{without_gone, OwnEnds, BlocksStandInOrder}
+use Rattle.flow_block.specs.Traits.{is_ready, source_shown, place_shown, source_over, busy_by, carries, offers_over, may_take, is_busy}
+use Rattle.flow_block.proofs.SourceStands.{all_four, shown_known, may_where}
+
+pub admits_there : (when : When) (head : Option Value) → admits_head when head ≡ true → is_some head ≡ true
+admits_there when None e = absurd (cc)
+admits_there when (Some _) e = refl
+
+not_empty : (left : List Value) → is_some (first_of left) ≡ true → is_empty left ≡ false
+not_empty [] e = absurd (cc)
+not_empty (_ ∷ _) e = refl
+
+pub room_for : (max : Option ℕ) (given : ℕ) → HasRoom max given → has_room max given ≡ true
+room_for None given room = refl
+room_for (Some max) given room = lt-ltb given max room
+
+room_where : (max : Option ℕ) (given : ℕ) → IsWithin max given → is_limit max given ≡ false → has_room max given ≡ true
+room_where None given within cut = refl
+room_where (Some max) given within cut =
+    lt-ltb given max (let other : given ≡ max → ⊥ = λ e. (let same : (given == max) ≡ true = eq-eqb given max e in cc) in omega (arith, within, other))
+
+-- what a link may consume, where its message is not gone, waits
+waits_where : (head busy : Bool) (header i : ℕ) → MayConsume header busy (cond head (source.Waiting i) source.Free) → (head ≡ true) × (busy ≡ false)
+waits_where true busy header i may = (refl, may.1)
+waits_where false busy header i may = absurd may
+
+all_three : (a b c : Bool) → a ≡ true → b ≡ true → c ≡ true → (a && b && c) ≡ true
+all_three a b c p q r = rw (p, q, r) refl
+
+taken_where : (there head take : Bool) → there ≡ true → (head ≡ true → take ≡ true) → ((there && (not head || take)) && head) ≡ head
+taken_where true true take is all = ap (λ (t : Bool). t && true) (all refl)
+taken_where true false take is all = refl
+taken_where false head take is all = absurd (cc)
+
+-- a message of which an end speaks is there, and may cross
+record IsThere (k : ℕ) (o : OutletState) : Type 0 where
+  pub some : is_empty o.left ≡ false
+  pub parcel : is_some o.parcel ≡ true
+  pub room : has_room (end_at o k).rule.max (end_at o k).given ≡ true
+
+module _ {pending : Bool} {stopped : Option Outcome} (o : OutletState) (law : OutletLaw pending stopped o) (own : OwnEnds o) (k : ℕ) (l : k < length o.ends) where
+  speaking : speaks_of o.next (stage_at o k) ≡ true → IsThere k o
+  speaking speaks =
+      let end = law.each k l in
+      let head : is_some (head_of o) ≡ true = admits_there (end_at o k).rule.when (head_of o) (OnTrue_at speaks end.admitted) in
+      record {
+        some = not_empty o.left head;
+        parcel = ap is_some (law.ready k l speaks) ∙ head;
+        room = room_for (end_at o k).rule.max (end_at o k).given (end.room o.next (speaks_id o.next (stage_at o k) speaks));
+      }
+
+  -- what is out is ready to be given
+  ready : is_out (stage_at o k) ≡ true → is_ready k (end_at o k) o ≡ true
+  ready out =
+      let end = law.each k l in
+      let offer : o.offer ≡ Some k = OnTrue_at out end.out in
+      let there = speaking (OnTrue_at out end.out_head) in
+      all_four (is_at o.offer k) (not (is_empty o.left)) (is_some o.parcel) (has_room (end_at o k).rule.max (end_at o k).given)
+      (ap (λ (f : Option ℕ). is_at f k) offer ∙ eq-eqb k k refl) (ap not there.some) there.parcel there.room
+
+  shown_at : (stage : SourceStage) → stage_at o k ≡ stage → is_kept stage ≡ false
+      → source_shown (is_ready k (end_at o k) o) o.next stage ≡ without_gone o.next stage
+  shown_at (source.Out i) is kept =
+      let out : is_out (stage_at o k) ≡ true = ap is_out is in
+      let head : (i == o.next) ≡ true = ap (speaks_of o.next) (sym is) ∙ OnTrue_at out (law.each k l).out_head in
+      ap (λ (both : Bool). cond both (source.Out i) source.Crossing) (ap (λ (r : Bool). r && (i == o.next)) (ready out) ∙ head)
+  shown_at (source.Accepted i) is kept =
+      let out : is_out (stage_at o k) ≡ true = ap is_out is in
+      let head : (i == o.next) ≡ true = ap (speaks_of o.next) (sym is) ∙ OnTrue_at out (law.each k l).out_head in
+      ap (λ (both : Bool). cond both (source.Accepted i) source.Crossing) (ap (λ (r : Bool). r && (i == o.next)) (ready out) ∙ head)
+  shown_at (source.Reserved _) is kept = absurd (cc)
+  shown_at (source.Waiting _) is kept = refl
+  shown_at source.Free is kept = refl
+  shown_at (source.Posted _) is kept = refl
+  shown_at (source.Wished _) is kept = refl
+  shown_at (source.AskedBy _) is kept = refl
+  shown_at (source.Claimed _) is kept = refl
+  shown_at source.Crossing is kept = refl
+  shown_at source.Refused is kept = refl
+  shown_at (source.Ended _) is kept = refl
+
+  stages_at : is_kept (stage_at o k) ≡ false → source_over o (end_at o k).rule.id ≡ without_gone o.next (stage_at o k)
+  stages_at kept = ap (λ (n : ℕ). place_shown n o) (own k l) ∙ shown_known o k l ∙ shown_at (stage_at o k) refl kept
+
+out_kept : (stage : SourceStage) → is_out stage ≡ true → is_kept stage ≡ false
+out_kept (source.Out _) e = refl
+out_kept (source.Accepted _) e = refl
+out_kept stage e = absurd (cc)
+
+out_under_way : (next : ℕ) (stage : SourceStage) → is_out stage ≡ true → is_under_way (without_gone next stage) ≡ true
+out_under_way next (source.Out _) e = refl
+out_under_way next (source.Accepted _) e = refl
+out_under_way next stage e = absurd (cc)
+
+module _ {pending : Bool} {stopped : Option Outcome} (o : OutletState) (law : OutletLaw pending stopped o) (own : OwnEnds o) where
+  busy_at : (k : ℕ) → o.offer ≡ Some k → is_busy o ≡ true
+  busy_at k offer =
+      let out = law.offer_out k offer in
+      ap (busy_by o) offer
+      ∙ ap is_under_way (stages_at o law own k (law.offer_there k offer) (out_kept (stage_at o k) out))
+      ∙ out_under_way o.next (stage_at o k) out
+
+  none_out : is_busy o ≡ false → (offer : Option ℕ) → o.offer ≡ offer → is_some o.offer ≡ false
+  none_out rests None is = ap is_some is
+  none_out rests (Some k) is = let busy = busy_at k is in absurd (cc)
+
+  offers_at_own : (k : ℕ) → may_offer o ≡ Some k → offers_over o (may_offer o) ≡ Some k
+  offers_at_own k may =
+      let n = place_in o.next (head_of o) o.ends in
+      let told = may_where (is_empty o.left) (is_some o.offer) (ltb n (length o.ends)) (is_free (stage_at o n)) n k may in
+      let near : n < length o.ends = ltb-true n (length o.ends) told.known in
+      let l : k < length o.ends = subst (λ (m : ℕ). m < length o.ends) told.place_is near in
+      let stops : is_passed o.next (head_of o) (end_at o k) ≡ false =
+      subst (λ (m : ℕ). is_passed o.next (head_of o) (end_in o.ends m) ≡ false) told.place_is (stops_there o.next (head_of o) o.ends near) in
+      let not_cut = closed_of (is_over (stage_at o k)) (is_cut (end_at o k)) (speaks_of o.next (stage_at o k)) ((end_at o k).declined == o.next)
+      (rejects (end_at o k).rule.when (head_of o)) stops in
+      let room = room_where (end_at o k).rule.max (end_at o k).given (law.each k l).within not_cut in
+      let carried : carries k o.ends ≡ true =
+      ap (λ (m : ℕ). (m == k) && has_room (end_at o k).rule.max (end_at o k).given) (own k l)
+      ∙ ap (λ (b : Bool). b && has_room (end_at o k).rule.max (end_at o k).given) (eq-eqb k k refl) ∙ room in
+      ap (offers_over o) may ∙ ap (λ (b : Bool). cond b (Some k) None) carried
+    where
+      closed_of : (over cut speaks declined rejected : Bool) → ((over || cut) || speaks || declined || rejected) ≡ false → cut ≡ false
+      closed_of true cut speaks declined rejected e = absurd (cc)
+      closed_of false true speaks declined rejected e = absurd (cc)
+      closed_of false false speaks declined rejected e = refl
+
+  module _ (k : ℕ) (l : k < length o.ends) (header : ℕ) where
+    take_at : is_taken o.next (is_some o.offer) (stage_at o k) ≡ true → speaks_of o.next (stage_at o k) ≡ true → tests_take k o ≡ true
+    take_at taken speaks =
+        let there = speaking o law own k l speaks in
+        all_three (is_taken o.next (is_some o.offer) (stage_at o k)) (is_some o.parcel) (has_room (end_at o k).rule.max (end_at o k).given)
+        taken there.parcel there.room
+
+    take_where : (stage : SourceStage) → stage_at o k ≡ stage → is_kept stage ≡ false → MayConsume header (is_busy o) (without_gone o.next stage)
+        → tests_take k o ≡ true
+    take_where (source.Accepted i) is kept may =
+        let speaks : speaks_of o.next (stage_at o k) ≡ true = OnTrue_at (ap is_out is) (law.each k l).out_head in
+        let head : (i == o.next) ≡ true = ap (speaks_of o.next) (sym is) ∙ speaks in
+        take_at (ap (is_taken o.next (is_some o.offer)) is ∙ head) speaks
+    take_where (source.Waiting i) is kept may =
+        let waits = waits_where (i == o.next) (is_busy o) header i may in
+        let out : is_some o.offer ≡ false = none_out waits.1 o.offer refl in
+        take_at
+        (ap (is_taken o.next (is_some o.offer)) is ∙ ap (λ (h : Bool). h && not (is_some o.offer)) waits.0 ∙ ap not out)
+        (ap (speaks_of o.next) is ∙ waits.0)
+    take_where (source.Reserved _) is kept may = absurd (cc)
+    take_where source.Free is kept may = absurd may
+    take_where (source.Posted _) is kept may = absurd may
+    take_where (source.Out _) is kept may = absurd may
+    take_where (source.Wished _) is kept may = absurd may
+    take_where (source.AskedBy _) is kept may = absurd may
+    take_where (source.Claimed _) is kept may = absurd may
+    take_where source.Crossing is kept may = absurd may
+    take_where source.Refused is kept may = absurd may
+    take_where (source.Ended _) is kept may = absurd may
+
+    gives_at : is_kept (stage_at o k) ≡ false → MayConsume header (is_busy o) (source_over o (end_at o k).rule.id)
+        → may_take (end_at o k).rule.id header o ≡ is_head header o
+    gives_at kept may =
+        let mine = subst (λ (s : SourceStage). MayConsume header (is_busy o) s) (stages_at o law own k l kept) may in
+        let take = take_where (stage_at o k) refl kept mine in
+        ap (λ (n : ℕ). tests_consume n header o && is_head header o) (own k l)
+        ∙ taken_where (ltb k (length o.ends)) (is_head header o) (tests_take k o) (lt-ltb k (length o.ends) l) (λ _. take)
+
+pub stands_in_order : BlocksStandInOrder
+stands_in_order pending stopped o = record {
+  stages = λ law own k l kept. stages_at o law own k l kept;
+  gives = λ law own k l kept header may. gives_at o law own k l header kept may;
+  busy = λ law own k offer. busy_at o law own k offer;
+  offers = λ law own k may. offers_at_own o law own k may;
+}
