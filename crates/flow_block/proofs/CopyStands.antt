@@ -21,7 +21,8 @@ use Rattle.flow_spread.specs.ByLink.{place_of, IsAsked, answered_link, still_owe
 use Rattle.flow_spread.proofs.NextOffer.{Next}
 use Rattle.flow_block.specs.Traits.{source_shown, is_copy_ready, copy_shown, copy_place_shown, copy_over, carries_copy, may_take_copy}
 use Rattle.flow_block.proofs.PlacesNamed.{place_set}
-use Rattle.flow_block.proofs.SourceStands.{IsOut, shown_out, free_stage, promised_by}
+use Rattle.flow_block.proofs.SourceStands.{IsOut, shown_out, free_stage}
+use Rattle.flow_block.proofs.PromisedStands.{promised_by}
 
 -- The end of a link
 

@@ -19,6 +19,7 @@ pub mod PassesOfNodes
 pub mod PlacesNamed
 pub mod PlanMade
 pub mod PortsChange
+pub mod PromisedStands
 pub mod ResultsKept
 pub mod RoomBack
 pub mod RoomFits

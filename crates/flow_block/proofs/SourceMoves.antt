@@ -15,7 +15,8 @@ use Rattle.flow_spread.proofs.NextOffer.{next_is}
 use Rattle.flow_block.specs.Block.{BlockState, with_copies}
 use Rattle.flow_block.specs.Traits.{source_over, carries, offers_over, copy_over, carries_copy, copies_over, offers_copy_at, shares, source_by, source_at, is_busy, busy_with, is_source_busy, may_take, gives_over, may_take_copy, copies_home}
 use Rattle.flow_block.proofs.CopyStands.{copy_answer_moves, copy_offer_moves, promised_copy, copy_consume_moves}
-use Rattle.flow_block.proofs.SourceStands.{answer_moves, offer_moves, consume_moves, promised_head}
+use Rattle.flow_block.proofs.SourceStands.{answer_moves, offer_moves, consume_moves}
+use Rattle.flow_block.proofs.PromisedStands.{promised_head}
 
 -- Where it shares its messages out
 

@@ -33,7 +33,7 @@ use Rattle.flow_block.proofs.PortsChange.{kept_at_all}
 use Rattle.flow_block_law.proofs.ShapeHolds.{exits_move as shape_stays}
 use Rattle.flow_block.proofs.TestsTell.{none_is}
 use Rattle.flow_block.proofs.ResultsKept.{keeps_goes, ports_stay, held_then}
-use Rattle.flow_block_law.proofs.ViewsMove.{EndsStay, keeping_stays, yielding_stays}
+use Rattle.flow_block_law.proofs.EndsStay.{EndsStay, keeping_stays, yielding_stays}
 use Rattle.flow_block_law.proofs.Joins.{works_unjoined, works_unbatched, works_at_one}
 
 -- Other slots

@@ -16,6 +16,9 @@ pub mod CopiesTested
 pub mod CourseMore
 pub mod EndsAtRest
 pub mod EndsHold
+pub mod EndsOfBlocks
+pub mod EndsReached
+pub mod EndsStay
 pub mod EndsTell
 pub mod ExitsHold
 pub mod FaultsSeen
@@ -55,6 +58,7 @@ pub mod NothingComes
 pub mod NothingToDo
 pub mod OnceHolds
 pub mod OnceMakesNone
+pub mod PlacesCounted
 pub mod PlacesOfCopies
 pub mod PlacesOfLinks
 pub mod PlacesOfNumbers
@@ -63,6 +67,8 @@ pub mod PortsHold
 pub mod PortsStand
 pub mod RowsHold
 pub mod ShapeHolds
+pub mod SharersAreLawful
+pub mod SharersRest
 pub mod StandsInOrder
 pub mod TuplesHold
 pub mod TuplesSeen

@@ -1,28 +1,27 @@
 -- Each call keeps what a block counts of its places: one is taken by each message that it holds or has not wholly given.
-use Rattle.std.proofs.Common.{zero, suc, ◌≡◌, ℕ, ◌+◌, ◌<◌, leb, ◌==◌, cond, Bool, true, false, List, [], ◌∷◌, ◌++◌, length, map, set, drop, Option, Some, None, is_some, Result, Ok, Err, refl, ap, sym, ◌∙◌, subst, append-nil, arith, ne_eqb, length-append, not, ◌-◌}
+use Rattle.std.proofs.Common.{◌≡◌, ℕ, ◌+◌, ◌<◌, leb, Bool, true, false, List, [], ◌∷◌, ◌++◌, length, map, drop, Option, Some, None, is_some, Result, Ok, Err, refl, ap, sym, ◌∙◌, subst, append-nil, arith, length-append, not, ◌-◌}
 use Rattle.std.proofs.lemmas.List.{get_or-set_same, take-append-drop}
 use Rattle.flow_value.specs.View.{values_of-items_from}
 use Rattle.flow_value.specs.declared.value.Value.{Value}
 use Rattle.flow_link.specs.declared.draft.BlockKind.{BlockKind}
-use Rattle.flow_link.specs.declared.draft.BlockKind.TheVariants.{Buffer, Broadcast, WriteOnce, Action, Transform, TransformMany, Batch}
+use Rattle.flow_link.specs.declared.draft.BlockKind.TheVariants.{Buffer, Action, TransformMany, Batch}
 use Rattle.flow_link.specs.declared.trace.Mark.{Mark}
 use Rattle.flow_link.specs.declared.trace.Mark.TheVariants.{Complete, Fault, Done}
 use Rattle.flow_link.specs.declared.trace.Outcome.{Outcome}
 use Rattle.flow_link.specs.declared.trace.Outcome.TheVariants as outcome
 use Rattle.flow_link.specs.JournalGrows.{taken_by_mark, given_by_mark}
 use Rattle.flow_link.specs.Layout.{Layout}
-use Rattle.flow_link.specs.Making.{result_of, row_weight}
+use Rattle.flow_link.specs.Making.{row_weight}
 use Rattle.flow_link.specs.Plan.{block_in, is_one_taker}
 use Rattle.flow_link.specs.Trace.{took, gave}
 use Rattle.flow_link.proofs.OneMoreMark.{took_no_more, gave_no_more, took_by_took, gave_by_took, took_by_gave, gave_by_gave}
 use Rattle.flow_intake.specs.Port.{PortState, fresh_port}
-use Rattle.flow_intake.specs.Calls.{first_of, one_more, wants, turns_down, postpones, refuses, consumes, opens, closes, looks as port_looks, takes_next, gives_room, port_closes, port_fails}
+use Rattle.flow_intake.specs.Calls.{first_of, wants, turns_down, postpones, refuses, consumes, opens, closes, looks as port_looks, takes_next, gives_room, port_closes, port_fails}
 use Rattle.flow_intake.specs.PortLaw.{has_ended as has_port_ended}
 use Rattle.flow_outlet.specs.declared.group.Group.{Group}
 use Rattle.flow_outlet.specs.Fits.{weight_of}
-use Rattle.flow_outlet.specs.Outlet.{OutletState, head_of, groups_with, groups_after, room_with, gives, prepares, offers, denies, withdraws, ends_link, looks as exit_looks, is_empty}
-use Rattle.flow_outlet.proofs.OutletFits.{weight_stays, room_put}
-use Rattle.flow_link.specs.Plan.{is_broadcast}
+use Rattle.flow_outlet.specs.Outlet.{OutletState, head_of, groups_with, groups_after, gives, prepares, offers, denies, withdraws, ends_link, looks as exit_looks}
+use Rattle.flow_outlet.proofs.OutletFits.{weight_stays}
 use Rattle.flow_block.specs.Copies.{copy_place, CopyCall, after_copy, copies_weight}
 use Rattle.flow_block_law.proofs.CopiesIdle.{copies_at, broadcast_copies, once_copies}
 use Rattle.flow_block.proofs.RoomBack.{back_plain, kept_back, each_after_back}
@@ -35,10 +34,8 @@ use Rattle.flow_block.specs.Jobs.{JobsState, begins, works_off}
 use Rattle.flow_block.specs.Node.{NodeState, NodeCall, hand_at, in_link_at, out_link_at, holds_in, gives_from, copies_by}
 use Rattle.flow_block_law.specs.NodeLaw.{NodeLaw, ShapeLaw, LoadLaw, WeighsAs, places_out, rows_weighed}
 use Rattle.flow_block_law.specs.NodeKeeps.{MayCall, after_call, LoadKept}
-use Rattle.flow_block.specs.Peeks.{may_work}
 use Rattle.flow_block.specs.Planned.{block_makes, room_of}
 use Rattle.flow_block_law.proofs.GroupsOfRows.{group_there, group_tells}
-use Rattle.flow_block_law.proofs.CopierKept.{may_copy_tells}
 use Rattle.flow_block_law.proofs.GoingOn.{may_work_tells}
 use Rattle.flow_block_law.proofs.KindsBuilt.{is_of_one, of_one, has_one_port, makes_by, next_by}
 use Rattle.flow_block_law.proofs.PlacesOfLinks.{shares_at}
@@ -46,135 +43,9 @@ use Rattle.flow_block.proofs.PortsChange.{kept_at_one, kept_at_all, each_after_o
 use Rattle.flow_block_law.proofs.WeightsOfResults.{is_many, weighs_taken, weighs_given, weighs_many, weighs_one, rows_put}
 use Rattle.flow_block_law.proofs.Joins.{join_alone, join_single, join_weighs, batch_at_one, others_at_one, broadcast_at_one}
 use Rattle.flow_block_law.proofs.ShapeHolds.{same_kind}
-use Rattle.flow_group.specs.Tuple.{has_first, has_tuple, tuple_of}
-use Rattle.std.proofs.lemmas.Bool.{and_parts}
+use Rattle.flow_block_law.proofs.PlacesCounted.{weighs_copied, none_copied_yet, many_shares, is_action, made_is_one, none_back, more_weight, one_place, many_places, gone_at, IsLeftSo, left_so, Counts, EachCounts, one_as_before, each_as_before, one_taken, one_goes}
+use Rattle.flow_group.specs.Tuple.{has_tuple, tuple_of}
 use Rattle.flow_link.proofs.ListTests.{never_both}
-
--- of a block that copies nothing is weighed that it put out
-weighs_copied : (result : Value → Result (List Value) ℕ) (kind : BlockKind) (capacity : Option ℕ)
-    (taken held given taken' held' given' left : List Value) (next : ℕ) (groups : List Group) → is_one_taker kind ≡ false
-    → WeighsAs result kind capacity taken held given left next groups → WeighsAs result kind capacity taken' held' given' left next groups
-weighs_copied result Broadcast capacity taken held given taken' held' given' left next groups copying weighs = weighs
-weighs_copied result WriteOnce capacity taken held given taken' held' given' left next groups copying weighs = weighs
-weighs_copied result _ capacity taken held given taken' held' given' left next groups copying weighs = absurd (cc)
-
--- what goes on to copy another message has nothing left of the last one
-none_copied_yet : (block : BlockState) → is_broadcast block.kind ≡ true → may_work block ≡ true → copies_weight block.copies ≡ 0
-none_copied_yet block broadcast may = free_is_given block.copies (may_copy_tells block broadcast may)
-
-many_shares : (kind : BlockKind) → is_many kind ≡ true → is_one_taker kind ≡ true
-many_shares TransformMany many = refl
-many_shares _ many = absurd (cc)
-
-abbrev is_action : BlockKind → Bool
-is_action Action = true
-is_action _ = false
-
--- and what they give is one message for each
-transformed_is_one : (raw : Result (List Value) ℕ) (values : List Value) → result_of Transform raw ≡ Ok values
-    → length values ≡ 1
-transformed_is_one (Err number) values e = absurd (cc)
-transformed_is_one (Ok []) values e = absurd (cc)
-transformed_is_one (Ok (value ∷ [])) values e = let same : values ≡ value ∷ [] = cc in rw same refl
-transformed_is_one (Ok (value ∷ next ∷ more)) values e = absurd (cc)
-
-made_by_kind : (kind : BlockKind) (raw : Value → Result (List Value) ℕ) (value : Value) (values : List Value)
-    → is_of_one kind ≡ true → made_of kind (λ v. result_of kind (raw v)) value ≡ Ok values
-    → is_action kind ≡ false → is_many kind ≡ false → is_batch kind ≡ false → length values ≡ 1
-made_by_kind Buffer raw value values built e other single alone = let same : values ≡ value ∷ [] = cc in rw same refl
-made_by_kind Action raw value values built e other single alone = absurd (cc)
-made_by_kind Transform raw value values built e other single alone = transformed_is_one (raw value) values e
-made_by_kind TransformMany raw value values built e other single alone = absurd (cc)
-made_by_kind kind raw value values built e other single alone = absurd (cc)
-
-made_is_one : (kind planned : BlockKind) (raw : Value → Result (List Value) ℕ) (value : Value) (values : List Value)
-    → kind ≡ planned → is_of_one kind ≡ true → made_of kind (λ v. result_of planned (raw v)) value ≡ Ok values
-    → is_action kind ≡ false → is_many kind ≡ false → is_batch kind ≡ false → length values ≡ 1
-made_is_one kind planned raw value values same built e other single alone =
-    made_by_kind kind raw value values built
-    (subst (λ (other : BlockKind). made_of kind (λ v. result_of other (raw v)) value ≡ Ok values) (sym same) e)
-    other single alone
-
--- the room of a result that is there does not come back at once
-pub none_back : (count weight room : ℕ) → 0 < count → room ≡ 0 → room_with count weight room ≡ 0
-none_back count weight room some none =
-    let more : (count == 0) ≡ false = ne_eqb count 0 (λ e. omega arith) in
-    ap (λ (test : Bool). room + cond test weight 0) more ∙ omega arith
-
--- a result that is there takes the places of its weight
-pub more_weight : (next count weight : ℕ) (groups : List Group) → 0 < count
-    → weight_of (groups_with next count weight groups) ≡ weight_of groups + weight
-more_weight next count weight groups some =
-    let put = room_put next count weight 0 groups in
-    let none = none_back count weight 0 some refl in
-    omega (arith, put, none)
-
-pub one_place : (capacity : Option ℕ) → is_some capacity ≡ true → unit_weight capacity ≡ 1
-one_place None there = absurd (cc)
-one_place (Some c) there = refl
-
-many_places : (capacity : Option ℕ) (count : ℕ) → is_some capacity ≡ true → group_weight capacity count ≡ count
-many_places None count there = absurd (cc)
-many_places (Some c) count there = refl
-
--- one message goes off each port
-one_gone : (waiting : List Value) → not (is_empty waiting) ≡ true → length waiting ≡ length (drop 1 waiting) + 1
-one_gone [] some = absurd (cc)
-one_gone (value ∷ waiting) some = omega arith
-
-gone_at : (ports : List PortState) (q : ℕ) → q < length ports → has_tuple ports ≡ true
-    → length (port_in ports q).waiting ≡ length (drop 1 (port_in ports q).waiting) + 1
-gone_at [] q there waits = absurd (omega (arith, there))
-gone_at (port ∷ ports) zero there waits = one_gone port.waiting (and_parts (has_first port) (has_tuple ports) waits).0
-gone_at (port ∷ ports) (suc q) there waits =
-    gone_at ports q (omega (arith, there)) (and_parts (has_first port) (has_tuple ports) waits).1
-
--- an outlet has the same left to give
-record IsLeftSo (before after : OutletState) : Type 0 where
-  left : after.left ≡ before.left
-  next : after.next ≡ before.next
-  groups : after.groups ≡ before.groups
-  room : after.room ≡ before.room
-
-left_so : (exits : OutletState) → IsLeftSo exits exits
-left_so exits = record { left = refl; next = refl; groups = refl; room = refl }
-
--- what is counted at each port, where there is a capacity
-abbrev Counts : Bool → ℕ → PortState → Type 0
-Counts limited left port = limited ≡ true → port.load ≡ length port.waiting + left
-
-abbrev EachCounts : Bool → ℕ → List PortState → Type 0
-EachCounts limited left ports = (q : ℕ) → q < length ports → Counts limited left (port_in ports q)
-
--- a port changes that holds as much as before
-one_as_before : (limited : Bool) (left : ℕ) (ports : List PortState) (p : ℕ) (port : PortState)
-    → port.load ≡ (port_in ports p).load → port.waiting ≡ (port_in ports p).waiting
-    → EachCounts limited left ports → EachCounts limited left (set ports p port)
-one_as_before limited left ports p port load waiting counts =
-    each_after_one (λ q x. Counts limited left x) ports p port
-    (λ below there. load ∙ counts p below there ∙ ap (λ (vs : List Value). length vs + left) (sym waiting))
-    (λ q there other. counts q there)
-
-each_as_before : (limited : Bool) (left : ℕ) (ports : List PortState) (change : PortState → PortState)
-    → ((port : PortState) → Counts limited left port → Counts limited left (change port))
-    → EachCounts limited left ports → EachCounts limited left (map change ports)
-each_as_before limited left ports change same counts =
-    each_after_all (λ q x. Counts limited left x) change ports (λ q below. same (port_in ports q) (counts q below))
-
--- a port takes a message
-one_taken : (capacity mine : Option ℕ) (load left : ℕ) (waiting : List Value) (value : Value)
-    → mine ≡ capacity → is_some capacity ≡ true → load ≡ length waiting + left
-    → one_more mine load ≡ length (waiting ++ value ∷ []) + left
-one_taken None mine load left waiting value same there counts = absurd (cc)
-one_taken (Some c) None load left waiting value same there counts = absurd (cc)
-one_taken (Some c) (Some d) load left waiting value same there counts =
-    rw (length-append waiting (value ∷ [])) (omega arith)
-
--- what waits longest goes on
-one_goes : (waiting : List Value) (value : Value) → first_of waiting ≡ Some value
-    → length waiting ≡ length (drop 1 waiting) + 1
-one_goes [] value first = absurd (cc)
-one_goes (message ∷ waiting) value first = omega arith
 
 module _ {W : Type 0} (layout : Layout W) (meaning : ℕ → Value → Result (List Value) ℕ) (b : ℕ) where
   abbrev limit : Option ℕ

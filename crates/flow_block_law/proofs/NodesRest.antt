@@ -4,24 +4,22 @@ use Rattle.std.proofs.lemmas.Bool.{or_cases, ltb-false, lt-ltb, and_from, and_pa
 use Rattle.flow_value.specs.declared.value.Value.{Value}
 use Rattle.flow_link.specs.declared.draft.BlockKind.{BlockKind}
 use Rattle.flow_link.specs.declared.draft.BlockKind.TheVariants.{Join, Buffer, Broadcast, Action, Transform, TransformMany, Batch, BatchedJoin, WriteOnce}
-use Rattle.flow_link.specs.declared.plan.LinkSource.TheVariants.{Block}
 use Rattle.flow_link.specs.declared.plan.LinkTarget.TheVariants.{Port}
-use Rattle.flow_link.specs.declared.stage.SourceStage.TheVariants as source
 use Rattle.flow_link.specs.declared.trace.Mark.{Mark}
 use Rattle.flow_link.specs.declared.trace.Outcome.{Outcome}
 use Rattle.flow_link.specs.declared.trace.Outcome.TheVariants.{Done, Faulted}
-use Rattle.flow_link.specs.Composes.{Ends, is_done_with}
+use Rattle.flow_link.specs.Composes.{Ends}
 use Rattle.flow_link.specs.Endings.{is_complete, has_nothing, is_complete_as}
 use Rattle.flow_link.specs.Facts.{facts_in}
 use Rattle.flow_link.specs.LinkOk.{IsWithin}
 use Rattle.flow_link.specs.Lists.{every, below, is_empty as is_none_left}
 use Rattle.flow_link.specs.Making.{load, group_size}
 use Rattle.flow_link.specs.Plan.{port_count, is_broadcast, is_one_taker, is_reserving, is_write_once}
-use Rattle.flow_link.specs.Quiet.{has_served_all, first_of as first_left, has_this_fault, faulted_by_itself, rests, rests_as, held_in_all, holds_nothing as run_holds_nothing, all_completed, has_no_group, is_done_if_can, head_as, head_from, admits_head, is_full_with}
-use Rattle.flow_link.specs.RestsByParts.{OutletRests, KindRests, NodeRests, is_over as is_view_over, is_postponed as is_view_postponed, has_seen_end, has_to_wait, lacks_an_offer}
-use Rattle.flow_link.specs.Stage.{source_stage_of, target_stage_of}
-use Rattle.flow_link.specs.Trace.{BlockTrace, Run, gave_over, given_by, given_over, took_at, has_complete, has_fault, has_ended, is_faulted, is_done, is_used_up, is_cut as is_run_cut, block_of, link_of, marks_of, held_at, left_at, ports_of}
-use Rattle.flow_link.specs.Views.{SourceStage as SourceViewStage, SourceView, TargetView}
+use Rattle.flow_link.specs.Quiet.{has_served_all, has_this_fault, faulted_by_itself, rests, rests_as, held_in_all, holds_nothing as run_holds_nothing, all_completed, has_no_group, is_done_if_can, is_full_with}
+use Rattle.flow_link.specs.RestsByParts.{OutletRests, KindRests, NodeRests, is_postponed as is_view_postponed, has_seen_end, has_to_wait, lacks_an_offer}
+use Rattle.flow_link.specs.Stage.{target_stage_of}
+use Rattle.flow_link.specs.Trace.{BlockTrace, Run, took_at, has_complete, has_fault, has_ended, is_faulted, is_done, block_of, link_of, marks_of, held_at, left_at, ports_of}
+use Rattle.flow_link.specs.Views.{TargetView}
 use Rattle.flow_block.specs.Copies.{copies_left}
 use Rattle.flow_block_law.proofs.Joins.{copies_unbatched, copies_at_one}
 use Rattle.flow_block_law.proofs.OnceHolds.{room_once}
@@ -30,11 +28,7 @@ use Rattle.flow_link.proofs.ListTests.{never_both, passes_below, unless_done}
 use Rattle.flow_intake.specs.Port.{EndState, PortState, fresh_port, fresh_end, hand_in, stage_at as port_stage, coming, has_room, is_below}
 use Rattle.flow_intake.specs.PortLaw.{has_ended as has_port_ended}
 use Rattle.flow_intake.specs.Ended.{has_seen_completion, is_completion, fault_seen}
-use Rattle.flow_outlet.specs.End.{id_of, is_waiting, is_cut}
-use Rattle.flow_outlet.specs.Law.{admits_head as admits}
-use Rattle.flow_outlet.specs.Outlet.{OutletState, first_of, is_empty, head_of, end_at, stage_at, end_of}
-use Rattle.flow_outlet.specs.declared.ends.LinkRule.{LinkRule}
-use Rattle.flow_outlet.proofs.StagesTell.{waits_for}
+use Rattle.flow_outlet.specs.Outlet.{OutletState, is_empty}
 use Rattle.flow_block.specs.Block.{BlockState, port_at, held_by, is_batch, is_join, is_batched_join, has_ports}
 use Rattle.flow_block.specs.Node.{NodeState}
 use Rattle.flow_block_law.specs.NodeLaw.{NodeLaw, has_made_all, outcome_in, has_its_message}
@@ -45,25 +39,26 @@ use Rattle.flow_block_law.proofs.NodesAreLawful.{join_is}
 use Rattle.flow_block_law.proofs.NodesSeen.{join_seen, is_joining, as_ports, complete_by_port}
 use Rattle.flow_group.specs.Tuple.{has_tuple}
 use Rattle.flow_link.specs.Quiet.{has_no_row}
-use Rattle.flow_block.specs.Planned.{rule_of, out_place, in_place}
+use Rattle.flow_block.specs.Planned.{out_place, in_place}
 use Rattle.flow_block_law.specs.CopiesSeen.{MayCarry, CopierRests}
 use Rattle.flow_block_law.proofs.CopierOf.{CopiesQuiet, copies_quiet, copier_rests, none_shared, copier_seen}
-use Rattle.flow_block_law.proofs.CopiesIdle.{left_is_shared, view_is_shared, never_broadcast, once_copies, none_copied}
-use Rattle.flow_block_law.proofs.EndsAtRest.{over_unless, not_cut, not_stopped, no_room_where, waiting_queue}
-use Rattle.flow_block_law.proofs.EndsHold.{no_group_left}
-use Rattle.flow_block_law.proofs.EndsTell.{limit_is, no_room_left, free_back, postponed_back, end_back}
+use Rattle.flow_block_law.proofs.CopiesIdle.{never_broadcast, once_copies, none_copied}
+use Rattle.flow_block_law.proofs.EndsAtRest.{no_room_where, waiting_queue}
+use Rattle.flow_block_law.proofs.EndsOfBlocks.{no_group_left}
+use Rattle.flow_block_law.proofs.EndsTell.{postponed_back, end_back}
 use Rattle.flow_block_law.proofs.FaultsSeen.{not_seen_at_ends, not_seen_at_ports}
 use Rattle.flow_block_law.proofs.GoingOn.{open_goes_on}
-use Rattle.flow_block_law.proofs.JournalTells.{stopped_tells, fault_marked, faulted_marked, none_stopped, stopped_ends, ended_by_complete, ended_is_complete}
-use Rattle.flow_block_law.proofs.KindsBuilt.{by_kind, has_one_port, room_shared}
+use Rattle.flow_block_law.proofs.JournalTells.{fault_marked, none_stopped, stopped_ends, ended_by_complete, ended_is_complete}
+use Rattle.flow_block_law.proofs.KindsBuilt.{has_one_port, room_shared}
 use Rattle.flow_block_law.proofs.NodesSeen.{held_is, none_held, own_fault_is, load_is}
-use Rattle.flow_block_law.proofs.NothingToDo.{not_pending, worked_off, none_seen, no_coming, free_at, waiting_goes, not_admitted, not_finished, left_where}
-use Rattle.flow_block_law.proofs.PlacesOfLinks.{end_in_of, end_out_of}
+use Rattle.flow_block_law.proofs.NothingToDo.{not_pending, worked_off, none_seen, no_coming, not_finished}
+use Rattle.flow_block_law.proofs.PlacesOfLinks.{end_in_of}
 use Rattle.flow_block.proofs.TestsTell.{every_tells, every_where, some_where}
 use Rattle.flow_block.specs.Groups.{has_group_at, waiting_in_all}
 use Rattle.flow_block_law.specs.GroupsLaw.{are_complete}
 use Rattle.flow_block_law.proofs.GroupsTold.{group_told}
 use Rattle.flow_block_law.proofs.GroupsRest.{groups_rest}
+use Rattle.flow_block_law.proofs.SharersRest.{left_is, outlet_shared}
 
 none_same : (values : List Value) → (is_none_left values && true) ≡ is_empty values
 none_same [] = refl
@@ -87,10 +82,6 @@ ended_already false true false en es e = absurd (cc)
 nothing_where : (values : List Value) → is_none_left values ≡ true → values ≡ []
 nothing_where [] e = refl
 nothing_where (value ∷ values) e = absurd (cc)
-
-same_first : (values : List Value) → first_left values ≡ first_of values
-same_first [] = refl
-same_first (value ∷ values) = refl
 
 -- where nothing is held, there is no tuple
 no_first : (ports : List PortState) → 0 < length ports → holds_nothing ports ≡ true → not (has_tuple ports) ≡ true
@@ -123,9 +114,6 @@ module _ {W : Type 0} (run : Run W) (ends : ℕ → Ends) (b : ℕ) (node : Node
 
   abbrev outs : OutletState
   outs = node.block.exits
-
-  abbrev place : ℕ → ℕ
-  place l = out_place run.layout b l
 
   abbrev kind : BlockKind
   kind = (block_of run b).kind
@@ -409,125 +397,6 @@ module _ {W : Type 0} (run : Run W) (ends : ℕ → Ends) (b : ℕ) (node : Node
         ⊎_elim completed (faulted own.stopped refl)
         (end_back (port_stage in_at port) (hand_in in_at port.ends) (ap has_seen_end (sym target_is) ∙ e))
 
-  -- Where it shares its messages out
-
-  module _ (shares : is_one_taker own.kind ≡ true) where
-    left_is : left_at run b ≡ outs.left
-    left_is = ap (λ (t : BlockTrace). t.left) part.trace ∙ left_is_shared run.layout run.meaning b node law shares
-
-    module _ (l : ℕ) (small : l < length run.layout.links) (from : (link_of run l).source ≡ Block b) where
-      there : place l < length outs.ends
-      there = (end_out_of run.layout run.meaning b own law.shape shares l small from).there
-
-      rule_is : (end_at outs (place l)).rule ≡ rule_of run.layout l
-      rule_is = (end_out_of run.layout run.meaning b own law.shape shares l small from).rule_is
-
-      source_is : (ends l).source.stage ≡ source_stage_of (stage_at outs (place l))
-      source_is =
-          ap (λ (view : SourceView Value). view.stage)
-          (part.sources l small from ∙ view_is_shared run.layout run.meaning b node law shares (place l))
-
-      cut_here : is_run_cut run l ≡ true → is_cut (end_at outs (place l)) ≡ true
-      cut_here e =
-          let end = end_at outs (place l) in
-          let given : gave_over end.rule.id node.journal ≡ given_over run l =
-          ap (λ (rule : LinkRule). gave_over rule.id node.journal) rule_is
-          ∙ ap (gave_over l) (sym marks_are)
-          ∙ ap (given_by run l) (sym from) in
-          let used : is_used_up end.rule.max (gave_over end.rule.id node.journal) ≡ is_used_up (link_of run l).max
-          (given_over run l) =
-          ap₂ is_used_up (ap (λ (rule : LinkRule). rule.max) rule_is) given in
-          limit_is end.rule.max end.given (gave_over end.rule.id node.journal) ((law.gave shares).each (place l) there).counted
-          (used ∙ e)
-
-      free_here : stage_at outs (place l) ≡ source.Free → end_of (end_at outs (place l)) own.stopped ≡ None
-      free_here e = (free_at run.layout run.meaning b node law nothing rest quiet (place l) there e).0
-
-      over_where : (stage_at outs (place l) ≡ source.Free → ⊥) → (is_waiting (stage_at outs (place l)) ≡ true → ⊥)
-          → is_view_over (ends l).source.stage ≡ true
-      over_where busy gone = ap is_view_over source_is
-          ∙ over_unless (stage_at outs (place l)) (rest.outs (place l) there) busy gone
-
-      over_cut : is_run_cut run l ≡ true → is_view_over (ends l).source.stage ≡ true
-      over_cut e =
-          let end = end_at outs (place l) in
-          let cut = cut_here e in
-          over_where
-          (λ free. never_both (is_cut end) cut (not_cut end own.stopped (free_here free)))
-          (λ waits.
-          let waiting = waits_for end.stage waits in
-          let room = (law.exits.law.each (place l) there).room waiting.id (ap id_of waiting.is) in
-          no_room_left end.rule.max end.given cut room)
-
-      over_stopped : is_some own.stopped ≡ true → is_view_over (ends l).source.stage ≡ true
-      over_stopped e =
-          let never : own.stopped ≡ None → ⊥ = λ going. never_both (is_some own.stopped) e (ap is_some going) in
-          over_where
-          (λ free. never (not_stopped (end_at outs (place l)) own.stopped (free_here free)))
-          (λ waits. never (waiting_goes run.layout run.meaning b node law nothing rest quiet (place l) there waits))
-
-      stopped_where : (is_faulted (marks_of run b) || is_done (marks_of run b)) ≡ true → is_some own.stopped ≡ true
-      stopped_where e =
-          ap is_some law.ends.stopped_is ∙ stopped_tells node.journal
-          ∙ ap (λ (marks : List Mark). is_faulted marks || is_done marks) (sym marks_are) ∙ e
-
-      ended_so : is_done_with run ends l b ≡ true → is_view_over (ends l).source.stage ≡ true
-      ended_so e =
-          let f = is_faulted (marks_of run b) in
-          let d = is_done (marks_of run b) in
-          ⊎_elim
-          (λ first.
-          ⊎_elim over_cut
-          (λ done. over_stopped (stopped_where (or_right f d done)))
-          (or_cases (is_run_cut run l) d first))
-          (λ faulted. over_stopped (stopped_where (or_left f d faulted)))
-          (or_cases (is_run_cut run l || d) f e)
-
-      head_admitted : (faulted : Bool) → admits_head run l (head_as run b l faulted kind) ≡ true
-          → (faulted ≡ false) × (admits_head run l (first_left (left_at run b)) ≡ true)
-      head_admitted true e = absurd (cc)
-      head_admitted false e = (
-        refl,
-        by_kind
-            (λ k. is_one_taker k ≡ true → admits_head run l (head_as run b l false k) ≡ true
-            → admits_head run l (first_left (left_at run b)) ≡ true)
-            (λ _ same. same) (λ _ same. same) (λ _ same. same) (λ _ same. same) (λ _ same. same) (λ _ same. same)
-            (λ sharing. absurd (cc)) (λ sharing. absurd (cc)) (λ _ same. same)
-            kind (ap is_one_taker (sym law.shape.kind_is) ∙ shares) e,
-      )
-
-      -- the predicate of the end is that of the link
-      same_admits : (head : Option Value) → admits_head run l head ≡ true
-          → admits (end_at outs (place l)).rule.when head ≡ true
-      same_admits None e = absurd (cc)
-      same_admits (Some value) e = ap (λ (rule : LinkRule). admits rule.when (Some value)) rule_is ∙ e
-
-      admitted_here : admits_head run l (first_left (left_at run b)) ≡ true
-          → admits (end_at outs (place l)).rule.when (head_of outs) ≡ true
-      admitted_here e =
-          let head : first_left (left_at run b) ≡ head_of outs = ap first_left left_is ∙ same_first outs.left in
-          same_admits (head_of outs) (ap (admits_head run l) (sym head) ∙ e)
-
-      not_offered : (stopped : Option Outcome) → own.stopped ≡ stopped → (ends l).source.stage ≡ SourceViewStage.free
-          → is_faulted (marks_of run b) ≡ false → admits_head run l (first_left (left_at run b)) ≡ true → ⊥
-      not_offered None e free faulted admitted =
-          not_admitted run.layout run.meaning b node law nothing rest quiet (place l) there
-          (free_back (stage_at outs (place l)) (sym source_is ∙ free)) e (admitted_here admitted)
-      not_offered (Some Done) e free faulted admitted =
-          never_both (is_empty outs.left) (ap is_empty (law.ends.done_empty e).1)
-          (left_where (end_at outs (place l)).rule.when outs.left (admitted_here admitted))
-      not_offered (Some (Faulted n)) e free faulted admitted =
-          never_both (is_faulted (marks_of run b))
-          (of_marks (λ marks. is_faulted marks ≡ true) (faulted_marked node.journal n (marked (Faulted n) e))) faulted
-
-      offered_so : (ends l).source.stage ≡ SourceViewStage.free → admits_head run l (head_from run l (Block b)) ≡ false
-      offered_so free = false_from_ne_true (admits_head run l (head_from run l (Block b))) (λ e.
-          let both = head_admitted (is_faulted (marks_of run b)) e in
-          not_offered own.stopped refl free both.0 both.1)
-
-    outlet_shared : OutletRests run ends b
-    outlet_shared = record { ended = ended_so; offered = offered_so }
-
   served_shared : is_one_taker own.kind ≡ true → has_served_all run b ≡ true
   served_shared shares =
       or_left (not (is_broadcast kind) || is_faulted (marks_of run b)) (is_none_left (left_at run b))
@@ -540,7 +409,7 @@ module _ {W : Type 0} (run : Run W) (ends : ℕ → Ends) (b : ℕ) (node : Node
   rests_copied copying = copier_rests run ends b node law part copying nothing rest
 
   left_gone : (sharing : Bool) → is_one_taker own.kind ≡ sharing → is_none_left (left_at run b) ≡ true → is_empty outs.left ≡ true
-  left_gone true shares none = ap is_empty (sym (left_is shares) ∙ nothing_where (left_at run b) none)
+  left_gone true shares none = ap is_empty (sym (left_is run ends b node law part ports nothing rest carries shares) ∙ nothing_where (left_at run b) none)
   left_gone false copying none = ap is_empty (none_shared run ends b node law part copying).0
 
   copied_gone : (sharing : Bool) → is_one_taker own.kind ≡ sharing → is_none_left (left_at run b) ≡ true
@@ -559,7 +428,7 @@ module _ {W : Type 0} (run : Run W) (ends : ℕ → Ends) (b : ℕ) (node : Node
   calm going = not_pending run.layout run.meaning b node law nothing rest quiet going
 
   outlet_rests : (sharing : Bool) → is_one_taker own.kind ≡ sharing → OutletRests run ends b
-  outlet_rests true shares = outlet_shared shares
+  outlet_rests true shares = outlet_shared run ends b node law part ports nothing rest carries shares
   outlet_rests false copying = (rests_copied copying).outlet calm carries
 
   done_so : is_done_if_can run b ≡ true

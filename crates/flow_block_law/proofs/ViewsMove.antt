@@ -1,10 +1,8 @@
 -- Each call moves the view of its own end as the laws of one link have it, and no other end's.
-use Rattle.std.proofs.Common.{unwrap_or, ◌≡◌, ◌≢◌, ℕ, ◌-◌, ◌<◌, ◌==◌, cond, Bool, true, List, [], ◌∷◌, ◌++◌, length, set, Option, Some, None, is_some, Result, Ok, Err, refl, ap, sym, ◌∙◌, subst, eq-eqb, arith, length-set}
+use Rattle.std.proofs.Common.{unwrap_or, ◌≡◌, ◌≢◌, ℕ, ◌-◌, ◌<◌, ◌==◌, cond, Bool, true, List, [], ◌∷◌, ◌++◌, length, set, Option, Some, None, is_some, Result, refl, ap, sym, ◌∙◌, subst, eq-eqb, arith, length-set}
 use Rattle.std.proofs.lemmas.List.{get_or-set_same, get_or-set_other}
 use Rattle.flow_value.specs.declared.value.Value.{Value}
 use Rattle.flow_value.specs.declared.when.When.{When}
-use Rattle.flow_link.specs.declared.draft.BlockKind.{BlockKind}
-use Rattle.flow_link.specs.declared.draft.BlockKind.TheVariants.{Action}
 use Rattle.flow_link.specs.declared.stage.Refusal.{Refusal}
 use Rattle.flow_link.specs.declared.stage.SourceStage.TheVariants as source
 use Rattle.flow_link.specs.declared.stage.TargetStage.TheVariants as target
@@ -20,7 +18,7 @@ use Rattle.flow_link.specs.Trace.{gave_over, took_over}
 use Rattle.flow_link.specs.Views.{SourceStage, TargetStage, SourceView, TargetView}
 use Rattle.flow_link.proofs.StagesKept.{source_looks_kept, target_looks_kept}
 use Rattle.flow_intake.specs.Port.{EndState, PortState, end_in}
-use Rattle.flow_intake.specs.Calls.{first_of, refused_by, takes_next, gives_room, port_closes, port_fails, wants, turns_down, postpones, refuses, consumes, opens, closes, looks as port_looks}
+use Rattle.flow_intake.specs.Calls.{first_of, refused_by, wants, turns_down, postpones, refuses, consumes, opens, closes, looks as port_looks}
 use Rattle.flow_outlet.specs.declared.ends.OutEnd.{OutEnd}
 use Rattle.flow_outlet.specs.End.{end_in as end_out_in, no_end, id_of}
 use Rattle.flow_outlet.specs.Law.{admits_head}
@@ -28,16 +26,16 @@ use Rattle.flow_outlet.specs.Outlet.{OutletState, head_of, end_at, stage_at, giv
 use Rattle.flow_outlet.proofs.LawKept.{gives_in_order}
 use Rattle.flow_outlet.proofs.OffersInOrder.{offers_in_order}
 use Rattle.flow_link.specs.Plan.{is_broadcast}
-use Rattle.flow_spread.specs.Spread.{link_at as link_over, puts}
+use Rattle.flow_spread.specs.Spread.{link_at as link_over}
 use Rattle.flow_block_law.proofs.CopiesLeave.{free_is_given}
 use Rattle.flow_block.proofs.CopiesTaken.{taken_keeps}
 use Rattle.flow_block_law.proofs.WrittenOnce.{may_put_yet}
-use Rattle.flow_block.specs.Copies.{copy_place, copies_weight, none_waits}
+use Rattle.flow_block.specs.Copies.{copy_place, none_waits}
 use Rattle.flow_block_law.proofs.CopierKept.{may_copy_next}
 use Rattle.flow_block_law.proofs.CopiesIdle.{no_copy_at, copies_at, once_copies}
-use Rattle.flow_block_law.proofs.CopiesMove.{copies_move_views, puts_move_none}
-use Rattle.flow_block.specs.Block.{BlockState, port_at, with_port, with_jobs, begins, made_of, keeps_results, yields, makes_of, makes, makes_row, takes_group, copies_next, held_by, stops_by}
-use Rattle.flow_block.specs.Jobs.{JobsState, begins as one_more}
+use Rattle.flow_block_law.proofs.CopiesMove.{copies_move_views}
+use Rattle.flow_block.specs.Block.{BlockState, port_at, begins, makes, copies_next, held_by}
+use Rattle.flow_block.specs.Jobs.{begins as one_more}
 use Rattle.flow_block.specs.Node.{NodeState, NodeCall, with_block, with_exits, marks, hand_at, in_link_at, out_link_at, takes_in, gives_from, view_of_in, view_of_out, in_view, out_view, copy_view, order_in, makes_next, holds_in}
 use Rattle.flow_block_law.specs.NodeKeeps.{after_call}
 use Rattle.flow_block_law.specs.NodeLaw.{NodeLaw}
@@ -45,13 +43,12 @@ use Rattle.flow_block.specs.Peeks.{is_pending}
 use Rattle.flow_block.specs.Planned.{block_makes}
 use Rattle.flow_block_law.specs.ViewsMove.{message_at, IsAboutIn, IsAboutOut, OthersStay, ViewsMove, CallsMoveViews}
 use Rattle.flow_block_law.proofs.JournalTells.{took_same, gave_same, took_here, gave_here}
-use Rattle.flow_block_law.proofs.KindsBuilt.{makes_by, next_by}
+use Rattle.flow_block_law.proofs.KindsBuilt.{next_by}
 use Rattle.flow_block_law.proofs.PlacesOfLinks.{links_in_differ, links_out_differ, shares_at}
-use Rattle.flow_block.proofs.PortsChange.{kept_at_one, port_of_map, end_there, end_elsewhere, kept_at_all}
+use Rattle.flow_block_law.proofs.EndsStay.{EndsStay, copied_stays, group_stays, making_stays, jobs_stay, closing_stays, stopping_stays}
+use Rattle.flow_block.proofs.PortsChange.{end_there, end_elsewhere}
 use Rattle.flow_block.proofs.RoomBack.{port_back}
 use Rattle.flow_block.proofs.TestsTell.{some_is}
-use Rattle.flow_block_law.proofs.GroupPorts.{kept_by_group}
-use Rattle.flow_block.specs.Groups.{makes_group}
 
 -- one end of a link into a node stands at a place, and all others as they did
 record OneInMoves (node new : NodeState) (p k : ℕ) (end : EndState) : Type 0 where
@@ -207,12 +204,6 @@ module _ {W : Type 0} (layout : Layout W) (meaning : ℕ → Value → Result (L
         };
       }
 
--- what a block makes, and how its ports fail or close, moves no end
-pub record EndsStay (block new : BlockState) : Type 0 where
-  pub ins : (p : ℕ) → p < length block.ports → (port_at p new).ends ≡ (port_at p block).ends
-  pub outs : new.exits.ends ≡ block.exits.ends
-  pub copies : (k : ℕ) → k < length block.copies.ends → link_over new.copies k ≡ link_over block.copies k
-
 none_moves : (node : NodeState) (block : BlockState) → EndsStay node.block block
     → NoneMoves node (with_block block node)
 none_moves node block stay = record { ins = stay.ins; outs = stay.outs; copies = stay.copies; taken = λ l. refl; given = λ l. refl }
@@ -228,83 +219,6 @@ none_moves_by node block mark stay none_taken none_given = record {
   given = λ l. gave_same (λ link. link == l) node.journal mark (none_given (λ link. link == l));
 }
 
-pub keeping_stays : (kind : BlockKind) (values : List Value) (block : BlockState)
-    → EndsStay block (keeps_results kind values block)
-keeping_stays Action values block =
-    record {
-      ins = λ p below.
-          kept_at_one (λ (port : PortState). port.ends) block.ports 0 p
-          (gives_room 1 (takes_next (port_at 0 block))) refl;
-      outs = refl;
-      copies = λ k there. refl;
-    }
-keeping_stays _ [] block =
-    record {
-      ins = λ p below.
-          kept_at_one (λ (port : PortState). port.ends) block.ports 0 p
-          (gives_room 1 (takes_next (port_at 0 block))) refl;
-      outs = refl;
-      copies = λ k there. refl;
-    }
-keeping_stays _ (value ∷ values) block = record {
-  ins = λ p below. kept_at_one (λ (port : PortState). port.ends) block.ports 0 p (takes_next (port_at 0 block)) refl;
-  outs = refl;
-  copies = λ k there. refl;
-}
-
-pub yielding_stays : (result : Result (List Value) ℕ) (block : BlockState) → EndsStay block (yields result block)
-yielding_stays (Ok values) block = keeping_stays block.kind values block
-yielding_stays (Err number) block =
-    record {
-      ins = λ p below. ap (λ (port : PortState). port.ends) (port_of_map port_fails block.ports p below);
-      outs = refl;
-      copies = λ k there. refl;
-    }
-
-first_stays : (result : Value → Result (List Value) ℕ) (message : Option Value) (block : BlockState)
-    → EndsStay block (makes_of result message block)
-first_stays result None block = record { ins = λ p below. refl; outs = refl; copies = λ k there. refl }
-first_stays result (Some value) block = yielding_stays (made_of block.kind result value) block
-
-row_stays : (block : BlockState) → EndsStay block (makes_row block)
-row_stays block = record {
-  ins = λ p below.
-      kept_at_one (λ (port : PortState). port.ends) block.ports 0 p (takes_group block.size (port_at 0 block)) refl;
-  outs = refl;
-  copies = λ k there. refl;
-}
-
--- the message that waits longest is copied from now on
-copied_stays : (first : Option Value) (block : BlockState) → none_waits block.copies ≡ true → EndsStay block (copies_next first block)
-copied_stays None block none = record { ins = λ p below. refl; outs = refl; copies = λ k there. refl }
-copied_stays (Some value) block none =
-    let room = 1 - copies_weight (puts value block.copies) in
-    record {
-      ins = λ p below.
-          kept_at_one (λ (port : PortState). port.ends) block.ports 0 p (gives_room room (takes_next (port_at 0 block))) refl;
-      outs = refl;
-      copies = λ k there. puts_move_none value (record { block = block; journal = []; grouped = 0 }) k there none;
-    }
-
-group_stays : (size weight : ℕ) (order : List ℕ) (block : BlockState) → EndsStay block (makes_group size weight order block)
-group_stays size weight order block = record {
-  ins = λ p below. kept_by_group size order (λ (port : PortState). port.ends) block.ports p (λ count port. refl);
-  outs = refl;
-  copies = λ k there. refl;
-}
-
-making_stays : (result : Value → Result (List Value) ℕ) (block : BlockState)
-    → (is_broadcast block.kind ≡ true → none_waits block.copies ≡ true) → EndsStay block (makes result block)
-making_stays result block none =
-    makes_by (EndsStay block) result block (λ batch. row_stays block)
-    (λ join. record {
-      ins = λ p below. kept_at_all (λ (port : PortState). port.ends) takes_next block.ports p (λ port. refl);
-      outs = refl;
-      copies = λ k there. refl;
-    })
-    (λ broadcast. copied_stays (first_of (held_by block)) block (none broadcast))
-    (λ other alone single. first_stays result (first_of (held_by block)) block)
-
 making_moves : (result : Value → Result (List Value) ℕ) (node : NodeState)
     → (is_broadcast node.block.kind ≡ true → none_waits node.block.copies ≡ true) → NoneMoves node (makes_next result node)
 making_moves result node none =
@@ -313,24 +227,6 @@ making_moves result node none =
     let stay = group_stays node.block.size 0 (order_in node) node.block in
     record { ins = stay.ins; outs = stay.outs; copies = stay.copies; taken = λ l. refl; given = λ l. refl })
     (λ grouped. none_moves node (makes result node.block) (making_stays result node.block none))
-
-jobs_stay : (block : BlockState) (change : JobsState → JobsState) → EndsStay block (with_jobs change block)
-jobs_stay block change = record { ins = λ p below. refl; outs = refl; copies = λ k there. refl }
-
-closing_stays : (block : BlockState) (p : ℕ) → EndsStay block (with_port p port_closes block)
-closing_stays block p = record {
-  ins = λ q below. kept_at_one (λ (port : PortState). port.ends) block.ports p q (port_closes (port_at p block)) refl;
-  outs = refl;
-  copies = λ k there. refl;
-}
-
-stopping_stays : (block : BlockState) (how : Outcome) → EndsStay block (stops_by how block)
-stopping_stays block how =
-    record {
-      ins = λ p below. ap (λ (port : PortState). port.ends) (port_of_map port_closes block.ports p below);
-      outs = refl;
-      copies = λ k there. refl;
-    }
 
 -- where no end moves after that, a message is taken all the same
 views_after : (p k : ℕ) (node held new : NodeState) → p < length held.block.ports
