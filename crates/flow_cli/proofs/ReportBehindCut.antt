@@ -4,8 +4,8 @@ use Rattle.flow_value.specs.declared.steps.Steps.{Steps}
 use Rattle.flow_link.specs.Layout.{Layout}
 use Rattle.flow_link.specs.Trace.{Run}
 use Rattle.flow_core.specs.State.{NetState}
-use Rattle.flow_text.specs.declared.fault.TextRefusal.{TextRefusal}
-use Rattle.flow_text.specs.declared.fault.TextRefusal.TheVariants.{Fault}
+use Rattle.flow_fault_text.specs.declared.fault.TextRefusal.{TextRefusal}
+use Rattle.flow_fault_text.specs.declared.fault.TextRefusal.TheVariants.{Fault}
 use Rattle.flow_run.specs.Left.{IsLeft}
 use Rattle.flow_run.specs.Ran.{Begins, IsPosted, HasUnreadRecords, IsReported, IsUnreported}
 use Rattle.flow_run.specs.Split.{IsSplit}

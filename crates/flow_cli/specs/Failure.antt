@@ -4,8 +4,8 @@ use Rattle.std.specs.IoError.{error_kind}
 use Rattle.std.specs.declared.io.Error.{Error}
 use Rattle.std.specs.declared.io.ErrorKind.{ErrorKind}
 use Rattle.std.specs.declared.io.ErrorKind.TheVariants.{OutOfMemory}
-use Rattle.flow_text.specs.declared.fault.TextFault.{TextFault}
-use Rattle.flow_text.specs.declared.fault.TextFault.TheVariants.{Read, Write}
+use Rattle.flow_fault_text.specs.declared.fault.TextFault.{TextFault}
+use Rattle.flow_fault_text.specs.declared.fault.TextFault.TheVariants.{Read, Write}
 use Rattle.flow_run.specs.declared.outcome.RunRefusal.{RunRefusal}
 use Rattle.flow_run.specs.declared.outcome.RunRefusal.TheVariants.{Text, Memory}
 

@@ -1,15 +1,15 @@
 -- When an answer and a verdict are those of `read_plan` and `read_records`.
 use Rattle.std.specs.Prelude.{ℕ, List}
 use Rattle.flow_link.specs.Layout.{Layout}
-use Rattle.flow_text.specs.Plan.{IsPlannedAs, IsUnplannedFor}
-use Rattle.flow_text.specs.declared.fault.TextRefusal.TheVariants.{Fault}
+use Rattle.flow_plan_text.specs.Plan.{IsPlannedAs, IsUnplannedFor}
+use Rattle.flow_fault_text.specs.declared.fault.TextRefusal.TheVariants.{Fault}
 use Rattle.flow_explain.specs.declared.explain.Answer.{Answer}
 use Rattle.flow_explain.specs.declared.explain.Answer.TheVariants as answer
 use Rattle.flow_explain.specs.declared.check.Verdict.{Verdict}
 use Rattle.flow_explain.specs.declared.check.Verdict.TheVariants as verdict
 use Rattle.flow_value.specs.declared.steps.Steps.{Steps}
 use Rattle.flow_value.specs.declared.value.Value.{Value}
-use Rattle.flow_text.specs.Records.{PostAll, Explains}
+use Rattle.flow_record_text.specs.Records.{PostAll, Explains}
 
 -- some network is what the text is read as
 abbrev pub IsNetwork : List ℕ → Type 0

@@ -1,7 +1,7 @@
 //! Checks a network and its records, and prints all that is to be said of them.
 ghost use Rattle.std.specs.Prelude.{ℕ, List, IfOk};
 ghost use Rattle.flow_link.specs.Planned.{layout_of};
-ghost use Rattle.flow_text.specs.Records.{input_names};
+ghost use Rattle.flow_record_text.specs.Records.{input_names};
 ghost use Rattle.flow_explain.specs.Answers.{IsAnswerTo, IsVerdictOn, IsRecordsAnswer, IsRecordsVerdict};
 
 use crate::encoding::without_mark;

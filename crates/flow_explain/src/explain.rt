@@ -1,7 +1,7 @@
 //! All that is to be said of a network's text.
 ghost use Rattle.std.specs.Prelude.{◌≡◌, IfOk};
 ghost use Rattle.flow_explain.specs.Answers.{IsAnswerTo};
-ghost use Rattle.flow_text.specs.declared.fault.TextFault.{TextFault};
+ghost use Rattle.flow_fault_text.specs.declared.fault.TextFault.{TextFault};
 
 use crate::encoding::{bad_byte, bad_byte_words, is_utf_16, without_mark};
 use crate::finding::{Flaw, add_flaw};

@@ -1,7 +1,7 @@
 //! All that is to be said of records.
 ghost use Rattle.std.specs.Prelude.{IfOk};
 ghost use Rattle.flow_link.specs.Planned.{layout_of};
-ghost use Rattle.flow_text.specs.Records.{input_names};
+ghost use Rattle.flow_record_text.specs.Records.{input_names};
 ghost use Rattle.flow_explain.specs.Answers.{IsRecordsAnswer};
 
 use crate::cause::cause_of;

@@ -19,16 +19,16 @@ use Rattle.flow_net.specs.declared.fault.NetFault.{NetFault}
 use Rattle.flow_net.specs.declared.fault.NetFault.TheVariants as net_fault
 use Rattle.flow_net.specs.declared.posted.Posted.{Posted}
 use Rattle.flow_net.specs.declared.posted.Settled.{Settled}
-use Rattle.flow_text.specs.declared.fault.TextFault.TheVariants.{Write}
-use Rattle.flow_text.specs.declared.fault.TextRefusal.{TextRefusal}
-use Rattle.flow_text.specs.declared.fault.TextRefusal.TheVariants.{Fault, Memory}
-use Rattle.flow_text.specs.Plan.{IsUnplannedFor}
-use Rattle.flow_text.specs.Written.{StaysInFront}
+use Rattle.flow_fault_text.specs.declared.fault.TextFault.TheVariants.{Write}
+use Rattle.flow_fault_text.specs.declared.fault.TextRefusal.{TextRefusal}
+use Rattle.flow_fault_text.specs.declared.fault.TextRefusal.TheVariants.{Fault, Memory}
+use Rattle.flow_plan_text.specs.Plan.{IsUnplannedFor}
+use Rattle.flow_report.specs.Written.{StaysInFront}
 use Rattle.flow_run.specs.Left.{IsLeft}
 use Rattle.flow_run.specs.Ran.{Begins, IsPosted, HasUnreadRecords, UsesUpIds, HasUnwrittenReport, IsUnbegun, IsUnreported}
 use Rattle.flow_run.specs.Refusal.{refusal_of, IsToldAs}
 use Rattle.flow_run.specs.declared.outcome.RunRefusal.{RunRefusal}
-use Rattle.flow_text.specs.Records.{PostAll, input_names, posted_endings, posted_values}
+use Rattle.flow_record_text.specs.Records.{PostAll, input_names, posted_endings, posted_values}
 
 names_more : (b : Bool) (name : List ℕ) (rest : List (List ℕ)) → length (cond b (name ∷ []) [] ++ rest) ≡ cond {A = ℕ} b 1 0 + length rest
 names_more true name rest = omega arith

@@ -1,7 +1,7 @@
 -- What a refusal leaves in the writer, where it is known what the writer holds.
 use Rattle.std.specs.Prelude.{◌≡◌, ◌≢◌, ℕ, List, Option}
-use Rattle.flow_text.specs.Written.{StaysInFront}
-use Rattle.flow_text.specs.declared.fault.TextFault.TheVariants.{Write}
+use Rattle.flow_report.specs.Written.{StaysInFront}
+use Rattle.flow_fault_text.specs.declared.fault.TextFault.TheVariants.{Write}
 use Rattle.flow_run.specs.declared.outcome.RunRefusal.{RunRefusal}
 use Rattle.flow_run.specs.declared.outcome.RunRefusal.TheVariants.{Text}
 

@@ -13,14 +13,14 @@ use Rattle.flow_exec.specs.Works.{works_of}
 use Rattle.flow_net.specs.Net.{run_with}
 use Rattle.flow_net.specs.Settles.{Settles, GoesOn}
 use Rattle.flow_net.specs.There.{NeedsId}
-use Rattle.flow_text.specs.Complete.{is_complete}
-use Rattle.flow_text.specs.Plan.{IsPlannedAs, IsUnplannedFor}
-use Rattle.flow_text.specs.Records.{PostAll, IsOfRecords, Explains, input_names}
-use Rattle.flow_text.specs.Report.{report}
-use Rattle.flow_text.specs.declared.fault.TextFault.{TextFault}
-use Rattle.flow_text.specs.declared.fault.TextFault.TheVariants.{Write}
-use Rattle.flow_text.specs.declared.fault.TextRefusal.{TextRefusal}
-use Rattle.flow_text.specs.declared.fault.TextRefusal.TheVariants.{Fault}
+use Rattle.flow_report.specs.Complete.{is_complete}
+use Rattle.flow_plan_text.specs.Plan.{IsPlannedAs, IsUnplannedFor}
+use Rattle.flow_record_text.specs.Records.{PostAll, IsOfRecords, Explains, input_names}
+use Rattle.flow_report.specs.Report.{report}
+use Rattle.flow_fault_text.specs.declared.fault.TextFault.{TextFault}
+use Rattle.flow_fault_text.specs.declared.fault.TextFault.TheVariants.{Write}
+use Rattle.flow_fault_text.specs.declared.fault.TextRefusal.{TextRefusal}
+use Rattle.flow_fault_text.specs.declared.fault.TextRefusal.TheVariants.{Fault}
 use Rattle.flow_net.specs.declared.posted.Settled.{Settled}
 use Rattle.flow_net.specs.declared.posted.Settled.TheVariants.{Quiet}
 use Rattle.flow_run.specs.declared.outcome.Ran.{Ran}

@@ -2,9 +2,9 @@
 use Rattle.std.specs.Prelude.{◌≡◌, List, ℕ, [], ◌∷◌, ◌++◌, codes}
 use Rattle.flow_net.specs.declared.fault.NetFault.{NetFault}
 use Rattle.flow_net.specs.declared.fault.NetFault.TheVariants as net
-use Rattle.flow_text.specs.FaultText.{fault_text}
-use Rattle.flow_text.specs.declared.fault.TextRefusal.{TextRefusal}
-use Rattle.flow_text.specs.declared.fault.TextRefusal.TheVariants as refused
+use Rattle.flow_fault_text.specs.FaultText.{fault_text}
+use Rattle.flow_fault_text.specs.declared.fault.TextRefusal.{TextRefusal}
+use Rattle.flow_fault_text.specs.declared.fault.TextRefusal.TheVariants as refused
 use Rattle.flow_run.specs.declared.outcome.RunRefusal.{RunRefusal}
 use Rattle.flow_run.specs.declared.outcome.RunRefusal.TheVariants.{Text, Ids, Memory}
 

@@ -1,7 +1,7 @@
 //! The line that a refusal is told by.
 ghost use Rattle.std.specs.Prelude.{◌≡◌, Some, OnOk, IfErr};
 ghost use Rattle.std.specs.Io.KnownBytes.{Appends};
-ghost use Rattle.flow_text.specs.Written.{StaysInFront};
+ghost use Rattle.flow_report.specs.Written.{StaysInFront};
 ghost use Rattle.flow_run.specs.Refusal.{refusal_text, refusal_line};
 
 use crate::outcome::RunRefusal;

@@ -1,22 +1,14 @@
-//! Reads networks and records that are written as text, and writes the report of a run.
+//! Networks, records and reports as texts: the crates that read and write them, under one name.
+//!
+//! ```
+//! let plan = read_plan(alloc, text)?;
+//! let posted = read_records(alloc, records, &plan)?;
+//! // a network is made of both, and runs
+//! write_report(alloc, &net, settled, &mut writer)?;
+//! ```
 #![tactic(auto)]
 
-mod complete;
-mod fault;
-mod given;
-mod list_line;
-mod network;
-mod page;
-mod piece;
-mod plan_line;
-mod records;
-mod report;
-mod seen;
-mod value_text;
-
-pub use complete::is_complete;
-pub use fault::{TextFault, TextPlace, TextRefusal};
-pub use network::read_plan;
-pub use piece::write_bytes;
-pub use records::read_records;
-pub use report::write_report;
+pub use flow_fault_text::{TextFault, TextPlace, TextRefusal};
+pub use flow_plan_text::read_plan;
+pub use flow_record_text::read_records;
+pub use flow_report::{is_complete, write_bytes, write_report};

@@ -1,0 +1,284 @@
+-- How the values of each input grow by the records that are read.
+use Rattle.std.proofs.Common.{◌≡◌, ◌≤◌, ◌<◌, ◌+◌, ◌-◌, ◌^◌, min, ℕ, suc, zero, List, [], ◌∷◌, ◌++◌, length, take, get_or, set, map, refl, ap, sym, ◌∙◌, arith, append_assoc, length-append, Option, Some, None, Bool, true, false, cond, subst, nat_eq, Bor, position, replicate}
+use Rattle.std.specs.Prelude.{IfSome, not, option_map}
+use Rattle.std.specs.List.{filter, prefix_len}
+use Rattle.std.specs.Str.{bytes_eq}
+use Rattle.std.proofs.lemmas.List.{append-nil, map-append, take_more, length-map, get_or-map, map-set}
+use Rattle.std.proofs.Math.Seq.{map-set_same}
+use Rattle.flow_net.specs.declared.posted.Posted.{Posted}
+use Rattle.csv.specs.Records.{field_at}
+use Rattle.std.proofs.lemmas.List.Elements.{filter-append}
+use Rattle.std.proofs.lemmas.List.Quantifiers.{position-Some}
+use Rattle.std.proofs.lemmas.Slice.Eq.{bytes_eq-Decides}
+use Rattle.std.proofs.lemmas.Bool.Decides.{nat_tests}
+use Rattle.flow_value.specs.declared.value.Value.{Value}
+use Rattle.flow_value.specs.declared.value.Value.TheVariants.{Text}
+use Rattle.flow_link.specs.declared.draft.BlockDef.{BlockDef}
+use Rattle.flow_link.specs.Lists.{numbers_from}
+use Rattle.csv.specs.Reading.{default_config, strip_bom, Reached, ReadRecord, source_of, reader_state, reader_config}
+use Rattle.csv.specs.declared.reader.Reader.{Reader}
+use Rattle.csv.specs.declared.parser.State.TheVariants as at
+use Rattle.csv.proofs.ReadFacts.{rows-more, rows-end}
+use Rattle.flow_fault_text.specs.declared.fault.TextFault.{TextFault}
+use Rattle.flow_fault_text.specs.declared.fault.TextFault.TheVariants.{Csv, NotUtf8, UnknownInput, Read}
+use Rattle.flow_fault_text.specs.declared.fault.TextRefusal.TheVariants.{Fault}
+use Rattle.flow_record_text.specs.Records.{HasFault, IsFirstFault, IsOfRecords, Explains, PostAll, told_number, room, Row, texts_of, input_names, input_named, is_this, posts_to, value_of, values_for, records, IsFirstOf, IsFine, AllFine, PostsTo, posted_values, posted_endings}
+
+-- a place among references is that among what they point to
+prefix-texts : (test : List ℕ → Bool) (names : List (Bor (List ℕ))) → prefix_len (λ name. not (test name.now)) names ≡ prefix_len (λ name. not (test name)) (texts_of names)
+prefix-texts test [] = refl
+prefix-texts test (name ∷ names) = ap (λ n. cond (not (test name.now)) (1 + n) 0) (prefix-texts test names)
+
+pub named-texts : (names : List (Bor (List ℕ))) (name : List ℕ) → position (λ other. bytes_eq other.now name) names ≡ input_named (texts_of names) name
+named-texts names name =
+    let same = prefix-texts (λ other. bytes_eq other name) names in
+    rw (same, ← length-map names (λ (other : Bor (List ℕ)). other.now)) refl
+
+-- a block's name, if it is an input
+input_names-append : {W : Type 0} (front back : List (BlockDef W)) → input_names (front ++ back) ≡ input_names front ++ input_names back
+input_names-append [] back = refl
+input_names-append (block ∷ front) back =
+    ap (λ names. cond block.input (block.name ∷ []) [] ++ names) (input_names-append front back)
+    ∙ sym (append_assoc (cond block.input (block.name ∷ []) []) (input_names front) (input_names back))
+
+pub input_names-more : {W : Type 0} (blocks : List (BlockDef W)) (at : ℕ) (block : BlockDef W) → at < length blocks → block ≡ get_or blocks at block
+    → input_names (take (at + 1) blocks) ≡ input_names (take at blocks) ++ cond block.input (block.name ∷ []) []
+input_names-more blocks at block within is =
+    ap input_names (take_more blocks at block within ∙ ap (λ last. take at blocks ++ last ∷ []) (sym is))
+    ∙ input_names-append (take at blocks) (block ∷ [])
+    ∙ ap (λ names. input_names (take at blocks) ++ names) (append-nil _)
+
+-- a field that there is
+pub field-at : (fields : List (List ℕ)) (i : ℕ) → i < length fields → field_at fields i ≡ Some (get_or fields i [])
+unfolding field_at
+field-at [] i within = absurd (omega arith)
+field-at (field ∷ fields) zero within = refl
+field-at (field ∷ fields) (suc i) within = field-at fields i (omega arith)
+
+-- one value of a list of values is another one
+same-numbers : {A : Type 0} (f g : ℕ → A) (first count : ℕ) → ((j : ℕ) → first ≤ j → g j ≡ f j) → map g (numbers_from first count) ≡ map f (numbers_from first count)
+same-numbers f g first zero others = refl
+same-numbers f g first (suc count) others =
+    let rest = same-numbers f g (suc first) count (λ j above. others j (omega arith)) in
+    rw (others first (omega arith), rest) refl
+
+set-numbers : {A : Type 0} (f g : ℕ → A) (first count i : ℕ) → i < count → ((j : ℕ) → (j ≡ first + i → ⊥) → g j ≡ f j)
+    → map g (numbers_from first count) ≡ set (map f (numbers_from first count)) i (g (first + i))
+set-numbers f g first zero i within others = absurd (omega arith)
+set-numbers f g first (suc count) zero within others =
+    let none : first + 0 ≡ first = omega arith in
+    let rest = same-numbers f g (suc first) count (λ j above. others j (λ e. absurd (omega arith))) in
+    rw (none, rest) refl
+set-numbers f g first (suc count) (suc i) within others =
+    let place : first + suc i ≡ suc first + i = omega arith in
+    let rest = set-numbers f g (suc first) count i (omega arith) (λ j other. others j (λ e. other (e ∙ place))) in
+    let front : g first ≡ f first = others first (λ e. absurd (omega arith)) in
+    rw (place, rest, front) refl
+
+-- one more record posts its text to its input
+is_this-same : (i : ℕ) → nat_eq i i ≡ true
+is_this-same i = grind (arith, nat_tests)
+
+is_this-other : (j i : ℕ) → (j ≡ i → ⊥) → nat_eq j i ≡ false
+is_this-other j i other = grind (arith, nat_tests)
+
+values-more : (names : List (List ℕ)) (rows : List Row) (row : Row) (j : ℕ)
+    → values_for names (rows ++ row ∷ []) j ≡ values_for names rows j ++ cond (posts_to names j row) (value_of row ∷ []) []
+values-more names rows row j =
+    ap (map value_of) (filter-append (posts_to names j) rows (row ∷ [])) ∙ map-append value_of (filter (posts_to names j) rows) (filter (posts_to names j) (row ∷ []))
+    ∙ ap (λ last. values_for names rows j ++ last) (one (posts_to names j row))
+  where
+    one : (b : Bool) → map value_of (cond b (row ∷ []) []) ≡ cond b (value_of row ∷ []) []
+    one true = refl
+    one false = refl
+
+-- the values of an input
+pub values-at : (posted : List Posted) (i : ℕ) (slot : Posted) → i < length posted → slot ≡ get_or posted i slot
+    → get_or (posted_values posted) i [] ≡ slot.values.items
+values-at posted i slot within is =
+    get_or-map (λ (input : Posted). input.values.items) posted i slot [] within ∙ ap (λ (input : Posted). input.values.items) (sym is)
+
+-- what an input that gets one more value shows
+pub set-values : (posted : List Posted) (i : ℕ) (slot new : Posted) (v : Value) → i < length posted → slot ≡ get_or posted i slot
+    → new.values.items ≡ slot.values.items ++ v ∷ []
+    → posted_values (set posted i new) ≡ set (posted_values posted) i (get_or (posted_values posted) i [] ++ v ∷ [])
+set-values posted i slot new v within is items =
+    let there = values-at posted i slot within is in
+    map-set (λ (input : Posted). input.values.items) posted i new
+    ∙ ap (λ values. set (posted_values posted) i values) (items ∙ ap (λ values. values ++ v ∷ []) (sym there))
+
+-- it has fewer than 2^64, as each list
+few-values : (input : Posted) → length input.values.items < 2 ^ 64
+few-values input = omega (arith, input.values.ok, input.values.small)
+
+one-longer : (values more : List Value) (v : Value) → more ≡ values ++ v ∷ [] → length more ≡ length values + 1
+one-longer values more v is = ap length is ∙ length-append values (v ∷ [])
+
+-- so there is less room behind it
+pub room-less : (posted : List Posted) (i : ℕ) (slot new : Posted) (v : Value) → i < length posted → slot ≡ get_or posted i slot
+    → new.values.items ≡ slot.values.items ++ v ∷ [] → room (posted_values (set posted i new)) < room (posted_values posted)
+room-less [] i slot new v within is items = absurd (omega arith)
+room-less (input ∷ posted) zero slot new v within is items =
+    omega (arith, few-values input, one-longer slot.values.items new.values.items v items, ap (λ (one : Posted). length one.values.items) is)
+room-less (input ∷ posted) (suc i) slot new v within is items = omega (arith, room-less posted i slot new v (omega arith) is items)
+
+pub set-endings : (posted : List Posted) (i : ℕ) (slot new : Posted) → slot ≡ get_or posted i slot → new.ending ≡ slot.ending
+    → posted_endings (set posted i new) ≡ posted_endings posted
+set-endings posted i slot new is same =
+    map-set_same (λ (input : Posted). input.ending) posted i new slot (same ∙ ap (λ (input : Posted). input.ending) is)
+
+-- a value of a list by numbers
+get-numbers : {A : Type 0} (f : ℕ → A) (first count i : ℕ) (d : A) → i < count → get_or (map f (numbers_from first count)) i d ≡ f (first + i)
+get-numbers f first zero i d within = absurd (omega arith)
+get-numbers f first (suc count) zero d within = ap f (omega arith)
+get-numbers f first (suc count) (suc i) d within = get-numbers f (suc first) count i d (omega arith) ∙ ap f (omega arith)
+
+-- the number that is found is that of an input, and the first with its name
+pub named-within : (names : List (List ℕ)) (name : List ℕ) (i : ℕ) → input_named names name ≡ Some i → i < length names
+named-within names name i found = (position-Some (λ other. bytes_eq other name) names i [] found).0
+
+pub named-first : (names : List (List ℕ)) (name : List ℕ) (i : ℕ) → input_named names name ≡ Some i → IsFirstOf names i
+named-first names name i found within =
+    let same : get_or names i [] ≡ name = (bytes_eq-Decides _ _).0 (position-Some (λ other. bytes_eq other name) names i [] found).1 in
+    ap (input_named names) same ∙ found
+
+module _ (names : List (List ℕ)) where
+  -- a record that posts a text to an input changes what that input gets, and no other
+  pub records-more : (rows : List Row) (row : Row) (i : ℕ) (text : List ℕ) → PostsTo names row i text
+      → records names (rows ++ row ∷ []) ≡ set (records names rows) i (get_or (records names rows) i [] ++ Text text ∷ [])
+  records-more rows [] i text posts = absurd posts
+  records-more rows (_ ∷ []) i text posts = absurd posts
+  records-more rows (_ ∷ _ ∷ _ ∷ _) i text posts = absurd posts
+  records-more rows (first ∷ second ∷ []) i text posts =
+      let here : input_named names first ≡ Some i = posts.0 in
+      let within = named-within names first i here in
+      let grown = set-numbers (values_for names rows) (values_for names (rows ++ (first ∷ second ∷ []) ∷ [])) 0 (length names) i within
+      (λ j other. values-more names rows (first ∷ second ∷ []) j
+      ∙ ap (λ mine. values_for names rows j ++ cond mine (Text second ∷ []) []) (ap (is_this j) here ∙ is_this-other j i (λ e. other (omega (arith, e))))
+      ∙ append-nil (values_for names rows j)) in
+      let mine : values_for names (rows ++ (first ∷ second ∷ []) ∷ []) i ≡ values_for names rows i ++ Text text ∷ [] =
+      values-more names rows (first ∷ second ∷ []) i
+      ∙ ap (λ mine. values_for names rows i ++ cond mine (Text second ∷ []) []) (ap (is_this i) here ∙ is_this-same i)
+      ∙ ap (λ last. values_for names rows i ++ Text last ∷ []) posts.1 in
+      let before : get_or (records names rows) i [] ≡ values_for names rows i = get-numbers (values_for names rows) 0 (length names) i [] within ∙ ap (values_for names rows) (omega arith) in
+      grown ∙ ap (λ values. set (records names rows) i values) (ap (values_for names (rows ++ (first ∷ second ∷ []) ∷ [])) (omega arith) ∙ mine ∙ ap (λ values. values ++ Text text ∷ []) (sym before))
+
+  -- it can be posted
+  pub posts-fine : (row : Row) (i : ℕ) (text : List ℕ) → PostsTo names row i text → IsFine names row
+  posts-fine [] i text posts = posts
+  posts-fine (_ ∷ []) i text posts = posts
+  posts-fine (_ ∷ _ ∷ _ ∷ _) i text posts = posts
+  posts-fine (first ∷ second ∷ []) i text posts = (posts.2, posts.3, rw posts.0 refl)
+
+  pub all-fine-more : (rows : List Row) (row : Row) → AllFine names rows → IsFine names row → AllFine names (rows ++ row ∷ [])
+  all-fine-more [] row fine last = (last, tt)
+  all-fine-more (_ ∷ rows) row fine last = (fine.0, all-fine-more rows row fine.1 last)
+
+-- an input with no records gets nothing
+nothing-numbers : (first count : ℕ) → map {B = List Value} (λ (i : ℕ). []) (numbers_from first count) ≡ replicate count []
+nothing-numbers first zero = refl
+nothing-numbers first (suc count) = ap (λ (rest : List (List Value)). [] ∷ rest) (nothing-numbers (suc first) count)
+
+pub records-none : (names : List (List ℕ)) → records names [] ≡ replicate (length names) []
+records-none names = nothing-numbers 0 (length names)
+
+-- an input that gets a text is there
+pub posts-within : (names : List (List ℕ)) (row : Row) (i : ℕ) (text : List ℕ) → PostsTo names row i text → i < length names
+posts-within names [] i text posts = absurd posts
+posts-within names (_ ∷ []) i text posts = absurd posts
+posts-within names (_ ∷ _ ∷ _ ∷ _) i text posts = absurd posts
+posts-within names (first ∷ second ∷ []) i text posts = named-within names first i posts.0
+
+-- and is the first with its name
+pub posts-first : (names : List (List ℕ)) (row : Row) (i : ℕ) (text : List ℕ) → PostsTo names row i text → IsFirstOf names i
+posts-first names [] i text posts = absurd posts
+posts-first names (_ ∷ []) i text posts = absurd posts
+posts-first names (_ ∷ _ ∷ _ ∷ _) i text posts = absurd posts
+posts-first names (first ∷ second ∷ []) i text posts = named-first names first i posts.0
+
+-- a fault of the first record that can't be posted is explained
+explained : (names : List (List ℕ)) (bytes : List ℕ) (fault : TextFault) → IsFirstFault names bytes fault → Explains names bytes (Fault fault)
+explained names bytes Read first = tt
+explained names bytes (Csv n) first = first
+explained names bytes (NotUtf8 n) first = first
+explained names bytes (UnknownInput n) first = first
+explained names bytes _ first = first
+
+-- the number of the next record
+next-number : (number next count : ℕ) → number ≡ told_number count → next ≡ min (number + 1) (2 ^ 64 - 1) → next ≡ told_number (count + 1)
+next-number number next count here counted = omega (arith, here, counted)
+
+counted-on : (rows : List Row) (row : Row) (number next : ℕ) → number ≡ told_number (length rows) → next ≡ min (number + 1) (2 ^ 64 - 1)
+    → next ≡ told_number (length (rows ++ row ∷ []))
+counted-on rows row number next here counted = next-number number next (length rows) here counted ∙ ap told_number (sym (length-append rows (row ∷ [])))
+
+-- a fault of a record is one that reading stops for
+pub fault-of_records : (names : List (List ℕ)) (number : ℕ) (row : Row) (fault : TextFault) → HasFault names number row fault → IsOfRecords (Fault fault)
+fault-of_records names number row (Csv n) h = tt
+fault-of_records names number row (NotUtf8 n) h = tt
+fault-of_records names number row (UnknownInput n) h = tt
+fault-of_records names number row Read h = tt
+fault-of_records names number [] _ h = h
+fault-of_records names number (_ ∷ []) _ h = h
+fault-of_records names number (_ ∷ _ ∷ []) _ h = h
+fault-of_records names number (_ ∷ _ ∷ _ ∷ _) _ h = h
+
+-- what was read of a text so far: its first records, which can all be posted, and what they post
+pub record SoFar {R : Type 0} (known : R → Option (List ℕ)) (names : List (List ℕ)) (number : ℕ) (values : List (List Value)) (reader : Reader R) (bytes : List ℕ) : Type 0 where
+  pub rows : List Row
+  pub left : List ℕ
+  pub source : source_of known reader ≡ Some left
+  pub reached : Reached default_config at.StartRecord (strip_bom bytes) rows (reader_state reader) left
+  pub fine : AllFine names rows
+  pub count : number ≡ told_number (length rows)
+  pub posted : values ≡ records names rows
+
+-- nothing was read
+pub read-start : {R : Type 0} (known : R → Option (List ℕ)) (names : List (List ℕ)) (count : ℕ) (values : List (List Value)) (a : Reader R) (bytes : Option (List ℕ))
+    → count ≡ length names → values ≡ replicate count [] → source_of known a ≡ option_map strip_bom bytes → reader_state a ≡ at.StartRecord
+    → IfSome bytes (SoFar known names 0 values a)
+unfolding Reached
+read-start known names count values a None counted none source state = tt
+read-start known names count values a (Some bytes) counted none source state = record {
+  rows = [];
+  left = strip_bom bytes;
+  source = source;
+  reached = (sym state, refl);
+  fine = tt;
+  count = refl;
+  posted = none ∙ ap (λ n. replicate n []) counted ∙ sym (records-none names);
+}
+
+module _ {R : Type 0} (known : R → Option (List ℕ)) (names : List (List ℕ)) (number : ℕ) (values : List (List Value)) (a b : Reader R) (row : Row)
+    (config : reader_config a ≡ default_config) where
+  -- one more record that is posted
+  pub read-more : (bytes : Option (List ℕ)) (next i : ℕ) (text : List ℕ) (after : List (List Value)) → IfSome bytes (SoFar known names number values a)
+      → ReadRecord known a b true row → PostsTo names row i text → after ≡ set values i (get_or values i [] ++ Text text ∷ [])
+      → next ≡ min (number + 1) (2 ^ 64 - 1) → IfSome bytes (SoFar known names next after b)
+  read-more None next i text after so_far read posts is counted = tt
+  read-more (Some bytes) next i text after so_far read posts is counted =
+      let more = rows-more known a b row default_config at.StartRecord (strip_bom bytes) so_far.left so_far.rows config so_far.source so_far.reached read in
+      record {
+        rows = so_far.rows ++ row ∷ [];
+        left = more.0;
+        source = more.1;
+        reached = more.2;
+        fine = all-fine-more names so_far.rows row so_far.fine (posts-fine names row i text posts);
+        count = counted-on so_far.rows row number next so_far.count counted;
+        posted = is ∙ ap (λ vs. set vs i (get_or vs i [] ++ Text text ∷ [])) so_far.posted ∙ sym (records-more names so_far.rows row i text posts);
+      }
+
+  -- there are no more
+  pub read-end : (bytes : Option (List ℕ)) → IfSome bytes (SoFar known names number values a) → ReadRecord known a b false row
+      → IfSome bytes (λ text. PostAll names text values)
+  read-end None so_far read = tt
+  read-end (Some bytes) so_far read =
+      (so_far.rows, (reader_state a, so_far.left, so_far.reached, rows-end known a b row default_config so_far.left config so_far.source read), so_far.fine, so_far.posted)
+
+  -- one that can't be posted
+  pub read-fault : (bytes : Option (List ℕ)) (next : ℕ) (fault : TextFault) → IfSome bytes (SoFar known names number values a)
+      → ReadRecord known a b true row → next ≡ min (number + 1) (2 ^ 64 - 1) → HasFault names next row fault → IfSome bytes (λ text. Explains names text (Fault fault))
+  read-fault None next fault so_far read counted faulty = tt
+  read-fault (Some bytes) next fault so_far read counted faulty =
+      let more = rows-more known a b row default_config at.StartRecord (strip_bom bytes) so_far.left so_far.rows config so_far.source so_far.reached read in
+      explained names bytes fault (so_far.rows, row, reader_state b, more.0, more.2, so_far.fine, subst (λ n. HasFault names n row fault) (next-number number next (length so_far.rows) so_far.count counted) faulty)

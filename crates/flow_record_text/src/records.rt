@@ -1,0 +1,252 @@
+//! Reads records: each names an input and has a value for it.
+ghost use Rattle.std.specs.Prelude.{◌≡◌, ◌<◌, ◌+◌, ◌∷◌, ◌++◌, ◌⊎◌, [], length, replicate, get_or, set, IfOk, IfErr};
+ghost use Rattle.std.specs.Prelude.{OnOk, IfSome, MatchOption, MatchResult, Some, cond, option_map, position, true};
+ghost use Rattle.std.specs.Str.{IsUtf8, bytes_eq};
+ghost use Rattle.csv.specs.Reading.{ReadRecord, reader_state, source_of, strip_bom};
+ghost use Rattle.csv.specs.Records.{fields_of};
+ghost use Rattle.csv.specs.declared.parser.State.TheVariants as at;
+ghost use Rattle.flow_link.specs.Planned.{layout_of};
+ghost use Rattle.flow_record_text.specs.Records.{texts_of, input_names, input_named, IsFirstOf, HasFault, PostsTo, PostAll};
+ghost use Rattle.flow_record_text.specs.Records.{IsOfRecords, Explains, TakesAll, room, posted_values, posted_endings};
+
+use csv::{ByteRecord, Error, ErrorKind, Reader, ReaderBuilder};
+use flow_fault_text::{TextFault, TextRefusal};
+use flow_link::{BlockDef, Ending, Plan};
+use flow_net::Posted;
+use flow_value::{Steps, Text, Value};
+use std::alloc::Global;
+use std::io::Read;
+
+fn names_of<'p>(alloc: Global, plan: &'p Plan<Steps>) -> Result<Vec<&'p str>, TextRefusal>
+    ensures names { IfOk result (λ names. texts_of names.items ≡ input_names (layout_of plan.now).blocks) }
+    ensures refused { IfErr result (λ refusal. refusal ≡ TextRefusal.Memory) }
+{
+    let mut names = Vec::new(alloc);
+    for number in 0..plan.block_count() {
+        push_name(&mut names, plan.block(number))?;
+    }
+    Ok(names)
+}
+
+fn push_name<'p>(names: &mut Vec<&'p str>, block: &'p BlockDef<Steps>) -> Result<(), TextRefusal>
+    ensures refused { IfErr result (λ refusal. refusal ≡ TextRefusal.Memory) }
+    ensures names { OnOk result (texts_of names.new.items ≡ texts_of names.old.items ++ cond block.now.input
+        (block.now.name ∷ []) []) }
+{
+    if block.input {
+        if names.push(block.name.as_str()).is_err() {
+            return Err(TextRefusal::Memory);
+        }
+    }
+    Ok(())
+}
+
+// The number of the input with this name.
+fn find_input(names: &[&str], name: &str) -> Option<usize>
+    ensures { result ≡ input_named (texts_of names.now) name.now }
+{
+    name_place(names, name)
+}
+
+fn name_place(names: &[&str], name: &str) -> Option<usize>
+    ensures { result ≡ position (λ other. bytes_eq other.now name.now) names.now }
+{
+    names.iter().position(|other| *other == name)
+}
+
+fn text_field(row: &ByteRecord, place: usize) -> Option<&str>
+    requires { place < length (fields_of row.now) }
+    ensures { MatchOption result (IsUtf8 (get_or (fields_of row.now) place []) → ⊥)
+        (λ text. (text.now ≡ get_or (fields_of row.now) place []) × IsUtf8 text.now) }
+{
+    match row.get(place) {
+        Some(field) => match str::from_utf8(field) {
+            Ok(text) => Some(text),
+            Err(_) => None,
+        },
+        None => None,
+    }
+}
+
+// Whether a record names this input, as the one before it did: then that its name is UTF-8 need not be seen again.
+fn has_name(row: &ByteRecord, names: &[&str], input: usize) -> bool
+    requires { 0 < length (fields_of row.now) }
+    ensures there { result ≡ true → input < length names.now }
+    ensures named { result ≡ true → get_or (texts_of names.now) input [] ≡ get_or (fields_of row.now) 0 [] }
+    ensures utf8 { result ≡ true → IsUtf8 (get_or (fields_of row.now) 0 []) }
+{
+    if input >= names.len() {
+        return false;
+    }
+    match row.get(0) {
+        Some(field) => names[input].as_bytes() == field,
+        None => false,
+    }
+}
+
+// The input and the text of a record, or why it can't be posted. The input of the last record is tried first.
+fn read_fields<'r>(
+    names: &[&str],
+    last: usize,
+    row: &'r ByteRecord,
+    number: u64,
+) -> Result<(usize, &'r str), TextFault>
+    requires { IsFirstOf (texts_of names.now) last }
+    ensures { MatchResult result (λ found. PostsTo (texts_of names.now) (fields_of row.now) found.0 found.1.now)
+        (λ fault. HasFault (texts_of names.now) number (fields_of row.now) fault) }
+{
+    if row.len() != 2 {
+        return Err(TextFault::Csv(number));
+    }
+    let Some(text) = text_field(row, 1) else {
+        return Err(TextFault::NotUtf8(number));
+    };
+    if has_name(row, names, last) {
+        return Ok((last, text));
+    }
+    let Some(name) = text_field(row, 0) else {
+        return Err(TextFault::NotUtf8(number));
+    };
+    match find_input(names, name) {
+        Some(input) => Ok((input, text)),
+        None => Err(TextFault::UnknownInput(number)),
+    }
+}
+
+// Adds the text to the values of this input.
+fn post(
+    alloc: Global,
+    posted: &mut Vec<Posted>,
+    input: usize,
+    text: &str,
+) -> Result<(), TextRefusal>
+    requires { input < length posted.old.items }
+    ensures values { OnOk result (posted_values posted.new.items
+        ≡ set (posted_values posted.old.items) input
+        (get_or (posted_values posted.old.items) input [] ++ Value.Text text.now ∷ [])) }
+    ensures endings { OnOk result (posted_endings posted.new.items ≡ posted_endings posted.old.items) }
+    ensures room { OnOk result (room (posted_values posted.new.items) < room (posted_values posted.old.items)) }
+    ensures refused { IfErr result (λ refusal. refusal ≡ TextRefusal.Memory) }
+{
+    let Ok(text) = Text::from_str(alloc, text) else {
+        return Err(TextRefusal::Memory);
+    };
+    let slot = &mut posted[input];
+    if slot.values.push(Value::Text(text)).is_err() {
+        return Err(TextRefusal::Memory);
+    }
+    Ok(())
+}
+
+// As many inputs, to which nothing is posted.
+fn nothing_posted(alloc: Global, count: usize) -> Result<Vec<Posted>, TextRefusal>
+    ensures values { IfOk result (λ posted. posted_values posted.items ≡ replicate count []) }
+    ensures endings { IfOk result (λ posted. posted_endings posted.items ≡ replicate count Ending.Complete) }
+    ensures refused { IfErr result (λ refusal. refusal ≡ TextRefusal.Memory) }
+{
+    let mut posted = Vec::new(alloc);
+    for _ in 0..count {
+        let none = Posted {
+            values: Vec::new(alloc),
+            ending: Ending::Complete,
+        };
+        if posted.push(none).is_err() {
+            return Err(TextRefusal::Memory);
+        }
+    }
+    Ok(posted)
+}
+
+fn reading_failed(error: &Error) -> TextRefusal
+    ensures { (result ≡ TextRefusal.Memory) ⊎ (result ≡ TextRefusal.Fault TextFault.Read) }
+{
+    match error.kind() {
+        ErrorKind::OutOfMemory => TextRefusal::Memory,
+        _ => TextRefusal::Fault(TextFault::Read),
+    }
+}
+
+// A reader that gives each record of a text, the first too, whatever number of fields it has.
+fn record_reader<R: Read + Drop>(alloc: Global, reader: R) -> Reader<R>
+    ensures takes { TakesAll result }
+    ensures state { reader_state result ≡ at.StartRecord }
+    ensures source { source_of R.remaining result ≡ option_map strip_bom (R.remaining reader) }
+{
+    ReaderBuilder::new()
+        .has_headers(false)
+        .flexible(true)
+        .from_reader(alloc, reader)
+}
+
+// Reads the next record, if there is one.
+fn read_row<R: Read + Drop>(
+    records: &mut Reader<R>,
+    row: &mut ByteRecord,
+) -> Result<bool, TextRefusal>
+    requires { TakesAll records.old }
+    ensures reads { IfOk result (λ found. ReadRecord R.remaining records.old records.new found (fields_of row.new)) }
+    ensures takes { IfOk result (λ found. found ≡ true → TakesAll records.new) }
+    ensures refused { IfErr result (λ refusal. (refusal ≡ TextRefusal.Memory)
+        ⊎ (refusal ≡ TextRefusal.Fault TextFault.Read)) }
+{
+    match records.read_byte_record(row) {
+        Ok(found) => Ok(found),
+        Err(error) => Err(reading_failed(&error)),
+    }
+}
+
+// The values of the inputs with these names. The count stops at the greatest number, the reading does not.
+fn read_named<R: Read + Drop>(
+    alloc: Global,
+    reader: R,
+    names: &[&str],
+) -> Result<Vec<Posted>, TextRefusal>
+    ensures endings { IfOk result (λ posted. posted_endings posted.items ≡ replicate (length names.now)
+        Ending.Complete) }
+    ensures values { IfOk result (λ posted. IfSome (R.remaining reader)
+        (λ bytes. PostAll (texts_of names.now) bytes (posted_values posted.items))) }
+    ensures of_records { IfErr result IsOfRecords }
+    ensures refused { IfErr result (λ refusal. IfSome (R.remaining reader)
+        (λ bytes. Explains (texts_of names.now) bytes refusal)) }
+{
+    let mut records = record_reader(alloc, reader);
+    let mut row = ByteRecord::new(alloc);
+    let mut posted = nothing_posted(alloc, names.len())?;
+    // the input of the last record; at first that of none
+    let mut last = names.len();
+    let mut number = 0u64;
+    'reading: loop {
+        let found = read_row(&mut records, &mut row)?;
+        if !found {
+            return Ok(posted);
+        }
+        number = number.saturating_add(1);
+        match read_fields(names, last, &row, number) {
+            Ok((input, text)) => {
+                post(alloc, &mut posted, input, text)?;
+                last = input;
+            }
+            Err(fault) => return Err(TextRefusal::Fault(fault)),
+        }
+    }
+}
+
+/// The values that the records of a text post to each input, in the order of the plan's blocks; nothing follows them.
+///
+/// A record is a line of comma-separated fields, or goes on over lines between double quotes.
+pub fn read_records<R: Read + Drop>(
+    alloc: Global,
+    reader: R,
+    plan: &Plan<Steps>,
+) -> Result<Vec<Posted>, TextRefusal>
+    ensures endings { IfOk result (λ posted. posted_endings posted.items ≡ replicate
+        (length (input_names (layout_of plan.now).blocks)) Ending.Complete) }
+    ensures values { IfOk result (λ posted. IfSome (R.remaining reader)
+        (λ bytes. PostAll (input_names (layout_of plan.now).blocks) bytes (posted_values posted.items))) }
+    ensures of_records { IfErr result IsOfRecords }
+    ensures refused { IfErr result (λ refusal. IfSome (R.remaining reader)
+        (λ bytes. Explains (input_names (layout_of plan.now).blocks) bytes refusal)) }
+{
+    let names = names_of(alloc, plan)?;
+    read_named(alloc, reader, names.as_slice())
+}

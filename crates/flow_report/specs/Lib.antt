@@ -1,0 +1,5 @@
+pub mod Complete
+pub mod Given
+pub mod Printed
+pub mod Report
+pub mod Written

@@ -1,0 +1,15 @@
+//! Writes the report of a run, and tells whether the run has gone through.
+#![tactic(auto)]
+
+mod complete;
+mod given;
+mod list_line;
+mod page;
+mod piece;
+mod report;
+mod seen;
+mod value_text;
+
+pub use complete::is_complete;
+pub use piece::write_bytes;
+pub use report::write_report;

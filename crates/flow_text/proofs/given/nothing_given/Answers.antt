@@ -1,7 +1,0 @@
-use Rattle.std.proofs.Common.{◌∙◌, ap}
-use Rattle.flow_text.specs.Given.{lists_of}
-use Rattle.flow_text.proofs.SortedGiven.{nothing_more}
-use Rattle.flow_text.proofs.given.nothing_given.Goals as goal
-
-pub loop-preserved : goal.loop-preserved
-loop-preserved c = ap lists_of c.in_ok-push.ensures.items ∙ nothing_more c.loop.lists.items c.new.result c.loop.counter c.loop.invariant c.new.ensures.items

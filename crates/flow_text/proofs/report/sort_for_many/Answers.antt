@@ -1,5 +1,0 @@
-use Rattle.flow_text.proofs.SortedGiven.{sorted_whole}
-use Rattle.flow_text.proofs.report.sort_for_many.Goals as goal
-
-pub returns-in-Ok : goal.returns-in-Ok
-returns-in-Ok c = sorted_whole c.in-Ok.sorted.items c.args.links c.args.journal.now c.in-Ok.ensures
