@@ -3,8 +3,8 @@ use Rattle.std.proofs.Common.{◌≡◌, ℕ, ◌<◌, List, length, map, get_or
 use Rattle.std.proofs.lemmas.List.{map-set, get_or-map}
 use Rattle.std.proofs.Math.Seq.{map-set_same}
 use Rattle.flow_link.specs.Trace.{InputTrace}
-use Rattle.flow_net.specs.declared.posted.Posted.{Posted}
-use Rattle.flow_net.specs.Posted.{input_of}
+use Rattle.flow_link.specs.declared.posted.Posted.{Posted}
+use Rattle.flow_link.specs.Posted.{input_of}
 use Rattle.flow_front.specs.Inputs.{changed_at, nothing_posted}
 
 -- one list is changed, and the others stay

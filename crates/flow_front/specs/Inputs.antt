@@ -6,7 +6,7 @@ use Rattle.flow_link.specs.declared.trace.Ending.TheVariants as ending
 use Rattle.flow_link.specs.Layout.{Layout}
 use Rattle.flow_link.specs.Planned.{layout_of}
 use Rattle.flow_link.specs.Trace.{InputTrace}
-use Rattle.flow_net.specs.Posted.{input_of}
+use Rattle.flow_link.specs.Posted.{input_of}
 use Rattle.flow_front.specs.declared.inputs.Inputs.{Inputs}
 use Rattle.flow_front.specs.declared.refused.PostRefused.{PostRefused}
 use Rattle.flow_front.specs.declared.refused.PostRefused.TheVariants.{NoInput, Memory}

@@ -1,7 +1,7 @@
 //! Posts values to inputs by their names, and starts the network.
 ghost use Rattle.std.specs.Prelude.{◌≡◌, ◌<◌, ◌↔◌, length, map, count_by, replicate, IfOk, IfErr, OnOk, OnErr, IfSome, IsErr, Err, None};
 ghost use Rattle.flow_link.specs.Planned.{layout_of};
-ghost use Rattle.flow_net.specs.Posted.{input_of};
+ghost use Rattle.flow_link.specs.Posted.{input_of};
 ghost use Rattle.flow_front.specs.Inputs.{nothing_posted, with_value};
 ghost use Rattle.flow_front.specs.Named.{input_named, inputs_before};
 ghost use Rattle.flow_front.specs.declared.refused.PostRefused.TheVariants as refused;

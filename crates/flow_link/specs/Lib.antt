@@ -27,6 +27,7 @@ pub mod Plan
 pub mod PlanExamples
 pub mod PlanFaults
 pub mod Planned
+pub mod Posted
 pub mod Quiet
 pub mod Rebase
 pub mod Refusal

@@ -19,6 +19,7 @@ mod layout;
 mod options;
 mod phase;
 mod plan;
+mod posted;
 mod stage;
 mod trace;
 mod traits;
@@ -34,6 +35,7 @@ pub use laws::{
 };
 pub use phase::{LinkEnd, Move, Phase, phase_of, step_of, word_of};
 pub use plan::{Link, LinkId, LinkSource, LinkTarget, Place, Plan, PlanFault};
+pub use posted::Posted;
 pub use stage::{Refusal, SourceStage, TargetStage};
 pub use trace::{Ending, LinkState, Mark, Outcome};
 pub use traits::{

@@ -22,8 +22,8 @@ use Rattle.flow_net.specs.Net.{run_with}
 use Rattle.flow_net.specs.Settles.{Settles}
 use Rattle.flow_net.specs.Happened.{Happened}
 use Rattle.flow_net.specs.declared.fault.NetFault.{NetFault}
-use Rattle.flow_net.specs.declared.posted.Settled.{Settled}
-use Rattle.flow_net.specs.declared.posted.Settled.TheVariants.{Quiet}
+use Rattle.flow_net.specs.declared.settled.Settled.{Settled}
+use Rattle.flow_net.specs.declared.settled.Settled.TheVariants.{Quiet}
 
 module _ {W : Type 0} (layout : Layout W) (meaning : ℕ → Value → Result (List Value) ℕ) (runs : IsRun layout) where
   pub kept_on : (count : ℕ) (old new : NetState) → Happened layout meaning count old new

@@ -34,7 +34,7 @@ use Rattle.flow_moves.specs.Ways.{input_in}
 use Rattle.flow_exec.specs.Works.{works_of}
 use Rattle.flow_net.specs.Net.{run_with}
 use Rattle.flow_net.specs.States.{fault_in, state_from, state_by, state_told}
-use Rattle.flow_net.specs.declared.posted.State.{State}
+use Rattle.flow_net.specs.declared.settled.State.{State}
 
 -- What a journal tells of its block's state
 

@@ -10,7 +10,7 @@ use Rattle.flow_exec.specs.Works.{works_of}
 use Rattle.flow_net.specs.Happened.{Happened}
 use Rattle.flow_net.specs.Settles.{GoesOn, Settles}
 use Rattle.flow_net.specs.declared.fault.NetFault.{NetFault}
-use Rattle.flow_net.specs.declared.posted.Settled.{Settled}
+use Rattle.flow_net.specs.declared.settled.Settled.{Settled}
 use Rattle.flow_net.proofs.EventsCount.{happened_on}
 
 module _ {W : Type 0} (layout : Layout W) (meaning : ℕ → Value → Result (List Value) ℕ) (limit done : ℕ) (old mid new : NetState)

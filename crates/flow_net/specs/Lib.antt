@@ -5,7 +5,6 @@ pub mod Net
 pub mod Numbers
 pub mod Opens
 pub mod OwnJobs
-pub mod Posted
 pub mod Settles
 pub mod States
 pub mod There

@@ -5,8 +5,8 @@ use Rattle.flow_link.specs.Layout.{Layout}
 use Rattle.flow_core.specs.State.{NetState}
 use Rattle.flow_core.specs.Statements.{IsStill}
 use Rattle.flow_net.specs.Happened.{Happened}
-use Rattle.flow_net.specs.declared.posted.Settled.{Settled}
-use Rattle.flow_net.specs.declared.posted.Settled.TheVariants.{Quiet, Stopped}
+use Rattle.flow_net.specs.declared.settled.Settled.{Settled}
+use Rattle.flow_net.specs.declared.settled.Settled.TheVariants.{Quiet, Stopped}
 
 module _ {W : Type 0} (layout : Layout W) (meaning : ℕ → Value → Result (List Value) ℕ) (limit : ℕ) (old new : NetState) where
   -- some events have happened, and not more than may

@@ -8,8 +8,8 @@ use Rattle.flow_link.specs.declared.trace.Outcome.{Outcome}
 use Rattle.flow_link.specs.declared.trace.Outcome.TheVariants as outcome
 use Rattle.flow_link.specs.Endings.{is_complete}
 use Rattle.flow_link.specs.Trace.{Run, is_done, marks_of}
-use Rattle.flow_net.specs.declared.posted.State.{State}
-use Rattle.flow_net.specs.declared.posted.State.TheVariants as state
+use Rattle.flow_net.specs.declared.settled.State.{State}
+use Rattle.flow_net.specs.declared.settled.State.TheVariants as state
 
 -- the number of a block's fault
 abbrev pub fault_in : List Mark → Option ℕ

@@ -15,7 +15,7 @@ use crate::crew::{Desk, Report, Task, channels, room_of, run_beside};
 use crate::due::Due;
 use crate::engine::Engine;
 use crate::fault::NetFault;
-use crate::posted::Settled;
+use crate::settled::Settled;
 use crossbeam_channel::{Receiver, Sender};
 use flow_value::Work;
 use std::alloc::Global;

@@ -17,7 +17,7 @@ ghost use Rattle.flow_net.specs.declared.fault.NetFault.TheVariants.{NotEnabled,
 use crate::agenda::Agenda;
 use crate::due::Due;
 use crate::fault::NetFault;
-use crate::posted::Settled;
+use crate::settled::Settled;
 use flow_block::Route;
 use flow_link::{Move, Plan, step_of};
 use flow_moves::Parts;

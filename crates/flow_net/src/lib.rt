@@ -14,11 +14,11 @@ mod laws;
 mod make;
 mod net;
 mod pass;
-mod posted;
+mod settled;
 
 pub use event::{Event, Stepped};
 pub use fault::NetFault;
-pub use flow_link::{Ending, Mark};
+pub use flow_link::{Ending, Mark, Posted};
 pub use laws::{blocks_fault_by_number, works_fault_by_number};
 pub use net::Net;
-pub use posted::{Posted, Settled, State};
+pub use settled::{Settled, State};

@@ -8,14 +8,13 @@ ghost use Rattle.flow_block.specs.Input.{fresh_input};
 ghost use Rattle.flow_block.specs.Planned.{fresh_node};
 ghost use Rattle.flow_block.specs.Routes.{route_of};
 ghost use Rattle.flow_core.specs.State.{fresh_line, fresh_net};
-ghost use Rattle.flow_net.specs.Posted.{input_of};
+ghost use Rattle.flow_link.specs.Posted.{input_of};
 
 use crate::agenda::Agenda;
 use crate::engine::Engine;
 use crate::net::Net;
-use crate::posted::Posted;
 use flow_block::{Input, Node, Route, routes_of};
-use flow_link::{LinkState, Plan};
+use flow_link::{LinkState, Plan, Posted};
 use flow_moves::{Parts, lines_of, nodes_of};
 use flow_value::Runs;
 use std::alloc::{AllocError, Global};

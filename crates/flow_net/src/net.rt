@@ -13,7 +13,7 @@ use crate::due::Due;
 use crate::engine::Engine;
 use crate::event::{Event, Stepped};
 use crate::fault::NetFault;
-use crate::posted::{Settled, State};
+use crate::settled::{Settled, State};
 use flow_block::Block;
 use flow_link::{Mark, Outcome, Plan};
 use flow_moves::shares_out;
@@ -47,7 +47,7 @@ impl<W: Runs> Net<W> {
     ghost use Rattle.flow_net.specs.Settles.{Settles, GoesOn};
     ghost use Rattle.flow_net.specs.There.{IsWhyNot, NeedsId};
     ghost use Rattle.flow_net.specs.declared.fault.NetFault.TheVariants.{NotEnabled, Ids};
-    ghost use Rattle.flow_net.specs.declared.posted.Settled.TheVariants as Settled;
+    ghost use Rattle.flow_net.specs.declared.settled.Settled.TheVariants as Settled;
 
     /// Does events until nothing may happen any more, or as many as the limit are done. After a refusal the events that
     /// were done stay.
@@ -241,7 +241,7 @@ impl<W: Work> Net<W> {
     ghost use Rattle.flow_net.specs.Settles.{Settles, GoesOn};
     ghost use Rattle.flow_net.specs.There.{NeedsId};
     ghost use Rattle.flow_net.specs.declared.fault.NetFault.TheVariants.{NotEnabled, Ids};
-    ghost use Rattle.flow_net.specs.declared.posted.Settled.TheVariants as Settled;
+    ghost use Rattle.flow_net.specs.declared.settled.Settled.TheVariants as Settled;
 
     /// The same as `settle`, by several threads: the calling one, and at most one fewer than there are workers.
     ///

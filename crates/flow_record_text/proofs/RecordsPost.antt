@@ -5,7 +5,7 @@ use Rattle.std.specs.List.{filter, prefix_len}
 use Rattle.std.specs.Str.{bytes_eq}
 use Rattle.std.proofs.lemmas.List.{append-nil, map-append, take_more, length-map, get_or-map, map-set}
 use Rattle.std.proofs.Math.Seq.{map-set_same}
-use Rattle.flow_net.specs.declared.posted.Posted.{Posted}
+use Rattle.flow_link.specs.declared.posted.Posted.{Posted}
 use Rattle.csv.specs.Records.{field_at}
 use Rattle.std.proofs.lemmas.List.Elements.{filter-append}
 use Rattle.std.proofs.lemmas.List.Quantifiers.{position-Some}

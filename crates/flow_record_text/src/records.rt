@@ -11,8 +11,7 @@ ghost use Rattle.flow_record_text.specs.Records.{IsOfRecords, Explains, TakesAll
 
 use csv::{ByteRecord, Error, ErrorKind, Reader, ReaderBuilder};
 use flow_fault_text::{TextFault, TextRefusal};
-use flow_link::{BlockDef, Ending, Plan};
-use flow_net::Posted;
+use flow_link::{BlockDef, Ending, Plan, Posted};
 use flow_value::{Steps, Text, Value};
 use std::alloc::Global;
 use std::io::Read;

@@ -2,8 +2,8 @@
 use Rattle.std.specs.Prelude.{ℕ, Bool, true, false, not, ◌&&◌, ◌||◌}
 use Rattle.flow_link.specs.Lists.{every, is_empty}
 use Rattle.flow_link.specs.Trace.{Run, block_of, waits_over, block_numbers}
-use Rattle.flow_net.specs.declared.posted.State.{State}
-use Rattle.flow_net.specs.declared.posted.State.TheVariants as state
+use Rattle.flow_net.specs.declared.settled.State.{State}
+use Rattle.flow_net.specs.declared.settled.State.TheVariants as state
 use Rattle.flow_report.specs.Report.{is_input, state_of, input_link_number}
 
 abbrev pub is_done_state : State → Bool

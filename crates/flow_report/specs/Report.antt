@@ -15,11 +15,11 @@ use Rattle.flow_link.specs.Lists.{below}
 use Rattle.flow_link.specs.Trace.{Run, took_at, gave_over, block_of, link_of, marks_of, trace_of, held_at, left_at, waits_over, ports_of, block_numbers}
 use Rattle.flow_net.specs.Net.{run_of}
 use Rattle.flow_net.specs.declared.net.Net.{Net}
-use Rattle.flow_net.specs.declared.posted.Settled.{Settled}
-use Rattle.flow_net.specs.declared.posted.Settled.TheVariants.{Quiet, Stopped}
+use Rattle.flow_net.specs.declared.settled.Settled.{Settled}
+use Rattle.flow_net.specs.declared.settled.Settled.TheVariants.{Quiet, Stopped}
 use Rattle.flow_net.specs.States.{state_by}
-use Rattle.flow_net.specs.declared.posted.State.{State}
-use Rattle.flow_net.specs.declared.posted.State.TheVariants as state
+use Rattle.flow_net.specs.declared.settled.State.{State}
+use Rattle.flow_net.specs.declared.settled.State.TheVariants as state
 use Rattle.flow_report.specs.Printed.{list_text}
 
 abbrev pub state_word : State → List ℕ

@@ -13,12 +13,12 @@ use Rattle.flow_link.specs.declared.trace.Ending.{Ending}
 use Rattle.flow_core.specs.State.{NetState}
 use Rattle.flow_exec.specs.Works.{works_of}
 use Rattle.flow_net.specs.Net.{run_with}
-use Rattle.flow_net.specs.Posted.{input_of}
+use Rattle.flow_link.specs.Posted.{input_of}
 use Rattle.flow_net.specs.Settles.{Settles, GoesOn}
 use Rattle.flow_net.specs.declared.fault.NetFault.{NetFault}
 use Rattle.flow_net.specs.declared.fault.NetFault.TheVariants as net_fault
-use Rattle.flow_net.specs.declared.posted.Posted.{Posted}
-use Rattle.flow_net.specs.declared.posted.Settled.{Settled}
+use Rattle.flow_link.specs.declared.posted.Posted.{Posted}
+use Rattle.flow_net.specs.declared.settled.Settled.{Settled}
 use Rattle.flow_fault_text.specs.declared.fault.TextFault.TheVariants.{Write}
 use Rattle.flow_fault_text.specs.declared.fault.TextRefusal.{TextRefusal}
 use Rattle.flow_fault_text.specs.declared.fault.TextRefusal.TheVariants.{Fault, Memory}

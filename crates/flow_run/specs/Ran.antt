@@ -21,8 +21,8 @@ use Rattle.flow_fault_text.specs.declared.fault.TextFault.{TextFault}
 use Rattle.flow_fault_text.specs.declared.fault.TextFault.TheVariants.{Write}
 use Rattle.flow_fault_text.specs.declared.fault.TextRefusal.{TextRefusal}
 use Rattle.flow_fault_text.specs.declared.fault.TextRefusal.TheVariants.{Fault}
-use Rattle.flow_net.specs.declared.posted.Settled.{Settled}
-use Rattle.flow_net.specs.declared.posted.Settled.TheVariants.{Quiet}
+use Rattle.flow_net.specs.declared.settled.Settled.{Settled}
+use Rattle.flow_net.specs.declared.settled.Settled.TheVariants.{Quiet}
 use Rattle.flow_run.specs.declared.outcome.Ran.{Ran}
 use Rattle.flow_run.specs.declared.outcome.RunRefusal.{RunRefusal}
 use Rattle.flow_run.specs.declared.outcome.RunRefusal.TheVariants.{Text, Ids, Memory}

@@ -1,6 +1,6 @@
 -- The status that each outcome of a run ends the program with.
 use Rattle.std.specs.Prelude.{ℕ, true, false, Result, Ok, Err}
-use Rattle.flow_net.specs.declared.posted.Settled.TheVariants.{Quiet, Stopped}
+use Rattle.flow_net.specs.declared.settled.Settled.TheVariants.{Quiet, Stopped}
 use Rattle.flow_fault_text.specs.declared.fault.TextFault.{TextFault}
 use Rattle.flow_fault_text.specs.declared.fault.TextFault.TheVariants.{Syntax, UnknownKey, MissingKey, WrongType, BadWork, BadWhen, BadFormat, Plan, Csv, NotUtf8, UnknownInput, Read, Write}
 use Rattle.flow_run.specs.declared.outcome.Ran.{Ran}

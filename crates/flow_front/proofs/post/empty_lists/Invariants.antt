@@ -1,5 +1,5 @@
 use Rattle.std.proofs.Common.{◌≡◌, map, replicate}
-use Rattle.flow_net.specs.Posted.{input_of}
+use Rattle.flow_link.specs.Posted.{input_of}
 use Rattle.flow_front.specs.Inputs.{nothing_posted}
 use Rattle.flow_front.proofs.post.empty_lists.Given as goal
 

@@ -5,7 +5,7 @@ use Rattle.flow_link.specs.Layout.{Layout}
 use Rattle.flow_link.specs.Planned.{layout_of}
 use Rattle.flow_core.specs.State.{fresh_net}
 use Rattle.flow_net.specs.Net.{parts_of}
-use Rattle.flow_net.specs.Posted.{input_of}
+use Rattle.flow_link.specs.Posted.{input_of}
 use Rattle.flow_record_text.specs.Records.{input_names}
 use Rattle.flow_run.proofs.InputsAsPosted.{names_count, as_many, posts_to_inputs, begins_as, no_plan, no_records}
 use Rattle.flow_run.proofs.pipeline.begin.Goals as goal

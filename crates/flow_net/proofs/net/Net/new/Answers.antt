@@ -8,7 +8,7 @@ use Rattle.flow_core.specs.State.{NetState, fresh_net}
 use Rattle.flow_core.proofs.NetworksInOrder.{fresh_nets_keep}
 use Rattle.flow_exec.specs.Works.{works_of}
 use Rattle.flow_moves.proofs.PlansRun.{plan_runs}
-use Rattle.flow_net.specs.Posted.{input_of}
+use Rattle.flow_link.specs.Posted.{input_of}
 use Rattle.flow_net.proofs.KeptOn.{fresh_posted}
 use Rattle.flow_net.proofs.net.Net.new.Goals as goal
 

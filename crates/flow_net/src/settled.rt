@@ -1,13 +1,4 @@
-//! What goes into a network, and how a run of it stops.
-use flow_link::Ending;
-use flow_value::Value;
-
-/// The values of one input, in order, and how they end.
-#[derive(Debug, Drop)]
-pub struct Posted {
-    pub values: Vec<Value>,
-    pub ending: Ending,
-}
+//! How a run of a network stops, and what became of its blocks.
 
 /// How a run stopped.
 #[derive(Clone, Copy, Debug, PartialEq, Eq)]
