@@ -1,10 +1,10 @@
 //! The likely cause for which a record is refused.
 use crate::encoding::{bad_byte, bad_byte_words, is_utf_16};
 use crate::rows::{Rows, opens_quote};
+use flow_fault_text::TextFault;
 use flow_hints::{did_you_mean, quoted};
 use flow_link::Plan;
 use flow_places::Span;
-use flow_text::TextFault;
 use flow_value::Steps;
 use std::alloc::{AllocError, Global};
 

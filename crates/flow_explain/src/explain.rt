@@ -10,10 +10,11 @@ use crate::network::Network;
 use crate::plan::add_plan_flaws;
 use crate::shape::{add_misfits, add_missing_keys, add_unknown_keys};
 use crate::words::{add_when_flaw, add_work_flaws};
+use flow_fault_text::{TextFault, TextPlace, TextRefusal};
 use flow_hints::{Warning, warnings_of};
 use flow_link::{Place, PlanFault};
 use flow_places::{Part, Span, line_span, places_in};
-use flow_text::{TextFault, TextPlace, TextRefusal, read_plan};
+use flow_plan_text::read_plan;
 use std::alloc::{AllocError, Global};
 
 /// The format of networks that are read.

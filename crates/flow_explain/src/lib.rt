@@ -1,7 +1,8 @@
 //! Explains why a network or its records are refused, with the place in the text and what may have been meant, and
 //! warns of what was hardly meant in a network that is accepted.
 //!
-//! The verdict is that of `flow_text`, which reads the texts for a run. What is found beside it never changes it.
+//! The verdict is that of `flow_plan_text` and `flow_record_text`, which read the texts for a run. What is found beside it
+//! never changes it.
 #![tactic(auto)]
 
 mod cause;

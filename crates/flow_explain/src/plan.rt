@@ -4,10 +4,10 @@ use crate::finding::{Flaw, add_flaw, is_full};
 use crate::keys::{kind_word, knows};
 use crate::network::Network;
 use crate::options::{OPTIONS, allows, is_name, needed, port_count, range_of};
+use flow_fault_text::TextFault;
 use flow_hints::{did_you_mean, quoted};
 use flow_link::{BlockKind, Place, PlanFault};
 use flow_places::Part;
-use flow_text::TextFault;
 use std::alloc::{AllocError, Global};
 
 /// The most blocks, and the most links.

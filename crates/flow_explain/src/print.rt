@@ -2,9 +2,9 @@
 ghost use Rattle.std.specs.Prelude.{◌≡◌};
 
 use crate::finding::Flaw;
+use flow_fault_text::TextFault;
 use flow_hints::Warning;
 use flow_places::{Span, excerpt_of, position_of};
-use flow_text::TextFault;
 use std::alloc::{AllocError, Global};
 use std::io;
 use std::io::{ErrorKind, Write};

@@ -9,10 +9,11 @@ use crate::encoding::without_mark;
 use crate::explain::Answer;
 use crate::finding::Flaw;
 use crate::rows::{Rows, opens_quote};
+use flow_fault_text::{TextFault, TextRefusal};
 use flow_hints::Warning;
 use flow_link::Plan;
 use flow_places::Span;
-use flow_text::{TextFault, TextRefusal, read_records};
+use flow_record_text::read_records;
 use flow_value::Steps;
 use std::alloc::{AllocError, Global};
 

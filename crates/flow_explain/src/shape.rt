@@ -2,9 +2,9 @@
 use crate::finding::{Flaw, add_flaw, is_full};
 use crate::keys::{Form, KINDS, Key, key_names, keys_of, kind_named, knows, place_of, plural};
 use crate::network::Network;
+use flow_fault_text::TextFault;
 use flow_hints::{did_you_mean, nearest, quoted};
 use flow_places::Part;
-use flow_text::TextFault;
 use std::alloc::{AllocError, Global};
 use toml::Value;
 

@@ -1,9 +1,9 @@
 //! Flaws of functions and predicates: texts that are no step, and no predicate.
 use crate::finding::{Flaw, add_flaw, is_full};
 use crate::network::Network;
+use flow_fault_text::{TextFault, TextPlace};
 use flow_hints::{did_you_mean, quoted};
 use flow_places::Part;
-use flow_text::{TextFault, TextPlace};
 use flow_value::{Steps, StepsError, When};
 use std::alloc::{AllocError, Global};
 

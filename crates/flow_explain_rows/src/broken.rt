@@ -1,7 +1,7 @@
 //! Texts that are broken in many ways: each is refused, and told so.
 use crate::told::{check, printed};
 use flow_explain::{Style, Verdict};
-use flow_text::TextFault;
+use flow_fault_text::TextFault;
 use std::alloc::Global;
 use std::process::Abort;
 use std::test::Fail;

@@ -1,7 +1,8 @@
 //! What is told of a text.
 use flow_explain::{Answer, Source, Style, Verdict, check_network, explain_network};
+use flow_fault_text::TextRefusal;
 use flow_places::Span;
-use flow_text::{TextRefusal, read_plan};
+use flow_plan_text::read_plan;
 use std::alloc::{AllocError, Global};
 use std::process::Abort;
 use std::test::Fail;
