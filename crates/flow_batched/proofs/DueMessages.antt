@@ -15,7 +15,7 @@ use Rattle.flow_link.specs.declared.trace.Outcome.{Outcome}
 use Rattle.flow_link.specs.declared.trace.Outcome.TheVariants.{Done, Faulted}
 use Rattle.flow_link.specs.declared.traits.WishAnswer.{WishAnswer}
 use Rattle.flow_link.specs.declared.traits.WishAnswer.TheVariants as answer
-use Rattle.flow_link.specs.Lists.{is_empty}
+use Rattle.flow_lists.specs.Lists.{is_empty}
 use Rattle.flow_link.specs.Plan.{is_write_once}
 use Rattle.flow_link.specs.TargetCalls.{TargetCall, Wants, stage_noted}
 use Rattle.flow_intake.specs.Port.{EndState, PortState, fresh_end, end_in, link_in, stage_at, count_at, is_owed}

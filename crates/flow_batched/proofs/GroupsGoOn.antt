@@ -3,7 +3,7 @@ use Rattle.std.proofs.Common.{Bool, ◌≡◌, ◌≤◌, leb, ltb, true, false,
 use Rattle.std.proofs.lemmas.Bool.{and_parts, leb-true}
 use Rattle.flow_link.specs.declared.draft.BlockKind.{BlockKind}
 use Rattle.flow_link.specs.declared.draft.BlockKind.TheVariants.{BatchedJoin}
-use Rattle.flow_link.specs.Lists.{is_empty}
+use Rattle.flow_lists.specs.Lists.{is_empty}
 use Rattle.flow_link.specs.Plan.{has_work}
 use Rattle.flow_group.specs.Tuple.{all_ended, has_tuple}
 use Rattle.flow_block.specs.Block.{BlockState, held_by, is_batch, is_join, is_batched_join}

@@ -14,9 +14,9 @@ pub mod LinksFit
 pub mod MakingGoesOn
 pub mod MarksFit
 pub mod MovesOut
+pub mod NothingLeft
 pub mod OutcomesStay
 pub mod PassesOfNodes
-pub mod PlacesNamed
 pub mod PlanMade
 pub mod PortsChange
 pub mod PromisedStands
@@ -27,6 +27,5 @@ pub mod SourceMoves
 pub mod SourceStands
 pub mod TargetMoves
 pub mod TargetStands
-pub mod TestsTell
 pub mod TuplesFit
 pub mod WaitingAtPorts

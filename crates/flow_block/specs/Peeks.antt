@@ -1,7 +1,7 @@
 -- What a block could do next by itself, told by its own data alone.
 use Rattle.std.specs.Prelude.{ℕ, ◌+◌, ◌^◌, ◌==◌, leb, ltb, Bool, not, ◌&&◌, ◌||◌, cond, List, [], ◌∷◌, length, Option, None, is_some, is_none, option_map, Result}
 use Rattle.flow_value.specs.declared.value.Value.{Value}
-use Rattle.flow_link.specs.Lists.{every}
+use Rattle.flow_lists.specs.Lists.{every}
 use Rattle.flow_link.specs.Plan.{has_work, is_broadcast, is_write_once}
 use Rattle.flow_intake.specs.Port.{PortState, coming}
 use Rattle.flow_intake.specs.Ended.{first_some, has_seen_completion, of_lower_link, fault_at_ends}

@@ -6,7 +6,7 @@ use Rattle.flow_link.specs.declared.draft.BlockKind.{BlockKind}
 use Rattle.flow_link.specs.declared.draft.BlockKind.TheVariants.{WriteOnce}
 use Rattle.flow_link.specs.declared.plan.Link.{Link}
 use Rattle.flow_link.specs.Layout.{Layout}
-use Rattle.flow_link.specs.Lists.{below}
+use Rattle.flow_lists.specs.Lists.{below}
 use Rattle.flow_link.specs.Making.{result_of}
 use Rattle.flow_link.specs.Plan.{block_in, link_in, begins_at, ends_at_port, port_count, is_steady, is_sole}
 use Rattle.flow_intake.specs.Port.{PortState, fresh_port, fresh_end}

@@ -8,7 +8,7 @@ use Rattle.flow_link.specs.TargetCalls.{TargetCall, is_awaited, stage_noted}
 use Rattle.flow_value.specs.declared.message.MessageStatus.{MessageStatus}
 use Rattle.flow_link.specs.declared.draft.BlockKind.{BlockKind}
 use Rattle.flow_link.specs.declared.draft.BlockKind.TheVariants.{Buffer, Broadcast, Batch, Join}
-use Rattle.flow_link.specs.Lists.{below}
+use Rattle.flow_lists.specs.Lists.{below}
 use Rattle.flow_link.specs.Plan.{is_broadcast, is_one_taker}
 use Rattle.flow_link.specs.declared.stage.Refusal.TheVariants.{PortEnded}
 use Rattle.flow_link.specs.declared.stage.SourceStage.{SourceStage}

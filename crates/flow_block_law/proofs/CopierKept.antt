@@ -10,7 +10,7 @@ use Rattle.flow_link.specs.declared.trace.Mark.TheVariants.{Took, Complete, Faul
 use Rattle.flow_link.specs.declared.trace.Outcome.TheVariants as outcome
 use Rattle.flow_link.specs.Layout.{Layout}
 use Rattle.flow_link.specs.Plan.{is_broadcast, is_one_taker, is_write_once}
-use Rattle.flow_link.proofs.ListTests.{never_both}
+use Rattle.flow_lists.proofs.ListTests.{never_both}
 use Rattle.flow_intake.specs.Port.{EndState, PortState, fresh_port, stage_at as port_stage, is_offer, is_hand}
 use Rattle.flow_intake.specs.Calls.{first_of, is_offered, is_posted, is_postponed, is_arrived, may_be_refused, wants, turns_down, postpones, refuses, consumes, opens, closes, looks as port_looks}
 use Rattle.flow_intake.specs.Ended.{fault_seen, fault_at_ends}

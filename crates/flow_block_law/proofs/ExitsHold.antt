@@ -13,7 +13,7 @@ use Rattle.flow_link.specs.declared.trace.Outcome.{Outcome}
 use Rattle.flow_link.specs.declared.trace.Outcome.TheVariants as outcome
 use Rattle.flow_link.specs.Layout.{Layout}
 use Rattle.flow_link.specs.LinkOk.{HasRoom}
-use Rattle.flow_link.proofs.ListTests.{or_weaker}
+use Rattle.flow_lists.proofs.ListTests.{or_weaker}
 use Rattle.flow_intake.specs.Port.{EndState, PortState, stage_at as port_stage, is_offer, is_hand}
 use Rattle.flow_intake.specs.Calls.{first_of, is_offered, is_posted, is_postponed, is_arrived, may_be_refused, wants, turns_down, postpones, refuses, consumes, opens, closes, looks as port_looks, takes_next, gives_room, port_closes}
 use Rattle.flow_intake.specs.Ended.{fault_seen, fault_at_ends}

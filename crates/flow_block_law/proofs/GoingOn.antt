@@ -10,7 +10,7 @@ use Rattle.flow_link.specs.Layout.{Layout}
 use Rattle.flow_link.specs.Plan.{has_work}
 use Rattle.flow_link.specs.Stage.{source_looks}
 use Rattle.flow_link.specs.Trace.{has_complete}
-use Rattle.flow_link.proofs.ListTests.{never_both}
+use Rattle.flow_lists.proofs.ListTests.{never_both}
 use Rattle.flow_intake.specs.Port.{coming}
 use Rattle.flow_intake.specs.PortLaw.{has_ended}
 use Rattle.flow_intake.specs.Ended.{has_seen_completion}
@@ -26,7 +26,7 @@ use Rattle.flow_block.specs.Jobs.{out_count}
 use Rattle.flow_block.specs.Peeks.{could_stop, is_out_at_rest, is_copied_out, may_copy, has_group, has_next, may_work, may_begin, may_make, may_complete, next_fault, may_finish, fault_cause, nothing_comes, holds_nothing, is_complete, has_group_of_ports, is_written}
 use Rattle.flow_block_law.specs.NodeLaw.{EndsLaw, outcome_in}
 use Rattle.flow_block_law.proofs.JournalTells.{open_tells}
-use Rattle.flow_block.proofs.TestsTell.{none_is, none_unless}
+use Rattle.flow_lists.proofs.TestsTell.{none_is, none_unless}
 use Rattle.flow_link.specs.declared.draft.BlockKind.{BlockKind}
 
 -- what counts nothing, and its elements

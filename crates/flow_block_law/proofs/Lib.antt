@@ -61,7 +61,6 @@ pub mod OnceMakesNone
 pub mod PlacesCounted
 pub mod PlacesOfCopies
 pub mod PlacesOfLinks
-pub mod PlacesOfNumbers
 pub mod PortEnds
 pub mod PortsHold
 pub mod PortsStand

@@ -18,7 +18,7 @@ use Rattle.flow_link.specs.Stage.{source_stage_of, target_stage_of}
 use Rattle.flow_link.specs.Trace.{Run, link_of}
 use Rattle.flow_link.specs.Views.{SourceView, TargetView}
 use Rattle.flow_link.proofs.RoundsOfWalks.{some_here_below}
-use Rattle.flow_link.proofs.ListTests.{never_both}
+use Rattle.flow_lists.proofs.ListTests.{never_both}
 use Rattle.flow_intake.specs.Port.{PortState, hand_in, stage_at as port_stage}
 use Rattle.flow_intake.specs.Calls.{answer_where, move_of, move_at as move_in}
 use Rattle.flow_outlet.specs.End.{is_out as is_offer_out}
@@ -33,7 +33,7 @@ use Rattle.flow_block.specs.Planned.{out_place, in_place}
 use Rattle.flow_block_law.proofs.CopierOf.{copier_still}
 use Rattle.flow_block_law.proofs.CopiesIdle.{view_is_shared}
 use Rattle.flow_block_law.proofs.PlacesOfLinks.{end_in_of, end_out_is, end_out_of, there_at_source}
-use Rattle.flow_block.proofs.TestsTell.{some_is}
+use Rattle.flow_lists.proofs.TestsTell.{some_is}
 
 -- What an end that has no move tells
 

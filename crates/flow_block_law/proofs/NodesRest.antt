@@ -12,7 +12,7 @@ use Rattle.flow_link.specs.Composes.{Ends}
 use Rattle.flow_link.specs.Endings.{is_complete, has_nothing, is_complete_as}
 use Rattle.flow_link.specs.Facts.{facts_in}
 use Rattle.flow_link.specs.LinkOk.{IsWithin}
-use Rattle.flow_link.specs.Lists.{every, below, is_empty as is_none_left}
+use Rattle.flow_lists.specs.Lists.{every, below, is_empty as is_none_left}
 use Rattle.flow_link.specs.Making.{load, group_size}
 use Rattle.flow_link.specs.Plan.{port_count, is_broadcast, is_one_taker, is_reserving, is_write_once}
 use Rattle.flow_link.specs.Quiet.{has_served_all, has_this_fault, faulted_by_itself, rests, rests_as, held_in_all, holds_nothing as run_holds_nothing, all_completed, has_no_group, is_done_if_can, is_full_with}
@@ -24,7 +24,7 @@ use Rattle.flow_block.specs.Copies.{copies_left}
 use Rattle.flow_block_law.proofs.Joins.{copies_unbatched, copies_at_one}
 use Rattle.flow_block_law.proofs.OnceHolds.{room_once}
 use Rattle.flow_block_law.proofs.WrittenOnce.{message_is, weighs_written}
-use Rattle.flow_link.proofs.ListTests.{never_both, passes_below, unless_done}
+use Rattle.flow_lists.proofs.ListTests.{never_both, passes_below, unless_done}
 use Rattle.flow_intake.specs.Port.{EndState, PortState, fresh_port, fresh_end, hand_in, stage_at as port_stage, coming, has_room, is_below}
 use Rattle.flow_intake.specs.PortLaw.{has_ended as has_port_ended}
 use Rattle.flow_intake.specs.Ended.{has_seen_completion, is_completion, fault_seen}
@@ -53,7 +53,7 @@ use Rattle.flow_block_law.proofs.KindsBuilt.{has_one_port, room_shared}
 use Rattle.flow_block_law.proofs.NodesSeen.{held_is, none_held, own_fault_is, load_is}
 use Rattle.flow_block_law.proofs.NothingToDo.{not_pending, worked_off, none_seen, no_coming, not_finished}
 use Rattle.flow_block_law.proofs.PlacesOfLinks.{end_in_of}
-use Rattle.flow_block.proofs.TestsTell.{every_tells, every_where, some_where}
+use Rattle.flow_lists.proofs.TestsTell.{every_tells, every_where, some_where}
 use Rattle.flow_block.specs.Groups.{has_group_at, waiting_in_all}
 use Rattle.flow_block_law.specs.GroupsLaw.{are_complete}
 use Rattle.flow_block_law.proofs.GroupsTold.{group_told}

@@ -7,7 +7,7 @@ use Rattle.flow_link.specs.declared.stage.SourceStage.{SourceStage}
 use Rattle.flow_link.specs.declared.stage.SourceStage.TheVariants as source
 use Rattle.flow_link.specs.Layout.{Layout}
 use Rattle.flow_link.specs.Plan.{has_work}
-use Rattle.flow_link.proofs.ListTests.{never_both}
+use Rattle.flow_lists.proofs.ListTests.{never_both}
 use Rattle.flow_intake.specs.Port.{PortState, fresh_port, stage_at as port_stage, coming}
 use Rattle.flow_outlet.specs.End.{is_over, is_out, is_waiting, is_cut, is_closed, speaks_of, rejects}
 use Rattle.flow_outlet.specs.Law.{admits_head as admits}
@@ -32,7 +32,8 @@ use Rattle.flow_block_law.proofs.GoingOn.{away_goes_on, waiting_away}
 use Rattle.flow_block_law.proofs.JobsRest.{holds_none}
 use Rattle.flow_block_law.proofs.Joins.{join_idle, join_alone, batched_alone, batched_unjoined, batched_idle, others_at_one}
 use Rattle.flow_block_law.proofs.KindsBuilt.{has_one_port, batch_idle}
-use Rattle.flow_block.proofs.TestsTell.{every_where, none_left}
+use Rattle.flow_lists.proofs.TestsTell.{every_where}
+use Rattle.flow_block.proofs.NothingLeft.{none_left}
 use Rattle.flow_group.specs.Tuple.{has_tuple}
 
 offer_none : (offer : Option ℕ) → ((j : ℕ) → offer ≡ Some j → ⊥) → offer ≡ None

@@ -35,7 +35,7 @@ use Rattle.flow_block_law.proofs.GoingOn.{may_complete_tells, may_fault_tells, m
 use Rattle.flow_block_law.proofs.JournalTells.{took_same, took_here}
 use Rattle.flow_block_law.proofs.KindsBuilt.{makes_by, next_by}
 use Rattle.flow_block.proofs.PortsChange.{each_after_one, each_after_all}
-use Rattle.flow_block.proofs.TestsTell.{every_tells}
+use Rattle.flow_lists.proofs.TestsTell.{every_tells}
 use Rattle.flow_block_law.proofs.GroupPorts.{each_after_group}
 use Rattle.flow_block_law.proofs.Joins.{copies_unbatched}
 use Rattle.flow_group.specs.Group.{takes_first}

@@ -15,7 +15,7 @@ use Rattle.flow_link.specs.RestsByParts.{OutletRests, is_over as is_view_over}
 use Rattle.flow_link.specs.Stage.{source_stage_of}
 use Rattle.flow_link.specs.Trace.{BlockTrace, Run, gave_over, given_by, given_over, is_faulted, is_done, is_used_up, is_cut as is_run_cut, block_of, link_of, marks_of, left_at}
 use Rattle.flow_link.specs.Views.{SourceStage as SourceViewStage, SourceView}
-use Rattle.flow_link.proofs.ListTests.{never_both}
+use Rattle.flow_lists.proofs.ListTests.{never_both}
 use Rattle.flow_outlet.specs.End.{id_of, is_waiting, is_cut}
 use Rattle.flow_outlet.specs.Law.{admits_head as admits}
 use Rattle.flow_outlet.specs.Outlet.{OutletState, first_of, is_empty, head_of, end_at, stage_at, end_of}

@@ -17,7 +17,7 @@ use Rattle.flow_link.specs.Endings.{stops, completes_once, is_number}
 use Rattle.flow_link.specs.Facts.{facts_in}
 use Rattle.flow_link.specs.Law.{is_own_mark, gives_in_order}
 use Rattle.flow_link.specs.Layout.{Layout}
-use Rattle.flow_link.specs.Lists.{every, some, below}
+use Rattle.flow_lists.specs.Lists.{every, some, below}
 use Rattle.flow_link.specs.Making.{all_items, are_groups, row_weight, before_complete}
 use Rattle.flow_link.specs.Plan.{block_in, port_count, has_work, is_one_taker, is_write_once, is_reserving}
 use Rattle.flow_link.specs.Trace.{Run, took, took_at, gave, gave_over, has_complete, has_fault, has_ended, is_done}

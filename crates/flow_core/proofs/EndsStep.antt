@@ -25,7 +25,7 @@ use Rattle.flow_core.specs.State.{NetState, node_at, input_at}
 use Rattle.flow_core.proofs.PartsChange.{PartsInOrder, NodeSteps, given_at, taken_at, given_as, taken_as}
 use Rattle.flow_core.proofs.PartsChange.{node_changes, given_stays, taken_stays, node_is, input_changes}
 use Rattle.flow_core.proofs.PartsChange.{given_by_others, input_is, taken_as_before}
-use Rattle.flow_core.proofs.PlacesTell.{places_differ}
+use Rattle.flow_lists.proofs.PlacesTell.{places_differ}
 use Rattle.flow_core.proofs.PlacesOfLinks.{begins_here, ends_here}
 
 module _ {W : Type 0} (layout : Layout W) (meaning : ℕ → Value → Result (List Value) ℕ) where

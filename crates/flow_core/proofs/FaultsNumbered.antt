@@ -15,19 +15,19 @@ use Rattle.flow_link.specs.declared.trace.Mark.TheVariants.{Fault, Done}
 use Rattle.flow_link.specs.Endings.{is_fault_ending, fault_of, is_number, first_fault, fault_by_kind, own_fault, passes_on}
 use Rattle.flow_link.specs.Endings.{faults_from, brings_fault, has_cause, has_causes}
 use Rattle.flow_link.specs.Lawful.{Lawful}
-use Rattle.flow_link.specs.Lists.{every, some, is_empty}
+use Rattle.flow_lists.specs.Lists.{every, some, is_empty}
 use Rattle.flow_link.specs.Making.{result_of, block_result}
 use Rattle.flow_link.specs.Plan.{has_work, begins_at, ends_at, no_link}
 use Rattle.flow_link.specs.Trace.{InputTrace, BlockTrace, Run, is_fault_mark, has_fault, nothing_left, nothing_posted, block_of}
 use Rattle.flow_link.specs.Trace.{link_of, link_numbers, marks_of, held_at, input_of, waits_over}
 use Rattle.flow_link.specs.WellFormed.{IsWellFormed}
-use Rattle.flow_link.proofs.ListTests.{length_numbers, passes_below}
+use Rattle.flow_lists.proofs.ListTests.{length_numbers, passes_below}
 use Rattle.flow_block.specs.Input.{fresh_input, input_trace}
-use Rattle.flow_block.proofs.TestsTell.{every_tells, some_tells, some_where}
+use Rattle.flow_lists.proofs.TestsTell.{every_tells, some_tells, some_where}
 use Rattle.flow_core.specs.Numbers.{ends_by_number, BlocksFaultByNumber}
 use Rattle.flow_core.specs.State.{run_of_net}
 use Rattle.flow_core.specs.Statements.{SchedulesGoWell}
-use Rattle.flow_core.proofs.PlacesTell.{below_at}
+use Rattle.flow_lists.proofs.PlacesTell.{below_at}
 use Rattle.flow_core.proofs.WalksEnd.{ComesFrom, none_has}
 
 -- the mark of a fault that a journal has passes where each mark does

@@ -12,7 +12,6 @@ pub mod NetworksInOrder
 pub mod NextIsAllowed
 pub mod PartsChange
 pub mod PlacesOfLinks
-pub mod PlacesTell
 pub mod SchedulesGoWell
 pub mod SoleLinks
 pub mod SourcesByKind

@@ -23,7 +23,7 @@ use Rattle.flow_core.specs.State.{NetState, node_at, no_node, input_at, source_f
 use Rattle.flow_core.specs.State.{target_from}
 use Rattle.flow_core.proofs.PlacesOfLinks.{exit_there, copy_there, port_there, entry_there}
 use Rattle.flow_core.proofs.SourcesByKind.{shared_view, copied_view, same_kind}
-use Rattle.flow_core.proofs.PlacesTell.{count_within, counts_differ, element_set}
+use Rattle.flow_lists.proofs.PlacesTell.{count_within, counts_differ, element_set}
 
 module _ {W : Type 0} (layout : Layout W) where
   -- what the source and the target of a link know

@@ -18,7 +18,7 @@ use Rattle.flow_block.specs.Planned.{is_out_of, is_into, links_to, rule_of, out_
 use Rattle.flow_block_law.proofs.PlacesOfCopies.{copy_out_of}
 use Rattle.flow_block_law.proofs.PlacesOfLinks.{end_out_of}
 use Rattle.flow_core.specs.Keeps.{IsRun}
-use Rattle.flow_core.proofs.PlacesTell.{place_rises, place_finds}
+use Rattle.flow_lists.proofs.PlacesTell.{place_rises, place_finds}
 
 module _ {W : Type 0} (layout : Layout W) where
   -- a link that leads so passes the test of the links that do

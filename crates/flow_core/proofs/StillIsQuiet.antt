@@ -25,7 +25,7 @@ use Rattle.flow_link.specs.Views.{SourceStage, SourceView, TargetStage}
 use Rattle.flow_link.proofs.LinksAtRest.{links_rest}
 use Rattle.flow_link.proofs.LooksKeepOrder.{looks_keep}
 use Rattle.flow_link.proofs.QuietByParts.{rests_compose}
-use Rattle.flow_link.proofs.ListTests.{never_both}
+use Rattle.flow_lists.proofs.ListTests.{never_both}
 use Rattle.flow_intake.specs.Port.{end_in}
 use Rattle.flow_outlet.specs.Outlet.{end_at, stage_at}
 use Rattle.flow_block.specs.Block.{port_at}

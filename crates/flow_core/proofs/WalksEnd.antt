@@ -6,12 +6,12 @@ use Rattle.std.specs.List.{sum_by}
 use Rattle.std.proofs.lemmas.Bool.{true_from_ne_false, and_from, or_left, or_right}
 use Rattle.std.proofs.lemmas.List.Sums.{sum_by-cons, sum_by-le-sum_by}
 use Rattle.flow_link.specs.declared.plan.Link.{Link}
-use Rattle.flow_link.specs.Lists.{some, below}
+use Rattle.flow_lists.specs.Lists.{some, below}
 use Rattle.flow_link.specs.PlanFaults.{leads, walks}
-use Rattle.flow_link.proofs.ListTests.{length_numbers}
+use Rattle.flow_lists.proofs.ListTests.{length_numbers}
 use Rattle.flow_link.proofs.LongWalks.{never_reached}
 use Rattle.flow_link.proofs.RoundsOfWalks.{some_here_below}
-use Rattle.flow_core.proofs.PlacesTell.{below_at}
+use Rattle.flow_lists.proofs.PlacesTell.{below_at}
 
 -- a sum of terms none of which is greater, and one of which is less
 less_somewhere : (f g : ℕ → ℕ) (ns : List ℕ) (i : ℕ) → i < length ns → ((n : ℕ) → f n ≤ g n)

@@ -2,7 +2,7 @@
 use Rattle.std.specs.Prelude.{◌≡◌, ◌≢◌, ℕ, Bool, true, false, not, List, length, count_by, Err}
 use Rattle.flow_value.specs.declared.value.Value.{Value}
 use Rattle.flow_link.specs.Endings.{is_fault_ending}
-use Rattle.flow_link.specs.Lists.{every}
+use Rattle.flow_lists.specs.Lists.{every}
 use Rattle.flow_link.specs.Trace.{InputTrace, has_fault, marks_of}
 use Rattle.flow_core.specs.Events.{NetEvent}
 use Rattle.flow_core.specs.State.{NetState, run_of_net, fresh_net}

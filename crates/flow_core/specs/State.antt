@@ -17,7 +17,7 @@ use Rattle.flow_block.specs.BlockFits.{fresh_block}
 use Rattle.flow_block.specs.Input.{InputState, fresh_input, no_input, input_view, input_trace}
 use Rattle.flow_block.specs.Node.{NodeState, in_view, source_view, node_trace}
 use Rattle.flow_block.specs.Planned.{in_place, out_place, input_place, fresh_node}
-use Rattle.flow_link.specs.Lists.{below}
+use Rattle.flow_lists.specs.Lists.{below}
 use Rattle.std.specs.Prelude.{length, replicate}
 
 -- blocks and links by their numbers, and inputs in the order of their blocks. A link has its phase, and what lies in its slot

@@ -24,7 +24,7 @@ use Rattle.flow_spread.specs.Spread.{SpreadState, end_at, link_at, stage_at, nex
 use Rattle.flow_spread.proofs.NextOffer.{next_is, prepared_may}
 use Rattle.flow_block.specs.Traits.{copy_over, may_take_copy}
 use Rattle.flow_block.proofs.CopyStands.{is_asked}
-use Rattle.flow_block.proofs.PlacesNamed.{place_set, place_map}
+use Rattle.flow_lists.proofs.PlacesNamed.{place_set, place_map}
 use Rattle.flow_history.specs.Copied.{link_id, NamesItself}
 use Rattle.flow_history.specs.History.{Gift, given_over, gifts_of}
 

@@ -6,7 +6,7 @@ use Rattle.flow_value.specs.declared.value.Value.{Value}
 use Rattle.flow_link.specs.declared.draft.BlockKind.TheVariants.{BatchedJoin}
 use Rattle.flow_link.specs.declared.traits.MakeFault.TheVariants as make_fault
 use Rattle.flow_link.specs.BlockCalls.{BlockCall}
-use Rattle.flow_link.specs.Lists.{is_empty}
+use Rattle.flow_lists.specs.Lists.{is_empty}
 use Rattle.flow_link.specs.Making.{Arrival, arrived_at, all_items, column}
 use Rattle.flow_link.specs.Plan.{is_one_taker, is_write_once}
 use Rattle.flow_link.specs.SourceCalls.{SourceCall}

@@ -22,7 +22,7 @@ use Rattle.flow_block.specs.Block.{BlockState, port_in, is_batch, port_at}
 use Rattle.flow_block.specs.BlockFits.{fresh_block, weight_out}
 use Rattle.flow_block.specs.Peeks.{holds_nothing}
 use Rattle.flow_block.specs.Traits.{made_next, shares, port_into, with_port_of}
-use Rattle.flow_block.proofs.TestsTell.{none_left}
+use Rattle.flow_block.proofs.NothingLeft.{none_left}
 use Rattle.flow_link.specs.LinkOk.{IsWithin}
 use Rattle.flow_outlet.specs.Fits.{weight_of}
 use Rattle.flow_outlet.specs.History.{listed}

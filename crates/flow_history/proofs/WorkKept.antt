@@ -32,7 +32,7 @@ use Rattle.flow_block_law.proofs.JobsEnd.{put_nothing}
 use Rattle.flow_block.proofs.ResultsKept.{held_then}
 use Rattle.flow_block_law.proofs.JobsHold.{back_at}
 use Rattle.flow_block.proofs.PortsChange.{kept_at_all, kept_at_one}
-use Rattle.flow_block.proofs.TestsTell.{none_is}
+use Rattle.flow_lists.proofs.TestsTell.{none_is}
 use Rattle.flow_exec.specs.Execution.{ExecutionState, fresh_execution, job_result}
 use Rattle.flow_exec.specs.Works.{results_by, worked_by}
 use Rattle.flow_outlet.specs.Fits.{weight_of}

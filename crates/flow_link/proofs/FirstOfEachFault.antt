@@ -11,13 +11,13 @@ use Rattle.flow_link.specs.declared.plan.Link.{Link}
 use Rattle.flow_link.specs.declared.plan.PlanFault.{PlanFault}
 use Rattle.flow_link.specs.declared.plan.PlanFault.TheVariants.{Limit, DuplicateName, UnknownBlock, Port, NoOutput, BadOption, CapacityBelowSize, SharedSource, Cycle}
 use Rattle.flow_link.specs.declared.plan.Place.TheVariants.{Block, Link as at_link}
-use Rattle.flow_link.specs.Lists.{numbers_from, below, some}
+use Rattle.flow_lists.specs.Lists.{numbers_from, below, some}
 use Rattle.flow_link.specs.Plan.{block_named, block_in, link_in, named_link, named_links, planned_links, is_reserving}
 use Rattle.flow_link.specs.PlanFaults.{lacks_port, lacks_output, options_fit, is_in, holds_no_group, stands, walks, faults_in_order, first_plan_fault}
 use Rattle.flow_link.specs.NotBuilt.{stands_now, first_at, name_faults, end_faults, option_faults, is_built_block, is_bad_block, first_fault_now}
 use Rattle.flow_link.specs.Layout.{IsLaidOut}
 use Rattle.flow_link.proofs.LinksLaidOut.{laid_out_of, none_step}
-use Rattle.flow_link.proofs.FirstInOrder.{position_is_first, none_below}
+use Rattle.flow_lists.proofs.FirstInOrder.{position_is_first, none_below}
 
 module _ {W : Type 0} (blocks : List (BlockDef W)) where
   pub named_link_at : (links : List LinkDef) (l : ℕ) (d : LinkDef) → l < length links

@@ -1,22 +1,14 @@
 pub mod CopiesByParts
-pub mod CountsBeginAnywhere
 pub mod EachLinkOf
 pub mod EndingsByParts
-pub mod ExamplesDecided
-pub mod FaultsComeInOrder
-pub mod FirstInOrder
 pub mod FirstOfEachFault
 pub mod JournalsGrow
-pub mod KeptAtRest
-pub mod KeptInMidMove
 pub mod LawfulByParts
-pub mod LawfulByTests
 pub mod LinksAtRest
 pub mod LinksByParts
 pub mod LinksLaidOut
 pub mod LinksLead
 pub mod LinksTell
-pub mod ListTests
 pub mod LongWalks
 pub mod LooksKeepOrder
 pub mod OneMoreMark
@@ -29,4 +21,3 @@ pub mod SourceMoves
 pub mod StagesKept
 pub mod TargetMoves
 pub mod WordsDiffer
-pub mod WrongPartsRefused

@@ -9,13 +9,13 @@ use Rattle.flow_link.specs.declared.plan.PlanFault.TheVariants.{BadOption}
 use Rattle.flow_link.specs.declared.plan.Place.TheVariants.{Block, Link as at_link}
 use Rattle.flow_link.specs.Built.{IsBuilt, is_port}
 use Rattle.flow_link.specs.Layout.{input_links, exit_links, outer_links}
-use Rattle.flow_link.specs.Lists.{below}
+use Rattle.flow_lists.specs.Lists.{below}
 use Rattle.flow_link.specs.NotBuilt.{stands_now, first_fault_now, option_faults, is_built_block, is_bad_block}
 use Rattle.flow_link.specs.Plan.{block_in, named_links, planned_links, is_reserving}
 use Rattle.flow_link.specs.PlanFaults.{options_fit}
 use Rattle.flow_link.proofs.EachLinkOf.{each_append, each_input, each_exit, none_at, each_named}
 use Rattle.flow_link.proofs.FirstOfEachFault.{first_fault_of, none_front, none_back}
-use Rattle.flow_link.proofs.ListTests.{never_both}
+use Rattle.flow_lists.proofs.ListTests.{never_both}
 
 -- of a block that is built
 no_output_of : (a b : Bool) → (not a && b) ≡ true → a ≡ false

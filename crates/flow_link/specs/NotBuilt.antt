@@ -5,7 +5,7 @@ use Rattle.flow_link.specs.declared.draft.LinkDef.{LinkDef}
 use Rattle.flow_link.specs.declared.plan.Place.TheVariants.{Block, Link as at_link}
 use Rattle.flow_link.specs.declared.plan.PlanFault.{PlanFault}
 use Rattle.flow_link.specs.declared.plan.PlanFault.TheVariants.{Limit, DuplicateName, UnknownBlock, Port, NoOutput, BadOption}
-use Rattle.flow_link.specs.Lists.{below}
+use Rattle.flow_lists.specs.Lists.{below}
 use Rattle.flow_link.specs.Plan.{block_in, is_reserving}
 use Rattle.flow_link.specs.PlanFaults.{stands, options_fit, faults_in_order}
 

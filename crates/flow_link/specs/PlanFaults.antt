@@ -10,7 +10,7 @@ use Rattle.flow_link.specs.declared.plan.LinkTarget.TheVariants.{Port as at_port
 use Rattle.flow_link.specs.declared.plan.Place.TheVariants.{Block, Link as at_link}
 use Rattle.flow_link.specs.declared.plan.PlanFault.{PlanFault}
 use Rattle.flow_link.specs.declared.plan.PlanFault.TheVariants.{Limit, DuplicateName, UnknownBlock, Port, NoOutput, BadOption, CapacityBelowSize, SharedSource, Cycle}
-use Rattle.flow_link.specs.Lists.{every, some, below}
+use Rattle.flow_lists.specs.Lists.{every, some, below}
 use Rattle.flow_link.specs.Plan.{port_count, is_reserving, block_in, link_in, begins_at, ends_at, ends_at_port, block_named, named_links}
 
 abbrev pub is_between : ℕ → ℕ → ℕ → Bool

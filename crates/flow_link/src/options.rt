@@ -72,7 +72,7 @@ fn reserves(kind: BlockKind, greedy: Option<bool>) -> bool
     }
 }
 
-#[tactic(auto, using(crate::proofs::FirstInOrder::all_is_every))]
+#[tactic(auto, using(flow_lists::proofs::FirstInOrder::all_is_every))]
 fn is_name(name: &str) -> bool
     ensures { result ≡ is_name name.now }
 {

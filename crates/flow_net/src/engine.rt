@@ -1,6 +1,6 @@
 //! Drives the blocks and links of a network: finds an event that may happen, does it, and goes on.
 ghost use Rattle.std.specs.Prelude.{◌≡◌, ◌≢◌, [], map, length, IfOk, IfErr, OnOk, OnErr, Err};
-ghost use Rattle.flow_link.specs.Lists.{below};
+ghost use Rattle.flow_lists.specs.Lists.{below};
 ghost use Rattle.flow_link.specs.Planned.{layout_of};
 ghost use Rattle.flow_block.specs.Routes.{route_of};
 ghost use Rattle.flow_core.specs.Events.{Enabled, MayHappen, NetEvent, after};

@@ -2,7 +2,7 @@
 //! is none.
 ghost use Rattle.std.specs.Prelude.{◌≡◌, ◌+◌, ◌≤◌, length, map, count_by, replicate, IfOk, IfErr, []};
 ghost use Rattle.std.specs.Prelude.{vec_capacity, vec_len};
-ghost use Rattle.flow_link.specs.Lists.{below};
+ghost use Rattle.flow_lists.specs.Lists.{below};
 ghost use Rattle.flow_link.specs.Planned.{layout_of};
 ghost use Rattle.flow_block.specs.Input.{fresh_input};
 ghost use Rattle.flow_block.specs.Planned.{fresh_node};

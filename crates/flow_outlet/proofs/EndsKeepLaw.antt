@@ -16,7 +16,7 @@ use Rattle.flow_link.specs.declared.stage.SourceStage.TheVariants.{Free, Posted,
 use Rattle.flow_link.specs.declared.trace.Outcome.{Outcome}
 use Rattle.flow_link.specs.LinkOk.{IsWithin, HasRoom}
 use Rattle.flow_link.specs.Stage.{source_looks}
-use Rattle.flow_link.proofs.ListTests.{never_both}
+use Rattle.flow_lists.proofs.ListTests.{never_both}
 use Rattle.flow_outlet.specs.declared.ends.LinkRule.{LinkRule}
 use Rattle.flow_outlet.specs.declared.ends.OutEnd.{OutEnd}
 use Rattle.flow_outlet.specs.End.{id_of, speaks_of, is_out, is_over, is_free, is_waiting, is_cut, is_limit, rejects, end_in, no_end, fresh_end, counted}

@@ -4,7 +4,7 @@ use Rattle.std.specs.Borrow.{Bor}
 use Rattle.std.specs.declared.vec.Vec.{Vec}
 use Rattle.flow_value.specs.declared.value.Value.{Value}
 use Rattle.flow_link.specs.declared.trace.Mark.{Mark}
-use Rattle.flow_link.specs.Lists.{below}
+use Rattle.flow_lists.specs.Lists.{below}
 use Rattle.flow_link.specs.Trace.{gave_over}
 
 -- the values to which references lead

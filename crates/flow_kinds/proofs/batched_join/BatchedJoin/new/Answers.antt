@@ -1,5 +1,5 @@
 use Rattle.std.proofs.Common.{◌≡◌, ap, sym, subst, ◌∙◌, rules}
-use Rattle.flow_link.specs.Lists.{every}
+use Rattle.flow_lists.specs.Lists.{every}
 use Rattle.flow_link.specs.Planned.{layout_of}
 use Rattle.flow_link.specs.declared.stage.TargetStage.TheVariants.{Free}
 use Rattle.flow_intake.specs.Port.{PortState}

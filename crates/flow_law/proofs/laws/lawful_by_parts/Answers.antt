@@ -1,0 +1,5 @@
+use Rattle.flow_link.proofs.LawfulByParts.{composes}
+use Rattle.flow_law.proofs.laws.lawful_by_parts.Goals as goal
+
+pub returns : goal.returns
+returns g c = composes _

@@ -1,0 +1,10 @@
+pub mod Examples
+pub mod LawfulExamples
+pub mod MidMove
+pub mod PlanExamples
+pub mod Rebase
+pub mod RefusedExamples
+pub mod Tests
+pub mod UnfinishedExamples
+pub mod WaitsAtRest
+pub mod WrongParts

@@ -1,6 +1,0 @@
-use Rattle.flow_value.specs.declared.value.Value.{Value}
-use Rattle.flow_link.proofs.CountsBeginAnywhere.{rebases}
-use Rattle.flow_link.proofs.laws.counts_begin_anywhere.Goals as goal
-
-pub returns : goal.returns
-returns c = rebases Value

@@ -1,5 +1,0 @@
-use Rattle.flow_link.proofs.LawfulByParts.{composes}
-use Rattle.flow_link.proofs.laws.lawful_by_parts.Goals as goal
-
-pub returns : goal.returns
-returns g c = composes _

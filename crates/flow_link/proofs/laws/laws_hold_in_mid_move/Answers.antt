@@ -1,5 +1,0 @@
-use Rattle.flow_link.proofs.KeptInMidMove.{kept_in_mid_move}
-use Rattle.flow_link.proofs.laws.laws_hold_in_mid_move.Goals as goal
-
-pub returns : goal.returns
-returns c = kept_in_mid_move

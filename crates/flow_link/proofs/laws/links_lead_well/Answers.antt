@@ -1,5 +1,0 @@
-use Rattle.flow_link.proofs.LinksLead.{links_lead}
-use Rattle.flow_link.proofs.laws.links_lead_well.Goals as goal
-
-pub returns : goal.returns
-returns g c = links_lead _

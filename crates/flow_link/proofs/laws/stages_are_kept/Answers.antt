@@ -1,5 +1,0 @@
-use Rattle.flow_link.proofs.StagesKept.{stages_are_kept}
-use Rattle.flow_link.proofs.laws.stages_are_kept.Goals as goal
-
-pub returns : goal.returns
-returns c = stages_are_kept
