@@ -3,7 +3,7 @@ use Rattle.std.proofs.Common.{◌≡◌, ℕ, Bool, true, false, List, [], None,
 use Rattle.flow_value.specs.declared.value.Value.{Value}
 use Rattle.flow_link.specs.declared.draft.BlockKind.{BlockKind}
 use Rattle.flow_link.specs.declared.draft.BlockKind.TheVariants.{Broadcast, WriteOnce}
-use Rattle.flow_link.specs.Composes.{Ends, NodeMakes}
+use Rattle.flow_lawful.specs.Composes.{Ends, NodeMakes}
 use Rattle.flow_link.specs.Layout.{Layout}
 use Rattle.flow_link.specs.Making.{makes_as}
 use Rattle.flow_link.specs.Plan.{is_one_taker, is_write_once, is_broadcast}

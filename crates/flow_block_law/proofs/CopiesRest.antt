@@ -12,12 +12,12 @@ use Rattle.flow_link.specs.declared.stage.SourceStage.TheVariants as source
 use Rattle.flow_link.specs.declared.trace.Mark.{Mark}
 use Rattle.flow_link.specs.declared.trace.Outcome.{Outcome}
 use Rattle.flow_link.specs.declared.trace.Outcome.TheVariants.{Done, Faulted}
-use Rattle.flow_link.specs.Composes.{Ends, is_done_with}
+use Rattle.flow_lawful.specs.Composes.{Ends, is_done_with}
 use Rattle.flow_link.specs.Layout.{Layout}
 use Rattle.flow_lists.specs.Lists.{is_empty as is_none_left}
 use Rattle.flow_link.specs.Plan.{is_write_once, is_broadcast}
-use Rattle.flow_link.specs.Quiet.{first_of as first_left, head_as, head_from, admits_head, has_served_all}
-use Rattle.flow_link.specs.RestsByParts.{is_to_hand_over, is_wished_for, is_over as is_view_over}
+use Rattle.flow_lawful.specs.Quiet.{first_of as first_left, head_as, head_from, admits_head, has_served_all}
+use Rattle.flow_lawful.specs.RestsByParts.{is_to_hand_over, is_wished_for, is_over as is_view_over}
 use Rattle.flow_link.specs.Stage.{source_stage_of}
 use Rattle.flow_link.specs.Trace.{Run, gave_over, given_over, is_faulted, is_done, is_used_up, is_cut as is_run_cut, block_of, link_of, marks_of, left_at}
 use Rattle.flow_lists.proofs.ListTests.{never_both}

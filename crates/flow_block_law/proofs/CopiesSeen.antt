@@ -13,7 +13,7 @@ use Rattle.flow_link.specs.declared.plan.LinkSource.TheVariants.{Block}
 use Rattle.flow_link.specs.declared.trace.Mark.{Mark}
 use Rattle.flow_link.specs.declared.trace.Outcome.{Outcome}
 use Rattle.flow_link.specs.declared.trace.Outcome.TheVariants.{Done}
-use Rattle.flow_link.specs.Composes.{Ends, SourceKeeps, as_seen, is_refused_stage}
+use Rattle.flow_lawful.specs.Composes.{Ends, SourceKeeps, as_seen, is_refused_stage}
 use Rattle.flow_link.specs.Copies.{broadcasts, broadcasts_over, writes_once, gives_it_once, is_served, copies_as, carried_of}
 use Rattle.flow_lists.specs.Lists.{every, is_empty, is_front, is_subsequence, same_values, without_last}
 use Rattle.flow_link.specs.Making.{worked, makes_as, load_as}

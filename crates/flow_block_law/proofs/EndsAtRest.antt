@@ -10,7 +10,7 @@ use Rattle.flow_link.specs.declared.stage.SourceStage.TheVariants as source
 use Rattle.flow_link.specs.declared.stage.TargetStage.{TargetStage}
 use Rattle.flow_link.specs.declared.stage.TargetStage.TheVariants as target
 use Rattle.flow_link.specs.declared.trace.Outcome.{Outcome}
-use Rattle.flow_link.specs.RestsByParts.{is_over as is_view_over}
+use Rattle.flow_lawful.specs.RestsByParts.{is_over as is_view_over}
 use Rattle.flow_link.specs.Stage.{source_stage_of}
 use Rattle.flow_link.specs.Views.{LinkFacts}
 use Rattle.flow_lists.proofs.ListTests.{never_both}

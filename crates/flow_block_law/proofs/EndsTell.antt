@@ -14,9 +14,9 @@ use Rattle.flow_link.specs.declared.stage.TargetStage.TheVariants as target
 use Rattle.flow_link.specs.declared.trace.Outcome.{Outcome}
 use Rattle.flow_link.specs.declared.trace.Outcome.TheVariants as outcome
 use Rattle.flow_link.specs.LinkOk.{HasRoom}
-use Rattle.flow_link.specs.RestsByParts.{is_postponed as is_view_postponed, has_seen_end}
-use Rattle.flow_link.specs.Composes.{has_seen_completion, has_seen_fault, is_spoken_for, is_refused_stage, is_coming}
-use Rattle.flow_link.specs.Endings.{is_number}
+use Rattle.flow_lawful.specs.RestsByParts.{is_postponed as is_view_postponed, has_seen_end}
+use Rattle.flow_lawful.specs.Composes.{has_seen_completion, has_seen_fault, is_spoken_for, is_refused_stage, is_coming}
+use Rattle.flow_lawful.specs.Endings.{is_number}
 use Rattle.flow_link.specs.Stage.{source_stage_of, target_stage_of, refusal_of, source_looks}
 use Rattle.flow_link.specs.Trace.{is_used_up}
 use Rattle.flow_link.specs.Views as views

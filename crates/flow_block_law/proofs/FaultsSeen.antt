@@ -5,7 +5,7 @@ use Rattle.flow_link.specs.declared.phase.LinkEnd.{LinkEnd}
 use Rattle.flow_link.specs.declared.phase.Phase.{Phase}
 use Rattle.flow_link.specs.declared.stage.TargetStage.{TargetStage}
 use Rattle.flow_link.specs.declared.stage.TargetStage.TheVariants as target
-use Rattle.flow_link.specs.Endings.{is_number}
+use Rattle.flow_lawful.specs.Endings.{is_number}
 use Rattle.flow_lists.specs.Lists.{some}
 use Rattle.flow_link.specs.Stage.{target_looks}
 use Rattle.flow_lists.proofs.ListTests.{never_both, or_weaker}

@@ -14,7 +14,7 @@ use Rattle.flow_link.specs.declared.trace.Mark.{Mark}
 use Rattle.flow_link.specs.declared.trace.Mark.TheVariants.{Took, Gave, Complete, Fault, Done}
 use Rattle.flow_link.specs.declared.trace.Outcome.{Outcome}
 use Rattle.flow_link.specs.JournalGrows.{given_by_mark}
-use Rattle.flow_link.specs.Law.{is_passed, gives_in_order}
+use Rattle.flow_lawful.specs.Law.{is_passed, gives_in_order}
 use Rattle.flow_link.specs.Layout.{Layout}
 use Rattle.flow_lists.specs.Lists.{every, below}
 use Rattle.flow_link.specs.Plan.{begins_at, link_in, no_link, is_steady, is_one_taker}

@@ -8,7 +8,7 @@ use Rattle.flow_link.specs.Layout.{Layout}
 use Rattle.flow_lists.specs.Lists.{every, below, numbers_from, is_empty}
 use Rattle.flow_link.specs.Making.{group_size, load_as, all_items, column}
 use Rattle.flow_link.specs.Plan.{block_in, port_count}
-use Rattle.flow_link.specs.Quiet.{held_in_all, holds_nothing, all_completed, has_no_group}
+use Rattle.flow_lawful.specs.Quiet.{held_in_all, holds_nothing, all_completed, has_no_group}
 use Rattle.flow_link.specs.Trace.{Run, has_complete, held_at}
 use Rattle.flow_link.specs.declared.trace.Mark.{Mark}
 use Rattle.flow_intake.specs.Port.{PortState}

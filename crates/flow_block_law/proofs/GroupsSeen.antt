@@ -6,7 +6,7 @@ use Rattle.flow_value.specs.declared.value.Value.{Value}
 use Rattle.flow_link.specs.declared.draft.BlockKind.TheVariants.{BatchedJoin}
 use Rattle.flow_link.specs.declared.trace.Mark.{Mark}
 use Rattle.flow_link.specs.declared.trace.Mark.TheVariants.{Took, Complete, Fault, Done}
-use Rattle.flow_link.specs.Endings.{is_complete_as}
+use Rattle.flow_lawful.specs.Endings.{is_complete_as}
 use Rattle.flow_link.specs.JournalGrows.{given_by_mark}
 use Rattle.flow_link.specs.Layout.{Layout}
 use Rattle.flow_lists.specs.Lists.{every, below, is_empty}

@@ -9,10 +9,10 @@ use Rattle.flow_link.specs.declared.stage.SourceStage.{SourceStage}
 use Rattle.flow_link.specs.declared.stage.SourceStage.TheVariants as source
 use Rattle.flow_link.specs.declared.trace.Ending.{Ending}
 use Rattle.flow_link.specs.declared.trace.Ending.TheVariants as ending
-use Rattle.flow_link.specs.Composes.{Ends, InputKeeps}
+use Rattle.flow_lawful.specs.Composes.{Ends, InputKeeps}
 use Rattle.flow_lists.specs.Lists.{is_empty, is_front}
-use Rattle.flow_link.specs.Quiet.{is_open}
-use Rattle.flow_link.specs.RestsByParts.{InputIsStill, InputRests, is_over, is_to_hand_over, is_wished_for}
+use Rattle.flow_lawful.specs.Quiet.{is_open}
+use Rattle.flow_lawful.specs.RestsByParts.{InputIsStill, InputRests, is_over, is_to_hand_over, is_wished_for}
 use Rattle.flow_link.specs.Stage.{source_stage_of}
 use Rattle.flow_link.specs.Trace.{InputTrace, Run, input_of}
 use Rattle.flow_link.specs.Views as views

@@ -4,7 +4,7 @@ use Rattle.std.proofs.lemmas.Bool.{lt-ltb, and_from}
 use Rattle.flow_value.specs.declared.value.Value.{Value}
 use Rattle.flow_link.specs.declared.trace.Mark.{Mark}
 use Rattle.flow_link.specs.declared.trace.Mark.TheVariants.{Took, Gave, Complete, Fault, Done}
-use Rattle.flow_link.specs.Law.{is_own_mark}
+use Rattle.flow_lawful.specs.Law.{is_own_mark}
 use Rattle.flow_link.specs.Layout.{Layout}
 use Rattle.flow_lists.specs.Lists.{below}
 use Rattle.flow_link.specs.Plan.{block_in, link_in, port_count}

@@ -12,10 +12,10 @@ use Rattle.flow_link.specs.declared.stage.Refusal.TheVariants as refusal
 use Rattle.flow_link.specs.declared.trace.Mark.{Mark}
 use Rattle.flow_link.specs.declared.trace.Mark.TheVariants.{Complete, Fault, Done}
 use Rattle.flow_link.specs.declared.trace.Outcome.TheVariants as outcome
-use Rattle.flow_link.specs.Composes.{Ends, SourceKeeps, TargetKeeps, NodeMakes, NodeKeeps, RefusesFor, as_seen, is_coming, has_seen_completion, has_seen_fault, has_seen_cause, has_room_at, coming}
+use Rattle.flow_lawful.specs.Composes.{Ends, SourceKeeps, TargetKeeps, NodeMakes, NodeKeeps, RefusesFor, as_seen, is_coming, has_seen_completion, has_seen_fault, has_seen_cause, has_room_at, coming}
 use Rattle.flow_link.specs.Copies.{copies_as}
-use Rattle.flow_link.specs.Endings.{own_fault, is_number, is_complete, has_nothing, stops, completes_once, is_complete_as}
-use Rattle.flow_link.specs.Law.{is_own_mark, has_own_marks, has_room_for, takes_level, keeps_link_order}
+use Rattle.flow_lawful.specs.Endings.{own_fault, is_number, is_complete, has_nothing, stops, completes_once, is_complete_as}
+use Rattle.flow_lawful.specs.Law.{is_own_mark, has_own_marks, has_room_for, takes_level, keeps_link_order}
 use Rattle.flow_link.specs.LinkOk.{IsWithin}
 use Rattle.flow_lists.specs.Lists.{every, some, below, is_empty, numbers_from}
 use Rattle.flow_link.specs.Making.{load}

@@ -11,9 +11,9 @@ use Rattle.flow_link.specs.declared.stage.SourceStage.TheVariants as source
 use Rattle.flow_link.specs.declared.stage.TargetStage.{TargetStage}
 use Rattle.flow_link.specs.declared.stage.TargetStage.TheVariants as target
 use Rattle.flow_link.specs.declared.trace.Outcome.{Outcome}
-use Rattle.flow_link.specs.Composes.{Ends}
+use Rattle.flow_lawful.specs.Composes.{Ends}
 use Rattle.flow_link.specs.Plan.{begins_at, is_one_taker}
-use Rattle.flow_link.specs.RestsByParts.{NodeIsStill, is_to_hand_over, is_wished_for, is_to_receive, is_holding, is_out, has_offer_out}
+use Rattle.flow_lawful.specs.RestsByParts.{NodeIsStill, is_to_hand_over, is_wished_for, is_to_receive, is_holding, is_out, has_offer_out}
 use Rattle.flow_link.specs.Stage.{source_stage_of, target_stage_of}
 use Rattle.flow_link.specs.Trace.{Run, link_of}
 use Rattle.flow_link.specs.Views.{SourceView, TargetView}

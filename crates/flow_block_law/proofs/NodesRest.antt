@@ -8,15 +8,15 @@ use Rattle.flow_link.specs.declared.plan.LinkTarget.TheVariants.{Port}
 use Rattle.flow_link.specs.declared.trace.Mark.{Mark}
 use Rattle.flow_link.specs.declared.trace.Outcome.{Outcome}
 use Rattle.flow_link.specs.declared.trace.Outcome.TheVariants.{Done, Faulted}
-use Rattle.flow_link.specs.Composes.{Ends}
-use Rattle.flow_link.specs.Endings.{is_complete, has_nothing, is_complete_as}
+use Rattle.flow_lawful.specs.Composes.{Ends}
+use Rattle.flow_lawful.specs.Endings.{is_complete, has_nothing, is_complete_as}
 use Rattle.flow_link.specs.Facts.{facts_in}
 use Rattle.flow_link.specs.LinkOk.{IsWithin}
 use Rattle.flow_lists.specs.Lists.{every, below, is_empty as is_none_left}
 use Rattle.flow_link.specs.Making.{load, group_size}
 use Rattle.flow_link.specs.Plan.{port_count, is_broadcast, is_one_taker, is_reserving, is_write_once}
-use Rattle.flow_link.specs.Quiet.{has_served_all, has_this_fault, faulted_by_itself, rests, rests_as, held_in_all, holds_nothing as run_holds_nothing, all_completed, has_no_group, is_done_if_can, is_full_with}
-use Rattle.flow_link.specs.RestsByParts.{OutletRests, KindRests, NodeRests, is_postponed as is_view_postponed, has_seen_end, has_to_wait, lacks_an_offer}
+use Rattle.flow_lawful.specs.Quiet.{has_served_all, has_this_fault, faulted_by_itself, rests, rests_as, held_in_all, holds_nothing as run_holds_nothing, all_completed, has_no_group, is_done_if_can, is_full_with}
+use Rattle.flow_lawful.specs.RestsByParts.{OutletRests, KindRests, NodeRests, is_postponed as is_view_postponed, has_seen_end, has_to_wait, lacks_an_offer}
 use Rattle.flow_link.specs.Stage.{target_stage_of}
 use Rattle.flow_link.specs.Trace.{BlockTrace, Run, took_at, has_complete, has_fault, has_ended, is_faulted, is_done, block_of, link_of, marks_of, held_at, left_at, ports_of}
 use Rattle.flow_link.specs.Views.{TargetView}
@@ -38,7 +38,7 @@ use Rattle.flow_block.specs.Peeks.{holds_nothing, has_group, is_complete as is_c
 use Rattle.flow_block_law.proofs.NodesAreLawful.{join_is}
 use Rattle.flow_block_law.proofs.NodesSeen.{join_seen, is_joining, as_ports, complete_by_port}
 use Rattle.flow_group.specs.Tuple.{has_tuple}
-use Rattle.flow_link.specs.Quiet.{has_no_row}
+use Rattle.flow_lawful.specs.Quiet.{has_no_row}
 use Rattle.flow_block.specs.Planned.{out_place, in_place}
 use Rattle.flow_block_law.specs.CopiesSeen.{MayCarry, CopierRests}
 use Rattle.flow_block_law.proofs.CopierOf.{CopiesQuiet, copies_quiet, copier_rests, none_shared, copier_seen}

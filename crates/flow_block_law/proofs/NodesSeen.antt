@@ -4,8 +4,8 @@ use Rattle.std.proofs.Math.ListN.{get_or-map}
 use Rattle.flow_value.specs.declared.value.Value.{Value}
 use Rattle.flow_link.specs.declared.draft.BlockKind.{BlockKind}
 use Rattle.flow_link.specs.declared.trace.Mark.{Mark}
-use Rattle.flow_link.specs.Composes.{Ends}
-use Rattle.flow_link.specs.Endings.{first_fault, fault_by_kind, fault_of, own_fault, is_complete, is_complete_as}
+use Rattle.flow_lawful.specs.Composes.{Ends}
+use Rattle.flow_lawful.specs.Endings.{first_fault, fault_by_kind, fault_of, own_fault, is_complete, is_complete_as}
 use Rattle.flow_lists.specs.Lists.{every, is_empty, below}
 use Rattle.flow_link.specs.Making.{results_of, block_result, worked, part_left, load, load_as, all_items}
 use Rattle.flow_link.specs.Plan.{has_work, port_count, is_one_taker, is_write_once}

@@ -8,7 +8,7 @@ use Rattle.flow_link.specs.declared.stage.Refusal.{Refusal}
 use Rattle.flow_link.specs.declared.stage.Refusal.TheVariants.{PortEnded, OwnFault}
 use Rattle.flow_link.specs.declared.stage.TargetStage.{TargetStage}
 use Rattle.flow_link.specs.declared.stage.TargetStage.TheVariants.{Refused, Ended}
-use Rattle.flow_link.specs.Endings.{is_number}
+use Rattle.flow_lawful.specs.Endings.{is_number}
 use Rattle.flow_link.specs.Stage.{target_looks}
 use Rattle.flow_link.specs.declared.phase.LinkEnd.{LinkEnd}
 use Rattle.flow_intake.specs.Port.{EndState, stage_in, fresh_end}

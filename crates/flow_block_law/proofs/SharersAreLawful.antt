@@ -11,9 +11,9 @@ use Rattle.flow_link.specs.declared.plan.LinkSource.TheVariants.{Block}
 use Rattle.flow_link.specs.declared.plan.LinkTarget.TheVariants.{Port}
 use Rattle.flow_link.specs.declared.trace.Mark.{Mark}
 use Rattle.flow_link.specs.declared.trace.Mark.TheVariants.{Took, Gave, Complete, Fault, Done}
-use Rattle.flow_link.specs.Composes.{Ends, SourceKeeps, SpeaksForOne, WorksInto, NodeMakes, as_seen, is_refused_stage, is_spoken_for}
+use Rattle.flow_lawful.specs.Composes.{Ends, SourceKeeps, SpeaksForOne, WorksInto, NodeMakes, as_seen, is_refused_stage, is_spoken_for}
 use Rattle.flow_link.specs.Copies.{copies_as}
-use Rattle.flow_link.specs.Law.{is_own_mark, is_passed, gives_in_order, keeps_link_order}
+use Rattle.flow_lawful.specs.Law.{is_own_mark, is_passed, gives_in_order, keeps_link_order}
 use Rattle.flow_lists.specs.Lists.{every, below, is_empty, same_values}
 use Rattle.flow_link.specs.Making.{outputs, group_size, all_items, are_groups, row_weight, before_complete, whole_until, join_makes, batched_join_makes}
 use Rattle.flow_link.specs.Plan.{begins_at, is_one_taker, is_steady, is_write_once}

@@ -8,10 +8,10 @@ use Rattle.flow_link.specs.declared.plan.LinkTarget.TheVariants.{Port}
 use Rattle.flow_link.specs.declared.trace.Mark.{Mark}
 use Rattle.flow_link.specs.declared.trace.Outcome.{Outcome}
 use Rattle.flow_link.specs.declared.trace.Outcome.TheVariants.{Done, Faulted}
-use Rattle.flow_link.specs.Composes.{Ends, is_done_with}
+use Rattle.flow_lawful.specs.Composes.{Ends, is_done_with}
 use Rattle.flow_link.specs.Plan.{is_one_taker}
-use Rattle.flow_link.specs.Quiet.{first_of as first_left, head_as, head_from, admits_head}
-use Rattle.flow_link.specs.RestsByParts.{OutletRests, is_over as is_view_over}
+use Rattle.flow_lawful.specs.Quiet.{first_of as first_left, head_as, head_from, admits_head}
+use Rattle.flow_lawful.specs.RestsByParts.{OutletRests, is_over as is_view_over}
 use Rattle.flow_link.specs.Stage.{source_stage_of}
 use Rattle.flow_link.specs.Trace.{BlockTrace, Run, gave_over, given_by, given_over, is_faulted, is_done, is_used_up, is_cut as is_run_cut, block_of, link_of, marks_of, left_at}
 use Rattle.flow_link.specs.Views.{SourceStage as SourceViewStage, SourceView}

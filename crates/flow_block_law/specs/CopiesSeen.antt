@@ -3,13 +3,13 @@
 use Rattle.std.specs.Prelude.{◌≡◌, ℕ, ◌+◌, ◌<◌, true, false, [], length, Some, None}
 use Rattle.flow_link.specs.declared.plan.LinkSource.TheVariants.{Block}
 use Rattle.flow_link.specs.declared.trace.Outcome.TheVariants.{Done}
-use Rattle.flow_link.specs.Composes.{Ends, SourceKeeps, as_seen}
+use Rattle.flow_lawful.specs.Composes.{Ends, SourceKeeps, as_seen}
 use Rattle.flow_link.specs.Copies.{copies as copies_well}
-use Rattle.flow_link.specs.Law.{takes_level, keeps_link_order}
+use Rattle.flow_lawful.specs.Law.{takes_level, keeps_link_order}
 use Rattle.flow_link.specs.Making.{makes as makes_well, load as load_at}
 use Rattle.flow_link.specs.Plan.{is_one_taker, is_write_once}
-use Rattle.flow_link.specs.Quiet.{has_served_all}
-use Rattle.flow_link.specs.RestsByParts.{OutletRests, is_to_hand_over, is_wished_for}
+use Rattle.flow_lawful.specs.Quiet.{has_served_all}
+use Rattle.flow_lawful.specs.RestsByParts.{OutletRests, is_to_hand_over, is_wished_for}
 use Rattle.flow_link.specs.Trace.{Run, block_of, link_of, trace_of, left_at, is_used_up}
 use Rattle.flow_outlet.specs.Outlet.{is_empty}
 use Rattle.flow_spread.specs.Spread.{stage_at, is_at_rest, only_waits as all_wait}

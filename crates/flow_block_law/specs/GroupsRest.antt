@@ -3,7 +3,7 @@ use Rattle.std.specs.Prelude.{◌≡◌, ℕ, ◌<◌, true, false, length, is_s
 use Rattle.flow_link.specs.declared.draft.BlockKind.TheVariants.{BatchedJoin}
 use Rattle.flow_link.specs.Layout.{Layout}
 use Rattle.flow_link.specs.Making.{group_size, load_as}
-use Rattle.flow_link.specs.Quiet.{has_no_group}
+use Rattle.flow_lawful.specs.Quiet.{has_no_group}
 use Rattle.flow_link.specs.Trace.{Run}
 use Rattle.flow_block.specs.Block.{port_at}
 use Rattle.flow_block_law.specs.GroupsLaw.{are_complete, LoadByPort, OrderedGroups}

@@ -3,7 +3,7 @@
 use Rattle.std.specs.Prelude.{◌≡◌, ℕ, true, List, length, Result}
 use Rattle.flow_value.specs.declared.value.Value.{Value}
 use Rattle.flow_link.specs.declared.draft.BlockKind.TheVariants.{BatchedJoin}
-use Rattle.flow_link.specs.Endings.{is_complete_as}
+use Rattle.flow_lawful.specs.Endings.{is_complete_as}
 use Rattle.flow_link.specs.Layout.{Layout}
 use Rattle.flow_link.specs.Making.{batched_join_makes, group_size}
 use Rattle.flow_link.specs.Trace.{Run}

@@ -6,10 +6,10 @@ use Rattle.flow_link.specs.declared.phase.LinkEnd.{LinkEnd}
 use Rattle.flow_link.specs.declared.phase.Move.{Move}
 use Rattle.flow_link.specs.declared.phase.Move.TheVariants as move
 use Rattle.flow_link.specs.declared.stage.SourceStage.TheVariants.{Ended}
-use Rattle.flow_link.specs.Composes.{Ends, InputKeeps}
+use Rattle.flow_lawful.specs.Composes.{Ends, InputKeeps}
 use Rattle.flow_link.specs.Looks.{looking_out}
 use Rattle.flow_link.specs.Moves.{offering, giving, ending}
-use Rattle.flow_link.specs.RestsByParts.{InputIsStill, InputRests}
+use Rattle.flow_lawful.specs.RestsByParts.{InputIsStill, InputRests}
 use Rattle.flow_link.specs.Trace.{InputTrace, Run, input_of}
 use Rattle.flow_outlet.specs.End.{id_of, is_free}
 use Rattle.flow_outlet.specs.Law.{is_posted}

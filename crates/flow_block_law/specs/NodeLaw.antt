@@ -13,9 +13,9 @@ use Rattle.flow_link.specs.declared.trace.Mark.{Mark}
 use Rattle.flow_link.specs.declared.trace.Mark.TheVariants as mark
 use Rattle.flow_link.specs.declared.trace.Outcome.{Outcome}
 use Rattle.flow_link.specs.declared.trace.Outcome.TheVariants.{Done, Faulted}
-use Rattle.flow_link.specs.Endings.{stops, completes_once, is_number}
+use Rattle.flow_lawful.specs.Endings.{stops, completes_once, is_number}
 use Rattle.flow_link.specs.Facts.{facts_in}
-use Rattle.flow_link.specs.Law.{is_own_mark, gives_in_order}
+use Rattle.flow_lawful.specs.Law.{is_own_mark, gives_in_order}
 use Rattle.flow_link.specs.Layout.{Layout}
 use Rattle.flow_lists.specs.Lists.{every, some, below}
 use Rattle.flow_link.specs.Making.{all_items, are_groups, row_weight, before_complete}

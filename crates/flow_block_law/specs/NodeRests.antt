@@ -5,8 +5,8 @@ use Rattle.flow_link.specs.declared.stage.SourceStage.{SourceStage}
 use Rattle.flow_link.specs.declared.stage.SourceStage.TheVariants as source
 use Rattle.flow_link.specs.declared.stage.TargetStage.{TargetStage}
 use Rattle.flow_link.specs.declared.stage.TargetStage.TheVariants as target
-use Rattle.flow_link.specs.Composes.{Ends}
-use Rattle.flow_link.specs.RestsByParts.{NodeIsStill, NodeRests}
+use Rattle.flow_lawful.specs.Composes.{Ends}
+use Rattle.flow_lawful.specs.RestsByParts.{NodeIsStill, NodeRests}
 use Rattle.flow_link.specs.Trace.{Run, link_of}
 use Rattle.flow_intake.specs.Port.{stage_at as port_stage}
 use Rattle.flow_outlet.specs.Outlet.{stage_at}

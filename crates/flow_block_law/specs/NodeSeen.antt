@@ -3,7 +3,7 @@
 use Rattle.std.specs.Prelude.{◌≡◌, ℕ, ◌<◌, true, false, [], length}
 use Rattle.flow_link.specs.declared.plan.LinkSource.TheVariants.{Block}
 use Rattle.flow_link.specs.declared.plan.LinkTarget.TheVariants.{Port}
-use Rattle.flow_link.specs.Composes.{Ends, NodeKeeps}
+use Rattle.flow_lawful.specs.Composes.{Ends, NodeKeeps}
 use Rattle.flow_link.specs.Trace.{Run, link_of, trace_of, is_used_up}
 use Rattle.flow_link.specs.Plan.{is_write_once}
 use Rattle.flow_block.specs.Node.{NodeState, in_view, source_view, node_trace}

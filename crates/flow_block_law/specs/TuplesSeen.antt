@@ -1,10 +1,10 @@
 -- A join as a part of a run: what its node knows of its tuples is what the laws of a run say of a join.
 use Rattle.std.specs.Prelude.{◌≡◌, ℕ, ◌+◌, ◌<◌, true, false, length, is_some}
 use Rattle.flow_link.specs.declared.draft.BlockKind.TheVariants.{Join}
-use Rattle.flow_link.specs.Endings.{is_complete_as}
+use Rattle.flow_lawful.specs.Endings.{is_complete_as}
 use Rattle.flow_link.specs.Making.{join_makes, load_as}
 use Rattle.flow_link.specs.Plan.{port_count, is_one_taker}
-use Rattle.flow_link.specs.Quiet.{has_no_row}
+use Rattle.flow_lawful.specs.Quiet.{has_no_row}
 use Rattle.flow_link.specs.Trace.{Run, has_complete, block_of, trace_of}
 use Rattle.flow_intake.specs.PortLaw.{has_ended}
 use Rattle.flow_outlet.specs.Fits.{weight_of}

@@ -12,9 +12,9 @@ use Rattle.flow_link.specs.declared.plan.LinkSource.{LinkSource}
 use Rattle.flow_link.specs.declared.plan.LinkSource.TheVariants.{Block, Input}
 use Rattle.flow_link.specs.declared.trace.Mark.{Mark}
 use Rattle.flow_link.specs.declared.trace.Mark.TheVariants.{Fault, Done}
-use Rattle.flow_link.specs.Endings.{is_fault_ending, fault_of, is_number, first_fault, fault_by_kind, own_fault, passes_on}
-use Rattle.flow_link.specs.Endings.{faults_from, brings_fault, has_cause, has_causes}
-use Rattle.flow_link.specs.Lawful.{Lawful}
+use Rattle.flow_lawful.specs.Endings.{is_fault_ending, fault_of, is_number, first_fault, fault_by_kind, own_fault, passes_on}
+use Rattle.flow_lawful.specs.Endings.{faults_from, brings_fault, has_cause, has_causes}
+use Rattle.flow_lawful.specs.Lawful.{Lawful}
 use Rattle.flow_lists.specs.Lists.{every, some, is_empty}
 use Rattle.flow_link.specs.Making.{result_of, block_result}
 use Rattle.flow_link.specs.Plan.{has_work, begins_at, ends_at, no_link}

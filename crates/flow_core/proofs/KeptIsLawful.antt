@@ -4,12 +4,12 @@ use Rattle.std.proofs.lemmas.List.{length-map}
 use Rattle.std.proofs.Math.ListN.{get_or-map}
 use Rattle.flow_link.specs.declared.plan.LinkSource.TheVariants.{Input}
 use Rattle.flow_link.specs.declared.plan.LinkTarget.TheVariants.{Port}
-use Rattle.flow_link.specs.Composes.{PartsKeep}
+use Rattle.flow_lawful.specs.Composes.{PartsKeep}
 use Rattle.flow_link.specs.Layout.{Layout}
 use Rattle.flow_link.specs.Plan.{link_in}
-use Rattle.flow_link.specs.Shape.{Shape}
+use Rattle.flow_lawful.specs.Shape.{Shape}
 use Rattle.flow_link.specs.Trace.{BlockTrace, is_used_up}
-use Rattle.flow_link.proofs.LawfulByParts.{composes}
+use Rattle.flow_lawful.proofs.LawfulByParts.{composes}
 use Rattle.flow_lists.proofs.ListTests.{every_below}
 use Rattle.flow_intake.specs.Port.{PortState}
 use Rattle.flow_link.specs.PlanFaults.{is_in}

@@ -10,7 +10,7 @@ use Rattle.flow_link.specs.declared.plan.LinkTarget.TheVariants.{Port, Exit}
 use Rattle.flow_link.specs.declared.trace.Mark.{Mark}
 use Rattle.flow_link.specs.declared.trace.Mark.TheVariants.{Took, Gave, Complete, Fault, Done}
 use Rattle.flow_link.specs.Facts.{facts_in}
-use Rattle.flow_link.specs.Law.{is_own_mark}
+use Rattle.flow_lawful.specs.Law.{is_own_mark}
 use Rattle.flow_link.specs.Layout.{Layout}
 use Rattle.flow_lists.specs.Lists.{every}
 use Rattle.flow_link.specs.Plan.{block_in, link_in, no_link, ends_at, ends_at_port, links_into, is_sole, is_reserving}

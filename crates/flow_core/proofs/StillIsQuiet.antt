@@ -11,20 +11,20 @@ use Rattle.flow_link.specs.declared.stage.SourceStage.{SourceStage as SourceKept
 use Rattle.flow_link.specs.declared.stage.SourceStage.TheVariants as source
 use Rattle.flow_link.specs.declared.stage.TargetStage.{TargetStage as TargetKept}
 use Rattle.flow_link.specs.declared.stage.TargetStage.TheVariants as target
-use Rattle.flow_link.specs.Composes.{Ends, PartsKeep}
+use Rattle.flow_lawful.specs.Composes.{Ends, PartsKeep}
 use Rattle.flow_link.specs.Facts.{facts_in}
 use Rattle.flow_link.specs.Layout.{Layout}
 use Rattle.flow_link.specs.LinkOk.{source_reserves, target_reserves}
 use Rattle.flow_link.specs.LooksKeep.{SeenAt}
 use Rattle.flow_link.specs.Plan.{link_in}
-use Rattle.flow_link.specs.Quiet.{Quiet}
-use Rattle.flow_link.specs.RestsByParts.{EndsAreStill, PartsRest, is_at_rest}
+use Rattle.flow_lawful.specs.Quiet.{Quiet}
+use Rattle.flow_lawful.specs.RestsByParts.{EndsAreStill, PartsRest, is_at_rest}
 use Rattle.flow_link.specs.Stage.{source_stage_of, target_stage_of}
 use Rattle.flow_link.specs.Trace.{Run}
 use Rattle.flow_link.specs.Views.{SourceStage, SourceView, TargetStage}
-use Rattle.flow_link.proofs.LinksAtRest.{links_rest}
+use Rattle.flow_lawful.proofs.LinksAtRest.{links_rest}
 use Rattle.flow_link.proofs.LooksKeepOrder.{looks_keep}
-use Rattle.flow_link.proofs.QuietByParts.{rests_compose}
+use Rattle.flow_lawful.proofs.QuietByParts.{rests_compose}
 use Rattle.flow_lists.proofs.ListTests.{never_both}
 use Rattle.flow_intake.specs.Port.{end_in}
 use Rattle.flow_outlet.specs.Outlet.{end_at, stage_at}

@@ -10,7 +10,7 @@ use Rattle.flow_link.specs.declared.phase.Phase.{Phase}
 use Rattle.flow_link.specs.declared.phase.Phase.TheVariants.{Idle, Postponed, Refused, Ended}
 use Rattle.flow_link.specs.Layout.{Layout}
 use Rattle.flow_link.specs.LinkOk.{CrossedAt, IsHome}
-use Rattle.flow_link.specs.RestsByParts.{is_at_rest}
+use Rattle.flow_lawful.specs.RestsByParts.{is_at_rest}
 use Rattle.flow_link.specs.Views.{TargetStage}
 use Rattle.flow_block_law.proofs.InputsAreParts.{inputs_are_parts}
 use Rattle.flow_block_law.proofs.NodesAreLawful.{nodes_are_lawful}

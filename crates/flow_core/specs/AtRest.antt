@@ -2,7 +2,7 @@
 -- what has gone over it.
 use Rattle.std.specs.Prelude.{◌≡◌, ℕ, ◌<◌, true, length, None}
 use Rattle.flow_link.specs.Layout.{Layout}
-use Rattle.flow_link.specs.RestsByParts.{is_at_rest}
+use Rattle.flow_lawful.specs.RestsByParts.{is_at_rest}
 use Rattle.flow_core.specs.State.{NetState, line_at, ends_of}
 
 module _ {W : Type 0} (layout : Layout W) (net : NetState) where

@@ -8,7 +8,7 @@ use Rattle.flow_link.specs.declared.plan.LinkSource.TheVariants.{Block, Input}
 use Rattle.flow_link.specs.declared.plan.LinkTarget.{LinkTarget}
 use Rattle.flow_link.specs.declared.plan.LinkTarget.TheVariants.{Port, Exit}
 use Rattle.flow_link.specs.declared.trace.LinkState.{LinkState}
-use Rattle.flow_link.specs.Composes.{Ends, is_refused_phase}
+use Rattle.flow_lawful.specs.Composes.{Ends, is_refused_phase}
 use Rattle.flow_link.specs.Layout.{Layout}
 use Rattle.flow_link.specs.Plan.{link_in}
 use Rattle.flow_link.specs.Trace.{InputTrace, Trace, Run}

@@ -3,10 +3,10 @@ use Rattle.std.specs.Prelude.{◌≡◌, ℕ, ◌<◌, ◌⊎◌, List, [], ◌�
 use Rattle.flow_value.specs.declared.value.Value.{Value}
 use Rattle.flow_link.specs.declared.phase.Move.{Move}
 use Rattle.flow_link.specs.Layout.{Layout}
-use Rattle.flow_link.specs.Lawful.{Lawful}
+use Rattle.flow_lawful.specs.Lawful.{Lawful}
 use Rattle.flow_link.specs.Phase.{phase_after}
 use Rattle.flow_link.specs.Plan.{link_in}
-use Rattle.flow_link.specs.Quiet.{Quiet}
+use Rattle.flow_lawful.specs.Quiet.{Quiet}
 use Rattle.flow_link.specs.Trace.{InputTrace}
 use Rattle.flow_core.specs.AtRest.{AtRest}
 use Rattle.flow_core.specs.Events.{NetEvent, Enabled, MayHappen, after, peek_by, is_of_source}

@@ -6,7 +6,7 @@ use Rattle.flow_law.specs.Tests.{all_pass, law_tests, quiet_tests}
 use Rattle.flow_law.specs.LawfulExamples.{IsLawfulAndQuiet, GoodRunsAreLawful, two_records, parse_three, upto_flattens, unrouted_head, link_limit, batch_remainder, greedy_join_leaves, reserving_join_leaves, write_once_takes_one, broadcast_beside_a_join, batched_join_groups, fault_in_the_middle, bounded_buffer_misses, fault_after_work, fault_before_work, more_than_one_result, kept_for_the_caller, room_for_two, refused_and_passed_on, rest_made_before_fault, rest_kept_at_fault}
 use Rattle.flow_law.specs.RefusedExamples.{WrongRunsAreRefused}
 use Rattle.flow_law.specs.UnfinishedExamples.{nothing_moved, message_on_the_way, work_not_done, done_not_marked, end_not_handed_on, value_not_given, copy_not_given, rest_not_made, IsUnfinished, UnfinishedRunsAreNotQuiet}
-use Rattle.flow_link.specs.Quiet.{Quiet}
+use Rattle.flow_lawful.specs.Quiet.{Quiet}
 use Rattle.flow_law.proofs.LawfulByTests.{lawful_by_tests, quiet_by_tests}
 
 good : (run : Run Work) → all_pass (law_tests run) ≡ true → all_pass (quiet_tests run) ≡ true → IsLawfulAndQuiet run

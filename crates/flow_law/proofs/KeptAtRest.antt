@@ -4,12 +4,12 @@ use Rattle.flow_link.specs.declared.plan.LinkSource.{LinkSource}
 use Rattle.flow_link.specs.declared.plan.LinkSource.TheVariants.{Block, Input}
 use Rattle.flow_link.specs.declared.plan.LinkTarget.{LinkTarget}
 use Rattle.flow_link.specs.declared.plan.LinkTarget.TheVariants.{Port, Exit}
-use Rattle.flow_link.specs.Quiet.{admits_head, head_from}
+use Rattle.flow_lawful.specs.Quiet.{admits_head, head_from}
 use Rattle.flow_link.specs.Trace.{Run, link_of, marks_of, has_ended}
 use Rattle.flow_link.specs.Views.{SourceStage}
 use Rattle.flow_law.specs.Examples.{Work, digit}
-use Rattle.flow_link.specs.Composes.{Ends, SourceKeeps, TargetKeeps, InputKeeps, ExitKeeps, NodeKeeps, LinkKeeps, PartsKeep, facts_of, is_done_with, is_spoken_for, is_refused_phase}
-use Rattle.flow_link.specs.RestsByParts.{LinkSeen, LinkRests, OutletRests, PortRests, KindRests, InputRests, PartsRest, NodeIsStill, InputIsStill, ExitIsStill, EndsAreStill, has_to_wait, has_offer_out, asks_somewhere, is_over, is_postponed, has_seen_end, is_to_hand_over, is_wished_for, is_to_receive, is_holding}
+use Rattle.flow_lawful.specs.Composes.{Ends, SourceKeeps, TargetKeeps, InputKeeps, ExitKeeps, NodeKeeps, LinkKeeps, PartsKeep, facts_of, is_done_with, is_spoken_for, is_refused_phase}
+use Rattle.flow_lawful.specs.RestsByParts.{LinkSeen, LinkRests, OutletRests, PortRests, KindRests, InputRests, PartsRest, NodeIsStill, InputIsStill, ExitIsStill, EndsAreStill, has_to_wait, has_offer_out, asks_somewhere, is_over, is_postponed, has_seen_end, is_to_hand_over, is_wished_for, is_to_receive, is_holding}
 use Rattle.flow_law.specs.WaitsAtRest.{two_wait, ends_of_two, TwoWaitAtRest}
 use Rattle.flow_law.proofs.KeptInMidMove.{rests_in_order}
 

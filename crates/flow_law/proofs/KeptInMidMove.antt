@@ -7,7 +7,7 @@ use Rattle.flow_link.specs.Trace.{link_of}
 use Rattle.flow_link.specs.LinkOk.{LinkOk, IsWithin}
 use Rattle.flow_link.specs.Views.{LinkFacts}
 use Rattle.flow_law.specs.Examples.{digit}
-use Rattle.flow_link.specs.Composes.{SourceKeeps, TargetKeeps, InputKeeps, ExitKeeps, NodeKeeps, LinkKeeps, facts_of, is_refused_phase}
+use Rattle.flow_lawful.specs.Composes.{SourceKeeps, TargetKeeps, InputKeeps, ExitKeeps, NodeKeeps, LinkKeeps, facts_of, is_refused_phase}
 use Rattle.flow_law.specs.MidMove.{rests_after, message_under_way, ends_under_way, KeptInMidMove}
 
 slot_in_order : LinkKeeps message_under_way ends_under_way 0

@@ -3,10 +3,10 @@ use Rattle.std.proofs.Common.{◌≡◌, ℕ, zero, suc, ◌==◌, Bool, true, �
 use Rattle.std.proofs.lemmas.Bool.{and_parts}
 use Rattle.flow_link.specs.Trace.{Run, block_numbers}
 use Rattle.flow_lists.specs.Lists.{every}
-use Rattle.flow_link.specs.Shape.{Shape, input_count, tells_each_port}
+use Rattle.flow_lawful.specs.Shape.{Shape, input_count, tells_each_port}
 use Rattle.flow_law.specs.Tests.{all_pass, is_in_shape, law_tests, quiet_tests}
-use Rattle.flow_link.specs.Lawful.{Lawful}
-use Rattle.flow_link.specs.Quiet.{Quiet}
+use Rattle.flow_lawful.specs.Lawful.{Lawful}
+use Rattle.flow_lawful.specs.Quiet.{Quiet}
 
 -- each test passes
 pub test_passes : (tests : List Bool) (k : ℕ) → all_pass tests ≡ true → get_or tests k true ≡ true

@@ -3,7 +3,7 @@ use Rattle.std.proofs.Common.{◌≡◌, ℕ, zero, suc, ◌<◌, true, false, [
 use Rattle.flow_link.specs.Views.{Refusal, LinkFacts}
 use Rattle.flow_law.specs.Examples.{digit, row}
 use Rattle.flow_link.specs.LinkOk.{LinkOk, IsWithin, HasRoom}
-use Rattle.flow_link.specs.Composes.{SourceKeeps, TargetKeeps, SpeaksForOne, LinkKeeps, facts_of}
+use Rattle.flow_lawful.specs.Composes.{SourceKeeps, TargetKeeps, SpeaksForOne, LinkKeeps, facts_of}
 use Rattle.flow_law.specs.WrongParts.{left_behind, ends_left_behind, kept_for_two, kept_for_it, ends_kept_for_two, wrong_reason, ends_wrong_reason, WrongPartsAreRefused}
 use Rattle.flow_law.proofs.ExamplesDecided.{wrong_no_more, none_is_some}
 use Rattle.flow_law.proofs.KeptInMidMove.{rests_in_order}

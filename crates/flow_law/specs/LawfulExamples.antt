@@ -7,8 +7,8 @@ use Rattle.flow_link.specs.declared.trace.Mark.{Mark}
 use Rattle.flow_link.specs.declared.trace.Mark.TheVariants.{Took, Gave, Complete, Fault, Done}
 use Rattle.flow_link.specs.Layout.{input_link, exit_link}
 use Rattle.flow_link.specs.Trace.{BlockTrace, Run}
-use Rattle.flow_link.specs.Lawful.{Lawful}
-use Rattle.flow_link.specs.Quiet.{Quiet}
+use Rattle.flow_lawful.specs.Lawful.{Lawful}
+use Rattle.flow_lawful.specs.Quiet.{Quiet}
 use Rattle.flow_law.specs.Examples.{Work, block, with_input, with_size, with_capacity, reserving_join, link, to_port, when_even, at_most, kept_apart, int, digit, row, took_all, gave_all, ended_well, leaves, leaves_nothing, holds, joins, records, posted, posted_with_fault, same, read_digit, read_up_to, run_of, with_refused, word_a, word_b, digits_to, ints_to}
 
 pub record IsLawfulAndQuiet (run : Run Work) : Type 0 where

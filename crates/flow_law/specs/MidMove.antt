@@ -9,7 +9,7 @@ use Rattle.flow_link.specs.Views.{SourceStage, TargetStage}
 use Rattle.flow_link.specs.Layout.{input_link}
 use Rattle.flow_link.specs.Trace.{Run}
 use Rattle.flow_law.specs.Examples.{Work, block, with_input, link, digit, leaves_nothing, posted, same, run_of}
-use Rattle.flow_link.specs.Composes.{Ends, PartsKeep}
+use Rattle.flow_lawful.specs.Composes.{Ends, PartsKeep}
 
 -- the ends of a link over which these values were given and taken, and nothing is under way: they stand so, or at rest
 abbrev pub stands : Phase → List Value → SourceStage → TargetStage Value → Ends

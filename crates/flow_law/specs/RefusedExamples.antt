@@ -4,11 +4,11 @@ use Rattle.flow_link.specs.declared.draft.BlockKind.TheVariants.{Buffer, Broadca
 use Rattle.flow_link.specs.declared.trace.Mark.TheVariants.{Took, Gave, Complete, Fault, Done}
 use Rattle.flow_link.specs.Layout.{input_link}
 use Rattle.flow_link.specs.Trace.{BlockTrace, InputTrace, Run}
-use Rattle.flow_link.specs.Law.{LinkLaw, OneTaker, Counts, LinkOrder}
+use Rattle.flow_lawful.specs.Law.{LinkLaw, OneTaker, Counts, LinkOrder}
 use Rattle.flow_link.specs.Making.{Making}
 use Rattle.flow_link.specs.Copies.{Copies}
-use Rattle.flow_link.specs.Endings.{Endings}
-use Rattle.flow_link.specs.Shape.{Shape}
+use Rattle.flow_lawful.specs.Endings.{Endings}
+use Rattle.flow_lawful.specs.Shape.{Shape}
 use Rattle.flow_law.specs.Tests.{law_tests}
 use Rattle.flow_law.specs.Examples.{Work, block, with_input, with_size, with_capacity, reserving_join, link, to_port, when_even, at_most, int, digit, row, digits_to, took_all, gave_all, ended_well, leaves, leaves_nothing, holds, joins, records, posted, posted_open, posted_with_fault, same, read_digit, read_up_to, run_of, with_refused}
 

@@ -2,12 +2,12 @@
 use Rattle.std.specs.Prelude.{◌==◌, Bool, ◌&&◌, List, [], ◌∷◌, length}
 use Rattle.flow_lists.specs.Lists.{every}
 use Rattle.flow_link.specs.Trace.{Run, block_numbers, link_numbers}
-use Rattle.flow_link.specs.Shape.{input_count, tells_each_port}
+use Rattle.flow_lawful.specs.Shape.{input_count, tells_each_port}
 use Rattle.flow_link.specs.Making.{makes}
-use Rattle.flow_link.specs.Law.{crosses, gives_admitted, gives_within, takes_posted, has_own_marks, is_within_capacity, takes_level, keeps_link_order}
+use Rattle.flow_lawful.specs.Law.{crosses, gives_admitted, gives_within, takes_posted, has_own_marks, is_within_capacity, takes_level, keeps_link_order}
 use Rattle.flow_link.specs.Copies.{copies}
-use Rattle.flow_link.specs.Endings.{stops_at, completes_once_at, ends_rightly, has_causes, is_rightly_refused}
-use Rattle.flow_link.specs.Quiet.{is_home, rests, is_done_if_can, hands_its_end_on, carries_no_more, has_served_all}
+use Rattle.flow_lawful.specs.Endings.{stops_at, completes_once_at, ends_rightly, has_causes, is_rightly_refused}
+use Rattle.flow_lawful.specs.Quiet.{is_home, rests, is_done_if_can, hands_its_end_on, carries_no_more, has_served_all}
 
 abbrev pub all_pass : List Bool → Bool
 all_pass tests = every (λ test. test) tests

@@ -4,8 +4,8 @@ use Rattle.flow_link.specs.declared.draft.BlockKind.TheVariants.{Buffer, Broadca
 use Rattle.flow_link.specs.declared.trace.Mark.TheVariants.{Took, Gave, Complete, Fault}
 use Rattle.flow_link.specs.Layout.{input_link}
 use Rattle.flow_link.specs.Trace.{Run}
-use Rattle.flow_link.specs.Quiet.{Quiet}
-use Rattle.flow_link.specs.Lawful.{Lawful}
+use Rattle.flow_lawful.specs.Quiet.{Quiet}
+use Rattle.flow_lawful.specs.Lawful.{Lawful}
 use Rattle.flow_law.specs.Tests.{quiet_tests}
 use Rattle.flow_law.specs.Examples.{Work, block, with_input, link, digit, leaves, leaves_nothing, holds, posted, posted_open, same, run_of}
 use Rattle.flow_law.specs.LawfulExamples.{faulting_batch}

@@ -9,8 +9,8 @@ use Rattle.flow_link.specs.Layout.{input_link}
 use Rattle.flow_link.specs.Trace.{Run}
 use Rattle.flow_law.specs.Examples.{Work, block, with_input, with_capacity, reserving_join, link, to_port, digit, leaves, leaves_nothing, joins, posted_open, same, run_of}
 use Rattle.flow_law.specs.MidMove.{stands, rests_after}
-use Rattle.flow_link.specs.Composes.{Ends, PartsKeep}
-use Rattle.flow_link.specs.RestsByParts.{PartsRest, EndsAreStill}
+use Rattle.flow_lawful.specs.Composes.{Ends, PartsKeep}
+use Rattle.flow_lawful.specs.RestsByParts.{PartsRest, EndsAreStill}
 
 -- two buffers in a row lead to one port of a reserving join, and a third to the other. The second has room for one
 -- message and keeps it, for nothing comes to the other port; the first one's next message waits for that room

@@ -8,10 +8,10 @@ use Rattle.flow_link.specs.declared.trace.Mark.TheVariants.{Took, Gave}
 use Rattle.flow_link.specs.Views.{SourceStage, TargetStage, Refusal}
 use Rattle.flow_link.specs.Layout.{input_link}
 use Rattle.flow_link.specs.Trace.{Run}
-use Rattle.flow_link.specs.Lawful.{Lawful}
+use Rattle.flow_lawful.specs.Lawful.{Lawful}
 use Rattle.flow_law.specs.Examples.{Work, block, with_input, reserving_join, link, kept_apart, digit, row, leaves, leaves_nothing, holds, joins, posted_open, same, read_digit, run_of, with_refused}
 use Rattle.flow_law.specs.MidMove.{stands, rests_after}
-use Rattle.flow_link.specs.Composes.{Ends, SourceKeeps, TargetKeeps, SpeaksForOne, LinkKeeps, PartsKeep}
+use Rattle.flow_lawful.specs.Composes.{Ends, SourceKeeps, TargetKeeps, SpeaksForOne, LinkKeeps, PartsKeep}
 
 -- a buffer that is open ends its link, and has its message left
 abbrev pub left_behind : Run Work

@@ -1,7 +1,7 @@
 //! Laws about links, and about what a run of a network leaves. Each stands on a function that does nothing: whoever
 //! calls it has the whole law.
 ghost use Rattle.flow_value.specs.declared.value.Value.{Value};
-ghost use Rattle.flow_link.specs.Composes.{Composes};
+ghost use Rattle.flow_lawful.specs.Composes.{Composes};
 ghost use Rattle.flow_link.specs.JournalGrows.{JournalsGrow};
 ghost use Rattle.flow_law.specs.LawfulExamples.{GoodRunsAreLawful};
 ghost use Rattle.flow_link.specs.LeadsWell.{LinksLead};
@@ -12,7 +12,7 @@ ghost use Rattle.flow_link.specs.Phase.{WordsTell};
 ghost use Rattle.flow_law.specs.PlanExamples.{FaultsOfDrafts};
 ghost use Rattle.flow_law.specs.Rebase.{Rebases};
 ghost use Rattle.flow_law.specs.RefusedExamples.{WrongRunsAreRefused};
-ghost use Rattle.flow_link.specs.RestsByParts.{LinksRest, RestsCompose};
+ghost use Rattle.flow_lawful.specs.RestsByParts.{LinksRest, RestsCompose};
 ghost use Rattle.flow_link.specs.Told.{LinksTell};
 ghost use Rattle.flow_link.specs.Stage.{StagesAreKept};
 ghost use Rattle.flow_law.specs.UnfinishedExamples.{UnfinishedRunsAreNotQuiet};

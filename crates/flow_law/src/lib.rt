@@ -1,8 +1,8 @@
 //! Laws of links and of whole runs, each on a function that does nothing, with examples: runs that are lawful and quiet,
 //! and for each wrong that the definitions refuse a run that shows it.
 //!
-//! No crate stands on this one. The definitions (`LinkOk`, `Lawful`, `Quiet`) stand in [`flow_link`], and so do the lemmas
-//! from which others prove: a change of an example has nothing but the examples proved anew.
+//! No crate stands on this one. The definitions stand in [`flow_link`] (`LinkOk`) and [`flow_lawful`] (`Lawful`, `Quiet`),
+//! and so do the lemmas from which others prove: a change of an example has nothing but the examples proved anew.
 #![tactic(auto)]
 
 mod laws;

@@ -1,11 +1,6 @@
-pub mod CopiesByParts
 pub mod EachLinkOf
-pub mod EndingsByParts
 pub mod FirstOfEachFault
 pub mod JournalsGrow
-pub mod LawfulByParts
-pub mod LinksAtRest
-pub mod LinksByParts
 pub mod LinksLaidOut
 pub mod LinksLead
 pub mod LinksTell
@@ -15,7 +10,6 @@ pub mod OneMoreMark
 pub mod OneMoreWorked
 pub mod PlansAreBuilt
 pub mod PlansAreWellFormed
-pub mod QuietByParts
 pub mod RoundsOfWalks
 pub mod SourceMoves
 pub mod StagesKept

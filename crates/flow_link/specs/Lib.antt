@@ -1,14 +1,10 @@
 pub mod BlockCalls
 pub mod Built
-pub mod Composes
 pub mod Copies
 pub mod Drafts
-pub mod Endings
 pub mod Facts
 pub mod Fault
 pub mod JournalGrows
-pub mod Law
-pub mod Lawful
 pub mod Layout
 pub mod LeadsWell
 pub mod LinkOk
@@ -23,11 +19,8 @@ pub mod Plan
 pub mod PlanFaults
 pub mod Planned
 pub mod Posted
-pub mod Quiet
 pub mod Refusal
-pub mod RestsByParts
 pub mod Rounds
-pub mod Shape
 pub mod SourceCalls
 pub mod Stage
 pub mod StagesMove

@@ -6,8 +6,8 @@
 //! it.
 //!
 //! What a run leaves behind is a journal of marks for each block. Which runs are lawful and which are quiet are
-//! definitions of contracts too, `Lawful` and `Quiet`; a network is lawful where each of its parts keeps its own
-//! laws. The crate `flow_law` states the laws, and shows by examples what the definitions let through and what they refuse.
+//! definitions of `flow_lawful`; `flow_law` states the laws, and shows by examples what the definitions let through and
+//! what they refuse.
 #![tactic(auto)]
 
 mod builder;

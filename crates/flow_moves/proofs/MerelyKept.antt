@@ -6,10 +6,10 @@ use Rattle.std.proofs.Math.Nat.{ℕ_set}
 use Rattle.flow_value.specs.declared.value.Value.{Value}
 use Rattle.flow_link.specs.declared.phase.Move.{Move}
 use Rattle.flow_link.specs.declared.phase.Move.TheVariants.{Offer}
-use Rattle.flow_link.specs.Lawful.{Lawful}
+use Rattle.flow_lawful.specs.Lawful.{Lawful}
 use Rattle.flow_link.specs.Layout.{Layout}
 use Rattle.flow_link.specs.Plan.{has_work}
-use Rattle.flow_link.specs.Quiet.{Quiet}
+use Rattle.flow_lawful.specs.Quiet.{Quiet}
 use Rattle.flow_block.specs.Routes.{route_of}
 use Rattle.flow_block.specs.Block.{held_by}
 use Rattle.flow_block.specs.Jobs.{JobsState, is_out}

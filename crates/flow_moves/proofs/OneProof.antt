@@ -11,11 +11,11 @@ use Rattle.flow_link.specs.declared.plan.LinkSource.{LinkSource}
 use Rattle.flow_link.specs.declared.plan.LinkSource.TheVariants.{Block, Input}
 use Rattle.flow_link.specs.declared.plan.LinkTarget.{LinkTarget}
 use Rattle.flow_link.specs.declared.plan.LinkTarget.TheVariants.{Port, Exit}
-use Rattle.flow_link.specs.Lawful.{Lawful}
+use Rattle.flow_lawful.specs.Lawful.{Lawful}
 use Rattle.flow_link.specs.Layout.{Layout}
 use Rattle.flow_link.specs.LinkOk.{HasRoom}
 use Rattle.flow_link.specs.Plan.{is_one_taker}
-use Rattle.flow_link.specs.Quiet.{Quiet}
+use Rattle.flow_lawful.specs.Quiet.{Quiet}
 use Rattle.flow_link.specs.Trace.{Run}
 use Rattle.flow_outlet.specs.Outlet.{OutletState, end_at}
 use Rattle.flow_spread.specs.Spread.{SpreadState, link_at}

@@ -3,10 +3,10 @@ use Rattle.std.proofs.Common.{◌≡◌, ℕ, zero, suc, List, [], ◌∷◌, ma
 use Rattle.flow_value.specs.declared.value.Value.{Value}
 use Rattle.flow_value.specs.declared.work.WorkFault.{WorkFault}
 use Rattle.flow_link.specs.declared.plan.Plan.{Plan}
-use Rattle.flow_link.specs.Lawful.{Lawful}
+use Rattle.flow_lawful.specs.Lawful.{Lawful}
 use Rattle.flow_link.specs.Layout.{Layout}
 use Rattle.flow_link.specs.Planned.{layout_of}
-use Rattle.flow_link.specs.Quiet.{Quiet as IsQuiet}
+use Rattle.flow_lawful.specs.Quiet.{Quiet as IsQuiet}
 use Rattle.flow_link.specs.Trace.{InputTrace}
 use Rattle.flow_block.specs.Input.{fresh_input, input_trace}
 use Rattle.flow_core.specs.AtRest.{AtRest}

@@ -6,7 +6,7 @@ use Rattle.flow_link.specs.declared.trace.Outcome.TheVariants as outcome
 use Rattle.flow_link.specs.declared.trace.Mark.TheVariants.{Took, Gave, Complete, Fault, Done}
 use Rattle.flow_link.specs.declared.trace.Outcome.{Outcome}
 use Rattle.flow_link.specs.declared.trace.Outcome.TheVariants as outcome
-use Rattle.flow_link.specs.Endings.{is_complete}
+use Rattle.flow_lawful.specs.Endings.{is_complete}
 use Rattle.flow_link.specs.Trace.{Run, is_done, marks_of}
 use Rattle.flow_net.specs.declared.settled.State.{State}
 use Rattle.flow_net.specs.declared.settled.State.TheVariants as state

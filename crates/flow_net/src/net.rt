@@ -34,8 +34,8 @@ pub struct Net<W: Runs> {
 impl<W: Runs> Net<W> {
     ghost use Rattle.std.specs.Prelude.{◌≢◌, IsTrue, IfOk, IfErr, OnOk, OnErr, ◌↔◌, ◌<◌, ◌++◌, Ok, Err};
     ghost use Rattle.std.specs.Prelude.{true, false, [], length};
-    ghost use Rattle.flow_link.specs.Lawful.{Lawful};
-    ghost use Rattle.flow_link.specs.Quiet.{Quiet};
+    ghost use Rattle.flow_lawful.specs.Lawful.{Lawful};
+    ghost use Rattle.flow_lawful.specs.Quiet.{Quiet};
     ghost use Rattle.flow_link.specs.Trace.{block_of, input_of, marks_of, held_at, left_at, trace_of};
     ghost use Rattle.flow_link.specs.Plan.{port_count};
     ghost use Rattle.flow_core.specs.AtRest.{AtRest};
@@ -234,8 +234,8 @@ impl<W: Runs> Net<W> {
 // What sends works to other threads.
 impl<W: Work> Net<W> {
     ghost use Rattle.std.specs.Prelude.{◌≡◌, ◌≢◌, IfOk, Ok, Err};
-    ghost use Rattle.flow_link.specs.Lawful.{Lawful};
-    ghost use Rattle.flow_link.specs.Quiet.{Quiet};
+    ghost use Rattle.flow_lawful.specs.Lawful.{Lawful};
+    ghost use Rattle.flow_lawful.specs.Quiet.{Quiet};
     ghost use Rattle.flow_core.specs.AtRest.{AtRest};
     ghost use Rattle.flow_net.specs.Net.{layout_in, parts_of, run_of};
     ghost use Rattle.flow_net.specs.Settles.{Settles, GoesOn};

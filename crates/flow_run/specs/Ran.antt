@@ -3,8 +3,8 @@
 use Rattle.std.specs.Prelude.{◌≡◌, ◌⊎◌, ℕ, List, length, map, replicate, Option, IfSome}
 use Rattle.flow_value.specs.Function.{meaning_of}
 use Rattle.flow_value.specs.declared.steps.Steps.{Steps}
-use Rattle.flow_link.specs.Lawful.{Lawful}
-use Rattle.flow_link.specs.Quiet.{Quiet as IsQuiet}
+use Rattle.flow_lawful.specs.Lawful.{Lawful}
+use Rattle.flow_lawful.specs.Quiet.{Quiet as IsQuiet}
 use Rattle.flow_link.specs.Layout.{Layout}
 use Rattle.flow_link.specs.Trace.{Run}
 use Rattle.flow_link.specs.declared.trace.Ending.TheVariants.{Complete}

@@ -1,4 +1,4 @@
-use Rattle.flow_link.proofs.LawfulByParts.{composes}
+use Rattle.flow_lawful.proofs.LawfulByParts.{composes}
 use Rattle.flow_law.proofs.laws.lawful_by_parts.Goals as goal
 
 pub returns : goal.returns

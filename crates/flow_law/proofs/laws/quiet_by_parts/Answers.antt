@@ -1,5 +1,5 @@
-use Rattle.flow_link.proofs.LinksAtRest.{links_rest}
-use Rattle.flow_link.proofs.QuietByParts.{rests_compose}
+use Rattle.flow_lawful.proofs.LinksAtRest.{links_rest}
+use Rattle.flow_lawful.proofs.QuietByParts.{rests_compose}
 use Rattle.flow_law.proofs.laws.quiet_by_parts.Goals as goal
 
 pub returns-clause-links_rest : goal.returns-clause-links_rest

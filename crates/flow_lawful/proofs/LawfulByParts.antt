@@ -1,8 +1,8 @@
 -- A network is lawful when each of its parts keeps its own laws.
-use Rattle.flow_link.specs.Composes.{Composes}
-use Rattle.flow_link.proofs.LinksByParts.{links_keep, marks_keep, blocks_make}
-use Rattle.flow_link.proofs.CopiesByParts.{copies_keep, order_keeps}
-use Rattle.flow_link.proofs.EndingsByParts.{counts_keep, ends_keep}
+use Rattle.flow_lawful.specs.Composes.{Composes}
+use Rattle.flow_lawful.proofs.LinksByParts.{links_keep, marks_keep, blocks_make}
+use Rattle.flow_lawful.proofs.CopiesByParts.{copies_keep, order_keeps}
+use Rattle.flow_lawful.proofs.EndingsByParts.{counts_keep, ends_keep}
 
 pub composes : (W : Type 0) → Composes W
 composes W run ends keep = record {

@@ -11,20 +11,20 @@ use Rattle.flow_link.specs.declared.plan.LinkTarget.{LinkTarget}
 use Rattle.flow_link.specs.declared.plan.LinkTarget.TheVariants.{Port, Exit}
 use Rattle.flow_link.specs.declared.trace.Mark.{Mark}
 use Rattle.flow_link.specs.declared.trace.Mark.TheVariants.{Took, Gave, Complete, Fault, Done}
-use Rattle.flow_link.specs.Endings.{own_fault, first_fault, fault_by_kind, is_complete, has_nothing, passes_on}
+use Rattle.flow_lawful.specs.Endings.{own_fault, first_fault, fault_by_kind, is_complete, has_nothing, passes_on}
 use Rattle.flow_lists.specs.Lists.{every, some, is_empty, below}
 use Rattle.flow_link.specs.LooksKeep.{SeenAt}
 use Rattle.flow_link.specs.Making.{load}
 use Rattle.flow_link.specs.Plan.{has_work, is_reserving, ports_by_kind, ends_at_port}
-use Rattle.flow_link.specs.Quiet.{Quiet, is_open, first_of, is_home, is_home_between, has_this_fault, faulted_by_itself, holds_nothing, rests, rests_as, is_done_if_can, end_comes_from, end_reaches, hands_its_end_on, head_as, head_from, admits_head, has_not_ended, could_cross, is_full_with, lacks_a_port, holds_back, carries_no_more, has_served_all}
+use Rattle.flow_lawful.specs.Quiet.{Quiet, is_open, first_of, is_home, is_home_between, has_this_fault, faulted_by_itself, holds_nothing, rests, rests_as, is_done_if_can, end_comes_from, end_reaches, hands_its_end_on, head_as, head_from, admits_head, has_not_ended, could_cross, is_full_with, lacks_a_port, holds_back, carries_no_more, has_served_all}
 use Rattle.flow_link.specs.Told.{HasEnded}
 use Rattle.flow_link.specs.Trace.{Run, has_complete, has_fault, has_ended, is_faulted, is_done, is_used_up, is_fault_mark, is_any_fault_mark, block_of, link_of, link_numbers, ports_of, marks_of, held_at, left_at, given_over, taken_over, input_of, waits_over, is_cut, is_refused}
 use Rattle.flow_link.specs.Views.{TargetStage, Refusal}
-use Rattle.flow_link.specs.Composes.{Ends, PartsKeep, RefusesFor, is_done_with, facts_of}
-use Rattle.flow_link.specs.RestsByParts.{RestsCompose, PartsRest, is_over, is_postponed, lacks_an_offer, unsent}
+use Rattle.flow_lawful.specs.Composes.{Ends, PartsKeep, RefusesFor, is_done_with, facts_of}
+use Rattle.flow_lawful.specs.RestsByParts.{RestsCompose, PartsRest, is_over, is_postponed, lacks_an_offer, unsent}
 use Rattle.flow_link.proofs.LinksTell.{links_tell}
-use Rattle.flow_link.proofs.LinksByParts.{source_keeps, target_keeps, given_is, taken_is}
-use Rattle.flow_link.proofs.LinksAtRest.{home_at_rest, over_tells, waits_unless, stages_at}
+use Rattle.flow_lawful.proofs.LinksByParts.{source_keeps, target_keeps, given_is, taken_is}
+use Rattle.flow_lawful.proofs.LinksAtRest.{home_at_rest, over_tells, waits_unless, stages_at}
 use Rattle.flow_lists.proofs.ListTests.{or_not, or_weaker, and_weaker, every_below, some_weaker_below, same_values_where, never_both}
 
 either : {P : Type 0} (a b : Bool) → (a || b) ≡ true → (a ≡ true → P) → (b ≡ true → P) → P

@@ -15,8 +15,8 @@ use Rattle.flow_link.specs.LooksKeep.{SeenAt}
 use Rattle.flow_link.specs.Plan.{begins_at, ends_at}
 use Rattle.flow_link.specs.Trace.{Run, link_of}
 use Rattle.flow_link.specs.Views.{SourceStage, TargetStage, Refusal}
-use Rattle.flow_link.specs.Composes.{Ends, PartsKeep, facts_of}
-use Rattle.flow_link.specs.RestsByParts.{LinksRest, EndsAreStill, LinkSeen, has_offer_out, asks_somewhere, is_at_rest, is_over, is_to_hand_over, is_wished_for, is_out, is_postponed, is_asking, is_holding, is_to_receive, has_seen_end}
+use Rattle.flow_lawful.specs.Composes.{Ends, PartsKeep, facts_of}
+use Rattle.flow_lawful.specs.RestsByParts.{LinksRest, EndsAreStill, LinkSeen, has_offer_out, asks_somewhere, is_at_rest, is_over, is_to_hand_over, is_wished_for, is_out, is_postponed, is_asking, is_holding, is_to_receive, has_seen_end}
 use Rattle.flow_link.proofs.LooksKeepOrder.{looks_keep}
 use Rattle.flow_lists.proofs.ListTests.{never_both}
 

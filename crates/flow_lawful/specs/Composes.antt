@@ -19,11 +19,11 @@ use Rattle.flow_lists.specs.Lists.{every, some, concat, is_empty, is_front}
 use Rattle.flow_link.specs.Plan.{is_steady, is_sole, is_reserving, is_write_once, is_one_taker, ends_at, ends_at_port}
 use Rattle.flow_link.specs.Trace.{Run, took, took_at, took_over, gave_over, is_done, is_faulted, has_fault, has_ended, block_of, link_of, link_numbers, ports_of, trace_of, marks_of, held_at, left_at, input_of, is_cut}
 use Rattle.flow_link.specs.Making.{results_of, block_result, outputs, makes_as, load}
-use Rattle.flow_link.specs.Law.{has_own_marks, has_room_for, takes_level, keeps_link_order}
+use Rattle.flow_lawful.specs.Law.{has_own_marks, has_room_for, takes_level, keeps_link_order}
 use Rattle.flow_link.specs.Copies.{copies}
-use Rattle.flow_link.specs.Endings.{own_fault, is_number, stops_at, completes_once_at, ends_rightly}
-use Rattle.flow_link.specs.Lawful.{Lawful}
-use Rattle.flow_link.specs.Shape.{Shape}
+use Rattle.flow_lawful.specs.Endings.{own_fault, is_number, stops_at, completes_once_at, ends_rightly}
+use Rattle.flow_lawful.specs.Lawful.{Lawful}
+use Rattle.flow_lawful.specs.Shape.{Shape}
 
 -- a link with what its two ends know of it
 pub record Ends : Type 0 where

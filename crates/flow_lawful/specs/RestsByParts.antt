@@ -14,8 +14,8 @@ use Rattle.flow_lists.specs.Lists.{some, is_empty}
 use Rattle.flow_link.specs.Plan.{is_reserving, begins_at, ends_at, ends_at_port}
 use Rattle.flow_link.specs.Trace.{Run, has_ended, block_of, link_of, link_numbers, ports_of, marks_of, input_of}
 use Rattle.flow_link.specs.Making.{load}
-use Rattle.flow_link.specs.Quiet.{Quiet, is_open, rests, is_done_if_can, has_served_all, head_from, admits_head, is_full_with}
-use Rattle.flow_link.specs.Composes.{Ends, PartsKeep, is_done_with}
+use Rattle.flow_lawful.specs.Quiet.{Quiet, is_open, rests, is_done_if_can, has_served_all, head_from, admits_head, is_full_with}
+use Rattle.flow_lawful.specs.Composes.{Ends, PartsKeep, is_done_with}
 
 -- no message is under way over the link. One may wait there, and the target knows of it
 abbrev pub is_at_rest : Phase → Bool
