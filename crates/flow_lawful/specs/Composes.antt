@@ -3,7 +3,7 @@ use Rattle.std.specs.Prelude.{◌≡◌, ℕ, ◌+◌, ◌<◌, ◌==◌, Bool, 
 use Rattle.flow_value.specs.When.{admits}
 use Rattle.flow_value.specs.declared.value.Value.{Value}
 use Rattle.flow_link.specs.declared.draft.BlockKind.{BlockKind}
-use Rattle.flow_link.specs.declared.draft.BlockKind.TheVariants.{Buffer, Action, Transform, TransformMany}
+use Rattle.flow_link.specs.declared.draft.BlockKind.TheVariants.{Buffer, Broadcast, WriteOnce, Action, Transform, TransformMany, Batch, Join, BatchedJoin}
 use Rattle.flow_link.specs.declared.phase.Phase.{Phase}
 use Rattle.flow_link.specs.declared.phase.Phase.TheVariants.{Refused}
 use Rattle.flow_link.specs.declared.phase.LinkEnd.TheVariants.{Plain, Complete as end_complete, Fault as end_fault}
@@ -142,10 +142,14 @@ module _ {W : Type 0} (run : Run W) (ends : ℕ → Ends) where
 
   abbrev pub NodeMakes : ℕ → BlockKind → Type 0
   NodeMakes b Buffer = took (marks_of run b) ≡ outputs run b ++ held_at run b 0
+  NodeMakes b Broadcast = makes_as run b Broadcast ≡ true
+  NodeMakes b WriteOnce = makes_as run b WriteOnce ≡ true
   NodeMakes b Action = RecordsAll b
   NodeMakes b Transform = WorksInto b (outputs run b)
   NodeMakes b TransformMany = WorksInto b (outputs run b)
-  NodeMakes b kind = makes_as run b kind ≡ true
+  NodeMakes b Batch = makes_as run b Batch ≡ true
+  NodeMakes b Join = makes_as run b Join ≡ true
+  NodeMakes b BatchedJoin = makes_as run b BatchedJoin ≡ true
 
   -- how many messages are on the way into a port, whose places are taken
   abbrev pub coming : ℕ → ℕ → ℕ

@@ -2,7 +2,7 @@
 use Rattle.std.specs.Prelude.{◌≡◌, ℕ, ◌==◌, Bool, true, false, not, ◌&&◌, ◌||◌, is_some, List, [], ◌∷◌, Option, Some, None, Result, Ok, Err}
 use Rattle.flow_value.specs.declared.value.Value.{Value}
 use Rattle.flow_link.specs.declared.draft.BlockKind.{BlockKind}
-use Rattle.flow_link.specs.declared.draft.BlockKind.TheVariants.{WriteOnce, Join}
+use Rattle.flow_link.specs.declared.draft.BlockKind.TheVariants.{Buffer, Broadcast, WriteOnce, Action, Transform, TransformMany, Batch, Join, BatchedJoin}
 use Rattle.flow_link.specs.declared.plan.LinkSource.{LinkSource}
 use Rattle.flow_link.specs.declared.plan.LinkSource.TheVariants.{Block, Input}
 use Rattle.flow_link.specs.declared.plan.LinkTarget.{LinkTarget}
@@ -67,11 +67,17 @@ module _ {W : Type 0} (run : Run W) where
   -- all its ports have completed, or it is a join whose completed port has no message that waits for partners, or it is
   -- a write-once block with its element
   abbrev pub is_complete_as : BlockKind → ℕ → Bool
+  is_complete_as Buffer b = every (λ p. has_complete p (marks_of run b)) (ports_of run b)
+  is_complete_as Broadcast b = every (λ p. has_complete p (marks_of run b)) (ports_of run b)
+  is_complete_as WriteOnce b = has_complete 0 (marks_of run b) || not (is_empty (took (marks_of run b)))
+  is_complete_as Action b = every (λ p. has_complete p (marks_of run b)) (ports_of run b)
+  is_complete_as Transform b = every (λ p. has_complete p (marks_of run b)) (ports_of run b)
+  is_complete_as TransformMany b = every (λ p. has_complete p (marks_of run b)) (ports_of run b)
+  is_complete_as Batch b = every (λ p. has_complete p (marks_of run b)) (ports_of run b)
   is_complete_as Join b =
       every (λ p. has_complete p (marks_of run b)) (ports_of run b)
       || some (λ p. has_complete p (marks_of run b) && is_empty (held_at run b p)) (ports_of run b)
-  is_complete_as WriteOnce b = has_complete 0 (marks_of run b) || not (is_empty (took (marks_of run b)))
-  is_complete_as _ b = every (λ p. has_complete p (marks_of run b)) (ports_of run b)
+  is_complete_as BatchedJoin b = every (λ p. has_complete p (marks_of run b)) (ports_of run b)
 
   abbrev pub is_complete : ℕ → Bool
   is_complete b = is_complete_as (block_of run b).kind b

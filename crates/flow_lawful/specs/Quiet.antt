@@ -3,7 +3,7 @@ use Rattle.std.specs.Prelude.{◌≡◌, ℕ, ◌==◌, ltb, Bool, true, false, 
 use Rattle.flow_value.specs.When.{admits}
 use Rattle.flow_value.specs.declared.value.Value.{Value}
 use Rattle.flow_link.specs.declared.draft.BlockKind.{BlockKind}
-use Rattle.flow_link.specs.declared.draft.BlockKind.TheVariants.{Broadcast, WriteOnce, Batch, Join, BatchedJoin}
+use Rattle.flow_link.specs.declared.draft.BlockKind.TheVariants.{Buffer, Broadcast, WriteOnce, Action, Transform, TransformMany, Batch, Join, BatchedJoin}
 use Rattle.flow_link.specs.declared.plan.LinkSource.{LinkSource}
 use Rattle.flow_link.specs.declared.plan.LinkSource.TheVariants.{Block, Input}
 use Rattle.flow_link.specs.declared.plan.LinkTarget.{LinkTarget}
@@ -63,10 +63,15 @@ module _ {W : Type 0} (run : Run W) where
 
   -- nothing that is held could be worked on
   abbrev pub rests_as : BlockKind → ℕ → Bool
+  rests_as Buffer b = holds_nothing b
+  rests_as Broadcast b = holds_nothing b
+  rests_as WriteOnce b = holds_nothing b
+  rests_as Action b = holds_nothing b
+  rests_as Transform b = holds_nothing b
+  rests_as TransformMany b = holds_nothing b
   rests_as Batch b = has_no_group b
-  rests_as BatchedJoin b = has_no_group b
   rests_as Join b = has_no_row b (is_reserving (block_of run b))
-  rests_as _ b = holds_nothing b
+  rests_as BatchedJoin b = has_no_group b
 
   abbrev pub rests : ℕ → Bool
   rests b = faulted_by_itself b || rests_as (block_of run b).kind b
@@ -92,9 +97,15 @@ module _ {W : Type 0} (run : Run W) where
 
   abbrev pub head_as : ℕ → ℕ → Bool → BlockKind → Option Value
   head_as s l true kind = None
+  head_as s l false Buffer = first_of (left_at run s)
   head_as s l false Broadcast = None
   head_as s l false WriteOnce = elim (given_over run l) [ [] ↦ first_of (left_at run s) | value ∷ values ↦ None ]
-  head_as s l false kind = first_of (left_at run s)
+  head_as s l false Action = first_of (left_at run s)
+  head_as s l false Transform = first_of (left_at run s)
+  head_as s l false TransformMany = first_of (left_at run s)
+  head_as s l false Batch = first_of (left_at run s)
+  head_as s l false Join = first_of (left_at run s)
+  head_as s l false BatchedJoin = first_of (left_at run s)
 
   -- the message that would cross next
   abbrev pub head_from : ℕ → LinkSource → Option Value

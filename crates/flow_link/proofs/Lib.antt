@@ -1,6 +1,7 @@
 pub mod EachLinkOf
 pub mod FirstOfEachFault
 pub mod JournalsGrow
+pub mod KindsTell
 pub mod LinksLaidOut
 pub mod LinksLead
 pub mod LinksTell

@@ -3,7 +3,7 @@ use Rattle.std.specs.Prelude.{◌≡◌, ℕ, ◌-◌, leb, Bool, true, not, ◌
 use Rattle.flow_value.specs.When.{admits}
 use Rattle.flow_value.specs.declared.value.Value.{Value}
 use Rattle.flow_link.specs.declared.draft.BlockKind.{BlockKind}
-use Rattle.flow_link.specs.declared.draft.BlockKind.TheVariants.{Broadcast, WriteOnce}
+use Rattle.flow_link.specs.declared.draft.BlockKind.TheVariants.{Buffer, Broadcast, WriteOnce, Action, Transform, TransformMany, Batch, Join, BatchedJoin}
 use Rattle.flow_link.specs.declared.plan.Link.{Link}
 use Rattle.flow_link.specs.Plan.{begins_at, is_steady, is_sole}
 use Rattle.flow_lists.specs.Lists.{every, is_empty, without_last, same_values, is_front, is_subsequence}
@@ -75,9 +75,15 @@ module _ {W : Type 0} (run : Run W) (b : ℕ) where
       && (same_values (left_at run b) (took (marks_of run b)) || (is_empty (left_at run b) && every is_served (link_numbers run)))
 
   abbrev pub copies_as : BlockKind → Bool
+  copies_as Buffer = true
   copies_as Broadcast = broadcasts
   copies_as WriteOnce = writes_once
-  copies_as _ = true
+  copies_as Action = true
+  copies_as Transform = true
+  copies_as TransformMany = true
+  copies_as Batch = true
+  copies_as Join = true
+  copies_as BatchedJoin = true
 
   abbrev pub copies : Bool
   copies = copies_as (block_of run b).kind

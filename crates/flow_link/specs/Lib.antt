@@ -5,6 +5,7 @@ pub mod Drafts
 pub mod Facts
 pub mod Fault
 pub mod JournalGrows
+pub mod Kinds
 pub mod Layout
 pub mod LeadsWell
 pub mod LinkOk

@@ -16,9 +16,17 @@ not_one = 7
 
 -- what a block makes of one message, by what its work gives for it
 abbrev pub result_of : BlockKind → Result (List Value) ℕ → Result (List Value) ℕ
+result_of Buffer result = result
+result_of Broadcast result = result
+result_of WriteOnce result = result
+result_of Action result = result
 result_of Transform (Ok (value ∷ [])) = Ok (value ∷ [])
 result_of Transform (Ok _) = Err not_one
-result_of _ result = result
+result_of Transform (Err number) = Err number
+result_of TransformMany result = result
+result_of Batch result = result
+result_of Join result = result
+result_of BatchedJoin result = result
 
 abbrev pub with_result : Result (List Value) ℕ → Option (List (List Value)) → Option (List (List Value))
 with_result (Ok values) (Some results) = Some (values ∷ results)
@@ -181,10 +189,15 @@ module _ {W : Type 0} (run : Run W) (b : ℕ) where
   part_left (Some results) = partly_left (length (gave (marks_of run b))) results
 
   abbrev pub load_as : BlockKind → ℕ → ℕ
+  load_as Buffer p = length (held_at run b p) + length (left_at run b)
+  load_as Broadcast p = length (held_at run b p) + length (left_at run b)
+  load_as WriteOnce p = length (held_at run b p) + length (left_at run b)
+  load_as Action p = length (held_at run b p) + length (left_at run b)
+  load_as Transform p = length (held_at run b p) + length (left_at run b)
   load_as TransformMany p = length (held_at run b p) + part_left (results_of block_result worked)
   load_as Batch p = length (held_at run b p) + length (all_items (left_at run b))
+  load_as Join p = length (held_at run b p) + length (left_at run b)
   load_as BatchedJoin p = length (held_at run b p) + length (all_items (column p (left_at run b)))
-  load_as _ p = length (held_at run b p) + length (left_at run b)
 
   abbrev pub load : ℕ → ℕ
   load p = load_as (block_of run b).kind p

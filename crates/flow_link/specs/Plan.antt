@@ -2,53 +2,22 @@
 use Rattle.std.specs.Prelude.{ℕ, ◌+◌, ◌==◌, Bool, true, false, cond, not, ◌&&◌, List, [], ◌∷◌, ◌++◌, get_or, unwrap_or, is_none, position, Option, None}
 use Rattle.std.specs.Str.{bytes_eq}
 use Rattle.flow_value.specs.declared.when.When.TheVariants.{Any}
+pub use Rattle.flow_link.specs.Kinds.{has_work, is_broadcast, is_write_once, is_one_taker, ports_by_kind, reserves_by_kind}
 use Rattle.flow_link.specs.Layout.{outer_links}
 use Rattle.flow_link.specs.declared.draft.BlockDef.{BlockDef}
 use Rattle.flow_link.specs.declared.draft.LinkDef.{LinkDef}
-use Rattle.flow_link.specs.declared.draft.BlockKind.{BlockKind}
-use Rattle.flow_link.specs.declared.draft.BlockKind.TheVariants.{Buffer, Broadcast, WriteOnce, Action, Transform, TransformMany, Join, BatchedJoin}
+use Rattle.flow_link.specs.declared.draft.BlockKind.TheVariants.{Buffer}
 use Rattle.flow_link.specs.declared.plan.Link.{Link}
 use Rattle.flow_link.specs.declared.plan.LinkSource.{LinkSource}
 use Rattle.flow_link.specs.declared.plan.LinkSource.TheVariants.{Block, Input}
 use Rattle.flow_link.specs.declared.plan.LinkTarget.{LinkTarget}
 use Rattle.flow_link.specs.declared.plan.LinkTarget.TheVariants.{Port, Exit}
 
--- a join and a batched join have two ports or three, all other blocks one
-abbrev pub ports_by_kind : BlockKind → Option ℕ → ℕ
-ports_by_kind Join ports = unwrap_or ports 2
-ports_by_kind BatchedJoin ports = unwrap_or ports 2
-ports_by_kind _ ports = 1
-
 abbrev pub port_count : {W : Type 0} → BlockDef W → ℕ
 port_count block = ports_by_kind block.kind block.ports
 
--- a join that is not greedy reserves its messages before it takes them
-abbrev pub reserves_by_kind : BlockKind → Option Bool → Bool
-reserves_by_kind Join greedy = not (unwrap_or greedy true)
-reserves_by_kind _ greedy = false
-
 abbrev pub is_reserving : {W : Type 0} → BlockDef W → Bool
 is_reserving block = reserves_by_kind block.kind block.greedy
-
-abbrev pub is_write_once : BlockKind → Bool
-is_write_once WriteOnce = true
-is_write_once _ = false
-
-abbrev pub is_broadcast : BlockKind → Bool
-is_broadcast Broadcast = true
-is_broadcast _ = false
-
--- its links share its outputs: each output crosses one of them
-abbrev pub is_one_taker : BlockKind → Bool
-is_one_taker Broadcast = false
-is_one_taker WriteOnce = false
-is_one_taker _ = true
-
-abbrev pub has_work : BlockKind → Bool
-has_work Action = true
-has_work Transform = true
-has_work TransformMany = true
-has_work _ = false
 
 -- what stands at a place where nothing is
 abbrev pub no_block : {W : Type 0} → BlockDef W

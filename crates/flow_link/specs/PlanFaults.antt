@@ -3,13 +3,17 @@ use Rattle.std.specs.Prelude.{ℕ, zero, suc, ◌==◌, leb, ltb, Bool, true, fa
 use Rattle.flow_link.specs.declared.draft.BlockDef.{BlockDef}
 use Rattle.flow_link.specs.declared.draft.LinkDef.{LinkDef}
 use Rattle.flow_link.specs.declared.draft.BlockKind.{BlockKind}
-use Rattle.flow_link.specs.declared.draft.BlockKind.TheVariants.{WriteOnce, Action, Transform, TransformMany, Batch, Join, BatchedJoin}
+use Rattle.flow_link.specs.declared.kinds.BlockUnit.{BlockUnit}
+use Rattle.flow_link.specs.declared.kinds.BlockUnit.TheVariants.{Message, Row, Tuple, Group, Copy, OneCopy}
+use Rattle.flow_link.specs.declared.kinds.OptionRule.{OptionRule}
 use Rattle.flow_link.specs.declared.plan.Link.{Link}
 use Rattle.flow_link.specs.declared.plan.LinkTarget.{LinkTarget}
 use Rattle.flow_link.specs.declared.plan.LinkTarget.TheVariants.{Port as at_port, Exit}
 use Rattle.flow_link.specs.declared.plan.Place.TheVariants.{Block, Link as at_link}
 use Rattle.flow_link.specs.declared.plan.PlanFault.{PlanFault}
 use Rattle.flow_link.specs.declared.plan.PlanFault.TheVariants.{Limit, DuplicateName, UnknownBlock, Port, NoOutput, BadOption, CapacityBelowSize, SharedSource, Cycle}
+pub use Rattle.flow_link.specs.Kinds.{allows, gives_nothing}
+use Rattle.flow_link.specs.Kinds.{unit_of, options_of, most_messages, most_lanes, largest_group, fewest_ports, most_ports}
 use Rattle.flow_lists.specs.Lists.{every, some, below}
 use Rattle.flow_link.specs.Plan.{port_count, is_reserving, block_in, link_in, begins_at, ends_at, ends_at_port, block_named, named_links}
 
@@ -23,56 +27,30 @@ is_name_byte c = is_between 65 90 c || is_between 97 122 c || is_between 48 57 c
 abbrev pub is_name : List ℕ → Bool
 is_name name = is_between 1 64 (length name) && every is_name_byte name
 
--- whether a key may be absent, must be there, or must not
-pub data Rule : Type 0 where
-  optional : Rule
-  required : Rule
-  forbidden : Rule
+-- whether an option stands with a kind
+abbrev pub input_rule : BlockKind → OptionRule
+input_rule kind = (options_of kind).input
 
-abbrev pub allows : Rule → Bool → Bool
-allows optional present = true
-allows required present = present
-allows forbidden present = not present
+abbrev pub output_rule : BlockKind → OptionRule
+output_rule kind = (options_of kind).output
 
-abbrev pub input_rule : BlockKind → Rule
-input_rule Join = forbidden
-input_rule BatchedJoin = forbidden
-input_rule _ = optional
+abbrev pub capacity_rule : BlockKind → OptionRule
+capacity_rule kind = (options_of kind).capacity
 
-abbrev pub output_rule : BlockKind → Rule
-output_rule Action = forbidden
-output_rule _ = optional
+abbrev pub work_rule : BlockKind → OptionRule
+work_rule kind = (options_of kind).work
 
-abbrev pub capacity_rule : BlockKind → Rule
-capacity_rule WriteOnce = forbidden
-capacity_rule BatchedJoin = forbidden
-capacity_rule _ = optional
+abbrev pub lanes_rule : BlockKind → OptionRule
+lanes_rule kind = (options_of kind).lanes
 
-abbrev pub work_rule : BlockKind → Rule
-work_rule Action = required
-work_rule Transform = required
-work_rule TransformMany = required
-work_rule _ = forbidden
+abbrev pub size_rule : BlockKind → OptionRule
+size_rule kind = (options_of kind).size
 
-abbrev pub lanes_rule : BlockKind → Rule
-lanes_rule Action = optional
-lanes_rule Transform = optional
-lanes_rule TransformMany = optional
-lanes_rule _ = forbidden
+abbrev pub ports_rule : BlockKind → OptionRule
+ports_rule kind = (options_of kind).ports
 
-abbrev pub size_rule : BlockKind → Rule
-size_rule Batch = required
-size_rule BatchedJoin = required
-size_rule _ = forbidden
-
-abbrev pub ports_rule : BlockKind → Rule
-ports_rule Join = optional
-ports_rule BatchedJoin = optional
-ports_rule _ = forbidden
-
-abbrev pub greedy_rule : BlockKind → Rule
-greedy_rule Join = optional
-greedy_rule _ = forbidden
+abbrev pub greedy_rule : BlockKind → OptionRule
+greedy_rule kind = (options_of kind).greedy
 
 -- a number that is there is in its range
 abbrev pub is_in : ℕ → ℕ → Option ℕ → Bool
@@ -94,18 +72,31 @@ module _ {W : Type 0} where
 
   abbrev pub ranges_fit : BlockDef W → Bool
   ranges_fit block =
-      is_in 1 2147483647 block.capacity
-      && is_in 1 16 block.lanes
-      && is_in 1 4096 block.size
-      && is_in 2 3 block.ports
+      is_in 1 most_messages block.capacity
+      && is_in 1 most_lanes block.lanes
+      && is_in 1 largest_group block.size
+      && is_in fewest_ports most_ports block.ports
 
   abbrev pub options_fit : BlockDef W → Bool
   options_fit block = is_name block.name && keys_fit block && ranges_fit block
 
+-- there is room for less than one group, where both are there
+abbrev pub is_less : Option ℕ → Option ℕ → Bool
+is_less (Some capacity) (Some size) = ltb capacity size
+is_less (Some capacity) None = false
+is_less None size = false
+
+abbrev pub lacks_room_by : BlockUnit → Option ℕ → Option ℕ → Bool
+lacks_room_by Message capacity size = false
+lacks_room_by Row capacity size = is_less capacity size
+lacks_room_by Tuple capacity size = false
+lacks_room_by Group capacity size = false
+lacks_room_by Copy capacity size = false
+lacks_room_by OneCopy capacity size = false
+
 -- a batch has no room for a group
 abbrev pub holds_no_group : BlockKind → Option ℕ → Option ℕ → Bool
-holds_no_group Batch (Some capacity) (Some size) = ltb capacity size
-holds_no_group _ _ _ = false
+holds_no_group kind capacity size = lacks_room_by (unit_of kind) capacity size
 
 -- some link leads from one block to another
 abbrev pub leads : List Link → ℕ → ℕ → Bool
@@ -122,11 +113,6 @@ abbrev pub shares_with : ℕ → ℕ → LinkTarget → List Link → Bool
 shares_with source b (at_port target port) links =
     target == b && some (λ other. begins_at source other.source && ends_at b other.target && not (ends_at_port b port other.target)) links
 shares_with source b Exit links = false
-
--- an action gives nothing on
-abbrev pub gives_nothing : BlockKind → Bool
-gives_nothing Action = true
-gives_nothing _ = false
 
 module _ {W : Type 0} (blocks : List (BlockDef W)) (links : List LinkDef) where
   abbrev pub resolved : List Link

@@ -7,14 +7,14 @@ ghost use Rattle.flow_link.specs.declared.plan.PlanFault.TheVariants.{Limit, Dup
 ghost use Rattle.flow_link.specs.Plan.{block_named, named_link, planned_links};
 ghost use Rattle.flow_link.specs.Planned.{layout_of};
 ghost use Rattle.flow_link.specs.Refusal.{IsWhy};
-ghost use Rattle.flow_link.specs.PlanFaults.{gives_nothing, holds_no_group, lacks_port, lacks_output, is_in, first_plan_fault};
+ghost use Rattle.flow_link.specs.PlanFaults.{holds_no_group, lacks_port, lacks_output, is_in, first_plan_fault};
 ghost use Rattle.flow_link.specs.NotBuilt.{first_fault_now, stands_now, first_at, name_faults, end_faults};
 ghost use Rattle.flow_link.specs.NotBuilt.{option_faults, is_bad_block};
 
 use crate::cycle::{MOST_BLOCKS, has_cycle};
-use crate::draft::{BlockDef, BlockKind, Draft, LinkDef};
+use crate::draft::{BlockDef, Draft, LinkDef};
 use crate::layout::{NO_LINK, name_links, planned_links};
-use crate::options::{holds_no_group, is_built_block, max_fits, options_fit, port_count};
+use crate::options::{holds_no_group, is_built_block, max_fits, options_fit};
 use crate::plan::{Place, Plan, PlanFault};
 use std::alloc::Global;
 use thiserror::Error;
@@ -200,7 +200,7 @@ fn lacks_port<W>(blocks: &[BlockDef<W>], link: &LinkDef) -> bool
     match block_named(blocks, link.to.as_str()) {
         Some(place) => {
             let target = &blocks[place];
-            port_count(target.kind, target.ports) <= link.port.unwrap_or(0)
+            target.kind.unit().port_count(target.ports) <= link.port.unwrap_or(0)
         }
         None => false,
     }
@@ -210,7 +210,7 @@ fn lacks_output<W>(blocks: &[BlockDef<W>], link: &LinkDef) -> bool
     ensures { result ≡ lacks_output blocks.now [] (block_named blocks.now link.now.from) }
 {
     match block_named(blocks, link.from.as_str()) {
-        Some(place) => gives_nothing(blocks[place].kind),
+        Some(place) => blocks[place].kind.gives_nothing(),
         None => false,
     }
 }
@@ -220,10 +220,4 @@ fn is_bad_block<W>(block: &BlockDef<W>) -> bool
     ensures { result ≡ is_bad_block block.now }
 {
     !options_fit(block) || !is_built_block(block)
-}
-
-fn gives_nothing(kind: BlockKind) -> bool
-    ensures { result ≡ gives_nothing kind }
-{
-    matches!(kind, BlockKind::Action)
 }

@@ -14,6 +14,7 @@ mod builder;
 mod check;
 mod cycle;
 mod draft;
+mod kinds;
 mod layout;
 mod options;
 mod phase;
@@ -26,6 +27,10 @@ mod traits;
 pub use builder::DraftRefused;
 pub use check::{PlanRefusal, plan_check};
 pub use draft::{BlockDef, BlockKind, Draft, LinkDef};
+pub use kinds::{
+    BlockUnit, FEWEST_PORTS, KindOptions, LARGEST_GROUP, MOST_LANES, MOST_MESSAGES, MOST_PORTS,
+    OptionRule,
+};
 pub use phase::{LinkEnd, Move, Phase, phase_of, step_of, word_of};
 pub use plan::{Link, LinkId, LinkSource, LinkTarget, Place, Plan, PlanFault};
 pub use posted::Posted;

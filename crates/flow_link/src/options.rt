@@ -1,25 +1,15 @@
-//! Which options each kind of block has, and their ranges.
+//! Whether the options of a block are those that its kind has, and in their ranges.
 ghost use Rattle.std.specs.Prelude.{◌≡◌};
 ghost use Rattle.std.specs.List.{list_all};
-ghost use Rattle.flow_link.specs.Plan.{ports_by_kind, reserves_by_kind};
-ghost use Rattle.flow_link.specs.PlanFaults.{is_between, is_name, is_name_byte, is_in, allows, input_rule, output_rule};
-ghost use Rattle.flow_link.specs.PlanFaults.{capacity_rule, work_rule, lanes_rule, size_rule, ports_rule, greedy_rule};
-ghost use Rattle.flow_link.specs.PlanFaults.{keys_fit, ranges_fit, options_fit, holds_no_group};
+ghost use Rattle.flow_link.specs.PlanFaults.{is_between, is_name, is_name_byte, is_in, keys_fit, ranges_fit};
+ghost use Rattle.flow_link.specs.PlanFaults.{options_fit, holds_no_group, is_less};
 ghost use Rattle.flow_link.specs.NotBuilt.{is_built_block};
 
 use crate::draft::{BlockDef, BlockKind};
+use crate::kinds::{BlockUnit, FEWEST_PORTS, LARGEST_GROUP, MOST_LANES, MOST_MESSAGES, MOST_PORTS};
 
 /// The most bytes that a name has.
 const LONGEST_NAME: usize = 64;
-
-/// The greatest capacity, and the greatest number of messages that may cross a link.
-const MOST_MESSAGES: u32 = 2_147_483_647;
-
-/// The most jobs that may run at once.
-const MOST_LANES: u32 = 16;
-
-/// The most messages that a group has.
-const LARGEST_GROUP: u32 = 4096;
 
 /// Whether the block's name and options are as its kind has them.
 pub fn options_fit<W>(block: &BlockDef<W>) -> bool
@@ -32,7 +22,7 @@ pub fn options_fit<W>(block: &BlockDef<W>) -> bool
 pub fn is_built_block<W>(block: &BlockDef<W>) -> bool
     ensures { result ≡ is_built_block block.now }
 {
-    !block.output && !reserves(block.kind, block.greedy)
+    !block.output && !block.kind.unit().reserves(block.greedy)
 }
 
 /// Whether the link's number of messages is in its range.
@@ -46,29 +36,23 @@ pub fn max_fits(max: Option<u32>) -> bool
 pub fn holds_no_group(kind: BlockKind, capacity: Option<u32>, size: Option<u32>) -> bool
     ensures { result ≡ holds_no_group kind capacity size }
 {
-    match (kind, capacity, size) {
-        (BlockKind::Batch, Some(capacity), Some(size)) => capacity < size,
-        _ => false,
+    match kind.unit() {
+        BlockUnit::Row => is_less(capacity, size),
+        BlockUnit::Message
+        | BlockUnit::Tuple
+        | BlockUnit::Group
+        | BlockUnit::Copy
+        | BlockUnit::OneCopy => false,
     }
 }
 
-/// How many ports a block of this kind has.
-pub fn port_count(kind: BlockKind, ports: Option<u32>) -> u32
-    ensures { result ≡ ports_by_kind kind ports }
+/// Whether there is room for less than one group, where both are told.
+fn is_less(capacity: Option<u32>, size: Option<u32>) -> bool
+    ensures { result ≡ is_less capacity size }
 {
-    match kind {
-        BlockKind::Join | BlockKind::BatchedJoin => ports.unwrap_or(2),
-        _ => 1,
-    }
-}
-
-/// Whether a block reserves its messages before it takes them.
-fn reserves(kind: BlockKind, greedy: Option<bool>) -> bool
-    ensures { result ≡ reserves_by_kind kind greedy }
-{
-    match kind {
-        BlockKind::Join => !greedy.unwrap_or(true),
-        _ => false,
+    match (capacity, size) {
+        (Some(capacity), Some(size)) => capacity < size,
+        (Some(_), None) | (None, _) => false,
     }
 }
 
@@ -99,14 +83,15 @@ fn is_name_byte(byte: u8) -> bool
 fn keys_fit<W>(block: &BlockDef<W>) -> bool
     ensures { result ≡ keys_fit block.now }
 {
-    input_fits(block.kind, block.input)
-        && output_fits(block.kind, block.output)
-        && capacity_fits(block.kind, block.capacity.is_some())
-        && work_fits(block.kind, block.work.is_some())
-        && lanes_fit(block.kind, block.lanes.is_some())
-        && size_fits(block.kind, block.size.is_some())
-        && ports_fit(block.kind, block.ports.is_some())
-        && greedy_fits(block.kind, block.greedy.is_some())
+    let rules = block.kind.options();
+    rules.input.allows(block.input)
+        && rules.output.allows(block.output)
+        && rules.capacity.allows(block.capacity.is_some())
+        && rules.work.allows(block.work.is_some())
+        && rules.lanes.allows(block.lanes.is_some())
+        && rules.size.allows(block.size.is_some())
+        && rules.ports.allows(block.ports.is_some())
+        && rules.greedy.allows(block.greedy.is_some())
 }
 
 fn ranges_fit<W>(block: &BlockDef<W>) -> bool
@@ -115,79 +100,7 @@ fn ranges_fit<W>(block: &BlockDef<W>) -> bool
     is_in(1, MOST_MESSAGES, block.capacity)
         && is_in(1, MOST_LANES, block.lanes)
         && is_in(1, LARGEST_GROUP, block.size)
-        && is_in(2, 3, block.ports)
-}
-
-fn input_fits(kind: BlockKind, present: bool) -> bool
-    ensures { result ≡ allows (input_rule kind) present }
-{
-    match kind {
-        BlockKind::Join | BlockKind::BatchedJoin => !present,
-        _ => true,
-    }
-}
-
-fn output_fits(kind: BlockKind, present: bool) -> bool
-    ensures { result ≡ allows (output_rule kind) present }
-{
-    match kind {
-        BlockKind::Action => !present,
-        _ => true,
-    }
-}
-
-fn capacity_fits(kind: BlockKind, present: bool) -> bool
-    ensures { result ≡ allows (capacity_rule kind) present }
-{
-    match kind {
-        BlockKind::WriteOnce | BlockKind::BatchedJoin => !present,
-        _ => true,
-    }
-}
-
-fn work_fits(kind: BlockKind, present: bool) -> bool
-    ensures { result ≡ allows (work_rule kind) present }
-{
-    match kind {
-        BlockKind::Action | BlockKind::Transform | BlockKind::TransformMany => present,
-        _ => !present,
-    }
-}
-
-fn lanes_fit(kind: BlockKind, present: bool) -> bool
-    ensures { result ≡ allows (lanes_rule kind) present }
-{
-    match kind {
-        BlockKind::Action | BlockKind::Transform | BlockKind::TransformMany => true,
-        _ => !present,
-    }
-}
-
-fn size_fits(kind: BlockKind, present: bool) -> bool
-    ensures { result ≡ allows (size_rule kind) present }
-{
-    match kind {
-        BlockKind::Batch | BlockKind::BatchedJoin => present,
-        _ => !present,
-    }
-}
-
-fn ports_fit(kind: BlockKind, present: bool) -> bool
-    ensures { result ≡ allows (ports_rule kind) present }
-{
-    match kind {
-        BlockKind::Join | BlockKind::BatchedJoin => true,
-        _ => !present,
-    }
-}
-
-fn greedy_fits(kind: BlockKind, present: bool) -> bool
-    ensures { result ≡ allows (greedy_rule kind) present }
-{
-    match kind {
-        BlockKind::Join => true,
-        _ => !present,
-    }
+        && is_in(FEWEST_PORTS, MOST_PORTS, block.ports)
 }
 
 /// Whether a number that is there is in its range.
