@@ -1,4 +1,5 @@
 pub mod Dues
+pub mod Engine
 pub mod Events
 pub mod Happened
 pub mod Net

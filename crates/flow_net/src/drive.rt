@@ -1,13 +1,8 @@
 //! Drives a network with a crew: blocks with several lanes have their jobs run by other threads, and all else is done here.
 //! Whatever the crew leaves undone, `settle` does.
 ghost use Rattle.std.specs.Prelude.{◌≡◌, ◌≢◌, ◌<◌, ◌≤◌, length, IfOk, IfErr, OnErr, Err};
-ghost use Rattle.flow_link.specs.Planned.{layout_of};
-ghost use Rattle.flow_core.specs.Events.{Enabled, NetEvent};
-ghost use Rattle.flow_core.specs.Keeps.{NetKeeps};
-ghost use Rattle.flow_exec.specs.Works.{works_of};
-ghost use Rattle.flow_net.specs.Happened.{Happened};
-ghost use Rattle.flow_net.specs.Settles.{Settles, GoesOn};
-ghost use Rattle.flow_net.specs.There.{NeedsId};
+ghost use Rattle.flow_core.specs.Events.{NetEvent};
+ghost use Rattle.flow_net.specs.Engine.{EnabledIn, GoesOnIn, HasDone, InOrder, NeedsIdIn, SettlesIn};
 ghost use Rattle.flow_net.specs.declared.fault.NetFault.TheVariants.{NotEnabled, Ids};
 
 use crate::agenda::Spot;
@@ -31,15 +26,11 @@ impl<W: Work> Engine<W> {
         workers: usize,
         limit: u64,
     ) -> Result<Settled, NetFault>
-        requires kept { ∥ NetKeeps (layout_of self.old.plan) (works_of W.meaning (layout_of self.old.plan))
-            self.old.parts ∥₁ }
+        requires kept { InOrder W.meaning self.old }
         ensures same_plan { self.new.plan ≡ self.old.plan }
-        ensures settled { IfOk result (Settles (layout_of self.old.plan)
-            (works_of W.meaning (layout_of self.old.plan)) limit self.old.parts self.new.parts) }
-        ensures goes_on { GoesOn (layout_of self.old.plan) (works_of W.meaning (layout_of self.old.plan)) limit
-            self.old.parts self.new.parts }
-        ensures used_up { result ≡ Err Ids → NeedsId (layout_of self.new.plan)
-            (works_of W.meaning (layout_of self.new.plan)) self.new.parts }
+        ensures settled { IfOk result (SettlesIn W.meaning limit self.old self.new) }
+        ensures goes_on { GoesOnIn W.meaning limit self.old self.new }
+        ensures used_up { result ≡ Err Ids → NeedsIdIn W.meaning self.new }
         ensures never { result ≢ Err NotEnabled }
     {
         let done = self.work_with(rt, alloc, workers, limit);
@@ -55,11 +46,9 @@ impl<W: Work> Engine<W> {
         workers: usize,
         limit: u64,
     ) -> u64
-        requires kept { ∥ NetKeeps (layout_of self.old.plan) (works_of W.meaning (layout_of self.old.plan))
-            self.old.parts ∥₁ }
+        requires kept { InOrder W.meaning self.old }
         ensures same_plan { self.new.plan ≡ self.old.plan }
-        ensures happened { Happened (layout_of self.old.plan) (works_of W.meaning (layout_of self.old.plan)) result
-            self.old.parts self.new.parts }
+        ensures happened { HasDone W.meaning result self.old self.new }
         ensures within { result ≤ limit }
     {
         let room = room_of(&self.plan);
@@ -87,11 +76,9 @@ impl<W: Work> Engine<W> {
         threads: usize,
         limit: u64,
     ) -> u64
-        requires kept { ∥ NetKeeps (layout_of self.old.plan) (works_of W.meaning (layout_of self.old.plan))
-            self.old.parts ∥₁ }
+        requires kept { InOrder W.meaning self.old }
         ensures same_plan { self.new.plan ≡ self.old.plan }
-        ensures happened { Happened (layout_of self.old.plan) (works_of W.meaning (layout_of self.old.plan)) result
-            self.old.parts self.new.parts }
+        ensures happened { HasDone W.meaning result self.old self.new }
         ensures within { result ≤ limit }
     {
         let alone = self.drive(rt, alloc, &mut desk, limit);
@@ -115,11 +102,9 @@ impl<W: Work> Engine<W> {
     /// Drives the network until nothing is left to do, an event fails, a crew is wanted, or so many events are done.
     /// Answers how many are.
     fn drive<R: Wait>(&mut self, rt: &R, alloc: Global, desk: &mut Desk<W>, limit: u64) -> u64
-        requires kept { ∥ NetKeeps (layout_of self.old.plan) (works_of W.meaning (layout_of self.old.plan))
-            self.old.parts ∥₁ }
+        requires kept { InOrder W.meaning self.old }
         ensures same_plan { self.new.plan ≡ self.old.plan }
-        ensures happened { Happened (layout_of self.old.plan) (works_of W.meaning (layout_of self.old.plan)) result
-            self.old.parts self.new.parts }
+        ensures happened { HasDone W.meaning result self.old self.new }
         ensures within { result ≤ limit }
     {
         let mut rest = limit;
@@ -143,12 +128,10 @@ impl<W: Work> Engine<W> {
         desk: &mut Desk<W>,
         most: u64,
     ) -> Result<u64, NetFault>
-        requires kept { ∥ NetKeeps (layout_of self.old.plan) (works_of W.meaning (layout_of self.old.plan))
-            self.old.parts ∥₁ }
+        requires kept { InOrder W.meaning self.old }
         requires some { 0 < most }
         ensures same_plan { self.new.plan ≡ self.old.plan }
-        ensures happened { IfOk result (λ count. Happened (layout_of self.old.plan)
-            (works_of W.meaning (layout_of self.old.plan)) count self.old.parts self.new.parts) }
+        ensures happened { IfOk result (λ count. HasDone W.meaning count self.old self.new) }
         ensures within { IfOk result (λ count. count ≤ most) }
         ensures kept { OnErr result (self.new.parts ≡ self.old.parts) }
     {
@@ -166,11 +149,9 @@ impl<W: Work> Engine<W> {
 
     /// Takes the result of a job, if the network takes it. Answers how many events that is.
     fn take_report(&mut self, report: Report<W>) -> u64
-        requires kept { ∥ NetKeeps (layout_of self.old.plan) (works_of W.meaning (layout_of self.old.plan))
-            self.old.parts ∥₁ }
+        requires kept { InOrder W.meaning self.old }
         ensures same_plan { self.new.plan ≡ self.old.plan }
-        ensures happened { Happened (layout_of self.old.plan) (works_of W.meaning (layout_of self.old.plan)) result
-            self.old.parts self.new.parts }
+        ensures happened { HasDone W.meaning result self.old self.new }
         ensures within { result ≤ 1 }
     {
         let Report { number, done } = report;
@@ -185,12 +166,10 @@ impl<W: Work> Engine<W> {
 
     /// Does what would happen next at a spot, with what follows at once.
     fn work_at(&mut self, alloc: Global, spot: Spot, most: u64) -> Result<u64, NetFault>
-        requires kept { ∥ NetKeeps (layout_of self.old.plan) (works_of W.meaning (layout_of self.old.plan))
-            self.old.parts ∥₁ }
+        requires kept { InOrder W.meaning self.old }
         requires some { 0 < most }
         ensures same_plan { self.new.plan ≡ self.old.plan }
-        ensures happened { IfOk result (λ count. Happened (layout_of self.old.plan)
-            (works_of W.meaning (layout_of self.old.plan)) count self.old.parts self.new.parts) }
+        ensures happened { IfOk result (λ count. HasDone W.meaning count self.old self.new) }
         ensures within { IfOk result (λ count. count ≤ most) }
         ensures kept { OnErr result (self.new.parts ≡ self.old.parts) }
     {
@@ -209,12 +188,10 @@ impl<W: Work> Engine<W> {
         number: usize,
         most: u64,
     ) -> Result<u64, NetFault>
-        requires kept { ∥ NetKeeps (layout_of self.old.plan) (works_of W.meaning (layout_of self.old.plan))
-            self.old.parts ∥₁ }
+        requires kept { InOrder W.meaning self.old }
         requires some { 0 < most }
         ensures same_plan { self.new.plan ≡ self.old.plan }
-        ensures happened { IfOk result (λ count. Happened (layout_of self.old.plan)
-            (works_of W.meaning (layout_of self.old.plan)) count self.old.parts self.new.parts) }
+        ensures happened { IfOk result (λ count. HasDone W.meaning count self.old self.new) }
         ensures within { IfOk result (λ count. count ≤ most) }
         ensures kept { OnErr result (self.new.parts ≡ self.old.parts) }
     {
@@ -238,12 +215,10 @@ impl<W: Work> Engine<W> {
         desk: &mut Desk<W>,
         number: usize,
     ) -> Result<u64, NetFault>
-        requires kept { ∥ NetKeeps (layout_of self.old.plan) (works_of W.meaning (layout_of self.old.plan))
-            self.old.parts ∥₁ }
-        requires enabled { Enabled (layout_of self.old.plan) self.old.parts (NetEvent.begin number) }
+        requires kept { InOrder W.meaning self.old }
+        requires enabled { EnabledIn self.old (NetEvent.begin number) }
         ensures same_plan { self.new.plan ≡ self.old.plan }
-        ensures happened { IfOk result (λ count. Happened (layout_of self.old.plan)
-            (works_of W.meaning (layout_of self.old.plan)) count self.old.parts self.new.parts) }
+        ensures happened { IfOk result (λ count. HasDone W.meaning count self.old self.new) }
         ensures within { IfOk result (λ count. count ≤ 1) }
         ensures kept { OnErr result (self.new.parts ≡ self.old.parts) }
     {
@@ -261,12 +236,10 @@ impl<W: Work> Engine<W> {
         desk: &mut Desk<W>,
         most: u64,
     ) -> Result<u64, NetFault>
-        requires kept { ∥ NetKeeps (layout_of self.old.plan) (works_of W.meaning (layout_of self.old.plan))
-            self.old.parts ∥₁ }
+        requires kept { InOrder W.meaning self.old }
         requires some { 0 < most }
         ensures same_plan { self.new.plan ≡ self.old.plan }
-        ensures happened { IfOk result (λ count. Happened (layout_of self.old.plan)
-            (works_of W.meaning (layout_of self.old.plan)) count self.old.parts self.new.parts) }
+        ensures happened { IfOk result (λ count. HasDone W.meaning count self.old self.new) }
         ensures within { IfOk result (λ count. count ≤ most) }
         ensures kept { OnErr result (self.new.parts ≡ self.old.parts) }
     {
@@ -297,20 +270,16 @@ fn drive_beside<W: Work, R: Threads + Wait + Sync>(
     threads: usize,
     limit: u64,
 ) -> u64
-    requires kept { ∥ NetKeeps (layout_of engine.old.plan) (works_of W.meaning (layout_of engine.old.plan))
-        engine.old.parts ∥₁ }
+    requires kept { InOrder W.meaning engine.old }
     ensures same_plan { engine.new.plan ≡ engine.old.plan }
-    ensures happened { Happened (layout_of engine.old.plan) (works_of W.meaning (layout_of engine.old.plan)) result
-        engine.old.parts engine.new.parts }
+    ensures happened { HasDone W.meaning result engine.old engine.new }
     ensures within { result ≤ limit }
 {
     let mut desk = Some(desk);
     let mut driver = || -> u64
-        requires { ∥ NetKeeps (layout_of engine.now.plan) (works_of W.meaning (layout_of engine.now.plan))
-            engine.now.parts ∥₁ }
+        requires { InOrder W.meaning engine.now }
         ensures { (engine.exit.now.plan ≡ engine.entry.now.plan)
-            × Happened (layout_of engine.entry.now.plan) (works_of W.meaning (layout_of engine.entry.now.plan)) result
-            engine.entry.now.parts engine.exit.now.parts × (result ≤ limit) }
+            × HasDone W.meaning result engine.entry.now engine.exit.now × (result ≤ limit) }
     {
         match desk.take() {
             Some(mut desk) => engine.drive(rt, alloc, &mut desk, limit),

@@ -3,15 +3,9 @@ ghost use Rattle.std.specs.Prelude.{◌≡◌, ◌≢◌, [], map, length, IfOk,
 ghost use Rattle.flow_lists.specs.Lists.{below};
 ghost use Rattle.flow_link.specs.Planned.{layout_of};
 ghost use Rattle.flow_block.specs.Routes.{route_of};
-ghost use Rattle.flow_core.specs.Events.{Enabled, MayHappen, NetEvent, after};
-ghost use Rattle.flow_core.specs.Keeps.{NetKeeps};
+ghost use Rattle.flow_core.specs.Events.{NetEvent};
 ghost use Rattle.flow_core.specs.State.{node_at};
-ghost use Rattle.flow_exec.specs.Works.{works_of};
-ghost use Rattle.flow_net.specs.Dues.{IsEnd, IsEndOfJob};
-ghost use Rattle.flow_net.specs.Dues.{event_of};
-ghost use Rattle.flow_net.specs.Happened.{Happened};
-ghost use Rattle.flow_net.specs.Settles.{Settles, GoesOn};
-ghost use Rattle.flow_net.specs.There.{IsDue, IsWhyNot, NeedsId};
+ghost use Rattle.flow_net.specs.Dues.{IsEnd, IsEndOfJob, event_of};
 ghost use Rattle.flow_net.specs.declared.fault.NetFault.TheVariants.{NotEnabled, Ids, Memory};
 
 use crate::agenda::Agenda;
@@ -36,15 +30,15 @@ pub(crate) struct Engine<W> {
 }
 
 impl<W: Runs> Engine<W> {
+    ghost use Rattle.flow_net.specs.Engine.{EnabledIn, GoesOnIn, HasDone, InOrder, IsDueIn, IsWhyNotIn, MayHappenIn};
+    ghost use Rattle.flow_net.specs.Engine.{NeedsIdIn, SettlesIn, parts_after};
+
     /// Does an event that is due: a link's move.
     fn move_link(&mut self, alloc: Global, id: usize, next: &Move) -> Result<(), NetFault>
-        requires kept { ∥ NetKeeps (layout_of self.old.plan) (works_of W.meaning (layout_of self.old.plan))
-            self.old.parts ∥₁ }
-        requires due { IsDue (layout_of self.old.plan) (works_of W.meaning (layout_of self.old.plan)) self.old.parts
-            (NetEvent.at_link id next.now) }
+        requires kept { InOrder W.meaning self.old }
+        requires due { IsDueIn W.meaning self.old (NetEvent.at_link id next.now) }
         ensures same_plan { self.new.plan ≡ self.old.plan }
-        ensures done { OnOk result (self.new.parts ≡ after (layout_of self.old.plan)
-            (works_of W.meaning (layout_of self.old.plan)) (NetEvent.at_link id next.now) self.old.parts) }
+        ensures done { OnOk result (self.new.parts ≡ parts_after W.meaning self.old (NetEvent.at_link id next.now)) }
         ensures kept { OnErr result (self.new.parts ≡ self.old.parts) }
         ensures memory { IfErr result (λ fault. fault ≡ Memory) }
     {
@@ -58,19 +52,14 @@ impl<W: Runs> Engine<W> {
 
     /// Does an event that is due: a block without a function makes its next outputs.
     pub(crate) fn make(&mut self, alloc: Global, number: usize) -> Result<(), NetFault>
-        requires kept { ∥ NetKeeps (layout_of self.old.plan) (works_of W.meaning (layout_of self.old.plan))
-            self.old.parts ∥₁ }
-        requires enabled { Enabled (layout_of self.old.plan) self.old.parts (NetEvent.make number) }
+        requires kept { InOrder W.meaning self.old }
+        requires enabled { EnabledIn self.old (NetEvent.make number) }
         ensures same_plan { self.new.plan ≡ self.old.plan }
-        ensures may { OnOk result (MayHappen (layout_of self.old.plan) (works_of W.meaning (layout_of self.old.plan))
-            (NetEvent.make number) self.old.parts) }
-        ensures done { OnOk result (self.new.parts ≡ after (layout_of self.old.plan)
-            (works_of W.meaning (layout_of self.old.plan)) (NetEvent.make number) self.old.parts) }
+        ensures may { OnOk result (MayHappenIn W.meaning self.old (NetEvent.make number)) }
+        ensures done { OnOk result (self.new.parts ≡ parts_after W.meaning self.old (NetEvent.make number)) }
         ensures kept { OnErr result (self.new.parts ≡ self.old.parts) }
-        ensures used_up { result ≡ Err Ids → MayHappen (layout_of self.old.plan)
-            (works_of W.meaning (layout_of self.old.plan)) (NetEvent.make number) self.old.parts → ⊥ }
-        ensures memory { result ≡ Err Memory → MayHappen (layout_of self.old.plan)
-            (works_of W.meaning (layout_of self.old.plan)) (NetEvent.make number) self.old.parts }
+        ensures used_up { result ≡ Err Ids → MayHappenIn W.meaning self.old (NetEvent.make number) → ⊥ }
+        ensures memory { result ≡ Err Memory → MayHappenIn W.meaning self.old (NetEvent.make number) }
         ensures never { result ≢ Err NotEnabled }
     {
         self.parts.make(alloc, number)?;
@@ -79,12 +68,10 @@ impl<W: Runs> Engine<W> {
 
     /// Does an event that is due: a block works on one more of the messages that it holds.
     fn begin(&mut self, number: usize) -> Result<(), NetFault>
-        requires kept { ∥ NetKeeps (layout_of self.old.plan) (works_of W.meaning (layout_of self.old.plan))
-            self.old.parts ∥₁ }
-        requires enabled { Enabled (layout_of self.old.plan) self.old.parts (NetEvent.begin number) }
+        requires kept { InOrder W.meaning self.old }
+        requires enabled { EnabledIn self.old (NetEvent.begin number) }
         ensures same_plan { self.new.plan ≡ self.old.plan }
-        ensures done { OnOk result (self.new.parts ≡ after (layout_of self.old.plan)
-            (works_of W.meaning (layout_of self.old.plan)) (NetEvent.begin number) self.old.parts) }
+        ensures done { OnOk result (self.new.parts ≡ parts_after W.meaning self.old (NetEvent.begin number)) }
         ensures kept { OnErr result (self.new.parts ≡ self.old.parts) }
         ensures memory { IfErr result (λ fault. fault ≡ Memory) }
     {
@@ -94,17 +81,13 @@ impl<W: Runs> Engine<W> {
 
     /// Does an event that is due: the message of a job is worked on, and its result comes back.
     fn finish_job(&mut self, alloc: Global, number: usize, ticket: u64) -> Result<(), NetFault>
-        requires kept { ∥ NetKeeps (layout_of self.old.plan) (works_of W.meaning (layout_of self.old.plan))
-            self.old.parts ∥₁ }
-        requires enabled { Enabled (layout_of self.old.plan) self.old.parts (NetEvent.end_job number ticket) }
+        requires kept { InOrder W.meaning self.old }
+        requires enabled { EnabledIn self.old (NetEvent.end_job number ticket) }
         ensures same_plan { self.new.plan ≡ self.old.plan }
-        ensures may { OnOk result (MayHappen (layout_of self.old.plan) (works_of W.meaning (layout_of self.old.plan))
-            (NetEvent.end_job number ticket) self.old.parts) }
-        ensures done { OnOk result (self.new.parts ≡ after (layout_of self.old.plan)
-            (works_of W.meaning (layout_of self.old.plan)) (NetEvent.end_job number ticket) self.old.parts) }
+        ensures may { OnOk result (MayHappenIn W.meaning self.old (NetEvent.end_job number ticket)) }
+        ensures done { OnOk result (self.new.parts ≡ parts_after W.meaning self.old (NetEvent.end_job number ticket)) }
         ensures kept { OnErr result (self.new.parts ≡ self.old.parts) }
-        ensures used_up { result ≡ Err Ids → MayHappen (layout_of self.old.plan)
-            (works_of W.meaning (layout_of self.old.plan)) (NetEvent.end_job number ticket) self.old.parts → ⊥ }
+        ensures used_up { result ≡ Err Ids → MayHappenIn W.meaning self.old (NetEvent.end_job number ticket) → ⊥ }
         ensures never { result ≢ Err NotEnabled }
     {
         let work = self.plan.block(number).work.as_ref();
@@ -115,13 +98,11 @@ impl<W: Runs> Engine<W> {
     /// Does two events, of which the first is due: a block that works on nothing begins to work on the message that
     /// waits longest, and the result comes back.
     pub(crate) fn work(&mut self, alloc: Global, number: usize) -> Result<(), NetFault>
-        requires kept { ∥ NetKeeps (layout_of self.old.plan) (works_of W.meaning (layout_of self.old.plan))
-            self.old.parts ∥₁ }
-        requires enabled { Enabled (layout_of self.old.plan) self.old.parts (NetEvent.begin number) }
+        requires kept { InOrder W.meaning self.old }
+        requires enabled { EnabledIn self.old (NetEvent.begin number) }
         requires idle { (node_at self.old.parts number).block.jobs.slots ≡ [] }
         ensures same_plan { self.new.plan ≡ self.old.plan }
-        ensures happened { OnOk result (Happened (layout_of self.old.plan)
-            (works_of W.meaning (layout_of self.old.plan)) 2 self.old.parts self.new.parts) }
+        ensures happened { OnOk result (HasDone W.meaning 2 self.old self.new) }
         ensures kept { OnErr result (self.new.parts ≡ self.old.parts) }
         ensures never { result ≢ Err NotEnabled }
     {
@@ -132,13 +113,11 @@ impl<W: Runs> Engine<W> {
 
     /// Does an event that is due: a port completes, or a block stops.
     fn end(&mut self, event: &Due) -> Result<(), NetFault>
-        requires kept { ∥ NetKeeps (layout_of self.old.plan) (works_of W.meaning (layout_of self.old.plan))
-            self.old.parts ∥₁ }
-        requires enabled { Enabled (layout_of self.old.plan) self.old.parts (event_of event.now) }
+        requires kept { InOrder W.meaning self.old }
+        requires enabled { EnabledIn self.old (event_of event.now) }
         requires end { IsEnd event.now }
         ensures same_plan { self.new.plan ≡ self.old.plan }
-        ensures done { OnOk result (self.new.parts ≡ after (layout_of self.old.plan)
-            (works_of W.meaning (layout_of self.old.plan)) (event_of event.now) self.old.parts) }
+        ensures done { OnOk result (self.new.parts ≡ parts_after W.meaning self.old (event_of event.now)) }
         ensures kept { OnErr result (self.new.parts ≡ self.old.parts) }
         ensures memory { IfErr result (λ fault. fault ≡ Memory) }
     {
@@ -157,20 +136,14 @@ impl<W: Runs> Engine<W> {
 
     /// Does an event that is due.
     fn carry_out(&mut self, alloc: Global, event: &Due) -> Result<(), NetFault>
-        requires kept { ∥ NetKeeps (layout_of self.old.plan) (works_of W.meaning (layout_of self.old.plan))
-            self.old.parts ∥₁ }
-        requires due { IsDue (layout_of self.old.plan) (works_of W.meaning (layout_of self.old.plan)) self.old.parts
-            (event_of event.now) }
+        requires kept { InOrder W.meaning self.old }
+        requires due { IsDueIn W.meaning self.old (event_of event.now) }
         ensures same_plan { self.new.plan ≡ self.old.plan }
-        ensures may { OnOk result (MayHappen (layout_of self.old.plan) (works_of W.meaning (layout_of self.old.plan))
-            (event_of event.now) self.old.parts) }
-        ensures done { OnOk result (self.new.parts ≡ after (layout_of self.old.plan)
-            (works_of W.meaning (layout_of self.old.plan)) (event_of event.now) self.old.parts) }
+        ensures may { OnOk result (MayHappenIn W.meaning self.old (event_of event.now)) }
+        ensures done { OnOk result (self.new.parts ≡ parts_after W.meaning self.old (event_of event.now)) }
         ensures kept { OnErr result (self.new.parts ≡ self.old.parts) }
-        ensures used_up { result ≡ Err Ids → MayHappen (layout_of self.old.plan)
-            (works_of W.meaning (layout_of self.old.plan)) (event_of event.now) self.old.parts → ⊥ }
-        ensures memory { result ≡ Err Memory → (IsEndOfJob event.now → ⊥) → MayHappen (layout_of self.old.plan)
-            (works_of W.meaning (layout_of self.old.plan)) (event_of event.now) self.old.parts }
+        ensures used_up { result ≡ Err Ids → MayHappenIn W.meaning self.old (event_of event.now) → ⊥ }
+        ensures memory { result ≡ Err Memory → (IsEndOfJob event.now → ⊥) → MayHappenIn W.meaning self.old (event_of event.now) }
         ensures never { result ≢ Err NotEnabled }
     {
         match *event {
@@ -184,20 +157,14 @@ impl<W: Runs> Engine<W> {
 
     /// Does an event that is due, and lists where something may be able to happen after it.
     pub(crate) fn go(&mut self, alloc: Global, event: &Due) -> Result<(), NetFault>
-        requires kept { ∥ NetKeeps (layout_of self.old.plan) (works_of W.meaning (layout_of self.old.plan))
-            self.old.parts ∥₁ }
-        requires due { IsDue (layout_of self.old.plan) (works_of W.meaning (layout_of self.old.plan)) self.old.parts
-            (event_of event.now) }
+        requires kept { InOrder W.meaning self.old }
+        requires due { IsDueIn W.meaning self.old (event_of event.now) }
         ensures same_plan { self.new.plan ≡ self.old.plan }
-        ensures may { OnOk result (MayHappen (layout_of self.old.plan) (works_of W.meaning (layout_of self.old.plan))
-            (event_of event.now) self.old.parts) }
-        ensures done { OnOk result (self.new.parts ≡ after (layout_of self.old.plan)
-            (works_of W.meaning (layout_of self.old.plan)) (event_of event.now) self.old.parts) }
+        ensures may { OnOk result (MayHappenIn W.meaning self.old (event_of event.now)) }
+        ensures done { OnOk result (self.new.parts ≡ parts_after W.meaning self.old (event_of event.now)) }
         ensures kept { OnErr result (self.new.parts ≡ self.old.parts) }
-        ensures used_up { result ≡ Err Ids → MayHappen (layout_of self.old.plan)
-            (works_of W.meaning (layout_of self.old.plan)) (event_of event.now) self.old.parts → ⊥ }
-        ensures memory { result ≡ Err Memory → (IsEndOfJob event.now → ⊥) → MayHappen (layout_of self.old.plan)
-            (works_of W.meaning (layout_of self.old.plan)) (event_of event.now) self.old.parts }
+        ensures used_up { result ≡ Err Ids → MayHappenIn W.meaning self.old (event_of event.now) → ⊥ }
+        ensures memory { result ≡ Err Memory → (IsEndOfJob event.now → ⊥) → MayHappenIn W.meaning self.old (event_of event.now) }
         ensures never { result ≢ Err NotEnabled }
     {
         self.carry_out(alloc, event)?;
@@ -207,19 +174,14 @@ impl<W: Runs> Engine<W> {
 
     /// Does this event, if it may happen. It is no result that comes back: for that see `end_job`.
     pub(crate) fn event(&mut self, alloc: Global, event: &Due) -> Result<(), NetFault>
-        requires kept { ∥ NetKeeps (layout_of self.old.plan) (works_of W.meaning (layout_of self.old.plan))
-            self.old.parts ∥₁ }
+        requires kept { InOrder W.meaning self.old }
         requires driven { IsEndOfJob event.now → ⊥ }
         ensures same_plan { self.new.plan ≡ self.old.plan }
-        ensures may { OnOk result (MayHappen (layout_of self.old.plan) (works_of W.meaning (layout_of self.old.plan))
-            (event_of event.now) self.old.parts) }
-        ensures done { OnOk result (self.new.parts ≡ after (layout_of self.old.plan)
-            (works_of W.meaning (layout_of self.old.plan)) (event_of event.now) self.old.parts) }
+        ensures may { OnOk result (MayHappenIn W.meaning self.old (event_of event.now)) }
+        ensures done { OnOk result (self.new.parts ≡ parts_after W.meaning self.old (event_of event.now)) }
         ensures kept { OnErr result (self.new.parts ≡ self.old.parts) }
-        ensures why { IfErr result (IsWhyNot (layout_of self.old.plan) (works_of W.meaning (layout_of self.old.plan))
-            self.old.parts (event_of event.now)) }
-        ensures goes_on { GoesOn (layout_of self.old.plan) (works_of W.meaning (layout_of self.old.plan)) 1
-            self.old.parts self.new.parts }
+        ensures why { IfErr result (IsWhyNotIn W.meaning self.old (event_of event.now)) }
+        ensures goes_on { GoesOnIn W.meaning 1 self.old self.new }
     {
         if self.is_due(event) {
             self.go(alloc, event)
@@ -230,15 +192,11 @@ impl<W: Runs> Engine<W> {
 
     /// Does events until nothing may happen any more, or as many as the limit are done.
     pub(crate) fn settle(&mut self, alloc: Global, limit: u64) -> Result<Settled, NetFault>
-        requires kept { ∥ NetKeeps (layout_of self.old.plan) (works_of W.meaning (layout_of self.old.plan))
-            self.old.parts ∥₁ }
+        requires kept { InOrder W.meaning self.old }
         ensures same_plan { self.new.plan ≡ self.old.plan }
-        ensures settled { IfOk result (Settles (layout_of self.old.plan)
-            (works_of W.meaning (layout_of self.old.plan)) limit self.old.parts self.new.parts) }
-        ensures goes_on { GoesOn (layout_of self.old.plan) (works_of W.meaning (layout_of self.old.plan)) limit
-            self.old.parts self.new.parts }
-        ensures used_up { result ≡ Err Ids → NeedsId (layout_of self.new.plan)
-            (works_of W.meaning (layout_of self.new.plan)) self.new.parts }
+        ensures settled { IfOk result (SettlesIn W.meaning limit self.old self.new) }
+        ensures goes_on { GoesOnIn W.meaning limit self.old self.new }
+        ensures used_up { result ≡ Err Ids → NeedsIdIn W.meaning self.new }
         ensures never { result ≢ Err NotEnabled }
     {
         let mut rest = limit;

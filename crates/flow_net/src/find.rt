@@ -5,17 +5,14 @@ ghost use Rattle.flow_link.specs.Plan.{block_in};
 ghost use Rattle.flow_block.specs.Peeks.{may_complete};
 ghost use Rattle.flow_block.specs.Planned.{input_place};
 ghost use Rattle.flow_block.specs.Routes.{route_of};
-ghost use Rattle.flow_core.specs.Events.{Enabled, NetEvent};
-ghost use Rattle.flow_core.specs.Keeps.{NetKeeps};
+ghost use Rattle.flow_core.specs.Events.{NetEvent};
 ghost use Rattle.flow_core.specs.State.{node_at};
-ghost use Rattle.flow_core.specs.Statements.{IsStill};
 ghost use Rattle.flow_moves.specs.Statements.{HasNothingToDo, LinkIsIdle};
 ghost use Rattle.flow_moves.specs.Ways.{input_in};
-ghost use Rattle.flow_exec.specs.Works.{works_of};
-ghost use Rattle.flow_net.specs.Dues.{IsOwn};
-ghost use Rattle.flow_net.specs.Dues.{event_of};
+ghost use Rattle.flow_net.specs.Dues.{IsOwn, event_of};
+ghost use Rattle.flow_net.specs.Engine.{EnabledIn, InOrder, IsDueIn, IsStillIn, LinkHasIdIn, NeedsIdIn};
 ghost use Rattle.flow_net.specs.Opens.{IsOpen};
-ghost use Rattle.flow_net.specs.There.{IsDue, LinkHasId, NeedsId, OffersAnId};
+ghost use Rattle.flow_net.specs.There.{OffersAnId};
 ghost use Rattle.flow_net.specs.declared.fault.NetFault.TheVariants.{Ids};
 
 use crate::agenda::Spot;
@@ -39,8 +36,7 @@ impl<W: Runs> Engine<W> {
     /// The input of a block, if it is one. It counts the inputs before it.
     pub(crate) fn input(&self, block: usize) -> Option<&Input>
         requires known { block < length (layout_of self.now.plan).blocks }
-        requires kept { ∥ NetKeeps (layout_of self.now.plan) (works_of W.meaning (layout_of self.now.plan))
-            self.now.parts ∥₁ }
+        requires kept { InOrder W.meaning self.now }
         ensures there { is_some result ≡ (block_in (layout_of self.now.plan).blocks block).input }
         ensures its { IfSome result (λ input. input.now ≡ input_in self.now.parts
             (input_place (layout_of self.now.plan) block)) }
@@ -61,11 +57,9 @@ impl<W: Runs> Engine<W> {
     /// nobody can name its offer.
     fn is_next(&self, id: usize, next: Move) -> bool
         requires known { id < length (layout_of self.now.plan).links }
-        requires kept { ∥ NetKeeps (layout_of self.now.plan) (works_of W.meaning (layout_of self.now.plan))
-            self.now.parts ∥₁ }
-        ensures told { IsTrue result ↔ Enabled (layout_of self.now.plan) self.now.parts (NetEvent.at_link id next) }
-        ensures id { IsTrue result → LinkHasId (layout_of self.now.plan) (works_of W.meaning (layout_of self.now.plan))
-            self.now.parts (NetEvent.at_link id next) }
+        requires kept { InOrder W.meaning self.now }
+        ensures told { IsTrue result ↔ EnabledIn self.now (NetEvent.at_link id next) }
+        ensures id { IsTrue result → LinkHasIdIn W.meaning self.now (NetEvent.at_link id next) }
     {
         let route = self.route(id);
         if !is_of_source(&next) {
@@ -80,10 +74,9 @@ impl<W: Runs> Engine<W> {
 
     /// Whether a block would do this by itself.
     fn is_own(&self, event: &Due) -> bool
-        requires kept { ∥ NetKeeps (layout_of self.now.plan) (works_of W.meaning (layout_of self.now.plan))
-            self.now.parts ∥₁ }
+        requires kept { InOrder W.meaning self.now }
         requires own { IsOwn event.now }
-        ensures { IsTrue result ↔ Enabled (layout_of self.now.plan) self.now.parts (event_of event.now) }
+        ensures { IsTrue result ↔ EnabledIn self.now (event_of event.now) }
     {
         let count = self.plan.block_count();
         match *event {
@@ -104,9 +97,8 @@ impl<W: Runs> Engine<W> {
     /// Whether a block would work on one more message.
     pub(crate) fn may_begin(&self, number: usize) -> bool
         requires known { number < length (layout_of self.now.plan).blocks }
-        requires kept { ∥ NetKeeps (layout_of self.now.plan) (works_of W.meaning (layout_of self.now.plan))
-            self.now.parts ∥₁ }
-        ensures { IsTrue result ↔ Enabled (layout_of self.now.plan) self.now.parts (NetEvent.begin number) }
+        requires kept { InOrder W.meaning self.now }
+        ensures { IsTrue result ↔ EnabledIn self.now (NetEvent.begin number) }
     {
         self.parts.node(number).block().may_begin()
     }
@@ -114,9 +106,8 @@ impl<W: Runs> Engine<W> {
     /// Whether a port of a block would complete.
     fn may_complete(&self, number: usize, port: u32) -> bool
         requires known { number < length (layout_of self.now.plan).blocks }
-        requires kept { ∥ NetKeeps (layout_of self.now.plan) (works_of W.meaning (layout_of self.now.plan))
-            self.now.parts ∥₁ }
-        ensures { IsTrue result ↔ Enabled (layout_of self.now.plan) self.now.parts (NetEvent.complete number port) }
+        requires kept { InOrder W.meaning self.now }
+        ensures { IsTrue result ↔ EnabledIn self.now (NetEvent.complete number port) }
     {
         let block = self.parts.node(number).block();
         (port as usize) < block.port_count() && block.may_complete(port as usize)
@@ -124,11 +115,9 @@ impl<W: Runs> Engine<W> {
 
     /// Whether this event is due.
     pub(crate) fn is_due(&self, event: &Due) -> bool
-        requires kept { ∥ NetKeeps (layout_of self.now.plan) (works_of W.meaning (layout_of self.now.plan))
-            self.now.parts ∥₁ }
-        ensures told { IsTrue result ↔ Enabled (layout_of self.now.plan) self.now.parts (event_of event.now) }
-        ensures id { IsTrue result → LinkHasId (layout_of self.now.plan) (works_of W.meaning (layout_of self.now.plan))
-            self.now.parts (event_of event.now) }
+        requires kept { InOrder W.meaning self.now }
+        ensures told { IsTrue result ↔ EnabledIn self.now (event_of event.now) }
+        ensures id { IsTrue result → LinkHasIdIn W.meaning self.now (event_of event.now) }
     {
         match *event {
             Due::Link(id, next) => id < self.plan.link_count() && self.is_next(id, next),
@@ -140,14 +129,11 @@ impl<W: Runs> Engine<W> {
     #[inline(always)]
     pub(crate) fn event_at_link(&self, id: usize) -> Result<Option<Due>, NetFault>
         requires known { id < length (layout_of self.now.plan).links }
-        requires kept { ∥ NetKeeps (layout_of self.now.plan) (works_of W.meaning (layout_of self.now.plan))
-            self.now.parts ∥₁ }
-        ensures due { IfOk result (λ next. IfSome next (λ event. IsDue (layout_of self.now.plan)
-            (works_of W.meaning (layout_of self.now.plan)) self.now.parts (event_of event))) }
+        requires kept { InOrder W.meaning self.now }
+        ensures due { IfOk result (λ next. IfSome next (λ event. IsDueIn W.meaning self.now (event_of event))) }
         ensures none { IfOk result (λ next. IfNone next (LinkIsIdle (layout_of self.now.plan) self.now.parts id)) }
         ensures ids { IfErr result (λ fault. fault ≡ Ids) }
-        ensures needed { IfErr result (λ fault. NeedsId (layout_of self.now.plan)
-            (works_of W.meaning (layout_of self.now.plan)) self.now.parts) }
+        ensures needed { IfErr result (λ fault. NeedsIdIn W.meaning self.now) }
     {
         let route = self.route(id);
         if self.parts.lacks_id(route) {
@@ -165,10 +151,8 @@ impl<W: Runs> Engine<W> {
     /// What a block would do next by itself.
     fn event_at_block(&self, number: usize) -> Option<Due>
         requires known { number < length (layout_of self.now.plan).blocks }
-        requires kept { ∥ NetKeeps (layout_of self.now.plan) (works_of W.meaning (layout_of self.now.plan))
-            self.now.parts ∥₁ }
-        ensures due { IfSome result (λ event. IsDue (layout_of self.now.plan)
-            (works_of W.meaning (layout_of self.now.plan)) self.now.parts (event_of event)) }
+        requires kept { InOrder W.meaning self.now }
+        ensures due { IfSome result (λ event. IsDueIn W.meaning self.now (event_of event)) }
         ensures none { IfNone result (HasNothingToDo (node_at self.now.parts number).block) }
     {
         let block = self.parts.node(number).block();
@@ -186,8 +170,7 @@ impl<W: Runs> Engine<W> {
     /// The first port of a block that would complete.
     fn port_to_complete(&self, number: usize) -> Option<u32>
         requires known { number < length (layout_of self.now.plan).blocks }
-        requires kept { ∥ NetKeeps (layout_of self.now.plan) (works_of W.meaning (layout_of self.now.plan))
-            self.now.parts ∥₁ }
+        requires kept { InOrder W.meaning self.now }
         ensures there { IfSome result (λ port. port < length (node_at self.now.parts number).block.ports) }
         ensures completes { IfSome result (λ port. may_complete port (node_at self.now.parts number).block ≡ true) }
         ensures none { IfNone result ((port : ℕ) → port < length (node_at self.now.parts number).block.ports →
@@ -205,10 +188,8 @@ impl<W: Runs> Engine<W> {
     /// How a block would end next: one of its ports, or itself.
     fn end_of_block(&self, number: usize) -> Option<Due>
         requires known { number < length (layout_of self.now.plan).blocks }
-        requires kept { ∥ NetKeeps (layout_of self.now.plan) (works_of W.meaning (layout_of self.now.plan))
-            self.now.parts ∥₁ }
-        ensures due { IfSome result (λ event. IsDue (layout_of self.now.plan)
-            (works_of W.meaning (layout_of self.now.plan)) self.now.parts (event_of event)) }
+        requires kept { InOrder W.meaning self.now }
+        ensures due { IfSome result (λ event. IsDueIn W.meaning self.now (event_of event)) }
         ensures none { IfNone result (IsOpen (node_at self.now.parts number).block) }
     {
         let block = self.parts.node(number).block();
@@ -226,10 +207,8 @@ impl<W: Runs> Engine<W> {
     /// What a block would do next, but for its messages: it ends, or something happens at the links beside it.
     pub(crate) fn event_but_work(&self, number: usize) -> Result<Option<Due>, NetFault>
         requires known { number < length (layout_of self.now.plan).blocks }
-        requires kept { ∥ NetKeeps (layout_of self.now.plan) (works_of W.meaning (layout_of self.now.plan))
-            self.now.parts ∥₁ }
-        ensures due { IfOk result (λ next. IfSome next (λ event. IsDue (layout_of self.now.plan)
-            (works_of W.meaning (layout_of self.now.plan)) self.now.parts (event_of event))) }
+        requires kept { InOrder W.meaning self.now }
+        ensures due { IfOk result (λ next. IfSome next (λ event. IsDueIn W.meaning self.now (event_of event))) }
     {
         match self.end_of_block(number) {
             Some(event) => Ok(Some(event)),
@@ -239,13 +218,10 @@ impl<W: Runs> Engine<W> {
 
     /// The event that would happen next at this spot.
     pub(crate) fn event_at(&self, spot: Spot) -> Result<Option<Due>, NetFault>
-        requires kept { ∥ NetKeeps (layout_of self.now.plan) (works_of W.meaning (layout_of self.now.plan))
-            self.now.parts ∥₁ }
-        ensures due { IfOk result (λ next. IfSome next (λ event. IsDue (layout_of self.now.plan)
-            (works_of W.meaning (layout_of self.now.plan)) self.now.parts (event_of event))) }
+        requires kept { InOrder W.meaning self.now }
+        ensures due { IfOk result (λ next. IfSome next (λ event. IsDueIn W.meaning self.now (event_of event))) }
         ensures ids { IfErr result (λ fault. fault ≡ Ids) }
-        ensures needed { IfErr result (λ fault. NeedsId (layout_of self.now.plan)
-            (works_of W.meaning (layout_of self.now.plan)) self.now.parts) }
+        ensures needed { IfErr result (λ fault. NeedsIdIn W.meaning self.now) }
     {
         match spot {
             Spot::Link(id) if id < self.plan.link_count() => self.event_at_link(id),
@@ -262,13 +238,10 @@ impl<W: Runs> Engine<W> {
     /// The event that would happen next at the links over which a block would offer or consume next.
     fn event_beside(&self, number: usize) -> Result<Option<Due>, NetFault>
         requires known { number < length (layout_of self.now.plan).blocks }
-        requires kept { ∥ NetKeeps (layout_of self.now.plan) (works_of W.meaning (layout_of self.now.plan))
-            self.now.parts ∥₁ }
-        ensures due { IfOk result (λ next. IfSome next (λ event. IsDue (layout_of self.now.plan)
-            (works_of W.meaning (layout_of self.now.plan)) self.now.parts (event_of event))) }
+        requires kept { InOrder W.meaning self.now }
+        ensures due { IfOk result (λ next. IfSome next (λ event. IsDueIn W.meaning self.now (event_of event))) }
         ensures ids { IfErr result (λ fault. fault ≡ Ids) }
-        ensures needed { IfErr result (λ fault. NeedsId (layout_of self.now.plan)
-            (works_of W.meaning (layout_of self.now.plan)) self.now.parts) }
+        ensures needed { IfErr result (λ fault. NeedsIdIn W.meaning self.now) }
     {
         let count = self.plan.link_count();
         let block = self.parts.node(number).block();
@@ -284,15 +257,12 @@ impl<W: Runs> Engine<W> {
 
     /// The first event that would happen at a link.
     fn event_at_links(&self) -> Result<Option<Due>, NetFault>
-        requires kept { ∥ NetKeeps (layout_of self.now.plan) (works_of W.meaning (layout_of self.now.plan))
-            self.now.parts ∥₁ }
-        ensures due { IfOk result (λ next. IfSome next (λ event. IsDue (layout_of self.now.plan)
-            (works_of W.meaning (layout_of self.now.plan)) self.now.parts (event_of event))) }
+        requires kept { InOrder W.meaning self.now }
+        ensures due { IfOk result (λ next. IfSome next (λ event. IsDueIn W.meaning self.now (event_of event))) }
         ensures none { IfOk result (λ next. IfNone next ((l : ℕ) → l < length (layout_of self.now.plan).links →
             LinkIsIdle (layout_of self.now.plan) self.now.parts l)) }
         ensures ids { IfErr result (λ fault. fault ≡ Ids) }
-        ensures needed { IfErr result (λ fault. NeedsId (layout_of self.now.plan)
-            (works_of W.meaning (layout_of self.now.plan)) self.now.parts) }
+        ensures needed { IfErr result (λ fault. NeedsIdIn W.meaning self.now) }
     {
         for id in 0..self.plan.link_count() {
             if let Some(event) = self.event_at_link(id)? {
@@ -304,10 +274,8 @@ impl<W: Runs> Engine<W> {
 
     /// The first event that a block would do by itself.
     fn event_at_blocks(&self) -> Option<Due>
-        requires kept { ∥ NetKeeps (layout_of self.now.plan) (works_of W.meaning (layout_of self.now.plan))
-            self.now.parts ∥₁ }
-        ensures due { IfSome result (λ event. IsDue (layout_of self.now.plan)
-            (works_of W.meaning (layout_of self.now.plan)) self.now.parts (event_of event)) }
+        requires kept { InOrder W.meaning self.now }
+        ensures due { IfSome result (λ event. IsDueIn W.meaning self.now (event_of event)) }
         ensures none { IfNone result ((b : ℕ) → b < length (layout_of self.now.plan).blocks →
             HasNothingToDo (node_at self.now.parts b).block) }
     {
@@ -321,15 +289,11 @@ impl<W: Runs> Engine<W> {
 
     /// An event that is due, looked for everywhere.
     fn find_event(&self) -> Result<Option<Due>, NetFault>
-        requires kept { ∥ NetKeeps (layout_of self.now.plan) (works_of W.meaning (layout_of self.now.plan))
-            self.now.parts ∥₁ }
-        ensures due { IfOk result (λ next. IfSome next (λ event. IsDue (layout_of self.now.plan)
-            (works_of W.meaning (layout_of self.now.plan)) self.now.parts (event_of event))) }
-        ensures none { IfOk result (λ next. IfNone next (IsStill (layout_of self.now.plan)
-            (works_of W.meaning (layout_of self.now.plan)) self.now.parts)) }
+        requires kept { InOrder W.meaning self.now }
+        ensures due { IfOk result (λ next. IfSome next (λ event. IsDueIn W.meaning self.now (event_of event))) }
+        ensures none { IfOk result (λ next. IfNone next (IsStillIn W.meaning self.now)) }
         ensures ids { IfErr result (λ fault. fault ≡ Ids) }
-        ensures needed { IfErr result (λ fault. NeedsId (layout_of self.now.plan)
-            (works_of W.meaning (layout_of self.now.plan)) self.now.parts) }
+        ensures needed { IfErr result (λ fault. NeedsIdIn W.meaning self.now) }
     {
         match self.event_at_links()? {
             Some(event) => Ok(Some(event)),
@@ -339,17 +303,13 @@ impl<W: Runs> Engine<W> {
 
     /// An event that is due: at a spot of the agenda if there is one there, and else anywhere.
     pub(crate) fn next_event(&mut self) -> Result<Option<Due>, NetFault>
-        requires kept { ∥ NetKeeps (layout_of self.old.plan) (works_of W.meaning (layout_of self.old.plan))
-            self.old.parts ∥₁ }
+        requires kept { InOrder W.meaning self.old }
         ensures same_plan { self.new.plan ≡ self.old.plan }
         ensures same_parts { self.new.parts ≡ self.old.parts }
-        ensures due { IfOk result (λ next. IfSome next (λ event. IsDue (layout_of self.old.plan)
-            (works_of W.meaning (layout_of self.old.plan)) self.old.parts (event_of event))) }
-        ensures none { IfOk result (λ next. IfNone next (IsStill (layout_of self.old.plan)
-            (works_of W.meaning (layout_of self.old.plan)) self.old.parts)) }
+        ensures due { IfOk result (λ next. IfSome next (λ event. IsDueIn W.meaning self.old (event_of event))) }
+        ensures none { IfOk result (λ next. IfNone next (IsStillIn W.meaning self.old)) }
         ensures ids { IfErr result (λ fault. fault ≡ Ids) }
-        ensures needed { IfErr result (λ fault. NeedsId (layout_of self.old.plan)
-            (works_of W.meaning (layout_of self.old.plan)) self.old.parts) }
+        ensures needed { IfErr result (λ fault. NeedsIdIn W.meaning self.old) }
     {
         while let Some(spot) = self.agenda.take() {
             if let Some(event) = self.event_at(spot)? {
@@ -361,10 +321,8 @@ impl<W: Runs> Engine<W> {
 
     /// Whether nothing may happen any more.
     pub(crate) fn is_quiet(&self) -> bool
-        requires kept { ∥ NetKeeps (layout_of self.now.plan) (works_of W.meaning (layout_of self.now.plan))
-            self.now.parts ∥₁ }
-        ensures { IsTrue result ↔ IsStill (layout_of self.now.plan) (works_of W.meaning (layout_of self.now.plan))
-            self.now.parts }
+        requires kept { InOrder W.meaning self.now }
+        ensures { IsTrue result ↔ IsStillIn W.meaning self.now }
     {
         match self.find_event() {
             Ok(next) => next.is_none(),

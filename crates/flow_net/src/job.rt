@@ -8,12 +8,10 @@ ghost use Rattle.flow_block.specs.Peeks.{may_end};
 ghost use Rattle.flow_exec.specs.Execution.{SameWork, next_message, next_ticket};
 ghost use Rattle.flow_exec.specs.Jobs.{work_in, kind_in, message_in, ticket_in};
 ghost use Rattle.flow_exec.specs.Results.{job_in};
-ghost use Rattle.flow_exec.specs.Works.{works_of};
-ghost use Rattle.flow_core.specs.Events.{Enabled, HasIds, MayHappen, NetEvent, after};
-ghost use Rattle.flow_core.specs.Keeps.{NetKeeps};
+ghost use Rattle.flow_core.specs.Events.{NetEvent};
 ghost use Rattle.flow_core.specs.State.{node_at};
+ghost use Rattle.flow_net.specs.Engine.{EnabledIn, HasIdsIn, InOrder, IsWhyNotIn, MayHappenIn, parts_after};
 ghost use Rattle.flow_net.specs.OwnJobs.{IsOwnJob, IsNextJob};
-ghost use Rattle.flow_net.specs.There.{IsWhyNot};
 ghost use Rattle.flow_net.specs.declared.fault.NetFault.TheVariants.{NotEnabled, Ids, Memory};
 
 use crate::due::Due;
@@ -27,17 +25,13 @@ use std::sync::Arc;
 impl<W: Runs> Engine<W> {
     /// Begins a job of a block, if it may.
     pub(crate) fn begin_job(&mut self, alloc: Global, number: usize) -> Result<Job<W>, NetFault>
-        requires kept { ∥ NetKeeps (layout_of self.old.plan) (works_of W.meaning (layout_of self.old.plan))
-            self.old.parts ∥₁ }
+        requires kept { InOrder W.meaning self.old }
         ensures same_plan { self.new.plan ≡ self.old.plan }
-        ensures may { OnOk result (MayHappen (layout_of self.old.plan) (works_of W.meaning (layout_of self.old.plan))
-            (NetEvent.begin number) self.old.parts) }
-        ensures done { OnOk result (self.new.parts ≡ after (layout_of self.old.plan)
-            (works_of W.meaning (layout_of self.old.plan)) (NetEvent.begin number) self.old.parts) }
+        ensures may { OnOk result (MayHappenIn W.meaning self.old (NetEvent.begin number)) }
+        ensures done { OnOk result (self.new.parts ≡ parts_after W.meaning self.old (NetEvent.begin number)) }
         ensures next { IfOk result (IsNextJob W.eq (layout_of self.old.plan) self.old.parts number) }
         ensures kept { OnErr result (self.new.parts ≡ self.old.parts) }
-        ensures why { IfErr result (IsWhyNot (layout_of self.old.plan) (works_of W.meaning (layout_of self.old.plan))
-            self.old.parts (NetEvent.begin number)) }
+        ensures why { IfErr result (IsWhyNotIn W.meaning self.old (NetEvent.begin number)) }
     {
         if !self.is_due(&Due::Begin(number)) {
             return Err(NetFault::NotEnabled);
@@ -69,21 +63,17 @@ impl<W: Runs> Engine<W> {
         number: usize,
         work: Option<Arc<W, Global>>,
     ) -> Result<Job<W>, NetFault>
-        requires kept { ∥ NetKeeps (layout_of self.old.plan) (works_of W.meaning (layout_of self.old.plan))
-            self.old.parts ∥₁ }
-        requires enabled { Enabled (layout_of self.old.plan) self.old.parts (NetEvent.begin number) }
+        requires kept { InOrder W.meaning self.old }
+        requires enabled { EnabledIn self.old (NetEvent.begin number) }
         ensures same_plan { self.new.plan ≡ self.old.plan }
-        ensures may { OnOk result (MayHappen (layout_of self.old.plan) (works_of W.meaning (layout_of self.old.plan))
-            (NetEvent.begin number) self.old.parts) }
-        ensures done { OnOk result (self.new.parts ≡ after (layout_of self.old.plan)
-            (works_of W.meaning (layout_of self.old.plan)) (NetEvent.begin number) self.old.parts) }
+        ensures may { OnOk result (MayHappenIn W.meaning self.old (NetEvent.begin number)) }
+        ensures done { OnOk result (self.new.parts ≡ parts_after W.meaning self.old (NetEvent.begin number)) }
         ensures ticket { IfOk result (λ job. ticket_in job ≡ next_ticket (node_at self.old.parts number).block) }
         ensures message { IfOk result (λ job. message_in job ≡ next_message (node_at self.old.parts number).block) }
         ensures kind { IfOk result (λ job. kind_in job ≡ (node_at self.old.parts number).block.kind) }
         ensures work { IfOk result (λ job. work_in job ≡ option_map (λ work. arc_value work) work) }
         ensures kept { OnErr result (self.new.parts ≡ self.old.parts) }
-        ensures why { IfErr result (IsWhyNot (layout_of self.old.plan) (works_of W.meaning (layout_of self.old.plan))
-            self.old.parts (NetEvent.begin number)) }
+        ensures why { IfErr result (IsWhyNotIn W.meaning self.old (NetEvent.begin number)) }
     {
         let job = self.job_of(alloc, number, work)?;
         self.go(alloc, &Due::Begin(number))?;
@@ -97,9 +87,8 @@ impl<W: Runs> Engine<W> {
         number: usize,
         work: Option<Arc<W, Global>>,
     ) -> Result<Job<W>, AllocError>
-        requires kept { ∥ NetKeeps (layout_of self.now.plan) (works_of W.meaning (layout_of self.now.plan))
-            self.now.parts ∥₁ }
-        requires enabled { Enabled (layout_of self.now.plan) self.now.parts (NetEvent.begin number) }
+        requires kept { InOrder W.meaning self.now }
+        requires enabled { EnabledIn self.now (NetEvent.begin number) }
         ensures ticket { IfOk result (λ job. ticket_in job ≡ next_ticket (node_at self.now.parts number).block) }
         ensures message { IfOk result (λ job. message_in job ≡ next_message (node_at self.now.parts number).block) }
         ensures kind { IfOk result (λ job. kind_in job ≡ (node_at self.now.parts number).block.kind) }
@@ -119,14 +108,10 @@ impl<W: Runs> Engine<W> {
         number: usize,
         done: JobResult<W>,
     ) -> Result<(), (JobResult<W>, NetFault)>
-        requires kept { ∥ NetKeeps (layout_of self.old.plan) (works_of W.meaning (layout_of self.old.plan))
-            self.old.parts ∥₁ }
+        requires kept { InOrder W.meaning self.old }
         ensures same_plan { self.new.plan ≡ self.old.plan }
-        ensures may { OnOk result (MayHappen (layout_of self.old.plan) (works_of W.meaning (layout_of self.old.plan))
-            (NetEvent.end_job number (ticket_in (job_in done))) self.old.parts) }
-        ensures done { OnOk result (self.new.parts ≡ after (layout_of self.old.plan)
-            (works_of W.meaning (layout_of self.old.plan)) (NetEvent.end_job number (ticket_in (job_in done)))
-            self.old.parts) }
+        ensures may { OnOk result (MayHappenIn W.meaning self.old (NetEvent.end_job number (ticket_in (job_in done)))) }
+        ensures done { OnOk result (self.new.parts ≡ parts_after W.meaning self.old (NetEvent.end_job number (ticket_in (job_in done)))) }
         ensures kept { OnErr result (self.new.parts ≡ self.old.parts) }
         ensures back { IfErr result (λ refused. refused.0 ≡ done) }
         ensures own { OnOk result (IsOwnJob W.eq (layout_of self.old.plan) self.old.parts number (job_in done)) }
@@ -135,11 +120,9 @@ impl<W: Runs> Engine<W> {
         ensures refused_own { IfErr result (λ refused. refused.1 ≢ NotEnabled →
             IsOwnJob W.eq (layout_of self.old.plan) self.old.parts number (job_in done)) }
         ensures used_up { IfErr result (λ refused. refused.1 ≡ Ids →
-            HasIds (layout_of self.old.plan) (works_of W.meaning (layout_of self.old.plan))
-            (NetEvent.end_job number (ticket_in (job_in done))) self.old.parts → ⊥) }
+            HasIdsIn W.meaning self.old (NetEvent.end_job number (ticket_in (job_in done))) → ⊥) }
         ensures ids { IfErr result (λ refused. refused.1 ≡ Memory →
-            HasIds (layout_of self.old.plan) (works_of W.meaning (layout_of self.old.plan))
-            (NetEvent.end_job number (ticket_in (job_in done))) self.old.parts) }
+            HasIdsIn W.meaning self.old (NetEvent.end_job number (ticket_in (job_in done)))) }
     {
         if !self.is_own_job(number, done.job()) {
             return Err((done, NetFault::NotEnabled));
@@ -157,8 +140,7 @@ impl<W: Runs> Engine<W> {
 
     /// Whether this job of a block is out: its message is the one of that ticket, and its work is the block's.
     fn is_own_job(&self, number: usize, job: &Job<W>) -> bool
-        requires kept { ∥ NetKeeps (layout_of self.now.plan) (works_of W.meaning (layout_of self.now.plan))
-            self.now.parts ∥₁ }
+        requires kept { InOrder W.meaning self.now }
         ensures { IsTrue result ↔ IsOwnJob W.eq (layout_of self.now.plan) self.now.parts number job.now }
     {
         number < self.plan.block_count() && self.is_out(number, job) && self.has_work(number, job)
@@ -166,8 +148,7 @@ impl<W: Runs> Engine<W> {
 
     /// Whether this job is of a message of a block on which that works.
     fn is_out(&self, number: usize, job: &Job<W>) -> bool
-        requires kept { ∥ NetKeeps (layout_of self.now.plan) (works_of W.meaning (layout_of self.now.plan))
-            self.now.parts ∥₁ }
+        requires kept { InOrder W.meaning self.now }
         requires known { number < length (layout_of self.now.plan).blocks }
         ensures out { IsTrue result → may_end (ticket_in job.now) (node_at self.now.parts number).block ≡ true }
         ensures kind { IsTrue result → kind_in job.now ≡ (node_at self.now.parts number).block.kind }

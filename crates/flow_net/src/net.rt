@@ -3,9 +3,8 @@ ghost use Rattle.std.specs.Prelude.{◌≡◌, ◌<◌, ◌++◌, length, IfSome
 ghost use Rattle.flow_link.specs.Planned.{layout_of};
 ghost use Rattle.flow_block.specs.Node.{left_in};
 ghost use Rattle.flow_block.specs.Peeks.{is_complete};
-ghost use Rattle.flow_core.specs.Keeps.{NetKeeps};
-ghost use Rattle.flow_exec.specs.Works.{works_of};
 ghost use Rattle.flow_net.specs.Dues.{event_of};
+ghost use Rattle.flow_net.specs.Engine.{InOrder};
 ghost use Rattle.flow_net.specs.Events.{net_event, IsOfJob};
 ghost use Rattle.flow_net.specs.States.{state_told};
 
@@ -28,7 +27,7 @@ use std::thread::Threads;
 #[derive(Drop)]
 pub struct Net<W: Runs> {
     pub(crate) engine: Engine<W>,
-    ghost kept: { ∥ NetKeeps (layout_of engine.plan) (works_of W.meaning (layout_of engine.plan)) engine.parts ∥₁ },
+    ghost kept: { InOrder W.meaning engine },
 }
 
 impl<W: Runs> Net<W> {
@@ -39,13 +38,10 @@ impl<W: Runs> Net<W> {
     ghost use Rattle.flow_link.specs.Trace.{block_of, input_of, marks_of, held_at, left_at, trace_of};
     ghost use Rattle.flow_link.specs.Plan.{port_count};
     ghost use Rattle.flow_core.specs.AtRest.{AtRest};
-    ghost use Rattle.flow_core.specs.Events.{MayHappen, after};
-    ghost use Rattle.flow_core.specs.Statements.{IsStill};
-    ghost use Rattle.flow_net.specs.Events.{Answers, IsOfOwnJob, IsRefused};
-    ghost use Rattle.flow_net.specs.Net.{layout_in, parts_of, run_of};
+    ghost use Rattle.flow_net.specs.Events.{Answers, IsOfOwnJob};
+    ghost use Rattle.flow_net.specs.Net.{NetGoesOn, NetIsStill, NetMayHappen, NetNeedsId, NetRefuses, NetSettles, NetWhyNot};
+    ghost use Rattle.flow_net.specs.Net.{layout_in, net_after, parts_of, run_of};
     ghost use Rattle.flow_net.specs.States.{state_by};
-    ghost use Rattle.flow_net.specs.Settles.{Settles, GoesOn};
-    ghost use Rattle.flow_net.specs.There.{IsWhyNot, NeedsId};
     ghost use Rattle.flow_net.specs.declared.fault.NetFault.TheVariants.{NotEnabled, Ids};
     ghost use Rattle.flow_net.specs.declared.settled.Settled.TheVariants as Settled;
 
@@ -53,15 +49,12 @@ impl<W: Runs> Net<W> {
     /// were done stay.
     pub fn settle(&mut self, alloc: Global, limit: u64) -> Result<Settled, NetFault>
         ensures same_plan { layout_in self.new ≡ layout_in self.old }
-        ensures settled { IfOk result (Settles (layout_in self.old) (works_of W.meaning (layout_in self.old)) limit
-            (parts_of self.old) (parts_of self.new)) }
-        ensures goes_on { GoesOn (layout_in self.old) (works_of W.meaning (layout_in self.old)) limit
-            (parts_of self.old) (parts_of self.new) }
+        ensures settled { IfOk result (NetSettles W.meaning limit self.old self.new) }
+        ensures goes_on { NetGoesOn W.meaning limit self.old self.new }
         ensures lawful { Lawful (run_of W.meaning self.new) }
         ensures quiet { result ≡ Ok Settled.Quiet → Quiet (run_of W.meaning self.new) }
         ensures at_rest { result ≡ Ok Settled.Quiet → AtRest (layout_in self.new) (parts_of self.new) }
-        ensures used_up { result ≡ Err Ids → NeedsId (layout_in self.new) (works_of W.meaning (layout_in self.new))
-            (parts_of self.new) }
+        ensures used_up { result ≡ Err Ids → NetNeedsId W.meaning self.new }
         ensures never { result ≢ Err NotEnabled }
         ensures same_inputs { (run_of W.meaning self.new).trace.inputs ≡ (run_of W.meaning self.old).trace.inputs }
     {
@@ -77,15 +70,12 @@ impl<W: Runs> Net<W> {
         event: Event<W>,
     ) -> Result<Stepped<W>, (Event<W>, NetFault)>
         ensures same_plan { layout_in self.new ≡ layout_in self.old }
-        ensures enabled { OnOk result (MayHappen (layout_in self.old) (works_of W.meaning (layout_in self.old))
-            (net_event event) (parts_of self.old)) }
-        ensures moved { OnOk result (parts_of self.new ≡ after (layout_in self.old)
-            (works_of W.meaning (layout_in self.old)) (net_event event) (parts_of self.old)) }
+        ensures enabled { OnOk result (NetMayHappen W.meaning self.old (net_event event)) }
+        ensures moved { OnOk result (parts_of self.new ≡ net_after W.meaning self.old (net_event event)) }
         ensures answers { IfOk result (Answers W.eq (layout_in self.old) (parts_of self.old) event) }
         ensures own { OnOk result (IsOfOwnJob W.eq (layout_in self.old) (parts_of self.old) event) }
         ensures kept { OnErr result (parts_of self.new ≡ parts_of self.old) }
-        ensures why { IfErr result (λ refused. IsRefused W.eq (layout_in self.old)
-            (works_of W.meaning (layout_in self.old)) (parts_of self.old) event refused.1) }
+        ensures why { IfErr result (λ refused. NetRefuses W.eq W.meaning self.old event refused.1) }
         ensures back { IfErr result (λ refused. refused.0 ≡ event) }
         ensures lawful { Lawful (run_of W.meaning self.new) }
         ensures same_inputs { (run_of W.meaning self.new).trace.inputs ≡ (run_of W.meaning self.old).trace.inputs }
@@ -104,15 +94,12 @@ impl<W: Runs> Net<W> {
     ) -> Result<Stepped<W>, (Event<W>, NetFault)>
         requires job { IsOfJob event }
         ensures same_plan { layout_in self.new ≡ layout_in self.old }
-        ensures enabled { OnOk result (MayHappen (layout_in self.old) (works_of W.meaning (layout_in self.old))
-            (net_event event) (parts_of self.old)) }
-        ensures moved { OnOk result (parts_of self.new ≡ after (layout_in self.old)
-            (works_of W.meaning (layout_in self.old)) (net_event event) (parts_of self.old)) }
+        ensures enabled { OnOk result (NetMayHappen W.meaning self.old (net_event event)) }
+        ensures moved { OnOk result (parts_of self.new ≡ net_after W.meaning self.old (net_event event)) }
         ensures answers { IfOk result (Answers W.eq (layout_in self.old) (parts_of self.old) event) }
         ensures own { OnOk result (IsOfOwnJob W.eq (layout_in self.old) (parts_of self.old) event) }
         ensures kept { OnErr result (parts_of self.new ≡ parts_of self.old) }
-        ensures why { IfErr result (λ refused. IsRefused W.eq (layout_in self.old)
-            (works_of W.meaning (layout_in self.old)) (parts_of self.old) event refused.1) }
+        ensures why { IfErr result (λ refused. NetRefuses W.eq W.meaning self.old event refused.1) }
         ensures back { IfErr result (λ refused. refused.0 ≡ event) }
         ensures lawful { Lawful (run_of W.meaning self.new) }
         ensures same_inputs { (run_of W.meaning self.new).trace.inputs ≡ (run_of W.meaning self.old).trace.inputs }
@@ -140,14 +127,11 @@ impl<W: Runs> Net<W> {
         requires same { net_event event ≡ event_of due }
         requires driven { IsOfJob event → ⊥ }
         ensures same_plan { layout_in self.new ≡ layout_in self.old }
-        ensures enabled { OnOk result (MayHappen (layout_in self.old) (works_of W.meaning (layout_in self.old))
-            (event_of due) (parts_of self.old)) }
-        ensures moved { OnOk result (parts_of self.new ≡ after (layout_in self.old)
-            (works_of W.meaning (layout_in self.old)) (event_of due) (parts_of self.old)) }
+        ensures enabled { OnOk result (NetMayHappen W.meaning self.old (event_of due)) }
+        ensures moved { OnOk result (parts_of self.new ≡ net_after W.meaning self.old (event_of due)) }
         ensures answers { IfOk result (λ stepped. stepped ≡ Stepped.Moved) }
         ensures kept { OnErr result (parts_of self.new ≡ parts_of self.old) }
-        ensures why { IfErr result (λ refused. IsWhyNot (layout_in self.old) (works_of W.meaning (layout_in self.old))
-            (parts_of self.old) (event_of due) refused.1) }
+        ensures why { IfErr result (λ refused. NetWhyNot W.meaning self.old (event_of due) refused.1) }
         ensures back { IfErr result (λ refused. refused.0 ≡ event) }
         ensures lawful { Lawful (run_of W.meaning self.new) }
         ensures same_inputs { (run_of W.meaning self.new).trace.inputs ≡ (run_of W.meaning self.old).trace.inputs }
@@ -160,8 +144,7 @@ impl<W: Runs> Net<W> {
 
     /// Whether nothing may happen any more.
     pub fn is_quiet(&self) -> bool
-        ensures quiet { IsTrue result ↔ IsStill (layout_in self.now) (works_of W.meaning (layout_in self.now))
-            (parts_of self.now) }
+        ensures quiet { IsTrue result ↔ NetIsStill W.meaning self.now }
         ensures at_rest { IsTrue result → AtRest (layout_in self.now) (parts_of self.now) }
         ensures at_end { IsTrue result → Quiet (run_of W.meaning self.now) }
     {
@@ -237,9 +220,7 @@ impl<W: Work> Net<W> {
     ghost use Rattle.flow_lawful.specs.Lawful.{Lawful};
     ghost use Rattle.flow_lawful.specs.Quiet.{Quiet};
     ghost use Rattle.flow_core.specs.AtRest.{AtRest};
-    ghost use Rattle.flow_net.specs.Net.{layout_in, parts_of, run_of};
-    ghost use Rattle.flow_net.specs.Settles.{Settles, GoesOn};
-    ghost use Rattle.flow_net.specs.There.{NeedsId};
+    ghost use Rattle.flow_net.specs.Net.{NetGoesOn, NetNeedsId, NetSettles, layout_in, parts_of, run_of};
     ghost use Rattle.flow_net.specs.declared.fault.NetFault.TheVariants.{NotEnabled, Ids};
     ghost use Rattle.flow_net.specs.declared.settled.Settled.TheVariants as Settled;
 
@@ -264,15 +245,12 @@ impl<W: Work> Net<W> {
         limit: u64,
     ) -> Result<Settled, NetFault>
         ensures same_plan { layout_in self.new ≡ layout_in self.old }
-        ensures settled { IfOk result (Settles (layout_in self.old) (works_of W.meaning (layout_in self.old)) limit
-            (parts_of self.old) (parts_of self.new)) }
-        ensures goes_on { GoesOn (layout_in self.old) (works_of W.meaning (layout_in self.old)) limit
-            (parts_of self.old) (parts_of self.new) }
+        ensures settled { IfOk result (NetSettles W.meaning limit self.old self.new) }
+        ensures goes_on { NetGoesOn W.meaning limit self.old self.new }
         ensures lawful { Lawful (run_of W.meaning self.new) }
         ensures quiet { result ≡ Ok Settled.Quiet → Quiet (run_of W.meaning self.new) }
         ensures at_rest { result ≡ Ok Settled.Quiet → AtRest (layout_in self.new) (parts_of self.new) }
-        ensures used_up { result ≡ Err Ids → NeedsId (layout_in self.new) (works_of W.meaning (layout_in self.new))
-            (parts_of self.new) }
+        ensures used_up { result ≡ Err Ids → NetNeedsId W.meaning self.new }
         ensures never { result ≢ Err NotEnabled }
         ensures same_inputs { (run_of W.meaning self.new).trace.inputs ≡ (run_of W.meaning self.old).trace.inputs }
     {

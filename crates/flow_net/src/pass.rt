@@ -3,14 +3,11 @@ ghost use Rattle.std.specs.Prelude.{◌≡◌, ◌≢◌, ◌<◌, ◌≤◌, tr
 ghost use Rattle.flow_link.specs.declared.phase.Move.TheVariants.{Offer};
 ghost use Rattle.flow_link.specs.Planned.{layout_of};
 ghost use Rattle.flow_block.specs.Routes.{route_of};
-ghost use Rattle.flow_core.specs.Events.{Enabled, MayHappen, NetEvent};
-ghost use Rattle.flow_core.specs.Keeps.{NetKeeps};
+ghost use Rattle.flow_core.specs.Events.{NetEvent};
 ghost use Rattle.flow_core.specs.State.{node_at};
 ghost use Rattle.flow_moves.specs.Passes.{id_next, may_pass};
-ghost use Rattle.flow_exec.specs.Works.{works_of};
 ghost use Rattle.flow_net.specs.Dues.{event_of};
-ghost use Rattle.flow_net.specs.Happened.{Happened};
-ghost use Rattle.flow_net.specs.There.{IsDue, NeedsId};
+ghost use Rattle.flow_net.specs.Engine.{EnabledIn, HasDone, InOrder, IsDueIn, MayHappenIn, NeedsIdIn};
 ghost use Rattle.flow_net.specs.declared.fault.NetFault.TheVariants.{NotEnabled, Ids, Memory};
 
 use crate::agenda::Spot;
@@ -30,16 +27,13 @@ const WORK: u64 = 2;
 impl<W: Runs> Engine<W> {
     /// Goes on with the message that moved last, where it can. Answers how many events that took, of at most so many.
     pub(crate) fn carry_on(&mut self, alloc: Global, most: u64) -> Result<u64, NetFault>
-        requires kept { ∥ NetKeeps (layout_of self.old.plan) (works_of W.meaning (layout_of self.old.plan))
-            self.old.parts ∥₁ }
+        requires kept { InOrder W.meaning self.old }
         requires some { 0 < most }
         ensures same_plan { self.new.plan ≡ self.old.plan }
-        ensures happened { IfOk result (λ count. Happened (layout_of self.old.plan)
-            (works_of W.meaning (layout_of self.old.plan)) count self.old.parts self.new.parts) }
+        ensures happened { IfOk result (λ count. HasDone W.meaning count self.old self.new) }
         ensures within { IfOk result (λ count. count ≤ most) }
         ensures kept { OnErr result (self.new.parts ≡ self.old.parts) }
-        ensures used_up { result ≡ Err Ids → NeedsId (layout_of self.old.plan)
-            (works_of W.meaning (layout_of self.old.plan)) self.old.parts }
+        ensures used_up { result ≡ Err Ids → NeedsIdIn W.meaning self.old }
         ensures never { result ≢ Err NotEnabled }
     {
         match self.agenda.take_next() {
@@ -54,17 +48,14 @@ impl<W: Runs> Engine<W> {
     /// Has a block work on the message that waits longest, and lists where something may be able to happen after it; or
     /// lists the block, where none may be worked on.
     fn work_on(&mut self, alloc: Global, number: usize, most: u64) -> Result<u64, NetFault>
-        requires kept { ∥ NetKeeps (layout_of self.old.plan) (works_of W.meaning (layout_of self.old.plan))
-            self.old.parts ∥₁ }
+        requires kept { InOrder W.meaning self.old }
         requires known { number < length (layout_of self.old.plan).blocks }
         requires some { 0 < most }
         ensures same_plan { self.new.plan ≡ self.old.plan }
-        ensures happened { IfOk result (λ count. Happened (layout_of self.old.plan)
-            (works_of W.meaning (layout_of self.old.plan)) count self.old.parts self.new.parts) }
+        ensures happened { IfOk result (λ count. HasDone W.meaning count self.old self.new) }
         ensures within { IfOk result (λ count. count ≤ most) }
         ensures kept { OnErr result (self.new.parts ≡ self.old.parts) }
-        ensures used_up { result ≡ Err Ids → NeedsId (layout_of self.old.plan)
-            (works_of W.meaning (layout_of self.old.plan)) self.old.parts }
+        ensures used_up { result ≡ Err Ids → NeedsIdIn W.meaning self.old }
         ensures never { result ≢ Err NotEnabled }
     {
         let block = self.parts.node(number).block();
@@ -84,13 +75,11 @@ impl<W: Runs> Engine<W> {
     /// Has a block that works on nothing work on the message that waits longest, and lists where something may be able to
     /// happen after it: two events. Nothing has happened where a message id is wanting for the result.
     fn work_at_once(&mut self, alloc: Global, number: usize) -> Result<bool, NetFault>
-        requires kept { ∥ NetKeeps (layout_of self.old.plan) (works_of W.meaning (layout_of self.old.plan))
-            self.old.parts ∥₁ }
-        requires enabled { Enabled (layout_of self.old.plan) self.old.parts (NetEvent.begin number) }
+        requires kept { InOrder W.meaning self.old }
+        requires enabled { EnabledIn self.old (NetEvent.begin number) }
         requires idle { (node_at self.old.parts number).block.jobs.slots ≡ [] }
         ensures same_plan { self.new.plan ≡ self.old.plan }
-        ensures worked { IfOk result (λ worked. worked ≡ true → Happened (layout_of self.old.plan)
-            (works_of W.meaning (layout_of self.old.plan)) 2 self.old.parts self.new.parts) }
+        ensures worked { IfOk result (λ worked. worked ≡ true → HasDone W.meaning 2 self.old self.new) }
         ensures none { IfOk result (λ worked. worked ≡ false → self.new.parts ≡ self.old.parts) }
         ensures kept { OnErr result (self.new.parts ≡ self.old.parts) }
         ensures memory { IfErr result (λ fault. fault ≡ Memory) }
@@ -107,17 +96,14 @@ impl<W: Runs> Engine<W> {
 
     /// Does what would happen next at a link, as far as so many events.
     fn move_on(&mut self, alloc: Global, id: usize, most: u64) -> Result<u64, NetFault>
-        requires kept { ∥ NetKeeps (layout_of self.old.plan) (works_of W.meaning (layout_of self.old.plan))
-            self.old.parts ∥₁ }
+        requires kept { InOrder W.meaning self.old }
         requires known { id < length (layout_of self.old.plan).links }
         requires some { 0 < most }
         ensures same_plan { self.new.plan ≡ self.old.plan }
-        ensures happened { IfOk result (λ count. Happened (layout_of self.old.plan)
-            (works_of W.meaning (layout_of self.old.plan)) count self.old.parts self.new.parts) }
+        ensures happened { IfOk result (λ count. HasDone W.meaning count self.old self.new) }
         ensures within { IfOk result (λ count. count ≤ most) }
         ensures kept { OnErr result (self.new.parts ≡ self.old.parts) }
-        ensures used_up { result ≡ Err Ids → NeedsId (layout_of self.old.plan)
-            (works_of W.meaning (layout_of self.old.plan)) self.old.parts }
+        ensures used_up { result ≡ Err Ids → NeedsIdIn W.meaning self.old }
         ensures never { result ≢ Err NotEnabled }
     {
         match self.event_at_link(id)? {
@@ -129,19 +115,15 @@ impl<W: Runs> Engine<W> {
     /// Does an event that is due, and with an offer that its target takes at once the four that follow. Answers how many
     /// events those are, of at most so many.
     pub(crate) fn advance(&mut self, alloc: Global, event: &Due, most: u64) -> Result<u64, NetFault>
-        requires kept { ∥ NetKeeps (layout_of self.old.plan) (works_of W.meaning (layout_of self.old.plan))
-            self.old.parts ∥₁ }
-        requires due { IsDue (layout_of self.old.plan) (works_of W.meaning (layout_of self.old.plan)) self.old.parts
-            (event_of event.now) }
+        requires kept { InOrder W.meaning self.old }
+        requires due { IsDueIn W.meaning self.old (event_of event.now) }
         requires some { 0 < most }
         ensures same_plan { self.new.plan ≡ self.old.plan }
-        ensures happened { IfOk result (λ count. Happened (layout_of self.old.plan)
-            (works_of W.meaning (layout_of self.old.plan)) count self.old.parts self.new.parts) }
+        ensures happened { IfOk result (λ count. HasDone W.meaning count self.old self.new) }
         ensures some { IfOk result (λ count. 0 < count) }
         ensures within { IfOk result (λ count. count ≤ most) }
         ensures kept { OnErr result (self.new.parts ≡ self.old.parts) }
-        ensures used_up { result ≡ Err Ids → MayHappen (layout_of self.old.plan)
-            (works_of W.meaning (layout_of self.old.plan)) (event_of event.now) self.old.parts → ⊥ }
+        ensures used_up { result ≡ Err Ids → MayHappenIn W.meaning self.old (event_of event.now) → ⊥ }
         ensures never { result ≢ Err NotEnabled }
     {
         if let Due::Link(id, Move::Offer(_)) = *event {
@@ -162,8 +144,7 @@ impl<W: Runs> Engine<W> {
     /// Whether what the source of a link would offer may go over it in one call.
     fn may_pass(&self, id: usize) -> bool
         requires known { id < length (layout_of self.now.plan).links }
-        requires kept { ∥ NetKeeps (layout_of self.now.plan) (works_of W.meaning (layout_of self.now.plan))
-            self.now.parts ∥₁ }
+        requires kept { InOrder W.meaning self.now }
         ensures { result ≡ may_pass id (route_of (layout_of self.now.plan) id) self.now.parts }
     {
         self.parts.may_pass(id, self.route(id))
@@ -172,15 +153,13 @@ impl<W: Runs> Engine<W> {
     /// Has the message that the source of a link would offer go over it; where the target has no memory for it, it is
     /// offered alone. Answers how many events those are, and lists where something may be able to happen after them.
     fn pass(&mut self, alloc: Global, id: usize) -> Result<u64, NetFault>
-        requires kept { ∥ NetKeeps (layout_of self.old.plan) (works_of W.meaning (layout_of self.old.plan))
-            self.old.parts ∥₁ }
-        requires due { IsDue (layout_of self.old.plan) (works_of W.meaning (layout_of self.old.plan)) self.old.parts
+        requires kept { InOrder W.meaning self.old }
+        requires due { IsDueIn W.meaning self.old
             (NetEvent.at_link id (Offer (id_next self.old.parts (route_of (layout_of self.old.plan) id).source
             (route_of (layout_of self.old.plan) id).source_place))) }
         requires passes { may_pass id (route_of (layout_of self.old.plan) id) self.old.parts ≡ true }
         ensures same_plan { self.new.plan ≡ self.old.plan }
-        ensures happened { IfOk result (λ count. Happened (layout_of self.old.plan)
-            (works_of W.meaning (layout_of self.old.plan)) count self.old.parts self.new.parts) }
+        ensures happened { IfOk result (λ count. HasDone W.meaning count self.old self.new) }
         ensures some { IfOk result (λ count. 0 < count) }
         ensures within { IfOk result (λ count. count ≤ 5) }
         ensures kept { OnErr result (self.new.parts ≡ self.old.parts) }
