@@ -1,14 +1,14 @@
 -- A batched join that has a next group has not ended, and while a port is open the group is whole.
-use Rattle.std.proofs.Common.{Bool, ◌≡◌, ◌≤◌, leb, ltb, true, false, cond, not, ◌&&◌, ◌||◌, length, None, is_none, refl, ap, sym, ◌∙◌, arith}
+use Rattle.std.proofs.Common.{Bool, ◌≡◌, ◌≤◌, leb, ltb, true, false, not, ◌&&◌, ◌||◌, length, None, is_none, refl, ap, sym, ◌∙◌, arith}
 use Rattle.std.proofs.lemmas.Bool.{and_parts, leb-true}
 use Rattle.flow_link.specs.declared.draft.BlockKind.{BlockKind}
 use Rattle.flow_link.specs.declared.draft.BlockKind.TheVariants.{BatchedJoin}
-use Rattle.flow_lists.specs.Lists.{is_empty}
 use Rattle.flow_link.specs.Plan.{has_work}
-use Rattle.flow_group.specs.Tuple.{all_ended, has_tuple}
-use Rattle.flow_block.specs.Block.{BlockState, held_by, is_batch, is_join, is_batched_join}
+use Rattle.flow_link.specs.Kinds.{unit_of}
+use Rattle.flow_group.specs.Tuple.{all_ended}
+use Rattle.flow_block.specs.Block.{BlockState}
 use Rattle.flow_block.specs.Groups.{waiting_in_all}
-use Rattle.flow_block.specs.Peeks.{has_group, may_copy, has_next, has_group_of_ports, may_work, may_make}
+use Rattle.flow_block.specs.Peeks.{has_next, has_group_of_ports, may_work, may_make, has_unit}
 use Rattle.flow_block.specs.Traits.{outcome_of}
 use Rattle.flow_group.specs.Group.{ArrivalsState}
 use Rattle.flow_batched.specs.BatchedJoin.{JoinFits}
@@ -17,8 +17,7 @@ use Rattle.flow_block.proofs.MakingGoesOn.{working_goes_on}
 
 next_is_group : (block : BlockState) → block.kind ≡ BatchedJoin → has_next block ≡ has_group_of_ports block
 next_is_group block joins =
-    ap (λ (k : BlockKind). cond (is_batch k) (has_group block) (cond (is_join k) (has_tuple block.ports)
-    (cond (is_batched_join k) (has_group_of_ports block) (not (is_empty (held_by block)) && may_copy block)))) joins
+    ap (λ (k : BlockKind). has_unit (unit_of k) block) joins
 
 pub grouping_goes_on : (block : BlockState) → may_make block ≡ true → outcome_of block ≡ None
 grouping_goes_on block may = working_goes_on block (and_parts (may_work block) (not (has_work block.kind)) may).0

@@ -6,9 +6,12 @@ use Rattle.flow_link.specs.declared.trace.Mark.{Mark}
 use Rattle.flow_link.specs.declared.draft.BlockKind.{BlockKind}
 use Rattle.flow_link.specs.declared.draft.BlockKind.TheVariants.{WriteOnce}
 use Rattle.flow_link.specs.Plan.{is_write_once, is_broadcast, is_one_taker}
+use Rattle.flow_link.proofs.KindsTell.{kind_tells}
 use Rattle.flow_outlet.specs.Outlet.{is_empty}
 use Rattle.flow_spread.specs.Spread.{is_spread_free}
 use Rattle.flow_intake.specs.Calls.{first_of}
+use Rattle.flow_link.specs.declared.kinds.BlockUnit.{BlockUnit}
+use Rattle.flow_link.specs.declared.kinds.BlockUnit.TheVariants as unit
 use Rattle.flow_block.specs.Block.{BlockState, held_by, copies_next, copies_at_once, copies_where, copies_taken}
 use Rattle.flow_block.specs.JournalFits.{marks_due}
 use Rattle.flow_block.specs.Node.{NodeState, holds_in, takes_in, with_block}

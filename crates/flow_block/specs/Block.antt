@@ -5,10 +5,14 @@ use Rattle.flow_value.specs.View.{items_from}
 use Rattle.flow_value.specs.declared.value.Value.{Value}
 use Rattle.flow_value.specs.declared.value.Value.TheVariants.{Int, Row}
 use Rattle.flow_link.specs.declared.draft.BlockKind.{BlockKind}
-use Rattle.flow_link.specs.declared.draft.BlockKind.TheVariants.{Buffer, Action, Batch, Join, BatchedJoin}
+use Rattle.flow_link.specs.declared.draft.BlockKind.TheVariants.{Buffer, Broadcast, WriteOnce, Action, Transform, TransformMany, Batch, Join, BatchedJoin}
+use Rattle.flow_link.specs.declared.kinds.BlockUnit.{BlockUnit}
+use Rattle.flow_link.specs.declared.kinds.BlockUnit.TheVariants as unit
+pub use Rattle.flow_link.specs.Kinds.{is_batch, is_join, is_batched_join, has_ports}
+use Rattle.flow_link.specs.Kinds.{unit_of, gives_nothing}
 use Rattle.flow_link.specs.Making.{items_of, row_weight}
 use Rattle.flow_link.specs.declared.trace.Outcome.{Outcome}
-use Rattle.flow_link.specs.Plan.{is_broadcast, is_write_once}
+use Rattle.flow_link.specs.Plan.{is_write_once}
 use Rattle.flow_intake.specs.Port.{PortState, fresh_port}
 use Rattle.flow_intake.specs.Calls.{first_of, takes_next, gives_room, port_closes, port_fails}
 use Rattle.flow_group.specs.Tuple.{tuple_of, takes_tuple}
@@ -53,7 +57,14 @@ held_by block = (port_at 0 block).waiting
 -- what a block makes of one message: a buffer hands it on
 abbrev pub made_of : BlockKind → (Value → Result (List Value) ℕ) → Value → Result (List Value) ℕ
 made_of Buffer result value = Ok (value ∷ [])
-made_of _ result value = result value
+made_of Broadcast result value = result value
+made_of WriteOnce result value = result value
+made_of Action result value = result value
+made_of Transform result value = result value
+made_of TransformMany result value = result value
+made_of Batch result value = result value
+made_of Join result value = result value
+made_of BatchedJoin result value = result value
 
 -- what is given counts only where there is a capacity
 abbrev pub unit_weight : Option ℕ → ℕ
@@ -79,9 +90,15 @@ abbrev pub with_jobs : (JobsState → JobsState) → BlockState → BlockState
 with_jobs change block = record block { jobs = change block.jobs }
 
 abbrev pub keeps_results : BlockKind → List Value → BlockState → BlockState
-keeps_results Action values block = with_jobs works_off (records values block)
 keeps_results Buffer values block = puts_out values block
-keeps_results _ values block = with_jobs works_off (puts_out values block)
+keeps_results Broadcast values block = with_jobs works_off (puts_out values block)
+keeps_results WriteOnce values block = with_jobs works_off (puts_out values block)
+keeps_results Action values block = with_jobs works_off (records values block)
+keeps_results Transform values block = with_jobs works_off (puts_out values block)
+keeps_results TransformMany values block = with_jobs works_off (puts_out values block)
+keeps_results Batch values block = with_jobs works_off (puts_out values block)
+keeps_results Join values block = with_jobs works_off (puts_out values block)
+keeps_results BatchedJoin values block = with_jobs works_off (puts_out values block)
 
 abbrev pub yields : Result (List Value) ℕ → BlockState → BlockState
 yields (Ok values) block = keeps_results block.kind values block
@@ -92,10 +109,6 @@ makes_of result None block = block
 makes_of result (Some value) block = yields (made_of block.kind result value) block
 
 -- a batch makes rows of its messages
-abbrev pub is_batch : BlockKind → Bool
-is_batch Batch = true
-is_batch _ = false
-
 abbrev pub row_of : List Value → Value
 row_of values = Row (items_from values)
 
@@ -118,12 +131,8 @@ makes_row block =
       exits = puts (row_of (next_group block) ∷ []) (group_weight (port_at 0 block).capacity (length (next_group block))) block.exits;
     }
 
--- a join makes tuples, of the messages that wait longest, one from each port
-abbrev pub is_join : BlockKind → Bool
-is_join Join = true
-is_join _ = false
-
--- the tuple is there to be given, and when it is, one place comes back at each port
+-- a join makes tuples, of the messages that wait longest, one from each port. The tuple is there to be given, and when it is, one
+-- place comes back at each port
 abbrev pub makes_tuple : BlockState → BlockState
 makes_tuple block = record block {
   ports = takes_tuple block.ports;
@@ -154,20 +163,22 @@ copies_where false block = block
 abbrev pub copies_taken : BlockState → BlockState
 copies_taken block = copies_where (copies_at_once block) block
 
--- it makes what it makes of the message that it holds first, and a broadcast copies that message
-abbrev pub makes_other : (Value → Result (List Value) ℕ) → BlockState → BlockState
-makes_other result block =
-    cond (is_broadcast block.kind) (copies_next (first_of (held_by block)) block) (makes_of result (first_of (held_by block)) block)
+-- a batch makes its next row, a join its next tuple, a broadcast copies the message that it holds first, and each other block
+-- makes what it makes of that message; of a batched join it is the node that makes its next group
+abbrev pub makes_by_unit : BlockUnit → (Value → Result (List Value) ℕ) → BlockState → BlockState
+makes_by_unit unit.Message result block = makes_of result (first_of (held_by block)) block
+makes_by_unit unit.Row result block = makes_row block
+makes_by_unit unit.Tuple result block = makes_tuple block
+makes_by_unit unit.Group result block = makes_of result (first_of (held_by block)) block
+makes_by_unit unit.Copy result block = copies_next (first_of (held_by block)) block
+makes_by_unit unit.OneCopy result block = makes_of result (first_of (held_by block)) block
 
--- a batch makes its next row, and a join its next tuple
 abbrev pub makes : (Value → Result (List Value) ℕ) → BlockState → BlockState
-makes result block =
-    cond (is_batch block.kind) (makes_row block) (cond (is_join block.kind) (makes_tuple block) (makes_other result block))
+makes result block = makes_by_unit (unit_of block.kind) result block
 
 -- what it would put into its exits by that
 abbrev pub put_by_kind : BlockKind → List Value → List Value
-put_by_kind Action values = []
-put_by_kind _ values = values
+put_by_kind kind values = cond (gives_nothing kind) [] values
 
 abbrev pub values_of_result : Result (List Value) ℕ → List Value
 values_of_result (Ok values) = values
@@ -177,11 +188,16 @@ abbrev pub put_of : BlockKind → (Value → Result (List Value) ℕ) → Option
 put_of kind result None = []
 put_of kind result (Some value) = put_by_kind kind (values_of_result (made_of kind result value))
 
+abbrev pub puts_by_unit : BlockUnit → (Value → Result (List Value) ℕ) → BlockState → List Value
+puts_by_unit unit.Message result block = put_of block.kind result (first_of (held_by block))
+puts_by_unit unit.Row result block = row_of (next_group block) ∷ []
+puts_by_unit unit.Tuple result block = tuple_of block.ports ∷ []
+puts_by_unit unit.Group result block = put_of block.kind result (first_of (held_by block))
+puts_by_unit unit.Copy result block = []
+puts_by_unit unit.OneCopy result block = put_of block.kind result (first_of (held_by block))
+
 abbrev pub put_next : (Value → Result (List Value) ℕ) → BlockState → List Value
-put_next result block =
-    cond (is_batch block.kind) (row_of (next_group block) ∷ [])
-    (cond (is_join block.kind) (tuple_of block.ports ∷ [])
-    (cond (is_broadcast block.kind) [] (put_of block.kind result (first_of (held_by block)))))
+put_next result block = puts_by_unit (unit_of block.kind) result block
 
 -- Its jobs
 
@@ -218,21 +234,21 @@ job_message ticket block = get_or (held_by block) (place_of ticket block.jobs) (
 
 -- What it gives, and how it ends
 
--- a batched join makes groups of the messages that came in first, whatever their ports
-abbrev pub is_batched_join : BlockKind → Bool
-is_batched_join BatchedJoin = true
-is_batched_join _ = false
-
--- joins and batched joins take messages at several ports
-abbrev pub has_ports : BlockKind → Bool
-has_ports Join = true
-has_ports BatchedJoin = true
-has_ports _ = false
-
 -- how many messages of a group came in at a port; the groups of a batched join have no weight, but this room
+abbrev pub group_count : Option Value → ℕ → ℕ
+group_count None p = 0
+group_count (Some group) p = row_weight (get_or (items_of group) p (Int (pos 0)))
+
+abbrev pub count_by_unit : BlockUnit → Option Value → ℕ → ℕ
+count_by_unit unit.Message head p = 0
+count_by_unit unit.Row head p = 0
+count_by_unit unit.Tuple head p = 0
+count_by_unit unit.Group head p = group_count head p
+count_by_unit unit.Copy head p = 0
+count_by_unit unit.OneCopy head p = 0
+
 abbrev pub row_count : BlockKind → Option Value → ℕ → ℕ
-row_count BatchedJoin (Some group) p = row_weight (get_or (items_of group) p (Int (pos 0)))
-row_count _ _ p = 0
+row_count kind head p = count_by_unit (unit_of kind) head p
 
 -- so much room comes back at a port, and that of so many messages of a group, but no more than it has out besides a weight
 abbrev pub room_at : (room weight count : ℕ) → PortState → ℕ

@@ -1,6 +1,9 @@
 -- What a block could do next by itself, told by its own data alone.
 use Rattle.std.specs.Prelude.{ℕ, ◌+◌, ◌^◌, ◌==◌, leb, ltb, Bool, not, ◌&&◌, ◌||◌, cond, List, [], ◌∷◌, length, Option, None, is_some, is_none, option_map, Result}
 use Rattle.flow_value.specs.declared.value.Value.{Value}
+use Rattle.flow_link.specs.declared.kinds.BlockUnit.{BlockUnit}
+use Rattle.flow_link.specs.declared.kinds.BlockUnit.TheVariants as unit
+use Rattle.flow_link.specs.Kinds.{unit_of}
 use Rattle.flow_lists.specs.Lists.{every}
 use Rattle.flow_link.specs.Plan.{has_work, is_broadcast, is_write_once}
 use Rattle.flow_intake.specs.Port.{PortState, coming}
@@ -9,7 +12,7 @@ use Rattle.flow_intake.specs.PortLaw.{has_ended}
 use Rattle.flow_outlet.specs.Outlet.{is_empty, is_at_rest, only_waits, lacks_ids}
 use Rattle.flow_spread.specs.Spread.{SpreadState, is_spread_free, is_at_rest as is_spread_at_rest, only_waits as spread_only_waits}
 use Rattle.flow_group.specs.Tuple.{has_tuple, is_join_complete, all_ended as ports_ended}
-use Rattle.flow_block.specs.Block.{BlockState, port_at, held_by, is_batch, is_join, is_batched_join}
+use Rattle.flow_block.specs.Block.{BlockState, port_at, held_by, is_join}
 use Rattle.flow_block.specs.Copies.{copies_left, may_put}
 use Rattle.flow_block.specs.Jobs.{out_count, is_out}
 use Rattle.flow_block.specs.Groups.{has_group_at}
@@ -50,18 +53,28 @@ abbrev pub may_copy : BlockState → Bool
 may_copy block = not (is_broadcast block.kind) || may_put block.copies
 
 -- it holds what it could make something of
+abbrev pub has_unit : BlockUnit → BlockState → Bool
+has_unit unit.Message block = not (is_empty (held_by block)) && may_copy block
+has_unit unit.Row block = has_group block
+has_unit unit.Tuple block = has_tuple block.ports
+has_unit unit.Group block = has_group_of_ports block
+has_unit unit.Copy block = not (is_empty (held_by block)) && may_copy block
+has_unit unit.OneCopy block = not (is_empty (held_by block)) && may_copy block
+
 abbrev pub has_next : BlockState → Bool
-has_next block =
-    cond (is_batch block.kind) (has_group block)
-    (cond (is_join block.kind) (has_tuple block.ports)
-    (cond (is_batched_join block.kind) (has_group_of_ports block) (not (is_empty (held_by block)) && may_copy block)))
+has_next block = has_unit (unit_of block.kind) block
 
 -- it could make nothing more of what it holds
+abbrev pub is_off_by_unit : BlockUnit → BlockState → Bool
+is_off_by_unit unit.Message block = holds_nothing block.ports
+is_off_by_unit unit.Row block = not (has_group block)
+is_off_by_unit unit.Tuple block = not (has_tuple block.ports)
+is_off_by_unit unit.Group block = not (has_group_of_ports block)
+is_off_by_unit unit.Copy block = holds_nothing block.ports
+is_off_by_unit unit.OneCopy block = holds_nothing block.ports
+
 abbrev pub is_worked_off : BlockState → Bool
-is_worked_off block =
-    cond (is_batch block.kind) (not (has_group block))
-    (cond (is_join block.kind) (not (has_tuple block.ports))
-    (cond (is_batched_join block.kind) (not (has_group_of_ports block)) (holds_nothing block.ports)))
+is_worked_off block = is_off_by_unit (unit_of block.kind) block
 
 -- it goes on, and holds what it could make something of
 abbrev pub may_work : BlockState → Bool

@@ -3,8 +3,10 @@ use Rattle.std.specs.Prelude.{ℕ, Bool, List, [], map, filter, length, take, co
 use Rattle.flow_value.specs.declared.value.Value.{Value}
 use Rattle.flow_link.specs.declared.draft.BlockDef.{BlockDef}
 use Rattle.flow_link.specs.declared.draft.BlockKind.{BlockKind}
-use Rattle.flow_link.specs.declared.draft.BlockKind.TheVariants.{WriteOnce}
+use Rattle.flow_link.specs.declared.kinds.BlockUnit.{BlockUnit}
+use Rattle.flow_link.specs.declared.kinds.BlockUnit.TheVariants.{Message, Row, Tuple, Group, Copy, OneCopy}
 use Rattle.flow_link.specs.declared.plan.Link.{Link}
+use Rattle.flow_link.specs.Kinds.{unit_of}
 use Rattle.flow_link.specs.Layout.{Layout}
 use Rattle.flow_lists.specs.Lists.{below}
 use Rattle.flow_link.specs.Making.{result_of}
@@ -17,9 +19,16 @@ use Rattle.flow_block.specs.Jobs.{fresh_jobs}
 use Rattle.flow_block.specs.Node.{NodeState}
 
 -- for how many messages a block has room: for one, where it takes one message in all
+abbrev pub room_by_unit : BlockUnit → Option ℕ → Option ℕ
+room_by_unit Message capacity = capacity
+room_by_unit Row capacity = capacity
+room_by_unit Tuple capacity = capacity
+room_by_unit Group capacity = capacity
+room_by_unit Copy capacity = capacity
+room_by_unit OneCopy capacity = Some 1
+
 abbrev pub room_by : BlockKind → Option ℕ → Option ℕ
-room_by WriteOnce capacity = Some 1
-room_by _ capacity = capacity
+room_by kind capacity = room_by_unit (unit_of kind) capacity
 
 abbrev pub room_of : {W : Type 0} → BlockDef W → Option ℕ
 room_of block = room_by block.kind block.capacity

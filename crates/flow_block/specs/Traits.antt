@@ -7,9 +7,11 @@ use Rattle.flow_link.specs.SourceCalls.{SourceCall, NothingOut, is_under_way}
 use Rattle.flow_link.specs.TargetCalls.{TargetCall, is_awaited, stage_noted}
 use Rattle.flow_value.specs.declared.message.MessageStatus.{MessageStatus}
 use Rattle.flow_link.specs.declared.draft.BlockKind.{BlockKind}
-use Rattle.flow_link.specs.declared.draft.BlockKind.TheVariants.{Buffer, Broadcast, Batch, Join}
+use Rattle.flow_link.specs.declared.kinds.BlockUnit.{BlockUnit}
+use Rattle.flow_link.specs.declared.kinds.BlockUnit.TheVariants as unit
+use Rattle.flow_link.specs.Kinds.{unit_of}
 use Rattle.flow_lists.specs.Lists.{below}
-use Rattle.flow_link.specs.Plan.{is_broadcast, is_one_taker}
+use Rattle.flow_link.specs.Plan.{has_work, is_broadcast, is_one_taker}
 use Rattle.flow_link.specs.declared.stage.Refusal.TheVariants.{PortEnded}
 use Rattle.flow_link.specs.declared.stage.SourceStage.{SourceStage}
 use Rattle.flow_link.specs.declared.stage.SourceStage.TheVariants as source
@@ -35,7 +37,7 @@ use Rattle.flow_spread.specs.End.{end_in as copy_in}
 use Rattle.flow_spread.specs.Spread.{SpreadState, end_at as copy_at, next_place as next_copy, prepares, offers as offers_copy}
 use Rattle.flow_spread.specs.ByLink.{place_of as copy_place, named_at as copy_named, answered as copy_answered, tests_consume as tests_copy, is_there, gives_home}
 use Rattle.flow_group.specs.Tuple.{tuple_of}
-use Rattle.flow_block.specs.Block.{BlockState, port_in, port_at, with_port, held_by, is_batch, is_join, row_of, next_group, makes_row, makes_tuple, copies_next, copies_taken, puts_out, stops_by, comes_back, with_copies}
+use Rattle.flow_block.specs.Block.{BlockState, port_in, port_at, with_port, held_by, row_of, next_group, makes_row, makes_tuple, copies_next, copies_taken, puts_out, stops_by, comes_back, with_copies}
 use Rattle.flow_block.specs.Peeks.{may_make, may_finish, would_copy}
 
 -- How it ends
@@ -56,12 +58,16 @@ faults number block = cond (is_some (outcome_of block)) block (stops_by (Faulted
 
 -- what makes outputs by itself, and with how many ports. A batched join does not, since it does not tell by itself in which order
 -- its messages came in, and blocks with a function do not
+abbrev pub alone_by_unit : BlockUnit → ℕ → Bool
+alone_by_unit unit.Message ports = ports == 1
+alone_by_unit unit.Row ports = ports == 1
+alone_by_unit unit.Tuple ports = ltb 0 ports
+alone_by_unit unit.Group ports = false
+alone_by_unit unit.Copy ports = ports == 1
+alone_by_unit unit.OneCopy ports = false
+
 abbrev pub makes_alone : BlockKind → ℕ → Bool
-makes_alone Buffer ports = ports == 1
-makes_alone Broadcast ports = ports == 1
-makes_alone Batch ports = ports == 1
-makes_alone Join ports = ltb 0 ports
-makes_alone _ ports = false
+makes_alone kind ports = not (has_work kind) && alone_by_unit (unit_of kind) ports
 
 -- what it needs is there. A broadcast goes on where its element was put off, too: that is forgotten with the element
 abbrev pub has_turn : Bool → BlockState → Bool
@@ -73,16 +79,27 @@ makes_itself block = makes_alone block.kind (length block.ports) && has_turn (is
 
 -- a buffer hands on what waits longest at its one port, a batch makes its next row of what waits there, a join its next tuple, and
 -- a broadcast copies what waits longest from now on
+abbrev pub made_by_unit : BlockUnit → BlockState → List Value
+made_by_unit unit.Message block = take 1 (held_by block)
+made_by_unit unit.Row block = row_of (next_group block) ∷ []
+made_by_unit unit.Tuple block = tuple_of block.ports ∷ []
+made_by_unit unit.Group block = take 1 (held_by block)
+made_by_unit unit.Copy block = take 1 (held_by block)
+made_by_unit unit.OneCopy block = take 1 (held_by block)
+
 abbrev pub made_next : BlockState → List Value
-made_next block =
-    cond (is_batch block.kind) (row_of (next_group block) ∷ [])
-    (cond (is_join block.kind) (tuple_of block.ports ∷ []) (take 1 (held_by block)))
+made_next block = made_by_unit (unit_of block.kind) block
+
+abbrev pub goes_on_by_unit : BlockUnit → BlockState → BlockState
+goes_on_by_unit unit.Message block = puts_out (take 1 (held_by block)) block
+goes_on_by_unit unit.Row block = makes_row block
+goes_on_by_unit unit.Tuple block = makes_tuple block
+goes_on_by_unit unit.Group block = puts_out (take 1 (held_by block)) block
+goes_on_by_unit unit.Copy block = copies_next (first_of (held_by block)) block
+goes_on_by_unit unit.OneCopy block = puts_out (take 1 (held_by block)) block
 
 abbrev pub makes_its_next : BlockState → BlockState
-makes_its_next block =
-    cond (is_batch block.kind) (makes_row block)
-    (cond (is_join block.kind) (makes_tuple block)
-    (cond (is_broadcast block.kind) (copies_next (first_of (held_by block)) block) (puts_out (take 1 (held_by block)) block)))
+makes_its_next block = goes_on_by_unit (unit_of block.kind) block
 
 abbrev pub lacks_its_ids : BlockState → Bool
 lacks_its_ids block =

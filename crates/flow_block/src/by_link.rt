@@ -239,7 +239,7 @@ fn wishes_at(ports: &[Intake], port: usize) -> bool
                 && matches!(ports[port].stage(place), TargetStage::Postponed(_))
                 && port_into(ports, link) == port
         }
-        _ => false,
+        Some(_) | None => false,
     }
 }
 

@@ -17,10 +17,10 @@ ghost use Rattle.flow_block.specs.BlockFits.{AllGaveOut};
 ghost use Rattle.flow_block.specs.Copies.{shared_rules, fresh_copies, copies_left, copies_weight};
 
 use crate::block::Block;
-use crate::peeks::{holds_first, is_write_once};
+use crate::peeks::holds_first;
 use crate::ports::give_room;
 use flow_intake::Intake;
-use flow_link::{BlockKind, LinkEnd, Phase};
+use flow_link::{BlockKind, BlockUnit, LinkEnd, Phase};
 use flow_outlet::{LinkRule, Outlet, OutletFault};
 use flow_spread::Spread;
 use flow_value::{MAX_ID, MessageHeader, Parcel, Value};
@@ -39,26 +39,20 @@ pub(crate) fn exits_of(
     let Some(first) = MessageHeader::new(1) else {
         unreachable!()
     };
-    match kind {
-        BlockKind::Broadcast => {
+    match kind.unit() {
+        BlockUnit::Copy => {
             let Ok(exits) = Outlet::new(alloc, Vec::new(alloc), first) else {
                 return Err(rules);
             };
             Ok((exits, Spread::new(alloc, rules, first)?))
         }
-        BlockKind::WriteOnce => {
+        BlockUnit::OneCopy => {
             let Ok(exits) = Outlet::new(alloc, Vec::new(alloc), first) else {
                 return Err(rules);
             };
             Ok((exits, Spread::new_once(alloc, rules, first)?))
         }
-        BlockKind::Buffer
-        | BlockKind::Action
-        | BlockKind::Transform
-        | BlockKind::TransformMany
-        | BlockKind::Batch
-        | BlockKind::Join
-        | BlockKind::BatchedJoin => {
+        BlockUnit::Message | BlockUnit::Row | BlockUnit::Tuple | BlockUnit::Group => {
             let Ok(copies) = Spread::new(alloc, Vec::new(alloc), first) else {
                 return Err(rules);
             };
@@ -143,7 +137,7 @@ impl Block {
     fn copies_at_once(&self) -> bool
         ensures { result ≡ copies_at_once self.now }
     {
-        is_write_once(self.kind)
+        self.kind.unit().copies_one()
             && self.ports.len() == 1
             && holds_first(&self.ports)
             && self.copies.is_free()

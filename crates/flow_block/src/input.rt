@@ -117,7 +117,15 @@ impl Input {
             }
             SourceStage::Free => link_end(self.ending).map(Move::End),
             SourceStage::Accepted(_) | SourceStage::Wished(_) => Some(Move::Give),
-            _ => None,
+            SourceStage::Posted(_)
+            | SourceStage::Out(_)
+            | SourceStage::Waiting(_)
+            | SourceStage::AskedBy(_)
+            | SourceStage::Reserved(_)
+            | SourceStage::Claimed(_)
+            | SourceStage::Crossing
+            | SourceStage::Refused
+            | SourceStage::Ended(_) => None,
         }
     }
 

@@ -270,7 +270,7 @@ impl Jobs {
     {
         match self.slots.front() {
             Some(Some(answer)) => answer.made.is_ok(),
-            _ => false,
+            Some(None) | None => false,
         }
     }
 
@@ -280,7 +280,7 @@ impl Jobs {
     {
         match self.slots.front() {
             Some(Some(answer)) => answer.fault_number(),
-            _ => None,
+            Some(None) | None => None,
         }
     }
 

@@ -4,10 +4,9 @@ ghost use Rattle.std.specs.Option.{IfNone};
 ghost use Rattle.std.specs.List.{list_all};
 ghost use Rattle.flow_intake.specs.Port.{PortState, coming};
 ghost use Rattle.flow_intake.specs.PortLaw.{has_ended};
-ghost use Rattle.flow_link.specs.Plan.{has_work, is_broadcast, is_write_once};
 ghost use Rattle.flow_outlet.specs.End.{is_waiting};
 ghost use Rattle.flow_outlet.specs.Outlet.{out_move, stage_at, is_empty};
-ghost use Rattle.flow_block.specs.Block.{port_at, port_in, is_batch, is_join, is_batched_join};
+ghost use Rattle.flow_block.specs.Block.{port_at, port_in};
 ghost use Rattle.flow_block.specs.Peeks.{may_work, may_make, may_begin, may_end, may_complete, next_fault, is_held_up, may_finish, could_stop};
 ghost use Rattle.flow_spread.specs.Spread.{out_move as copy_move};
 ghost use Rattle.flow_block.specs.Peeks.{may_copy, is_written, is_copy_held_up, would_copy, has_all_given};
@@ -18,7 +17,7 @@ use crate::block::Block;
 use crate::copies::copies_left;
 use flow_group::{has_tuple, is_join_complete};
 use flow_intake::{Intake, of_lower_link};
-use flow_link::{BlockKind, LinkId, Move};
+use flow_link::{BlockUnit, LinkId, Move};
 
 impl Block {
     /// Whether it goes on, and holds what it could make something of.
@@ -32,14 +31,13 @@ impl Block {
     fn has_next(&self) -> bool
         ensures { result ≡ has_next self.now }
     {
-        if is_batch(self.kind) {
-            self.has_group()
-        } else if is_join(self.kind) {
-            has_tuple(&self.ports)
-        } else if is_batched_join(self.kind) {
-            self.has_group_of_ports()
-        } else {
-            holds_first(&self.ports) && self.may_copy()
+        match self.kind.unit() {
+            BlockUnit::Row => self.has_group(),
+            BlockUnit::Tuple => has_tuple(&self.ports),
+            BlockUnit::Group => self.has_group_of_ports(),
+            BlockUnit::Message | BlockUnit::Copy | BlockUnit::OneCopy => {
+                holds_first(&self.ports) && self.may_copy()
+            }
         }
     }
 
@@ -47,7 +45,7 @@ impl Block {
     fn may_copy(&self) -> bool
         ensures { result ≡ may_copy self.now }
     {
-        !is_broadcast(self.kind) || self.copies.is_free() && self.copies.waiting_count() == 0
+        !self.kind.unit().copies_each() || self.copies.is_free() && self.copies.waiting_count() == 0
     }
 
     /// Whether a batch holds what it makes a row of: as many messages as a row has, or the rest when its port has
@@ -69,14 +67,11 @@ impl Block {
     fn is_worked_off(&self) -> bool
         ensures { result ≡ is_worked_off self.now }
     {
-        if is_batch(self.kind) {
-            !self.has_group()
-        } else if is_join(self.kind) {
-            !has_tuple(&self.ports)
-        } else if is_batched_join(self.kind) {
-            !self.has_group_of_ports()
-        } else {
-            holds_nothing(&self.ports)
+        match self.kind.unit() {
+            BlockUnit::Row => !self.has_group(),
+            BlockUnit::Tuple => !has_tuple(&self.ports),
+            BlockUnit::Group => !self.has_group_of_ports(),
+            BlockUnit::Message | BlockUnit::Copy | BlockUnit::OneCopy => holds_nothing(&self.ports),
         }
     }
 
@@ -85,7 +80,7 @@ impl Block {
     pub fn may_make(&self) -> bool
         ensures { result ≡ may_make self.now }
     {
-        self.may_work() && !has_work(self.kind)
+        self.may_work() && !self.kind.has_work()
     }
 
     /// Whether it may work on one more of the messages that it holds: a lane is free, and not all of them are begun.
@@ -94,7 +89,7 @@ impl Block {
         ensures { result ≡ may_begin self.now }
     {
         self.may_work()
-            && has_work(self.kind)
+            && self.kind.has_work()
             && self.jobs.out_count() < self.jobs.lanes()
             && self.jobs.len() < self.ports[0].waiting().len()
     }
@@ -131,7 +126,7 @@ impl Block {
     fn is_written(&self) -> bool
         ensures { result ≡ is_written self.now }
     {
-        is_write_once(self.kind) && self.copies.element().is_some()
+        self.kind.unit().copies_one() && self.copies.element().is_some()
     }
 
     /// Whether a port takes no message any more.
@@ -190,7 +185,7 @@ impl Block {
     pub fn is_complete(&self) -> bool
         ensures { result ≡ is_complete self.now }
     {
-        if is_join(self.kind) {
+        if self.kind.unit().makes_tuples() {
             is_join_complete(&self.ports)
         } else {
             all_ended(&self.ports) || self.is_written()
@@ -281,51 +276,6 @@ impl Block {
             None => None,
         }
     }
-}
-
-/// Whether blocks of this kind have a function.
-fn has_work(kind: BlockKind) -> bool
-    ensures { result ≡ has_work kind }
-{
-    matches!(
-        kind,
-        BlockKind::Action | BlockKind::Transform | BlockKind::TransformMany
-    )
-}
-
-/// Whether blocks of this kind make rows of their messages.
-fn is_batch(kind: BlockKind) -> bool
-    ensures { result ≡ is_batch kind }
-{
-    kind == BlockKind::Batch
-}
-
-/// Whether blocks of this kind make tuples of the messages of their ports.
-fn is_join(kind: BlockKind) -> bool
-    ensures { result ≡ is_join kind }
-{
-    kind == BlockKind::Join
-}
-
-/// Whether blocks of this kind make groups of the messages of all their ports.
-fn is_batched_join(kind: BlockKind) -> bool
-    ensures { result ≡ is_batched_join kind }
-{
-    kind == BlockKind::BatchedJoin
-}
-
-/// Whether blocks of this kind copy each message to all their links, over the last one.
-fn is_broadcast(kind: BlockKind) -> bool
-    ensures { result ≡ is_broadcast kind }
-{
-    kind == BlockKind::Broadcast
-}
-
-/// Whether blocks of this kind take one message in all.
-pub(crate) fn is_write_once(kind: BlockKind) -> bool
-    ensures { result ≡ is_write_once kind }
-{
-    kind == BlockKind::WriteOnce
 }
 
 /// Whether a message waits at the first port.

@@ -10,7 +10,7 @@ ghost use Rattle.flow_block.specs.Planned.{in_place, input_place, links_from, ou
 ghost use Rattle.flow_block.specs.Routes.{route_of};
 
 use flow_intake::Intake;
-use flow_link::{BlockDef, BlockKind, LinkId, LinkSource, LinkTarget, Plan};
+use flow_link::{BlockDef, BlockUnit, LinkId, LinkSource, LinkTarget, Plan};
 use flow_outlet::LinkRule;
 use std::alloc::{AllocError, Global};
 
@@ -70,16 +70,13 @@ pub fn port_of<W>(
 fn room_of<W>(block: &BlockDef<W>) -> Option<u32>
     ensures { result ≡ room_of block.now }
 {
-    match block.kind {
-        BlockKind::WriteOnce => Some(1),
-        BlockKind::Buffer
-        | BlockKind::Broadcast
-        | BlockKind::Action
-        | BlockKind::Transform
-        | BlockKind::TransformMany
-        | BlockKind::Batch
-        | BlockKind::Join
-        | BlockKind::BatchedJoin => block.capacity,
+    match block.kind.unit() {
+        BlockUnit::OneCopy => Some(1),
+        BlockUnit::Message
+        | BlockUnit::Row
+        | BlockUnit::Tuple
+        | BlockUnit::Group
+        | BlockUnit::Copy => block.capacity,
     }
 }
 
@@ -231,24 +228,21 @@ fn links_into<W>(plan: &Plan<W>, block: usize) -> usize
 fn port_count<W>(block: &BlockDef<W>) -> u32
     ensures { result ≡ port_count block.now }
 {
-    match block.kind {
-        BlockKind::Join | BlockKind::BatchedJoin => block.ports.unwrap_or(2),
-        _ => 1,
-    }
+    block.kind.unit().port_count(block.ports)
 }
 
 /// Whether the block takes each message when it is offered.
 fn takes_at_once<W>(block: &BlockDef<W>) -> bool
     ensures { result ≡ takes_at_once block.now }
 {
-    block.capacity.is_none() && block.kind != BlockKind::WriteOnce && !is_reserving(block)
+    block.capacity.is_none() && !block.kind.unit().copies_one() && !is_reserving(block)
 }
 
 /// Whether the block reserves its messages before it takes them: a join that is not greedy.
 fn is_reserving<W>(block: &BlockDef<W>) -> bool
     ensures { result ≡ is_reserving block.now }
 {
-    block.kind == BlockKind::Join && !block.greedy.unwrap_or(true)
+    block.kind.unit().reserves(block.greedy)
 }
 
 /// Whether this source is this block.

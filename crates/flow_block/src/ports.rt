@@ -151,20 +151,13 @@ pub(crate) fn give_room(ports: &mut Vec<Intake>, room: u32)
     }
 }
 
-/// Whether a block of this kind makes groups of the messages that came in first, whatever their ports.
-pub(crate) fn is_batched_join(kind: BlockKind) -> bool
-    ensures { result ≡ is_batched_join kind }
-{
-    matches!(kind, BlockKind::BatchedJoin)
-}
-
 /// How many messages of a group came in at a port: none, where what was given is no group.
 fn row_count(group: &Value, port: usize) -> usize
     ensures { result ≡ row_weight (get_or (items_of group.now) port (Int (pos 0))) }
 {
     match group {
         Value::Row(rows) if port < rows.items().len() => message_count(&rows.items()[port]),
-        _ => 0,
+        Value::Row(_) | Value::Int(_) | Value::Text(_) => 0,
     }
 }
 
@@ -174,7 +167,7 @@ fn message_count(row: &Value) -> usize
 {
     match row {
         Value::Row(values) => values.items().len(),
-        _ => 0,
+        Value::Int(_) | Value::Text(_) => 0,
     }
 }
 
@@ -207,7 +200,7 @@ pub(crate) fn bring_back(
     ensures back { ports.new.items ≡ comes_back exits.old copies.now kind (Some head.now) ports.old.items }
 {
     let room = exits.room_back();
-    if is_batched_join(kind) {
+    if kind.unit().makes_groups() {
         let weight = exits.weight() as u64 + copies_weight(copies) as u64;
         give_rows(ports, room, weight, head);
     } else {

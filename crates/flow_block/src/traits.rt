@@ -8,14 +8,13 @@
 //! came in over the ports of a batched join. Such a block makes nothing by itself.
 ghost use Rattle.std.specs.Prelude.{◌≡◌, true, false, length, Err, OnOk, OnErr};
 ghost use Rattle.flow_link.specs.Plan.{is_broadcast};
-ghost use Rattle.flow_link.specs.declared.draft.BlockKind.TheVariants.{Buffer};
 ghost use Rattle.flow_outlet.specs.declared.fault.OutletFault.TheVariants.{Ids, Memory};
 ghost use Rattle.flow_block.specs.Traits.{makes_alone, makes_itself, makes_its_next, lacks_its_ids, shares};
 
 use crate::block::Block;
 use crate::by_link::{hold, port_into, wishing_port};
 use flow_link::{
-    BlockKind, Completing, DataflowBlock, LinkId, MakeFault, Outcome, SourceBlock, TargetBlock,
+    BlockUnit, Completing, DataflowBlock, LinkId, MakeFault, Outcome, SourceBlock, TargetBlock,
     Wish, WishAnswer,
 };
 use flow_outlet::OutletFault;
@@ -174,7 +173,7 @@ impl Block {
     fn shares(&self) -> bool
         ensures { result ≡ shares self.now }
     {
-        !matches!(self.kind, BlockKind::Broadcast | BlockKind::WriteOnce)
+        self.kind.unit().shares()
     }
 
     /// Whether it makes outputs without a function, and holds what it needs for the next. A broadcast does also where its
@@ -185,9 +184,10 @@ impl Block {
         if !self.makes_alone() {
             return false;
         }
-        match self.kind {
-            BlockKind::Broadcast => self.would_copy(),
-            _ => self.may_make(),
+        if self.kind.unit().copies_each() {
+            self.would_copy()
+        } else {
+            self.may_make()
         }
     }
 
@@ -195,10 +195,13 @@ impl Block {
     fn makes_alone(&self) -> bool
         ensures { result ≡ makes_alone self.now.kind (length self.now.ports) }
     {
-        match self.kind {
-            BlockKind::Buffer | BlockKind::Broadcast | BlockKind::Batch => self.ports.len() == 1,
-            BlockKind::Join => !self.ports.is_empty(),
-            _ => false,
+        if self.kind.has_work() {
+            return false;
+        }
+        match self.kind.unit() {
+            BlockUnit::Message | BlockUnit::Row | BlockUnit::Copy => self.ports.len() == 1,
+            BlockUnit::Tuple => !self.ports.is_empty(),
+            BlockUnit::Group | BlockUnit::OneCopy => false,
         }
     }
 
@@ -213,11 +216,12 @@ impl Block {
         ensures copies_none { result ≡ Err Memory → is_broadcast self.old.kind ≡ false }
         ensures memory { result ≡ Err Memory → lacks_its_ids self.old ≡ false }
     {
-        match self.kind {
-            BlockKind::Batch => self.make_row(alloc),
-            BlockKind::Join => self.make_tuple(alloc),
-            BlockKind::Broadcast => self.copy_next(),
-            _ => self.hand_on(),
+        match self.kind.unit() {
+            BlockUnit::Message => self.hand_on(),
+            BlockUnit::Row => self.make_row(alloc),
+            BlockUnit::Tuple => self.make_tuple(alloc),
+            BlockUnit::Copy => self.copy_next(),
+            BlockUnit::Group | BlockUnit::OneCopy => unreachable!(),
         }
     }
 }

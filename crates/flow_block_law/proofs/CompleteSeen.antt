@@ -5,6 +5,8 @@ use Rattle.flow_link.specs.declared.trace.Mark.{Mark}
 use Rattle.flow_lawful.specs.Endings.{is_complete as is_run_complete, is_complete_as}
 use Rattle.flow_lists.specs.Lists.{every, below, numbers_from}
 use Rattle.flow_link.specs.Trace.{BlockTrace, Run, has_ended, has_complete, block_of, trace_of, marks_of, ports_of}
+use Rattle.flow_link.specs.Plan.{is_one_taker}
+use Rattle.flow_link.proofs.KindsTell.{kind_tells}
 use Rattle.flow_intake.specs.Port.{PortState}
 use Rattle.flow_intake.specs.PortLaw.{has_ended as has_port_ended}
 use Rattle.flow_group.specs.Tuple.{is_join_complete}
@@ -15,7 +17,6 @@ use Rattle.flow_block.specs.Node.{NodeState, node_trace}
 use Rattle.flow_block_law.specs.NodeLaw.{NodeLaw, has_its_message}
 use Rattle.flow_block.specs.Peeks.{all_ended, is_complete, is_written}
 use Rattle.flow_block_law.proofs.JournalTells.{ended_by_complete, complete_where}
-use Rattle.flow_block_law.proofs.Joins.{join_shares}
 use Rattle.flow_block_law.proofs.NodesAreLawful.{join_is}
 use Rattle.flow_block_law.proofs.TuplesSeen.{joins_are_parts}
 
@@ -67,7 +68,7 @@ module _ {W : Type 0} (run : Run W) (b : ℕ) (node : NodeState) (law : NodeLaw 
       ∙ (joins_are_parts W run b node (record {
         trace = trace;
         count = law.shape.port_count_is;
-        shares = join_shares node.block.kind joins;
+        shares = kind_tells is_join true is_one_taker true refl node.block.kind joins;
       })).complete ended_is
   complete_by false joins =
       complete_by_port run b node law (ap is_join (sym law.shape.kind_is) ∙ joins)

@@ -1,5 +1,5 @@
 -- Each call of a node keeps its block in order, where that copies each message over the last one.
-use Rattle.std.proofs.Common.{◌≡◌, ℕ, ◌<◌, ◌==◌, Bool, true, false, cond, not, ◌&&◌, ◌||◌, List, [], ◌∷◌, ◌++◌, length, set, Option, Some, None, is_some, is_none, Result, refl, ap, sym, ◌∙◌, subst, arith}
+use Rattle.std.proofs.Common.{◌≡◌, ℕ, ◌<◌, ◌==◌, Bool, true, false, not, ◌&&◌, ◌||◌, List, [], ◌∷◌, ◌++◌, length, set, Option, Some, None, is_some, is_none, Result, refl, ap, sym, ◌∙◌, subst, arith}
 use Rattle.std.proofs.lemmas.Bool.{and_parts}
 use Rattle.std.proofs.lemmas.List.{get_or-set_same}
 use Rattle.flow_value.specs.declared.value.Value.{Value}
@@ -10,10 +10,15 @@ use Rattle.flow_link.specs.declared.trace.Mark.TheVariants.{Took, Complete, Faul
 use Rattle.flow_link.specs.declared.trace.Outcome.TheVariants as outcome
 use Rattle.flow_link.specs.Layout.{Layout}
 use Rattle.flow_link.specs.Plan.{is_broadcast, is_one_taker, is_write_once}
+use Rattle.flow_link.specs.declared.kinds.BlockUnit.{BlockUnit}
+use Rattle.flow_link.specs.declared.kinds.BlockUnit.TheVariants as unit
+use Rattle.flow_link.specs.Kinds.{unit_of}
+use Rattle.flow_link.proofs.KindsTell.{kind_tells, copy_is}
 use Rattle.flow_lists.proofs.ListTests.{never_both}
 use Rattle.flow_intake.specs.Port.{EndState, PortState, fresh_port, stage_at as port_stage, is_offer, is_hand}
 use Rattle.flow_intake.specs.Calls.{first_of, is_offered, is_posted, is_postponed, is_arrived, may_be_refused, wants, turns_down, postpones, refuses, consumes, opens, closes, looks as port_looks}
 use Rattle.flow_intake.specs.Ended.{fault_seen, fault_at_ends}
+use Rattle.flow_outlet.specs.Outlet.{is_empty}
 use Rattle.flow_outlet.proofs.OffersInOrder.{offers_in_order}
 use Rattle.flow_spread.specs.Spread.{is_spread_free}
 use Rattle.flow_block.specs.Block.{BlockState, port_at, port_in, held_by, is_batch, is_join, has_ports}
@@ -24,30 +29,27 @@ use Rattle.flow_block.specs.Copies.{may_put, none_waits}
 use Rattle.flow_block.specs.Jobs.{begins}
 use Rattle.flow_block.specs.Node.{NodeState, NodeCall, hand_at, in_link_at, holds_in}
 use Rattle.flow_block_law.specs.NodeKeeps.{MayCall, after_call, InAt}
-use Rattle.flow_block.specs.Peeks.{may_work, has_group, has_next}
+use Rattle.flow_block.specs.Peeks.{may_work, has_next, has_unit}
 use Rattle.flow_block.specs.Planned.{block_makes}
 use Rattle.flow_block_law.proofs.CopierHolds.{no_exit_at, ports_change, port_changes, jobs_change, copy_keeps, put_keeps, complete_keeps, stop_keeps, none_left}
 use Rattle.flow_block_law.proofs.FaultsSeen.{StaysSeen, stays_at_ends, stays_at_ports, seen_by_looks, unseen_where}
 use Rattle.flow_block_law.proofs.GoingOn.{may_work_tells, may_fault_tells, may_finish_tells}
 use Rattle.flow_block_law.proofs.JournalTells.{gave_same, took_here}
-use Rattle.flow_block_law.proofs.Joins.{broadcast_unjoined, batched_is, broadcast_unbatched, copies_unjoined, copies_at_one}
-use Rattle.flow_block_law.proofs.KindsBuilt.{broadcast_single, makes_by, next_by, copying_single}
+use Rattle.flow_block_law.proofs.Joins.{batched_is}
+use Rattle.flow_block_law.proofs.KindsBuilt.{makes_by, next_by}
 
-free_to_copy : (group some free : Bool) → cond false group (some && (not true || free)) ≡ true → free ≡ true
-free_to_copy group true free e = e
-free_to_copy group false free e = absurd (cc)
+free_to_copy : (some broadcast free : Bool) → (some && (not broadcast || free)) ≡ true → broadcast ≡ true → free ≡ true
+free_to_copy true true free e is = e
+free_to_copy true false free e is = absurd (cc)
+free_to_copy false broadcast free e is = absurd (cc)
 
 -- what goes on to make its next outputs may copy
 may_put_tells : (block : BlockState) → is_broadcast block.kind ≡ true → may_work block ≡ true → may_put block.copies ≡ true
 may_put_tells block broadcast may =
     let goes = and_parts (is_none block.stopped && is_none block.fault) (has_next block) may in
-    let next = rw (
-      broadcast_single block.kind broadcast,
-      broadcast_unjoined block.kind broadcast,
-      broadcast_unbatched block.kind broadcast,
-      broadcast,
-    ) at goes.1 in
-    free_to_copy (has_group block) _ (may_put block.copies) next
+    let next : has_unit unit.Copy block ≡ true =
+    ap (λ (u : BlockUnit). has_unit u block) (sym (copy_is (unit_of block.kind) broadcast)) ∙ goes.1 in
+    free_to_copy (not (is_empty (held_by block))) (is_broadcast block.kind) (may_put block.copies) next broadcast
 
 pub may_copy_tells : (block : BlockState) → is_broadcast block.kind ≡ true → may_work block ≡ true → is_spread_free block.copies ≡ true
 may_copy_tells block broadcast may =
@@ -137,11 +139,11 @@ module _ {W : Type 0} (layout : Layout W) (meaning : ℕ → Value → Result (L
   call_keeps NodeCall.make may alone copying none goes =
       next_by (λ (new : NodeState). Copier layout b new.block new.journal) (block_makes layout meaning b) node
       (λ batched. never_both (has_ports block.kind) (ap has_ports (batched_is block.kind batched))
-      (copies_at_one block.kind copying))
+      (kind_tells is_one_taker false has_ports false refl block.kind copying))
       (λ grouped.
       makes_by (λ new. Copier layout b new node.journal) (block_makes layout meaning b) block
-      (λ batch. never_both (is_batch block.kind) batch (copying_single block.kind copying))
-      (λ join. never_both (is_join block.kind) join (copies_unjoined block.kind copying))
+      (λ batch. never_both (is_batch block.kind) batch (kind_tells is_one_taker false is_batch false refl block.kind copying))
+      (λ join. never_both (is_join block.kind) join (kind_tells is_one_taker false is_join false refl block.kind copying))
       (λ broadcast. put_keeps layout b block node.journal law (first_of (held_by block)) refl alone
       (may_work_tells block may.waits).going (may_copy_tells block broadcast may.waits) (may.copy_id broadcast))
       (λ other alone single. absurd (none_next block (copies_once block.kind copying single) none may.waits)))

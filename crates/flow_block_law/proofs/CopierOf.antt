@@ -8,6 +8,7 @@ use Rattle.flow_link.specs.Layout.{Layout}
 use Rattle.flow_link.specs.Making.{makes_as}
 use Rattle.flow_link.specs.Plan.{is_one_taker, is_write_once, is_broadcast}
 use Rattle.flow_link.specs.Trace.{Run}
+use Rattle.flow_link.proofs.KindsTell.{kind_tells}
 use Rattle.flow_outlet.specs.Fits.{weight_of}
 use Rattle.flow_outlet.specs.Outlet.{OutletState, is_empty}
 use Rattle.flow_spread.specs.Spread.{is_at_rest, only_waits}
@@ -19,7 +20,7 @@ use Rattle.flow_block_law.specs.NodeRests.{HasNothingToDo, EndsRest}
 use Rattle.flow_block_law.specs.NodeSeen.{IsNodeOf}
 use Rattle.flow_block.specs.Peeks.{is_copy_held_up, may_copy}
 use Rattle.flow_block.specs.Planned.{out_place}
-use Rattle.flow_block_law.proofs.CopiesIdle.{copies_idle, never_broadcast}
+use Rattle.flow_block_law.proofs.CopiesIdle.{copies_idle}
 use Rattle.flow_block_law.proofs.CopiesRest.{copiers_rest, copiers_are_still}
 use Rattle.flow_block_law.proofs.CopiesSeen.{copiers_are_parts}
 
@@ -28,10 +29,6 @@ pub makes_copies : {W : Type 0} (run : Run W) (ends : ℕ → Ends) (b : ℕ) (k
 makes_copies run ends b Broadcast copying makes = makes
 makes_copies run ends b WriteOnce copying makes = makes
 makes_copies run ends b _ copying makes = absurd (cc)
-
-broadcast_many : (kind : BlockKind) → is_broadcast kind ≡ true → is_write_once kind ≡ false
-broadcast_many Broadcast e = refl
-broadcast_many _ e = absurd (cc)
 
 pub view_is_copied : (k : ℕ) (node : NodeState) → is_one_taker node.block.kind ≡ false → source_view k node ≡ copy_view k node
 view_is_copied k node copying = rw copying refl
@@ -49,7 +46,7 @@ quiet_where_shared layout meaning b node law shares =
     record {
       only_waits = ap only_waits idle;
       at_rest = λ held_up. ap is_at_rest idle;
-      may_copy = λ going some. rw (never_broadcast node.block.kind shares) refl;
+      may_copy = λ going some. rw (kind_tells is_one_taker true is_broadcast false refl node.block.kind shares) refl;
     }
 
 module _ {W : Type 0} (run : Run W) (ends : ℕ → Ends) (b : ℕ) (node : NodeState) (law : NodeLaw run.layout run.meaning b node)
@@ -84,7 +81,7 @@ module _ {W : Type 0} (run : Run W) (ends : ℕ → Ends) (b : ℕ) (node : Node
     where
       may_where : (broadcast : Bool) → is_broadcast node.block.kind ≡ broadcast → CopierRests run ends b node
           → node.block.stopped ≡ None → is_empty (held_by node.block) ≡ false → may_copy node.block ≡ true
-      may_where true is rests going some = rw is (rests.may_put (broadcast_many node.block.kind is) going some)
+      may_where true is rests going some = rw is (rests.may_put (kind_tells is_broadcast true is_write_once false refl node.block.kind is) going some)
       may_where false is rests going some = rw is refl
 
   pub none_shared : (node.block.exits.left ≡ []) × (weight_of node.block.exits.groups ≡ 0)

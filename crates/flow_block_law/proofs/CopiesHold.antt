@@ -3,8 +3,9 @@ use Rattle.std.proofs.Common.{◌≡◌, ℕ, true, false, List, [], ◌∷◌, 
 use Rattle.flow_value.specs.declared.value.Value.{Value}
 use Rattle.flow_link.specs.declared.draft.BlockKind.{BlockKind}
 use Rattle.flow_link.specs.declared.draft.BlockKind.TheVariants.{Action}
-use Rattle.flow_link.specs.Plan.{is_one_taker}
+use Rattle.flow_link.specs.Plan.{is_one_taker, is_broadcast, is_write_once}
 use Rattle.flow_link.specs.Layout.{Layout}
+use Rattle.flow_link.proofs.KindsTell.{kind_tells}
 use Rattle.flow_intake.proofs.CountsOfEnds.{hand_comes}
 use Rattle.flow_intake.specs.Port.{stage_at as port_stage, is_hand}
 use Rattle.flow_block_law.proofs.GoingOn.{open_goes_on}
@@ -12,18 +13,17 @@ use Rattle.flow_lists.proofs.ListTests.{never_both}
 use Rattle.flow_intake.specs.Calls.{first_of}
 use Rattle.flow_outlet.specs.Outlet.{head_of}
 use Rattle.flow_spread.specs.Spread.{fresh_spread}
-use Rattle.flow_block.specs.Block.{BlockState, held_by, made_of, keeps_results, yields, makes_of, copies_next, port_at}
+use Rattle.flow_block.specs.Block.{BlockState, held_by, made_of, keeps_results, yields, makes_of, copies_next, port_at, has_ports}
 use Rattle.flow_block.specs.Copies.{copy_place}
 use Rattle.flow_block.specs.Node.{NodeState, NodeCall, hand_at, holds_in, gives_from}
 use Rattle.flow_block_law.specs.NodeKeeps.{MayCall, after_call, CopiesKept, InAt}
 use Rattle.flow_block_law.specs.NodeLaw.{NodeLaw, CopiesLaw}
 use Rattle.flow_block.specs.Planned.{block_makes}
 use Rattle.flow_block.proofs.CopiesTaken.{taken_in_keeps}
-use Rattle.flow_block_law.proofs.CopiesIdle.{no_copy_at, broadcast_copies, once_copies}
+use Rattle.flow_block_law.proofs.CopiesIdle.{no_copy_at}
 use Rattle.flow_block_law.proofs.CopierKept.{call_keeps as copier_kept}
 use Rattle.flow_block_law.proofs.KindsBuilt.{has_one_port, makes_by, next_by}
 use Rattle.flow_block_law.proofs.ShapeHolds.{shape_kept}
-use Rattle.flow_block_law.proofs.Joins.{copies_at_one}
 
 -- what shares its messages out copies none, whatever it makes
 record SameCopies (before after : BlockState) : Type 0 where
@@ -69,7 +69,7 @@ module _ {W : Type 0} (layout : Layout W) (meaning : ℕ → Value → Result (L
       let held = holds_in p k (hand_at p k node) node in
       taken_in_keeps (λ new journal. IsIdle new) p k (hand_at p k node) node
       (take_keeps p k (hand_at p k node) node law.copies.idle)
-      (λ at_once. copied_keeps (first_of (held_by held.block)) held.block (once_copies held.block.kind at_once.once))
+      (λ at_once. copied_keeps (first_of (held_by held.block)) held.block (kind_tells is_write_once true is_one_taker false refl held.block.kind at_once.once))
   idle_keeps node (NodeCall.give k) law may = give_keeps k (head_of node.block.exits) node law.copies.idle
   idle_keeps node (NodeCall.copy call) law may = λ shares. absurd (no_copy_at layout meaning b node law shares (copy_place call) may.place)
   idle_keeps node NodeCall.make law may =
@@ -79,7 +79,7 @@ module _ {W : Type 0} (layout : Layout W) (meaning : ℕ → Value → Result (L
       makes_by IsIdle (block_makes layout meaning b) node.block
       (λ batch. law.copies.idle)
       (λ join. law.copies.idle)
-      (λ broadcast. copied_keeps (first_of (held_by node.block)) node.block (broadcast_copies node.block.kind broadcast))
+      (λ broadcast. copied_keeps (first_of (held_by node.block)) node.block (kind_tells is_broadcast true is_one_taker false refl node.block.kind broadcast))
       (λ other alone single. stays node.block _
       (next_same (block_makes layout meaning b) (first_of (held_by node.block)) node.block) law.copies.idle))
   idle_keeps node call law may = law.copies.idle
@@ -107,7 +107,7 @@ module _ {W : Type 0} (layout : Layout W) (meaning : ℕ → Value → Result (L
     copier = λ copying.
         let copied = kind_stays node call law may copying in
         copier_kept layout meaning b node (law.copies.copier copied) call may
-        (has_one_port layout meaning b node.block law.shape (copies_at_one node.block.kind copied))
+        (has_one_port layout meaning b node.block law.shape (kind_tells is_one_taker false has_ports false refl node.block.kind copied))
         copied law.none_held (still_goes node law);
   }
 

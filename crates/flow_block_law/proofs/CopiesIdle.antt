@@ -1,27 +1,12 @@
 -- A block that shares its messages out copies none: no link is there over which copies could go.
 use Rattle.std.proofs.Common.{◌≡◌, ℕ, ◌<◌, Bool, true, false, List, [], length, Result, refl, ap, arith}
 use Rattle.flow_value.specs.declared.value.Value.{Value}
-use Rattle.flow_link.specs.declared.draft.BlockKind.{BlockKind}
-use Rattle.flow_link.specs.declared.draft.BlockKind.TheVariants.{Broadcast, WriteOnce}
 use Rattle.flow_link.specs.Layout.{Layout}
-use Rattle.flow_link.specs.Plan.{is_one_taker, is_broadcast, is_write_once}
+use Rattle.flow_link.specs.Plan.{is_one_taker}
 use Rattle.flow_spread.specs.Spread.{SpreadState, fresh_spread, is_at_rest}
 use Rattle.flow_block.specs.Copies.{copies_left}
 use Rattle.flow_block.specs.Node.{NodeState, left_in, out_view, source_view}
 use Rattle.flow_block_law.specs.NodeLaw.{NodeLaw}
-
--- what shares its messages out is no broadcast
-pub never_broadcast : (kind : BlockKind) → is_one_taker kind ≡ true → is_broadcast kind ≡ false
-never_broadcast Broadcast shares = absurd (cc)
-never_broadcast _ shares = refl
-
-pub broadcast_copies : (kind : BlockKind) → is_broadcast kind ≡ true → is_one_taker kind ≡ false
-broadcast_copies Broadcast broadcast = refl
-broadcast_copies _ broadcast = absurd (cc)
-
-pub once_copies : (kind : BlockKind) → is_write_once kind ≡ true → is_one_taker kind ≡ false
-once_copies WriteOnce once = refl
-once_copies _ once = absurd (cc)
 
 module _ {W : Type 0} (layout : Layout W) (meaning : ℕ → Value → Result (List Value) ℕ) (b : ℕ) (node : NodeState)
     (law : NodeLaw layout meaning b node) (shares : is_one_taker node.block.kind ≡ true) where

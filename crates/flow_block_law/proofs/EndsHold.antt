@@ -13,20 +13,22 @@ use Rattle.flow_link.specs.declared.trace.Outcome.{Outcome}
 use Rattle.flow_link.specs.Layout.{Layout}
 use Rattle.flow_link.specs.Stage.{source_looks, target_looks}
 use Rattle.flow_link.specs.Trace.{has_complete, has_ended, is_complete_mark, is_any_fault_mark, is_done_mark, took}
+use Rattle.flow_link.proofs.KindsTell.{kind_tells}
 use Rattle.flow_lists.proofs.ListTests.{never_both}
 use Rattle.flow_intake.specs.Port.{PortState, stage_at as port_stage, end_in, hand_in, is_offer, is_hand}
 use Rattle.flow_intake.specs.Calls.{message_of, is_offered, is_posted, is_postponed, is_arrived, may_be_refused, first_of, refused_by, wants, turns_down, postpones, refuses, consumes, opens, closes, looks as port_looks, takes_next, gives_room, port_closes, port_fails}
 use Rattle.flow_intake.proofs.CountsOfEnds.{hand_comes}
 use Rattle.flow_outlet.specs.Outlet.{OutletState, is_empty, head_of, gives, prepares, offers, denies, withdraws, ends_link, looks as exit_looks, end_at, stage_at}
 use Rattle.flow_block.specs.Copies.{CopyCall, after_copy, copies_weight}
-use Rattle.flow_block_law.proofs.CopiesIdle.{copies_at, once_copies}
+use Rattle.flow_block_law.proofs.CopiesIdle.{copies_at}
 use Rattle.flow_block.specs.Block.{BlockState, port_in, port_at, with_port, with_jobs, held_by, made_of, fails, puts_out, yields, keeps_results, makes_of, takes_group, makes_row, gives_out, makes_tuple, copies_next, with_copies}
 use Rattle.flow_block.specs.Jobs.{JobsState, begins, works_off}
 use Rattle.flow_block.specs.Node.{NodeState, NodeCall, gives_from, in_link_at, out_link_at, copies_by, order_in, holds_in}
 use Rattle.flow_block_law.specs.NodeKeeps.{EndsKept, MayCall, InAt, MayGive, MayCompletePort, after_call, MayCopy}
 use Rattle.flow_block_law.specs.NodeLaw.{NodeLaw, EndsLaw, has_made_all, stops_at, outcome_in, has_its_message}
-use Rattle.flow_block.specs.Peeks.{is_written}
-use Rattle.flow_link.specs.Plan.{is_write_once}
+use Rattle.flow_block.specs.Peeks.{holds_nothing, is_written}
+use Rattle.flow_link.specs.Plan.{is_write_once, is_one_taker}
+use Rattle.flow_link.specs.declared.kinds.BlockUnit.{BlockUnit}
 use Rattle.flow_intake.specs.Ended.{has_seen_completion}
 use Rattle.flow_block.proofs.CopiesTaken.{taken_in_keeps, held_stopped}
 use Rattle.flow_block_law.proofs.WrittenOnce.{written_tells}
@@ -258,7 +260,7 @@ module _ {W : Type 0} (layout : Layout W) (meaning : ℕ → Value → Result (L
       → has_its_message node.block.kind node.journal ≡ true
   written_so node law written =
       let once = (and_parts (is_write_once node.block.kind) (is_some node.block.copies.element) written).0 in
-      written_tells layout b node.block node.journal (law.copies.copier (once_copies node.block.kind once)) written
+      written_tells layout b node.block node.journal (law.copies.copier (kind_tells is_write_once true is_one_taker false refl node.block.kind once)) written
 
   unwritten_so : (node : NodeState) → NodeLaw layout meaning b node → has_its_message node.block.kind node.journal ≡ false
       → is_written node.block ≡ false

@@ -16,13 +16,15 @@ use Rattle.flow_intake.specs.Port.{PortState, fresh_port}
 use Rattle.flow_intake.specs.PortLaw.{has_ended as has_port_ended}
 use Rattle.flow_intake.specs.Calls.{port_closes}
 use Rattle.flow_outlet.specs.Outlet.{is_empty}
-use Rattle.flow_block.specs.Block.{BlockState, port_in, port_at, held_by, is_batch, stops_by, is_join, is_batched_join}
-use Rattle.flow_block_law.specs.NodeLaw.{ShapeLaw, EndsLaw, has_made_all, have_completed, has_its_message}
-use Rattle.flow_block.specs.Peeks.{fault_at_ports, holds_nothing, has_group, is_worked_off, next_fault, may_finish, all_ended, has_group_of_ports, is_written}
+use Rattle.flow_block.specs.Block.{BlockState, port_in, port_at, held_by, stops_by, is_join}
+use Rattle.flow_block_law.specs.NodeLaw.{ShapeLaw, EndsLaw, have_completed, has_its_message, made_all_by_unit}
+use Rattle.flow_block.specs.Peeks.{fault_at_ports, holds_nothing, is_worked_off, next_fault, may_finish, all_ended, has_group_of_ports, is_written, is_off_by_unit}
+use Rattle.flow_link.specs.declared.kinds.BlockUnit.{BlockUnit}
+use Rattle.flow_link.specs.Kinds.{unit_of, makes_rows}
 use Rattle.flow_block_law.proofs.FaultsSeen.{sees_at, seen_at_ports, cause_tells}
 use Rattle.flow_block_law.proofs.GoingOn.{open_goes_on, may_fault_tells, may_finish_tells}
 use Rattle.flow_block_law.proofs.JournalTells.{goes_on, not_faulted_so, outcome_more, complete_where, ended_by_fault, ended_by_done}
-use Rattle.flow_group.specs.Tuple.{has_tuple, is_join_complete}
+use Rattle.flow_group.specs.Tuple.{is_join_complete}
 use Rattle.flow_block_law.proofs.JoinsEnd.{join_has_ended}
 use Rattle.flow_block_law.proofs.PortEnds.{PortEnds, port_closed, completes_by, completes_more}
 use Rattle.flow_block.proofs.PortsChange.{kept_at_all, each_after_all}
@@ -36,6 +38,7 @@ use Rattle.flow_block_law.specs.GroupsLaw.{are_complete}
 use Rattle.flow_block_law.proofs.EndsOfBlocks.{every_same, same_completed, no_group_left, each_port, both}
 use Rattle.flow_link.proofs.RoundsOfWalks.{some_here_below}
 use Rattle.flow_link.specs.declared.trace.Outcome.TheVariants as outcome
+use Rattle.flow_link.specs.declared.kinds.BlockUnit.TheVariants as unit
 
 module _ {W : Type 0} (layout : Layout W) (meaning : ℕ → Value → Result (List Value) ℕ) (b : ℕ) where
   abbrev Ends : BlockState → List Mark → Type 0
@@ -59,25 +62,26 @@ module _ {W : Type 0} (layout : Layout W) (meaning : ℕ → Value → Result (L
       (each_port layout meaning b block journal law q small) (ended q)
       (λ is. (each_port layout meaning b block journal law q small).complete_cause (complete q is)))
 
+  -- a port that closes holds what it held
+  closed_holds : (block : BlockState) → holds_nothing (map port_closes block.ports) ≡ holds_nothing block.ports
+  closed_holds block = every_map (λ (q : PortState). is_empty q.waiting) port_closes block.ports (λ q. refl)
+
   -- it could make nothing more, and stops
   made_all_by : (block : BlockState) (journal later : List Mark) → ShapeLaw layout meaning b block → Ends block journal
       → block.stopped ≡ None → (how : Outcome) → ((p : ℕ) → has_complete p later ≡ has_complete p journal)
-      → (batch join batched : Bool) → is_batch block.kind ≡ batch → is_join block.kind ≡ join
-      → is_batched_join block.kind ≡ batched
-      → cond batch (not (has_group block)) (cond join (not (has_tuple block.ports))
-      (cond batched (not (has_group_of_ports block)) (holds_nothing block.ports))) ≡ true
-      → has_made_all (stops_by how block) later ≡ true
-  made_all_by block journal later shape law going how same true join batched is joins groups done =
+      → (made : BlockUnit) → unit_of block.kind ≡ made → is_off_by_unit made block ≡ true
+      → made_all_by_unit made (stops_by how block) later ≡ true
+  made_all_by block journal later shape law going how same unit.Row is done =
       let there = shape.some_port in
       let held = kept_at_all (λ (port : PortState). port.waiting) port_closes block.ports 0 (λ port. refl) in
       let left =
       no_group_left (held_by block) block.size (leb block.size (length (held_by block)))
-      (has_port_ended (port_at 0 block).refusing) (has_complete 0 journal) (shape.some_size is) refl
+      (has_port_ended (port_at 0 block).refusing) (has_complete 0 journal) (shape.some_size (ap makes_rows is)) refl
       (λ unended. (open_goes_on layout meaning b block journal law 0 there unended).1) done in
-      rw (is, held, same 0) left
-  made_all_by block journal later shape law going how same false true batched is joins groups done =
-      rw (is, joins, tuple_at_all port_closes block.ports (λ port. refl)) done
-  made_all_by block journal later shape law going how same false false true is joins groups done =
+      rw (held, same 0) left
+  made_all_by block journal later shape law going how same unit.Tuple is done =
+      rw (tuple_at_all port_closes block.ports (λ port. refl)) done
+  made_all_by block journal later shape law going how same unit.Group is done =
       let closed = map port_closes block.ports in
       let complete : are_complete (length closed) later ≡ are_complete (length block.ports) journal =
       ap (λ (count : ℕ). are_complete count later) (length-map block.ports port_closes)
@@ -86,10 +90,10 @@ module _ {W : Type 0} (layout : Layout W) (meaning : ℕ → Value → Result (L
       ap₂ (λ (many : ℕ) (ended : Bool). ltb 0 many && (leb block.size many || ended))
       (waiting_at_all port_closes block.ports (λ port. refl)) complete
       ∙ sym (group_told layout meaning b block journal law going) in
-      rw (is, joins, groups) (ap not group ∙ done)
-  made_all_by block journal later shape law going how same false false false is joins groups done =
-      let holds = every_map (λ (q : PortState). is_empty q.waiting) port_closes block.ports (λ q. refl) in
-      rw (is, joins, groups) (holds ∙ done)
+      ap not group ∙ done
+  made_all_by block journal later shape law going how same unit.Message is done = closed_holds block ∙ done
+  made_all_by block journal later shape law going how same unit.Copy is done = closed_holds block ∙ done
+  made_all_by block journal later shape law going how same unit.OneCopy is done = closed_holds block ∙ done
 
   pub faulted : (block : BlockState) (journal : List Mark) → ShapeLaw layout meaning b block → Ends block journal
       → (number : ℕ) → next_fault block ≡ Some number
@@ -129,8 +133,7 @@ module _ {W : Type 0} (layout : Layout W) (meaning : ℕ → Value → Result (L
             ⊎_elim (λ own. inl (own ∙ ap Some same)) (λ seen. inr (
               seen.none,
               made_all_by block journal later shape law none (outcome.Faulted number)
-                  (λ p. some_no_more (is_complete_mark p) journal mark refl) (is_batch block.kind) (is_join block.kind)
-                  (is_batched_join block.kind) refl refl refl seen.empty,
+                  (λ p. some_no_more (is_complete_mark p) journal mark refl) (unit_of block.kind) refl seen.empty,
             )) cause;
       })
 

@@ -13,6 +13,10 @@ use Rattle.flow_link.specs.declared.trace.Outcome.{Outcome}
 use Rattle.flow_link.specs.declared.trace.Outcome.TheVariants as outcome
 use Rattle.flow_link.specs.Layout.{Layout}
 use Rattle.flow_link.specs.LinkOk.{HasRoom}
+use Rattle.flow_link.specs.declared.kinds.BlockUnit.{BlockUnit}
+use Rattle.flow_link.specs.declared.kinds.BlockUnit.TheVariants as unit
+use Rattle.flow_link.specs.Kinds.{unit_of}
+use Rattle.flow_link.proofs.KindsTell.{kind_tells, row_is, tuple_is}
 use Rattle.flow_lists.proofs.ListTests.{or_weaker}
 use Rattle.flow_intake.specs.Port.{EndState, PortState, stage_at as port_stage, is_offer, is_hand}
 use Rattle.flow_intake.specs.Calls.{first_of, is_offered, is_posted, is_postponed, is_arrived, may_be_refused, wants, turns_down, postpones, refuses, consumes, opens, closes, looks as port_looks, takes_next, gives_room, port_closes}
@@ -24,10 +28,9 @@ use Rattle.flow_outlet.specs.Outlet.{OutletState, head_of, end_at, stage_at, is_
 use Rattle.flow_outlet.proofs.LawKept.{calls_keep_law}
 use Rattle.flow_outlet.proofs.OffersInOrder.{offers_in_order}
 use Rattle.flow_outlet.proofs.OneEndChanges.{each_set}
-use Rattle.flow_link.specs.Plan.{is_broadcast}
 use Rattle.flow_spread.specs.Spread.{puts}
 use Rattle.flow_block.specs.Copies.{after_copy, copies_weight}
-use Rattle.flow_block.specs.Block.{BlockState, port_at, copies_next, unit_weight, made_of, keeps_results, yields, makes_of, put_by_kind, put_of, values_of_result, row_of, next_group, group_weight, takes_group, makes_row, is_batch, gives_out, stops_by, held_by, is_join, makes_tuple, comes_back, is_batched_join}
+use Rattle.flow_block.specs.Block.{BlockState, port_at, copies_next, unit_weight, made_of, keeps_results, yields, makes_of, put_by_kind, put_of, values_of_result, row_of, next_group, group_weight, takes_group, makes_row, gives_out, stops_by, held_by, makes_tuple, comes_back, is_batched_join, puts_by_unit, put_next}
 use Rattle.flow_block.specs.Node.{NodeState, NodeCall, hand_at, gives_from, order_in, next_group_in, holds_in}
 use Rattle.flow_block_law.specs.NodeLaw.{ExitsLaw, is_kept}
 use Rattle.flow_block_law.specs.NodeKeeps.{MayCall, after_call, ExitsKept}
@@ -37,9 +40,8 @@ use Rattle.flow_block.proofs.CopiesTaken.{taken_in_keeps}
 use Rattle.flow_block_law.proofs.EndsTell.{none_kept_by_looks}
 use Rattle.flow_block_law.proofs.FaultsSeen.{StaysSeen, stays_at_ends, stays_at_ports, seen_over_ports, seen_by_looks, unseen_where}
 use Rattle.flow_block_law.proofs.GoingOn.{may_fault_tells, may_finish_tells}
-use Rattle.flow_block_law.proofs.KindsBuilt.{makes_by, next_by}
+use Rattle.flow_block_law.proofs.KindsBuilt.{makes_by, next_by, puts_one}
 use Rattle.flow_group.specs.Tuple.{tuple_of}
-use Rattle.flow_block_law.proofs.Joins.{join_alone}
 use Rattle.flow_block.proofs.RoomBack.{seen_over_back}
 use Rattle.flow_block_law.proofs.GroupPorts.{seen_by_group}
 use Rattle.flow_block.specs.Groups.{makes_group}
@@ -294,33 +296,24 @@ module _ {W : Type 0} (layout : Layout W) (meaning : ℕ → Value → Result (L
   exits_keep node NodeCall.make law may =
       let block = node.block in
       let result = block_makes layout meaning b in
-      let row = row_of (next_group block) ∷ [] in
-      let tuple = tuple_of block.ports ∷ [] in
-      let one = put_of block.kind result (first_of (held_by block)) in
-      let other = cond (is_broadcast block.kind) [] one in
-      let next = cond (is_batch block.kind) row (cond (is_join block.kind) tuple other) in
+      let next = put_next result block in
       let fits_node : (batched : Bool) → is_batched_join block.kind ≡ batched
       → lacks_ids (cond batched (next_group_in node ∷ []) next) block.exits ≡ false =
       λ batched is. ap (λ (kind : Bool). lacks_ids (cond kind (next_group_in node ∷ []) next) block.exits) (sym is) ∙ may.ids in
-      let fits : is_batched_join block.kind ≡ false → (batch : Bool) → is_batch block.kind ≡ batch
-      → lacks_ids (cond batch row (cond (is_join block.kind) tuple other)) block.exits ≡ false =
-      λ grouped batch is.
-      ap (λ (kind : Bool). lacks_ids (cond kind row (cond (is_join block.kind) tuple other)) block.exits) (sym is)
-      ∙ fits_node false grouped in
-      let fits_alone : is_batched_join block.kind ≡ false → (join : Bool) → is_join block.kind ≡ join
-      → is_batch block.kind ≡ false
-      → lacks_ids (cond join tuple other) block.exits ≡ false =
-      λ grouped join is single.
-      ap (λ (kind : Bool). lacks_ids (cond kind tuple other) block.exits) (sym is) ∙ fits grouped false single in
+      let fits : is_batched_join block.kind ≡ false → (made : BlockUnit) → unit_of block.kind ≡ made
+      → lacks_ids (puts_by_unit made result block) block.exits ≡ false =
+      λ grouped made is.
+      ap (λ (u : BlockUnit). lacks_ids (puts_by_unit u result block) block.exits) (sym is) ∙ fits_node false grouped in
       next_by (λ (new : NodeState). ExitsLaw layout meaning b new.block) result node
       (λ batched. group_keeps block law block.size 0 (order_in node) (fits_node true batched))
       (λ grouped.
       makes_by (ExitsLaw layout meaning b) result block
-      (λ batch. row_keeps block law (fits grouped true batch))
-      (λ join. tuple_keeps block law (fits_alone grouped true join (join_alone block.kind join)))
+      (λ batch. row_keeps block law (fits grouped unit.Row (row_is (unit_of block.kind) batch)))
+      (λ join. tuple_keeps block law (fits grouped unit.Tuple (tuple_is (unit_of block.kind) join)))
       (λ broadcast. copy_keeps block law (first_of (held_by block)))
       (λ single alone shared. make_keeps block law result (first_of (held_by block))
-      (ap (λ (kind : Bool). lacks_ids (cond kind [] one) block.exits) (sym shared) ∙ fits_alone grouped false alone single)))
+      (ap (λ (values : List Value). lacks_ids values block.exits) (sym (puts_one result block single alone shared))
+      ∙ fits_node false grouped)))
   exits_keep node (NodeCall.complete p) law may = port_stays node.block law p (port_closes (port_at p node.block)) refl
   exits_keep node (NodeCall.fault number) law may =
       stops_keep node.block law (outcome.Faulted number) (may_fault_tells node.block number may).going

@@ -1,5 +1,5 @@
 -- What tells that a block goes on: what it may do by itself, an open port, or a link with something under way.
-use Rattle.std.proofs.Common.{◌≡◌, ℕ, zero, suc, ◌+◌, ◌<◌, ltb, ◌==◌, cond, Bool, true, false, not, ◌&&◌, List, [], ◌∷◌, length, set, Option, Some, None, is_none, is_some, Result, refl, sym, ◌∙◌, arith, eq-eqb, eqb-true, ◌||◌}
+use Rattle.std.proofs.Common.{◌≡◌, ℕ, zero, suc, ◌+◌, ◌<◌, ltb, ◌==◌, cond, Bool, true, false, not, ◌&&◌, List, [], ◌∷◌, length, set, Option, Some, None, is_none, is_some, Result, refl, sym, ◌∙◌, arith, eq-eqb, eqb-true, ◌||◌, ap}
 use Rattle.std.proofs.lemmas.Bool.{not-true, and_parts, false_from_ne_true}
 use Rattle.flow_value.specs.declared.value.Value.{Value}
 use Rattle.flow_link.specs.declared.stage.SourceStage.{SourceStage}
@@ -10,7 +10,11 @@ use Rattle.flow_link.specs.Layout.{Layout}
 use Rattle.flow_link.specs.Plan.{has_work}
 use Rattle.flow_link.specs.Stage.{source_looks}
 use Rattle.flow_link.specs.Trace.{has_complete}
+use Rattle.flow_link.specs.declared.kinds.BlockUnit.{BlockUnit}
+use Rattle.flow_link.specs.declared.kinds.BlockUnit.TheVariants as unit
+use Rattle.flow_link.specs.Kinds.{unit_of}
 use Rattle.flow_lists.proofs.ListTests.{never_both}
+use Rattle.flow_link.proofs.KindsTell.{row_is, tuple_is, group_is}
 use Rattle.flow_intake.specs.Port.{coming}
 use Rattle.flow_intake.specs.PortLaw.{has_ended}
 use Rattle.flow_intake.specs.Ended.{has_seen_completion}
@@ -18,16 +22,14 @@ use Rattle.flow_outlet.specs.declared.ends.OutEnd.{OutEnd}
 use Rattle.flow_outlet.specs.End.{is_away, is_waiting, count_at, end_in}
 use Rattle.flow_outlet.specs.Outlet.{is_empty, is_wanted, is_wish, is_at_rest, stage_at}
 use Rattle.flow_spread.specs.Spread.{is_at_rest as is_spread_at_rest}
-use Rattle.flow_link.specs.declared.draft.BlockKind.TheVariants.{Join, BatchedJoin}
 use Rattle.flow_group.specs.Tuple.{has_tuple}
 use Rattle.flow_block.specs.Block.{BlockState, port_at, held_by, is_batch, is_join, is_batched_join}
 use Rattle.flow_block.specs.Copies.{copies_left}
 use Rattle.flow_block.specs.Jobs.{out_count}
-use Rattle.flow_block.specs.Peeks.{could_stop, is_out_at_rest, is_copied_out, may_copy, has_group, has_next, may_work, may_begin, may_make, may_complete, next_fault, may_finish, fault_cause, nothing_comes, holds_nothing, is_complete, has_group_of_ports, is_written}
+use Rattle.flow_block.specs.Peeks.{could_stop, is_out_at_rest, is_copied_out, has_group, has_next, may_work, may_begin, may_make, may_complete, next_fault, may_finish, fault_cause, nothing_comes, holds_nothing, is_complete, has_group_of_ports, is_written, has_unit}
 use Rattle.flow_block_law.specs.NodeLaw.{EndsLaw, outcome_in}
 use Rattle.flow_block_law.proofs.JournalTells.{open_tells}
 use Rattle.flow_lists.proofs.TestsTell.{none_is, none_unless}
-use Rattle.flow_link.specs.declared.draft.BlockKind.{BlockKind}
 
 -- what counts nothing, and its elements
 none_counted : (b : Bool) (n : ℕ) → (cond b 1 0 + n == 0) ≡ true → (b ≡ false) × ((n == 0) ≡ true)
@@ -88,18 +90,6 @@ could_tells block e =
     let both = and_parts (is_none block.stopped) (nothing_comes block.ports) e in
     (none_is block.stopped both.0, both.1)
 
-single_join : (kind : BlockKind) → is_join kind ≡ true → is_batch kind ≡ false
-single_join Join e = refl
-single_join _ e = absurd (cc)
-
-single_batched : (kind : BlockKind) → is_batched_join kind ≡ true → is_batch kind ≡ false
-single_batched BatchedJoin e = refl
-single_batched _ e = absurd (cc)
-
-unjoined_batched : (kind : BlockKind) → is_batched_join kind ≡ true → is_join kind ≡ false
-unjoined_batched BatchedJoin e = refl
-unjoined_batched _ e = absurd (cc)
-
 pub record MayMake (block : BlockState) : Type 0 where
   pub going : block.stopped ≡ None
   pub no_fault : block.fault ≡ None
@@ -110,42 +100,20 @@ pub record MayMake (block : BlockState) : Type 0 where
   -- a batched join has a group to make
   pub groups : is_batched_join block.kind ≡ true → has_group_of_ports block ≡ true
 
-next_of_batch : (batch : Bool) (group some : Bool) → cond batch group some ≡ true → batch ≡ true → group ≡ true
-next_of_batch true group some e is = e
-next_of_batch false group some e is = absurd (cc)
-
-next_of_join : (batch join : Bool) (group tuple some : Bool) → cond batch group (cond join tuple some) ≡ true → batch ≡ false
-    → join ≡ true → tuple ≡ true
-next_of_join false true group tuple some e single is = e
-next_of_join false false group tuple some e single is = absurd (cc)
-next_of_join true join group tuple some e single is = absurd (cc)
-
-next_of_batched : (batch join batched : Bool) (group tuple groups some : Bool)
-    → cond batch group (cond join tuple (cond batched groups some)) ≡ true
-    → batch ≡ false → join ≡ false → batched ≡ true → groups ≡ true
-next_of_batched false false true group tuple groups some e single alone is = e
-next_of_batched false false false group tuple groups some e single alone is = absurd (cc)
-next_of_batched false true batched group tuple groups some e single alone is = absurd (cc)
-next_of_batched true join batched group tuple groups some e single alone is = absurd (cc)
+-- of a block of this unit
+next_at : (made : BlockUnit) (block : BlockState) → unit_of block.kind ≡ made → has_next block ≡ true → has_unit made block ≡ true
+next_at made block is next = ap (λ (u : BlockUnit). has_unit u block) (sym is) ∙ next
 
 pub may_work_tells : (block : BlockState) → may_work block ≡ true → MayMake block
 may_work_tells block e =
     let outer = and_parts (is_none block.stopped && is_none block.fault) (has_next block) e in
     let inner = and_parts (is_none block.stopped) (is_none block.fault) outer.0 in
-    let some = not (is_empty (held_by block)) && may_copy block in
-    let other = cond (is_batched_join block.kind) (has_group_of_ports block) some in
     record {
       going = none_is block.stopped inner.0;
       no_fault = none_is block.fault inner.1;
-      group =
-          next_of_batch (is_batch block.kind) (has_group block) (cond (is_join block.kind) (has_tuple block.ports) other) outer.1;
-      tuple = λ join.
-          next_of_join (is_batch block.kind) (is_join block.kind) (has_group block) (has_tuple block.ports) other outer.1
-          (single_join block.kind join) join;
-      groups = λ batched.
-          next_of_batched (is_batch block.kind) (is_join block.kind) (is_batched_join block.kind) (has_group block)
-          (has_tuple block.ports) (has_group_of_ports block) some outer.1 (single_batched block.kind batched)
-          (unjoined_batched block.kind batched) batched;
+      group = λ batch. next_at unit.Row block (row_is (unit_of block.kind) batch) outer.1;
+      tuple = λ join. next_at unit.Tuple block (tuple_is (unit_of block.kind) join) outer.1;
+      groups = λ batched. next_at unit.Group block (group_is (unit_of block.kind) batched) outer.1;
     }
 
 pub may_begin_tells : (block : BlockState) → may_begin block ≡ true → MayMake block

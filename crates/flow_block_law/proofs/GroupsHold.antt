@@ -1,7 +1,9 @@
 -- Each call keeps the groups of a batched join, and what it counts at its ports.
-use Rattle.std.proofs.Common.{◌≡◌, ℕ, Bool, true, List, cond, length, Result, refl, ap, sym, ◌∙◌, subst}
+use Rattle.std.proofs.Common.{◌≡◌, ℕ, Bool, true, List, cond, length, Result, refl, ap, sym, ◌∙◌, subst, false}
 use Rattle.flow_value.specs.declared.value.Value.{Value}
 use Rattle.flow_link.specs.Layout.{Layout}
+use Rattle.flow_link.specs.Plan.{is_one_taker, is_write_once}
+use Rattle.flow_link.proofs.KindsTell.{kind_tells}
 use Rattle.flow_intake.specs.Port.{stage_at as port_stage}
 use Rattle.flow_intake.proofs.CountsOfEnds.{hand_comes}
 use Rattle.flow_block.specs.Block.{port_at, makes, is_batched_join}
@@ -20,7 +22,6 @@ use Rattle.flow_block_law.proofs.GroupsLoad.{groups_keep_load}
 use Rattle.flow_block_law.proofs.GroupsOrdered.{groups_ordered}
 use Rattle.flow_block_law.proofs.GroupsPeek.{ports_tell_groups}
 use Rattle.flow_block_law.proofs.GroupsTold.{group_told}
-use Rattle.flow_block_law.proofs.Joins.{batched_shares, batched_takes_many}
 use Rattle.flow_block_law.proofs.ShapeHolds.{same_kind}
 
 module _ {W : Type 0} (layout : Layout W) (meaning : ℕ → Value → Result (List Value) ℕ) (b : ℕ) where
@@ -40,7 +41,7 @@ module _ {W : Type 0} (layout : Layout W) (meaning : ℕ → Value → Result (L
         unfinished = (open_goes_on layout meaning b node.block node.journal law.ends p may.port open_port).1;
       }
   may_so node (NodeCall.copy call) law batched may =
-      no_copy_at layout meaning b node law (batched_shares node.block.kind batched) (copy_place call) may.place
+      no_copy_at layout meaning b node law (kind_tells is_batched_join true is_one_taker true refl node.block.kind batched) (copy_place call) may.place
   may_so node call law batched may = may
 
   after_same : (node : NodeState) (call : NodeCall) → is_batched_join node.block.kind ≡ true
@@ -50,7 +51,7 @@ module _ {W : Type 0} (layout : Layout W) (meaning : ℕ → Value → Result (L
       (with_block (makes (block_makes layout meaning b) node.block) node))
       (sym batched)
   after_same node (NodeCall.close p k) batched =
-      sym (taken_as_held p k (hand_at p k node) node (batched_takes_many node.block.kind batched))
+      sym (taken_as_held p k (hand_at p k node) node (kind_tells is_batched_join true is_write_once false refl node.block.kind batched))
   after_same node call batched = refl
 
   batched_before : (node : NodeState) (call : NodeCall) → NodeLaw layout meaning b node → MayCall layout meaning b call node

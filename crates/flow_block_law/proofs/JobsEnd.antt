@@ -8,13 +8,14 @@ use Rattle.flow_link.specs.declared.draft.BlockKind.TheVariants.{Buffer, Action}
 use Rattle.flow_link.specs.declared.trace.Mark.{Mark}
 use Rattle.flow_link.specs.Layout.{Layout}
 use Rattle.flow_link.specs.Plan.{has_work, is_broadcast}
+use Rattle.flow_link.specs.declared.kinds.BlockUnit.{BlockUnit}
+use Rattle.flow_link.proofs.KindsTell.{kind_tells, works_on_messages}
 use Rattle.flow_lists.proofs.ListTests.{never_both}
 use Rattle.flow_intake.specs.Port.{PortState, end_in}
 use Rattle.flow_intake.specs.Calls.{first_of, port_fails}
 use Rattle.flow_outlet.specs.End.{end_in as out_end}
 use Rattle.flow_outlet.specs.Outlet.{OutletState, lacks_ids, puts}
-use Rattle.flow_group.specs.Tuple.{tuple_of}
-use Rattle.flow_block.specs.Block.{BlockState, port_at, unit_weight, with_jobs, is_join, makes_tuple, job_message, held_by, put_by_kind, values_of_result, put_of, fails, keeps_results, yields, copies_next, makes_of, makes_other, row_of, next_group, makes_row, makes, yields_all, yields_where, put_where, put_next}
+use Rattle.flow_block.specs.Block.{BlockState, port_at, unit_weight, with_jobs, job_message, held_by, put_by_kind, values_of_result, put_of, fails, keeps_results, yields, makes_of, makes, yields_all, yields_where, put_where, put_next, has_ports, is_batched_join, makes_by_unit, puts_by_unit}
 use Rattle.flow_block.specs.Jobs.{Slot, JobsState, no_slot, out_count, place_of, is_out, is_front_back, brings, comes_out, AreOf}
 use Rattle.flow_block_law.specs.JobsEnd.{JobsEndWell, MayEndJob, EndsWell, ViewsStay, after_job, job_result}
 use Rattle.flow_block.specs.Node.{NodeState, NodeCall, with_block, view_of_in, view_of_out, makes_next_group, next_group_in}
@@ -25,7 +26,7 @@ use Rattle.flow_block_law.proofs.EndsHold.{jobs_change as ends_stay}
 use Rattle.flow_block_law.proofs.JobsHold.{back_at, makes_by_work}
 use Rattle.flow_block_law.proofs.CopierHolds.{jobs_change}
 use Rattle.flow_block.proofs.LanesBusy.{out_set}
-use Rattle.flow_block_law.proofs.KindsBuilt.{has_one_port, works_alone, works_shared}
+use Rattle.flow_block_law.proofs.KindsBuilt.{has_one_port}
 use Rattle.flow_block_law.proofs.LoadHolds.{jobs_change as load_stays}
 use Rattle.flow_block_law.proofs.MakesHold.{jobs_change as makes_stay}
 use Rattle.flow_block_law.proofs.NodesKept.{nodes_kept}
@@ -34,7 +35,6 @@ use Rattle.flow_block_law.proofs.ShapeHolds.{exits_move as shape_stays}
 use Rattle.flow_lists.proofs.TestsTell.{none_is}
 use Rattle.flow_block.proofs.ResultsKept.{keeps_goes, ports_stay, held_then}
 use Rattle.flow_block_law.proofs.EndsStay.{EndsStay, keeping_stays, yielding_stays}
-use Rattle.flow_block_law.proofs.Joins.{works_unjoined, works_unbatched, works_at_one}
 
 -- Other slots
 
@@ -202,11 +202,7 @@ module _ {W : Type 0} (kept : NodesKept W) (layout : Layout W) (meaning : ℕ �
       → has_work block.kind ≡ true → held_by block ≡ value ∷ rest → result value ≡ made
       → makes result block ≡ yields made block
   makes_so block made value rest works held is =
-      ap (λ (batch : Bool). cond batch (makes_row block) (cond (is_join block.kind) (makes_tuple block) (makes_other result block)))
-      (works_alone block.kind works)
-      ∙ ap (λ (join : Bool). cond join (makes_tuple block) (makes_other result block)) (works_unjoined block.kind works)
-      ∙ ap (λ (copies : Bool). cond copies (copies_next (first_of (held_by block)) block) (makes_of result (first_of (held_by block)) block))
-      (works_shared block.kind works)
+      ap (λ (u : BlockUnit). makes_by_unit u result block) (works_on_messages block.kind works)
       ∙ ap (λ (first : Option Value). makes_of result first block) (ap first_of held)
       ∙ ap (λ (r : Result (List Value) ℕ). yields r block) (sym (makes_by_work result block.kind value works) ∙ is)
 
@@ -224,25 +220,15 @@ module _ {W : Type 0} (kept : NodesKept W) (layout : Layout W) (meaning : ℕ �
         waits = rw (
           going,
           well,
-          works_alone block.kind works,
-          works_unjoined block.kind works,
-          works_unbatched block.kind works,
+          works_on_messages block.kind works,
           held,
-          works_shared block.kind works,
+          kind_tells has_work true is_broadcast false refl block.kind works,
         ) refl;
         all_out = refl;
-        copy_id = λ broadcast. absurd (never_both (is_broadcast block.kind) broadcast (works_shared block.kind works));
+        copy_id = λ broadcast. absurd (never_both (is_broadcast block.kind) broadcast (kind_tells has_work true is_broadcast false refl block.kind works));
         ids = ap (λ (batched : Bool). lacks_ids (cond batched (next_group_in node ∷ []) (put_next result old)) block.exits)
-            (works_unbatched block.kind works)
-            ∙ ap (λ (batch : Bool). lacks_ids (cond batch (row_of (next_group old) ∷ [])
-            (cond (is_join block.kind) (tuple_of block.ports ∷ [])
-            (cond (is_broadcast block.kind) [] (put_of block.kind result (first_of (held_by block)))))) block.exits)
-            (works_alone block.kind works)
-            ∙ ap (λ (join : Bool). lacks_ids (cond join (tuple_of block.ports ∷ [])
-            (cond (is_broadcast block.kind) [] (put_of block.kind result (first_of (held_by block))))) block.exits)
-            (works_unjoined block.kind works)
-            ∙ ap (λ (copies : Bool). lacks_ids (cond copies [] (put_of block.kind result (first_of (held_by block)))) block.exits)
-            (works_shared block.kind works)
+            (kind_tells has_work true is_batched_join false refl block.kind works)
+            ∙ ap (λ (u : BlockUnit). lacks_ids (puts_by_unit u result old) block.exits) (works_on_messages block.kind works)
             ∙ ap (λ (first : Option Value). lacks_ids (put_of block.kind result first) block.exits) (ap first_of held)
             ∙ ap (λ (r : Result (List Value) ℕ). lacks_ids (put_by_kind block.kind (values_of_result r)) block.exits)
             (sym (makes_by_work result block.kind value works) ∙ is)
@@ -251,7 +237,7 @@ module _ {W : Type 0} (kept : NodesKept W) (layout : Layout W) (meaning : ℕ �
       subst (λ (new : BlockState). InOrder new journal) (makes_so old made value rest works held is)
       (subst (λ (new : NodeState). NodeLaw layout meaning b new)
       (ap (λ (batched : Bool). cond batched (makes_next_group node) (with_block (makes result old) node))
-      (works_unbatched block.kind works))
+      (kind_tells has_work true is_batched_join false refl block.kind works))
       (kept layout meaning b node NodeCall.make law may))
 
   -- all that is there comes out in order
@@ -288,7 +274,7 @@ module _ {W : Type 0} (kept : NodesKept W) (layout : Layout W) (meaning : ℕ �
       (ids_first kind values (comes_out slots) block.exits ids) law in
       let mid : InOrder (with_slots [] new) journal =
       subst (λ (block : BlockState). InOrder block journal) (keeps_slots kind values [] block works) made in
-      let one = has_one_port layout meaning b (with_slots [] block) law.shape (works_at_one block.kind works) in
+      let one = has_one_port layout meaning b (with_slots [] block) law.shape (kind_tells has_work true has_ports false refl block.kind works) in
       subst (λ (block : BlockState). InOrder (yields_all slots block) journal) (sym (keeps_slots kind values all block works))
       (out_keeps slots new journal rest (held_then kind values block value rest one same)
       (ap has_work goes.kind ∙ works) (goes.stopped ∙ going) (goes.fault ∙ well)

@@ -14,8 +14,9 @@ use Rattle.flow_link.specs.declared.trace.Outcome.TheVariants as outcome
 use Rattle.flow_link.specs.JournalGrows.{taken_by_mark}
 use Rattle.flow_link.specs.Layout.{Layout}
 use Rattle.flow_lists.specs.Lists.{every}
-use Rattle.flow_link.specs.Plan.{has_work}
+use Rattle.flow_link.specs.Plan.{has_work, is_broadcast, is_write_once}
 use Rattle.flow_link.specs.Trace.{took}
+use Rattle.flow_link.proofs.KindsTell.{kind_tells}
 use Rattle.flow_lists.proofs.ListTests.{never_both}
 use Rattle.flow_link.proofs.OneMoreMark.{took_no_more, took_by_took, took_by_gave}
 use Rattle.flow_intake.specs.Port.{PortState, fresh_port, hand_in}
@@ -23,21 +24,20 @@ use Rattle.flow_intake.specs.Calls.{first_of, wants, turns_down, postpones, refu
 use Rattle.flow_outlet.specs.Outlet.{OutletState, head_of, gives}
 use Rattle.flow_link.specs.Plan.{is_one_taker}
 use Rattle.flow_block.specs.Copies.{after_copy}
-use Rattle.flow_block.specs.Block.{BlockState, port_at, with_port, begins, held_by, made_of, yields, keeps_results, makes_of, is_batch, makes_row, stops_by, makes_tuple, copies_it, copies_next, has_ports}
+use Rattle.flow_block.specs.Block.{BlockState, port_at, with_port, begins, held_by, made_of, yields, keeps_results, makes_of, is_batch, makes_row, stops_by, makes_tuple, copies_it, copies_next, has_ports, is_batched_join, is_join}
 use Rattle.flow_block.proofs.LanesBusy.{out_begun, out_rest}
 use Rattle.flow_block_law.proofs.CopiesLeave.{took_by_copy, held_by_copy}
 use Rattle.flow_block.specs.Jobs.{out_count, Slot, is_front_back, AreOf}
 use Rattle.flow_block.specs.Node.{NodeState, NodeCall, gives_from, copies_by, in_link_at, out_link_at, makes_next_group, holds_in}
 use Rattle.flow_block.proofs.CopiesTaken.{taken_in_keeps}
 use Rattle.flow_block_law.proofs.OnceMakesNone.{makes_many}
-use Rattle.flow_block_law.proofs.CopiesIdle.{broadcast_copies, once_copies}
 use Rattle.flow_block_law.specs.NodeKeeps.{JobsKept, MayCall, after_call}
 use Rattle.flow_block_law.specs.NodeLaw.{NodeLaw, JobsLaw}
 use Rattle.flow_block.specs.Peeks.{may_work, may_begin}
 use Rattle.flow_block.specs.Planned.{block_makes}
-use Rattle.flow_block_law.proofs.KindsBuilt.{is_of_one, of_one, has_one_port, batch_idle, makes_by, next_by, copying_idle}
+use Rattle.flow_block_law.proofs.KindsBuilt.{is_of_one, of_one, has_one_port, makes_by, next_by}
 use Rattle.flow_block.proofs.PortsChange.{kept_at_one, kept_at_all}
-use Rattle.flow_block_law.proofs.Joins.{join_idle, ports_idle, others_at_one, batched_idle}
+use Rattle.flow_block_law.proofs.Joins.{others_at_one}
 use Rattle.flow_block.proofs.RoomBack.{kept_back}
 use Rattle.flow_block.proofs.ResultsKept.{held_next}
 
@@ -148,7 +148,7 @@ module _ {W : Type 0} (layout : Layout W) (meaning : ℕ → Value → Result (L
       → Jobs (holds_in p k (Some value) node).block (holds_in p k (Some value) node).journal
   taken_by node law p k value below true many =
       handed_on node.block (holds_in p k (Some value) node).block node.journal (holds_in p k (Some value) node).journal refl refl
-      (ports_idle node.block.kind many) law.jobs
+      (kind_tells has_ports true has_work false refl node.block.kind many) law.jobs
   taken_by node law p k value below false alone =
       let one = has_one_port layout meaning b node.block law.shape alone in
       let first : p ≡ 0 = omega arith in
@@ -299,7 +299,7 @@ module _ {W : Type 0} (layout : Layout W) (meaning : ℕ → Value → Result (L
       → Jobs block journal → Jobs (copies_next first block) journal
   copied_next None block journal copying law = law
   copied_next (Some value) block journal copying law =
-      handed_on block (copies_it value block) journal journal refl refl (copying_idle block.kind copying) law
+      handed_on block (copies_it value block) journal journal refl refl (kind_tells is_one_taker false has_work false refl block.kind copying) law
 
   after_each : (node : NodeState) (call : NodeCall) → NodeLaw layout meaning b node → MayCall layout meaning b call node
       → Jobs (after_call layout meaning b call node).block (after_call layout meaning b call node).journal
@@ -315,7 +315,7 @@ module _ {W : Type 0} (layout : Layout W) (meaning : ℕ → Value → Result (L
       let kept = taken_in node law p k hand may.port in
       taken_in_keeps Jobs p k hand node kept
       (λ at_once. copied_next (first_of (held_by held.block)) held.block held.journal
-      (once_copies held.block.kind at_once.once) kept)
+      (kind_tells is_write_once true is_one_taker false refl held.block.kind at_once.once) kept)
   after_each node (NodeCall.give k) law may = given_out node law.jobs k (head_of node.block.exits)
   after_each node (NodeCall.look_in p k phase) law may = port_stays node law.jobs p (port_looks k phase) refl
   after_each node (NodeCall.copy call) law may =
@@ -325,15 +325,15 @@ module _ {W : Type 0} (layout : Layout W) (meaning : ℕ → Value → Result (L
   after_each node NodeCall.make law may =
       next_by (λ (new : NodeState). Jobs new.block new.journal) (block_makes layout meaning b) node
       (λ batched. handed_on node.block (makes_next_group node).block node.journal node.journal refl refl
-      (batched_idle node.block.kind batched) law.jobs)
+      (kind_tells is_batched_join true has_work false refl node.block.kind batched) law.jobs)
       (λ grouped.
       makes_by (λ new. Jobs new node.journal) (block_makes layout meaning b) node.block
-      (λ batch. handed_on node.block (makes_row node.block) node.journal node.journal refl refl (batch_idle node.block.kind batch)
+      (λ batch. handed_on node.block (makes_row node.block) node.journal node.journal refl refl (kind_tells is_batch true has_work false refl node.block.kind batch)
       law.jobs)
-      (λ join. handed_on node.block (makes_tuple node.block) node.journal node.journal refl refl (join_idle node.block.kind join)
+      (λ join. handed_on node.block (makes_tuple node.block) node.journal node.journal refl refl (kind_tells is_join true has_work false refl node.block.kind join)
       law.jobs)
       (λ broadcast. copied_next (first_of (held_by node.block)) node.block node.journal
-      (broadcast_copies node.block.kind broadcast) law.jobs)
+      (kind_tells is_broadcast true is_one_taker false refl node.block.kind broadcast) law.jobs)
       (λ other alone single. made_next node.block node.journal (held_by node.block) refl
       (has_one_port layout meaning b node.block law.shape (others_at_one node.block.kind grouped alone))
       (of_one node.block.kind grouped other alone single (makes_many layout meaning b node law may.waits)) other

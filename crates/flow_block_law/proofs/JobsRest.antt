@@ -4,11 +4,14 @@ use Rattle.std.proofs.Common.{◌≡◌, ℕ, ◌-◌, ◌<◌, ltb, leb, Bool, 
 use Rattle.std.proofs.lemmas.Bool.{and_from}
 use Rattle.flow_value.specs.declared.value.Value.{Value}
 use Rattle.flow_link.specs.Plan.{has_work}
+use Rattle.flow_link.specs.declared.kinds.BlockUnit.{BlockUnit}
+use Rattle.flow_link.specs.declared.kinds.BlockUnit.TheVariants as unit
+use Rattle.flow_link.specs.Kinds.{unit_of, makes_rows, makes_tuples, makes_groups}
 use Rattle.flow_lists.proofs.ListTests.{never_both}
 use Rattle.flow_block.specs.Block.{BlockState, held_by, is_batch, is_join, is_batched_join}
 use Rattle.flow_block.specs.Jobs.{Slot, JobsState, no_slot, out_count, is_out, is_front_back}
 use Rattle.flow_outlet.specs.Outlet.{is_empty}
-use Rattle.flow_block.specs.Peeks.{may_copy, has_next, may_work, may_make, may_begin, may_end}
+use Rattle.flow_block.specs.Peeks.{may_copy, has_next, may_work, may_make, may_begin, may_end, has_unit}
 
 -- the message that is worked on first is out
 front_out : (jobs : JobsState) (slots : List Slot) → jobs.slots ≡ None ∷ slots → is_out jobs.first jobs ≡ true
@@ -17,6 +20,16 @@ front_out jobs slots is =
     and_from (leb jobs.first jobs.first) (is_none (get_or jobs.slots (jobs.first - jobs.first) no_slot))
     (le-leb jobs.first jobs.first (omega arith))
     (rw (is, at_first) refl)
+
+-- what makes no rows, tuples or groups has something to make where it holds a message, and may copy
+next_other : (block : BlockState) (made : BlockUnit) → makes_rows made ≡ false → makes_tuples made ≡ false → makes_groups made ≡ false
+    → (not (is_empty (held_by block)) && may_copy block) ≡ true → has_unit made block ≡ true
+next_other block unit.Message other alone grouped some = some
+next_other block unit.Row other alone grouped some = absurd (cc)
+next_other block unit.Tuple other alone grouped some = absurd (cc)
+next_other block unit.Group other alone grouped some = absurd (cc)
+next_other block unit.Copy other alone grouped some = some
+next_other block unit.OneCopy other alone grouped some = some
 
 module _ (block : BlockState) (going : block.stopped ≡ None) (well : block.fault ≡ None) (other : is_batch block.kind ≡ false)
     (alone : is_join block.kind ≡ false) (grouped : is_batched_join block.kind ≡ false) (freely : may_copy block ≡ true)
@@ -27,7 +40,8 @@ module _ (block : BlockState) (going : block.stopped ≡ None) (well : block.fau
   works_on : (value : Value) (rest : List Value) → held_by block ≡ value ∷ rest → may_work block ≡ true
   works_on value rest is =
       and_from (is_none block.stopped && is_none block.fault) (has_next block) (rw (going, well) refl)
-      (rw (other, alone, grouped) (and_from (not (is_empty (held_by block))) (may_copy block) (rw is refl) freely))
+      (next_other block (unit_of block.kind) other alone grouped
+      (and_from (not (is_empty (held_by block))) (may_copy block) (rw is refl) freely))
 
   goes_on : (value : Value) (rest : List Value) → held_by block ≡ value ∷ rest
       → (works : Bool) → has_work block.kind ≡ works → (slots : List Slot) → block.jobs.slots ≡ slots → ⊥

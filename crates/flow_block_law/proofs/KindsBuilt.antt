@@ -4,12 +4,15 @@ use Rattle.std.proofs.Common.{◌≡◌, ℕ, Bool, true, false, cond, length, [
 use Rattle.flow_value.specs.declared.value.Value.{Value}
 use Rattle.flow_link.specs.declared.draft.BlockKind.{BlockKind}
 use Rattle.flow_link.specs.declared.draft.BlockKind.TheVariants.{Buffer, Broadcast, WriteOnce, Action, Transform, TransformMany, Batch, Join, BatchedJoin}
+use Rattle.flow_link.specs.declared.kinds.BlockUnit.{BlockUnit}
+use Rattle.flow_link.specs.declared.kinds.BlockUnit.TheVariants as unit
+use Rattle.flow_link.specs.Kinds.{unit_of, makes_rows, makes_tuples, copies_each}
 use Rattle.flow_link.specs.Layout.{Layout}
-use Rattle.flow_link.specs.Plan.{block_in, ports_by_kind, has_work, is_broadcast, is_write_once, is_one_taker}
+use Rattle.flow_link.specs.Plan.{block_in, ports_by_kind, is_broadcast, is_write_once}
 use Rattle.flow_link.specs.LinkOk.{IsWithin}
 use Rattle.flow_block.specs.Planned.{room_by, room_of}
 use Rattle.flow_intake.specs.Calls.{first_of}
-use Rattle.flow_block.specs.Block.{BlockState, held_by, is_batch, is_join, made_of, makes_row, makes_tuple, keeps_results, yields, copies_next, makes_of, makes_other, makes, is_batched_join, has_ports}
+use Rattle.flow_block.specs.Block.{BlockState, held_by, is_batch, is_join, made_of, makes_row, makes_tuple, keeps_results, yields, copies_next, makes_of, makes_by_unit, makes, put_of, put_next, puts_by_unit, is_batched_join, has_ports}
 use Rattle.flow_block_law.specs.NodeLaw.{ShapeLaw}
 use Rattle.flow_block.specs.Node.{NodeState, with_block, makes_next_group, makes_next}
 
@@ -43,42 +46,25 @@ of_one Transform grouped single alone shared many = refl
 of_one TransformMany grouped single alone shared many = refl
 of_one _ grouped single alone shared many = absurd (cc)
 
--- a batch has no function
-pub batch_idle : (kind : BlockKind) → is_batch kind ≡ true → has_work kind ≡ false
-batch_idle Batch e = refl
-batch_idle _ e = absurd (cc)
-
--- and it shares its rows out
-pub batch_shares : (kind : BlockKind) → is_batch kind ≡ true → is_one_taker kind ≡ true
-batch_shares Batch e = refl
-batch_shares _ e = absurd (cc)
-
--- nor has what copies its messages, which makes no rows
-pub copying_idle : (kind : BlockKind) → is_one_taker kind ≡ false → has_work kind ≡ false
-copying_idle Broadcast e = refl
-copying_idle WriteOnce e = refl
-copying_idle _ e = absurd (cc)
-
-pub copying_single : (kind : BlockKind) → is_one_taker kind ≡ false → is_batch kind ≡ false
-copying_single Broadcast e = refl
-copying_single WriteOnce e = refl
-copying_single _ e = absurd (cc)
-
--- and it makes no rows
-pub broadcast_single : (kind : BlockKind) → is_broadcast kind ≡ true → is_batch kind ≡ false
-broadcast_single Broadcast e = refl
-broadcast_single _ e = absurd (cc)
-
-pub works_alone : (kind : BlockKind) → has_work kind ≡ true → is_batch kind ≡ false
-works_alone Batch e = absurd (cc)
-works_alone _ e = refl
-
 -- what it makes by itself: the next row of a batch, the next tuple of a join, and for each other kind something of its first
 -- message
-made_as : (P : BlockState → Type 0) (row other : BlockState) (batch : Bool) → (batch ≡ true → P row)
-    → (batch ≡ false → P other) → P (cond batch row other)
-made_as P row other true of_row of_other = of_row refl
-made_as P row other false of_row of_other = of_other refl
+made_as : (P : BlockState → Type 0) (result : Value → Result (List Value) ℕ) (block : BlockState) (made : BlockUnit)
+    → unit_of block.kind ≡ made
+    → (is_batch block.kind ≡ true → P (makes_row block))
+    → (is_join block.kind ≡ true → P (makes_tuple block))
+    → (is_broadcast block.kind ≡ true → P (copies_next (first_of (held_by block)) block))
+    → (is_batch block.kind ≡ false → is_join block.kind ≡ false → is_broadcast block.kind ≡ false
+    → P (makes_of result (first_of (held_by block)) block))
+    → P (makes_by_unit made result block)
+made_as P result block unit.Message is of_row of_tuple of_copy of_other =
+    of_other (ap makes_rows is) (ap makes_tuples is) (ap copies_each is)
+made_as P result block unit.Row is of_row of_tuple of_copy of_other = of_row (ap makes_rows is)
+made_as P result block unit.Tuple is of_row of_tuple of_copy of_other = of_tuple (ap makes_tuples is)
+made_as P result block unit.Group is of_row of_tuple of_copy of_other =
+    of_other (ap makes_rows is) (ap makes_tuples is) (ap copies_each is)
+made_as P result block unit.Copy is of_row of_tuple of_copy of_other = of_copy (ap copies_each is)
+made_as P result block unit.OneCopy is of_row of_tuple of_copy of_other =
+    of_other (ap makes_rows is) (ap makes_tuples is) (ap copies_each is)
 
 pub makes_by : (P : BlockState → Type 0) (result : Value → Result (List Value) ℕ) (block : BlockState)
     → (is_batch block.kind ≡ true → P (makes_row block))
@@ -88,11 +74,23 @@ pub makes_by : (P : BlockState → Type 0) (result : Value → Result (List Valu
     → P (makes_of result (first_of (held_by block)) block))
     → P (makes result block)
 makes_by P result block of_row of_tuple of_copy of_other =
-    let made = makes_of result (first_of (held_by block)) block in
-    let other = makes_other result block in
-    made_as P (makes_row block) (cond (is_join block.kind) (makes_tuple block) other) (is_batch block.kind) of_row (λ single.
-    made_as P (makes_tuple block) other (is_join block.kind) of_tuple (λ alone.
-    made_as P (copies_next (first_of (held_by block)) block) made (is_broadcast block.kind) of_copy (of_other single alone)))
+    made_as P result block (unit_of block.kind) refl of_row of_tuple of_copy of_other
+
+-- and what it would put into its exits by that
+puts_other : (result : Value → Result (List Value) ℕ) (block : BlockState) (made : BlockUnit)
+    → makes_rows made ≡ false → makes_tuples made ≡ false → copies_each made ≡ false
+    → puts_by_unit made result block ≡ put_of block.kind result (first_of (held_by block))
+puts_other result block unit.Message single alone shared = refl
+puts_other result block unit.Row single alone shared = absurd (cc)
+puts_other result block unit.Tuple single alone shared = absurd (cc)
+puts_other result block unit.Group single alone shared = refl
+puts_other result block unit.Copy single alone shared = absurd (cc)
+puts_other result block unit.OneCopy single alone shared = refl
+
+pub puts_one : (result : Value → Result (List Value) ℕ) (block : BlockState)
+    → is_batch block.kind ≡ false → is_join block.kind ≡ false → is_broadcast block.kind ≡ false
+    → put_next result block ≡ put_of block.kind result (first_of (held_by block))
+puts_one result block single alone shared = puts_other result block (unit_of block.kind) single alone shared
 
 -- of a batched join it is the node that makes the next group, and of all others the block
 node_as : (P : NodeState → Type 0) (group other : NodeState) (batched : Bool) → (batched ≡ true → P group)
@@ -107,12 +105,6 @@ pub next_by : (P : NodeState → Type 0) (result : Value → Result (List Value)
 next_by P result node of_group of_other =
     node_as P (makes_next_group node) (with_block (makes result node.block) node) (is_batched_join node.block.kind) of_group
     of_other
-
-pub works_shared : (kind : BlockKind) → has_work kind ≡ true → is_broadcast kind ≡ false
-works_shared Action e = refl
-works_shared Transform e = refl
-works_shared TransformMany e = refl
-works_shared _ e = absurd (cc)
 
 -- it stays of its kind
 keeps_kind : (kind : BlockKind) (values : List Value) (block : BlockState)

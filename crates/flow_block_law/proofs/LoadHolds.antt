@@ -12,8 +12,9 @@ use Rattle.flow_link.specs.declared.trace.Outcome.TheVariants as outcome
 use Rattle.flow_link.specs.JournalGrows.{taken_by_mark, given_by_mark}
 use Rattle.flow_link.specs.Layout.{Layout}
 use Rattle.flow_link.specs.Making.{row_weight}
-use Rattle.flow_link.specs.Plan.{block_in, is_one_taker}
+use Rattle.flow_link.specs.Plan.{block_in, is_one_taker, is_write_once}
 use Rattle.flow_link.specs.Trace.{took, gave}
+use Rattle.flow_link.proofs.KindsTell.{kind_tells}
 use Rattle.flow_link.proofs.OneMoreMark.{took_no_more, gave_no_more, took_by_took, gave_by_took, took_by_gave, gave_by_gave}
 use Rattle.flow_intake.specs.Port.{PortState, fresh_port}
 use Rattle.flow_intake.specs.Calls.{first_of, wants, turns_down, postpones, refuses, consumes, opens, closes, looks as port_looks, takes_next, gives_room, port_closes, port_fails}
@@ -22,10 +23,11 @@ use Rattle.flow_outlet.specs.declared.group.Group.{Group}
 use Rattle.flow_outlet.specs.Fits.{weight_of}
 use Rattle.flow_outlet.specs.Outlet.{OutletState, head_of, groups_with, groups_after, gives, prepares, offers, denies, withdraws, ends_link, looks as exit_looks}
 use Rattle.flow_outlet.proofs.OutletFits.{weight_stays}
+use Rattle.flow_link.specs.Plan.{is_broadcast}
 use Rattle.flow_block.specs.Copies.{copy_place, CopyCall, after_copy, copies_weight}
-use Rattle.flow_block_law.proofs.CopiesIdle.{copies_at, broadcast_copies, once_copies}
+use Rattle.flow_block_law.proofs.CopiesIdle.{copies_at}
 use Rattle.flow_block.proofs.RoomBack.{back_plain, kept_back, each_after_back}
-use Rattle.flow_block.specs.Block.{BlockState, port_in, port_at, with_port, with_jobs, held_by, unit_weight, made_of, puts_out, fails, yields, keeps_results, makes_of, is_batch, row_of, next_group, group_weight, takes_group, makes_row, stops_by, is_join, makes_tuple, copies_next, is_batched_join}
+use Rattle.flow_block.specs.Block.{BlockState, port_in, port_at, with_port, with_jobs, held_by, unit_weight, made_of, puts_out, fails, yields, keeps_results, makes_of, is_batch, row_of, next_group, group_weight, takes_group, makes_row, stops_by, is_join, makes_tuple, copies_next, is_batched_join, has_ports}
 use Rattle.flow_block.proofs.CopiesTaken.{taken_in_keeps}
 use Rattle.flow_block_law.proofs.OnceMakesNone.{makes_many}
 use Rattle.flow_spread.specs.Spread.{puts}
@@ -41,9 +43,9 @@ use Rattle.flow_block_law.proofs.KindsBuilt.{is_of_one, of_one, has_one_port, ma
 use Rattle.flow_block_law.proofs.PlacesOfLinks.{shares_at}
 use Rattle.flow_block.proofs.PortsChange.{kept_at_one, kept_at_all, each_after_one, each_after_all}
 use Rattle.flow_block_law.proofs.WeightsOfResults.{is_many, weighs_taken, weighs_given, weighs_many, weighs_one, rows_put}
-use Rattle.flow_block_law.proofs.Joins.{join_alone, join_single, join_weighs, batch_at_one, others_at_one, broadcast_at_one}
+use Rattle.flow_block_law.proofs.Joins.{join_weighs, others_at_one}
 use Rattle.flow_block_law.proofs.ShapeHolds.{same_kind}
-use Rattle.flow_block_law.proofs.PlacesCounted.{weighs_copied, none_copied_yet, many_shares, is_action, made_is_one, none_back, more_weight, one_place, many_places, gone_at, IsLeftSo, left_so, Counts, EachCounts, one_as_before, each_as_before, one_taken, one_goes}
+use Rattle.flow_block_law.proofs.PlacesCounted.{weighs_copied, none_copied_yet, is_action, made_is_one, none_back, more_weight, one_place, many_places, gone_at, IsLeftSo, left_so, Counts, EachCounts, one_as_before, each_as_before, one_taken, one_goes}
 use Rattle.flow_group.specs.Tuple.{has_tuple, tuple_of}
 use Rattle.flow_lists.proofs.ListTests.{never_both}
 
@@ -254,7 +256,7 @@ module _ {W : Type 0} (layout : Layout W) (meaning : ℕ → Value → Result (L
       let group = next_group block in
       let count = length group in
       let row = row_of group in
-      let alone = has_one_port layout meaning b block shape (batch_at_one block.kind (ap is_batch same ∙ batch)) in
+      let alone = has_one_port layout meaning b block shape (kind_tells is_batch true has_ports false refl block.kind (ap is_batch same ∙ batch)) in
       let below : 0 < length block.ports = omega (arith, alone) in
       let capacity : port.capacity ≡ limit = (shape.ports 0 below).capacity in
       let weighs_row : row_weight row ≡ count = ap (λ (vs : List Value). length vs) (values_of-items_from group) in
@@ -291,7 +293,7 @@ module _ {W : Type 0} (layout : Layout W) (meaning : ℕ → Value → Result (L
         groups = rw capacity
             (weighs_one (block_makes layout meaning b) block.kind limit (took journal) (held_by block)
             (held_by (makes_tuple block)) (gave journal) exits.left exits.next exits.groups made
-            (join_single block.kind join) (join_alone block.kind join) refl law.groups);
+            (kind_tells is_join true is_many false refl block.kind join) (kind_tells is_join true is_batch false refl block.kind join) refl law.groups);
         no_room = none_back 1 (unit_weight port.capacity) exits.room (omega arith) law.no_room;
         load = each_after_all (Loads (places_out (makes_tuple block))) takes_next block.ports
             (λ q below there.
@@ -443,7 +445,7 @@ module _ {W : Type 0} (layout : Layout W) (meaning : ℕ → Value → Result (L
       let kept = take_keeps p k (hand_at p k node) node may.port law.shape grouped (law.load grouped) in
       taken_in_keeps (LoadLaw layout meaning b) p k (hand_at p k node) node kept
       (λ at_once. copied_next (first_of (held_by held.block)) held.block held.journal refl at_once.alone
-      (once_copies held.block.kind at_once.once) (free_is_given held.block.copies at_once.free) kept)
+      (kind_tells is_write_once true is_one_taker false refl held.block.kind at_once.once) (free_is_given held.block.copies at_once.free) kept)
   call_keeps node (NodeCall.offer k) law grouped may =
       exits_move node (offers k (prepares node.block.exits)) refl refl refl refl (law.load grouped)
   call_keeps node (NodeCall.give k) law grouped may =
@@ -476,10 +478,10 @@ module _ {W : Type 0} (layout : Layout W) (meaning : ℕ → Value → Result (L
       (group_there block.size (held_by block) (law.shape.some_size batch) group.0) law.shape (law.load grouped))
       (λ join. tuple_keeps block node.journal join ((may_work_tells block may.waits).tuple join) law.shape (law.load grouped))
       (λ broadcast. copied_next (first_of (held_by block)) block node.journal refl
-      (has_one_port layout meaning b block law.shape (broadcast_at_one block.kind broadcast))
-      (broadcast_copies block.kind broadcast) (none_copied_yet block broadcast may.waits) (law.load grouped))
+      (has_one_port layout meaning b block law.shape (kind_tells is_broadcast true has_ports false refl block.kind broadcast))
+      (kind_tells is_broadcast true is_one_taker false refl block.kind broadcast) (none_copied_yet block broadcast may.waits) (law.load grouped))
       (λ other alone single. make_keeps (first_of (held_by block)) block node.journal refl
-      (λ many. (law.gave (many_shares block.kind many)).next_is)
+      (λ many. (law.gave (kind_tells is_many true is_one_taker true refl block.kind many)).next_is)
       (has_one_port layout meaning b block law.shape (others_at_one block.kind grouped alone)) law.shape (law.load grouped)
       (of_one block.kind grouped other alone single (makes_many layout meaning b node law may.waits)) other))
   call_keeps node (NodeCall.complete p) law grouped may =

@@ -12,9 +12,10 @@ use Rattle.flow_link.specs.declared.trace.Outcome.TheVariants as outcome
 use Rattle.flow_link.specs.JournalGrows.{taken_by_mark, given_by_mark}
 use Rattle.flow_link.specs.Layout.{Layout}
 use Rattle.flow_link.specs.Making.{all_items, items_of}
-use Rattle.flow_link.specs.Plan.{has_work}
+use Rattle.flow_link.specs.Plan.{has_work, is_broadcast, is_write_once}
 use Rattle.flow_link.specs.Trace.{took, gave}
 use Rattle.flow_link.specs.Worked.{WorkedInto}
+use Rattle.flow_link.proofs.KindsTell.{kind_tells}
 use Rattle.flow_link.proofs.OneMoreMark.{took_no_more, gave_no_more, took_by_took, gave_by_took, took_by_gave, gave_by_gave}
 use Rattle.flow_link.proofs.OneMoreWorked.{worked_more}
 use Rattle.flow_intake.specs.Port.{PortState, fresh_port, hand_in}
@@ -23,7 +24,7 @@ use Rattle.flow_outlet.specs.Outlet.{OutletState, first_of as first_left, rest_o
 use Rattle.flow_lists.proofs.ListTests.{never_both}
 use Rattle.flow_link.specs.Plan.{is_one_taker}
 use Rattle.flow_block.specs.Copies.{copy_place, CopyCall, after_copy}
-use Rattle.flow_block_law.proofs.CopiesIdle.{copies_at, broadcast_copies, once_copies}
+use Rattle.flow_block_law.proofs.CopiesIdle.{copies_at}
 use Rattle.flow_block.specs.Block.{BlockState, port_at, with_port, with_jobs, held_by, made_of, puts_out, put_by_kind, yields, keeps_results, makes_of, is_batch, row_of, takes_group, makes_row, stops_by, is_join, makes_tuple, copies_next, has_ports, is_batched_join}
 use Rattle.flow_block_law.proofs.CopiesLeave.{held_by_copy}
 use Rattle.flow_block.specs.Jobs.{JobsState, begins, works_off}
@@ -34,8 +35,8 @@ use Rattle.flow_block_law.specs.NodeKeeps.{MakesKept, MayCall, after_call}
 use Rattle.flow_block_law.specs.NodeLaw.{NodeLaw, MakesLaw, MakesAs, FaultsOn}
 use Rattle.flow_block.specs.Planned.{block_makes}
 use Rattle.flow_block_law.proofs.GoingOn.{may_work_tells}
-use Rattle.flow_block_law.proofs.Joins.{join_makes, ports_make, ports_idle, batch_at_one, others_at_one, batched_is}
-use Rattle.flow_block_law.proofs.KindsBuilt.{is_of_one, of_one, has_one_port, makes_by, next_by, copying_idle}
+use Rattle.flow_block_law.proofs.Joins.{join_makes, ports_make, others_at_one, batched_is}
+use Rattle.flow_block_law.proofs.KindsBuilt.{is_of_one, of_one, has_one_port, makes_by, next_by}
 use Rattle.flow_block.proofs.PortsChange.{kept_at_one, kept_at_all}
 use Rattle.flow_block.proofs.RoomBack.{kept_back}
 use Rattle.flow_block.specs.Groups.{makes_group}
@@ -196,7 +197,7 @@ module _ {W : Type 0} (layout : Layout W) (meaning : ℕ → Value → Result (L
   taken_by node law p k value below true many = record {
     makes = ports_make (block_makes layout meaning b) node.block.kind _ _ _ _ _ many;
     fault_is = λ number is.
-        never_both (has_work node.block.kind) (law.makes.fault_is number is).works (ports_idle node.block.kind many);
+        never_both (has_work node.block.kind) (law.makes.fault_is number is).works (kind_tells has_ports true has_work false refl node.block.kind many);
   }
   taken_by node law p k value below false alone =
       let one = has_one_port layout meaning b node.block law.shape alone in
@@ -411,7 +412,7 @@ module _ {W : Type 0} (layout : Layout W) (meaning : ℕ → Value → Result (L
   copied_next None block journal copying law = law
   copied_next (Some value) block journal copying law = record {
     makes = makes_copied (block_makes layout meaning b) block.kind _ _ _ _ _ copying;
-    fault_is = λ number is. never_both (has_work block.kind) (law.fault_is number is).works (copying_idle block.kind copying);
+    fault_is = λ number is. never_both (has_work block.kind) (law.fault_is number is).works (kind_tells is_one_taker false has_work false refl block.kind copying);
   }
 
   after_each : (node : NodeState) (call : NodeCall) → NodeLaw layout meaning b node → MayCall layout meaning b call node
@@ -429,7 +430,7 @@ module _ {W : Type 0} (layout : Layout W) (meaning : ℕ → Value → Result (L
       let kept = taken_in node law p k hand may.port in
       taken_in_keeps (MakesLaw layout meaning b) p k hand node kept
       (λ at_once. copied_next (first_of (held_by held.block)) held.block held.journal
-      (once_copies held.block.kind at_once.once) kept)
+      (kind_tells is_write_once true is_one_taker false refl held.block.kind at_once.once) kept)
   after_each node (NodeCall.give k) law may = given_out node law.makes k (head_of node.block.exits) refl
   after_each node (NodeCall.look_in p k phase) law may = port_stays node law.makes p (port_looks k phase) refl
   after_each node (NodeCall.copy call) law may = copied_out call node (copies_at layout meaning b node law (copy_place call) may.place) law.makes
@@ -442,9 +443,9 @@ module _ {W : Type 0} (layout : Layout W) (meaning : ℕ → Value → Result (L
       (λ batched. group_made block node.journal block.size 0 (order_in node) batched none)
       (λ grouped.
       makes_by (λ new. MakesLaw layout meaning b new node.journal) (block_makes layout meaning b) block
-      (λ batch. row_made block node.journal (one (batch_at_one block.kind batch)) none block.kind refl batch law.makes)
+      (λ batch. row_made block node.journal (one (kind_tells is_batch true has_ports false refl block.kind batch)) none block.kind refl batch law.makes)
       (λ join. tuple_made block node.journal join none)
-      (λ broadcast. copied_next (first_of (held_by block)) block node.journal (broadcast_copies block.kind broadcast) law.makes)
+      (λ broadcast. copied_next (first_of (held_by block)) block node.journal (kind_tells is_broadcast true is_one_taker false refl block.kind broadcast) law.makes)
       (λ other alone single. made_next block node.journal (held_by block) refl (one (others_at_one block.kind grouped alone)) none
       (of_one block.kind grouped other alone single (makes_many layout meaning b node law may.waits)) other
       law.makes))

@@ -23,6 +23,7 @@ use Rattle.flow_link.specs.Plan.{ends_at, ends_at_port, is_one_taker, is_reservi
 use Rattle.flow_link.specs.Stage.{target_stage_of, refusal_of}
 use Rattle.flow_link.specs.Trace.{BlockTrace, Run, took, took_over, has_complete, has_fault, has_ended, is_done, block_of, link_of, link_numbers, marks_of, held_at, left_at, ports_of, took_at}
 use Rattle.flow_link.specs.Views as views
+use Rattle.flow_link.proofs.KindsTell.{kind_tells}
 use Rattle.flow_block_law.proofs.OnceHolds.{room_once}
 use Rattle.flow_block_law.proofs.WrittenOnce.{message_is, written_weighs}
 use Rattle.flow_link.proofs.RoundsOfWalks.{some_here_below}
@@ -30,23 +31,21 @@ use Rattle.flow_lists.proofs.ListTests.{or_not, every_below, length_numbers}
 use Rattle.flow_intake.specs.Port.{EndState, PortState, end_in, fresh_end, fresh_port, coming as coming_at, is_coming as is_coming_at}
 use Rattle.flow_intake.specs.PortLaw.{has_ended as has_port_ended}
 use Rattle.flow_intake.specs.Ended.{is_completion}
-use Rattle.flow_block.specs.Block.{port_at, is_join, port_in}
+use Rattle.flow_block.specs.Block.{port_at, is_join, port_in, is_batched_join}
 use Rattle.flow_block.specs.Node.{NodeState, in_view}
 use Rattle.flow_block_law.specs.NodeLaw.{NodeLaw, MakesAs, RefusesFor as RefusesBy, run_seen_by, is_fault_seen, have_completed, has_its_message}
 use Rattle.flow_block_law.specs.NodeSeen.{IsNodeOf, NodesAreLawful, EachMayCarry}
 use Rattle.flow_block.specs.Planned.{out_place, in_place}
 use Rattle.flow_block_law.specs.CopiesSeen.{CopierSeen}
 use Rattle.flow_block_law.proofs.CopierOf.{copier_seen, makes_copies}
-use Rattle.flow_block_law.proofs.CopiesIdle.{once_copies}
 use Rattle.flow_block_law.proofs.EndsTell.{refusal_told, coming_told, completion_told, fault_told}
 use Rattle.flow_block_law.proofs.JournalTells.{every_mark, complete_own, done_outcome}
 use Rattle.flow_block_law.proofs.KindsBuilt.{within_capacity}
 use Rattle.flow_block_law.proofs.NodesSeen.{held_is, none_held, own_fault_is, load_is, is_joining, complete_by_port}
 use Rattle.flow_block_law.proofs.PlacesOfLinks.{IsEndIn, end_in_is, end_in_of, count_of_links, there_at_port, there_at_block}
+use Rattle.flow_block_law.proofs.SharersAreLawful.{left_is, makes_shared, copies_shared, order_shared, one_so, source_shared}
 use Rattle.flow_lists.proofs.TestsTell.{some_tells, every_tells}
 use Rattle.flow_block.specs.Peeks.{holds_nothing}
-use Rattle.flow_block_law.proofs.Joins.{copies_unbatched}
-use Rattle.flow_block_law.proofs.SharersAreLawful.{left_is, makes_shared, copies_shared, order_shared, one_so, source_shared}
 
 -- what counts only where there is a capacity fits
 fits : {W : Type 0} (run : Run W) (capacity : Option ℕ) (count kept : ℕ) → (is_some capacity ≡ true → kept ≡ count)
@@ -196,7 +195,7 @@ module _ {W : Type 0} (run : Run W) (ends : ℕ → Ends) (b : ℕ) (node : Node
       let written = sym (message_is run.layout run.meaning b node law) ∙ has in
       let once = (and_parts (is_write_once node.block.kind) (is_some node.block.copies.element) written).0 in
       let room = room_once (block_of run b).kind (block_of run b).capacity (ap is_write_once (sym law.shape.kind_is) ∙ once) in
-      let grouped = copies_unbatched node.block.kind (once_copies node.block.kind once) in
+      let grouped = kind_tells is_one_taker false is_batched_join false refl node.block.kind (kind_tells is_write_once true is_one_taker false refl node.block.kind once) in
       let counts = (law.load grouped).load p there (ap is_some room) in
       let one = written_weighs run.layout run.meaning b node law written in
       let taken : 0 < length (took_at p node.journal) = omega (arith, counts, one, (law.ports p there).took) in

@@ -1,5 +1,5 @@
 -- A node that has nothing to do rests when its links do.
-use Rattle.std.proofs.Common.{◌≡◌, ℕ, ◌+◌, ◌<◌, ◌≤◌, Bool, true, false, not, ltb, leb, ◌==◌, ◌&&◌, ◌||◌, cond, List, [], ◌∷◌, length, map, sum, is_some, Option, Some, None, refl, ap, ap₂, sym, subst, ◌∙◌, ⊎_elim, arith, eq-eqb, eqb-true}
+use Rattle.std.proofs.Common.{◌≡◌, ℕ, ◌+◌, ◌<◌, ◌≤◌, Bool, true, false, not, ltb, leb, ◌==◌, ◌&&◌, ◌||◌, List, [], ◌∷◌, length, map, sum, is_some, Option, Some, None, refl, ap, ap₂, sym, subst, ◌∙◌, ⊎_elim, arith, eq-eqb, eqb-true}
 use Rattle.std.proofs.lemmas.Bool.{or_cases, ltb-false, lt-ltb, and_from, and_parts, or_left, or_right, false_from_ne_true, not-true}
 use Rattle.flow_value.specs.declared.value.Value.{Value}
 use Rattle.flow_link.specs.declared.draft.BlockKind.{BlockKind}
@@ -20,8 +20,8 @@ use Rattle.flow_lawful.specs.RestsByParts.{OutletRests, KindRests, NodeRests, is
 use Rattle.flow_link.specs.Stage.{target_stage_of}
 use Rattle.flow_link.specs.Trace.{BlockTrace, Run, took_at, has_complete, has_fault, has_ended, is_faulted, is_done, block_of, link_of, marks_of, held_at, left_at, ports_of}
 use Rattle.flow_link.specs.Views.{TargetView}
+use Rattle.flow_link.proofs.KindsTell.{kind_tells}
 use Rattle.flow_block.specs.Copies.{copies_left}
-use Rattle.flow_block_law.proofs.Joins.{copies_unbatched, copies_at_one}
 use Rattle.flow_block_law.proofs.OnceHolds.{room_once}
 use Rattle.flow_block_law.proofs.WrittenOnce.{message_is, weighs_written}
 use Rattle.flow_lists.proofs.ListTests.{never_both, passes_below, unless_done}
@@ -29,20 +29,23 @@ use Rattle.flow_intake.specs.Port.{EndState, PortState, fresh_port, fresh_end, h
 use Rattle.flow_intake.specs.PortLaw.{has_ended as has_port_ended}
 use Rattle.flow_intake.specs.Ended.{has_seen_completion, is_completion, fault_seen}
 use Rattle.flow_outlet.specs.Outlet.{OutletState, is_empty}
-use Rattle.flow_block.specs.Block.{BlockState, port_at, held_by, is_batch, is_join, is_batched_join, has_ports}
+use Rattle.flow_block.specs.Block.{BlockState, port_at, held_by, is_join, is_batched_join, has_ports}
 use Rattle.flow_block.specs.Node.{NodeState}
-use Rattle.flow_block_law.specs.NodeLaw.{NodeLaw, has_made_all, outcome_in, has_its_message}
+use Rattle.flow_block_law.specs.NodeLaw.{NodeLaw, has_made_all, outcome_in, has_its_message, made_all_by_unit}
 use Rattle.flow_block_law.specs.NodeRests.{HasNothingToDo, EndsRest, NodesRest}
 use Rattle.flow_block_law.specs.NodeSeen.{IsNodeOf}
-use Rattle.flow_block.specs.Peeks.{holds_nothing, has_group, is_complete as is_complete_here, is_pending, has_group_of_ports, all_ended, is_written}
+use Rattle.flow_block.specs.Peeks.{holds_nothing, is_complete as is_complete_here, is_pending, all_ended, is_written, is_off_by_unit}
 use Rattle.flow_block_law.proofs.NodesAreLawful.{join_is}
 use Rattle.flow_block_law.proofs.NodesSeen.{join_seen, is_joining, as_ports, complete_by_port}
 use Rattle.flow_group.specs.Tuple.{has_tuple}
 use Rattle.flow_lawful.specs.Quiet.{has_no_row}
+use Rattle.flow_link.specs.declared.kinds.BlockUnit.{BlockUnit}
+use Rattle.flow_link.specs.declared.kinds.BlockUnit.TheVariants as unit
+use Rattle.flow_link.specs.Kinds.{unit_of, makes_rows}
 use Rattle.flow_block.specs.Planned.{out_place, in_place}
 use Rattle.flow_block_law.specs.CopiesSeen.{MayCarry, CopierRests}
 use Rattle.flow_block_law.proofs.CopierOf.{CopiesQuiet, copies_quiet, copier_rests, none_shared, copier_seen}
-use Rattle.flow_block_law.proofs.CopiesIdle.{never_broadcast, once_copies, none_copied}
+use Rattle.flow_block_law.proofs.CopiesIdle.{none_copied}
 use Rattle.flow_block_law.proofs.EndsAtRest.{no_room_where, waiting_queue}
 use Rattle.flow_block_law.proofs.EndsOfBlocks.{no_group_left}
 use Rattle.flow_block_law.proofs.EndsTell.{postponed_back, end_back}
@@ -166,10 +169,7 @@ module _ {W : Type 0} (run : Run W) (ends : ℕ → Ends) (b : ℕ) (node : Node
 
   -- what is left of a batch's messages, of a join's, of a batched join's and of all others', when it could make nothing more
   abbrev made_all_as : BlockKind → Bool
-  made_all_as k =
-      cond (is_batch k)
-      (ltb (length (held_by own)) own.size && (not (has_complete 0 node.journal) || is_empty (held_by own)))
-      (cond (is_join k) (not (has_tuple own.ports)) (cond (is_batched_join k) (not has_group_here) (holds_nothing own.ports)))
+  made_all_as k = made_all_by_unit (unit_of k) own node.journal
 
   -- a block of its kind that could make nothing more rests
   rests_by : (k : BlockKind) → own.kind ≡ k → made_all_as k ≡ true → rests_as run k b ≡ true
@@ -197,47 +197,44 @@ module _ {W : Type 0} (run : Run W) (ends : ℕ → Ends) (b : ℕ) (node : Node
       (rests_by kind law.shape.kind_is (ap made_all_as (sym law.shape.kind_is) ∙ none))
 
   -- it holds nothing
-  nothing_held_where : holds_nothing own.ports ≡ true → (batch join batched : Bool) → is_batch own.kind ≡ batch
-      → is_join own.kind ≡ join → is_batched_join own.kind ≡ batched → has_made_all own node.journal ≡ true
-  nothing_held_where none true join batched is joins groups =
+  nothing_held_where : holds_nothing own.ports ≡ true → (made : BlockUnit) → unit_of own.kind ≡ made
+      → made_all_by_unit made own node.journal ≡ true
+  nothing_held_where none unit.Row is =
       let empty : is_empty (held_by own) ≡ true =
       every_tells (λ (port : PortState). is_empty port.waiting) own.ports (fresh_port None) 0 none law.shape.some_port in
       let held = nothing_in (held_by own) empty in
-      let some = law.shape.some_size is in
-      rw is (and_from (ltb (length (held_by own)) own.size) (not (has_complete 0 node.journal) || is_empty (held_by own))
+      let some = law.shape.some_size (ap makes_rows is) in
+      and_from (ltb (length (held_by own)) own.size) (not (has_complete 0 node.journal) || is_empty (held_by own))
       (ap (λ (vs : List Value). ltb (length vs) own.size) held ∙ lt-ltb 0 own.size some)
-      (or_right (not (has_complete 0 node.journal)) (is_empty (held_by own)) empty))
-  nothing_held_where none false true batched is joins groups = rw (is, joins) (no_first own.ports law.shape.some_port none)
-  nothing_held_where none false false true is joins groups =
-      rw (is, joins, groups) (no_group_of_none own.size (are_complete (length own.ports) node.journal) own.ports none)
-  nothing_held_where none false false false is joins groups = rw (is, joins, groups) none
+      (or_right (not (has_complete 0 node.journal)) (is_empty (held_by own)) empty)
+  nothing_held_where none unit.Tuple is = no_first own.ports law.shape.some_port none
+  nothing_held_where none unit.Group is = no_group_of_none own.size (are_complete (length own.ports) node.journal) own.ports none
+  nothing_held_where none unit.Message is = none
+  nothing_held_where none unit.Copy is = none
+  nothing_held_where none unit.OneCopy is = none
 
   -- it could make nothing more, and goes on
-  made_all_where : own.stopped ≡ None → (batch join batched : Bool) → is_batch own.kind ≡ batch → is_join own.kind ≡ join
-      → is_batched_join own.kind ≡ batched
-      → cond batch (not (has_group own)) (cond join (not (has_tuple own.ports))
-      (cond batched (not (has_group_of_ports own)) (holds_nothing own.ports))) ≡ true
-      → has_made_all own node.journal ≡ true
-  made_all_where going true join batched is joins groups done =
-      let left =
+  made_all_where : own.stopped ≡ None → (made : BlockUnit) → unit_of own.kind ≡ made → is_off_by_unit made own ≡ true
+      → made_all_by_unit made own node.journal ≡ true
+  made_all_where going unit.Row is done =
       no_group_left (held_by own) own.size (leb own.size (length (held_by own)))
-      (has_port_ended (port_at 0 own).refusing) (has_complete 0 node.journal) (law.shape.some_size is) refl
-      (λ unended. (open_goes_on run.layout run.meaning b own node.journal law.ends 0 law.shape.some_port unended).1) done in
-      rw is left
-  made_all_where going false true batched is joins groups done = rw (is, joins) done
-  made_all_where going false false true is joins groups done =
-      rw (is, joins, groups) (ap not (sym (group_told run.layout run.meaning b own node.journal law.ends going)) ∙ done)
-  made_all_where going false false false is joins groups done = rw (is, joins, groups) done
+      (has_port_ended (port_at 0 own).refusing) (has_complete 0 node.journal) (law.shape.some_size (ap makes_rows is)) refl
+      (λ unended. (open_goes_on run.layout run.meaning b own node.journal law.ends 0 law.shape.some_port unended).1) done
+  made_all_where going unit.Tuple is done = done
+  made_all_where going unit.Group is done =
+      ap not (sym (group_told run.layout run.meaning b own node.journal law.ends going)) ∙ done
+  made_all_where going unit.Message is done = done
+  made_all_where going unit.Copy is done = done
+  made_all_where going unit.OneCopy is done = done
 
   marked : (how : Outcome) → own.stopped ≡ Some how → outcome_in node.journal ≡ Some how
   marked how e = sym law.ends.stopped_is ∙ e
 
   worked_where : (stopped : Option Outcome) → own.stopped ≡ stopped → rests run b ≡ true
   worked_where None e =
-      rests_where (made_all_where e (is_batch own.kind) (is_join own.kind) (is_batched_join own.kind) refl refl refl
+      rests_where (made_all_where e (unit_of own.kind) refl
       (worked_off run.layout run.meaning b node law nothing rest quiet e))
-  worked_where (Some Done) e = rests_where (nothing_held_where (law.ends.done_empty e).0 (is_batch own.kind) (is_join own.kind)
-      (is_batched_join own.kind) refl refl refl)
+  worked_where (Some Done) e = rests_where (nothing_held_where (law.ends.done_empty e).0 (unit_of own.kind) refl)
   worked_where (Some (Faulted n)) e =
       ⊎_elim
       (λ fault.
@@ -314,7 +311,7 @@ module _ {W : Type 0} (run : Run W) (ends : ℕ → Ends) (b : ℕ) (node : Node
 
     none_waits_here : is_write_once own.kind ≡ true → length port.waiting ≡ 0
     none_waits_here once =
-        let alone = has_one_port run.layout run.meaning b own law.shape (copies_at_one own.kind (once_copies own.kind once)) in
+        let alone = has_one_port run.layout run.meaning b own law.shape (kind_tells is_one_taker false has_ports false refl own.kind (kind_tells is_write_once true is_one_taker false refl own.kind once)) in
         let first : 0 ≡ p = omega (arith, alone, port_there) in
         ap (λ (q : ℕ). length (port_at q own).waiting) (sym first) ∙ ap (λ (held : List Value). length held) (law.none_held once)
 
@@ -336,10 +333,10 @@ module _ {W : Type 0} (run : Run W) (ends : ℕ → Ends) (b : ℕ) (node : Node
         let here = full_at port.capacity port.load (coming port) none order.room full in
         let taken = eqb-true port.load 1
         (subst (λ (capacity : Option ℕ). is_full_with run capacity port.load ≡ true) (planned.capacity ∙ room) here.1) in
-        let grouped = copies_unbatched own.kind (once_copies own.kind once) in
+        let grouped = kind_tells is_one_taker false is_batched_join false refl own.kind (kind_tells is_write_once true is_one_taker false refl own.kind once) in
         let counts = (law.load grouped).load p port_there (ap is_some room) in
         let empty = none_waits_here once in
-        let weights = (none_shared run ends b node law part (once_copies own.kind once)).1 in
+        let weights = (none_shared run ends b node law part (kind_tells is_write_once true is_one_taker false refl own.kind once)).1 in
         let written = weighs_written run.layout run.meaning b node law once (omega (arith, taken, counts, empty, weights)) in
         let ended =
         ended_already (has_port_ended port.refusing) (coming port == 0) (has_seen_completion port.ends || is_written own)
@@ -401,7 +398,7 @@ module _ {W : Type 0} (run : Run W) (ends : ℕ → Ends) (b : ℕ) (node : Node
   served_shared shares =
       or_left (not (is_broadcast kind) || is_faulted (marks_of run b)) (is_none_left (left_at run b))
       (or_left (not (is_broadcast kind)) (is_faulted (marks_of run b))
-      (ap (λ (k : BlockKind). not (is_broadcast k)) (sym law.shape.kind_is) ∙ ap not (never_broadcast own.kind shares)))
+      (ap (λ (k : BlockKind). not (is_broadcast k)) (sym law.shape.kind_is) ∙ ap not (kind_tells is_one_taker true is_broadcast false refl own.kind shares)))
 
   -- Its links out, whether it shares its messages out or copies them
 

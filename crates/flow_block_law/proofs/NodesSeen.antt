@@ -10,11 +10,12 @@ use Rattle.flow_lists.specs.Lists.{every, is_empty, below}
 use Rattle.flow_link.specs.Making.{results_of, block_result, worked, part_left, load, load_as, all_items}
 use Rattle.flow_link.specs.Plan.{has_work, port_count, is_one_taker, is_write_once}
 use Rattle.flow_link.specs.Trace.{BlockTrace, Run, took, gave, has_complete, partly_left, block_of, marks_of, held_at, left_at, ports_of}
+use Rattle.flow_link.proofs.KindsTell.{kind_tells}
 use Rattle.flow_lists.proofs.ListTests.{every_below, front_without}
 use Rattle.flow_intake.specs.Port.{PortState, fresh_port}
 use Rattle.flow_outlet.specs.Fits.{weight_of}
 use Rattle.flow_outlet.specs.Outlet.{is_empty as has_none}
-use Rattle.flow_block.specs.Block.{port_at, held_by, is_join, is_batched_join}
+use Rattle.flow_block.specs.Block.{port_at, held_by, is_join, is_batched_join, has_ports}
 use Rattle.std.proofs.lemmas.Bool.{false_from_ne_true}
 use Rattle.flow_block_law.proofs.WrittenOnce.{weight_left}
 use Rattle.flow_block.specs.Copies.{copies_weight}
@@ -24,14 +25,14 @@ use Rattle.flow_block_law.specs.NodeSeen.{IsNodeOf}
 use Rattle.flow_block.specs.Peeks.{holds_nothing}
 use Rattle.flow_block.specs.Planned.{block_makes, room_of}
 use Rattle.flow_block_law.proofs.CopierOf.{copier_seen, none_shared}
-use Rattle.flow_block_law.proofs.CopiesIdle.{left_is_shared, copies_idle, once_copies}
+use Rattle.flow_block_law.proofs.CopiesIdle.{left_is_shared, copies_idle}
 use Rattle.flow_block_law.proofs.KindsBuilt.{by_kind, has_one_port, room_kept}
 use Rattle.flow_lists.proofs.TestsTell.{every_tells}
 use Rattle.flow_block.proofs.NothingLeft.{none_left}
 use Rattle.flow_block_law.proofs.WeightsOfResults.{weight_weighed, weight_rows, weight_partial}
 use Rattle.flow_block_law.specs.TuplesSeen.{JoinSeen, IsPortsOf}
 use Rattle.flow_block_law.proofs.TuplesSeen.{joins_are_parts}
-use Rattle.flow_block_law.proofs.Joins.{join_shares, batched_is, batched_shares, copies_at_one}
+use Rattle.flow_block_law.proofs.Joins.{batched_is}
 use Rattle.flow_block_law.proofs.GroupsRest.{groups_rest}
 
 limited_never : {capacity : Option ℕ} → capacity ≡ None → is_some capacity ≡ true → ⊥
@@ -61,9 +62,9 @@ module _ {W : Type 0} (run : Run W) (b : ℕ) (node : NodeState) (law : NodeLaw 
       (λ e _. or_none all)
       (block_of run b).kind alone
       (λ once.
-      let copying = once_copies node.block.kind (ap is_write_once law.shape.kind_is ∙ once) in
+      let copying = kind_tells is_write_once true is_one_taker false refl node.block.kind (ap is_write_once law.shape.kind_is ∙ once) in
       ap below (sym law.shape.port_count_is
-      ∙ has_one_port run.layout run.meaning b node.block law.shape (copies_at_one node.block.kind copying)))
+      ∙ has_one_port run.layout run.meaning b node.block law.shape (kind_tells is_one_taker false has_ports false refl node.block.kind copying)))
 
 module _ {W : Type 0} (run : Run W) (ends : ℕ → Ends) (b : ℕ) (node : NodeState)
     (law : NodeLaw run.layout run.meaning b node) (part : IsNodeOf run ends b node) where
@@ -97,7 +98,7 @@ module _ {W : Type 0} (run : Run W) (ends : ℕ → Ends) (b : ℕ) (node : Node
       joins_are_parts W run b node (record {
         trace = part.trace;
         count = law.shape.port_count_is;
-        shares = join_shares node.block.kind join;
+        shares = kind_tells is_join true is_one_taker true refl node.block.kind join;
       })
 
   -- how a block of this kind has its messages counted
@@ -190,7 +191,7 @@ module _ {W : Type 0} (run : Run W) (ends : ℕ → Ends) (b : ℕ) (node : Node
   as_ports batched = record {
     trace = part.trace;
     count = law.shape.port_count_is;
-    shares = batched_shares node.block.kind batched;
+    shares = kind_tells is_batched_join true is_one_taker true refl node.block.kind batched;
   }
 
   pub is_grouping : is_batched_join (block_of run b).kind ≡ is_batched_join node.block.kind

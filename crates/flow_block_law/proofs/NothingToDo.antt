@@ -7,6 +7,10 @@ use Rattle.flow_link.specs.declared.stage.SourceStage.{SourceStage}
 use Rattle.flow_link.specs.declared.stage.SourceStage.TheVariants as source
 use Rattle.flow_link.specs.Layout.{Layout}
 use Rattle.flow_link.specs.Plan.{has_work}
+use Rattle.flow_link.specs.declared.kinds.BlockUnit.{BlockUnit}
+use Rattle.flow_link.specs.declared.kinds.BlockUnit.TheVariants as unit
+use Rattle.flow_link.specs.Kinds.{unit_of, makes_rows, makes_tuples, makes_groups, takes_at_ports}
+use Rattle.flow_link.proofs.KindsTell.{kind_tells, row_is, tuple_is, group_is}
 use Rattle.flow_lists.proofs.ListTests.{never_both}
 use Rattle.flow_intake.specs.Port.{PortState, fresh_port, stage_at as port_stage, coming}
 use Rattle.flow_outlet.specs.End.{is_over, is_out, is_waiting, is_cut, is_closed, speaks_of, rejects}
@@ -23,15 +27,15 @@ use Rattle.flow_block_law.specs.NodeLaw.{NodeLaw}
 use Rattle.flow_block_law.specs.NodeRests.{HasNothingToDo, EndsRest}
 use Rattle.flow_spread.specs.Spread.{is_at_rest as is_spread_at_rest, only_waits as spread_only_waits}
 use Rattle.flow_block.specs.Copies.{copies_left}
-use Rattle.flow_block.specs.Peeks.{is_out_at_rest, is_copied_out, fault_at_ports, holds_nothing, has_group, has_next, is_worked_off, may_work, may_make, nothing_comes, is_pending, fault_cause, could_stop, next_fault, is_held_up, may_finish, is_complete, is_copy_held_up, would_copy, has_all_given, has_group_of_ports}
+use Rattle.flow_block.specs.Peeks.{is_out_at_rest, is_copied_out, fault_at_ports, holds_nothing, has_group, has_next, is_worked_off, may_work, may_make, nothing_comes, is_pending, fault_cause, could_stop, next_fault, is_held_up, may_finish, is_complete, is_copy_held_up, would_copy, has_all_given, has_group_of_ports, has_unit, is_off_by_unit}
 use Rattle.flow_block_law.proofs.CopierOf.{CopiesQuiet}
 use Rattle.flow_block_law.proofs.EndsAtRest.{not_out, must_wait, away_waits, none_away, waiting_stays, free_stays, not_cut, not_coming}
 use Rattle.flow_block_law.proofs.EndsTell.{none_come}
 use Rattle.flow_block_law.proofs.FaultsSeen.{first_none}
 use Rattle.flow_block_law.proofs.GoingOn.{away_goes_on, waiting_away}
 use Rattle.flow_block_law.proofs.JobsRest.{holds_none}
-use Rattle.flow_block_law.proofs.Joins.{join_idle, join_alone, batched_alone, batched_unjoined, batched_idle, others_at_one}
-use Rattle.flow_block_law.proofs.KindsBuilt.{has_one_port, batch_idle}
+use Rattle.flow_block_law.proofs.Joins.{others_at_one}
+use Rattle.flow_block_law.proofs.KindsBuilt.{has_one_port}
 use Rattle.flow_lists.proofs.TestsTell.{every_where}
 use Rattle.flow_block.proofs.NothingLeft.{none_left}
 use Rattle.flow_group.specs.Tuple.{has_tuple}
@@ -157,32 +161,41 @@ module _ {W : Type 0} (layout : Layout W) (meaning : ℕ → Value → Result (L
 
   -- a batch has no row to make
   no_group : block.stopped ≡ None → is_batch block.kind ≡ true → has_group block ≡ false
-  no_group going batch = rw batch at nothing_next going (batch_idle block.kind batch)
+  no_group going batch =
+      ap (λ (u : BlockUnit). has_unit u block) (sym (row_is (unit_of block.kind) batch))
+      ∙ nothing_next going (kind_tells is_batch true has_work false refl block.kind batch)
 
   -- a join has no tuple to make
   no_tuple : block.stopped ≡ None → is_join block.kind ≡ true → has_tuple block.ports ≡ false
-  no_tuple going join = rw (join_alone block.kind join, join) at nothing_next going (join_idle block.kind join)
+  no_tuple going join =
+      ap (λ (u : BlockUnit). has_unit u block) (sym (tuple_is (unit_of block.kind) join))
+      ∙ nothing_next going (kind_tells is_join true has_work false refl block.kind join)
 
   -- a batched join has no group to make
   no_group_of_ports : block.stopped ≡ None → is_batched_join block.kind ≡ true → has_group_of_ports block ≡ false
   no_group_of_ports going batched =
-      rw (batched_alone block.kind batched, batched_unjoined block.kind batched, batched)
-      at nothing_next going (batched_idle block.kind batched)
+      ap (λ (u : BlockUnit). has_unit u block) (sym (group_is (unit_of block.kind) batched))
+      ∙ nothing_next going (kind_tells is_batched_join true has_work false refl block.kind batched)
 
   -- it has worked off what it holds
-  worked_off_by : block.stopped ≡ None → (batch join batched : Bool) → is_batch block.kind ≡ batch → is_join block.kind ≡ join
-      → is_batched_join block.kind ≡ batched
-      → cond batch (not (has_group block)) (cond join (not (has_tuple block.ports))
-      (cond batched (not (has_group_of_ports block)) (holds_nothing block.ports))) ≡ true
-  worked_off_by going true join batched is joins groups = ap not (no_group going is)
-  worked_off_by going false true batched is joins groups = ap not (no_tuple going joins)
-  worked_off_by going false false true is joins groups = ap not (no_group_of_ports going groups)
-  worked_off_by going false false false is joins groups =
-      all_held (others_at_one block.kind groups joins) (ap is_empty (no_held going is joins groups))
+  none_first : block.stopped ≡ None → (made : BlockUnit) → unit_of block.kind ≡ made → makes_rows made ≡ false
+      → takes_at_ports made ≡ false → holds_nothing block.ports ≡ true
+  none_first going made is single alone =
+      let one = ap takes_at_ports is ∙ alone in
+      all_held one (ap is_empty (no_held going (ap makes_rows is ∙ single)
+      (kind_tells has_ports false is_join false refl block.kind one)
+      (kind_tells has_ports false is_batched_join false refl block.kind one)))
+
+  worked_off_by : block.stopped ≡ None → (made : BlockUnit) → unit_of block.kind ≡ made → is_off_by_unit made block ≡ true
+  worked_off_by going unit.Message is = none_first going unit.Message is refl refl
+  worked_off_by going unit.Row is = ap not (no_group going (ap makes_rows is))
+  worked_off_by going unit.Tuple is = ap not (no_tuple going (ap makes_tuples is))
+  worked_off_by going unit.Group is = ap not (no_group_of_ports going (ap makes_groups is))
+  worked_off_by going unit.Copy is = none_first going unit.Copy is refl refl
+  worked_off_by going unit.OneCopy is = none_first going unit.OneCopy is refl refl
 
   pub worked_off : block.stopped ≡ None → is_worked_off block ≡ true
-  worked_off going =
-      worked_off_by going (is_batch block.kind) (is_join block.kind) (is_batched_join block.kind) refl refl refl
+  worked_off going = worked_off_by going (unit_of block.kind) refl
 
   pub none_seen : block.stopped ≡ None → fault_at_ports block.ports ≡ None
   none_seen going =

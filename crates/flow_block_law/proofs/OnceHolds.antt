@@ -1,11 +1,12 @@
 -- Each call leaves a block that takes one message in all without a message that it holds: what it takes it copies at once.
-use Rattle.std.proofs.Common.{◌≡◌, ℕ, ◌+◌, ◌-◌, ◌^◌, ◌≤◌, ◌==◌, Bool, true, not, ◌&&◌, ltb, List, [], ◌∷◌, ◌++◌, length, drop, set, Option, Some, None, is_some, Result, refl, ap, sym, ◌∙◌, subst, arith, eq-eqb, lt-ltb}
+use Rattle.std.proofs.Common.{◌≡◌, ℕ, ◌+◌, ◌-◌, ◌^◌, ◌≤◌, ◌==◌, Bool, true, not, ◌&&◌, ltb, List, [], ◌∷◌, ◌++◌, length, drop, set, Option, Some, None, is_some, Result, refl, ap, sym, ◌∙◌, subst, arith, eq-eqb, lt-ltb, false}
 use Rattle.std.proofs.lemmas.Bool.{and_from}
 use Rattle.std.proofs.lemmas.List.{length-set, get_or-set_same}
 use Rattle.flow_value.specs.declared.value.Value.{Value}
 use Rattle.flow_link.specs.Layout.{Layout}
 use Rattle.flow_link.specs.LinkOk.{IsWithin}
-use Rattle.flow_link.specs.Plan.{block_in, is_write_once}
+use Rattle.flow_link.specs.Plan.{block_in, is_write_once, is_one_taker}
+use Rattle.flow_link.proofs.KindsTell.{kind_tells}
 use Rattle.flow_lists.proofs.ListTests.{never_both}
 use Rattle.flow_intake.specs.Port.{PortState, fresh_port, coming, is_coming, is_hand, stage_at as port_stage}
 use Rattle.flow_intake.specs.Calls.{first_of, wants, turns_down, postpones, refuses, consumes, opens, closes, looks as port_looks, takes_next, port_closes, gives_room}
@@ -16,17 +17,15 @@ use Rattle.flow_link.specs.declared.draft.BlockKind.{BlockKind}
 use Rattle.flow_link.specs.declared.draft.BlockKind.TheVariants.{WriteOnce}
 use Rattle.flow_outlet.specs.Fits.{weight_of}
 use Rattle.flow_block_law.specs.Copier.{Copier}
-use Rattle.flow_block.specs.Block.{BlockState, port_in, port_at, with_port, held_by, copies_next, copies_at_once, copies_where}
+use Rattle.flow_block.specs.Block.{BlockState, port_in, port_at, with_port, held_by, copies_next, copies_at_once, copies_where, has_ports, is_batched_join}
 use Rattle.flow_block.specs.Copies.{after_copy, copies_weight}
 use Rattle.flow_block.specs.Node.{NodeState, NodeCall, takes_in, hand_at}
 use Rattle.flow_block_law.specs.NodeKeeps.{NoneHeldKept, MayCall, InAt, after_call}
 use Rattle.flow_block_law.specs.NodeLaw.{NodeLaw}
 use Rattle.flow_block.specs.Planned.{room_by, room_of}
-use Rattle.flow_block_law.proofs.CopiesIdle.{once_copies}
 use Rattle.flow_block_law.proofs.CopiesLeave.{held_by_copy}
 use Rattle.flow_block.proofs.CopiesTaken.{taken_keeps}
 use Rattle.flow_block_law.proofs.OnceMakesNone.{none_next}
-use Rattle.flow_block_law.proofs.Joins.{copies_at_one, copies_unbatched}
 use Rattle.flow_block_law.proofs.KindsBuilt.{has_one_port}
 use Rattle.flow_block.proofs.PortsChange.{kept_at_one, kept_at_all}
 use Rattle.flow_block_law.proofs.ShapeHolds.{shape_kept}
@@ -56,10 +55,10 @@ module _ {W : Type 0} (layout : Layout W) (meaning : ℕ → Value → Result (L
     block = node.block
 
     alone : length block.ports ≡ 1
-    alone = has_one_port layout meaning b block law.shape (copies_at_one block.kind (once_copies block.kind once))
+    alone = has_one_port layout meaning b block law.shape (kind_tells is_one_taker false has_ports false refl block.kind (kind_tells is_write_once true is_one_taker false refl block.kind once))
 
     copier : Copier layout b block node.journal
-    copier = law.copies.copier (once_copies block.kind once)
+    copier = law.copies.copier (kind_tells is_write_once true is_one_taker false refl block.kind once)
 
     room_is : room_of (block_in layout.blocks b) ≡ Some 1
     room_is =
@@ -82,7 +81,7 @@ module _ {W : Type 0} (layout : Layout W) (meaning : ℕ → Value → Result (L
           subst (λ (room : Option ℕ). IsWithin room (port.load + coming port)) ((law.shape.ports p at.port).capacity ∙ room_is)
           (law.ports p at.port).room in
           let counts : port.load ≡ length port.waiting + (weight_of block.exits.groups + copies_weight block.copies) =
-          (law.load (copies_unbatched block.kind (once_copies block.kind once))).load p at.port (ap is_some room_is) in
+          (law.load (kind_tells is_one_taker false is_batched_join false refl block.kind (kind_tells is_write_once true is_one_taker false refl block.kind once))).load p at.port (ap is_some room_is) in
           omega (arith, one, fits, counts)
 
       may_put : MayPutFirst block.copies

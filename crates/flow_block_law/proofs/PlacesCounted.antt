@@ -35,10 +35,6 @@ weighs_copied result _ capacity taken held given taken' held' given' left next g
 pub none_copied_yet : (block : BlockState) → is_broadcast block.kind ≡ true → may_work block ≡ true → copies_weight block.copies ≡ 0
 none_copied_yet block broadcast may = free_is_given block.copies (may_copy_tells block broadcast may)
 
-pub many_shares : (kind : BlockKind) → is_many kind ≡ true → is_one_taker kind ≡ true
-many_shares TransformMany many = refl
-many_shares _ many = absurd (cc)
-
 abbrev pub is_action : BlockKind → Bool
 is_action Action = true
 is_action _ = false

@@ -9,9 +9,10 @@ use Rattle.flow_link.specs.declared.trace.Mark.TheVariants.{Took, Gave, Complete
 use Rattle.flow_link.specs.Facts.{facts_in}
 use Rattle.flow_link.specs.JournalGrows.{taken_by_mark}
 use Rattle.flow_link.specs.Layout.{Layout}
-use Rattle.flow_link.specs.Plan.{block_in}
+use Rattle.flow_link.specs.Plan.{block_in, is_one_taker}
 use Rattle.flow_link.specs.Trace.{took_at}
 use Rattle.flow_link.specs.Views.{LinkFacts}
+use Rattle.flow_link.proofs.KindsTell.{kind_tells}
 use Rattle.flow_intake.specs.Port.{PortState, coming, is_hand, fresh_port}
 use Rattle.flow_intake.specs.PortLaw.{PortLaw}
 use Rattle.flow_intake.specs.Calls.{first_of, wants, turns_down, postpones, refuses, consumes, opens, closes, looks, takes_next, gives_room, port_closes, port_fails}
@@ -37,7 +38,6 @@ use Rattle.flow_block_law.proofs.KindsBuilt.{makes_by, next_by}
 use Rattle.flow_block.proofs.PortsChange.{each_after_one, each_after_all}
 use Rattle.flow_lists.proofs.TestsTell.{every_tells}
 use Rattle.flow_block_law.proofs.GroupPorts.{each_after_group}
-use Rattle.flow_block_law.proofs.Joins.{copies_unbatched}
 use Rattle.flow_group.specs.Group.{takes_first}
 
 -- how many messages a port took, when the journal has one more mark
@@ -230,7 +230,7 @@ module _ {W : Type 0} (layout : Layout W) (meaning : ℕ → Value → Result (L
       → NodeLaw layout meaning b node → PortsLaw layout meaning b (copies_by call node).block (copies_by call node).journal
   copy_keeps call node there law =
       let load : LoadLaw layout meaning b node.block node.journal =
-      law.load (copies_unbatched node.block.kind (copies_at layout meaning b node law (copy_place call) there)) in
+      law.load (kind_tells is_one_taker false is_batched_join false refl node.block.kind (copies_at layout meaning b node law (copy_place call) there)) in
       let shape : ShapeLaw layout meaning b node.block = law.shape in
       let capacity = room_of (block_in layout.blocks b) in
       let copies = node.block.copies in

@@ -13,6 +13,7 @@ use Rattle.flow_link.specs.Layout.{Layout}
 use Rattle.flow_lists.specs.Lists.{every}
 use Rattle.flow_link.specs.Making.{row_weight, before_complete}
 use Rattle.flow_link.specs.Trace.{gave, has_complete, is_complete_mark}
+use Rattle.flow_link.proofs.KindsTell.{kind_tells}
 use Rattle.flow_lists.proofs.ListTests.{never_both}
 use Rattle.flow_link.proofs.OneMoreMark.{some_no_more, gave_no_more, gave_by_took, gave_by_gave}
 use Rattle.flow_intake.specs.Port.{PortState, fresh_port, stage_at as port_stage, hand_in, is_hand}
@@ -20,11 +21,11 @@ use Rattle.flow_intake.specs.PortLaw.{has_ended as has_port_ended}
 use Rattle.flow_intake.specs.Calls.{first_of, wants, turns_down, postpones, refuses, consumes, opens, closes, looks as port_looks, port_closes}
 use Rattle.flow_intake.proofs.CountsOfEnds.{hand_comes}
 use Rattle.flow_outlet.specs.Outlet.{OutletState, first_of as first_left, rest_of, is_empty, head_of, gives, prepares, offers, denies, withdraws, ends_link, looks as exit_looks}
-use Rattle.flow_link.specs.Plan.{is_one_taker}
+use Rattle.flow_link.specs.Plan.{is_one_taker, is_broadcast, is_write_once}
 use Rattle.flow_block.specs.Copies.{copy_place}
 use Rattle.flow_block.proofs.CopiesTaken.{taken_in_keeps}
-use Rattle.flow_block_law.proofs.CopiesIdle.{no_copy_at, broadcast_copies, once_copies}
-use Rattle.flow_block.specs.Block.{BlockState, port_at, with_port, held_by, is_batch, row_of, next_group, makes_row, copies_next, stops_by}
+use Rattle.flow_block_law.proofs.CopiesIdle.{no_copy_at}
+use Rattle.flow_block.specs.Block.{BlockState, port_at, with_port, held_by, is_batch, row_of, next_group, makes_row, copies_next, stops_by, has_ports, is_batched_join, is_join}
 use Rattle.flow_block.specs.Node.{NodeState, NodeCall, holds_in, gives_from, in_link_at, out_link_at}
 use Rattle.flow_block_law.specs.NodeKeeps.{RowsKept, MayCall, MayCompletePort, InAt, after_call}
 use Rattle.flow_block_law.specs.NodeLaw.{NodeLaw, KeepsRows, RowsLaw, is_whole}
@@ -33,9 +34,8 @@ use Rattle.flow_block.specs.Planned.{block_makes}
 use Rattle.flow_block_law.proofs.GroupsOfRows.{none_before, passes_before, groups_more, every_of, group_there, group_fits, whole_or_last, group_tells}
 use Rattle.flow_block_law.proofs.GoingOn.{may_work_tells, may_complete_tells, open_goes_on}
 use Rattle.flow_block_law.proofs.JournalTells.{complete_where}
-use Rattle.flow_block_law.proofs.KindsBuilt.{has_one_port, batch_shares, made_kind, makes_by, next_by, copying_single}
+use Rattle.flow_block_law.proofs.KindsBuilt.{has_one_port, made_kind, makes_by, next_by}
 use Rattle.flow_block.proofs.PortsChange.{kept_at_one, kept_at_all}
-use Rattle.flow_block_law.proofs.Joins.{join_alone, batched_alone, batch_at_one}
 use Rattle.flow_block.proofs.RoomBack.{kept_back}
 
 pub other_side : (a b : Bool) → a ≡ false → (a || b) ≡ true → b ≡ true
@@ -146,7 +146,7 @@ module _ {W : Type 0} (layout : Layout W) (meaning : ℕ → Value → Result (L
   taken_in node law p k (Some value) at batch =
       let block = node.block in
       let old = law.rows batch in
-      let one = has_one_port layout meaning b block law.shape (batch_at_one block.kind batch) in
+      let one = has_one_port layout meaning b block law.shape (kind_tells is_batch true has_ports false refl block.kind batch) in
       let first : p ≡ 0 = omega (arith, one, at.port) in
       let change = closes k value in
       let end = (law.ports p at.port).each k at.place in
@@ -167,7 +167,7 @@ module _ {W : Type 0} (layout : Layout W) (meaning : ℕ → Value → Result (L
   completed node law p may batch =
       let block = node.block in
       let old = law.rows batch in
-      let one = has_one_port layout meaning b block law.shape (batch_at_one block.kind batch) in
+      let one = has_one_port layout meaning b block law.shape (kind_tells is_batch true has_ports false refl block.kind batch) in
       let first : p ≡ 0 = omega (arith, one, may.port) in
       let open_port = (may_complete_tells p block may.completes).open_port in
       let unended = (open_goes_on layout meaning b block node.journal law.ends p may.port open_port).1 in
@@ -187,7 +187,7 @@ module _ {W : Type 0} (layout : Layout W) (meaning : ℕ → Value → Result (L
       let block = node.block in
       let journal = node.journal in
       let old = law.rows batch in
-      let one = has_one_port layout meaning b block law.shape (batch_at_one block.kind batch) in
+      let one = has_one_port layout meaning b block law.shape (kind_tells is_batch true has_ports false refl block.kind batch) in
       let there : 0 < length block.ports = omega (arith, one) in
       let size = block.size in
       let held = held_by block in
@@ -215,9 +215,9 @@ module _ {W : Type 0} (layout : Layout W) (meaning : ℕ → Value → Result (L
 
   no_rows : (first : Option Value) (block : BlockState) (journal : List Mark) → is_one_taker block.kind ≡ false
       → KeepsRows (copies_next first block) journal
-  no_rows None block journal copying batch = never_both (is_batch block.kind) batch (copying_single block.kind copying)
+  no_rows None block journal copying batch = never_both (is_batch block.kind) batch (kind_tells is_one_taker false is_batch false refl block.kind copying)
   no_rows (Some value) block journal copying batch =
-      never_both (is_batch block.kind) batch (copying_single block.kind copying)
+      never_both (is_batch block.kind) batch (kind_tells is_one_taker false is_batch false refl block.kind copying)
 
   after_each : (node : NodeState) (call : NodeCall) → NodeLaw layout meaning b node → MayCall layout meaning b call node
       → KeepsRows (after_call layout meaning b call node).block (after_call layout meaning b call node).journal
@@ -231,20 +231,20 @@ module _ {W : Type 0} (layout : Layout W) (meaning : ℕ → Value → Result (L
       let hand = hand_in k (port_at p node.block).ends in
       let held = holds_in p k hand node in
       taken_in_keeps KeepsRows p k hand node (taken_in node law p k hand may)
-      (λ at_once. no_rows (first_of (held_by held.block)) held.block held.journal (once_copies held.block.kind at_once.once))
+      (λ at_once. no_rows (first_of (held_by held.block)) held.block held.journal (kind_tells is_write_once true is_one_taker false refl held.block.kind at_once.once))
   after_each node (NodeCall.give k) law may = given_out node law.rows k (head_of node.block.exits) refl
   after_each node (NodeCall.look_in p k phase) law may = port_stays node law.rows p (port_looks k phase) refl
   after_each node (NodeCall.copy call) law may =
-      λ batch. absurd (no_copy_at layout meaning b node law (batch_shares node.block.kind batch) (copy_place call) may.place)
+      λ batch. absurd (no_copy_at layout meaning b node law (kind_tells is_batch true is_one_taker true refl node.block.kind batch) (copy_place call) may.place)
   after_each node NodeCall.begin law may = law.rows
   after_each node NodeCall.make law may =
       next_by (λ (new : NodeState). KeepsRows new.block new.journal) (block_makes layout meaning b) node
-      (λ batched batch. never_both (is_batch node.block.kind) batch (batched_alone node.block.kind batched))
+      (λ batched batch. never_both (is_batch node.block.kind) batch (kind_tells is_batched_join true is_batch false refl node.block.kind batched))
       (λ grouped.
       makes_by (λ new. KeepsRows new node.journal) (block_makes layout meaning b) node.block
       (λ batch. let tells = may_work_tells node.block may.waits in row_made node law tells.going (tells.group batch))
-      (λ join batch. never_both (is_batch node.block.kind) batch (join_alone node.block.kind join))
-      (λ broadcast. no_rows (first_of (held_by node.block)) node.block node.journal (broadcast_copies node.block.kind broadcast))
+      (λ join batch. never_both (is_batch node.block.kind) batch (kind_tells is_join true is_batch false refl node.block.kind join))
+      (λ broadcast. no_rows (first_of (held_by node.block)) node.block node.journal (kind_tells is_broadcast true is_one_taker false refl node.block.kind broadcast))
       (λ other alone single batch. never_both (is_batch node.block.kind)
       (ap is_batch (sym (made_kind (block_makes layout meaning b) (first_of (held_by node.block)) node.block)) ∙ batch) other))
   after_each node (NodeCall.complete p) law may = completed node law p may

@@ -1,5 +1,5 @@
 -- Each call keeps the tuples of a join: what was taken at a port stands in them, in order, or waits there.
-use Rattle.std.proofs.Common.{◌≡◌, ℕ, ◌==◌, true, List, [], ◌∷◌, ◌++◌, length, set, Option, Some, None, Result, refl, ap, sym, ◌∙◌, append_assoc}
+use Rattle.std.proofs.Common.{◌≡◌, ℕ, ◌==◌, true, List, [], ◌∷◌, ◌++◌, length, set, Option, Some, None, Result, refl, ap, sym, ◌∙◌, append_assoc, false}
 use Rattle.std.proofs.lemmas.List.{length-map, length-set}
 use Rattle.flow_value.specs.declared.value.Value.{Value}
 use Rattle.flow_link.specs.declared.stage.TargetStage.TheVariants.{Free}
@@ -11,6 +11,8 @@ use Rattle.flow_link.specs.JournalGrows.{given_by_mark}
 use Rattle.flow_link.specs.Layout.{Layout}
 use Rattle.flow_link.specs.Making.{arrivals}
 use Rattle.flow_link.specs.Trace.{took_at, gave}
+use Rattle.flow_link.specs.Plan.{is_broadcast, is_one_taker, is_write_once}
+use Rattle.flow_link.proofs.KindsTell.{kind_tells}
 use Rattle.flow_link.proofs.OneMoreMark.{gave_no_more, gave_by_took, gave_by_gave}
 use Rattle.flow_intake.specs.Port.{PortState, hand_in}
 use Rattle.flow_intake.specs.Calls.{put_hand, takes_next, wants, turns_down, postpones, refuses, consumes, opens, closes, looks as port_looks, port_closes}
@@ -19,15 +21,14 @@ use Rattle.flow_group.specs.Tuple.{held_at, has_tuple, tuple_of}
 use Rattle.flow_group.specs.Tuples.{only_at}
 use Rattle.flow_group.proofs.JournalsTell.{journals_tell}
 use Rattle.flow_group.proofs.TuplesKeep.{tuples_kept, held_by_take}
-use Rattle.flow_block.specs.Block.{is_batch, BlockState, port_at, with_port, stops_by, is_join, makes_tuple}
+use Rattle.flow_block.specs.Block.{is_batch, BlockState, port_at, with_port, stops_by, is_join, makes_tuple, is_batched_join}
 use Rattle.flow_block.specs.Node.{NodeState, NodeCall, gives_from, in_link_at, out_link_at, holds_in}
 use Rattle.flow_block_law.specs.NodeKeeps.{MayCall, after_call, TuplesKept}
 use Rattle.flow_block_law.specs.NodeLaw.{NodeLaw, KeepsTuples}
 use Rattle.flow_block.specs.Planned.{block_makes}
 use Rattle.flow_block.proofs.CopiesTaken.{taken_in_keeps, held_kind}
-use Rattle.flow_block_law.proofs.CopiesIdle.{no_copy_at, once_copies}
+use Rattle.flow_block_law.proofs.CopiesIdle.{no_copy_at}
 use Rattle.flow_block_law.proofs.GoingOn.{may_work_tells}
-use Rattle.flow_block_law.proofs.Joins.{join_alone, join_shares, broadcast_unjoined, batched_unjoined, copies_unjoined}
 use Rattle.flow_block_law.proofs.KindsBuilt.{makes_by, next_by}
 use Rattle.flow_block_law.proofs.ShapeHolds.{shape_kept}
 use Rattle.flow_block.proofs.PortsChange.{kept_at_one, kept_at_all}
@@ -145,7 +146,7 @@ module _ {W : Type 0} (layout : Layout W) (meaning : ℕ → Value → Result (L
       let held = holds_in p k hand node in
       taken_in_keeps KeepsTuples p k hand node (taken_in node law p k hand)
       (λ at_once. never_both (is_join held.block.kind) (ap is_join (held_kind p k hand node) ∙ join)
-      (copies_unjoined held.block.kind (once_copies held.block.kind at_once.once)))
+      (kind_tells is_one_taker false is_join false refl held.block.kind (kind_tells is_write_once true is_one_taker false refl held.block.kind at_once.once)))
   after_each node (NodeCall.offer k) whole join law may = exits_stay node law (offers k (prepares node.block.exits)) refl
   after_each node (NodeCall.give k) whole join law may = given_out node law k (head_of node.block.exits) refl
   after_each node (NodeCall.deny k) whole join law may = exits_stay node law (denies k node.block.exits) refl
@@ -153,17 +154,17 @@ module _ {W : Type 0} (layout : Layout W) (meaning : ℕ → Value → Result (L
   after_each node (NodeCall.end_link k how) whole join law may = exits_stay node law (ends_link k how node.block.exits) refl
   after_each node (NodeCall.look_in p k phase) whole join law may = port_stays node law p (port_looks k phase) refl
   after_each node (NodeCall.look_out k phase) whole join law may = exits_stay node law (exit_looks k phase node.block.exits) refl
-  after_each node (NodeCall.copy call) whole join law may = absurd (no_copy_at layout meaning b node whole (join_shares node.block.kind join) (copy_place call) may.place)
+  after_each node (NodeCall.copy call) whole join law may = absurd (no_copy_at layout meaning b node whole (kind_tells is_join true is_one_taker true refl node.block.kind join) (copy_place call) may.place)
   after_each node NodeCall.begin whole join law may = law
   after_each node NodeCall.make whole join law may =
       let kind = node.block.kind in
       next_by (λ (new : NodeState). KeepsTuples new.block new.journal) (block_makes layout meaning b) node
-      (λ batched. never_both (is_join kind) join (batched_unjoined kind batched))
+      (λ batched. never_both (is_join kind) join (kind_tells is_batched_join true is_join false refl kind batched))
       (λ grouped.
       makes_by (λ new. KeepsTuples new node.journal) (block_makes layout meaning b) node.block
-      (λ batch. never_both (is_batch kind) batch (join_alone kind join))
+      (λ batch. never_both (is_batch kind) batch (kind_tells is_join true is_batch false refl kind join))
       (λ joins. tuple_made node law ((may_work_tells node.block may.waits).tuple join))
-      (λ broadcast. never_both (is_join kind) join (broadcast_unjoined kind broadcast))
+      (λ broadcast. never_both (is_join kind) join (kind_tells is_broadcast true is_join false refl kind broadcast))
       (λ other alone single. never_both (is_join kind) join alone))
   after_each node (NodeCall.complete p) whole join law may = completed node law p
   after_each node (NodeCall.fault number) whole join law may = stops_so node law (outcome.Faulted number) (Fault number) refl refl

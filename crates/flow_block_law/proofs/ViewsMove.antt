@@ -1,5 +1,5 @@
 -- Each call moves the view of its own end as the laws of one link have it, and no other end's.
-use Rattle.std.proofs.Common.{unwrap_or, ◌≡◌, ◌≢◌, ℕ, ◌-◌, ◌<◌, ◌==◌, cond, Bool, true, List, [], ◌∷◌, ◌++◌, length, set, Option, Some, None, is_some, Result, refl, ap, sym, ◌∙◌, subst, eq-eqb, arith, length-set}
+use Rattle.std.proofs.Common.{unwrap_or, ◌≡◌, ◌≢◌, ℕ, ◌-◌, ◌<◌, ◌==◌, cond, Bool, true, List, [], ◌∷◌, ◌++◌, length, set, Option, Some, None, is_some, Result, refl, ap, sym, ◌∙◌, subst, eq-eqb, arith, length-set, false}
 use Rattle.std.proofs.lemmas.List.{get_or-set_same, get_or-set_other}
 use Rattle.flow_value.specs.declared.value.Value.{Value}
 use Rattle.flow_value.specs.declared.when.When.{When}
@@ -16,6 +16,7 @@ use Rattle.flow_link.specs.Moves.{source_at, target_at}
 use Rattle.flow_link.specs.Stage.{source_stage_of, target_stage_of, source_looks, target_looks}
 use Rattle.flow_link.specs.Trace.{gave_over, took_over}
 use Rattle.flow_link.specs.Views.{SourceStage, TargetStage, SourceView, TargetView}
+use Rattle.flow_link.proofs.KindsTell.{kind_tells}
 use Rattle.flow_link.proofs.StagesKept.{source_looks_kept, target_looks_kept}
 use Rattle.flow_intake.specs.Port.{EndState, PortState, end_in}
 use Rattle.flow_intake.specs.Calls.{first_of, refused_by, wants, turns_down, postpones, refuses, consumes, opens, closes, looks as port_looks}
@@ -25,14 +26,14 @@ use Rattle.flow_outlet.specs.Law.{admits_head}
 use Rattle.flow_outlet.specs.Outlet.{OutletState, head_of, end_at, stage_at, gives, given_end, offers, prepares, denies, withdraws, ends_link, looks as exit_looks}
 use Rattle.flow_outlet.proofs.LawKept.{gives_in_order}
 use Rattle.flow_outlet.proofs.OffersInOrder.{offers_in_order}
-use Rattle.flow_link.specs.Plan.{is_broadcast}
+use Rattle.flow_link.specs.Plan.{is_broadcast, is_one_taker, is_write_once}
 use Rattle.flow_spread.specs.Spread.{link_at as link_over}
 use Rattle.flow_block_law.proofs.CopiesLeave.{free_is_given}
 use Rattle.flow_block.proofs.CopiesTaken.{taken_keeps}
 use Rattle.flow_block_law.proofs.WrittenOnce.{may_put_yet}
 use Rattle.flow_block.specs.Copies.{copy_place, none_waits}
 use Rattle.flow_block_law.proofs.CopierKept.{may_copy_next}
-use Rattle.flow_block_law.proofs.CopiesIdle.{no_copy_at, copies_at, once_copies}
+use Rattle.flow_block_law.proofs.CopiesIdle.{no_copy_at, copies_at}
 use Rattle.flow_block_law.proofs.CopiesMove.{copies_move_views}
 use Rattle.flow_block.specs.Block.{BlockState, port_at, begins, makes, copies_next, held_by}
 use Rattle.flow_block.specs.Jobs.{begins as one_more}
@@ -315,7 +316,7 @@ calls_move_views W layout meaning b node (NodeCall.close p k) law may =
     (taken_keeps (λ new. ViewsMove (NodeCall.close p k) node (with_block new held)) held.block moves
     (λ at_once.
     let once = at_once.once in
-    let copier = law.copies.copier (once_copies node.block.kind once) in
+    let copier = law.copies.copier (kind_tells is_write_once true is_one_taker false refl node.block.kind once) in
     let waits = (may_put_yet layout b node.block node.journal copier once (free_is_given node.block.copies at_once.free)).waits in
     let same = length-set node.block.ports p (closes k value (port_at p node.block)) in
     let new = copies_next (first_of (held_by held.block)) held.block in

@@ -7,8 +7,9 @@ use Rattle.flow_link.specs.declared.stage.SourceStage.{SourceStage}
 use Rattle.flow_link.specs.declared.stage.SourceStage.TheVariants as source
 use Rattle.flow_link.specs.declared.trace.Mark.{Mark}
 use Rattle.flow_link.specs.Layout.{Layout}
-use Rattle.flow_link.specs.Plan.{is_write_once}
+use Rattle.flow_link.specs.Plan.{is_write_once, is_one_taker}
 use Rattle.flow_link.specs.Trace.{took}
+use Rattle.flow_link.proofs.KindsTell.{kind_tells}
 use Rattle.flow_outlet.specs.End.{is_waiting}
 use Rattle.flow_outlet.specs.History.{listed}
 use Rattle.flow_outlet.specs.Law.{admits_head}
@@ -20,7 +21,6 @@ use Rattle.flow_spread.specs.Spread.{SpreadState, end_at, is_spread_free}
 use Rattle.flow_lists.proofs.ListTests.{never_both}
 use Rattle.flow_link.specs.declared.trace.Outcome.{Outcome}
 use Rattle.flow_lists.proofs.TestsTell.{none_unless}
-use Rattle.flow_block_law.proofs.CopiesIdle.{once_copies}
 use Rattle.flow_block.specs.Node.{NodeState}
 use Rattle.flow_block.specs.Block.{BlockState, held_by}
 use Rattle.flow_block_law.specs.Copier.{Copier}
@@ -197,7 +197,7 @@ module _ {W : Type 0} (layout : Layout W) (meaning : ℕ → Value → Result (L
   written_weighs written =
       let copies = node.block.copies in
       let both = and_parts (is_write_once node.block.kind) (is_some copies.element) written in
-      let copier = law.copies.copier (once_copies node.block.kind both.0) in
+      let copier = law.copies.copier (kind_tells is_write_once true is_one_taker false refl node.block.kind both.0) in
       weighs_one copies.once (is_some copies.element) (copies_left copies)
       (once_is layout b node.block node.journal copier ∙ both.0) both.1
 
@@ -205,7 +205,7 @@ module _ {W : Type 0} (layout : Layout W) (meaning : ℕ → Value → Result (L
   pub weighs_written : is_write_once node.block.kind ≡ true → 1 ≤ copies_weight node.block.copies → is_written node.block ≡ true
   weighs_written once counts =
       let copies = node.block.copies in
-      let copier = law.copies.copier (once_copies node.block.kind once) in
+      let copier = law.copies.copier (kind_tells is_write_once true is_one_taker false refl node.block.kind once) in
       and_from (is_write_once node.block.kind) (is_some copies.element) once
       (counted copies.once (is_some copies.element) (copies_left copies)
       (once_is layout b node.block node.journal copier ∙ once) counts)
@@ -219,7 +219,7 @@ module _ {W : Type 0} (layout : Layout W) (meaning : ℕ → Value → Result (L
   pub message_is : has_its_message node.block.kind node.journal ≡ is_written node.block
   message_is =
       let of_once : is_write_once node.block.kind ≡ true → Copier layout b node.block node.journal =
-      λ once. law.copies.copier (once_copies node.block.kind once) in
+      λ once. law.copies.copier (kind_tells is_write_once true is_one_taker false refl node.block.kind once) in
       same_tests (has_its_message node.block.kind node.journal) (is_written node.block)
       (λ has.
       let once = (and_parts (is_write_once node.block.kind) (not (is_empty (took node.journal))) has).0 in

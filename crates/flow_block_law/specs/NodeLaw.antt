@@ -3,7 +3,9 @@ use Rattle.std.specs.Prelude.{◌≡◌, ℕ, ◌+◌, ◌-◌, ◌==◌, ◌<�
 use Rattle.flow_value.specs.When.{admits}
 use Rattle.flow_value.specs.declared.value.Value.{Value}
 use Rattle.flow_link.specs.declared.draft.BlockKind.{BlockKind}
-use Rattle.flow_link.specs.declared.draft.BlockKind.TheVariants.{Buffer, Action, Transform, TransformMany, Batch}
+use Rattle.flow_link.specs.declared.draft.BlockKind.TheVariants.{Buffer, Broadcast, WriteOnce, Action, Transform, TransformMany, Batch, Join, BatchedJoin}
+use Rattle.flow_link.specs.declared.kinds.BlockUnit.{BlockUnit}
+use Rattle.flow_link.specs.declared.kinds.BlockUnit.TheVariants as unit
 use Rattle.flow_link.specs.declared.stage.Refusal.{Refusal}
 use Rattle.flow_link.specs.declared.stage.Refusal.TheVariants.{PortEnded, OwnFault}
 use Rattle.flow_link.specs.declared.stage.SourceStage.{SourceStage}
@@ -17,6 +19,7 @@ use Rattle.flow_lawful.specs.Endings.{stops, completes_once, is_number}
 use Rattle.flow_link.specs.Facts.{facts_in}
 use Rattle.flow_lawful.specs.Law.{is_own_mark, gives_in_order}
 use Rattle.flow_link.specs.Layout.{Layout}
+use Rattle.flow_link.specs.Kinds.{unit_of}
 use Rattle.flow_lists.specs.Lists.{every, some, below}
 use Rattle.flow_link.specs.Making.{all_items, are_groups, row_weight, before_complete}
 use Rattle.flow_link.specs.Plan.{block_in, port_count, has_work, is_one_taker, is_write_once, is_reserving}
@@ -103,9 +106,15 @@ rows_weighed (Some capacity) next (row ∷ left) =
 
 -- which weights a block of this kind keeps for what it has left: one for each message that is not wholly given
 abbrev pub WeighsAs : (Value → Result (List Value) ℕ) → BlockKind → Option ℕ → (taken held given left : List Value) → ℕ → List Group → Type 0
+WeighsAs result Buffer capacity taken held given left next groups = groups ≡ weighed capacity next left
+WeighsAs result Broadcast capacity taken held given left next groups = groups ≡ weighed capacity next left
+WeighsAs result WriteOnce capacity taken held given left next groups = groups ≡ weighed capacity next left
+WeighsAs result Action capacity taken held given left next groups = groups ≡ weighed capacity next left
+WeighsAs result Transform capacity taken held given left next groups = groups ≡ weighed capacity next left
 WeighsAs result TransformMany capacity taken held given left next groups = PartlyGiven result capacity taken held given left groups
 WeighsAs result Batch capacity taken held given left next groups = groups ≡ rows_weighed capacity next left
-WeighsAs result kind capacity taken held given left next groups = groups ≡ weighed capacity next left
+WeighsAs result Join capacity taken held given left next groups = groups ≡ weighed capacity next left
+WeighsAs result BatchedJoin capacity taken held given left next groups = groups ≡ weighed capacity next left
 
 -- a message that is held first and on which the block's own function faults so
 pub record FaultsOn (result : Value → Result (List Value) ℕ) (kind : BlockKind) (held : List Value) (number : ℕ) : Type 0 where
@@ -118,11 +127,14 @@ pub record FaultsOn (result : Value → Result (List Value) ℕ) (kind : BlockKi
 -- what a block of this kind makes of what it took; how many messages each row of a batch has is a law of its own
 abbrev pub MakesAs : (Value → Result (List Value) ℕ) → BlockKind → (taken held given left recorded : List Value) → Type 0
 MakesAs result Buffer taken held given left recorded = taken ≡ (given ++ left) ++ held
+MakesAs result Broadcast taken held given left recorded = Unit {0}
+MakesAs result WriteOnce taken held given left recorded = Unit {0}
 MakesAs result Action taken held given left recorded = WorkedInto result taken held recorded × (left ≡ [])
 MakesAs result Transform taken held given left recorded = WorkedInto result taken held (given ++ left)
 MakesAs result TransformMany taken held given left recorded = WorkedInto result taken held (given ++ left)
 MakesAs result Batch taken held given left recorded = taken ≡ all_items (given ++ left) ++ held
-MakesAs result kind taken held given left recorded = Unit {0}
+MakesAs result Join taken held given left recorded = Unit {0}
+MakesAs result BatchedJoin taken held given left recorded = Unit {0}
 
 -- a row has as many messages as a row of this size has
 abbrev pub is_whole : ℕ → Value → Bool
@@ -145,14 +157,22 @@ KeepsTuples block journal =
 
 -- it could make nothing more of what it held when it stopped: a batch held less than a row, and nothing if its port had
 -- completed before; a join held nothing at one of its ports; a batched join had no group
+abbrev pub told_by_unit : BlockUnit → (row tuple group none : Bool) → Bool
+told_by_unit unit.Message row tuple group none = none
+told_by_unit unit.Row row tuple group none = row
+told_by_unit unit.Tuple row tuple group none = tuple
+told_by_unit unit.Group row tuple group none = group
+told_by_unit unit.Copy row tuple group none = none
+told_by_unit unit.OneCopy row tuple group none = none
+
+abbrev pub made_all_by_unit : BlockUnit → BlockState → List Mark → Bool
+made_all_by_unit made block journal =
+    told_by_unit made (ltb (length (held_by block)) block.size && (not (has_complete 0 journal) || is_empty (held_by block)))
+    (not (has_tuple block.ports)) (not (has_group_at block.size (are_complete (length block.ports) journal) block.ports))
+    (holds_nothing block.ports)
+
 abbrev pub has_made_all : BlockState → List Mark → Bool
-has_made_all block journal =
-    cond (is_batch block.kind)
-    (ltb (length (held_by block)) block.size && (not (has_complete 0 journal) || is_empty (held_by block)))
-    (cond (is_join block.kind) (not (has_tuple block.ports))
-    (cond (is_batched_join block.kind)
-    (not (has_group_at block.size (are_complete (length block.ports) journal) block.ports))
-    (holds_nothing block.ports)))
+has_made_all block journal = made_all_by_unit (unit_of block.kind) block journal
 
 -- it takes one message in all, and took it
 abbrev pub has_its_message : BlockKind → List Mark → Bool

@@ -17,11 +17,10 @@ use Rattle.flow_link.specs.Looks.{looking_in, looking_out}
 use Rattle.flow_link.specs.Phase.{phase_after}
 use Rattle.flow_link.specs.Plan.{link_in, has_work, is_broadcast, is_one_taker}
 use Rattle.flow_link.specs.Views.{SourceView, TargetView}
+use Rattle.flow_link.proofs.KindsTell.{kind_tells, copy_is}
 use Rattle.flow_link.proofs.LooksKeepOrder.{looks_keep}
-use Rattle.flow_intake.specs.Calls.{first_of}
 use Rattle.flow_outlet.specs.Outlet.{lacks_ids}
-use Rattle.flow_group.specs.Tuple.{tuple_of}
-use Rattle.flow_block.specs.Block.{held_by, is_batch, is_join, row_of, next_group, put_of, is_batched_join}
+use Rattle.flow_block.specs.Block.{is_batched_join, puts_by_unit, put_next}
 use Rattle.flow_block.specs.Input.{input_view}
 use Rattle.flow_block_law.specs.InputKeeps.{InputsKeep}
 use Rattle.flow_block.specs.Jobs.{Slot}
@@ -34,9 +33,6 @@ use Rattle.flow_block.specs.Peeks.{lacks_next, may_work, may_make, may_end, next
 use Rattle.flow_block.specs.Planned.{in_place, out_place, block_makes}
 use Rattle.flow_block_law.specs.ViewsMove.{CallsMoveViews, IsAboutIn, IsAboutOut, IsAboutCopy}
 use Rattle.flow_lists.proofs.ListTests.{never_both}
-use Rattle.flow_block_law.proofs.CopiesIdle.{broadcast_copies}
-use Rattle.flow_block_law.proofs.Joins.{broadcast_unjoined, broadcast_unbatched}
-use Rattle.flow_block_law.proofs.KindsBuilt.{broadcast_single}
 use Rattle.flow_core.specs.Events.{NetEvent, MayHappen, HasIds, LinkMay, is_of_source, node_after, source_call, in_call}
 use Rattle.flow_core.specs.Events.{input_call, input_after, with_node, with_line, source_peek, target_peek, peek_by}
 use Rattle.flow_core.specs.Events.{value_from, slot_after, source_moves, target_moves, source_sees, target_sees}
@@ -44,6 +40,8 @@ use Rattle.flow_core.specs.Events.{line_after, moved_by, after_move, after}
 use Rattle.flow_core.specs.Keeps.{IsRun, NetKeeps}
 use Rattle.flow_core.specs.OneMove.{SourceMoved, TargetMoved, BlocksMoveWell, InputsMoveWell, TargetsMoveWell}
 use Rattle.flow_link.specs.declared.trace.LinkState.{LinkState}
+use Rattle.flow_link.specs.declared.kinds.BlockUnit.{BlockUnit}
+use Rattle.flow_link.specs.Kinds.{unit_of}
 use Rattle.flow_core.specs.State.{NetState, node_at, line_at, input_at}
 use Rattle.flow_core.specs.Statements.{EventsKeep}
 use Rattle.flow_core.proofs.PartsChange.{PartsInOrder, NodeSteps, given_at, taken_at, given_as, taken_as, parts_in_order}
@@ -60,20 +58,20 @@ record IdsLeft (result : Value → Result (List Value) ℕ) (node : NodeState) :
   ids : lacks_ids (puts_next result node) node.block.exits ≡ false
   copy_id : is_broadcast node.block.kind ≡ true → node.block.copies.id + 1 < 2 ^ 59
 
-none_put : (batched batch join broadcast : Bool) (group row tuple other : List Value) → batched ≡ false → batch ≡ false
-    → join ≡ false → broadcast ≡ true → cond batched group (cond batch row (cond join tuple (cond broadcast [] other))) ≡ []
-none_put batched batch join broadcast group row tuple other plain single alone copies = rw (plain, single, alone, copies) refl
+-- a broadcast puts nothing into its exits
+none_put : (result : Value → Result (List Value) ℕ) (node : NodeState) → is_broadcast node.block.kind ≡ true → puts_next result node ≡ []
+none_put result node copies =
+    ap (λ (batched : Bool). cond batched (next_group_in node ∷ []) (put_next result node.block))
+    (kind_tells is_broadcast true is_batched_join false refl node.block.kind copies)
+    ∙ ap (λ (u : BlockUnit). puts_by_unit u result node.block) (copy_is (unit_of node.block.kind) copies)
 
 ids_left : {W : Type 0} (layout : Layout W) (meaning : ℕ → Value → Result (List Value) ℕ) (b : ℕ) (node : NodeState)
     → NodeLaw layout meaning b node → (broadcast : Bool) → is_broadcast node.block.kind ≡ broadcast
     → lacks_next (block_makes layout meaning b) node ≡ false → IdsLeft (block_makes layout meaning b) node
 ids_left layout meaning b node law true copies ids =
     let block = node.block in
-    let copier = law.copies.copier (broadcast_copies block.kind copies) in
-    let nothing = none_put (is_batched_join block.kind) (is_batch block.kind) (is_join block.kind) (is_broadcast block.kind)
-    (next_group_in node ∷ []) (row_of (next_group block) ∷ []) (tuple_of block.ports ∷ [])
-    (put_of block.kind (block_makes layout meaning b) (first_of (held_by block)))
-    (broadcast_unbatched block.kind copies) (broadcast_single block.kind copies) (broadcast_unjoined block.kind copies) copies in
+    let copier = law.copies.copier (kind_tells is_broadcast true is_one_taker false refl block.kind copies) in
+    let nothing = none_put (block_makes layout meaning b) node copies in
     let left : leb (2 ^ 59) (block.copies.id + 1) ≡ false = rw copies at ids in
     record {
       ids = ap (λ (values : List Value). lacks_ids values block.exits) nothing ∙ ap (lacks_ids []) copier.idle_exits;

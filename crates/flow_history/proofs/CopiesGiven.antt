@@ -12,10 +12,10 @@ use Rattle.flow_link.specs.BlockCalls.{BlockCall}
 use Rattle.flow_link.specs.Plan.{is_broadcast, is_one_taker, is_write_once}
 use Rattle.flow_link.specs.SourceCalls.{SourceCall}
 use Rattle.flow_link.specs.TargetCalls.{TargetCall}
+use Rattle.flow_link.specs.Kinds.{unit_of}
 use Rattle.flow_intake.specs.Port.{PortState}
 use Rattle.flow_intake.specs.Calls.{first_of, port_closes}
 use Rattle.flow_intake.specs.ByLink.{answered, arrives}
-use Rattle.flow_group.specs.Tuple.{tuple_of}
 use Rattle.flow_outlet.specs.Outlet.{is_empty, lacks_ids}
 use Rattle.flow_outlet.specs.declared.ends.LinkRule.{LinkRule}
 use Rattle.flow_spread.specs.End.{fresh_end}
@@ -24,11 +24,11 @@ use Rattle.flow_spread.specs.Accounts.{Told, told_both, told_in, AllMade, LinkAc
 use Rattle.flow_spread.specs.Copied as copied
 use Rattle.flow_spread.specs.Spread.{SpreadState, next_place, is_spread_free, puts}
 use Rattle.flow_spread.proofs.AnyTarget.{each_link_accounts}
-use Rattle.flow_block.specs.Block.{BlockState, held_by, is_batch, is_join, row_of, next_group, with_port, makes_row, makes_tuple, puts_out, copies_next, copies_at_once, copies_where, stops_by}
+use Rattle.flow_block.specs.Block.{BlockState, held_by, with_port, copies_next, copies_at_once, copies_where, stops_by}
 use Rattle.flow_block.specs.BlockFits.{fresh_block}
 use Rattle.flow_block.specs.Copies.{copied_rules}
 use Rattle.flow_block.specs.Peeks.{may_finish, would_copy}
-use Rattle.flow_block.specs.Traits.{settles, outcome_of, faults, makes_alone, has_turn, made_next, makes_its_next, Makes, carries_copy, copies_over, copy_over, may_take_copy, copies_home, shares, source_by, offer_by, offer_next, offered_by, answered_by, taken_by, given_by, with_port_of, wishing_port, wishes, notes}
+use Rattle.flow_block.specs.Traits.{settles, outcome_of, faults, makes_alone, has_turn, made_next, makes_its_next, Makes, carries_copy, copies_over, copy_over, may_take_copy, copies_home, shares, source_by, offer_by, offer_next, offered_by, answered_by, taken_by, given_by, with_port_of, wishing_port, wishes, notes, made_by_unit, goes_on_by_unit}
 use Rattle.flow_history.specs.Calls.{Call, MayCall, Fits, Does, Step, AllDone, after_all}
 use Rattle.flow_history.specs.Copied.{told_by, told_over, link_id, NamesItself}
 use Rattle.flow_history.specs.History.{Gift, History, nothing_yet, given_over, came_by, copied_at_once, made_by, gifts_of, gave_by, noted, history_of}
@@ -79,14 +79,10 @@ module _ (old new : BlockState) (copies : is_one_taker old.kind ≡ false) where
   broadcast_alone _ ports copies alone = absurd (cc)
 
   abbrev made_by_kind : BlockKind → List Value
-  made_by_kind kind =
-      cond (is_batch kind) (row_of (next_group old) ∷ []) (cond (is_join kind) (tuple_of old.ports ∷ []) (take 1 (held_by old)))
+  made_by_kind kind = made_by_unit (unit_of kind) old
 
   abbrev next_by_kind : BlockKind → BlockState
-  next_by_kind kind =
-      cond (is_batch kind) (makes_row old)
-      (cond (is_join kind) (makes_tuple old)
-      (cond (is_broadcast kind) (copies_next (first_of (held_by old)) old) (puts_out (take 1 (held_by old)) old)))
+  next_by_kind kind = goes_on_by_unit (unit_of kind) old
 
   copied_where : (held : List Value) → is_empty held ≡ false → is_spread_free old.copies ≡ true → old.copies.id + 1 < 2 ^ 59
       → Follows (puts_of (take 1 held)) old.copies (copies_next (first_of held) old).copies (take 1 held) [] tells_nothing

@@ -9,6 +9,7 @@ use Rattle.flow_link.specs.declared.draft.BlockKind.TheVariants.{Buffer, Broadca
 use Rattle.flow_lists.specs.Lists.{every}
 use Rattle.flow_link.specs.Making.{items_of, all_items, row_weight}
 use Rattle.flow_link.specs.Plan.{has_work, is_broadcast, is_one_taker, is_write_once}
+use Rattle.flow_link.specs.Kinds.{unit_of}
 use Rattle.flow_intake.specs.Port.{PortState}
 use Rattle.flow_intake.specs.PortLaw.{has_ended}
 use Rattle.flow_intake.specs.Calls.{first_of, takes_next, gives_room}
@@ -19,11 +20,11 @@ use Rattle.flow_group.proofs.TuplesKeep.{tuples_kept}
 use Rattle.flow_outlet.specs.Outlet.{is_empty, groups_with}
 use Rattle.flow_outlet.specs.declared.group.Group.{Group}
 use Rattle.flow_spread.specs.Spread.{is_spread_free, puts}
-use Rattle.flow_block.specs.Block.{BlockState, port_in, port_at, held_by, is_batch, is_join, is_batched_join, row_of, next_group, takes_group, makes_row, makes_tuple, copies_next, puts_out, unit_weight, group_weight}
+use Rattle.flow_block.specs.Block.{BlockState, port_in, port_at, held_by, is_batch, is_join, row_of, next_group, takes_group, makes_row, makes_tuple, copies_next, puts_out, unit_weight, group_weight}
 use Rattle.flow_block.specs.Copies.{copies_weight}
 use Rattle.flow_block_law.specs.NodeLaw.{is_whole, weighed, rows_weighed}
-use Rattle.flow_block.specs.Peeks.{has_group, has_group_of_ports, has_next, may_copy, may_work, may_make}
-use Rattle.flow_block.specs.Traits.{makes_alone, has_turn, makes_itself, made_next, makes_its_next}
+use Rattle.flow_block.specs.Peeks.{has_group, has_next, may_copy, may_work, may_make, has_unit}
+use Rattle.flow_block.specs.Traits.{makes_alone, has_turn, makes_itself, made_next, makes_its_next, made_by_unit, goes_on_by_unit}
 use Rattle.flow_block_law.proofs.GroupsOfRows.{groups_more, group_there, group_fits, whole_or_last, group_tells}
 use Rattle.flow_block.proofs.PortsChange.{kept_at_one, kept_at_all}
 use Rattle.flow_block_law.proofs.WeightsOfResults.{rows_put, weighs_one}
@@ -268,20 +269,13 @@ module _ (single : Bool) (history : History) (old : BlockState) (kept : Kept sin
   -- By kind
 
   abbrev made_by_kind : BlockKind → List Value
-  made_by_kind kind =
-      cond (is_batch kind) (row_of (next_group old) ∷ []) (cond (is_join kind) (tuple_of old.ports ∷ []) (take 1 (held_by old)))
+  made_by_kind kind = made_by_unit (unit_of kind) old
 
   abbrev next_by_kind : BlockKind → BlockState
-  next_by_kind kind =
-      cond (is_batch kind) (makes_row old)
-      (cond (is_join kind) (makes_tuple old)
-      (cond (is_broadcast kind) (copies_next (first_of (held_by old)) old) (puts_out (take 1 (held_by old)) old)))
+  next_by_kind kind = goes_on_by_unit (unit_of kind) old
 
   abbrev has_by_kind : BlockKind → Bool
-  has_by_kind kind =
-      cond (is_batch kind) (has_group old)
-      (cond (is_join kind) (has_tuple old.ports)
-      (cond (is_batched_join kind) (has_group_of_ports old) (not (is_empty (held_by old)) && may_copy old)))
+  has_by_kind kind = has_unit (unit_of kind) old
 
   -- it holds what it makes its next output of
   holds_next : may_make old ≡ true → has_by_kind old.kind ≡ true

@@ -11,14 +11,17 @@ use Rattle.flow_link.specs.BlockCalls.{BlockCall}
 use Rattle.flow_link.specs.Plan.{is_broadcast, is_one_taker}
 use Rattle.flow_link.specs.SourceCalls.{SourceCall}
 use Rattle.flow_link.specs.TargetCalls.{TargetCall}
+use Rattle.flow_link.specs.declared.kinds.BlockUnit.{BlockUnit}
+use Rattle.flow_link.specs.declared.kinds.BlockUnit.TheVariants as unit
+use Rattle.flow_link.specs.Kinds.{unit_of}
 use Rattle.flow_intake.specs.Calls.{first_of, port_closes}
 use Rattle.flow_intake.specs.ByLink.{answered, arrives}
 use Rattle.flow_group.specs.Tuple.{tuple_of}
 use Rattle.flow_outlet.specs.ByLink.{place_of, is_head, tests_consume, consumed, gives_home}
 use Rattle.flow_outlet.specs.Law.{may_go_past}
 use Rattle.flow_outlet.specs.Outlet.{OutletState, head_of, may_offer, lacks_ids, is_empty, end_at}
-use Rattle.flow_block.specs.Block.{BlockState, held_by, is_batch, is_join, row_of, next_group, with_port, makes_row, makes_tuple, puts_out, copies_next, copies_at_once, copies_where, copies_taken, stops_by}
-use Rattle.flow_block.specs.Traits.{settles, outcome_of, faults, makes_alone, has_turn, makes_its_next, Makes, carries, offers_over, source_by, offer_by, offer_next, offered_by, answered_by, may_take, taken_by, gives_over, given_by, with_port_of, wishing_port, wishes, notes}
+use Rattle.flow_block.specs.Block.{BlockState, held_by, row_of, next_group, with_port, puts_out, copies_next, copies_at_once, copies_where, copies_taken, stops_by}
+use Rattle.flow_block.specs.Traits.{settles, outcome_of, faults, makes_alone, has_turn, makes_its_next, Makes, carries, offers_over, source_by, offer_by, offer_next, offered_by, answered_by, may_take, taken_by, gives_over, given_by, with_port_of, wishing_port, wishes, notes, made_by_unit, goes_on_by_unit}
 use Rattle.flow_block.specs.Peeks.{may_finish}
 use Rattle.flow_history.specs.Calls.{Call, MayCall, Does}
 use Rattle.flow_history.specs.History.{Gift, gifts_of, gave_by}
@@ -38,14 +41,10 @@ module _ (sure : Bool) (gave : List Gift) (old : BlockState) (goes : GoesByRule 
   handed_by_rule (value ∷ held) has = puts_by_rule sure gave old.exits (value ∷ []) _ has goes
 
   abbrev made_by_kind : BlockKind → List Value
-  made_by_kind kind =
-      cond (is_batch kind) (row_of (next_group old) ∷ []) (cond (is_join kind) (tuple_of old.ports ∷ []) (take 1 (held_by old)))
+  made_by_kind kind = made_by_unit (unit_of kind) old
 
   abbrev next_by_kind : BlockKind → BlockState
-  next_by_kind kind =
-      cond (is_batch kind) (makes_row old)
-      (cond (is_join kind) (makes_tuple old)
-      (cond (is_broadcast kind) (copies_next (first_of (held_by old)) old) (puts_out (take 1 (held_by old)) old)))
+  next_by_kind kind = goes_on_by_unit (unit_of kind) old
 
   by_kind : (kind : BlockKind) (ports : ℕ) → is_one_taker kind ≡ true → makes_alone kind ports ≡ true
       → cond (is_broadcast kind) (leb (2 ^ 59) (old.copies.id + 1)) (lacks_ids (made_by_kind kind) old.exits) ≡ false
@@ -221,14 +220,16 @@ module _ (old new : BlockState) (one : is_one_taker old.kind ≡ true) where
   taken_kind arrived true = copied_kind arrived (first_of (held_by arrived))
   taken_kind arrived false = refl
 
+  made_kind_at : (made : BlockUnit) → (goes_on_by_unit made old).kind ≡ old.kind
+  made_kind_at unit.Message = handed_kind (take 1 (held_by old))
+  made_kind_at unit.Row = refl
+  made_kind_at unit.Tuple = refl
+  made_kind_at unit.Group = handed_kind (take 1 (held_by old))
+  made_kind_at unit.Copy = copied_kind old (first_of (held_by old))
+  made_kind_at unit.OneCopy = handed_kind (take 1 (held_by old))
+
   made_kind : (makes_its_next old).kind ≡ old.kind
-  made_kind =
-      let copied = copies_next (first_of (held_by old)) old in
-      let handed = puts_out (take 1 (held_by old)) old in
-      let others = cond (is_broadcast old.kind) copied handed in
-      kind_where (is_batch old.kind) (makes_row old) (cond (is_join old.kind) (makes_tuple old) others) refl
-      (kind_where (is_join old.kind) (makes_tuple old) others refl
-      (kind_where (is_broadcast old.kind) copied handed (copied_kind old (first_of (held_by old))) (handed_kind (take 1 (held_by old)))))
+  made_kind = made_kind_at (unit_of old.kind)
 
   pub kind_stays : (call : Call) → Does call old new → new.kind ≡ old.kind
   kind_stays (Call.acts (BlockCall.completed p)) does = kind_as (with_port p port_closes old) does refl

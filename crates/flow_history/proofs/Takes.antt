@@ -9,8 +9,9 @@ use Rattle.flow_link.specs.declared.stage.TargetStage.TheVariants as target
 use Rattle.flow_link.specs.LinkOk.{IsWithin}
 use Rattle.flow_lists.specs.Lists.{every}
 use Rattle.flow_link.specs.Making.{all_items}
-use Rattle.flow_link.specs.Plan.{is_write_once}
+use Rattle.flow_link.specs.Plan.{is_write_once, is_one_taker}
 use Rattle.flow_link.specs.TargetCalls.{Wants}
+use Rattle.flow_link.proofs.KindsTell.{kind_tells}
 use Rattle.flow_intake.specs.Port.{EndState, PortState, stage_at, is_coming, coming, fresh_port}
 use Rattle.flow_intake.specs.PortLaw.{PortLaw, has_ended}
 use Rattle.flow_intake.specs.Calls.{put_stage, takes, one_more}
@@ -28,7 +29,6 @@ use Rattle.flow_block.specs.BlockFits.{weight_out}
 use Rattle.flow_block.specs.Copies.{weight_by, copies_left, copies_weight}
 use Rattle.flow_block_law.specs.NodeLaw.{is_whole}
 use Rattle.flow_block.specs.Traits.{port_into, target_over, with_port_of}
-use Rattle.flow_block_law.proofs.CopiesIdle.{once_copies}
 use Rattle.flow_block.proofs.PortsChange.{kept_at_one, each_after_one}
 use Rattle.flow_block.proofs.TargetMoves.{wanted_there, shown_wanted}
 use Rattle.flow_history.specs.Calls.{Fits}
@@ -246,7 +246,7 @@ module _ (single : Bool) (history : History) (old : BlockState) (kept : Kept sin
       let e2 = and_parts (is_write_once old.kind && length arrived.ports == 1 && not (is_empty (held_by arrived))) (is_spread_free old.copies) e1.0 in
       let e3 = and_parts (is_write_once old.kind && length arrived.ports == 1) (not (is_empty (held_by arrived))) e2.0 in
       let e4 = and_parts (is_write_once old.kind) (length arrived.ports == 1) e3.0 in
-      copied_made single with_one arrived came (not-true (is_empty (held_by arrived)) e3.1) (once_copies old.kind e4.0)
+      copied_made single with_one arrived came (not-true (is_empty (held_by arrived)) e3.1) (kind_tells is_write_once true is_one_taker false refl old.kind e4.0)
       (unbatched old.kind e4.0) (unjoined old.kind e4.0)
     where
       unbatched : (kind : BlockKind) → is_write_once kind ≡ true → is_batch kind ≡ false

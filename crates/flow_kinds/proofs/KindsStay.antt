@@ -15,17 +15,19 @@ use Rattle.flow_link.specs.declared.trace.Outcome.TheVariants.{Done, Faulted}
 use Rattle.flow_link.specs.declared.traits.MakeFault.TheVariants as make_fault
 use Rattle.flow_link.specs.declared.traits.WishAnswer.{WishAnswer}
 use Rattle.flow_link.specs.declared.traits.WishAnswer.TheVariants as answer
+use Rattle.flow_link.specs.declared.kinds.BlockUnit.{BlockUnit}
+use Rattle.flow_link.specs.declared.kinds.BlockUnit.TheVariants as unit
+use Rattle.flow_link.specs.Kinds.{unit_of}
 use Rattle.flow_intake.specs.Port.{PortState, stage_at}
 use Rattle.flow_intake.specs.Calls.{first_of, takes_next, gives_room, port_closes, next_place, is_postponed, consumes as port_consumes}
 use Rattle.flow_intake.specs.ByLink.{place_of, with_link_at, closes_link, answered, arrives, arrives_at, drops_at, consumes_at, consumes_next}
 use Rattle.flow_outlet.specs.ByLink.{consumes, consumed}
 use Rattle.flow_spread.specs.ByLink.{place_of as copy_place, answered as copy_answered, gives_home as copy_home}
 use Rattle.flow_spread.specs.Spread.{SpreadState, puts as copies_put, prepares, offers}
-use Rattle.flow_block.specs.Block.{BlockState, port_at, held_by, is_batch, is_join, with_port, takes_group, makes_row, makes_tuple, puts_out, copies_next, copies_at_once, copies_where, stops_by, with_copies, keeps_results, yields_all, yields_where, ends_job, with_jobs}
+use Rattle.flow_block.specs.Block.{BlockState, port_at, held_by, with_port, takes_group, makes_row, makes_tuple, puts_out, copies_next, copies_at_once, copies_where, stops_by, with_copies, keeps_results, yields_all, yields_where, ends_job, with_jobs}
 use Rattle.flow_block.specs.Copies.{copies_weight}
 use Rattle.flow_block.specs.Jobs.{Slot, brings}
-use Rattle.flow_block.specs.Traits.{Acts, Gives, Takes, outcome_of, settles, faults, makes_its_next, may_take, gives_over, may_take_copy, copies_home, shares, offer_next, offered_by, answered_by, given_by, port_into, with_port_of, wishing_port, wishes, notes, holds_at}
-use Rattle.flow_link.specs.Plan.{is_broadcast}
+use Rattle.flow_block.specs.Traits.{Acts, Gives, Takes, outcome_of, settles, faults, makes_its_next, may_take, gives_over, may_take_copy, copies_home, shares, offer_next, offered_by, answered_by, given_by, port_into, with_port_of, wishing_port, wishes, notes, holds_at, goes_on_by_unit}
 use Rattle.flow_block.specs.Peeks.{may_finish}
 use Rattle.flow_block.proofs.PortsChange.{kept_at_one, kept_at_all}
 use Rattle.flow_block.proofs.RoomBack.{length_back, kept_back}
@@ -152,14 +154,13 @@ module _ (old : BlockState) where
       let ports = at_all old takes_next (λ port. refl) in
       record { kind = refl; count = ports.count; room = ports.room }
 
-  made_where : (batch join broadcast : Bool) → SameShape old
-      (cond batch (makes_row old)
-      (cond join (makes_tuple old)
-      (cond broadcast (copies_next (first_of (held_by old)) old) (puts_out (take 1 (held_by old)) old))))
-  made_where true join broadcast = row_stays
-  made_where false true broadcast = tuple_stays
-  made_where false false true = copied_stays (first_of (held_by old))
-  made_where false false false = put_out_stays (take 1 (held_by old))
+  made_where : (made : BlockUnit) → SameShape old (goes_on_by_unit made old)
+  made_where unit.Message = put_out_stays (take 1 (held_by old))
+  made_where unit.Row = row_stays
+  made_where unit.Tuple = tuple_stays
+  made_where unit.Group = put_out_stays (take 1 (held_by old))
+  made_where unit.Copy = copied_stays (first_of (held_by old))
+  made_where unit.OneCopy = put_out_stays (take 1 (held_by old))
 
   pub settles_stay : (new : BlockState) → new ≡ settles old → SameShape old new
   settles_stay new does = as_it_is old (settles old) new does (done_where (may_finish old))
@@ -174,7 +175,7 @@ module _ (old : BlockState) where
   acts_stay new (BlockCall.faulted number) does =
       as_it_is old (faults number old) new does (fault_where number (is_some (outcome_of old)))
   acts_stay new (BlockCall.made (Ok true)) does =
-      as_it_is old (makes_its_next old) new does.1 (made_where (is_batch old.kind) (is_join old.kind) (is_broadcast old.kind))
+      as_it_is old (makes_its_next old) new does.1 (made_where (unit_of old.kind))
   acts_stay new (BlockCall.made (Ok false)) does = as_it_is old old new does.1 (same_shape old)
   acts_stay new (BlockCall.made (Err make_fault.Ids)) does = as_it_is old old new does.1 (same_shape old)
   acts_stay new (BlockCall.made (Err make_fault.Memory)) does = as_it_is old old new does.1 (same_shape old)

@@ -10,14 +10,14 @@ use Rattle.flow_lawful.specs.Lawful.{Lawful}
 use Rattle.flow_link.specs.Layout.{Layout}
 use Rattle.flow_link.specs.Plan.{has_work}
 use Rattle.flow_lawful.specs.Quiet.{Quiet}
+use Rattle.flow_link.proofs.KindsTell.{kind_tells}
 use Rattle.flow_block.specs.Routes.{route_of}
-use Rattle.flow_block.specs.Block.{held_by}
+use Rattle.flow_block.specs.Block.{held_by, has_ports}
 use Rattle.flow_block.specs.Jobs.{JobsState, is_out}
 use Rattle.flow_block.specs.Planned.{block_makes}
 use Rattle.flow_block_law.proofs.OnceMakesNone.{makes_many}
 use Rattle.flow_block_law.proofs.JobsEnd.{none_out}
 use Rattle.flow_block_law.proofs.JobsHold.{begun_held}
-use Rattle.flow_block_law.proofs.Joins.{works_at_one}
 use Rattle.flow_block_law.proofs.KindsBuilt.{has_one_port}
 use Rattle.flow_core.specs.Events.{NetEvent, LinkMay, HasIds, MayHappen, after}
 use Rattle.flow_core.specs.Keeps.{IsRun, NetKeeps}
@@ -50,7 +50,7 @@ planned_by layout meaning net keeps b low =
       kind_is = shape.kind_is;
       alone = has_one_port layout meaning b block shape;
       some_port = shape.some_port;
-      alone_at_work = λ works. has_one_port layout meaning b block shape (works_at_one block.kind works);
+      alone_at_work = λ works. has_one_port layout meaning b block shape (kind_tells has_work true has_ports false refl block.kind works);
       many = makes_many layout meaning b (node_at net b) (keeps.nodes b low);
       begun = begun_held (block_makes layout meaning b) (held_by block) block.jobs.slots jobs.results;
       drained = jobs.drained;

@@ -10,7 +10,7 @@ ghost use Rattle.flow_moves.specs.Calls.{Calls, handed, left_in_slot};
 ghost use Rattle.flow_moves.specs.Ready.{OutIsReady, CopyIsReady, ExitIsReady, InIsReady, InputIsReady, exit_count};
 
 use flow_block::{Block, Input, Node};
-use flow_link::{BlockKind, Move, Phase};
+use flow_link::{Move, Phase};
 use flow_value::Parcel;
 use std::alloc::{AllocError, Global};
 
@@ -18,16 +18,7 @@ use std::alloc::{AllocError, Global};
 pub fn shares_out(block: &Block) -> bool
     ensures { result ≡ is_one_taker block.now.kind }
 {
-    match block.kind() {
-        BlockKind::Broadcast | BlockKind::WriteOnce => false,
-        BlockKind::Buffer
-        | BlockKind::Action
-        | BlockKind::Transform
-        | BlockKind::TransformMany
-        | BlockKind::Batch
-        | BlockKind::Join
-        | BlockKind::BatchedJoin => true,
-    }
+    block.kind().unit().shares()
 }
 
 /// What a block's end of a link out of it would do next.
