@@ -13,6 +13,7 @@ pub mod LanesBusy
 pub mod LinksFit
 pub mod MakingGoesOn
 pub mod MarksFit
+pub mod MarksOfNext
 pub mod MovesOut
 pub mod NothingLeft
 pub mod OutcomesStay

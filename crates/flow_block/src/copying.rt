@@ -1,35 +1,17 @@
 //! A node whose block copies: its calls at the links over which the copies go.
-ghost use Rattle.std.specs.Prelude.{◌≡◌, ◌<◌, ◌≤◌, ◌+◌, ◌^◌, ◌↔◌, true, length, is_some, Some, Err, IfOk, OnOk, OnErr};
+ghost use Rattle.std.specs.Prelude.{◌≡◌, ◌<◌, true, length, is_some, Some, IfOk, OnOk, OnErr};
 ghost use Rattle.flow_link.specs.LinkOk.{HasRoom};
-ghost use Rattle.flow_intake.specs.Calls.{first_of};
 ghost use Rattle.flow_outlet.specs.End.{is_free, is_waiting};
-ghost use Rattle.flow_outlet.specs.declared.fault.OutletFault.TheVariants.{Ids};
-ghost use Rattle.flow_spread.specs.Spread.{may_offer, may_give, is_asked_by, is_spread_free, end_at, link_at, stage_at};
-ghost use Rattle.flow_block.specs.Block.{held_by, copies_next};
+ghost use Rattle.flow_spread.specs.Spread.{may_offer, may_give, is_asked_by, end_at, link_at, stage_at};
 ghost use Rattle.flow_block.specs.Copies.{CopyCall};
-ghost use Rattle.flow_block.specs.Node.{with_block, copies_by};
+ghost use Rattle.flow_block.specs.Node.{copies_by};
 
 use crate::node::{Node, reserve_mark};
 use flow_link::{LinkEnd, Mark, Phase};
-use flow_outlet::OutletFault;
 use flow_value::{MessageHeader, Parcel};
 use std::alloc::{AllocError, Global};
 
 impl Node {
-    /// Copies the message that waits longest from now on. Where message ids are used up, nothing has changed.
-    pub fn copy_next(&mut self) -> Result<(), OutletFault>
-        requires alone { length self.old.block.ports ≡ 1 }
-        requires waits { 0 < length (held_by self.old.block) }
-        requires free { is_spread_free self.old.block.copies ≡ true }
-        ensures done { OnOk result
-            (self.new ≡ with_block (copies_next (first_of (held_by self.old.block)) self.old.block) self.old) }
-        ensures kept { OnErr result (self.new ≡ self.old) }
-        ensures ids { (result ≡ Err Ids) ↔ (2 ^ 59 ≤ self.old.block.copies.id + 1) }
-    {
-        self.block.copy_next()?;
-        Ok(())
-    }
-
     /// Offers the element over the link at this place, and tells its header. Memory for what the link is to have, and
     /// for the mark that it is given, is set aside first.
     pub fn offer_copy(&mut self, alloc: Global, place: usize) -> Result<MessageHeader, AllocError>

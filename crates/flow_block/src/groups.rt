@@ -107,7 +107,7 @@ fn put_rows(
 impl Node {
     /// Makes a group of the messages that came in first, as many as a group has, or all where there are fewer. Where
     /// message ids are used up or there is no memory for the row, nothing has changed.
-    pub fn make_group(&mut self, alloc: Global) -> Result<(), OutletFault>
+    pub(crate) fn make_group(&mut self, alloc: Global) -> Result<(), OutletFault>
         ensures done { OnOk result (self.new ≡ makes_next_group self.old) }
         ensures kept { OnErr result (self.new ≡ self.old) }
         ensures enough { OnOk result

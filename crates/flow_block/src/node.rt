@@ -2,10 +2,11 @@
 //!
 //! Room for the mark of a message is set aside with the room for the message, so that the calls that move it take no
 //! memory.
-ghost use Rattle.std.specs.Prelude.{◌≡◌, ◌<◌, ◌≤◌, ◌+◌, ◌^◌, [], true, length, is_some, take, Some, None, Err, OnOk, OnErr};
-ghost use Rattle.std.specs.Prelude.{◌↔◌, ◌∷◌, false, IfErr, vec_len, vec_capacity};
+ghost use Rattle.std.specs.Prelude.{◌≡◌, ◌<◌, ◌≤◌, ◌+◌, ◌^◌, [], true, length, is_some, Some, None, Err, OnOk, OnErr};
+ghost use Rattle.std.specs.Prelude.{ℕ, List, Result, ◌↔◌, false, IfErr, vec_len, vec_capacity};
+ghost use Rattle.flow_value.specs.declared.value.Value.{Value};
 ghost use Rattle.flow_link.specs.LinkOk.{HasRoom};
-ghost use Rattle.flow_link.specs.Plan.{has_work};
+ghost use Rattle.flow_link.specs.Plan.{has_work, is_write_once};
 ghost use Rattle.flow_link.specs.declared.trace.Mark.TheVariants.{Complete, Fault, Done};
 ghost use Rattle.flow_link.specs.declared.trace.Outcome.TheVariants as outcome;
 ghost use Rattle.flow_intake.specs.Port.{stage_at as port_stage, is_offer, is_hand, has_room};
@@ -17,10 +18,11 @@ ghost use Rattle.flow_outlet.specs.Outlet.{end_at, stage_at, may_offer, may_give
 ghost use Rattle.flow_outlet.specs.Outlet.{withdraws, ends_link, looks, head_of, lacks_ids};
 ghost use Rattle.flow_outlet.specs.declared.fault.OutletFault.TheVariants.{Ids, Memory};
 ghost use Rattle.flow_block.specs.Block.{port_at, with_port, with_jobs, begins, held_by, records, puts_out, ends_job};
-ghost use Rattle.flow_block.specs.Block.{put_by_job, row_of, next_group, makes_row, fails, stops_by};
+ghost use Rattle.flow_block.specs.Block.{put_by_job, has_ports, fails, stops_by};
 ghost use Rattle.flow_block.specs.Jobs.{has_ticket, works_off, is_out, is_front_back, faults_at_once};
 ghost use Rattle.flow_block.specs.JournalFits.{marks_due};
-ghost use Rattle.flow_block.specs.Node.{with_block, with_exits, marks, takes_in, gives_from, hand_at};
+ghost use Rattle.flow_block.specs.Node.{with_block, with_exits, marks, takes_in, gives_from, hand_at, makes_next};
+ghost use Rattle.flow_block.specs.Peeks.{may_make, lacks_next};
 
 use crate::block::Block;
 use crate::jobs::Answer;
@@ -264,34 +266,26 @@ impl Node {
 
 // What it does by itself.
 impl Node {
-    /// Hands the message that waits longest on as it is. Where message ids are used up or there is no memory for it,
-    /// nothing has changed.
-    pub fn hand_on(&mut self) -> Result<(), OutletFault>
-        requires alone { length self.old.block.ports ≡ 1 }
-        requires waits { 0 < length (held_by self.old.block) }
-        ensures done { OnOk result
-            (self.new ≡ with_block (puts_out (take 1 (held_by self.old.block)) self.old.block) self.old) }
+    /// A block without a function makes its next outputs: it hands on or copies the message that waits longest, or makes a
+    /// row, a tuple or a group of those that wait. Where message ids are used up or memory is out, nothing has changed;
+    /// where both are wanting, ids are told.
+    pub fn make_next(&mut self, alloc: Global) -> Result<(), OutletFault>
+        requires alone { has_ports self.old.block.kind ≡ false → length self.old.block.ports ≡ 1 }
+        requires ports { 0 < length self.old.block.ports }
+        requires waits { may_make self.old.block ≡ true }
+        requires many { is_write_once self.old.block.kind ≡ false }
+        ensures done { OnOk result ((result : Value → Result (List Value) ℕ) → self.new ≡ makes_next result self.old) }
+        ensures enough { OnOk result ((result : Value → Result (List Value) ℕ) → lacks_next result self.old ≡ false) }
         ensures kept { OnErr result (self.new ≡ self.old) }
-        ensures ids { (result ≡ Err Ids) ↔ (lacks_ids (take 1 (held_by self.old.block)) self.old.block.exits ≡ true) }
-    {
-        self.block.hand_on()?;
-        Ok(())
-    }
-
-    /// Makes a row of the messages that wait longest: as many as a row has, or all where there are fewer. Where message ids
-    /// are used up or there is no memory for the row, nothing has changed.
-    pub fn make_row(&mut self, alloc: Global) -> Result<(), OutletFault>
-        requires alone { length self.old.block.ports ≡ 1 }
-        ensures done { OnOk result (self.new ≡ with_block (makes_row self.old.block) self.old) }
-        ensures kept { OnErr result (self.new ≡ self.old) }
-        ensures enough { OnOk result
-            (lacks_ids (row_of (next_group self.old.block) ∷ []) self.old.block.exits ≡ false) }
-        ensures ids { result ≡ Err Ids →
-            lacks_ids (row_of (next_group self.old.block) ∷ []) self.old.block.exits ≡ true }
+        ensures ids { result ≡ Err Ids → (result : Value → Result (List Value) ℕ) → lacks_next result self.old ≡ true }
         ensures memory { result ≡ Err Memory →
-            lacks_ids (row_of (next_group self.old.block) ∷ []) self.old.block.exits ≡ false }
+            (result : Value → Result (List Value) ℕ) → lacks_next result self.old ≡ false }
     {
-        self.block.make_row(alloc)
+        if self.block.kind.unit().makes_groups() {
+            return self.make_group(alloc);
+        }
+        self.block.make_next(alloc)?;
+        Ok(())
     }
 
     /// Has these results of the message that waits longest to give. Where message ids are used up or there is no memory

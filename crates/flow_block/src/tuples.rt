@@ -4,11 +4,9 @@ ghost use Rattle.flow_outlet.specs.Fits.{weight_of};
 ghost use Rattle.flow_outlet.specs.Outlet.{puts, lacks_ids};
 ghost use Rattle.flow_outlet.specs.declared.fault.OutletFault.TheVariants.{Ids, Memory};
 ghost use Rattle.flow_group.specs.Tuple.{has_tuple, tuple_of, takes_tuple};
-ghost use Rattle.flow_block.specs.Node.{with_block};
 ghost use Rattle.flow_block.specs.Block.{makes_tuple};
 
 use crate::block::Block;
-use crate::node::Node;
 use crate::ports::unit_weight;
 use flow_group::{copy_tuple, take_tuple};
 use flow_intake::Intake;
@@ -62,23 +60,5 @@ fn put_tuple(
             Ok(())
         }
         Err((_, fault)) => Err(fault),
-    }
-}
-
-impl Node {
-    /// Makes a tuple of the messages that wait longest, one from each port. Where message ids are used up or there is no
-    /// memory for the row, nothing has changed.
-    pub fn make_tuple(&mut self, alloc: Global) -> Result<(), OutletFault>
-        requires ports { 0 < length self.old.block.ports }
-        requires waits { has_tuple self.old.block.ports ≡ true }
-        ensures done { OnOk result (self.new ≡ with_block (makes_tuple self.old.block) self.old) }
-        ensures kept { OnErr result (self.new ≡ self.old) }
-        ensures enough { OnOk result (lacks_ids (tuple_of self.old.block.ports ∷ []) self.old.block.exits ≡ false) }
-        ensures ids { result ≡ Err Ids → lacks_ids (tuple_of self.old.block.ports ∷ []) self.old.block.exits ≡ true }
-        ensures memory { result ≡ Err Memory →
-            lacks_ids (tuple_of self.old.block.ports ∷ []) self.old.block.exits ≡ false }
-    {
-        self.block.make_tuple(alloc)?;
-        Ok(())
     }
 }

@@ -1,7 +1,6 @@
 pub mod EndsAnswer
 pub mod EndsStay
 pub mod FreshBlocks
-pub mod HandsOn
 pub mod LinksThere
 pub mod MerelyKept
 pub mod MovesPrepared

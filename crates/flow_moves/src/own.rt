@@ -1,5 +1,5 @@
 //! What a block does by itself.
-ghost use Rattle.std.specs.Prelude.{◌≡◌, ◌≢◌, ℕ, ◌<◌, true, false, [], List, length, Result, Ok, Err, option_map, take};
+ghost use Rattle.std.specs.Prelude.{◌≡◌, ◌≢◌, ℕ, ◌<◌, true, false, [], List, length, Result, Ok, Err, option_map};
 ghost use Rattle.std.specs.Prelude.{◌≤◌, ◌↔◌, None, OnOk, OnErr, IfErr};
 ghost use Rattle.flow_value.specs.declared.value.Value.{Value};
 ghost use Rattle.flow_link.specs.declared.draft.BlockKind.TheVariants.{Buffer};
@@ -45,7 +45,7 @@ impl Parts {
         ensures memory { result ≡ Err Memory →
             (result : Value → Result (List Value) ℕ) → lacks_next result (node_at self.old block) ≡ false }
     {
-        make(&mut self.nodes[block], alloc)
+        self.nodes[block].make_next(alloc)
     }
 
     /// A block works on one more of the messages that it holds. Where memory is out, or tickets are used up, nothing has
@@ -171,35 +171,6 @@ impl Parts {
         ensures kept { OnErr result (self.new ≡ self.old) }
     {
         self.nodes[block].finish()
-    }
-}
-
-/// A block without a function makes its next outputs. Where message ids are used up or memory is out, nothing has changed.
-fn make(node: &mut Node, alloc: Global) -> Result<(), OutletFault>
-    requires alone { has_ports node.old.block.kind ≡ false → length node.old.block.ports ≡ 1 }
-    requires ports { 0 < length node.old.block.ports }
-    requires waits { may_make node.old.block ≡ true }
-    requires many { is_write_once node.old.block.kind ≡ false }
-    ensures done { OnOk result ((result : Value → Result (List Value) ℕ) →
-        node.new ≡ after result NodeCall.make node.old) }
-    ensures ids { OnOk result ((result : Value → Result (List Value) ℕ) →
-        lacks_next result node.old ≡ false) }
-    ensures kept { OnErr result (node.new ≡ node.old) }
-    ensures used_up { result ≡ Err Ids → (result : Value → Result (List Value) ℕ) →
-        lacks_next result node.old ≡ true }
-    ensures memory { result ≡ Err Memory →
-        (result : Value → Result (List Value) ℕ) → lacks_next result node.old ≡ false }
-{
-    match node.block().kind() {
-        BlockKind::Batch => node.make_row(alloc),
-        BlockKind::Join => node.make_tuple(alloc),
-        BlockKind::Broadcast => node.copy_next(),
-        BlockKind::BatchedJoin => node.make_group(alloc),
-        BlockKind::Buffer
-        | BlockKind::WriteOnce
-        | BlockKind::Action
-        | BlockKind::Transform
-        | BlockKind::TransformMany => node.hand_on(),
     }
 }
 
