@@ -176,7 +176,7 @@ impl Block {
     }
 
     /// The fault of its own function on the message that waits longest, once that is known.
-    pub fn fault(&self) -> Option<u32>
+    pub fn own_fault(&self) -> Option<u32>
         ensures { result ≡ self.now.fault }
     {
         self.fault
@@ -206,7 +206,7 @@ impl Block {
     }
 
     /// The place of the link over which the head would be offered next.
-    pub fn next_offer(&self) -> Option<usize>
+    pub fn offer_place(&self) -> Option<usize>
         ensures { result ≡ may_offer self.now.exits }
     {
         self.exits.may_offer()

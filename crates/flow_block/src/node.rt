@@ -379,7 +379,7 @@ impl Node {
         ensures kept { OnErr result (self.new ≡ self.old) }
     {
         reserve_mark(&mut self.journal, &self.block)?;
-        self.block.complete(port as usize);
+        self.block.close_port(port as usize);
         self.journal.push_reserved(Mark::Complete(port));
         Ok(())
     }

@@ -134,7 +134,7 @@ impl Block {
     /// A port takes no message any more.
     ///
     /// Microsoft: `IDataflowBlock.Complete`.
-    pub fn complete(&mut self, port: usize)
+    pub fn close_port(&mut self, port: usize)
         requires { port < length self.old.ports }
         ensures { self.new ≡ with_port port port_closes self.old }
     {

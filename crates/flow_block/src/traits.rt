@@ -51,7 +51,7 @@ impl DataflowBlock for Block {
     ghost acts = { Acts };
 
     fn complete(&mut self, port: u32) {
-        Block::complete(self, port as usize);
+        self.close_port(port as usize);
     }
 
     fn fault(&mut self, number: u32) {

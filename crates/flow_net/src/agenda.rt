@@ -258,7 +258,7 @@ impl Agenda {
             self.list_out(block);
         }
         self.list_copies_waiting(block);
-        if block.fault().is_some() {
+        if block.own_fault().is_some() {
             self.list_in(block);
         }
     }

@@ -344,7 +344,7 @@ fn has_header(next: &Move) -> bool
 
 /// The link over which a block would offer next.
 pub(crate) fn link_to_offer(block: &Block) -> Option<LinkId> {
-    let place = block.next_offer()?;
+    let place = block.offer_place()?;
     if place < block.out_count() {
         Some(block.out_link(place))
     } else {

@@ -159,7 +159,7 @@ fn a_completed_batch_makes_its_remainder(rt: HostRuntime) {
     let mut batch = block(&rt, rt.alloc(), BlockKind::Batch, 2, None);
     take(&rt, rt.alloc(), &mut batch, 1, 5);
     assert!(rt; batch.port_count() == 1);
-    batch.complete(0);
+    batch.close_port(0);
     assert_eq!(rt; batch.make(rt.alloc()), Ok(true));
     assert!(rt; has_row(&batch, &[5]));
     assert_eq!(rt; batch.completion(), None);

@@ -1,7 +1,7 @@
 use Rattle.std.proofs.Common.{◌<◌, length, subst, sym}
 use Rattle.flow_block.specs.Block.{BlockState}
 use Rattle.flow_block.proofs.RoomFits.{fits_port}
-use Rattle.flow_block.proofs.block.Block.complete.Goals as goal
+use Rattle.flow_block.proofs.block.Block.close_port.Goals as goal
 
 pub invariant_of-self : goal.invariant_of-self
 invariant_of-self c =
