@@ -7,12 +7,12 @@ use Rattle.flow_value.specs.declared.value.Value.{Value}
 use Rattle.flow_link.specs.declared.phase.Phase.{Phase}
 use Rattle.flow_link.specs.declared.stage.Refusal.{Refusal}
 use Rattle.flow_link.specs.declared.stage.TargetStage.{TargetStage}
-use Rattle.flow_link.specs.declared.stage.TargetStage.TheVariants.{Free, Offered, Posted, Postponed, Accepted, Consuming, Arrived, Hand}
+use Rattle.flow_link.specs.declared.stage.TargetStage.TheVariants.{Free, Offered, Posted, Postponed, Accepted, Consuming, Asking, Holding, Claiming, Arrived, Hand}
 use Rattle.flow_link.specs.LinkOk.{IsWithin, MayPutOff}
 use Rattle.flow_link.specs.Stage.{target_looks}
 use Rattle.flow_link.specs.Views.{LinkFacts}
-use Rattle.flow_intake.specs.Port.{EndState, PortState, fresh_end, end_in, link_in, stage_in, stage_at, coming, has_room, is_coming, is_hand, is_offer, is_queued, count_at}
-use Rattle.flow_intake.specs.Calls.{one_more, message_of, is_offered, is_posted, is_postponed, is_arrived, may_be_refused, may_be_dropped, refused_by, queue_after, accepts, puts_off as postpones_so, leaves_for, takes, consumes, opens, looks, port_closes, failing_from, port_fails}
+use Rattle.flow_intake.specs.Port.{EndState, PortState, fresh_end, end_in, link_in, stage_in, stage_at, coming, has_room, is_coming, is_hand, is_holding, is_offer, is_queued, count_at}
+use Rattle.flow_intake.specs.Calls.{one_more, message_of, is_offered, is_posted, is_postponed, is_arrived, may_be_refused, may_be_dropped, refused_by, queue_after, accepts, puts_off as postpones_so, leaves_for, takes, consumes, asks, claims, releases, opens, looks, port_closes, failing_from, port_fails}
 use Rattle.flow_intake.specs.ByLink.{is_free}
 use Rattle.flow_intake.specs.Queue.{without}
 use Rattle.flow_intake.specs.PortLaw.{is_in, IsDistinct, AreBelow, has_ended, is_refused, puts_off, InLaw, EachIn, PortLaw}
@@ -48,6 +48,10 @@ free_is stage e = absurd (cc)
 pub postponed_is : (stage : TargetStage) → is_postponed stage ≡ true → IsAt stage true false false true
 postponed_is (Postponed i) e = record { queued = refl; coming = refl; hand = refl; put_off = refl }
 postponed_is stage e = absurd (cc)
+
+holding_is : (stage : TargetStage) → is_holding stage ≡ true → IsAt stage true true false true
+holding_is (Holding i) e = record { queued = refl; coming = refl; hand = refl; put_off = refl }
+holding_is stage e = absurd (cc)
 
 arrived_is : (stage : TargetStage) → is_arrived stage ≡ true → IsAt stage false true false false
 arrived_is (Arrived i) e = record { queued = refl; coming = refl; hand = refl; put_off = refl }
@@ -113,6 +117,29 @@ pub consume_keeps : (facts : ℕ → LinkFacts) (taken : ℕ) (port : PortState)
 consume_keeps facts taken port place law below before room going =
     port_left facts taken port place (Consuming (message_of (stage_at place port))) law below refl (sym before.hand) (λ e. absurd (cc)) (λ e. going) (λ e. before.put_off)
     (fits_one_more port place (record (end_in place port.ends) { stage = Consuming (message_of (stage_at place port)) }) below before.coming room)
+
+ask_keeps : (facts : ℕ → LinkFacts) (taken : ℕ) (port : PortState) (place : ℕ) → PortLaw facts taken port → place < length port.ends
+    → IsAt (stage_at place port) true false false true → has_room port ≡ true → has_ended port.refusing ≡ false → PortLaw facts taken (asks place port)
+ask_keeps facts taken port place law below before room going =
+    port_stays facts taken port place (Asking (message_of (stage_at place port))) port.ready law below (sym before.queued) (sym before.hand)
+    (λ e. absurd (cc)) (λ e. going) (λ e. before.put_off)
+    (fits_one_more port place (record (end_in place port.ends) { stage = Asking (message_of (stage_at place port)) }) below before.coming room)
+
+claim_keeps : (facts : ℕ → LinkFacts) (taken : ℕ) (port : PortState) (place : ℕ) → PortLaw facts taken port → place < length port.ends
+    → IsAt (stage_at place port) true true false true → PortLaw facts taken (claims place port)
+claim_keeps facts taken port place law below before =
+    port_left facts taken port place (Claiming (message_of (stage_at place port))) law below refl (sym before.hand) (λ e. absurd (cc))
+    (λ e. (law.each place below).coming before.coming) (λ e. before.put_off)
+    (fits_no_more facts taken port place (record (end_in place port.ends) { stage = Claiming (message_of (stage_at place port)) }) law below
+    (λ e. before.coming))
+
+release_keeps : (facts : ℕ → LinkFacts) (taken : ℕ) (port : PortState) (place : ℕ) → PortLaw facts taken port → place < length port.ends
+    → IsAt (stage_at place port) true true false true → PortLaw facts taken (releases place port)
+release_keeps facts taken port place law below before =
+    port_stays facts taken port place (Postponed (message_of (stage_at place port))) port.ready law below (sym before.queued) (sym before.hand)
+    (λ e. absurd (cc)) (λ e. absurd (cc)) (λ e. before.put_off)
+    (fits_no_more facts taken port place (record (end_in place port.ends) { stage = Postponed (message_of (stage_at place port)) }) law below
+    (λ e. absurd (cc)))
 
 pub leave_keeps : (facts : ℕ → LinkFacts) (taken : ℕ) (port : PortState) (place : ℕ) (stage : TargetStage) → PortLaw facts taken port → place < length port.ends
     → IsAt stage false false false false → is_hand (stage_at place port) ≡ false → (is_refused stage ≡ true → is_some port.refusing ≡ true)
@@ -361,6 +388,12 @@ moves_keep = record {
       (refusable_not_in_hand (stage_at place port) offer) (λ e. refusing);
   consume = λ facts taken port law place below postponed room going.
       consume_keeps facts taken port place law below (postponed_is (stage_at place port) postponed) room going;
+  ask = λ facts taken port law place below postponed room going.
+      ask_keeps facts taken port place law below (postponed_is (stage_at place port) postponed) room going;
+  claim = λ facts taken port law place below holding.
+      claim_keeps facts taken port place law below (holding_is (stage_at place port) holding);
+  release = λ facts taken port law place below holding.
+      release_keeps facts taken port place law below (holding_is (stage_at place port) holding);
   opened = λ facts taken port law place value below arrived.
       open_keeps facts taken port place value law below (arrived_is (stage_at place port) arrived);
   closed = λ facts taken port law place value below hand.

@@ -1,5 +1,5 @@
 -- What each call makes of a port.
-use Rattle.std.specs.Prelude.{ℕ, ◌+◌, ◌-◌, Bool, true, false, ◌&&◌, ◌||◌, cond, ◌==◌, List, [], ◌∷◌, ◌++◌, set, drop, Option, Some, None}
+use Rattle.std.specs.Prelude.{ℕ, ◌+◌, ◌-◌, Bool, true, false, not, ◌&&◌, ◌||◌, cond, ◌==◌, List, [], ◌∷◌, ◌++◌, set, drop, Option, Some, None}
 use Rattle.flow_value.specs.declared.value.Value.{Value}
 use Rattle.flow_value.specs.declared.message.MessageStatus.{MessageStatus}
 use Rattle.flow_value.specs.declared.message.MessageStatus.TheVariants as status
@@ -9,7 +9,7 @@ use Rattle.flow_link.specs.declared.phase.Move.TheVariants as move
 use Rattle.flow_link.specs.declared.stage.Refusal.{Refusal}
 use Rattle.flow_link.specs.declared.stage.Refusal.TheVariants.{PortEnded, OwnFault}
 use Rattle.flow_link.specs.declared.stage.TargetStage.{TargetStage}
-use Rattle.flow_link.specs.declared.stage.TargetStage.TheVariants.{Free, Offered, Posted, Postponed, Accepted, Consuming, Asking, Arrived, Hand, Refused}
+use Rattle.flow_link.specs.declared.stage.TargetStage.TheVariants.{Free, Offered, Posted, Postponed, Accepted, Consuming, Asking, Holding, Claiming, Arrived, Hand, Refused}
 use Rattle.flow_lists.specs.Lists.{is_empty}
 use Rattle.flow_link.specs.Stage.{target_looks}
 use Rattle.flow_intake.specs.Port.{EndState, PortState, end_in, stage_at, is_offer, is_queued, has_room}
@@ -109,6 +109,7 @@ abbrev pub message_of : TargetStage → ℕ
 message_of (Offered i) = i
 message_of (Posted i) = i
 message_of (Postponed i) = i
+message_of (Holding i) = i
 message_of (Arrived i) = i
 message_of _ = 0
 
@@ -160,6 +161,24 @@ refuses place port = leaves_for (refused_by port.refusing) place port
 
 abbrev pub consumes : ℕ → PortState → PortState
 consumes place port = leaves_for (Consuming (message_of (stage_at place port))) place port
+
+-- it asks to reserve a message that it postponed; it claims, or releases, a message that is kept for it
+abbrev pub asks : ℕ → PortState → PortState
+asks place port = record port { ends = put_stage place (Asking (message_of (stage_at place port))) port.ends }
+
+abbrev pub claims : ℕ → PortState → PortState
+claims place port = leaves_for (Claiming (message_of (stage_at place port))) place port
+
+abbrev pub releases : ℕ → PortState → PortState
+releases place port = record port { ends = put_stage place (Postponed (message_of (stage_at place port))) port.ends }
+
+-- its offer waits longest
+abbrev pub is_front : ℕ → PortState → Bool
+is_front place port = is_at place (first_of port.queue)
+
+-- and has gone, by a look that finds this phase
+abbrev pub loses_front : ℕ → Phase → PortState → Bool
+loses_front place phase port = is_front place port && not (is_queued (target_looks (stage_at place port) phase))
 
 abbrev pub opens : ℕ → Value → PortState → PortState
 opens place value port = record port { ends = put_hand place (Hand (message_of (stage_at place port))) (Some value) port.ends }

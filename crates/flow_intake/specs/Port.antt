@@ -60,10 +60,12 @@ is_queued (Asking _) = true
 is_queued (Holding _) = true
 is_queued _ = false
 
--- the message comes: it is wanted, and not taken yet
+-- the message comes, and its place is taken: it is wanted, or asked for or held, and not taken yet
 abbrev pub is_coming : TargetStage → Bool
 is_coming (Accepted _) = true
 is_coming (Consuming _) = true
+is_coming (Asking _) = true
+is_coming (Holding _) = true
 is_coming (Claiming _) = true
 is_coming (Arrived _) = true
 is_coming (Hand _) = true
@@ -75,6 +77,11 @@ is_wanted (Accepted _) = true
 is_wanted (Consuming _) = true
 is_wanted (Claiming _) = true
 is_wanted _ = false
+
+-- the message is kept for the target
+abbrev pub is_holding : TargetStage → Bool
+is_holding (Holding _) = true
+is_holding _ = false
 
 -- the message is in hand
 abbrev pub is_hand : TargetStage → Bool

@@ -5,8 +5,8 @@ use Rattle.flow_value.specs.declared.message.MessageStatus.TheVariants.{Postpone
 use Rattle.flow_link.specs.declared.phase.Phase.{Phase}
 use Rattle.flow_link.specs.LinkOk.{MayPutOff}
 use Rattle.flow_link.specs.Views.{LinkFacts}
-use Rattle.flow_intake.specs.Port.{PortState, fresh_end, fresh_port, link_in, stage_at, coming, has_room, is_hand, is_offer, is_wanted}
-use Rattle.flow_intake.specs.Calls.{answer_to, is_offered, is_posted, is_postponed, is_arrived, may_be_refused, may_be_dropped, prepared, wants, turns_down, postpones, refuses, consumes, opens, closes, looks, takes_next, gives_room, port_closes, port_fails}
+use Rattle.flow_intake.specs.Port.{PortState, fresh_end, fresh_port, link_in, stage_at, coming, has_room, is_hand, is_holding, is_offer, is_wanted}
+use Rattle.flow_intake.specs.Calls.{answer_to, is_offered, is_posted, is_postponed, is_arrived, may_be_refused, may_be_dropped, prepared, wants, turns_down, postpones, refuses, consumes, asks, claims, releases, opens, closes, looks, takes_next, gives_room, port_closes, port_fails}
 use Rattle.flow_intake.specs.ByLink.{is_free_over, stands_at, answered, arrives, drops, consumes_next}
 use Rattle.flow_intake.specs.PortLaw.{PortLaw, has_ended}
 
@@ -31,6 +31,12 @@ pub record MovesKeep : Type 0 where
       → is_some port.refusing ≡ true → PortLaw facts taken (refuses place port)
   pub consume : InOrderHas λ facts taken port. (place : ℕ) → place < length port.ends → is_postponed (stage_at place port) ≡ true
       → has_room port ≡ true → has_ended port.refusing ≡ false → PortLaw facts taken (consumes place port)
+  pub ask : InOrderHas λ facts taken port. (place : ℕ) → place < length port.ends → is_postponed (stage_at place port) ≡ true
+      → has_room port ≡ true → has_ended port.refusing ≡ false → PortLaw facts taken (asks place port)
+  pub claim : InOrderHas λ facts taken port. (place : ℕ) → place < length port.ends → is_holding (stage_at place port) ≡ true
+      → PortLaw facts taken (claims place port)
+  pub release : InOrderHas λ facts taken port. (place : ℕ) → place < length port.ends → is_holding (stage_at place port) ≡ true
+      → PortLaw facts taken (releases place port)
   pub opened : InOrderHas λ facts taken port. (place : ℕ) (value : Value) → place < length port.ends → is_arrived (stage_at place port) ≡ true
       → PortLaw facts taken (opens place value port)
   pub closed : InOrderHas λ facts taken port. (place : ℕ) (value : Value) → place < length port.ends → is_hand (stage_at place port) ≡ true

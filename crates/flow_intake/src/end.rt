@@ -43,6 +43,8 @@ pub(crate) fn is_coming(stage: &TargetStage) -> bool
         stage,
         TargetStage::Accepted(_)
             | TargetStage::Consuming(_)
+            | TargetStage::Asking(_)
+            | TargetStage::Holding(_)
             | TargetStage::Claiming(_)
             | TargetStage::Arrived(_)
             | TargetStage::Hand(_)

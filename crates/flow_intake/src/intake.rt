@@ -2,7 +2,7 @@
 //!
 //! A move that takes memory has two calls. `prepare_answer` takes it, and may be refused; what follows takes none and
 //! does not fail, from the answer until the message is taken.
-ghost use Rattle.std.specs.Prelude.{◌≡◌, ◌<◌, ◌≤◌, ◌+◌, ◌-◌, true, false, ◌++◌, ◌∷◌, [], ◌^◌, length, OnOk, OnErr};
+ghost use Rattle.std.specs.Prelude.{◌≡◌, ◌<◌, ◌≤◌, ◌+◌, ◌-◌, true, false, ◌++◌, ◌∷◌, [], ◌^◌, length, OnOk, OnErr, is_none};
 ghost use Rattle.std.specs.Prelude.{ℕ, IfOk, Some, is_some, cond, drop, unwrap_or};
 ghost use Rattle.flow_intake.specs.Port.{PortState, fresh_end, fresh_port, stage_at, hand_in, is_offer};
 ghost use Rattle.flow_intake.specs.Port.{is_owed, is_hand, is_wanted, coming, has_room, count_at, is_coming};
@@ -12,6 +12,8 @@ ghost use Rattle.flow_intake.specs.PortLaw.{has_ended};
 ghost use Rattle.flow_intake.specs.Calls.{first_of, answer_to, next_place, in_move, is_offered, is_posted};
 ghost use Rattle.flow_intake.specs.Calls.{is_postponed, is_arrived, may_be_refused, may_be_dropped, prepared};
 ghost use Rattle.flow_intake.specs.Calls.{accepts, puts_off, wants, turns_down, postpones, refuses};
+ghost use Rattle.flow_intake.specs.Port.{is_holding};
+ghost use Rattle.flow_intake.specs.Calls.{asks, claims, releases, is_front, loses_front};
 ghost use Rattle.flow_intake.specs.Calls.{consumes, opens, closes, looks, takes_next, gives_room, port_closes};
 ghost use Rattle.flow_intake.specs.Calls.{port_fails};
 ghost use Rattle.flow_intake.specs.Calls.{one_more, move_of as moves_of};
@@ -182,6 +184,13 @@ impl Intake {
         ensures { result ≡ has_ended self.now.refusing }
     {
         matches!(self.refusing, Some(Refusal::PortEnded))
+    }
+
+    /// Whether it refuses nothing by itself: it was not completed, and its block has no fault of its own.
+    pub fn is_open(&self) -> bool
+        ensures { result ≡ is_none self.now.refusing }
+    {
+        self.refusing.is_none()
     }
 
     /// Whether there is room for one more message.
@@ -357,6 +366,63 @@ impl Intake {
             self.ends.go_to(place, TargetStage::Consuming(header));
             self.queue.leave(place);
         }
+    }
+
+    /// Asks to reserve the message over the link at this place, which it postponed. Its place is taken from now on.
+    pub fn ask(&mut self, place: usize)
+        requires place { place < length self.old.ends }
+        requires postponed { is_postponed (stage_at place self.old) ≡ true }
+        requires room { has_room self.old ≡ true }
+        ensures { self.new ≡ asks place self.old }
+    {
+        if let TargetStage::Postponed(header) = self.ends.stage(place) {
+            self.ends.go_to(place, TargetStage::Asking(header));
+        }
+    }
+
+    /// Claims the message over the link at this place, which is kept for it.
+    pub fn claim(&mut self, place: usize)
+        requires place { place < length self.old.ends }
+        requires holding { is_holding (stage_at place self.old) ≡ true }
+        ensures { self.new ≡ claims place self.old }
+    {
+        if let TargetStage::Holding(header) = self.ends.stage(place) {
+            self.ends.go_to(place, TargetStage::Claiming(header));
+            self.queue.leave(place);
+        }
+    }
+
+    /// Gives up the message over the link at this place, which is kept for it. Its offer goes on waiting.
+    pub fn release(&mut self, place: usize)
+        requires place { place < length self.old.ends }
+        requires holding { is_holding (stage_at place self.old) ≡ true }
+        ensures { self.new ≡ releases place self.old }
+    {
+        if let TargetStage::Holding(header) = self.ends.stage(place) {
+            self.ends.go_to(place, TargetStage::Postponed(header));
+        }
+    }
+
+    /// The place of the end whose offer waits longest.
+    pub fn front(&self) -> Option<usize>
+        ensures { result ≡ first_of self.now.queue }
+    {
+        self.queue.first()
+    }
+
+    /// Whether the offer over the link at this place waits longest.
+    pub fn is_front(&self, place: usize) -> bool
+        ensures { result ≡ is_front place self.now }
+    {
+        self.queue.first() == Some(place)
+    }
+
+    /// Whether the offer over the link at this place waits longest, and has gone, by a look that finds this phase.
+    pub fn loses_front(&self, place: usize, phase: Phase) -> bool
+        requires { place < length self.now.ends }
+        ensures { result ≡ loses_front place phase self.now }
+    {
+        self.is_front(place) && !is_queued(&self.ends.stage(place).look(phase))
     }
 
     /// Takes the message out of the slot of the link at this place: this is its parcel.

@@ -60,10 +60,12 @@ is_spoken_for (SourceStage.claimed _) = true
 is_spoken_for (SourceStage.filling _) = true
 is_spoken_for _ = false
 
--- the target wants the message or has it on the way, so that its place is taken
+-- the target wants the message or has it on the way, or asks to reserve it or holds it, so that its place is taken
 abbrev pub is_coming : TargetStage Value → Bool
 is_coming (TargetStage.accepted _) = true
 is_coming (TargetStage.consuming _) = true
+is_coming (TargetStage.asking _) = true
+is_coming (TargetStage.holding _) = true
 is_coming (TargetStage.claiming _) = true
 is_coming (TargetStage.arrived _) = true
 is_coming (TargetStage.hand _ _) = true
