@@ -5,5 +5,11 @@ pub mod GroupsKeep
 pub mod GroupsTaken
 pub mod JournalsTell
 pub mod PortsTaken
+pub mod RoundGoes
+pub mod RoundKeeps
+pub mod RoundMoves
+pub mod RoundOpens
+pub mod RoundStays
+pub mod RoundTurn
 pub mod TuplesKeep
 pub mod TuplesSay

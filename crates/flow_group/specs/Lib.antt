@@ -2,6 +2,8 @@ pub mod Examples
 pub mod Group
 pub mod Groups
 pub mod Journal
+pub mod Round
+pub mod RoundLaw
 pub mod Taken
 pub mod Tuple
 pub mod Tuples

@@ -2,6 +2,7 @@
 ghost use Rattle.flow_group.specs.Examples.{GroupExamples};
 ghost use Rattle.flow_group.specs.Groups.{GroupsKept, GroupsTell, GroupsAreCutInOrder};
 ghost use Rattle.flow_group.specs.Journal.{JournalsTell};
+ghost use Rattle.flow_group.specs.RoundLaw.{RoundsKept, LevelsTell, RoundGoes, TurnsKept};
 ghost use Rattle.flow_group.specs.Taken.{PortsTaken, NothingMore};
 ghost use Rattle.flow_group.specs.Tuples.{TuplesKept, TuplesTell, NoTupleIsTorn};
 
@@ -70,4 +71,29 @@ pub fn journals_tell_arrivals()
 #[tactic(auto, using(crate::proofs::ExamplesHold::group_examples))]
 pub fn groups_in_order_and_not()
     ensures { GroupExamples }
+{}
+
+/// A join that reserves keeps its round in order: when it asks, claims and releases, when an offer comes, is gone or refused, and
+/// when a message is taken.
+#[tactic(auto, using(crate::proofs::RoundStays::rounds_kept))]
+pub fn rounds_are_kept()
+    ensures { RoundsKept }
+{}
+
+/// No port of such a join is more than one message ahead of another, and none is where nothing comes.
+#[tactic(auto, using(crate::proofs::RoundStays::levels_tell))]
+pub fn levels_are_told()
+    ensures { LevelsTell }
+{}
+
+/// Where a message is held, the round goes on, or waits for the source that it asks.
+#[tactic(auto, using(crate::proofs::RoundGoes::round_goes))]
+pub fn holder_goes_on()
+    ensures { RoundGoes }
+{}
+
+/// A round asks in the order of the sources.
+#[tactic(auto, using(crate::proofs::RoundTurn::turns_kept))]
+pub fn turns_are_kept()
+    ensures { TurnsKept }
 {}
