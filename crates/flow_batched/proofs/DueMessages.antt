@@ -296,7 +296,7 @@ module _ (old new : BlockState) (order : ArrivalsState) (fits : JoinFits old ord
   head_where : (take : Bool) (link header : ℕ) → new ≡ cond take (gives_over link header old) old → Fits
   head_where true link header is =
       changed (gives_over link header old) is refl (waits_each _ _ _ 0 old.ports)
-      (let same = due_back (consumes link header old.exits) old.copies old.kind (consumed header old.exits) old.ports in omega (arith, same))
+      (let same = due_back (consumes link header old.exits) old.copies old.kind (consumed link header old.exits) old.ports in omega (arith, same))
   head_where false link header is = changed old is refl refl (omega arith)
 
   copy_where : (take : Bool) (link header : ℕ) → new ≡ cond take (copies_home link header old) old → Fits

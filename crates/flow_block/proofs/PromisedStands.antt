@@ -3,11 +3,11 @@ use Rattle.std.proofs.Common.{◌≡◌, ℕ, ◌<◌, ◌==◌, ltb, Bool, true
 use Rattle.std.proofs.lemmas.Bool.{lt-ltb}
 use Rattle.flow_link.specs.declared.stage.SourceStage.{SourceStage}
 use Rattle.flow_link.specs.SourceCalls.{MayConsume, is_promised}
-use Rattle.flow_outlet.specs.Outlet.{OutletState, end_at, is_at, is_empty}
-use Rattle.flow_outlet.specs.ByLink.{place_of, has_room, is_taken}
+use Rattle.flow_outlet.specs.Outlet.{OutletState, end_at, is_at, is_empty, has_offer_out}
+use Rattle.flow_outlet.specs.ByLink.{place_of, has_room, is_kept_elsewhere, is_taken}
 use Rattle.flow_block.specs.Traits.{is_ready, source_shown, source_over, may_take}
 use Rattle.flow_link.specs.declared.stage.SourceStage.TheVariants as source
-use Rattle.flow_block.proofs.SourceStands.{shown_known, known_where}
+use Rattle.flow_block.proofs.SourceStands.{shown_known, known_where, first_of_four}
 
 accepted_where : (ready same : Bool) (next i header : ℕ) (busy : Bool) → (i == next) ≡ same
     → MayConsume header busy (cond (ready && same) (source.Accepted i) source.Crossing)
@@ -43,16 +43,24 @@ promised_by ready busy next header source.Crossing may promised = absurd may
 promised_by ready busy next header source.Refused may promised = absurd may
 promised_by ready busy next header (source.Ended _) may promised = absurd may
 
-head_all : (there is some taken parcel room at : Bool) → (at && some && parcel && room) ≡ true → there ≡ true → is ≡ true → taken ≡ true
-    → ((there && (not (is && some) || (taken && parcel && room))) && (is && some)) ≡ true
-head_all true true true true true true at ready t i k = refl
-head_all true true true true true false true ready t i k = absurd (cc)
-head_all true true true true false room true ready t i k = absurd (cc)
-head_all true true false taken parcel room true ready t i k = absurd (cc)
-head_all there is some taken parcel room false ready t i k = absurd (cc)
-head_all true true some false parcel room true ready t i k = absurd (cc)
-head_all true false some taken parcel room true ready t i k = absurd (cc)
-head_all false is some taken parcel room true ready t i k = absurd (cc)
+-- what is spoken for over the link itself is kept for no other
+none_elsewhere : (some at out : Bool) → at ≡ true → (some && not at && not out) ≡ false
+none_elsewhere true true out e = refl
+none_elsewhere false at out e = refl
+none_elsewhere some false out e = absurd (cc)
+
+head_all : (there is some kept taken parcel room at : Bool) → (at && some && parcel && room) ≡ true → there ≡ true → is ≡ true
+    → taken ≡ true → kept ≡ false
+    → ((there && (not ((is && some) && not kept) || (taken && parcel && room))) && ((is && some) && not kept)) ≡ true
+head_all true true true false true true true at ready t i k n = refl
+head_all true true true false true true false true ready t i k n = absurd (cc)
+head_all true true true false true false room true ready t i k n = absurd (cc)
+head_all true true true true true parcel room true ready t i k n = absurd (cc)
+head_all true true false kept taken parcel room true ready t i k n = absurd (cc)
+head_all there is some kept taken parcel room false ready t i k n = absurd (cc)
+head_all true true some kept false parcel room true ready t i k n = absurd (cc)
+head_all true false some kept taken parcel room true ready t i k n = absurd (cc)
+head_all false is some kept taken parcel room true ready t i k n = absurd (cc)
 
 pub promised_head : (o : OutletState) (link header : ℕ) (busy : Bool) → MayConsume header busy (source_over o link)
     → is_promised (source_over o link) ≡ true → may_take link header o ≡ true
@@ -64,6 +72,8 @@ promised_head o link header busy may promised =
     let shown = shown_known o k there in
     let told = promised_by (is_ready k end o) busy o.next header end.stage
     (subst (λ (stage : SourceStage). MayConsume header busy stage) shown may) (ap is_promised (sym shown) ∙ promised) in
-    head_all (ltb k (length o.ends)) (header == o.next) (not (is_empty o.left)) (is_taken o.next (is_some o.offer) end.stage)
-    (is_some o.parcel) (has_room end.rule.max end.given) (is_at o.offer k) told.0 (lt-ltb k (length o.ends) there) told.1.0
-    (told.1.1 (is_some o.offer))
+    let mine = first_of_four (is_at o.offer k) (not (is_empty o.left)) (is_some o.parcel) (has_room end.rule.max end.given) told.0 in
+    head_all (ltb k (length o.ends)) (header == o.next) (not (is_empty o.left)) (is_kept_elsewhere k o)
+    (is_taken o.next (is_some o.offer) end.stage) (is_some o.parcel) (has_room end.rule.max end.given) (is_at o.offer k) told.0
+    (lt-ltb k (length o.ends) there) told.1.0 (told.1.1 (is_some o.offer))
+    (none_elsewhere (is_some o.offer) (is_at o.offer k) (has_offer_out o) mine)

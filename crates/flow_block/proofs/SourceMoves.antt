@@ -8,14 +8,14 @@ use Rattle.flow_link.specs.declared.stage.SourceStage.TheVariants.{Out}
 use Rattle.flow_link.specs.SourceCalls.{Offers, stage_answered, MayConsume, is_promised, GivesOver}
 use Rattle.flow_link.specs.StagesMove.{MovesTo}
 use Rattle.flow_outlet.specs.Outlet.{OutletState, is_empty, first_of, head_of, may_offer}
-use Rattle.flow_outlet.specs.ByLink.{place_of, named_at, offers_at, answered, is_head, tests_consume, consumed}
+use Rattle.flow_outlet.specs.ByLink.{place_of, named_at, offers_at, answered, is_there as is_head_there, tests_consume, consumed}
 use Rattle.flow_spread.specs.Spread.{next_place}
 use Rattle.flow_spread.specs.ByLink.{place_of as copy_place, named_at as copy_named, answered as copy_answered, tests_consume as tests_copy, is_there}
 use Rattle.flow_spread.proofs.NextOffer.{next_is}
 use Rattle.flow_block.specs.Block.{BlockState, with_copies}
 use Rattle.flow_block.specs.Traits.{source_over, carries, offers_over, copy_over, carries_copy, copies_over, offers_copy_at, shares, source_by, source_at, is_busy, busy_with, is_source_busy, may_take, gives_over, may_take_copy, copies_home}
 use Rattle.flow_block.proofs.CopyStands.{copy_answer_moves, copy_offer_moves, promised_copy, copy_consume_moves}
-use Rattle.flow_block.proofs.SourceStands.{answer_moves, offer_moves, consume_moves}
+use Rattle.flow_block.proofs.SourceStands.{answer_moves, offer_moves, consume_moves, there_is_head}
 use Rattle.flow_block.proofs.PromisedStands.{promised_head}
 
 -- Where it shares its messages out
@@ -146,8 +146,12 @@ consumes_where block after link header value false some gives promised = record 
   promised = λ is. absurd (let wrong : false ≡ true = promised is in cc);
 }
 
-head_some : (o : OutletState) (header : ℕ) → is_head header o ≡ true → is_some (consumed header o) ≡ true
-head_some o header head = ap (λ (b : Bool). is_some (cond b (head_of o) None)) head ∙ first_some o.left (and_parts (header == o.next) (not (is_empty o.left)) head).1
+head_some : (o : OutletState) (link header : ℕ) → is_head_there (place_of link o.ends) header o ≡ true
+    → is_some (consumed link header o) ≡ true
+head_some o link header there =
+    let head = there_is_head o (place_of link o.ends) header there in
+    ap (λ (b : Bool). is_some (cond b (head_of o) None)) there
+    ∙ first_some o.left (and_parts (header == o.next) (not (is_empty o.left)) head).1
   where
     first_some : (left : List Value) → not (is_empty left) ≡ true → is_some (first_of left) ≡ true
     first_some [] e = absurd (cc)
@@ -156,17 +160,18 @@ head_some o header head = ap (λ (b : Bool). is_some (cond b (head_of o) None)) 
 pub head_consumes : (block : BlockState) (link header : ℕ) → shares block ≡ true
     → MayConsume header (is_source_busy block) (source_at block link)
     → Consumes block (cond (may_take link header block.exits) (gives_over link header block) block) link header
-    (cond (may_take link header block.exits) (consumed header block.exits) None)
+    (cond (may_take link header block.exits) (consumed link header block.exits) None)
 head_consumes block link header is may =
     let o = block.exits in
     let busy : is_source_busy block ≡ is_busy o = ap (λ (one : Bool). busy_with one block) is in
     let mine : MayConsume header (is_busy o) (source_over o link) =
     subst (λ (b : Bool). MayConsume header b (source_over o link)) busy
     (subst (λ (stages : ℕ → SourceStage). MayConsume header (is_source_busy block) (stages link)) (at_shared block is) may) in
-    consumes_where block (gives_over link header block) link header (consumed header o) (may_take link header o)
-    (λ take. head_some o header (and_parts (tests_consume (place_of link o.ends) header o) (is_head header o) take).1)
+    consumes_where block (gives_over link header block) link header (consumed link header o) (may_take link header o)
+    (λ take. head_some o link header
+    (and_parts (tests_consume (place_of link o.ends) header o) (is_head_there (place_of link o.ends) header o) take).1)
     (λ take.
-    let both = and_parts (tests_consume (place_of link o.ends) header o) (is_head header o) take in
+    let both = and_parts (tests_consume (place_of link o.ends) header o) (is_head_there (place_of link o.ends) header o) take in
     by_exits (GivesOver link header) block (gives_over link header block) is is (consume_moves o link header mine both.0 both.1))
     (λ promised. promised_head o link header (is_busy o) mine
     (subst (λ (stages : ℕ → SourceStage). is_promised (stages link) ≡ true) (at_shared block is) promised))

@@ -1,6 +1,6 @@
 -- How a block's stages at the links out of it change by the calls of its exits that name a link.
 use Rattle.std.proofs.Common.{◌≡◌, ◌≢◌, ℕ, ◌<◌, ◌==◌, ltb, Bool, true, false, not, ◌&&◌, ◌||◌, inr, cond, zero, suc, List, [], ◌∷◌, length, set, map, position, Option, Some, None, is_some, unwrap_or, refl, ap, ap₂, sym, ◌∙◌, subst, arith, eqb-true, eq-eqb}
-use Rattle.std.proofs.lemmas.Bool.{and_parts, false_from_ne_true, lt-ltb, ltb-true}
+use Rattle.std.proofs.lemmas.Bool.{and_parts, or_parts, false_from_ne_true, lt-ltb, ltb-true}
 use Rattle.std.proofs.lemmas.List.{length-set, length-map, get_or-set_same, get_or-set_other}
 use Rattle.std.proofs.lemmas.List.Quantifiers.{position-Some}
 use Rattle.flow_value.specs.declared.value.Value.{Value}
@@ -13,8 +13,8 @@ use Rattle.flow_link.specs.SourceCalls.{GoesOut, stage_answered, MayConsume, Sta
 use Rattle.flow_link.specs.Stage.{source_looks}
 use Rattle.flow_link.specs.StagesMove.{MovesBy, MovesTo}
 use Rattle.flow_outlet.specs.End.{end_in, no_end, is_free, place_in}
-use Rattle.flow_outlet.specs.Outlet.{OutletState, end_at, stage_at, is_at, is_empty, first_of, head_of, may_offer, prepares, offers, looks, gives, given_end}
-use Rattle.flow_outlet.specs.ByLink.{place_of, answer_stage, answer_declined, answer_offer, answered, has_room, is_head, is_taken, tests_take, tests_consume, consumed, consumes, forgotten, forgotten_stage, gives_home}
+use Rattle.flow_outlet.specs.Outlet.{OutletState, end_at, stage_at, is_at, is_empty, first_of, head_of, is_held_back, is_renewing, may_offer, prepares, offers, looks, gives, given_end}
+use Rattle.flow_outlet.specs.ByLink.{place_of, answer_stage, answer_declined, answer_offer, answered, has_room, is_head, is_kept_elsewhere, is_there, is_taken, tests_take, tests_consume, consumed, consumes, forgotten, forgotten_stage, gives_home}
 use Rattle.flow_outlet.specs.declared.ends.OutEnd.{OutEnd}
 use Rattle.flow_outlet.proofs.TestsTell.{at_is}
 use Rattle.flow_block.specs.Traits.{is_ready, source_shown, end_shown, place_shown, source_over, is_busy, carries}
@@ -138,7 +138,7 @@ out_only k j far = false_from_ne_true (k == j) (λ e. far (sym (eqb-true k j e))
 pub all_four : (a b c d : Bool) → a ≡ true → b ≡ true → c ≡ true → d ≡ true → (a && b && c && d) ≡ true
 all_four a b c d p q r t = rw (p, q, r, t) refl
 
-first_of_four : (a b c d : Bool) → (a && b && c && d) ≡ true → a ≡ true
+pub first_of_four : (a b c d : Bool) → (a && b && c && d) ≡ true → a ≡ true
 first_of_four true b c d e = refl
 first_of_four false b c d e = cc
 
@@ -241,17 +241,17 @@ pub carries_is : (ends : List OutEnd) (k : ℕ) (end : OutEnd) → end ≡ end_i
 carries_is ends k end read at room at_is room_is =
     ap₂ (λ (a r : Bool). a && r) at_is room_is ∙ ap (λ (e : OutEnd). place_of e.rule.id ends == k && has_room e.rule.max e.given) read
 
--- what is known where the head may be offered over an end
-pub record MayOffer (empty out there free : Bool) (place k : ℕ) : Type 0 where
+-- what is known where the head may be offered over an end: it is not held back
+pub record MayOffer (empty back there free : Bool) (place k : ℕ) : Type 0 where
   pub some : empty ≡ false
-  pub none_out : out ≡ false
+  pub none_out : back ≡ false
   pub known : there ≡ true
   pub is_free : free ≡ true
   pub place_is : place ≡ k
 
-pub may_where : (empty out there free : Bool) (place k : ℕ) → cond (empty || out || not there || not free) None (Some place) ≡ Some k
-    → MayOffer empty out there free place k
-may_where true out there free place k e = absurd (cc)
+pub may_where : (empty back there free : Bool) (place k : ℕ) → cond (empty || back || not there || not free) None (Some place) ≡ Some k
+    → MayOffer empty back there free place k
+may_where true back there free place k e = absurd (cc)
 may_where false true there free place k e = absurd (cc)
 may_where false false false free place k e = absurd (cc)
 may_where false false true false place k e = absurd (cc)
@@ -276,8 +276,11 @@ module _ (o : OutletState) (k : ℕ) (may : may_offer o ≡ Some k) (carried : c
   abbrev chosen : ℕ
   chosen = place_in o.next (head_of o) o.ends
 
-  told : MayOffer (is_empty o.left) (is_some o.offer) (ltb chosen (length o.ends)) (is_free (stage_at o chosen)) chosen k
-  told = may_where (is_empty o.left) (is_some o.offer) (ltb chosen (length o.ends)) (is_free (stage_at o chosen)) chosen k may
+  told : MayOffer (is_empty o.left) (is_held_back o) (ltb chosen (length o.ends)) (is_free (stage_at o chosen)) chosen k
+  told = may_where (is_empty o.left) (is_held_back o) (ltb chosen (length o.ends)) (is_free (stage_at o chosen)) chosen k may
+
+  none_spoken_for : is_some o.offer ≡ false
+  none_spoken_for = (or_parts (is_some o.offer) (is_renewing o) told.none_out).0
 
   parts : (place_of offered_link o.ends == k ≡ true) × (has_room (end_at o k).rule.max (end_at o k).given ≡ true)
   parts = and_parts (place_of offered_link o.ends == k) (has_room (end_at o k).rule.max (end_at o k).given) carried
@@ -323,7 +326,7 @@ module _ (o : OutletState) (k : ℕ) (may : may_offer o ≡ Some k) (carried : c
         here = subst (λ (s : SourceStage). GoesOut o.next s (source_over offered offered_link)) (sym before)
             (there (λ end. end) o offered offered_link known_link alone (source.Out o.next) shown);
         elsewhere = stays o offered offered_link known_link alone refl
-            (λ j far. none_dark o.offer j told.none_out)
+            (λ j far. none_dark o.offer j none_spoken_for)
             (λ j far. out_only k j (λ e. far (e ∙ sym place_is_k)));
       }
 
@@ -354,7 +357,7 @@ module _ (o : OutletState) (k header : ℕ) (busy : Bool) where
   dark_where (source.Posted _) may taken j far = absurd (cc)
   dark_where (source.Out _) may taken j far = absurd (cc)
   dark_where (source.AskedBy _) may taken j far = absurd (cc)
-  dark_where (source.Reserved _) may taken j far = absurd (cc)
+  dark_where (source.Reserved _) may taken j far = absurd may
   dark_where (source.Claimed _) may taken j far = absurd (cc)
   dark_where source.Crossing may taken j far = absurd (cc)
   dark_where source.Refused may taken j far = absurd (cc)
@@ -422,25 +425,32 @@ module _ (o : OutletState) (k header : ℕ) where
       ap (λ (end : OutEnd). end.stage) (end_forgotten home.ends k)
       ∙ ap forgotten_stage (back ∙ ap (λ (s : SourceStage). source_looks s Idle) crossing)
 
--- what is given was the head
-pub given_head : (o : OutletState) (header : ℕ) (value : Value) → consumed header o ≡ Some value → is_head header o ≡ true
-given_head o header value e = at (is_head header o) refl
+-- what is given was there for the link
+pub given_there : (o : OutletState) (link header : ℕ) (value : Value) → consumed link header o ≡ Some value
+    → is_there (place_of link o.ends) header o ≡ true
+given_there o link header value e = at (is_there (place_of link o.ends) header o) refl
   where
-    at : (b : Bool) → is_head header o ≡ b → is_head header o ≡ true
+    at : (b : Bool) → is_there (place_of link o.ends) header o ≡ b → is_there (place_of link o.ends) header o ≡ true
     at true is = is
-    at false is = let none : consumed header o ≡ None = ap (λ (b : Bool). cond b (head_of o) None) is in absurd (cc)
+    at false is = let none : consumed link header o ≡ None = ap (λ (b : Bool). cond b (head_of o) None) is in absurd (cc)
 
-pub consumed_home : (o : OutletState) (link header : ℕ) → is_head header o ≡ true → consumes link header o ≡ gives_home (place_of link o.ends) header o
-consumed_home o link header head = ap (λ (h : Bool). cond h (gives_home (place_of link o.ends) header o) o) head
+-- and was the head
+pub there_is_head : (o : OutletState) (k header : ℕ) → is_there k header o ≡ true → is_head header o ≡ true
+there_is_head o k header there = (and_parts (is_head header o) (not (is_kept_elsewhere k o)) there).0
+
+pub consumed_home : (o : OutletState) (link header : ℕ) → is_there (place_of link o.ends) header o ≡ true
+    → consumes link header o ≡ gives_home (place_of link o.ends) header o
+consumed_home o link header there = ap (λ (h : Bool). cond h (gives_home (place_of link o.ends) header o) o) there
 
 pub consume_moves : (o : OutletState) (link header : ℕ) → MayConsume header (is_busy o) (source_over o link)
-    → tests_consume (place_of link o.ends) header o ≡ true → is_head header o ≡ true
+    → tests_consume (place_of link o.ends) header o ≡ true → is_there (place_of link o.ends) header o ≡ true
     → GivesOver link header (source_over o) (source_over (record (consumes link header o) { room = 0 }))
-consume_moves o link header may tested head =
+consume_moves o link header may tested mine_there =
     let k = place_of link o.ends in
-    let both = and_parts (ltb k (length o.ends)) (not (is_head header o) || tests_take k o) tested in
+    let head = there_is_head o k header mine_there in
+    let both = and_parts (ltb k (length o.ends)) (not (is_there k header o) || tests_take k o) tested in
     let l : k < length o.ends = ltb-true k (length o.ends) both.0 in
-    let take : tests_take k o ≡ true = ap (λ (h : Bool). not h || tests_take k o) (sym head) ∙ both.1 in
+    let take : tests_take k o ≡ true = ap (λ (h : Bool). not h || tests_take k o) (sym mine_there) ∙ both.1 in
     let taken : is_taken o.next (is_some o.offer) (stage_at o k) ≡ true =
     first_of_three (is_taken o.next (is_some o.offer) (stage_at o k)) (is_some o.parcel) (has_room (end_at o k).rule.max (end_at o k).given) take in
     let same : header ≡ o.next = eqb-true header o.next (and_parts (header == o.next) (not (is_empty o.left)) head).0 in
@@ -448,7 +458,7 @@ consume_moves o link header may tested head =
     let apart : Apart forgotten k o new = apart_forgotten k o (home o k header) new (alone_home o k header) refl in
     let mine : MayConsume header (is_busy o) (end_shown k (end_at o k) o) = subst (λ (s : SourceStage). MayConsume header (is_busy o) s) (shown_known o k l) may in
     let is : record (consumes link header o) { room = 0 } ≡ new =
-    ap (λ (after : OutletState). record after { room = 0 }) (consumed_home o link header head) in
+    ap (λ (after : OutletState). record after { room = 0 }) (consumed_home o link header mine_there) in
     subst (λ (after : OutletState). GivesOver link header (source_over o) (source_over after)) (sym is) (record {
       here = there forgotten o new link l apart source.Free
           (ap (λ (s : SourceStage). source_shown (is_ready k (end_at new k) new) new.next s) (home_free o k header l));

@@ -12,7 +12,7 @@ use Rattle.flow_link.specs.Trace.{BlockTrace, gave_over, took_over}
 use Rattle.flow_link.specs.Views.{SourceView, TargetView}
 use Rattle.flow_intake.specs.Port.{EndState, PortState, end_in, link_in, hand_in}
 use Rattle.flow_intake.specs.Calls.{wants, turns_down, postpones, refuses, consumes, opens, closes, looks as port_looks, port_closes}
-use Rattle.flow_outlet.specs.Outlet.{OutletState, head_of, end_at, prepares, offers, denies, withdraws, ends_link, looks as exit_looks}
+use Rattle.flow_outlet.specs.Outlet.{OutletState, head_of, end_at, prepares, offers, holds, denies, withdraws, ends_link, looks as exit_looks}
 use Rattle.flow_outlet.specs.declared.ends.OutEnd.{OutEnd}
 use Rattle.flow_outlet.specs.History.{listed}
 use Rattle.flow_spread.specs.Spread.{SpreadState, link_at, left_of}
@@ -41,6 +41,7 @@ pub data NodeCall : Type 0 where
   -- the source's side; an offer's parcel is made ready with it
   offer : ℕ → NodeCall
   give : ℕ → NodeCall
+  hold : ℕ → NodeCall
   deny : ℕ → NodeCall
   withdraw : ℕ → NodeCall
   end_link : ℕ → LinkEnd → NodeCall
@@ -139,6 +140,7 @@ module _ (result : Value → Result (List Value) ℕ) where
   after (NodeCall.close p k) node = takes_in p k (hand_at p k node) node
   after (NodeCall.offer k) node = with_exits (offers k (prepares node.block.exits)) node
   after (NodeCall.give k) node = gives_from k (head_of node.block.exits) node
+  after (NodeCall.hold k) node = with_exits (holds k node.block.exits) node
   after (NodeCall.deny k) node = with_exits (denies k node.block.exits) node
   after (NodeCall.withdraw k) node = with_exits (withdraws k node.block.exits) node
   after (NodeCall.end_link k how) node = with_exits (ends_link k how node.block.exits) node

@@ -30,7 +30,7 @@ use Rattle.flow_intake.specs.Calls.{answer_to, first_of, next_place, refused_by,
 use Rattle.flow_intake.specs.ByLink.{place_of as port_place, answered as port_answered, arrives, drops, next_wish, consumes_next}
 use Rattle.flow_outlet.specs.End.{end_in}
 use Rattle.flow_outlet.specs.Outlet.{OutletState, end_at, is_empty, is_at, may_offer, lacks_ids}
-use Rattle.flow_outlet.specs.ByLink.{place_of, named_at, offers_at, answered, is_head, has_room, tests_consume, consumed, consumes}
+use Rattle.flow_outlet.specs.ByLink.{place_of, named_at, offers_at, answered, is_there as is_head_there, has_room, tests_consume, consumed, consumes}
 use Rattle.flow_outlet.specs.declared.ends.OutEnd.{OutEnd}
 use Rattle.flow_spread.specs.declared.end.CopyEnd.{CopyEnd}
 use Rattle.flow_spread.specs.End.{end_in as copy_in}
@@ -176,13 +176,13 @@ offers_over o (Some k) = cond (carries k o.ends) (Some k) None
 
 -- the message is there for the link
 abbrev pub may_take : ℕ → ℕ → OutletState → Bool
-may_take link header o = tests_consume (place_of link o.ends) header o && is_head header o
+may_take link header o = tests_consume (place_of link o.ends) header o && is_head_there (place_of link o.ends) header o
 
 -- it gives the message over the link; the room that comes with it goes back to the ports
 abbrev pub gives_over : ℕ → ℕ → BlockState → BlockState
 gives_over link header block = record block {
   exits = record (consumes link header block.exits) { room = 0 };
-  ports = comes_back (consumes link header block.exits) block.copies block.kind (consumed header block.exits) block.ports;
+  ports = comes_back (consumes link header block.exits) block.copies block.kind (consumed link header block.exits) block.ports;
 }
 
 -- And those over which it copies: each has an offer of its own
@@ -250,7 +250,7 @@ answered_by false link header status block =
     with_copies (copy_answered status header (copy_place link block.copies.ends) block.copies) block
 
 abbrev pub taken_by : Bool → (link header : ℕ) → BlockState → Option Value
-taken_by true link header block = cond (may_take link header block.exits) (consumed header block.exits) None
+taken_by true link header block = cond (may_take link header block.exits) (consumed link header block.exits) None
 taken_by false link header block = cond (may_take_copy link header block.copies) block.copies.element None
 
 abbrev pub given_by : Bool → (link header : ℕ) → BlockState → BlockState
@@ -318,6 +318,8 @@ MayFault block = (link : ℕ) → is_coming (target_over block.ports link) ≡ f
 pub comes_where_awaited : (stage : TargetStage) → is_awaited stage ≡ false → is_coming stage ≡ false
 comes_where_awaited (target.Accepted i) rest = rest
 comes_where_awaited (target.Consuming i) rest = rest
+comes_where_awaited (target.Asking i) rest = rest
+comes_where_awaited (target.Holding i) rest = rest
 comes_where_awaited (target.Claiming i) rest = rest
 comes_where_awaited (target.Arrived i) rest = rest
 comes_where_awaited (target.Hand i) rest = rest

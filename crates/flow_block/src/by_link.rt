@@ -59,7 +59,7 @@ impl Block {
 
     /// Gives the head over this link, where it is the message and is there for the link.
     pub(crate) fn give_head(&mut self, link: LinkId, header: MessageHeader) -> Option<Parcel>
-        ensures given { result ≡ cond (may_take link header self.old.exits) (consumed header self.old.exits) None }
+        ensures given { result ≡ cond (may_take link header self.old.exits) (consumed link header self.old.exits) None }
         ensures left { self.new ≡ cond (may_take link header self.old.exits) (gives_over link header self.old) self.old }
     {
         if !self.exits.may_consume(link, header) {

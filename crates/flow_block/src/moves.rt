@@ -9,8 +9,8 @@ ghost use Rattle.flow_intake.specs.Calls.{prepared, is_offered, is_posted, is_po
 ghost use Rattle.flow_intake.specs.Calls.{may_be_refused, wants, turns_down, postpones, refuses, consumes, opens};
 ghost use Rattle.flow_intake.specs.Calls.{closes, looks as port_looks};
 ghost use Rattle.flow_outlet.specs.End.{is_waiting, is_free};
-ghost use Rattle.flow_outlet.specs.Outlet.{end_at, stage_at, may_offer, may_give, is_wish, prepares, offers, denies};
-ghost use Rattle.flow_outlet.specs.Outlet.{withdraws, ends_link, looks};
+ghost use Rattle.flow_outlet.specs.Outlet.{end_at, stage_at, may_offer, may_give, may_hold, is_wish, prepares, offers};
+ghost use Rattle.flow_outlet.specs.Outlet.{holds, denies, withdraws, ends_link, looks};
 ghost use Rattle.flow_block.specs.Block.{port_at, with_port, gives_out};
 
 use crate::block::Block;
@@ -157,6 +157,15 @@ impl Block {
             &given.0,
         );
         given
+    }
+
+    /// Keeps the head for the target that asks to reserve it over the link at this place.
+    pub fn hold(&mut self, place: usize)
+        requires there { place < length self.old.exits.ends }
+        requires asked { may_hold place self.old.exits ≡ true }
+        ensures { self.new ≡ record self.old { exits = holds place self.old.exits } }
+    {
+        self.exits.hold(place);
     }
 
     /// Denies the wish for a message over the link at this place.

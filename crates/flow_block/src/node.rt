@@ -14,8 +14,8 @@ ghost use Rattle.flow_intake.specs.Calls.{prepared, is_offered, is_posted, is_po
 ghost use Rattle.flow_intake.specs.Calls.{may_be_refused, wants, turns_down, postpones, refuses, consumes, opens};
 ghost use Rattle.flow_intake.specs.Calls.{looks as port_looks, port_closes};
 ghost use Rattle.flow_outlet.specs.End.{is_waiting, is_free};
-ghost use Rattle.flow_outlet.specs.Outlet.{end_at, stage_at, may_offer, may_give, is_wish, prepares, offers, denies};
-ghost use Rattle.flow_outlet.specs.Outlet.{withdraws, ends_link, looks, head_of, lacks_ids};
+ghost use Rattle.flow_outlet.specs.Outlet.{end_at, stage_at, may_offer, may_give, may_hold, is_wish, prepares, offers};
+ghost use Rattle.flow_outlet.specs.Outlet.{holds, denies, withdraws, ends_link, looks, head_of, lacks_ids};
 ghost use Rattle.flow_outlet.specs.declared.fault.OutletFault.TheVariants.{Ids, Memory};
 ghost use Rattle.flow_block.specs.Block.{port_at, with_port, with_jobs, begins, held_by, records, puts_out, ends_job};
 ghost use Rattle.flow_block.specs.Block.{put_by_job, has_ports, fails, stops_by};
@@ -226,6 +226,15 @@ impl Node {
         let (value, parcel) = self.block.give(place);
         self.journal.push_reserved(Mark::Gave(link, value));
         parcel
+    }
+
+    /// Keeps the head for the target that asks to reserve it over the link at this place.
+    pub fn hold(&mut self, place: usize)
+        requires there { place < length self.old.block.exits.ends }
+        requires asked { may_hold place self.old.block.exits ≡ true }
+        ensures { self.new ≡ with_exits (holds place self.old.block.exits) self.old }
+    {
+        self.block.hold(place);
     }
 
     /// Denies the wish for a message over the link at this place.

@@ -1,5 +1,5 @@
 -- What a node in order does next has its cause.
-use Rattle.std.proofs.Common.{◌≡◌, ◌≢◌, ℕ, ◌<◌, ◌≤◌, ◌==◌, ◌&&◌, ◌||◌, ◌⊎◌, inl, inr, cond, Bool, true, false, List, length, Option, Some, None, is_some, is_none, Result, refl, ap, sym, ◌∙◌, arith, eqb-true, eq-eqb}
+use Rattle.std.proofs.Common.{◌≡◌, ◌≢◌, ℕ, ◌<◌, ◌≤◌, ◌==◌, ◌&&◌, ◌||◌, ◌⊎◌, inl, inr, cond, not, Bool, true, false, List, length, Option, Some, None, is_some, is_none, Result, refl, ap, sym, ◌∙◌, arith, eqb-true, eq-eqb}
 use Rattle.std.proofs.lemmas.Bool.{and_parts, or_parts}
 use Rattle.flow_value.specs.declared.value.Value.{Value}
 use Rattle.flow_value.specs.declared.message.MessageStatus.{MessageStatus}
@@ -9,7 +9,7 @@ use Rattle.flow_link.specs.declared.phase.Move.TheVariants as move
 use Rattle.flow_link.specs.declared.stage.Refusal.{Refusal}
 use Rattle.flow_link.specs.declared.stage.Refusal.TheVariants.{PortEnded, OwnFault}
 use Rattle.flow_link.specs.declared.stage.SourceStage.{SourceStage}
-use Rattle.flow_link.specs.declared.stage.SourceStage.TheVariants.{Free}
+use Rattle.flow_link.specs.declared.stage.SourceStage.TheVariants.{Free, Waiting}
 use Rattle.flow_link.specs.declared.stage.TargetStage.{TargetStage}
 use Rattle.flow_link.specs.declared.stage.TargetStage.TheVariants as target
 use Rattle.flow_link.specs.declared.trace.Outcome.{Outcome}
@@ -20,13 +20,14 @@ use Rattle.flow_intake.specs.PortLaw.{has_ended as has_port_ended}
 use Rattle.flow_intake.specs.Profile.{TakesAtOnce}
 use Rattle.flow_intake.specs.Ended.{first_some}
 use Rattle.flow_intake.proofs.ProfileHolds.{answers_tell, oldest_first, room_adds_up}
-use Rattle.flow_outlet.specs.End.{is_free, is_closed, is_over, is_cut, speaks_of, rejects}
-use Rattle.flow_outlet.specs.Outlet.{OutletState, head_of, end_at, stage_at, end_of, may_offer, free_move, is_at as is_place, move_at as out_move_at, is_empty, is_at_rest}
+use Rattle.flow_outlet.specs.End.{is_free, is_waiting, is_closed, is_over, is_cut, speaks_of, rejects}
+use Rattle.flow_outlet.specs.Outlet.{OutletState, head_of, end_at, stage_at, end_of, is_renewing, may_offer, free_move, is_at as is_place, move_at as out_move_at, is_empty, is_at_rest}
 use Rattle.flow_outlet.specs.Order.{StopsAt, IsNextOffer}
 use Rattle.flow_outlet.specs.declared.ends.OutEnd.{OutEnd}
+use Rattle.flow_outlet.proofs.HeadRenewed.{renewing_waits}
 use Rattle.flow_outlet.proofs.OffersInOrder.{offers_in_order}
 use Rattle.flow_block.specs.Block.{BlockState, port_at}
-use Rattle.flow_block_law.specs.Causes.{MayRefuse, FaultsItself, FaultsInTime, OffersBefore, NextMovesHaveCauses}
+use Rattle.flow_block_law.specs.Causes.{MayRefuse, FaultsItself, FaultsInTime, OffersBefore, TakesBack, NextMovesHaveCauses}
 use Rattle.flow_block.specs.Node.{NodeState}
 use Rattle.flow_block_law.specs.NodeLaw.{NodeLaw}
 use Rattle.flow_spread.specs.Spread.{is_at_rest as is_spread_at_rest}
@@ -158,6 +159,17 @@ offers_there o stopped up k next going may =
         let two = or_parts (is_closed (end_at o k) || speaks_of o.next (stage_at o k) || (end_at o k).declined == o.next) (rejects (end_at o k).rule.when (head_of o)) stops in
         (or_parts (is_closed (end_at o k) || speaks_of o.next (stage_at o k)) ((end_at o k).declined == o.next) two.0).0
 
+taken_back : (up renewing other : Bool) → renewing ≡ true → cond (up || renewing || other) (Some move.Withdraw) None ≡ Some move.Withdraw
+taken_back true renewing other e = refl
+taken_back false true other e = refl
+taken_back false false other e = absurd (cc)
+
+-- what waits is taken back where the head is to be offered anew
+withdraws_there : (o : OutletState) (stopped : Option Outcome) (up : Bool) (k : ℕ) (stage : SourceStage) → is_waiting stage ≡ true
+    → o.renewing ≡ true → out_move_at o k stopped up stage ≡ Some move.Withdraw
+withdraws_there o stopped up k (Waiting i) waits e = taken_back up o.renewing (not (i == o.next)) e
+withdraws_there o stopped up k _ waits e = absurd (cc)
+
 module _ {W : Type 0} (layout : Layout W) (meaning : ℕ → Value → Result (List Value) ℕ) (b : ℕ) (node : NodeState) (law : NodeLaw layout meaning b node) where
   -- the fault that is known is that of its own function
   own_cause : (fault : Option ℕ) → node.block.fault ≡ fault → is_some fault ≡ true → (number : ℕ) × FaultsItself layout meaning b node number
@@ -190,17 +202,35 @@ module _ {W : Type 0} (layout : Layout W) (meaning : ℕ → Value → Result (L
   in_time false rests number stops is e = absurd (cc)
 
   offers_or : (k : ℕ) → k < length node.block.exits.ends → node.block.stopped ≡ None → is_empty node.block.exits.left ≡ false
-      → node.block.exits.offer ≡ None → StopsAt node.block.exits k → (place : Option ℕ) → may_offer node.block.exits ≡ place → OffersBefore layout meaning b node k
-  offers_or k here going left none stops (Some j) may =
+      → node.block.exits.offer ≡ None → is_renewing node.block.exits ≡ false → StopsAt node.block.exits k → (place : Option ℕ)
+      → may_offer node.block.exits ≡ place → OffersBefore layout meaning b node k
+  offers_or k here going left none back stops (Some j) may =
       let next = (offers_in_order.named node.block.exits j).0 may in
       record {
         place = j;
         before = not_later j k (λ later. let wrong : true ≡ false = sym (next.earlier k later) ∙ stops in cc);
         goes_on = inl (offers_there node.block.exits node.block.stopped (is_held_up node.block) j next going may);
       }
-  offers_or k here going left none stops None may =
-      let held = offers_in_order.none node.block.exits may left none k here stops in
+  offers_or k here going left none back stops None may =
+      let held = offers_in_order.none node.block.exits may left none back k here stops in
       record { place = held.place; before = held.before; goes_on = inr held.busy }
+
+  takes_back : is_renewing node.block.exits ≡ true → TakesBack layout meaning b node
+  takes_back e =
+      let o = node.block.exits in
+      let at = renewing_waits o e in
+      record {
+        place = at.place;
+        there = at.there;
+        goes_on = withdraws_there o node.block.stopped (is_held_up node.block) at.place (stage_at o at.place) at.waits at.renewing;
+      }
+
+  offers_where : (k : ℕ) → k < length node.block.exits.ends → node.block.stopped ≡ None → is_empty node.block.exits.left ≡ false
+      → node.block.exits.offer ≡ None → StopsAt node.block.exits k → (back : Bool) → is_renewing node.block.exits ≡ back
+      → OffersBefore layout meaning b node k ⊎ TakesBack layout meaning b node
+  offers_where k here going left none stops true is = inr (takes_back is)
+  offers_where k here going left none stops false is =
+      inl (offers_or k here going left none is stops (may_offer node.block.exits) refl)
 
 rests_out : (stops rests copied : Bool) (cause : Option ℕ) (number : ℕ) → cond (stops && (rests && copied)) cause None ≡ Some number
     → cond (stops && rests) cause None ≡ Some number
@@ -223,5 +253,5 @@ next_moves_have_causes W layout meaning b node law = record {
       (oldest_first.oldest (port_at p node.block) k (consumes_at (port_at p node.block) k (port_stage k (port_at p node.block)) e)).0.room;
   oldest = λ p k e. (oldest_first.oldest (port_at p node.block) k (consumes_at (port_at p node.block) k (port_stage k (port_at p node.block)) e)).1;
   faults = λ number e. in_time layout meaning b node law (could_stop node.block) (is_at_rest node.block.exits) number refl refl (at_rest_out node.block number e);
-  offers = λ k here going left none stops. offers_or layout meaning b node law k here going left none stops (may_offer node.block.exits) refl;
+  offers = λ k here going left none stops. offers_where layout meaning b node law k here going left none stops (is_renewing node.block.exits) refl;
 }

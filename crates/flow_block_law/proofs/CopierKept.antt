@@ -128,6 +128,7 @@ module _ {W : Type 0} (layout : Layout W) (meaning : ℕ → Value → Result (L
       (held_stopped p k (hand_at p k node) node ∙ goes p k may) at_once.free at_once.ids)
   call_keeps (NodeCall.offer k) may alone copying none goes = none_out k ((offers_in_order.named block.exits k).0 may.next).there
   call_keeps (NodeCall.give k) may alone copying none goes = none_out k may.place
+  call_keeps (NodeCall.hold k) may alone copying none goes = none_out k may.place
   call_keeps (NodeCall.deny k) may alone copying none goes = none_out k may.place
   call_keeps (NodeCall.withdraw k) may alone copying none goes = none_out k may.waits.place
   call_keeps (NodeCall.end_link k how) may alone copying none goes = none_out k may.is_at_home.place

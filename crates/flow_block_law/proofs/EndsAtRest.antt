@@ -19,7 +19,7 @@ use Rattle.flow_intake.specs.Calls.{is_postponed, in_move, next_place, is_at as 
 use Rattle.flow_intake.specs.Port.{PortState, stage_at as port_stage, is_coming, is_queued, has_room}
 use Rattle.flow_intake.specs.PortLaw.{PortLaw, AreBelow, is_in}
 use Rattle.flow_intake.proofs.ProfileHolds.{oldest_first}
-use Rattle.flow_outlet.specs.End.{end_in, is_free, is_over, is_out, is_away, is_waiting, is_cut, speaks_of, count_at}
+use Rattle.flow_outlet.specs.End.{end_in, is_free, is_over, is_spoken_for, is_away, is_waiting, is_cut, speaks_of, count_at}
 use Rattle.flow_outlet.specs.Outlet.{OutletState, may_offer, end_of, is_at, free_move, move_at}
 use Rattle.flow_outlet.specs.declared.ends.OutEnd.{OutEnd}
 use Rattle.flow_block_law.specs.NodeRests.{rests_out, rests_in}
@@ -33,10 +33,12 @@ rests_away source.Refused e = refl
 rests_away (source.Ended how) e = refl
 rests_away _ e = absurd (cc)
 
-pub not_out : (stage : SourceStage) → rests_out stage ≡ true → is_out stage ≡ false
-not_out (source.Out i) e = absurd (cc)
-not_out (source.Accepted i) e = absurd (cc)
-not_out _ e = refl
+pub not_spoken_for : (stage : SourceStage) → rests_out stage ≡ true → is_spoken_for stage ≡ false
+not_spoken_for (source.Out i) e = absurd (cc)
+not_spoken_for (source.Accepted i) e = absurd (cc)
+not_spoken_for (source.Reserved i) e = absurd (cc)
+not_spoken_for (source.Claimed i) e = absurd (cc)
+not_spoken_for _ e = refl
 
 pub must_wait : (stage : SourceStage) → rests_out stage ≡ true → is_free stage ≡ false → is_over stage ≡ false
     → is_waiting stage ≡ true
@@ -80,16 +82,23 @@ none_away ends h none = eq-eqb (count_at is_away ends) 0 (each_away ends h ∙ c
 
 -- An end out that has no move
 
-stays_put : (held_up speaks : Bool) → cond (held_up || not speaks) (Some move.Withdraw) None ≡ None
-    → (held_up ≡ false) × (speaks ≡ true)
-stays_put true speaks e = absurd (cc)
-stays_put false true e = (refl, refl)
-stays_put false false e = absurd (cc)
+-- what waits and is not withdrawn is the head, which is not to be offered anew, and nothing is held up by it
+pub record StaysPut (held_up renewing head : Bool) : Type 0 where
+  pub not_held_up : held_up ≡ false
+  pub not_renewed : renewing ≡ false
+  pub is_head : head ≡ true
+
+stays_put : (held_up renewing head : Bool) → cond (held_up || renewing || not head) (Some move.Withdraw) None ≡ None
+    → StaysPut held_up renewing head
+stays_put true renewing head e = absurd (cc)
+stays_put false true head e = absurd (cc)
+stays_put false false true e = record { not_held_up = refl; not_renewed = refl; is_head = refl }
+stays_put false false false e = absurd (cc)
 
 pub waiting_stays : (o : OutletState) (k : ℕ) (stopped : Option Outcome) (held_up : Bool) (stage : SourceStage)
     → is_waiting stage ≡ true
-    → move_at o k stopped held_up stage ≡ None → (held_up ≡ false) × (speaks_of o.next stage ≡ true)
-waiting_stays o k stopped held_up (source.Waiting i) e none = stays_put held_up (i == o.next) none
+    → move_at o k stopped held_up stage ≡ None → StaysPut held_up o.renewing (speaks_of o.next stage)
+waiting_stays o k stopped held_up (source.Waiting i) e none = stays_put held_up o.renewing (i == o.next) none
 waiting_stays o k stopped held_up _ e none = absurd (cc)
 
 pub free_stays : (o : OutletState) (k : ℕ) (how : Option LinkEnd) → free_move o k how ≡ None

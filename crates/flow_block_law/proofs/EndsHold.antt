@@ -18,7 +18,7 @@ use Rattle.flow_lists.proofs.ListTests.{never_both}
 use Rattle.flow_intake.specs.Port.{PortState, stage_at as port_stage, end_in, hand_in, is_offer, is_hand}
 use Rattle.flow_intake.specs.Calls.{message_of, is_offered, is_posted, is_postponed, is_arrived, may_be_refused, first_of, refused_by, wants, turns_down, postpones, refuses, consumes, opens, closes, looks as port_looks, takes_next, gives_room, port_closes, port_fails}
 use Rattle.flow_intake.proofs.CountsOfEnds.{hand_comes}
-use Rattle.flow_outlet.specs.Outlet.{OutletState, is_empty, head_of, gives, prepares, offers, denies, withdraws, ends_link, looks as exit_looks, end_at, stage_at}
+use Rattle.flow_outlet.specs.Outlet.{OutletState, is_empty, head_of, gives, prepares, offers, holds, denies, withdraws, ends_link, looks as exit_looks, end_at, stage_at}
 use Rattle.flow_block.specs.Copies.{CopyCall, after_copy, copies_weight}
 use Rattle.flow_block_law.proofs.CopiesIdle.{copies_at}
 use Rattle.flow_block.specs.Block.{BlockState, port_in, port_at, with_port, with_jobs, held_by, made_of, fails, puts_out, yields, keeps_results, makes_of, takes_group, makes_row, gives_out, makes_tuple, copies_next, with_copies}
@@ -36,7 +36,7 @@ use Rattle.flow_spread.specs.Spread.{SpreadState, link_at, puts}
 use Rattle.flow_block_law.proofs.CopierHolds.{copy_goes_on}
 use Rattle.flow_block_law.proofs.CopiesLeave.{marks_by_copy, held_by_copy}
 use Rattle.flow_block.specs.Planned.{block_makes}
-use Rattle.flow_block_law.proofs.GoingOn.{open_goes_on, away_goes_on, rest_stays, wanted_away, wish_away, waiting_away, look_stays_home, may_work_tells, may_complete_tells}
+use Rattle.flow_block_law.proofs.GoingOn.{open_goes_on, away_goes_on, rest_stays, wanted_away, asked_away, wish_away, waiting_away, look_stays_home, may_work_tells, may_complete_tells}
 use Rattle.flow_block_law.proofs.JournalTells.{goes_on, outcome_more, ended_no_more, ended_by_complete}
 use Rattle.flow_block_law.proofs.KindsBuilt.{makes_by, next_by}
 use Rattle.flow_block_law.proofs.PortEnds.{PortEnds, end_moves, port_closed, port_failed, unseen_goes, refuses_so, look_goes, completes_by, completes_tells, unwritten_before, completes_more, fewer_complete, seen_unless}
@@ -372,6 +372,10 @@ module _ {W : Type 0} (layout : Layout W) (meaning : ℕ → Value → Result (L
   after_each node (NodeCall.offer k) law may =
       exits_going layout meaning b node.block node.journal law.ends (offers k (prepares node.block.exits)) may.going
   after_each node (NodeCall.give k) law may = given_out node law k (head_of node.block.exits) may
+  after_each node (NodeCall.hold k) law may =
+      exits_going layout meaning b node.block node.journal law.ends (holds k node.block.exits)
+      (away_goes_on layout meaning b node.block node.journal law.ends k
+      (asked_away k node.block.exits may.asked))
   after_each node (NodeCall.deny k) law may =
       exits_going layout meaning b node.block node.journal law.ends (denies k node.block.exits)
       (away_goes_on layout meaning b node.block node.journal law.ends k

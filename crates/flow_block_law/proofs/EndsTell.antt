@@ -23,7 +23,7 @@ use Rattle.flow_link.specs.Views as views
 use Rattle.flow_intake.specs.Calls.{is_postponed}
 use Rattle.flow_intake.specs.Port.{EndState, stage_in, count_at, is_coming as is_coming_at}
 use Rattle.flow_intake.specs.Ended.{is_completion, fault_seen}
-use Rattle.flow_outlet.specs.End.{is_limit, is_out}
+use Rattle.flow_outlet.specs.End.{is_limit, is_spoken_for as is_head_spoken_for}
 use Rattle.flow_outlet.specs.Law.{is_posted, is_refused}
 use Rattle.flow_outlet.specs.Outlet.{end_by}
 use Rattle.flow_block_law.specs.NodeLaw.{is_kept}
@@ -85,11 +85,13 @@ pub refused_told : (stage : SourceStage) → is_refused stage ≡ true → is_re
 refused_told source.Refused e = refl
 refused_told _ e = absurd (cc)
 
-pub spoken_is_out : (stage : SourceStage) → is_posted stage ≡ false → is_kept stage ≡ false
-    → is_spoken_for (source_stage_of stage) ≡ true → is_out stage ≡ true
-spoken_is_out (source.Out i) posted kept e = refl
-spoken_is_out (source.Accepted i) posted kept e = refl
-spoken_is_out _ posted kept e = absurd (cc)
+pub spoken_for_told : (stage : SourceStage) → is_posted stage ≡ false → is_spoken_for (source_stage_of stage) ≡ true
+    → is_head_spoken_for stage ≡ true
+spoken_for_told (source.Out i) posted e = refl
+spoken_for_told (source.Accepted i) posted e = refl
+spoken_for_told (source.Reserved i) posted e = refl
+spoken_for_told (source.Claimed i) posted e = refl
+spoken_for_told _ posted e = absurd (cc)
 
 -- a look finds no message kept that was not
 pub none_kept_by_looks : (stage : SourceStage) (phase : Phase) → is_kept stage ≡ false

@@ -24,20 +24,17 @@ use Rattle.flow_intake.specs.Ended.{fault_seen, fault_at_ends}
 use Rattle.flow_outlet.specs.declared.ends.OutEnd.{OutEnd}
 use Rattle.flow_outlet.specs.End.{id_of}
 use Rattle.flow_outlet.specs.Law.{OutletLaw}
-use Rattle.flow_outlet.specs.Outlet.{OutletState, head_of, end_at, stage_at, is_wanted, may_give, may_offer, prepares, offers, gives, lacks_ids, denies, withdraws, ends_link, looks}
+use Rattle.flow_outlet.specs.Outlet.{OutletState, head_of, end_at, stage_at, is_wanted, may_give, may_offer, prepares, offers, gives, lacks_ids, holds, denies, withdraws, ends_link, looks}
 use Rattle.flow_outlet.proofs.LawKept.{calls_keep_law}
-use Rattle.flow_outlet.proofs.OffersInOrder.{offers_in_order}
-use Rattle.flow_outlet.proofs.OneEndChanges.{each_set}
 use Rattle.flow_spread.specs.Spread.{puts}
 use Rattle.flow_block.specs.Copies.{after_copy, copies_weight}
 use Rattle.flow_block.specs.Block.{BlockState, port_at, copies_next, unit_weight, made_of, keeps_results, yields, makes_of, put_by_kind, put_of, values_of_result, row_of, next_group, group_weight, takes_group, makes_row, gives_out, stops_by, held_by, makes_tuple, comes_back, is_batched_join, puts_by_unit, put_next}
 use Rattle.flow_block.specs.Node.{NodeState, NodeCall, hand_at, gives_from, order_in, next_group_in, holds_in}
-use Rattle.flow_block_law.specs.NodeLaw.{ExitsLaw, is_kept}
+use Rattle.flow_block_law.specs.NodeLaw.{ExitsLaw}
 use Rattle.flow_block_law.specs.NodeKeeps.{MayCall, after_call, ExitsKept}
 use Rattle.flow_block.specs.Peeks.{fault_at_ports, is_pending}
 use Rattle.flow_block.specs.Planned.{block_makes}
 use Rattle.flow_block.proofs.CopiesTaken.{taken_in_keeps}
-use Rattle.flow_block_law.proofs.EndsTell.{none_kept_by_looks}
 use Rattle.flow_block_law.proofs.FaultsSeen.{StaysSeen, stays_at_ends, stays_at_ports, seen_over_ports, seen_by_looks, unseen_where}
 use Rattle.flow_block_law.proofs.GoingOn.{may_fault_tells, may_finish_tells}
 use Rattle.flow_block_law.proofs.KindsBuilt.{makes_by, next_by, puts_one}
@@ -88,7 +85,6 @@ module _ {W : Type 0} (layout : Layout W) (meaning : ℕ → Value → Result (L
           (or_weaker (is_some block.fault) (is_some (fault_at_ports block.ports)) (is_some block.fault)
           (is_some (fault_at_ports ports)) (λ e. e) stays)
           law.law;
-      none_kept = law.none_kept;
     }
 
     -- one end of a link into it moves
@@ -117,34 +113,23 @@ module _ {W : Type 0} (layout : Layout W) (meaning : ℕ → Value → Result (L
         (λ seen. subst (λ (ends : List EndState). is_some (fault_at_ends ends) ≡ true) (sym same) seen))
 
     -- one end of a link out of it moves
-    exits_change : (o : OutletState) (k : ℕ) (end : OutEnd) → k < length block.exits.ends
-        → o.ends ≡ set block.exits.ends k end
-        → is_kept end.stage ≡ false → OutletLaw (is_pending block) block.stopped o
+    exits_change : (o : OutletState) → OutletLaw (is_pending block) block.stopped o
         → ExitsLaw layout meaning b (record block { exits = o })
-    exits_change o k end here is not_kept new = record {
-      law = new;
-      none_kept = subst (λ (ends : List OutEnd). (j : ℕ) → j < length ends
-          → is_kept (stage_at (record o { ends = ends }) j) ≡ false) (sym is)
-          (each_set (λ j e. is_kept e.stage ≡ false) block.exits.ends k end here not_kept
-          (λ j l other. law.none_kept j l));
-    }
+    exits_change o new = record { law = new }
 
     results_keep : (kind : BlockKind) (values : List Value) → lacks_ids (put_by_kind kind values) block.exits ≡ false
         → ExitsLaw layout meaning b (keeps_results kind values block)
     results_keep Action values fit = record {
       law = (port_stays 0 (gives_room 1 (takes_next (port_at 0 block))) refl).law;
-      none_kept = law.none_kept;
     }
     results_keep _ [] fit = record {
       law = (port_stays 0 (gives_room 1 (takes_next (port_at 0 block))) refl).law;
-      none_kept = law.none_kept;
     }
     results_keep _ (value ∷ values) fit = record {
       law = calls_keep_law.put (is_pending (record block { ports = set block.ports 0 (takes_next (port_at 0 block)) }))
           block.stopped block.exits
           (port_stays 0 (takes_next (port_at 0 block)) refl).law (value ∷ values)
           (unit_weight (port_at 0 block).capacity) fit;
-      none_kept = law.none_kept;
     }
 
     result_keeps : (made : Result (List Value) ℕ)
@@ -153,7 +138,6 @@ module _ {W : Type 0} (layout : Layout W) (meaning : ℕ → Value → Result (L
     result_keeps (Ok values) fit = results_keep block.kind values fit
     result_keeps (Err number) fit = record {
       law = law_carries (is_pending block) true block.stopped block.exits (λ _. refl) law.law;
-      none_kept = law.none_kept;
     }
 
     make_keeps : (result : Value → Result (List Value) ℕ) (value : Option Value)
@@ -169,7 +153,6 @@ module _ {W : Type 0} (layout : Layout W) (meaning : ℕ → Value → Result (L
           block.stopped block.exits
           (port_stays 0 (takes_group block.size (port_at 0 block)) refl).law (row_of (next_group block) ∷ [])
           (group_weight (port_at 0 block).capacity (length (next_group block))) fit;
-      none_kept = law.none_kept;
     }
 
     tuple_keeps : lacks_ids (tuple_of block.ports ∷ []) block.exits ≡ false → ExitsLaw layout meaning b (makes_tuple block)
@@ -178,7 +161,6 @@ module _ {W : Type 0} (layout : Layout W) (meaning : ℕ → Value → Result (L
           (subst (λ (seen : Option ℕ). OutletLaw (is_some block.fault || is_some seen) block.stopped block.exits)
           (sym (seen_over_ports takes_next (λ port. refl) block.ports)) law.law)
           (tuple_of block.ports ∷ []) (unit_weight (port_at 0 block).capacity) fit;
-      none_kept = law.none_kept;
     }
 
     group_keeps : (size weight : ℕ) (order : List ℕ) → lacks_ids (group_of size order block.ports ∷ []) block.exits ≡ false
@@ -188,7 +170,6 @@ module _ {W : Type 0} (layout : Layout W) (meaning : ℕ → Value → Result (L
           (subst (λ (seen : Option ℕ). OutletLaw (is_some block.fault || is_some seen) block.stopped block.exits)
           (sym (seen_by_group size order block.ports)) law.law)
           (group_of size order block.ports ∷ []) weight fit;
-      none_kept = law.none_kept;
     }
 
     -- room comes back to its ports
@@ -202,7 +183,6 @@ module _ {W : Type 0} (layout : Layout W) (meaning : ℕ → Value → Result (L
     copy_keeps None = law
     copy_keeps (Some value) = record {
       law = (port_stays 0 (gives_room (1 - copies_weight (puts value block.copies)) (takes_next (port_at 0 block))) refl).law;
-      none_kept = law.none_kept;
     }
 
     give_keeps : (k : ℕ) → k < length block.exits.ends → may_give k block.exits ≡ true
@@ -220,7 +200,6 @@ module _ {W : Type 0} (layout : Layout W) (meaning : ℕ → Value → Result (L
         record {
           law = calls_keep_law.room_back pending block.stopped (gives k o)
               (calls_keep_law.give pending block.stopped o over.law k here may room);
-          none_kept = each_set (λ j e. is_kept e.stage ≡ false) o.ends k _ here refl (λ j l other. law.none_kept j l);
         }
 
     stops_keep : (how : Outcome) → block.stopped ≡ None → ExitsLaw layout meaning b (stops_by how block)
@@ -229,7 +208,7 @@ module _ {W : Type 0} (layout : Layout W) (meaning : ℕ → Value → Result (L
         let over = ports_change (map port_closes block.ports)
         (λ seen. subst (λ (f : Option ℕ). is_some f ≡ true) (sym same) seen) in
         let pending = is_some block.fault || is_some (fault_at_ports (map port_closes block.ports)) in
-        record { law = stop_keeps pending block.stopped how block.exits going over.law; none_kept = law.none_kept }
+        record { law = stop_keeps pending block.stopped how block.exits going over.law }
 
   closes_keep : (node : NodeState) (p k : ℕ) (hand : Option Value)
       → is_hand (port_stage k (port_at p node.block)) ≡ true
@@ -267,18 +246,21 @@ module _ {W : Type 0} (layout : Layout W) (meaning : ℕ → Value → Result (L
       (λ at_once. copy_keeps held.block kept (first_of (held_by held.block)))
   exits_keep node (NodeCall.offer k) law may =
       let o = node.block.exits in
-      exits_change node.block law (offers k (prepares o)) k _ ((offers_in_order.named o k).0 may.next).there refl refl
+      exits_change node.block law (offers k (prepares o))
       (offer_keeps (is_pending node.block) node.block.stopped o k may.going may.next law.law)
   exits_keep node (NodeCall.give k) law may = gave_keeps node k (head_of node.block.exits) may.place may.wanted law
+  exits_keep node (NodeCall.hold k) law may =
+      exits_change node.block law (holds k node.block.exits)
+      (calls_keep_law.hold (is_pending node.block) node.block.stopped node.block.exits law.law k may.place may.asked)
   exits_keep node (NodeCall.deny k) law may =
-      exits_change node.block law (denies k node.block.exits) k _ may.place refl refl
+      exits_change node.block law (denies k node.block.exits)
       (calls_keep_law.deny (is_pending node.block) node.block.stopped node.block.exits law.law k may.place may.stands)
   exits_keep node (NodeCall.withdraw k) law may =
-      exits_change node.block law (withdraws k node.block.exits) k _ may.waits.place refl refl
+      exits_change node.block law (withdraws k node.block.exits)
       (calls_keep_law.withdraw (is_pending node.block) node.block.stopped node.block.exits law.law k may.waits.place
       may.waits.stands may.faults)
   exits_keep node (NodeCall.end_link k how) law may =
-      exits_change node.block law (ends_link k how node.block.exits) k _ may.is_at_home.place refl refl
+      exits_change node.block law (ends_link k how node.block.exits)
       (calls_keep_law.ends (is_pending node.block) node.block.stopped node.block.exits law.law k may.is_at_home.place
       how may.is_at_home.stands may.is_due)
   exits_keep node (NodeCall.look_in p k phase) law may =
@@ -286,13 +268,12 @@ module _ {W : Type 0} (layout : Layout W) (meaning : ℕ → Value → Result (L
       (seen_by_looks (port_stage k (port_at p node.block)) phase)
   exits_keep node (NodeCall.look_out k phase) law may =
       let o = node.block.exits in
-      exits_change node.block law (looks k phase o) k _ may.place refl
-      (none_kept_by_looks (stage_at o k) phase (law.none_kept k may.place))
+      exits_change node.block law (looks k phase o)
       (calls_keep_law.look (is_pending node.block) node.block.stopped o law.law k may.place phase may.put_off)
   exits_keep node (NodeCall.copy call) law may =
       let room = copies_weight node.block.copies - copies_weight (after_copy call node.block.copies) in
-      record { law = (room_comes node.block law room).law; none_kept = law.none_kept }
-  exits_keep node NodeCall.begin law may = record { law = law.law; none_kept = law.none_kept }
+      record { law = (room_comes node.block law room).law }
+  exits_keep node NodeCall.begin law may = record { law = law.law }
   exits_keep node NodeCall.make law may =
       let block = node.block in
       let result = block_makes layout meaning b in

@@ -214,7 +214,6 @@ fresh_in_order W layout meaning b some freely lane size group unlimited =
       ports = each_port layout b (λ p port. PortLaw (facts_in layout) 0 port) (port_in_order layout b);
       exits = record {
         law = calls_keep_law.fresh (is_pending node.block) None shared 1 (omega arith) (omega arith);
-        none_kept = out_ends_fresh shared (λ (end : OutEnd). is_kept end.stage ≡ false) (λ rule. refl);
       };
       copies = record {
         idle = fresh_shared block.kind rules;

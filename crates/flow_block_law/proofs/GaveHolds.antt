@@ -27,7 +27,7 @@ use Rattle.flow_outlet.specs.declared.ends.LinkRule.{LinkRule}
 use Rattle.flow_outlet.specs.declared.ends.OutEnd.{OutEnd}
 use Rattle.flow_outlet.specs.End.{no_end, counted, is_limit, is_waiting, is_free, rejects}
 use Rattle.flow_outlet.specs.Law.{OutletLaw, is_refused, admits_head}
-use Rattle.flow_outlet.specs.Outlet.{OutletState, head_of, end_at, stage_at, is_wanted, is_wish, may_give, changes, given_end, gives}
+use Rattle.flow_outlet.specs.Outlet.{OutletState, head_of, end_at, stage_at, is_wanted, is_asked, is_wish, may_give, changes, given_end, gives}
 use Rattle.flow_outlet.proofs.LawKept.{gives_in_order as outlet_gives_in_order}
 use Rattle.flow_outlet.proofs.LookTells.{look_tells}
 use Rattle.flow_outlet.proofs.OffersInOrder.{offers_in_order}
@@ -171,11 +171,11 @@ module _ {W : Type 0} (layout : Layout W) (meaning : ℕ → Value → Result (L
 
   -- the end at a place comes to another stage
   end_moves : (o : OutletState) (journal : List Mark) (k declined : ℕ) (stage : SourceStage)
-      (offer : Option ℕ) (parcel : Option Value)
+      (offer : Option ℕ) (renewing : Bool) (parcel : Option Value)
       → k < length o.ends → (is_refused (stage_at o k) ≡ true → is_refused stage ≡ true)
       → GaveLaw layout meaning b o journal
-      → GaveLaw layout meaning b (record (changes k stage declined o) { offer = offer; parcel = parcel }) journal
-  end_moves o journal k declined stage offer parcel here refused law =
+      → GaveLaw layout meaning b (record (changes k stage declined o) { offer = offer; renewing = renewing; parcel = parcel }) journal
+  end_moves o journal k declined stage offer renewing parcel here refused law =
       let end = record (end_at o k) { declined = declined; stage = stage } in
       record {
         each = each_set (λ j e. GaveOver layout meaning b journal e) o.ends k end here
@@ -326,24 +326,28 @@ module _ {W : Type 0} (layout : Layout W) (meaning : ℕ → Value → Result (L
   gave_keep node (NodeCall.offer k) law may shares gave =
       let o = node.block.exits in
       let next = (offers_in_order.named o k).0 may.next in
-      end_moves o node.journal k _ _ _ _ next.there (none_refused is_free refl (stage_at o k) _ next.free) gave
+      end_moves o node.journal k _ _ _ _ _ next.there (none_refused is_free refl (stage_at o k) _ next.free) gave
   gave_keep node (NodeCall.give k) law may shares gave =
       gave_keeps node k (head_of node.block.exits) law gave may.place may.wanted refl
+  gave_keep node (NodeCall.hold k) law may shares gave =
+      let o = node.block.exits in
+      let asked = (and_parts (is_asked o.next (stage_at o k)) (not (is_some o.offer)) may.asked).0 in
+      end_moves o node.journal k _ _ _ _ _ may.place (none_refused (is_asked o.next) refl (stage_at o k) _ asked) gave
   gave_keep node (NodeCall.deny k) law may shares gave =
       let o = node.block.exits in
-      end_moves o node.journal k _ _ _ _ may.place (none_refused is_wish refl (stage_at o k) _ may.stands) gave
+      end_moves o node.journal k _ _ _ _ _ may.place (none_refused is_wish refl (stage_at o k) _ may.stands) gave
   gave_keep node (NodeCall.withdraw k) law may shares gave =
       let o = node.block.exits in
-      end_moves o node.journal k _ _ _ _ may.waits.place
+      end_moves o node.journal k _ _ _ _ _ may.waits.place
       (none_refused is_waiting refl (stage_at o k) _ may.waits.stands) gave
   gave_keep node (NodeCall.end_link k how) law may shares gave =
       let o = node.block.exits in
-      end_moves o node.journal k _ _ _ _ may.is_at_home.place
+      end_moves o node.journal k _ _ _ _ _ may.is_at_home.place
       (none_refused is_free refl (stage_at o k) _ may.is_at_home.stands) gave
   gave_keep node (NodeCall.look_in p k phase) law may shares gave = gave
   gave_keep node (NodeCall.look_out k phase) law may shares gave =
       let o = node.block.exits in
-      end_moves o node.journal k _ _ _ _ may.place (look_tells (stage_at o k) phase).refused gave
+      end_moves o node.journal k _ _ _ _ _ may.place (look_tells (stage_at o k) phase).refused gave
   gave_keep node (NodeCall.copy call) law may shares gave = absurd (no_copy_at layout meaning b node law shares (copy_place call) may.place)
   gave_keep node NodeCall.begin law may shares gave = gave
   gave_keep node NodeCall.make law may shares gave =

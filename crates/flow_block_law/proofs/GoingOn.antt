@@ -20,7 +20,7 @@ use Rattle.flow_intake.specs.PortLaw.{has_ended}
 use Rattle.flow_intake.specs.Ended.{has_seen_completion}
 use Rattle.flow_outlet.specs.declared.ends.OutEnd.{OutEnd}
 use Rattle.flow_outlet.specs.End.{is_away, is_waiting, count_at, end_in}
-use Rattle.flow_outlet.specs.Outlet.{is_empty, is_wanted, is_wish, is_at_rest, stage_at}
+use Rattle.flow_outlet.specs.Outlet.{OutletState, is_empty, is_wanted, is_asked, may_hold, is_wish, is_at_rest, stage_at}
 use Rattle.flow_spread.specs.Spread.{is_at_rest as is_spread_at_rest}
 use Rattle.flow_group.specs.Tuple.{has_tuple}
 use Rattle.flow_block.specs.Block.{BlockState, port_at, held_by, is_batch, is_join, is_batched_join}
@@ -64,6 +64,15 @@ wanted_away next out (Accepted i) e = refl
 wanted_away next out (Claimed i) e = refl
 wanted_away next out (Wished i) e = refl
 wanted_away next out stage e = absurd (cc)
+
+asked_stage_away : (next : ℕ) (stage : SourceStage) → is_asked next stage ≡ true → is_away stage ≡ true
+asked_stage_away next (AskedBy i) e = refl
+asked_stage_away next stage e = absurd (cc)
+
+-- what the block may keep for a target is under way
+pub asked_away : (k : ℕ) (o : OutletState) → may_hold k o ≡ true → is_away (stage_at o k) ≡ true
+asked_away k o may =
+    asked_stage_away o.next (stage_at o k) (and_parts (is_asked o.next (stage_at o k)) (not (is_some o.offer)) may).0
 
 pub wish_away : (stage : SourceStage) → is_wish stage ≡ true → is_away stage ≡ true
 wish_away (Wished i) e = refl

@@ -13,7 +13,7 @@ use Rattle.flow_link.specs.Trace.{gave}
 use Rattle.flow_intake.specs.Port.{PortState}
 use Rattle.flow_intake.specs.Calls.{first_of, one_more, wants, turns_down, postpones, refuses, consumes, opens, closes, looks as port_looks, port_closes}
 use Rattle.flow_outlet.specs.Fits.{weight_of}
-use Rattle.flow_outlet.specs.Outlet.{OutletState, head_of, rest_of, gives, groups_after, weight_at, prepares, offers, denies, withdraws, ends_link, looks as exit_looks}
+use Rattle.flow_outlet.specs.Outlet.{OutletState, head_of, rest_of, gives, groups_after, weight_at, prepares, offers, holds, denies, withdraws, ends_link, looks as exit_looks}
 use Rattle.flow_group.specs.Group.{came_at, row_of, rows_from, group_of, takes_group}
 use Rattle.flow_group.specs.Tuple.{held_at}
 use Rattle.flow_group.proofs.GroupsCut.{groups_tell, as_many_taken}
@@ -247,6 +247,7 @@ module _ {W : Type 0} (layout : Layout W) (meaning : ℕ → Value → Result (L
   after_each node (NodeCall.offer k) batched groups law may = exits_stay node (offers k (prepares node.block.exits)) refl refl refl law
   after_each node (NodeCall.give k) batched groups law may =
       given_out node k (head_of node.block.exits) node.block.exits.left refl refl batched law
+  after_each node (NodeCall.hold k) batched groups law may = exits_stay node (holds k node.block.exits) refl refl refl law
   after_each node (NodeCall.deny k) batched groups law may = exits_stay node (denies k node.block.exits) refl refl refl law
   after_each node (NodeCall.withdraw k) batched groups law may = exits_stay node (withdraws k node.block.exits) refl refl refl law
   after_each node (NodeCall.end_link k how) batched groups law may = exits_stay node (ends_link k how node.block.exits) refl refl refl law

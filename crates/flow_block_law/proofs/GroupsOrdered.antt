@@ -159,6 +159,7 @@ module _ {W : Type 0} (layout : Layout W) (meaning : ℕ → Value → Result (L
   ordered_after node (NodeCall.consume p k) within may = as_it_was node within
   ordered_after node (NodeCall.open_with p k value) within may = as_it_was node within
   ordered_after node (NodeCall.offer k) within may = as_it_was node within
+  ordered_after node (NodeCall.hold k) within may = as_it_was node within
   ordered_after node (NodeCall.deny k) within may = as_it_was node within
   ordered_after node (NodeCall.withdraw k) within may = as_it_was node within
   ordered_after node (NodeCall.end_link k how) within may = as_it_was node within
@@ -211,6 +212,7 @@ module _ {W : Type 0} (layout : Layout W) (meaning : ℕ → Value → Result (L
   same_after node (NodeCall.give k) may =
       let same = given_same node k (head_of node.block.exits) in
       record { block = refl; journal = refl; size = same.0; count = same.1 }
+  same_after node (NodeCall.hold k) may = record { block = refl; journal = refl; size = refl; count = refl }
   same_after node (NodeCall.deny k) may = record { block = refl; journal = refl; size = refl; count = refl }
   same_after node (NodeCall.withdraw k) may = record { block = refl; journal = refl; size = refl; count = refl }
   same_after node (NodeCall.end_link k how) may = record { block = refl; journal = refl; size = refl; count = refl }

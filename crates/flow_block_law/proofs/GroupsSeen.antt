@@ -76,6 +76,7 @@ module _ {W : Type 0} (layout : Layout W) (meaning : ℕ → Value → Result (L
       taken_in size node (length node.block.ports) p k (hand_in k (port_at p node.block).ends) law
   whole_after node (NodeCall.offer k) groups may law = law
   whole_after node (NodeCall.give k) groups may law = given_out size order node k (head_of node.block.exits) refl groups law
+  whole_after node (NodeCall.hold k) groups may law = law
   whole_after node (NodeCall.deny k) groups may law = law
   whole_after node (NodeCall.withdraw k) groups may law = law
   whole_after node (NodeCall.end_link k how) groups may law = law

@@ -16,7 +16,7 @@ use Rattle.flow_lists.proofs.ListTests.{every_weaker_below, never_both, passes_b
 use Rattle.flow_link.proofs.OneMoreMark.{some_before, some_no_more, gave_no_more, gave_by_took, gave_by_gave}
 use Rattle.flow_intake.specs.Port.{PortState, hand_in}
 use Rattle.flow_intake.specs.Calls.{put_hand, wants, turns_down, postpones, refuses, consumes, opens, closes, looks as port_looks, port_closes}
-use Rattle.flow_outlet.specs.Outlet.{OutletState, head_of, gives, prepares, offers, denies, withdraws, ends_link, looks as exit_looks}
+use Rattle.flow_outlet.specs.Outlet.{OutletState, head_of, gives, prepares, offers, holds, denies, withdraws, ends_link, looks as exit_looks}
 use Rattle.flow_group.specs.Group.{has_group, group_of}
 use Rattle.flow_group.specs.Groups.{GroupsLaw, arrival_at}
 use Rattle.flow_group.specs.Tuple.{held_at}
@@ -197,6 +197,7 @@ module _ {W : Type 0} (layout : Layout W) (meaning : ℕ → Value → Result (L
   after_each node (NodeCall.close p k) law may = taken_in size some order node law p k may (hand_in k (port_at p node.block).ends)
   after_each node (NodeCall.offer k) law may = exits_stay size some order node law (offers k (prepares node.block.exits)) refl
   after_each node (NodeCall.give k) law may = given_out size some order node law k (head_of node.block.exits) refl
+  after_each node (NodeCall.hold k) law may = exits_stay size some order node law (holds k node.block.exits) refl
   after_each node (NodeCall.deny k) law may = exits_stay size some order node law (denies k node.block.exits) refl
   after_each node (NodeCall.withdraw k) law may = exits_stay size some order node law (withdraws k node.block.exits) refl
   after_each node (NodeCall.end_link k how) law may = exits_stay size some order node law (ends_link k how node.block.exits) refl

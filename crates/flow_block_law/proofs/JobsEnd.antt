@@ -162,7 +162,7 @@ module _ {W : Type 0} (kept : NodesKept W) (layout : Layout W) (meaning : ℕ �
       record {
         shape = shape_stays layout meaning b block new refl refl refl refl law.shape;
         ports = law.ports;
-        exits = record { law = law.exits.law; none_kept = law.exits.none_kept };
+        exits = record { law = law.exits.law };
         copies = record {
           idle = law.copies.idle;
           copier = λ copying. jobs_change layout b block journal (law.copies.copier copying) (change block.jobs);

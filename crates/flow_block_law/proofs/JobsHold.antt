@@ -346,6 +346,7 @@ module _ {W : Type 0} (layout : Layout W) (meaning : ℕ → Value → Result (L
       stops_so node law.jobs (outcome.Faulted number) (Fault number) refl
   after_each node NodeCall.finish law may = stops_so node law.jobs outcome.Done Done refl
   after_each node (NodeCall.offer k) law may = exits_stay node law.jobs _
+  after_each node (NodeCall.hold k) law may = exits_stay node law.jobs _
   after_each node (NodeCall.deny k) law may = exits_stay node law.jobs _
   after_each node (NodeCall.withdraw k) law may = exits_stay node law.jobs _
   after_each node (NodeCall.end_link k how) law may = exits_stay node law.jobs _

@@ -21,7 +21,7 @@ use Rattle.flow_intake.specs.Calls.{first_of, wants, turns_down, postpones, refu
 use Rattle.flow_intake.specs.PortLaw.{has_ended as has_port_ended}
 use Rattle.flow_outlet.specs.declared.group.Group.{Group}
 use Rattle.flow_outlet.specs.Fits.{weight_of}
-use Rattle.flow_outlet.specs.Outlet.{OutletState, head_of, groups_with, groups_after, gives, prepares, offers, denies, withdraws, ends_link, looks as exit_looks}
+use Rattle.flow_outlet.specs.Outlet.{OutletState, head_of, groups_with, groups_after, gives, prepares, offers, holds, denies, withdraws, ends_link, looks as exit_looks}
 use Rattle.flow_outlet.proofs.OutletFits.{weight_stays}
 use Rattle.flow_link.specs.Plan.{is_broadcast}
 use Rattle.flow_block.specs.Copies.{copy_place, CopyCall, after_copy, copies_weight}
@@ -451,6 +451,8 @@ module _ {W : Type 0} (layout : Layout W) (meaning : ℕ → Value → Result (L
   call_keeps node (NodeCall.give k) law grouped may =
       give_keeps k (head_of node.block.exits) node grouped refl
       (law.gave (shares_at layout meaning b node.block law.shape k may.place)).next_is (law.load grouped)
+  call_keeps node (NodeCall.hold k) law grouped may =
+      exits_move node (holds k node.block.exits) refl refl refl refl (law.load grouped)
   call_keeps node (NodeCall.deny k) law grouped may =
       exits_move node (denies k node.block.exits) refl refl refl refl (law.load grouped)
   call_keeps node (NodeCall.withdraw k) law grouped may =

@@ -20,7 +20,7 @@ use Rattle.flow_link.proofs.OneMoreMark.{took_no_more, gave_no_more, took_by_too
 use Rattle.flow_link.proofs.OneMoreWorked.{worked_more}
 use Rattle.flow_intake.specs.Port.{PortState, fresh_port, hand_in}
 use Rattle.flow_intake.specs.Calls.{first_of, wants, turns_down, postpones, refuses, consumes, opens, closes, looks as port_looks, takes_next, gives_room, port_closes, port_fails}
-use Rattle.flow_outlet.specs.Outlet.{OutletState, first_of as first_left, rest_of, head_of, gives, prepares, offers, denies, withdraws, ends_link, looks as exit_looks}
+use Rattle.flow_outlet.specs.Outlet.{OutletState, first_of as first_left, rest_of, head_of, gives, prepares, offers, holds, denies, withdraws, ends_link, looks as exit_looks}
 use Rattle.flow_lists.proofs.ListTests.{never_both}
 use Rattle.flow_link.specs.Plan.{is_one_taker}
 use Rattle.flow_block.specs.Copies.{copy_place, CopyCall, after_copy}
@@ -458,6 +458,7 @@ module _ {W : Type 0} (layout : Layout W) (meaning : ℕ → Value → Result (L
       stops_so node law.makes (outcome.Faulted number) (Fault number) refl refl
   after_each node NodeCall.finish law may = stops_so node law.makes outcome.Done Done refl refl
   after_each node (NodeCall.offer k) law may = exits_stay node law.makes (offers k (prepares node.block.exits)) refl
+  after_each node (NodeCall.hold k) law may = exits_stay node law.makes (holds k node.block.exits) refl
   after_each node (NodeCall.deny k) law may = exits_stay node law.makes (denies k node.block.exits) refl
   after_each node (NodeCall.withdraw k) law may = exits_stay node law.makes (withdraws k node.block.exits) refl
   after_each node (NodeCall.end_link k how) law may = exits_stay node law.makes (ends_link k how node.block.exits) refl

@@ -29,7 +29,7 @@ use Rattle.flow_intake.specs.Calls.{answer_where, answer_to, move_of, move_at, i
 use Rattle.flow_intake.specs.PortLaw.{PortLaw, AreBelow, puts_off, is_in as is_in_queue}
 use Rattle.flow_intake.proofs.AnswersTell.{accepted_has_room, accepted_is_open, declining_is_refusing, next_tells}
 use Rattle.flow_outlet.specs.End.{is_free, is_waiting, is_cut, speaks_of}
-use Rattle.flow_outlet.specs.Outlet.{OutletState, end_at, stage_at, end_of, end_by, may_offer, is_at as is_place_at, free_move, move_at as out_move_at, only_waits}
+use Rattle.flow_outlet.specs.Outlet.{OutletState, end_at, stage_at, end_of, end_by, may_offer, is_at as is_place_at, has_offer_out, answers_wish, free_move, move_at as out_move_at, only_waits}
 use Rattle.flow_outlet.proofs.MovesAllowed.{moves_are_allowed}
 use Rattle.flow_outlet.proofs.OffersInOrder.{offers_in_order}
 use Rattle.flow_link.specs.declared.draft.BlockKind.{BlockKind}
@@ -328,6 +328,7 @@ abbrev is_own : Option Move → Bool
 is_own None = true
 is_own (Some (move.Offer _)) = true
 is_own (Some move.Give) = true
+is_own (Some move.Hold) = true
 is_own (Some move.Deny) = true
 is_own (Some move.Withdraw) = true
 is_own (Some (move.End _)) = true
@@ -338,9 +339,14 @@ own_either : (b : Bool) (first second : Option Move) → is_own first ≡ true �
 own_either true first second one other = one
 own_either false first second one other = other
 
-own_answer : (b : Bool) → is_own (Some (cond b move.Give move.Deny)) ≡ true
-own_answer true = refl
-own_answer false = refl
+own_answer : (so : Move) → is_own (Some so) ≡ true → (b : Bool) → is_own (Some (cond b so move.Deny)) ≡ true
+own_answer so own true = own
+own_answer so own false = refl
+
+own_wish : (o : OutletState) (so : Move) (i : ℕ) → is_own (Some so) ≡ true → is_own (answers_wish so i o) ≡ true
+own_wish o so i own =
+    let is_there = i == o.next && not (is_some o.offer) in
+    own_either (has_offer_out o) None (Some (cond is_there so move.Deny)) refl (own_answer so own is_there)
 
 own_free : (o : OutletState) (k : ℕ) (how : Option LinkEnd) → is_own (free_move o k how) ≡ true
 own_free o k (Some how) = refl
@@ -350,11 +356,10 @@ only_own : (o : OutletState) (k : ℕ) (stopped : Option Outcome) (up : Bool) (s
     → is_own (out_move_at o k stopped up stage) ≡ true
 only_own o k stopped up Free = own_free o k (end_of (end_at o k) stopped)
 only_own o k stopped up (Accepted i) = refl
-only_own o k stopped up (Claimed i) = own_either (is_some o.offer || not (i == o.next)) None (Some move.Give) refl refl
-only_own o k stopped up (Wished i) =
-    own_either (is_some o.offer) None (Some (cond (i == o.next) move.Give move.Deny)) refl (own_answer (i == o.next))
-only_own o k stopped up (AskedBy i) = own_either (is_some o.offer || i == o.next) None (Some move.Deny) refl refl
-only_own o k stopped up (Waiting i) = own_either (up || not (i == o.next)) (Some move.Withdraw) None refl refl
+only_own o k stopped up (Claimed i) = refl
+only_own o k stopped up (Wished i) = own_wish o move.Give i refl
+only_own o k stopped up (AskedBy i) = own_wish o move.Hold i refl
+only_own o k stopped up (Waiting i) = own_either (up || o.renewing || not (i == o.next)) (Some move.Withdraw) None refl refl
 only_own o k stopped up _ = refl
 
 -- a block that is held up has a fault coming
@@ -379,23 +384,25 @@ module _ {W : Type 0} (layout : Layout W) (meaning : ℕ → Value
     abbrev May_out : Move → Type 0
     May_out next = MayMoveOut layout meaning b node k next
 
-    withdraws_head : (i : ℕ) → cond (up || not (i == exits.next)) (Some move.Withdraw) None ≡ Some move.Withdraw
-        → (i == exits.next) ≡ true → is_pending node.block ≡ true
-    withdraws_head i e head = by_test up (i == exits.next) e head (held_up_pending node.block)
+    withdraws_head : (i : ℕ) → cond (up || exits.renewing || not (i == exits.next)) (Some move.Withdraw) None ≡ Some move.Withdraw
+        → exits.renewing ≡ false → (i == exits.next) ≡ true → is_pending node.block ≡ true
+    withdraws_head i e again head = by_test up exits.renewing (i == exits.next) e again head (held_up_pending node.block)
       where
-        by_test : (is_up is_head : Bool) → cond (is_up || not is_head) (Some move.Withdraw) None ≡ Some move.Withdraw
-            → is_head ≡ true
+        by_test : (is_up renewing is_head : Bool)
+            → cond (is_up || renewing || not is_head) (Some move.Withdraw) None ≡ Some move.Withdraw
+            → renewing ≡ false → is_head ≡ true
             → (is_up ≡ true → is_pending node.block ≡ true) → is_pending node.block ≡ true
-        by_test true is_head e head so = so refl
-        by_test false true e head so = absurd (cc)
-        by_test false false e head so = absurd (cc)
+        by_test true renewing is_head e again head so = so refl
+        by_test false true is_head e again head so = absurd (cc)
+        by_test false false true e again head so = absurd (cc)
+        by_test false false false e again head so = absurd (cc)
 
-    -- the head's own offer is withdrawn only where the block faults
+    -- the head's own offer is withdrawn only where the block faults, or the head is to be offered anew
     withdraws_at : (stage : SourceStage) → is_waiting stage ≡ true
         → out_move_at exits k stops up stage ≡ Some move.Withdraw
-        → speaks_of exits.next stage ≡ true → is_pending node.block ≡ true
-    withdraws_at (Waiting i) waits e head = withdraws_head i e head
-    withdraws_at _ waits e head = absurd (cc)
+        → exits.renewing ≡ false → speaks_of exits.next stage ≡ true → is_pending node.block ≡ true
+    withdraws_at (Waiting i) waits e again head = withdraws_head i e again head
+    withdraws_at _ waits e again head = absurd (cc)
 
     going_on : (stage : SourceStage) → is_free stage ≡ true → (id : ℕ)
         → out_move_at exits k stops up stage ≡ Some (move.Offer id) → stops ≡ None
@@ -412,6 +419,12 @@ module _ {W : Type 0} (layout : Layout W) (meaning : ℕ → Value
           place = there;
           wanted =
               moves_are_allowed.gives (is_pending node.block) stops up exits law.exits.law k there e;
+        }
+    by_source move.Hold e =
+        record {
+          place = there;
+          asked =
+              moves_are_allowed.holds (is_pending node.block) stops up exits law.exits.law k there e;
         }
     by_source move.Deny e =
         record {

@@ -22,11 +22,11 @@ use Rattle.flow_lists.proofs.ListTests.{never_both}
 use Rattle.flow_intake.specs.Port.{PortState, hand_in, stage_at as port_stage}
 use Rattle.flow_intake.specs.Calls.{answer_where, move_of, move_at as move_in}
 use Rattle.flow_outlet.specs.End.{is_out as is_offer_out}
-use Rattle.flow_outlet.specs.Outlet.{OutletState, end_at, stage_at, move_at}
+use Rattle.flow_outlet.specs.Outlet.{OutletState, end_at, stage_at, out_at, has_offer_out as is_offering, move_at}
 use Rattle.flow_block.specs.Block.{port_at}
 use Rattle.flow_block.specs.Node.{NodeState}
-use Rattle.flow_block_law.specs.NodeLaw.{NodeLaw, is_kept}
-use Rattle.flow_block_law.specs.NodeRests.{HasNothingToDo, NoneReserve, NodesAreStill, is_asked, is_reserving}
+use Rattle.flow_block_law.specs.NodeLaw.{NodeLaw}
+use Rattle.flow_block_law.specs.NodeRests.{HasNothingToDo, NoneReserve, NodesAreStill, is_reserving}
 use Rattle.flow_block_law.specs.NodeSeen.{IsNodeOf}
 use Rattle.flow_block.specs.Peeks.{is_held_up}
 use Rattle.flow_block.specs.Planned.{out_place, in_place}
@@ -38,22 +38,30 @@ use Rattle.flow_lists.proofs.TestsTell.{some_is}
 -- What an end that has no move tells
 
 gives_nothing : (o : OutletState) (k : ℕ) (stopped : Option Outcome) (held_up : Bool) (stage : SourceStage)
-    → is_kept stage ≡ false
     → move_at o k stopped held_up stage ≡ None → is_to_hand_over (source_stage_of stage) ≡ false
-gives_nothing o k stopped held_up (source.Accepted i) kept none = absurd (cc)
-gives_nothing o k stopped held_up (source.Claimed i) kept none = absurd (cc)
-gives_nothing o k stopped held_up _ kept none = refl
+gives_nothing o k stopped held_up (source.Accepted i) none = absurd (cc)
+gives_nothing o k stopped held_up (source.Claimed i) none = absurd (cc)
+gives_nothing o k stopped held_up _ none = refl
 
 waits_for_offer : {A : Type 0} (out : Bool) (move : A) → cond out None (Some move) ≡ None → out ≡ true
 waits_for_offer true move none = refl
 waits_for_offer false move none = absurd (cc)
 
 answers_late : (o : OutletState) (k : ℕ) (stopped : Option Outcome) (held_up : Bool) (stage : SourceStage)
-    → is_asked stage ≡ false
-    → move_at o k stopped held_up stage ≡ None → is_wished_for (source_stage_of stage) ≡ true → is_some o.offer ≡ true
-answers_late o k stopped held_up (source.Wished i) asked none wished = waits_for_offer (is_some o.offer) _ none
-answers_late o k stopped held_up (source.AskedBy i) asked none wished = absurd (cc)
-answers_late o k stopped held_up _ asked none wished = absurd (cc)
+    → move_at o k stopped held_up stage ≡ None → is_wished_for (source_stage_of stage) ≡ true → is_offering o ≡ true
+answers_late o k stopped held_up (source.Wished i) none wished = waits_for_offer (is_offering o) _ none
+answers_late o k stopped held_up (source.AskedBy i) none wished = waits_for_offer (is_offering o) _ none
+answers_late o k stopped held_up _ none wished = absurd (cc)
+
+-- the end over which an offer is out
+record OffersAt (o : OutletState) : Type 0 where
+  place : ℕ
+  offer : o.offer ≡ Some place
+  out : is_offer_out (stage_at o place) ≡ true
+
+offers_at : (o : OutletState) (offer : Option ℕ) → o.offer ≡ offer → out_at o offer ≡ true → OffersAt o
+offers_at o None is out = absurd (cc)
+offers_at o (Some k) is out = record { place = k; offer = is; out = out }
 
 out_is_seen : (o : OutletState) (k : ℕ) (stopped : Option Outcome) (held_up : Bool) (stage : SourceStage)
     → is_offer_out stage ≡ true
@@ -119,17 +127,15 @@ module _ {W : Type 0} (run : Run W) (ends : ℕ → Ends) (b : ℕ) (node : Node
         let k = place l in
         let near = there l small from in
         ap is_to_hand_over (source_is l small from)
-        ∙ gives_nothing exits k node.block.stopped (is_held_up node.block) (stage_at exits k) (law.exits.none_kept k near)
-        (nothing.outs k near)
+        ∙ gives_nothing exits k node.block.stopped (is_held_up node.block) (stage_at exits k) (nothing.outs k near)
 
-    offer_out : (j : ℕ) → exits.offer ≡ Some j → has_offer_out run ends b ≡ true
-    offer_out j e =
+    offer_out : (j : ℕ) → exits.offer ≡ Some j → is_offer_out (stage_at exits j) ≡ true → has_offer_out run ends b ≡ true
+    offer_out j e offered =
         let near = law.exits.law.offer_there j e in
         let link = end_out_is run.layout run.meaning b node.block law.shape j near in
         let l = (end_at exits j).rule.id in
         let out : is_out (source_stage_of (stage_at exits j)) ≡ true =
-        out_is_seen exits j node.block.stopped (is_held_up node.block) (stage_at exits j) (law.exits.law.offer_out j e)
-        (nothing.outs j near) in
+        out_is_seen exits j node.block.stopped (is_held_up node.block) (stage_at exits j) offered (nothing.outs j near) in
         let seen : is_out (ends l).source.stage ≡ true =
         ap is_out (source_is l link.there link.begins)
         ∙ ap (λ (k : ℕ). is_out (source_stage_of (stage_at exits k))) link.place ∙ out in
@@ -144,11 +150,10 @@ module _ {W : Type 0} (run : Run W) (ends : ℕ → Ends) (b : ℕ) (node : Node
     answers_shared l small from wished =
         let k = place l in
         let near = there l small from in
-        let offer = some_is exits.offer
-        (answers_late exits k node.block.stopped (is_held_up node.block) (stage_at exits k) (none.outs k near)
-        (nothing.outs k near)
+        let offer = offers_at exits exits.offer refl
+        (answers_late exits k node.block.stopped (is_held_up node.block) (stage_at exits k) (nothing.outs k near)
         (ap is_wished_for (sym (source_is l small from)) ∙ wished)) in
-        offer_out offer.0 offer.1
+        offer_out offer.place offer.offer offer.out
 
   gives : (sharing : Bool) → is_one_taker node.block.kind ≡ sharing → (l : ℕ) → l < length run.layout.links
       → (link_of run l).source ≡ Block b → is_to_hand_over (ends l).source.stage ≡ false

@@ -13,11 +13,12 @@ use Rattle.flow_link.specs.Kinds.{unit_of, makes_rows, makes_tuples, makes_group
 use Rattle.flow_link.proofs.KindsTell.{kind_tells, row_is, tuple_is, group_is}
 use Rattle.flow_lists.proofs.ListTests.{never_both}
 use Rattle.flow_intake.specs.Port.{PortState, fresh_port, stage_at as port_stage, coming}
-use Rattle.flow_outlet.specs.End.{is_over, is_out, is_waiting, is_cut, is_closed, speaks_of, rejects}
+use Rattle.flow_outlet.specs.End.{is_over, is_spoken_for, is_waiting, is_cut, is_closed, speaks_of, rejects}
 use Rattle.flow_outlet.specs.Law.{admits_head as admits}
 use Rattle.flow_outlet.specs.Order.{StopsAt}
-use Rattle.flow_outlet.specs.Outlet.{OutletState, first_of, is_empty, head_of, end_at, stage_at, may_offer, end_of, is_at, is_at_rest, only_waits, move_at}
+use Rattle.flow_outlet.specs.Outlet.{OutletState, first_of, is_empty, head_of, end_at, stage_at, may_offer, end_of, is_at, is_renewing, is_at_rest, only_waits, move_at}
 use Rattle.flow_outlet.specs.declared.ends.OutEnd.{OutEnd}
+use Rattle.flow_outlet.proofs.HeadRenewed.{renewing_waits}
 use Rattle.flow_outlet.proofs.OffersInOrder.{offers_in_order}
 use Rattle.flow_outlet.proofs.StagesTell.{free_is, at_itself}
 use Rattle.flow_outlet.proofs.TestsTell.{three_all}
@@ -29,7 +30,7 @@ use Rattle.flow_spread.specs.Spread.{is_at_rest as is_spread_at_rest, only_waits
 use Rattle.flow_block.specs.Copies.{copies_left}
 use Rattle.flow_block.specs.Peeks.{is_out_at_rest, is_copied_out, fault_at_ports, holds_nothing, has_group, has_next, is_worked_off, may_work, may_make, nothing_comes, is_pending, fault_cause, could_stop, next_fault, is_held_up, may_finish, is_complete, is_copy_held_up, would_copy, has_all_given, has_group_of_ports, has_unit, is_off_by_unit}
 use Rattle.flow_block_law.proofs.CopierOf.{CopiesQuiet}
-use Rattle.flow_block_law.proofs.EndsAtRest.{not_out, must_wait, away_waits, none_away, waiting_stays, free_stays, not_cut, not_coming}
+use Rattle.flow_block_law.proofs.EndsAtRest.{StaysPut, not_spoken_for, must_wait, away_waits, none_away, waiting_stays, free_stays, not_cut, not_coming}
 use Rattle.flow_block_law.proofs.EndsTell.{none_come}
 use Rattle.flow_block_law.proofs.FaultsSeen.{first_none}
 use Rattle.flow_block_law.proofs.GoingOn.{away_goes_on, waiting_away}
@@ -80,8 +81,8 @@ module _ {W : Type 0} (layout : Layout W) (meaning : ℕ → Value → Result (L
   none_out : exits.offer ≡ None
   none_out = offer_none exits.offer (λ j e.
       let near = law.exits.law.offer_there j e in
-      never_both (is_out (stage_at exits j)) (law.exits.law.offer_out j e)
-      (not_out (stage_at exits j) (rest.outs j near)))
+      never_both (is_spoken_for (stage_at exits j)) (law.exits.law.offer_out j e)
+      (not_spoken_for (stage_at exits j) (rest.outs j near)))
 
   pub no_coming : (p : ℕ) → p < length block.ports → coming (port_at p block) ≡ 0
   no_coming p small =
@@ -97,9 +98,15 @@ module _ {W : Type 0} (layout : Layout W) (meaning : ℕ → Value → Result (L
   could going = and_from (is_none block.stopped) (nothing_comes block.ports) (ap is_none going) none_coming
 
   waiting_tells : (k : ℕ) → k < length exits.ends → is_waiting (stage_at exits k) ≡ true
-      → (is_held_up block ≡ false) × (speaks_of exits.next (stage_at exits k) ≡ true)
+      → StaysPut (is_held_up block) exits.renewing (speaks_of exits.next (stage_at exits k))
   waiting_tells k small e =
       waiting_stays exits k block.stopped (is_held_up block) (stage_at exits k) e (nothing.outs k small)
+
+  -- where the head is to be offered anew, it has been taken back everywhere
+  none_back : is_renewing exits ≡ false
+  none_back = false_from_ne_true (is_renewing exits) (λ e.
+      let at = renewing_waits exits e in
+      never_both exits.renewing at.renewing (waiting_tells at.place at.there at.waits).not_renewed)
 
   -- it does not fault: nothing but offers that wait could hold it up, and these it would withdraw
   no_cause_where : (cause : Option ℕ) → block.stopped ≡ None → fault_cause block ≡ cause → fault_cause block ≡ None
@@ -111,7 +118,7 @@ module _ {W : Type 0} (layout : Layout W) (meaning : ℕ → Value → Result (L
       let at_rest : is_at_rest exits ≡ true =
       none_away exits.ends rest.outs (λ k small.
       false_from_ne_true (is_waiting (stage_at exits k))
-      (λ waits. never_both (is_held_up block) held_up (waiting_tells k small waits).0)) in
+      (λ waits. never_both (is_held_up block) held_up (waiting_tells k small waits).not_held_up)) in
       let copy_held_up : is_copy_held_up block ≡ true =
       or_right (would_copy block) _
       (and_from (could_stop block && spread_only_waits block.copies) (is_some (fault_cause block) || has_all_given block)
@@ -213,7 +220,7 @@ module _ {W : Type 0} (layout : Layout W) (meaning : ℕ → Value → Result (L
   waiting_left : (k : ℕ) → k < length exits.ends → is_waiting (stage_at exits k) ≡ true → is_empty exits.left ≡ false
   waiting_left k small e =
       left_where (end_at exits k).rule.when exits.left
-      (OnTrue_at (waiting_tells k small e).1 (law.exits.law.each k small).admitted)
+      (OnTrue_at (waiting_tells k small e).is_head (law.exits.law.each k small).admitted)
 
   pub free_at : (k : ℕ) → k < length exits.ends → stage_at exits k ≡ source.Free
       → (end_of (end_at exits k) block.stopped ≡ None) × (is_at (may_offer exits) k ≡ false)
@@ -231,14 +238,14 @@ module _ {W : Type 0} (layout : Layout W) (meaning : ℕ → Value → Result (L
   -- the head goes past each free end
   none_stops : (k : ℕ) → k < length exits.ends → is_empty exits.left ≡ false → StopsAt exits k → ⊥
   none_stops k small left stops =
-      let held = offers_in_order.none exits no_offer left none_out k small stops in
+      let held = offers_in_order.none exits no_offer left none_out none_back k small stops in
       let j = held.place in
       let near : j < length exits.ends = omega (arith, held.before) in
       let open_there =
       first_two_of_four (is_closed (end_at exits j)) (speaks_of exits.next (stage_at exits j)) _ _ held.stops in
       let waits = must_wait (stage_at exits j) (rest.outs j near) held.busy
       (or_parts (is_over (stage_at exits j)) (is_cut (end_at exits j)) open_there.0).0 in
-      never_both (speaks_of exits.next (stage_at exits j)) (waiting_tells j near waits).1 open_there.1
+      never_both (speaks_of exits.next (stage_at exits j)) (waiting_tells j near waits).is_head open_there.1
 
   pub not_admitted : (k : ℕ) → k < length exits.ends → stage_at exits k ≡ source.Free → block.stopped ≡ None
       → admits (end_at exits k).rule.when (head_of exits) ≡ true → ⊥

@@ -152,6 +152,7 @@ module _ {W : Type 0} (layout : Layout W) (meaning : ℕ → Value → Result (L
         kept_at_all (λ (q : PortState). q.waiting) port_closes block.ports 0 (λ q. refl) ∙ law.none_held once
     call_keeps NodeCall.begin may = law.none_held once
     call_keeps (NodeCall.offer k) may = law.none_held once
+    call_keeps (NodeCall.hold k) may = law.none_held once
     call_keeps (NodeCall.deny k) may = law.none_held once
     call_keeps (NodeCall.withdraw k) may = law.none_held once
     call_keeps (NodeCall.end_link k how) may = law.none_held once

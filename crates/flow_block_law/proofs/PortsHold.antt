@@ -302,6 +302,7 @@ module _ {W : Type 0} (layout : Layout W) (meaning : ℕ → Value → Result (L
       (λ at_once. copied_keeps (first_of (held_by held.block)) held.block held.journal refl kept)
   call_keeps node (NodeCall.offer k) law may = law.ports
   call_keeps node (NodeCall.give k) law may = give_keeps k (head_of node.block.exits) node refl law
+  call_keeps node (NodeCall.hold k) law may = law.ports
   call_keeps node (NodeCall.deny k) law may = law.ports
   call_keeps node (NodeCall.withdraw k) law may = law.ports
   call_keeps node (NodeCall.end_link k how) law may = law.ports

@@ -20,7 +20,7 @@ use Rattle.flow_intake.specs.Port.{PortState, fresh_port, stage_at as port_stage
 use Rattle.flow_intake.specs.PortLaw.{has_ended as has_port_ended}
 use Rattle.flow_intake.specs.Calls.{first_of, wants, turns_down, postpones, refuses, consumes, opens, closes, looks as port_looks, port_closes}
 use Rattle.flow_intake.proofs.CountsOfEnds.{hand_comes}
-use Rattle.flow_outlet.specs.Outlet.{OutletState, first_of as first_left, rest_of, is_empty, head_of, gives, prepares, offers, denies, withdraws, ends_link, looks as exit_looks}
+use Rattle.flow_outlet.specs.Outlet.{OutletState, first_of as first_left, rest_of, is_empty, head_of, gives, prepares, offers, holds, denies, withdraws, ends_link, looks as exit_looks}
 use Rattle.flow_link.specs.Plan.{is_one_taker, is_broadcast, is_write_once}
 use Rattle.flow_block.specs.Copies.{copy_place}
 use Rattle.flow_block.proofs.CopiesTaken.{taken_in_keeps}
@@ -252,6 +252,7 @@ module _ {W : Type 0} (layout : Layout W) (meaning : ℕ → Value → Result (L
       stops_so node law.rows (outcome.Faulted number) (Fault number) refl refl
   after_each node NodeCall.finish law may = stops_so node law.rows outcome.Done Done refl refl
   after_each node (NodeCall.offer k) law may = exits_stay node law.rows (offers k (prepares node.block.exits)) refl
+  after_each node (NodeCall.hold k) law may = exits_stay node law.rows (holds k node.block.exits) refl
   after_each node (NodeCall.deny k) law may = exits_stay node law.rows (denies k node.block.exits) refl
   after_each node (NodeCall.withdraw k) law may = exits_stay node law.rows (withdraws k node.block.exits) refl
   after_each node (NodeCall.end_link k how) law may = exits_stay node law.rows (ends_link k how node.block.exits) refl

@@ -32,7 +32,7 @@ use Rattle.flow_block_law.specs.NodeLaw.{NodeLaw, MakesAs, RowsLaw, is_whole, re
 use Rattle.flow_block_law.specs.NodeSeen.{IsNodeOf, EachMayCarry}
 use Rattle.flow_block.specs.Planned.{out_place, block_makes}
 use Rattle.flow_block_law.proofs.CopiesIdle.{left_is_shared, view_is_shared}
-use Rattle.flow_block_law.proofs.EndsTell.{ended_complete, ended_fault, ended_plain, used_up_told, ended_stage, refused_told, spoken_is_out}
+use Rattle.flow_block_law.proofs.EndsTell.{ended_complete, ended_fault, ended_plain, used_up_told, ended_stage, refused_told, spoken_for_told}
 use Rattle.flow_block_law.proofs.JournalTells.{stopped_tells, done_marked, fault_marked, passed_by}
 use Rattle.flow_block_law.proofs.KindsBuilt.{by_kind}
 use Rattle.flow_block_law.proofs.NodesSeen.{held_is, is_joining, join_seen, is_grouping, as_ports}
@@ -242,15 +242,14 @@ module _ {W : Type 0} (run : Run W) (ends : ℕ → Ends) (b : ℕ) (node : Node
         (of_marks (λ marks. gives_in_order (as_seen run ends) b [] marks ≡ true)
         (order_so [] node.journal law.marks.own (law.gave shares).in_order))
 
-    -- the end that speaks for the head is that of the offer
+    -- the end that speaks for the head is the one that the exits name
     is_offered : (l : ℕ) → l < length run.layout.links → (link_of run l).source ≡ Block b
         → is_spoken_for (ends l).source.stage ≡ true → node.block.exits.offer ≡ Some (place_of l)
     is_offered l small begins spoken =
         let has = from_has l small begins in
         let mine = law.exits.law.each (place_of l) has.there in
         OnTrue_at
-        (spoken_is_out (end_from l).stage mine.offers (law.exits.none_kept (place_of l) has.there)
-        (ap is_spoken_for (sym (seen_out l small begins)) ∙ spoken))
+        (spoken_for_told (end_from l).stage mine.offers (ap is_spoken_for (sym (seen_out l small begins)) ∙ spoken))
         mine.out
 
     pub one_so : SpeaksForOne run ends b

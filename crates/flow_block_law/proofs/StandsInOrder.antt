@@ -1,6 +1,6 @@
 -- Where its exits are in order, a block stands at each link out of it as its end does.
 use Rattle.std.proofs.Common.{◌≡◌, ℕ, ◌<◌, ◌==◌, ltb, Bool, true, false, not, ◌&&◌, ◌||◌, cond, List, [], ◌∷◌, length, Option, Some, None, is_some, refl, ap, sym, ◌∙◌, subst, arith, eq-eqb}
-use Rattle.std.proofs.lemmas.Bool.{OnTrue_at, lt-ltb, ltb-true}
+use Rattle.std.proofs.lemmas.Bool.{OnTrue_at, and_parts, false_from_ne_true, not-true, lt-ltb, ltb-true}
 use Rattle.flow_value.specs.declared.value.Value.{Value}
 use Rattle.flow_value.specs.declared.when.When.{When}
 use Rattle.flow_link.specs.LinkOk.{IsWithin, HasRoom}
@@ -8,12 +8,13 @@ use Rattle.flow_link.specs.SourceCalls.{MayConsume, is_under_way}
 use Rattle.flow_link.specs.declared.stage.SourceStage.{SourceStage}
 use Rattle.flow_link.specs.declared.stage.SourceStage.TheVariants as source
 use Rattle.flow_link.specs.declared.trace.Outcome.{Outcome}
-use Rattle.flow_outlet.specs.End.{end_in, is_out, is_cut, is_limit, is_over, is_passed, is_free, speaks_of, rejects, place_in}
-use Rattle.flow_outlet.specs.Outlet.{OutletState, end_at, stage_at, is_at, is_empty, first_of, head_of, may_offer}
-use Rattle.flow_outlet.specs.ByLink.{has_room, is_head, is_taken, tests_take, tests_consume}
+use Rattle.flow_outlet.specs.End.{end_in, is_out, is_spoken_for, is_cut, is_limit, is_over, is_passed, is_free, speaks_of, rejects, place_in}
+use Rattle.flow_outlet.specs.Outlet.{OutletState, end_at, stage_at, is_at, is_empty, first_of, head_of, is_held_back, may_offer, out_at, has_offer_out}
+use Rattle.flow_outlet.specs.ByLink.{has_room, is_head, is_kept_elsewhere, is_there, is_taken, tests_take, tests_consume}
 use Rattle.flow_outlet.specs.Law.{OutletLaw, admits_head}
 use Rattle.flow_outlet.proofs.OffersInOrder.{stops_there}
 use Rattle.flow_outlet.proofs.StagesTell.{speaks_id}
+use Rattle.flow_outlet.proofs.TestsTell.{at_is}
 use Rattle.flow_block_law.specs.NodeLaw.{is_kept}
 use Rattle.flow_block_law.specs.Stands.{without_gone, OwnEnds, BlocksStandInOrder}
 use Rattle.flow_block.specs.Traits.{is_ready, source_shown, place_shown, source_over, busy_by, carries, offers_over, may_take, is_busy}
@@ -49,6 +50,19 @@ taken_where true true take is all = ap (λ (t : Bool). t && true) (all refl)
 taken_where true false take is all = refl
 taken_where false head take is all = absurd (cc)
 
+-- the head is spoken for where its offer is out
+out_is_spoken : (stage : SourceStage) → is_out stage ≡ true → is_spoken_for stage ≡ true
+out_is_spoken (source.Out _) e = refl
+out_is_spoken (source.Accepted _) e = refl
+out_is_spoken stage e = absurd (cc)
+
+-- what is spoken for at no other end, and kept for no other, is spoken for nowhere
+spoken_nowhere : (some at out : Bool) → (some && not at && not out) ≡ false → at ≡ false → out ≡ false → some ≡ false
+spoken_nowhere false at out kept here offered = refl
+spoken_nowhere true false false kept here offered = absurd (cc)
+spoken_nowhere true true out kept here offered = absurd (cc)
+spoken_nowhere true at true kept here offered = absurd (cc)
+
 -- a message of which an end speaks is there, and may cross
 record IsThere (k : ℕ) (o : OutletState) : Type 0 where
   pub some : is_empty o.left ≡ false
@@ -70,8 +84,9 @@ module _ {pending : Bool} {stopped : Option Outcome} (o : OutletState) (law : Ou
   ready : is_out (stage_at o k) ≡ true → is_ready k (end_at o k) o ≡ true
   ready out =
       let end = law.each k l in
-      let offer : o.offer ≡ Some k = OnTrue_at out end.out in
-      let there = speaking (OnTrue_at out end.out_head) in
+      let spoken : is_spoken_for (stage_at o k) ≡ true = out_is_spoken (stage_at o k) out in
+      let offer : o.offer ≡ Some k = OnTrue_at spoken end.out in
+      let there = speaking (OnTrue_at spoken end.out_head) in
       all_four (is_at o.offer k) (not (is_empty o.left)) (is_some o.parcel) (has_room (end_at o k).rule.max (end_at o k).given)
       (ap (λ (f : Option ℕ). is_at f k) offer ∙ eq-eqb k k refl) (ap not there.some) there.parcel there.room
 
@@ -79,11 +94,13 @@ module _ {pending : Bool} {stopped : Option Outcome} (o : OutletState) (law : Ou
       → source_shown (is_ready k (end_at o k) o) o.next stage ≡ without_gone o.next stage
   shown_at (source.Out i) is kept =
       let out : is_out (stage_at o k) ≡ true = ap is_out is in
-      let head : (i == o.next) ≡ true = ap (speaks_of o.next) (sym is) ∙ OnTrue_at out (law.each k l).out_head in
+      let spoken : is_spoken_for (stage_at o k) ≡ true = ap is_spoken_for is in
+      let head : (i == o.next) ≡ true = ap (speaks_of o.next) (sym is) ∙ OnTrue_at spoken (law.each k l).out_head in
       ap (λ (both : Bool). cond both (source.Out i) source.Crossing) (ap (λ (r : Bool). r && (i == o.next)) (ready out) ∙ head)
   shown_at (source.Accepted i) is kept =
       let out : is_out (stage_at o k) ≡ true = ap is_out is in
-      let head : (i == o.next) ≡ true = ap (speaks_of o.next) (sym is) ∙ OnTrue_at out (law.each k l).out_head in
+      let spoken : is_spoken_for (stage_at o k) ≡ true = ap is_spoken_for is in
+      let head : (i == o.next) ≡ true = ap (speaks_of o.next) (sym is) ∙ OnTrue_at spoken (law.each k l).out_head in
       ap (λ (both : Bool). cond both (source.Accepted i) source.Crossing) (ap (λ (r : Bool). r && (i == o.next)) (ready out) ∙ head)
   shown_at (source.Reserved _) is kept = absurd (cc)
   shown_at (source.Waiting _) is kept = refl
@@ -110,21 +127,30 @@ out_under_way next (source.Accepted _) e = refl
 out_under_way next stage e = absurd (cc)
 
 module _ {pending : Bool} {stopped : Option Outcome} (o : OutletState) (law : OutletLaw pending stopped o) (own : OwnEnds o) where
-  busy_at : (k : ℕ) → o.offer ≡ Some k → is_busy o ≡ true
-  busy_at k offer =
-      let out = law.offer_out k offer in
-      ap (busy_by o) offer
-      ∙ ap is_under_way (stages_at o law own k (law.offer_there k offer) (out_kept (stage_at o k) out))
+  busy_by_offer : (offer : Option ℕ) → o.offer ≡ offer → out_at o offer ≡ true → is_busy o ≡ true
+  busy_by_offer None is out = absurd (cc)
+  busy_by_offer (Some k) is out =
+      ap (busy_by o) is
+      ∙ ap is_under_way (stages_at o law own k (law.offer_there k is) (out_kept (stage_at o k) out))
       ∙ out_under_way o.next (stage_at o k) out
 
-  none_out : is_busy o ≡ false → (offer : Option ℕ) → o.offer ≡ offer → is_some o.offer ≡ false
-  none_out rests None is = ap is_some is
-  none_out rests (Some k) is = let busy = busy_at k is in absurd (cc)
+  busy_at : has_offer_out o ≡ true → is_busy o ≡ true
+  busy_at out = busy_by_offer o.offer refl out
+
+  -- a message that waits over a link and is there for it is spoken for nowhere, unless an offer is out
+  none_spoken : is_busy o ≡ false → (k i : ℕ) → stage_at o k ≡ source.Waiting i → is_kept_elsewhere k o ≡ false
+      → is_some o.offer ≡ false
+  none_spoken rests k i waits kept =
+      spoken_nowhere (is_some o.offer) (is_at o.offer k) (has_offer_out o) kept
+      (false_from_ne_true (is_at o.offer k) (λ at.
+      let spoken : is_spoken_for (stage_at o k) ≡ true = law.offer_out k (at_is o.offer k at) in
+      let wrong : false ≡ true = sym (ap is_spoken_for waits) ∙ spoken in cc))
+      (false_from_ne_true (has_offer_out o) (λ out. let wrong : false ≡ true = sym rests ∙ busy_at out in cc))
 
   offers_at_own : (k : ℕ) → may_offer o ≡ Some k → offers_over o (may_offer o) ≡ Some k
   offers_at_own k may =
       let n = place_in o.next (head_of o) o.ends in
-      let told = may_where (is_empty o.left) (is_some o.offer) (ltb n (length o.ends)) (is_free (stage_at o n)) n k may in
+      let told = may_where (is_empty o.left) (is_held_back o) (ltb n (length o.ends)) (is_free (stage_at o n)) n k may in
       let near : n < length o.ends = ltb-true n (length o.ends) told.known in
       let l : k < length o.ends = subst (λ (m : ℕ). m < length o.ends) told.place_is near in
       let stops : is_passed o.next (head_of o) (end_at o k) ≡ false =
@@ -150,40 +176,41 @@ module _ {pending : Bool} {stopped : Option Outcome} (o : OutletState) (law : Ou
         taken there.parcel there.room
 
     take_where : (stage : SourceStage) → stage_at o k ≡ stage → is_kept stage ≡ false → MayConsume header (is_busy o) (without_gone o.next stage)
-        → tests_take k o ≡ true
-    take_where (source.Accepted i) is kept may =
-        let speaks : speaks_of o.next (stage_at o k) ≡ true = OnTrue_at (ap is_out is) (law.each k l).out_head in
+        → is_there k header o ≡ true → tests_take k o ≡ true
+    take_where (source.Accepted i) is kept may there =
+        let speaks : speaks_of o.next (stage_at o k) ≡ true = OnTrue_at (ap is_spoken_for is) (law.each k l).out_head in
         let head : (i == o.next) ≡ true = ap (speaks_of o.next) (sym is) ∙ speaks in
         take_at (ap (is_taken o.next (is_some o.offer)) is ∙ head) speaks
-    take_where (source.Waiting i) is kept may =
+    take_where (source.Waiting i) is kept may there =
         let waits = waits_where (i == o.next) (is_busy o) header i may in
-        let out : is_some o.offer ≡ false = none_out waits.1 o.offer refl in
+        let own_message = not-true (is_kept_elsewhere k o) (and_parts (is_head header o) (not (is_kept_elsewhere k o)) there).1 in
+        let out : is_some o.offer ≡ false = none_spoken waits.1 k i is own_message in
         take_at
         (ap (is_taken o.next (is_some o.offer)) is ∙ ap (λ (h : Bool). h && not (is_some o.offer)) waits.0 ∙ ap not out)
         (ap (speaks_of o.next) is ∙ waits.0)
-    take_where (source.Reserved _) is kept may = absurd (cc)
-    take_where source.Free is kept may = absurd may
-    take_where (source.Posted _) is kept may = absurd may
-    take_where (source.Out _) is kept may = absurd may
-    take_where (source.Wished _) is kept may = absurd may
-    take_where (source.AskedBy _) is kept may = absurd may
-    take_where (source.Claimed _) is kept may = absurd may
-    take_where source.Crossing is kept may = absurd may
-    take_where source.Refused is kept may = absurd may
-    take_where (source.Ended _) is kept may = absurd may
+    take_where (source.Reserved _) is kept may there = absurd (cc)
+    take_where source.Free is kept may there = absurd may
+    take_where (source.Posted _) is kept may there = absurd may
+    take_where (source.Out _) is kept may there = absurd may
+    take_where (source.Wished _) is kept may there = absurd may
+    take_where (source.AskedBy _) is kept may there = absurd may
+    take_where (source.Claimed _) is kept may there = absurd may
+    take_where source.Crossing is kept may there = absurd may
+    take_where source.Refused is kept may there = absurd may
+    take_where (source.Ended _) is kept may there = absurd may
 
     gives_at : is_kept (stage_at o k) ≡ false → MayConsume header (is_busy o) (source_over o (end_at o k).rule.id)
-        → may_take (end_at o k).rule.id header o ≡ is_head header o
+        → may_take (end_at o k).rule.id header o ≡ is_there k header o
     gives_at kept may =
         let mine = subst (λ (s : SourceStage). MayConsume header (is_busy o) s) (stages_at o law own k l kept) may in
-        let take = take_where (stage_at o k) refl kept mine in
-        ap (λ (n : ℕ). tests_consume n header o && is_head header o) (own k l)
-        ∙ taken_where (ltb k (length o.ends)) (is_head header o) (tests_take k o) (lt-ltb k (length o.ends) l) (λ _. take)
+        ap (λ (n : ℕ). tests_consume n header o && is_there n header o) (own k l)
+        ∙ taken_where (ltb k (length o.ends)) (is_there k header o) (tests_take k o) (lt-ltb k (length o.ends) l)
+        (λ there. take_where (stage_at o k) refl kept mine there)
 
 pub stands_in_order : BlocksStandInOrder
 stands_in_order pending stopped o = record {
   stages = λ law own k l kept. stages_at o law own k l kept;
   gives = λ law own k l kept header may. gives_at o law own k l header kept may;
-  busy = λ law own k offer. busy_at o law own k offer;
+  busy = λ law own out. busy_at o law own out;
   offers = λ law own k may. offers_at_own o law own k may;
 }

@@ -16,7 +16,7 @@ use Rattle.flow_link.proofs.KindsTell.{kind_tells}
 use Rattle.flow_link.proofs.OneMoreMark.{gave_no_more, gave_by_took, gave_by_gave}
 use Rattle.flow_intake.specs.Port.{PortState, hand_in}
 use Rattle.flow_intake.specs.Calls.{put_hand, takes_next, wants, turns_down, postpones, refuses, consumes, opens, closes, looks as port_looks, port_closes}
-use Rattle.flow_outlet.specs.Outlet.{OutletState, head_of, gives, prepares, offers, denies, withdraws, ends_link, looks as exit_looks}
+use Rattle.flow_outlet.specs.Outlet.{OutletState, head_of, gives, prepares, offers, holds, denies, withdraws, ends_link, looks as exit_looks}
 use Rattle.flow_group.specs.Tuple.{held_at, has_tuple, tuple_of}
 use Rattle.flow_group.specs.Tuples.{only_at}
 use Rattle.flow_group.proofs.JournalsTell.{journals_tell}
@@ -149,6 +149,7 @@ module _ {W : Type 0} (layout : Layout W) (meaning : ℕ → Value → Result (L
       (kind_tells is_one_taker false is_join false refl held.block.kind (kind_tells is_write_once true is_one_taker false refl held.block.kind at_once.once)))
   after_each node (NodeCall.offer k) whole join law may = exits_stay node law (offers k (prepares node.block.exits)) refl
   after_each node (NodeCall.give k) whole join law may = given_out node law k (head_of node.block.exits) refl
+  after_each node (NodeCall.hold k) whole join law may = exits_stay node law (holds k node.block.exits) refl
   after_each node (NodeCall.deny k) whole join law may = exits_stay node law (denies k node.block.exits) refl
   after_each node (NodeCall.withdraw k) whole join law may = exits_stay node law (withdraws k node.block.exits) refl
   after_each node (NodeCall.end_link k how) whole join law may = exits_stay node law (ends_link k how node.block.exits) refl

@@ -23,7 +23,7 @@ use Rattle.flow_intake.specs.Calls.{first_of, refused_by, wants, turns_down, pos
 use Rattle.flow_outlet.specs.declared.ends.OutEnd.{OutEnd}
 use Rattle.flow_outlet.specs.End.{end_in as end_out_in, no_end, id_of}
 use Rattle.flow_outlet.specs.Law.{admits_head}
-use Rattle.flow_outlet.specs.Outlet.{OutletState, head_of, end_at, stage_at, gives, given_end, offers, prepares, denies, withdraws, ends_link, looks as exit_looks}
+use Rattle.flow_outlet.specs.Outlet.{OutletState, head_of, end_at, stage_at, gives, given_end, offers, prepares, holds, denies, withdraws, ends_link, looks as exit_looks}
 use Rattle.flow_outlet.proofs.LawKept.{gives_in_order}
 use Rattle.flow_outlet.proofs.OffersInOrder.{offers_in_order}
 use Rattle.flow_link.specs.Plan.{is_broadcast, is_one_taker, is_write_once}
@@ -338,6 +338,14 @@ calls_move_views W layout meaning b node (NodeCall.give k) law may =
     let head = some_is (head_of o) (head_there (end_at o k).rule.when (head_of o) admitted) in
     subst (λ (first : Option Value). ViewsMove (NodeCall.give k) node (gives_from k first node)) (sym head.1)
     (given layout meaning b node law k head.0 may.place head.1)
+calls_move_views W layout meaning b node (NodeCall.hold k) law may =
+    let o = node.block.exits in
+    let end : OutEnd = record (end_at o k) { stage = source.Reserved o.next } in
+    let one = one_out node k (holds k o) end may.place refl in
+    record {
+      moved = ap (view_of_out node.journal) one.here;
+      others = others_out (NodeCall.hold k) node k _ end (λ j apart. apart) one;
+    }
 calls_move_views W layout meaning b node (NodeCall.deny k) law may =
     let end : OutEnd = record (end_at node.block.exits k) { stage = source.Free } in
     let one = one_out node k (denies k node.block.exits) end may.place refl in
@@ -347,7 +355,8 @@ calls_move_views W layout meaning b node (NodeCall.deny k) law may =
     }
 calls_move_views W layout meaning b node (NodeCall.withdraw k) law may =
     let o = node.block.exits in
-    let end : OutEnd = record (end_at o k) { declined = unwrap_or (id_of (stage_at o k)) 0; stage = source.Free } in
+    let declined = cond o.renewing (end_at o k).declined (unwrap_or (id_of (stage_at o k)) 0) in
+    let end : OutEnd = record (end_at o k) { declined = declined; stage = source.Free } in
     let one = one_out node k (withdraws k o) end may.waits.place refl in
     record {
       moved = ap (view_of_out node.journal) one.here;

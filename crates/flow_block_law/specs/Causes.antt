@@ -38,6 +38,12 @@ module _ {W : Type 0} (layout : Layout W) (meaning : ℕ → Value → Result (L
     pub before : place ≤ k
     pub goes_on : (next_out place node ≡ Some (move.Offer node.block.exits.next)) ⊎ (is_free (stage_at node.block.exits place) ≡ false)
 
+  -- an offer of the head is taken back first, so that the head is offered anew
+  pub record TakesBack : Type 0 where
+    pub place : ℕ
+    pub there : place < length node.block.exits.ends
+    pub goes_on : next_out place node ≡ Some move.Withdraw
+
   pub record HasCauses : Type 0 where
     pub refuses : (p k : ℕ) → p < length node.block.ports → k < length (port_at p node.block).ends
         → next_in p k node ≡ Some move.Refuse → MayRefuse p
@@ -52,7 +58,7 @@ module _ {W : Type 0} (layout : Layout W) (meaning : ℕ → Value → Result (L
     pub faults : (number : ℕ) → next_fault node.block ≡ Some number → FaultsInTime number
     -- a block does not stop offering while a link is free that the head does not go past
     pub offers : (k : ℕ) → k < length node.block.exits.ends → node.block.stopped ≡ None → is_empty node.block.exits.left ≡ false
-        → node.block.exits.offer ≡ None → StopsAt node.block.exits k → OffersBefore k
+        → node.block.exits.offer ≡ None → StopsAt node.block.exits k → OffersBefore k ⊎ TakesBack
 
 abbrev pub NextMovesHaveCauses : Type 0 → Type 0
 NextMovesHaveCauses W =

@@ -45,6 +45,7 @@ module _ {W : Type 0} (layout : Layout W) (meaning : ℕ → Value → Result (L
   abbrev pub MayMoveOut : ℕ → Move → Type 0
   MayMoveOut k (move.Offer id) = (id ≡ node.block.exits.next) × May (NodeCall.offer k)
   MayMoveOut k move.Give = May (NodeCall.give k)
+  MayMoveOut k move.Hold = May (NodeCall.hold k)
   MayMoveOut k move.Deny = May (NodeCall.deny k)
   MayMoveOut k move.Withdraw = May (NodeCall.withdraw k)
   MayMoveOut k (move.End how) = May (NodeCall.end_link k how)

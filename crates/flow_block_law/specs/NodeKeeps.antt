@@ -17,7 +17,7 @@ use Rattle.flow_intake.specs.PortLaw.{has_ended}
 use Rattle.flow_intake.specs.Calls.{is_offered, is_posted, is_postponed, is_arrived, may_be_refused}
 use Rattle.flow_outlet.specs.End.{is_free, is_waiting, speaks_of}
 use Rattle.flow_outlet.specs.Law.{is_put_off}
-use Rattle.flow_outlet.specs.Outlet.{end_at, stage_at, may_offer, may_give, is_wish, end_of, lacks_ids}
+use Rattle.flow_outlet.specs.Outlet.{end_at, stage_at, may_offer, may_give, may_hold, is_wish, end_of, lacks_ids}
 use Rattle.flow_link.specs.Plan.{is_broadcast, is_write_once, is_one_taker}
 use Rattle.flow_spread.specs.Law.{MayPutOff as MayPutOffOver}
 use Rattle.flow_spread.specs.Spread.{may_offer as may_offer_copy, may_give as may_give_copy, is_asked_by}
@@ -58,10 +58,16 @@ pub record MayGive (k : ℕ) (node : NodeState) : Type 0 where
   pub place : k < length node.block.exits.ends
   pub wanted : may_give k node.block.exits ≡ true
 
--- what waits may be withdrawn; the head's own offer only where the block faults
+-- the head may be kept for the target that asks for it: it is spoken for nowhere
+pub record MayHold (k : ℕ) (node : NodeState) : Type 0 where
+  pub place : k < length node.block.exits.ends
+  pub asked : may_hold k node.block.exits ≡ true
+
+-- what waits may be withdrawn; the head's own offer only where the block faults, or the head is to be offered anew
 pub record MayWithdraw (k : ℕ) (node : NodeState) : Type 0 where
   pub waits : OutAt is_waiting k node
-  pub faults : speaks_of node.block.exits.next (stage_at node.block.exits k) ≡ true → is_pending node.block ≡ true
+  pub faults : node.block.exits.renewing ≡ false → speaks_of node.block.exits.next (stage_at node.block.exits k) ≡ true
+      → is_pending node.block ≡ true
 
 pub record MayEndLink (k : ℕ) (how : LinkEnd) (node : NodeState) : Type 0 where
   pub is_at_home : OutAt is_free k node
@@ -117,6 +123,7 @@ module _ {W : Type 0} (layout : Layout W) (meaning : ℕ → Value → Result (L
   MayCall (NodeCall.close p k) node = InAt is_hand p k node
   MayCall (NodeCall.offer k) node = MayOffer k node
   MayCall (NodeCall.give k) node = MayGive k node
+  MayCall (NodeCall.hold k) node = MayHold k node
   MayCall (NodeCall.deny k) node = OutAt is_wish k node
   MayCall (NodeCall.withdraw k) node = MayWithdraw k node
   MayCall (NodeCall.end_link k how) node = MayEndLink k how node

@@ -54,7 +54,7 @@ places_out block = weight_of block.exits.groups + copies_weight block.copies
 abbrev pub refuses_over : List OutEnd → ℕ → Bool
 refuses_over ends l = some (λ (end : OutEnd). end.rule.id == l && is_refused end.stage) ends
 
--- the message is kept for a target; no kind that is built keeps one
+-- the message is kept for a target
 abbrev pub is_kept : SourceStage → Bool
 is_kept (Reserved _) = true
 is_kept (Claimed _) = true
@@ -224,10 +224,9 @@ module _ {W : Type 0} (layout : Layout W) (meaning : ℕ → Value → Result (L
   PortsLaw block journal =
       (p : ℕ) → p < length block.ports → PortLaw (facts_in layout) (length (took_at p journal)) (port_at p block)
 
-  -- the exits are in order, and keep no message for a target
+  -- the exits are in order
   pub record ExitsLaw (block : BlockState) : Type 0 where
     pub law : OutletLaw (is_pending block) block.stopped block.exits
-    pub none_kept : (k : ℕ) → k < length block.exits.ends → is_kept (stage_at block.exits k) ≡ false
 
   -- a block that shares its messages out copies none, and one that copies gives each of its links what it put
   pub record CopiesLaw (block : BlockState) (journal : List Mark) : Type 0 where

@@ -52,22 +52,22 @@ pub record EndsRest (node : NodeState) : Type 0 where
   pub outs : (k : ℕ) → k < length node.block.exits.ends → rests_out (stage_at node.block.exits k) ≡ true
   pub copies : (k : ℕ) → k < length node.block.copies.ends → rests_out (copy_stage node.block.copies k) ≡ true
 
--- no end keeps a message for another, or asks for that: nothing here reserves
+-- the target asks to reserve the message
 abbrev pub is_asked : SourceStage → Bool
 is_asked (source.AskedBy _) = true
 is_asked _ = false
 
+-- a message is kept for the target, or it asks for that, or claims it
 abbrev pub is_reserving : TargetStage → Bool
 is_reserving (target.Asking _) = true
 is_reserving (target.Holding _) = true
 is_reserving (target.Claiming _) = true
 is_reserving _ = false
 
+-- no end into the node reserves
 pub record NoneReserve (node : NodeState) : Type 0 where
   pub ins : (p k : ℕ) → p < length node.block.ports → k < length (port_at p node.block).ends
       → is_reserving (port_stage k (port_at p node.block)) ≡ false
-  pub outs : (k : ℕ) → k < length node.block.exits.ends → is_asked (stage_at node.block.exits k) ≡ false
-  pub copies : (k : ℕ) → k < length node.block.copies.ends → is_asked (copy_stage node.block.copies k) ≡ false
 
 module _ (W : Type 0) where
   -- what is known of a node of a run

@@ -6,8 +6,8 @@ use Rattle.flow_link.specs.declared.stage.SourceStage.TheVariants as source
 use Rattle.flow_link.specs.declared.trace.Outcome.{Outcome}
 use Rattle.flow_intake.specs.Port.{PortState, stage_at as port_stage, link_in, is_coming, coming}
 use Rattle.flow_intake.specs.ByLink.{place_of as port_place, next_wish}
-use Rattle.flow_outlet.specs.Outlet.{OutletState, end_at, stage_at, may_offer}
-use Rattle.flow_outlet.specs.ByLink.{place_of, is_head}
+use Rattle.flow_outlet.specs.Outlet.{OutletState, end_at, stage_at, may_offer, has_offer_out}
+use Rattle.flow_outlet.specs.ByLink.{place_of, is_there as is_head_there}
 use Rattle.flow_outlet.specs.Law.{OutletLaw}
 use Rattle.flow_spread.specs.Spread.{SpreadState, link_at, stage_at as copy_stage, next_place}
 use Rattle.flow_spread.specs.ByLink.{place_of as copy_place}
@@ -40,12 +40,12 @@ module _ (pending : Bool) (stopped : Option Outcome) (o : OutletState) where
   pub record StandsInOrder : Type 0 where
     -- it stands at each link as its end does
     pub stages : OfEachEnd (λ k. source_over o (end_at o k).rule.id ≡ without_gone o.next (stage_at o k))
-    -- what a link may consume it has, unless the message is gone
+    -- what a link may consume it has, unless the message is gone, or kept for another
     pub gives : OfEachEnd (λ k.
         (header : ℕ) → MayConsume header (is_busy o) (source_over o (end_at o k).rule.id)
-        → may_take (end_at o k).rule.id header o ≡ is_head header o)
+        → may_take (end_at o k).rule.id header o ≡ is_head_there k header o)
     -- it is busy while an offer is out, and what may be offered it offers
-    pub busy : InOrder ((k : ℕ) → o.offer ≡ Some k → is_busy o ≡ true)
+    pub busy : InOrder (has_offer_out o ≡ true → is_busy o ≡ true)
     pub offers : InOrder ((k : ℕ) → may_offer o ≡ Some k → offers_over o (may_offer o) ≡ Some k)
 
 abbrev pub BlocksStandInOrder : Type 0

@@ -65,6 +65,7 @@ module _ (node new : NodeState) where
   MovesView (NodeCall.close p k) = ClosesAt p k
   MovesView (NodeCall.offer k) = out_view k new ≡ offering node.block.exits.next (out_view k node)
   MovesView (NodeCall.give k) = GivesAt k
+  MovesView (NodeCall.hold k) = out_view k new ≡ holding node.block.exits.next (out_view k node)
   MovesView (NodeCall.deny k) = out_view k new ≡ denying (out_view k node)
   MovesView (NodeCall.withdraw k) = out_view k new ≡ withdrawing (out_view k node)
   MovesView (NodeCall.end_link k how) = out_view k new ≡ ending how (out_view k node)
@@ -92,6 +93,7 @@ IsAboutIn p k _ = ⊥
 abbrev pub IsAboutOut : ℕ → NodeCall → Type 0
 IsAboutOut k (NodeCall.offer j) = k ≡ j
 IsAboutOut k (NodeCall.give j) = k ≡ j
+IsAboutOut k (NodeCall.hold j) = k ≡ j
 IsAboutOut k (NodeCall.deny j) = k ≡ j
 IsAboutOut k (NodeCall.withdraw j) = k ≡ j
 IsAboutOut k (NodeCall.end_link j how) = k ≡ j

@@ -30,7 +30,7 @@ use Rattle.flow_link.proofs.SourceMoves.{source_moves_keep}
 use Rattle.flow_outlet.specs.declared.ends.LinkRule.{LinkRule}
 use Rattle.flow_outlet.specs.declared.ends.OutEnd.{OutEnd}
 use Rattle.flow_outlet.specs.End.{is_free, is_waiting, is_limit, is_cut, is_over, speaks_of, rejects}
-use Rattle.flow_outlet.specs.Outlet.{OutletState, head_of, end_at, is_wish, is_wanted, end_by}
+use Rattle.flow_outlet.specs.Outlet.{OutletState, head_of, end_at, is_asked, is_wish, is_wanted, end_by}
 use Rattle.flow_outlet.proofs.OffersInOrder.{offers_in_order}
 use Rattle.flow_spread.specs.End.{is_open}
 use Rattle.flow_spread.specs.Law.{CopyEndLaw, speaks}
@@ -123,10 +123,20 @@ module _ (facts : LinkFacts) (phase new : Phase) (slot : Option Value) (target :
         gives_on next value (standing given last (source.Wished i)) ok (inr (inl (ap SourceStage.wished same)))
         allowed
     gives_head next out value (source.Claimed i) e ok allowed =
-        let same = eqb-true i next (and_parts (i == next) (not out) e).0 in
+        let same = eqb-true i next e in
         gives_on next value (standing given last (source.Claimed i)) ok (inr (inr (ap SourceStage.claimed same)))
         allowed
     gives_head next out value _ e ok allowed = absurd (cc)
+
+    holds_head : (next : ℕ) (stage : SourceKept) → is_asked next stage ≡ true
+        → LinkOk facts phase slot (standing given last stage) target → phase_after phase move.Hold ≡ Some new
+        → SourceMoved facts new slot (holding next (standing given last stage)) target
+    holds_head next (source.AskedBy i) e ok allowed =
+        let view = standing given last (source.AskedBy i) in
+        subst (λ (id : ℕ). SourceMoved facts new slot (holding id view) target) (eqb-true i next e)
+        (leads_on move.Hold (Held i) slot (holding i view)
+        (keeps.hold facts phase slot view target ok i refl) allowed (own_moves.hold i view))
+    holds_head next _ e ok allowed = absurd (cc)
 
     denies_wish : (stage : SourceKept) → is_wish stage ≡ true
         → LinkOk facts phase slot (standing given last stage) target → phase_after phase move.Deny ≡ Some new
@@ -249,6 +259,11 @@ module _ {W : Type 0} (layout : Layout W) (meaning : ℕ → Value → Result (L
           known.value end.stage may.wanted ok allowed in
           subst (λ (laid : Option Value). Moved laid (view_after (Some (NodeCall.give k)))) (sym known.head)
           (subst (Moved (Some known.value)) (sym known.view) crossing)
+      moves move.Hold may allowed =
+          let known = (views layout meaning s node (NodeCall.hold k) law may).moved in
+          let asked = (and_parts (is_asked exits.next end.stage) (not (is_some exits.offer)) may.asked).0 in
+          subst (Moved slot) (sym known)
+          (holds_head facts phase new slot target view.given view.last exits.next end.stage asked ok allowed)
       moves move.Deny may allowed =
           let known = (views layout meaning s node (NodeCall.deny k) law may).moved in
           subst (Moved slot) (sym known)

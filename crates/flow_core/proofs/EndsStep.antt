@@ -69,6 +69,7 @@ module _ {W : Type 0} (layout : Layout W) (meaning : ℕ → Value → Result (L
         → OutSteps b k node (node_after layout meaning b (out_call k next) node)
     out_steps k (move.Offer id) may = out_by k (NodeCall.offer k) may.1 (λ q j about. about) (λ j about. about) (λ j about. absurd about)
     out_steps k move.Give may = out_by k (NodeCall.give k) may (λ q j about. about) (λ j about. about) (λ j about. absurd about)
+    out_steps k move.Hold may = out_by k (NodeCall.hold k) may (λ q j about. about) (λ j about. about) (λ j about. absurd about)
     out_steps k move.Deny may = out_by k (NodeCall.deny k) may (λ q j about. about) (λ j about. about) (λ j about. absurd about)
     out_steps k move.Withdraw may = out_by k (NodeCall.withdraw k) may (λ q j about. about) (λ j about. about) (λ j about. absurd about)
     out_steps k (move.End how) may =

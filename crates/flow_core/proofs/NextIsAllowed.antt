@@ -29,7 +29,7 @@ use Rattle.flow_link.specs.Views.{SourceStage, SourceView, TargetStage}
 use Rattle.flow_link.proofs.LooksKeepOrder.{looks_keep}
 use Rattle.flow_intake.specs.Port.{PortState, stage_at as port_stage, hand_in, has_room}
 use Rattle.flow_intake.specs.Calls.{move_of, move_at as in_move_at, is_at as is_queued_at, next_place, answer_where}
-use Rattle.flow_outlet.specs.Outlet.{OutletState, stage_at, end_at, end_of, free_move, is_at, may_offer, move_at as out_move_at}
+use Rattle.flow_outlet.specs.Outlet.{OutletState, stage_at, end_at, end_of, has_offer_out, answers_wish, free_move, is_at, may_offer, move_at as out_move_at}
 use Rattle.flow_block.specs.Block.{port_at}
 use Rattle.flow_block.specs.Input.{InputState, move_from, end_move, end_by, has_next, next_id}
 use Rattle.flow_spread.specs.Spread.{SpreadState, link_at, stage_at as copy_stage, may_offer as may_offer_copy, free_move as free_copy_move, move_at as copy_move_at}
@@ -61,9 +61,16 @@ either : (test : Option Move → Bool) (b : Bool) (one other : Option Move) → 
 either test true one other a c = a
 either test false one other a c = c
 
-answer_fits : (i : ℕ) (b : Bool) → source_fits (SourceStage.wished i) (Some (cond b move.Give move.Deny)) ≡ true
-answer_fits i true = refl
-answer_fits i false = refl
+answer_fits : (s : SourceStage) (so : Move) (b : Bool) → source_fits s (Some so) ≡ true → source_fits s (Some move.Deny) ≡ true
+    → source_fits s (Some (cond b so move.Deny)) ≡ true
+answer_fits s so true fits denies = fits
+answer_fits s so false fits denies = denies
+
+wish_fits : (s : SourceStage) (so : Move) (i : ℕ) (o : OutletState) → source_fits s (Some so) ≡ true
+    → source_fits s (Some move.Deny) ≡ true → source_fits s (answers_wish so i o) ≡ true
+wish_fits s so i o fits denies =
+    let is_there = i == o.next && not (is_some o.offer) in
+    either (source_fits s) (has_offer_out o) None (Some (cond is_there so move.Deny)) refl (answer_fits s so is_there fits denies)
 
 free_fits : (o : OutletState) (k : ℕ) (how : Option LinkEnd) → source_fits SourceStage.free (free_move o k how) ≡ true
 free_fits o k (Some how) = refl
@@ -74,15 +81,11 @@ out_fits : (o : OutletState) (k : ℕ) (stopped : Option Outcome) (up : Bool) (s
     → source_fits (source_stage_of stage) (out_move_at o k stopped up stage) ≡ true
 out_fits o k stopped up source.Free = free_fits o k (end_of (end_at o k) stopped)
 out_fits o k stopped up (source.Accepted i) = refl
-out_fits o k stopped up (source.Claimed i) =
-    either (source_fits (SourceStage.claimed i)) (is_some o.offer || not (i == o.next)) None (Some move.Give) refl refl
-out_fits o k stopped up (source.Wished i) =
-    either (source_fits (SourceStage.wished i)) (is_some o.offer)
-    None (Some (cond (i == o.next) move.Give move.Deny)) refl (answer_fits i (i == o.next))
-out_fits o k stopped up (source.AskedBy i) =
-    either (source_fits (SourceStage.asked_by i)) (is_some o.offer || i == o.next) None (Some move.Deny) refl refl
+out_fits o k stopped up (source.Claimed i) = refl
+out_fits o k stopped up (source.Wished i) = wish_fits (SourceStage.wished i) move.Give i o refl refl
+out_fits o k stopped up (source.AskedBy i) = wish_fits (SourceStage.asked_by i) move.Hold i o refl refl
 out_fits o k stopped up (source.Waiting i) =
-    either (source_fits (SourceStage.waiting i)) (up || not (i == o.next)) (Some move.Withdraw) None refl refl
+    either (source_fits (SourceStage.waiting i)) (up || o.renewing || not (i == o.next)) (Some move.Withdraw) None refl refl
 out_fits o k stopped up _ = refl
 
 -- so does an end over which copies go

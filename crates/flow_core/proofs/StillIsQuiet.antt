@@ -200,16 +200,6 @@ module _ {W : Type 0} (layout : Layout W) (meaning : ℕ → Value → Result (L
           let end = end_in k (port_at p (node b).block).ends in
           not_reserving end.stage end.hand
           (sym (ap target_reserves is.stage) ∙ target_takes_freely end.link is.there);
-      outs = λ k small.
-          let is = out_end b k low small in
-          let end = end_at (node b).block.exits k in
-          not_asked end.stage
-          (sym (ap source_reserves is.stage) ∙ source_takes_freely end.rule.id is.there);
-      copies = λ k small.
-          let is = copy_end b k low small in
-          let end = link_at (node b).block.copies k in
-          not_asked end.stage
-          (sym (ap source_reserves is.stage) ∙ source_takes_freely end.rule.id is.there);
     }
 
     -- where the links rest, so do the ends of blocks and inputs

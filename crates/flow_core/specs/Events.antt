@@ -52,6 +52,7 @@ is_of_source _ = false
 abbrev pub out_call : ℕ → Move → Option NodeCall
 out_call k (move.Offer _) = Some (NodeCall.offer k)
 out_call k move.Give = Some (NodeCall.give k)
+out_call k move.Hold = Some (NodeCall.hold k)
 out_call k move.Deny = Some (NodeCall.deny k)
 out_call k move.Withdraw = Some (NodeCall.withdraw k)
 out_call k (move.End how) = Some (NodeCall.end_link k how)

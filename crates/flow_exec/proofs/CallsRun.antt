@@ -71,8 +71,8 @@ give_head : (link header : ℕ) (there : Bool) (block : BlockState) → Runs blo
     → Runs (cond there (gives_over link header block) block)
 give_head link header true block runs =
     let given = consumes link header block.exits in
-    let back = none_beside given.room (weight_of given.groups + copies_weight block.copies) (row_count block.kind (consumed header block.exits)) 0
-    block.ports (no_rows block.kind (consumed header block.exits) (never_joined block.kind runs.works)) in
+    let back = none_beside given.room (weight_of given.groups + copies_weight block.copies) (row_count block.kind (consumed link header block.exits)) 0
+    block.ports (no_rows block.kind (consumed link header block.exits) (never_joined block.kind runs.works)) in
     ports_run (gives_room given.room) block (gives_over link header block) (λ port. refl) (sym back) refl refl refl runs
 give_head link header false block runs = runs
 

@@ -19,7 +19,7 @@ use Rattle.flow_intake.specs.Calls.{answer_to, next_place, is_postponed, gives_r
 use Rattle.flow_intake.specs.ByLink.{place_of, with_link_at, closes_link, answered, drops_at, consumes_at, consumes_next}
 use Rattle.flow_intake.proofs.CallsKeepOrder.{moves_keep}
 use Rattle.flow_outlet.specs.Outlet.{is_empty, is_at_rest, OutletState}
-use Rattle.flow_outlet.specs.ByLink.{place_of as out_place, is_head, consumes, consumed, gives_home}
+use Rattle.flow_outlet.specs.ByLink.{place_of as out_place, is_there as is_head_there, consumes, consumed, gives_home}
 use Rattle.flow_outlet.proofs.OutletFits.{weight_stays}
 use Rattle.flow_spread.specs.Spread.{SpreadState, prepares, offers}
 use Rattle.flow_spread.specs.ByLink.{place_of as copy_place, answered as copy_answered, gives_home as copy_home}
@@ -304,8 +304,8 @@ module _ (took : ℕ → ℕ) (old : BlockState) (law : Ordered took old.ports) 
     abbrev exits_after : ℕ → ℕ → OutletState
     exits_after link header = consumes link header old.exits
 
-    room_given : (link header : ℕ) (head : Bool) → is_head header old.exits ≡ head
-        → (cond head (gives_home (out_place link old.exits.ends) header old.exits) old.exits).room ≤ weight_out old.exits 0
+    room_given : (link header : ℕ) (there : Bool) → is_head_there (out_place link old.exits.ends) header old.exits ≡ there
+        → (cond there (gives_home (out_place link old.exits.ends) header old.exits) old.exits).room ≤ weight_out old.exits 0
     room_given link header true is =
         let parts = weight_stays old.exits.next old.exits.groups in
         omega (arith, parts)
@@ -314,7 +314,7 @@ module _ (took : ℕ → ℕ) (old : BlockState) (law : Ordered took old.ports) 
     head_leaves : (link header : ℕ) → Goes (gives_over link header old)
     head_leaves link header =
         let exits = exits_after link header in
-        let head = consumed header old.exits in
+        let head = consumed link header old.exits in
         record {
           still = record {
             kind = refl;
@@ -333,7 +333,7 @@ module _ (took : ℕ → ℕ) (old : BlockState) (law : Ordered took old.ports) 
               (λ q there.
               room_keeps (took q) (back_at exits old.copies old.kind head q (port_at q old)) (port_at q old)
               (back_fits exits old.copies old.kind head (port_at q old).capacity q (port_at q old)
-              (room_at_port exits.room q (let given = room_given link header (is_head header old.exits) refl in omega (arith, given)) there))
+              (room_at_port exits.room q (let given = room_given link header (is_head_there (out_place link old.exits.ends) header old.exits) refl in omega (arith, given)) there))
               (law q there));
         }
 

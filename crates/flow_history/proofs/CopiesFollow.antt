@@ -234,6 +234,7 @@ pub wanted_where : (id header : ℕ) (stage : SourceStage) → is_taken id false
 wanted_where id header (source.Accepted i) taken = record { wanted = taken; quiet = refl }
 wanted_where id header (source.Waiting i) taken = record { wanted = (and_parts (i == id) true taken).0; quiet = refl }
 wanted_where id header (source.Wished i) taken = record { wanted = (and_parts (i == id) true taken).0; quiet = refl }
+wanted_where id header (source.Reserved i) taken = record { wanted = taken; quiet = refl }
 wanted_where id header _ taken = absurd (cc)
 
 -- of three calls the second gives, and the others tell nothing

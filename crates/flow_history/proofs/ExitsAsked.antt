@@ -5,6 +5,7 @@ use Rattle.std.proofs.lemmas.Bool.{and_parts, and_from, not-true, ltb-true}
 use Rattle.std.proofs.lemmas.List.{length-map, length-set, map-set, get_or-set_same, get_or-set_other}
 use Rattle.std.proofs.Math.ListN.{get_or-map}
 use Rattle.std.specs.Bool.{OnTrue}
+use Rattle.std.specs.List.{list_any}
 use Rattle.flow_value.specs.declared.value.Value.{Value}
 use Rattle.flow_value.specs.declared.message.MessageStatus.{MessageStatus}
 use Rattle.flow_link.specs.declared.phase.Phase.{Phase}
@@ -12,12 +13,12 @@ use Rattle.flow_link.specs.declared.phase.Phase.TheVariants.{Idle, Wanted}
 use Rattle.flow_link.specs.declared.stage.SourceStage.{SourceStage}
 use Rattle.flow_link.specs.declared.stage.SourceStage.TheVariants as source
 use Rattle.flow_link.specs.LinkOk.{IsWithin, HasRoom}
-use Rattle.flow_link.specs.Stage.{source_looks}
+use Rattle.flow_link.specs.Stage.{source_looks, source_is_released}
 use Rattle.flow_outlet.specs.ByLink.{IsAsked, place_of, answered, answer_stage, answer_declined, is_taken, has_room, tests_take, forgotten, forgets, gives_home}
-use Rattle.flow_outlet.specs.End.{no_end, is_passed, place_in, is_out, is_free, fresh_end}
+use Rattle.flow_outlet.specs.End.{no_end, is_passed, place_in, is_spoken_for, is_free, waits_with, fresh_end}
 use Rattle.flow_outlet.specs.KeepsByLink.{settles_it}
 use Rattle.flow_outlet.specs.Law.{OutletLaw, is_put_off, admits_head, may_go_past}
-use Rattle.flow_outlet.specs.Outlet.{OutletState, head_of, is_empty, is_at, end_at, stage_at, offer_at, may_offer, puts, lacks_ids, prepares, offers, looks, may_give, is_wanted, offer_kept, gives, given_end, fresh_outlet}
+use Rattle.flow_outlet.specs.Outlet.{OutletState, head_of, is_empty, is_at, end_at, stage_at, is_held_back, offer_at, may_offer, puts, lacks_ids, prepares, offers, looks, may_give, is_wanted, offer_kept, gives, given_end, fresh_outlet}
 use Rattle.flow_outlet.specs.declared.ends.LinkRule.{LinkRule}
 use Rattle.flow_outlet.specs.declared.ends.OutEnd.{OutEnd}
 use Rattle.flow_outlet.proofs.LawKept.{calls_keep_law, gives_in_order}
@@ -34,7 +35,7 @@ module _ (o : OutletState) (law : OutletLaw true None o) (at header : ℕ) (near
 
   -- an offer that is out no more is not put back by a look
   looked_offer : (stage : SourceStage) → is_some o.offer ≡ false → is_some (offer_kept at stage o.offer) ≡ false
-  looked_offer stage none = kept_none (is_at o.offer at && not (is_out stage)) o.offer none
+  looked_offer stage none = kept_none (is_at o.offer at && not (is_spoken_for stage)) o.offer none
     where
       kept_none : (gone : Bool) (offer : Option ℕ) → is_some offer ≡ false → is_some (cond gone None offer) ≡ false
       kept_none true offer e = refl
@@ -49,6 +50,7 @@ module _ (o : OutletState) (law : OutletLaw true None o) (at header : ℕ) (near
   wanted_where : (stage : SourceStage) → is_taken o.next (is_some o.offer) stage ≡ true
       → OnTrue (is_put_off stage) ((end_at o at).rule.steady ≡ false) → IsWanted stage
   wanted_where (source.Accepted i) taken may = record { put_off = tt; wanted = taken }
+  wanted_where (source.Reserved i) taken may = record { put_off = may; wanted = taken }
   wanted_where (source.Waiting i) taken may =
       record { put_off = may; wanted = late_wanted i (source_looks (source.Waiting i) (Wanted header)) taken }
   wanted_where (source.Wished i) taken may =
@@ -175,11 +177,19 @@ module _ (sure : Bool) where
   first_asked next head [] = refl
   first_asked next head (end ∷ ends) = ap (λ (n : ℕ). cond (is_passed next head end) (n + 1) 0) (first_asked next head ends)
 
+  any_asked : (id : ℕ) (ends : List OutEnd) → list_any (waits_with id) (map (asked_end sure) ends) ≡ list_any (waits_with id) ends
+  any_asked id [] = refl
+  any_asked id (end ∷ ends) = ap (λ (rest : Bool). waits_with id end || rest) (any_asked id ends)
+
   next_asked : (o : OutletState) → may_offer (asked sure o) ≡ may_offer o
   next_asked o =
       let k = place_in o.next (head_of o) o.ends in
       ap (λ (n : ℕ). offer_at n (asked sure o)) (first_asked o.next (head_of o) o.ends)
-      ∙ ap₂ (λ (count : ℕ) (stage : SourceStage). cond (is_empty o.left || is_some o.offer || not (ltb k count) || not (is_free stage)) None (Some k))
+      ∙ ap (λ (back : Bool).
+      cond (is_empty o.left || (is_some o.offer || (o.renewing && back)) || not (ltb k (length (asked sure o).ends))
+      || not (is_free (stage_at (asked sure o) k))) None (Some k))
+      (any_asked o.next o.ends)
+      ∙ ap₂ (λ (count : ℕ) (stage : SourceStage). cond (is_empty o.left || is_held_back o || not (ltb k count) || not (is_free stage)) None (Some k))
       (count_asked o) (ap (λ (end : OutEnd). end.stage) (end_asked o k))
 
   same_offers : (k : ℕ) (o : OutletState) → offers k (asked sure o) ≡ asked sure (offers k o)
@@ -192,7 +202,11 @@ module _ (sure : Bool) where
 
   same_looks : (k : ℕ) (phase : Phase) (o : OutletState) → looks k phase (asked sure o) ≡ asked sure (looks k phase o)
   same_looks k phase o =
-      ap₂ (λ (ends : List OutEnd) (stage : SourceStage). record (looks k phase o) { ends = ends; offer = offer_kept k (source_looks stage phase) o.offer })
+      ap₂ (λ (ends : List OutEnd) (stage : SourceStage). record (looks k phase o) {
+        ends = ends;
+        offer = offer_kept k (source_looks stage phase) o.offer;
+        renewing = o.renewing || source_is_released stage phase;
+      })
       (changed (λ (end : OutEnd). record end { declined = end.declined; stage = source_looks end.stage phase }) (λ end. refl) k o)
       (ap (λ (end : OutEnd). end.stage) (end_asked o k))
 

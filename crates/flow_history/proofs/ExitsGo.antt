@@ -11,11 +11,12 @@ use Rattle.flow_link.specs.declared.trace.Outcome.TheVariants.{Done, Faulted}
 use Rattle.flow_link.specs.declared.traits.MakeFault.TheVariants as make_fault
 use Rattle.flow_intake.specs.ByLink.{answered}
 use Rattle.flow_intake.specs.Calls.{port_closes}
-use Rattle.flow_outlet.specs.ByLink.{place_of, is_head, tests_consume, consumed, gives_home}
+use Rattle.flow_outlet.specs.ByLink.{place_of, is_head, is_there, tests_consume, consumed, gives_home}
 use Rattle.flow_outlet.specs.Outlet.{OutletState, head_of, first_of, rest_of, is_empty, groups_after}
 use Rattle.flow_block.specs.Block.{BlockState, with_port, stops_by}
 use Rattle.flow_block.specs.Traits.{settles, outcome_of, faults, offer_next, offered_by, answered_by, taken_by, given_by, may_take, gives_over, with_port_of, wishing_port, wishes, notes}
 use Rattle.flow_block.specs.Peeks.{may_finish}
+use Rattle.flow_block.proofs.SourceStands.{there_is_head}
 use Rattle.flow_history.specs.Calls.{Call, Does}
 use Rattle.flow_history.proofs.CallsLeave.{IsPlain}
 
@@ -65,10 +66,13 @@ module _ (old : BlockState) where
 
   -- the head is given
 
-  exits_given : (link header : ℕ) (value : Option Value) → is_head header old.exits ≡ true → value ≡ consumed header old.exits
+  exits_given : (link header : ℕ) (value : Option Value) → is_there (place_of link old.exits.ends) header old.exits ≡ true → value ≡ consumed link header old.exits
       → Goes value old.exits (gives_over link header old).exits
-  exits_given link header value head is = of_value value (is ∙ ap (λ (b : Bool). cond b (head_of old.exits) None) head)
+  exits_given link header value there is = of_value value (is ∙ ap (λ (b : Bool). cond b (head_of old.exits) None) there)
     where
+      head : is_head header old.exits ≡ true
+      head = there_is_head old.exits (place_of link old.exits.ends) header there
+
       some : is_empty old.exits.left ≡ false
       some = not-true (is_empty old.exits.left) (and_parts (header == old.exits.next) (not (is_empty old.exits.left)) head).1
 
@@ -76,9 +80,9 @@ module _ (old : BlockState) where
       of_value None told = absurd (no_head old.exits.left some told)
       of_value (Some v) told = record {
         head = sym told;
-        left = ap (λ (b : Bool). (cond b (gives_home (place_of link old.exits.ends) header old.exits) old.exits).left) head;
-        next = ap (λ (b : Bool). (cond b (gives_home (place_of link old.exits.ends) header old.exits) old.exits).next) head;
-        groups = ap (λ (b : Bool). (cond b (gives_home (place_of link old.exits.ends) header old.exits) old.exits).groups) head;
+        left = ap (λ (b : Bool). (cond b (gives_home (place_of link old.exits.ends) header old.exits) old.exits).left) there;
+        next = ap (λ (b : Bool). (cond b (gives_home (place_of link old.exits.ends) header old.exits) old.exits).next) there;
+        groups = ap (λ (b : Bool). (cond b (gives_home (place_of link old.exits.ends) header old.exits) old.exits).groups) there;
         room = refl;
       }
 
@@ -86,11 +90,12 @@ module _ (old : BlockState) where
   none_given value none = subst (λ (v : Option Value). Goes v old.exits old.exits) (sym none) (same_exits old.exits)
 
   exits_consumed : (link header : ℕ) (value : Option Value) (taken : Bool) → may_take link header old.exits ≡ taken
-      → value ≡ cond taken (consumed header old.exits) None → Goes value old.exits (cond taken (gives_over link header old) old).exits
+      → value ≡ cond taken (consumed link header old.exits) None → Goes value old.exits (cond taken (gives_over link header old) old).exits
   exits_consumed link header value false is told = none_given value told
   exits_consumed link header value true is told =
       exits_given link header value
-      (and_parts (tests_consume (place_of link old.exits.ends) header old.exits) (is_head header old.exits) is).1 told
+      (and_parts (tests_consume (place_of link old.exits.ends) header old.exits)
+      (is_there (place_of link old.exits.ends) header old.exits) is).1 told
 
 module _ (old new : BlockState) (one : is_one_taker old.kind ≡ true) where
   exits_as : (value : Option Value) (block : BlockState) → new ≡ block → Goes value old.exits block.exits → Goes value old.exits new.exits

@@ -17,7 +17,7 @@ use Rattle.flow_link.specs.declared.traits.WishAnswer.TheVariants as answer
 use Rattle.flow_intake.specs.Port.{PortState, stage_at}
 use Rattle.flow_intake.specs.ByLink.{place_of, with_link_at, closes_link, answered, drops_at, consumes_at, consumes_next}
 use Rattle.flow_intake.specs.Calls.{next_place, is_postponed, port_closes, consumes as port_consumes}
-use Rattle.flow_outlet.specs.ByLink.{place_of as out_place, is_head, tests_consume, consumes, consumed, gives_home}
+use Rattle.flow_outlet.specs.ByLink.{place_of as out_place, is_head, is_there as is_head_there, tests_consume, consumes, consumed, gives_home}
 use Rattle.flow_outlet.specs.Outlet.{head_of, weight_at, is_empty}
 use Rattle.flow_block.specs.Block.{BlockState, port_in, port_at, with_port, row_count, stops_by}
 use Rattle.flow_block.specs.Traits.{settles, outcome_of, faults, offer_next, offered_by, answered_by, taken_by, given_by, may_take, gives_over, with_port_of, port_into, wishing_port, wishes, holds_at, notes}
@@ -27,6 +27,7 @@ use Rattle.flow_outlet.specs.Fits.{weight_of}
 use Rattle.flow_outlet.specs.declared.group.Group.{Group}
 use Rattle.flow_block.specs.Copies.{copies_weight}
 use Rattle.flow_block.specs.Peeks.{may_finish}
+use Rattle.flow_block.proofs.SourceStands.{there_is_head}
 use Rattle.flow_history.specs.Calls.{Call, Does}
 use Rattle.flow_history.proofs.CallsLeave.{IsPlain}
 use Rattle.flow_history.proofs.ExitsGo.{given_value, no_head}
@@ -97,36 +98,40 @@ module _ (old : BlockState) (p : ℕ) where
   back_loads room weight count load waiting none = omega (arith, none)
 
 module _ (old : BlockState) (p : ℕ) (there : p < length old.ports) (no_room : old.exits.room ≡ 0) (no_groups : old.exits.groups ≡ []) where
-  given_loads : (link header : ℕ) (value : Option Value) → is_head header old.exits ≡ true → value ≡ consumed header old.exits
-      → LoadsAt value old (gives_over link header old) p
-  given_loads link header value head is = of_value value is
+  given_loads : (link header : ℕ) (value : Option Value) → is_head_there (out_place link old.exits.ends) header old.exits ≡ true
+      → value ≡ consumed link header old.exits → LoadsAt value old (gives_over link header old) p
+  given_loads link header value there_now is = of_value value is
     where
+      head : is_head header old.exits ≡ true
+      head = there_is_head old.exits (out_place link old.exits.ends) header there_now
+
       exits_are : (consumes link header old.exits).room ≡ 0
       exits_are =
-          ap (λ (b : Bool). (cond b (gives_home (out_place link old.exits.ends) header old.exits) old.exits).room) head
+          ap (λ (b : Bool). (cond b (gives_home (out_place link old.exits.ends) header old.exits) old.exits).room) there_now
           ∙ ap₂ (λ (room : ℕ) (groups : List Group). room + weight_at old.exits.next groups) no_room no_groups
 
-      of_value : (value : Option Value) → value ≡ consumed header old.exits → LoadsAt value old (gives_over link header old) p
+      of_value : (value : Option Value) → value ≡ consumed link header old.exits → LoadsAt value old (gives_over link header old) p
       of_value None told =
           absurd (no_head old.exits.left
           (not-true (is_empty old.exits.left) (and_parts (header == old.exits.next) (not (is_empty old.exits.left)) head).1)
-          (told ∙ ap (λ (b : Bool). cond b (head_of old.exits) None) head))
+          (told ∙ ap (λ (b : Bool). cond b (head_of old.exits) None) there_now))
       of_value (Some v) told =
           let exits = consumes link header old.exits in
-          let back = port_back exits old.copies old.kind (consumed header old.exits) old.ports p there in
+          let back = port_back exits old.copies old.kind (consumed link header old.exits) old.ports p there in
           let load = ap (λ (r : PortState). r.load) back in
-          let less = back_loads old p exits.room (weight_of exits.groups + copies_weight old.copies) (row_count old.kind (consumed header old.exits) p)
+          let less = back_loads old p exits.room (weight_of exits.groups + copies_weight old.copies) (row_count old.kind (consumed link header old.exits) p)
           (port_at p old).load (length (port_at p old).waiting) exits_are in
-          let same : row_count old.kind (consumed header old.exits) p ≡ row_count old.kind (Some v) p =
+          let same : row_count old.kind (consumed link header old.exits) p ≡ row_count old.kind (Some v) p =
           ap (λ (h : Option Value). row_count old.kind h p) (sym told) in
           omega (arith, load, less, same)
 
   consumed_loads : (link header : ℕ) (value : Option Value) (taken : Bool) → may_take link header old.exits ≡ taken
-      → value ≡ cond taken (consumed header old.exits) None → LoadsAt value old (cond taken (gives_over link header old) old) p
+      → value ≡ cond taken (consumed link header old.exits) None → LoadsAt value old (cond taken (gives_over link header old) old) p
   consumed_loads link header value false is told = subst (λ (v : Option Value). LoadsAt v old old p) (sym told) refl
   consumed_loads link header value true is told =
       given_loads link header value
-      (and_parts (tests_consume (out_place link old.exits.ends) header old.exits) (is_head header old.exits) is).1 told
+      (and_parts (tests_consume (out_place link old.exits.ends) header old.exits)
+      (is_head_there (out_place link old.exits.ends) header old.exits) is).1 told
 
 module _ (old new : BlockState) (one : is_one_taker old.kind ≡ true) (p : ℕ) where
   loads_as : (value : Option Value) (block : BlockState) → new ≡ block → LoadsAt value old block p → LoadsAt value old new p

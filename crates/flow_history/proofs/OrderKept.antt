@@ -17,12 +17,13 @@ use Rattle.flow_link.specs.Kinds.{unit_of}
 use Rattle.flow_intake.specs.Calls.{first_of, port_closes}
 use Rattle.flow_intake.specs.ByLink.{answered, arrives}
 use Rattle.flow_group.specs.Tuple.{tuple_of}
-use Rattle.flow_outlet.specs.ByLink.{place_of, is_head, tests_consume, consumed, gives_home}
+use Rattle.flow_outlet.specs.ByLink.{place_of, is_head, is_there, tests_consume, consumed, gives_home}
 use Rattle.flow_outlet.specs.Law.{may_go_past}
 use Rattle.flow_outlet.specs.Outlet.{OutletState, head_of, may_offer, lacks_ids, is_empty, end_at}
 use Rattle.flow_block.specs.Block.{BlockState, held_by, row_of, next_group, with_port, puts_out, copies_next, copies_at_once, copies_where, copies_taken, stops_by}
 use Rattle.flow_block.specs.Traits.{settles, outcome_of, faults, makes_alone, has_turn, makes_its_next, Makes, carries, offers_over, source_by, offer_by, offer_next, offered_by, answered_by, may_take, taken_by, gives_over, given_by, with_port_of, wishing_port, wishes, notes, made_by_unit, goes_on_by_unit}
 use Rattle.flow_block.specs.Peeks.{may_finish}
+use Rattle.flow_block.proofs.SourceStands.{there_is_head}
 use Rattle.flow_history.specs.Calls.{Call, MayCall, Does}
 use Rattle.flow_history.specs.History.{Gift, gifts_of, gave_by}
 use Rattle.flow_history.specs.Ordered.{AnswersSteadily, GoesInOrder}
@@ -103,17 +104,19 @@ module _ (sure : Bool) (gave : List Gift) (old : BlockState) (goes : GoesByRule 
       (sym (ap (λ (v : Option Value). gave ++ gifts_of link v) none ∙ append-nil gave)) goes
 
   -- the head, where it is given
-  head_is : (link header : ℕ) (value : Value) → is_head header old.exits ≡ true → Some value ≡ consumed header old.exits → head_of old.exits ≡ Some value
-  head_is link header value head told = sym (told ∙ ap (λ (b : Bool). cond b (head_of old.exits) None) head)
+  head_is : (link header : ℕ) (value : Value) → is_there (place_of link old.exits.ends) header old.exits ≡ true → Some value ≡ consumed link header old.exits → head_of old.exits ≡ Some value
+  head_is link header value there told = sym (told ∙ ap (λ (b : Bool). cond b (head_of old.exits) None) there)
 
-  head_there : (link header : ℕ) → may_take link header old.exits ≡ true → is_head header old.exits ≡ true
-  head_there link header takes = (and_parts (tests_consume (place_of link old.exits.ends) header old.exits) (is_head header old.exits) takes).1
+  head_there : (link header : ℕ) → may_take link header old.exits ≡ true → is_there (place_of link old.exits.ends) header old.exits ≡ true
+  head_there link header takes =
+      let k = place_of link old.exits.ends in
+      (and_parts (tests_consume k header old.exits) (is_there k header old.exits) takes).1
 
   consumed_by_rule : (link header : ℕ) (value : Option Value) (taken : Bool) → may_take link header old.exits ≡ taken
-      → value ≡ cond taken (consumed header old.exits) None → GoesByRule sure (gave ++ gifts_of link value) (cond taken (gives_over link header old) old).exits
+      → value ≡ cond taken (consumed link header old.exits) None → GoesByRule sure (gave ++ gifts_of link value) (cond taken (gives_over link header old) old).exits
   consumed_by_rule link header value false takes told = nothing_given value link told
   consumed_by_rule link header None true takes told =
-      absurd (none_taken (head_there link header takes) (told ∙ ap (λ (b : Bool). cond b (head_of old.exits) None) (head_there link header takes)))
+      absurd (none_taken (there_is_head old.exits (place_of link old.exits.ends) header (head_there link header takes)) (told ∙ ap (λ (b : Bool). cond b (head_of old.exits) None) (head_there link header takes)))
     where
       none_taken : is_head header old.exits ≡ true → None ≡ head_of old.exits → ⊥
       none_taken head none =
@@ -185,7 +188,7 @@ module _ (gave : List Gift) (old new : BlockState) (one : is_one_taker old.kind 
       let told : Some value ≡ taken_by true link header old = does.0 ∙ ap (λ (b : Bool). taken_by b link header old) one in
       λ j before. taken_in_order (may_take link header old.exits) refl told j before
     where
-      taken_in_order : (taken : Bool) → may_take link header old.exits ≡ taken → Some value ≡ cond taken (consumed header old.exits) None
+      taken_in_order : (taken : Bool) → may_take link header old.exits ≡ taken → Some value ≡ cond taken (consumed link header old.exits) None
           → (j : ℕ) → j < place_of link old.exits.ends → may_go_past (Some value) (end_at old.exits j) ≡ true
       taken_in_order false takes told j before = absurd (cc)
       taken_in_order true takes told j before =

@@ -14,7 +14,7 @@ use Rattle.flow_link.specs.LinkOk.{IsWithin}
 use Rattle.flow_lists.specs.Lists.{every}
 use Rattle.flow_link.specs.Stage.{source_looks}
 use Rattle.flow_link.proofs.OneMoreMark.{every_more}
-use Rattle.flow_outlet.specs.ByLink.{IsAsked, place_of, answered, answer_stage, answer_declined, is_head, has_room, tests_take, tests_consume, forgotten, forgets, gives_home}
+use Rattle.flow_outlet.specs.ByLink.{IsAsked, place_of, answered, answer_stage, answer_declined, is_there, has_room, tests_take, tests_consume, forgotten, forgets, gives_home}
 use Rattle.flow_outlet.specs.End.{end_in, no_end, counted}
 use Rattle.flow_outlet.specs.KeepsByLink.{settles_it}
 use Rattle.flow_outlet.specs.Law.{admits_head, may_go_past}
@@ -175,14 +175,14 @@ module _ (sure : Bool) (gave : List Gift) (o : OutletState) (goes : GoesByRule s
   abbrev at : ℕ
   at = place_of link o.ends
 
-  tests : (tests_consume at header o ≡ true) × (is_head header o ≡ true)
-  tests = and_parts (tests_consume at header o) (is_head header o) takes
+  tests : (tests_consume at header o ≡ true) × (is_there at header o ≡ true)
+  tests = and_parts (tests_consume at header o) (is_there at header o) takes
 
   near : at < length o.ends
-  near = ltb-true at (length o.ends) (and_parts (ltb at (length o.ends)) (not (is_head header o) || tests_take at o) tests.0).0
+  near = ltb-true at (length o.ends) (and_parts (ltb at (length o.ends)) (not (is_there at header o) || tests_take at o) tests.0).0
 
   may_now : tests_take at o ≡ true
-  may_now = second_of (is_head header o) (tests_take at o) tests.1 (and_parts (ltb at (length o.ends)) (not (is_head header o) || tests_take at o) tests.0).1
+  may_now = second_of (is_there at header o) (tests_take at o) tests.1 (and_parts (ltb at (length o.ends)) (not (is_there at header o) || tests_take at o) tests.0).1
     where
       second_of : (a b : Bool) → a ≡ true → (not a || b) ≡ true → b ≡ true
       second_of true b e or = or

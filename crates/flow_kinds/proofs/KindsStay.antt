@@ -200,7 +200,7 @@ module _ (old : BlockState) where
   head_stays : (link header : ℕ) → SameShape old (gives_over link header old)
   head_stays link header =
       let exits = consumes link header old.exits in
-      let head = consumed header old.exits in
+      let head = consumed link header old.exits in
       record {
         kind = refl;
         count = length_back exits old.copies old.kind head old.ports;

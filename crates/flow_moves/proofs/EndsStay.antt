@@ -49,6 +49,7 @@ out_stays : (result : Value → Result (List Value) ℕ) (k : ℕ) (next : Move)
     → InAt any_stage p j node → InAt any_stage p j (called result (out_call k next) node)
 out_stays result k (move.Offer id) node p j there = record { port = there.port; place = there.place; stands = refl }
 out_stays result k move.Give node p j there = gives_stay k (head_of node.block.exits) node p j there
+out_stays result k move.Hold node p j there = record { port = there.port; place = there.place; stands = refl }
 out_stays result k move.Deny node p j there = record { port = there.port; place = there.place; stands = refl }
 out_stays result k move.Withdraw node p j there = record { port = there.port; place = there.place; stands = refl }
 out_stays result k (move.End how) node p j there = record { port = there.port; place = there.place; stands = refl }

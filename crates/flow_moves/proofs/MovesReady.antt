@@ -62,7 +62,7 @@ use Rattle.flow_block.specs.Routes.{source_place, target_place, route_of}
 wanted_speaks : (next : ℕ) (out : Bool) (stage : SourceStage) → is_wanted next out stage ≡ true
     → speaks_of next stage ≡ true
 wanted_speaks next out (Accepted i) e = e
-wanted_speaks next out (Claimed i) e = (and_parts (i == next) (not out) e).0
+wanted_speaks next out (Claimed i) e = e
 wanted_speaks next out (Wished i) e = (and_parts (i == next) (not out) e).0
 wanted_speaks next out _ e = absurd (cc)
 
@@ -115,6 +115,7 @@ module _ {W : Type 0} (layout : Layout W) (meaning : ℕ → Value → Result (L
   out_ready : (k : ℕ) (next : Move) → MayMoveOut layout meaning b node k next → OutIsReady k next node
   out_ready k (move.Offer id) may = may.1.next
   out_ready k move.Give may = give_ready k may.place may.wanted
+  out_ready k move.Hold may = may
   out_ready k move.Deny may = may
   out_ready k move.Withdraw may = may.waits
   out_ready k (move.End how) may = may.is_at_home

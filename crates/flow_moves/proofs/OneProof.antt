@@ -82,6 +82,7 @@ Places-set = hlevel (ℕ_set, ⊎_set)
 out_ready_prop : (k : ℕ) (next : Move) (node : NodeState) → IsProp (OutIsReady k next node)
 out_ready_prop k (move.Offer id) node = Places-set _ _
 out_ready_prop k move.Give node = give_ready_prop k node.block.exits
+out_ready_prop k move.Hold node = hlevel (le_prop, Bool-set)
 out_ready_prop k move.Deny node = hlevel (le_prop, Bool-set)
 out_ready_prop k move.Withdraw node = hlevel (le_prop, Bool-set)
 out_ready_prop k (move.End how) node = hlevel (le_prop, Bool-set)

@@ -19,7 +19,7 @@ use Rattle.flow_block.specs.Block.{port_at}
 use Rattle.flow_block.specs.Input.{InputState, next_id, is_wanted}
 use Rattle.flow_block_law.specs.InputKeeps.{MayOfferNext}
 use Rattle.flow_block.specs.Node.{NodeState}
-use Rattle.flow_block_law.specs.NodeKeeps.{InAt, OutAt, any_stage}
+use Rattle.flow_block_law.specs.NodeKeeps.{InAt, OutAt, MayHold, any_stage}
 use Rattle.flow_core.specs.Events.{is_of_source}
 use Rattle.flow_core.specs.State.{NetState, node_at, line_at}
 use Rattle.flow_block.specs.declared.planned.Route.{Route}
@@ -35,6 +35,7 @@ pub record GiveIsReady (k : ℕ) (exits : OutletState) : Type 0 where
 abbrev pub OutIsReady : ℕ → Move → NodeState → Type 0
 OutIsReady k (move.Offer _) node = may_offer node.block.exits ≡ Some k
 OutIsReady k move.Give node = GiveIsReady k node.block.exits
+OutIsReady k move.Hold node = MayHold k node
 OutIsReady k move.Deny node = OutAt is_wish k node
 OutIsReady k move.Withdraw node = OutAt is_waiting k node
 OutIsReady k (move.End how) node = OutAt is_free k node

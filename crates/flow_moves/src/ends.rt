@@ -85,6 +85,7 @@ fn move_out(
             node.offer(place);
         }
         Move::Give => return Ok(Some(node.give(place))),
+        Move::Hold => node.hold(place),
         Move::Deny => node.deny(place),
         Move::Withdraw => node.withdraw(place),
         Move::End(how) => node.end(place, how),

@@ -3,7 +3,7 @@ use Rattle.std.proofs.Common.{◌≡◌, ℕ, ◌<◌, Bool, true, false, cond, 
 use Rattle.flow_value.specs.declared.value.Value.{Value}
 use Rattle.flow_link.specs.declared.phase.LinkEnd.{LinkEnd}
 use Rattle.flow_link.specs.declared.phase.Move.{Move}
-use Rattle.flow_link.specs.declared.phase.Move.TheVariants.{Offer, Want, Give, Open, Close, Deny, Withdraw}
+use Rattle.flow_link.specs.declared.phase.Move.TheVariants.{Offer, Want, Give, Open, Close, Hold, Deny, Withdraw}
 use Rattle.flow_link.specs.declared.phase.Phase.{Phase}
 use Rattle.flow_link.specs.declared.phase.Phase.TheVariants.{Idle, Offered, Wanted, Given, Opened}
 use Rattle.flow_link.specs.declared.plan.LinkSource.{LinkSource}
@@ -55,20 +55,19 @@ ends_or_offers : (i : ℕ) (o : OutletState) (k : ℕ) (how : Option LinkEnd) �
 ends_or_offers i o k (Some how) is = absurd (cc)
 ends_or_offers i o k None is = free_offers i _ o.next is
 
+so_or_denied : (i : ℕ) (so : Move) → (Some so ≡ Some (Offer i) → ⊥) → (b : Bool) → Some (cond b so Deny) ≡ Some (Offer i) → ⊥
+so_or_denied i so never true is = never is
+so_or_denied i so never false is = absurd (cc)
+
 block_offers : (i : ℕ) (o : OutletState) (k : ℕ) (stopped : Option Outcome) (up : Bool) (at : SourceStage)
     → move_at o k stopped up at ≡ Some (Offer i) → i ≡ o.next
 block_offers i o k stopped up stage.Free is = ends_or_offers i o k (end_of (end_at o k) stopped) is
 block_offers i o k stopped up (stage.Accepted j) is = absurd (cc)
-block_offers i o k stopped up (stage.Claimed j) is =
-    absurd (neither i _ None (Some Give) (λ is. absurd (cc)) (λ is. absurd (cc)) is)
+block_offers i o k stopped up (stage.Claimed j) is = absurd (cc)
 block_offers i o k stopped up (stage.Wished j) is =
-    absurd (neither i _ None (Some (cond _ Give Deny)) (λ is. absurd (cc)) (given_or_denied i _) is)
-  where
-    given_or_denied : (i : ℕ) (b : Bool) → Some (cond b Give Deny) ≡ Some (Offer i) → ⊥
-    given_or_denied i true is = absurd (cc)
-    given_or_denied i false is = absurd (cc)
+    absurd (neither i _ None (Some (cond _ Give Deny)) (λ is. absurd (cc)) (so_or_denied i Give (λ is. absurd (cc)) _) is)
 block_offers i o k stopped up (stage.AskedBy j) is =
-    absurd (neither i _ None (Some Deny) (λ is. absurd (cc)) (λ is. absurd (cc)) is)
+    absurd (neither i _ None (Some (cond _ Hold Deny)) (λ is. absurd (cc)) (so_or_denied i Hold (λ is. absurd (cc)) _) is)
 block_offers i o k stopped up (stage.Waiting j) is =
     absurd (neither i _ (Some Withdraw) None (λ is. absurd (cc)) (λ is. absurd (cc)) is)
 block_offers i o k stopped up (stage.Posted j) is = absurd (cc)

@@ -1,5 +1,5 @@
 -- Each call of an outlet keeps its law.
-use Rattle.std.proofs.Common.{◌≡◌, ◌≢◌, ℕ, ◌+◌, ◌-◌, ◌^◌, ◌<◌, ◌≤◌, ◌==◌, not, zero, suc, Bool, true, false, cond, List, [], ◌∷◌, ◌++◌, length, set, map, Option, Some, None, is_some, unwrap_or, refl, sym, ◌∙◌, ap, subst, inl, inr, arith}
+use Rattle.std.proofs.Common.{◌≡◌, ◌≢◌, ℕ, ◌+◌, ◌-◌, ◌^◌, ◌<◌, ◌≤◌, ◌==◌, ◌||◌, not, zero, suc, Bool, true, false, cond, List, [], ◌∷◌, ◌++◌, length, set, map, Option, Some, None, is_some, unwrap_or, refl, sym, ◌∙◌, ap, subst, inl, inr, arith}
 use Rattle.std.specs.Bool.{OnTrue}
 use Rattle.std.specs.Option.{ForSome}
 use Rattle.std.proofs.lemmas.Bool.{cases_eq, OnTrue_at, OnTrue_from, and_parts, not-false}
@@ -15,18 +15,18 @@ use Rattle.flow_link.specs.declared.stage.SourceStage.{SourceStage}
 use Rattle.flow_link.specs.declared.stage.SourceStage.TheVariants.{Free, Posted, Out, Waiting, Accepted, Wished, AskedBy, Reserved, Claimed, Crossing, Refused, Ended}
 use Rattle.flow_link.specs.declared.trace.Outcome.{Outcome}
 use Rattle.flow_link.specs.LinkOk.{IsWithin, HasRoom}
-use Rattle.flow_link.specs.Stage.{source_looks}
+use Rattle.flow_link.specs.Stage.{source_looks, source_is_released}
 use Rattle.flow_lists.proofs.ListTests.{never_both}
 use Rattle.flow_outlet.specs.declared.ends.LinkRule.{LinkRule}
 use Rattle.flow_outlet.specs.declared.ends.OutEnd.{OutEnd}
-use Rattle.flow_outlet.specs.End.{id_of, speaks_of, is_out, is_over, is_free, is_waiting, is_cut, is_limit, rejects, end_in, no_end, fresh_end, counted}
-use Rattle.flow_outlet.specs.Outlet.{OutletState, head_of, first_of, rest_of, is_empty, end_at, stage_at, end_of, may_offer, offers, looks, offer_kept, may_give, is_wanted, gives, given_end, is_wish, denies, withdraws, ends_link, changes, puts, sets_aside, puts_aside, lacks_ids, lacks_ids_for, prepares, fresh_outlet}
+use Rattle.flow_outlet.specs.End.{id_of, speaks_of, is_spoken_for, is_over, is_free, is_waiting, is_cut, is_limit, rejects, end_in, no_end, fresh_end, counted}
+use Rattle.flow_outlet.specs.Outlet.{OutletState, head_of, first_of, rest_of, is_empty, end_at, stage_at, end_of, may_offer, offers, looks, offer_kept, may_give, is_wanted, may_hold, is_asked, holds, gives, given_end, is_wish, denies, withdraws, ends_link, changes, puts, sets_aside, puts_aside, lacks_ids, lacks_ids_for, prepares, fresh_outlet}
 use Rattle.flow_outlet.specs.Law.{EndLaw, OutletLaw, is_put_off, is_posted, is_refused, admits_head, may_go_past}
 use Rattle.flow_outlet.proofs.LookTells.{look_tells}
 use Rattle.flow_outlet.proofs.OutletFits.{ids_there, ids_there_for}
 use Rattle.flow_outlet.proofs.OffersInOrder.{offers_in_order}
 use Rattle.flow_outlet.proofs.OneEndChanges.{each_set, one_changes}
-use Rattle.flow_outlet.proofs.StagesTell.{free_is, goes_past_well, id_speaks, kept_mine, kept_other, kept_out, none_true, number_below, number_same, out_speaks, past_stays, speaks_id, waits_for, was_offer, wish_home}
+use Rattle.flow_outlet.proofs.StagesTell.{Waits, free_is, goes_past_well, id_speaks, kept_mine, kept_other, kept_out, none_true, number_below, number_same, out_speaks, past_stays, speaks_id, waits_for, was_offer, wish_home}
 
 -- Each call keeps the law
 
@@ -39,11 +39,24 @@ head_admits : (when : When) (left : List Value) → is_empty left ≡ false → 
 head_admits when [] e r = cc
 head_admits when (value ∷ left) e r = not-false (admits when value) r
 
+-- whether the head is to be offered anew is no matter of the law
+renewed : {pending : Bool} {stopped : Option Outcome} (o : OutletState) (renewing : Bool) → OutletLaw pending stopped o
+    → OutletLaw pending stopped (record o { renewing = renewing })
+renewed o renewing law = record {
+  begins = law.begins;
+  ids = law.ids;
+  each = law.each;
+  offer_there = law.offer_there;
+  offer_out = law.offer_out;
+  ready = law.ready;
+  in_order = law.in_order;
+}
+
 module _ {pending : Bool} {stopped : Option Outcome} (o : OutletState) (law : OutletLaw pending stopped o) (k : ℕ) (here : k < length o.ends) where
   -- an end that goes to a stage that speaks of nothing new, and makes no offer
   pub settles_keep : (stage : SourceStage) (declined : ℕ)
-      → id_of stage ≡ None → is_out stage ≡ false → is_posted stage ≡ false → is_put_off stage ≡ false
-      → (is_out (stage_at o k) ≡ false)
+      → id_of stage ≡ None → is_spoken_for stage ≡ false → is_posted stage ≡ false → is_put_off stage ≡ false
+      → (is_spoken_for (stage_at o k) ≡ false)
       → ((how : LinkEnd) → stage ≡ Ended how → end_of (end_at o k) stopped ≡ Some how)
       → (is_refused (stage_at o k) ≡ true → is_refused stage ≡ true)
       → declined ≤ o.next
@@ -58,8 +71,8 @@ module _ {pending : Bool} {stopped : Option Outcome} (o : OutletState) (law : Ou
         risen = old.risen;
         none_later = λ i e. let none : None ≡ Some i = sym no_id ∙ e in cc;
         declined_before = low;
-        out = OnTrue_from (is_out stage) _ (λ e. never_both (is_out stage) e not_out);
-        out_head = OnTrue_from (is_out stage) _ (λ e. never_both (is_out stage) e not_out);
+        out = OnTrue_from (is_spoken_for stage) _ (λ e. never_both (is_spoken_for stage) e not_out);
+        out_head = OnTrue_from (is_spoken_for stage) _ (λ e. never_both (is_spoken_for stage) e not_out);
         offers = not_posted;
         admitted = OnTrue_from (speaks_of o.next stage) _ (λ e. absurd (silent e));
         put_off = OnTrue_from (is_put_off stage) _ (λ e. never_both (is_put_off stage) e not_off);
@@ -72,7 +85,7 @@ module _ {pending : Bool} {stopped : Option Outcome} (o : OutletState) (law : Ou
       (λ j l other out. OnTrue_at out (law.each j l).out)
       law.offer_there
       (λ j e. elim (cases_eq j k) [
-        | inl same ↦ never_both (is_out (stage_at o k)) (let there : is_out (stage_at o k) ≡ true = rw same at (law.offer_out j e) in there) was_home
+        | inl same ↦ never_both (is_spoken_for (stage_at o k)) (let there : is_spoken_for (stage_at o k) ≡ true = rw same at (law.offer_out j e) in there) was_home
         | inr other ↦ rw (get_or-set_other o.ends k j (record end { declined = declined; stage = stage }) no_end other) (law.offer_out j e)
       ])
       (λ e. absurd (silent e))
@@ -89,15 +102,16 @@ module _ {pending : Bool} {stopped : Option Outcome} (o : OutletState) (law : Ou
       let offer = offer_kept k stage o.offer in
       let spoke : speaks_of o.next stage ≡ true → speaks_of o.next (stage_at o k) ≡ true =
       λ e. id_speaks o.next (stage_at o k) (tells.same_id o.next (speaks_id o.next stage e)) in
-      one_changes o law k here (record end { stage = stage }) offer
+      renewed (record o { ends = set o.ends k (record end { stage = stage }); offer = offer }) (o.renewing || source_is_released (stage_at o k) phase)
+      (one_changes o law k here (record end { stage = stage }) offer
       (record {
         risen = old.risen;
         none_later = λ i e. old.none_later i (tells.same_id i e);
         declined_before = old.declined_before;
-        out = OnTrue_from (is_out stage) _ (λ e. kept_mine k stage o.offer e (OnTrue_at (tells.was_out old.offers e) old.out));
-        out_head = OnTrue_from (is_out stage) _ (λ e. out_speaks stage o.next e
+        out = OnTrue_from (is_spoken_for stage) _ (λ e. kept_mine k stage o.offer e (OnTrue_at (tells.was_spoken old.offers e) old.out));
+        out_head = OnTrue_from (is_spoken_for stage) _ (λ e. out_speaks stage o.next e
             (λ i is. let was : id_of (stage_at o k) ≡ Some i = tells.same_id i is in
-            let spoken : speaks_of o.next (stage_at o k) ≡ true = OnTrue_at (tells.was_out old.offers e) old.out_head in
+            let spoken : speaks_of o.next (stage_at o k) ≡ true = OnTrue_at (tells.was_spoken old.offers e) old.out_head in
             let id : id_of (stage_at o k) ≡ Some o.next = speaks_id o.next (stage_at o k) spoken in cc));
         offers = tells.not_posted old.offers;
         admitted = OnTrue_from (speaks_of o.next stage) _ (λ e. OnTrue_at (spoke e) old.admitted);
@@ -116,7 +130,7 @@ module _ {pending : Bool} {stopped : Option Outcome} (o : OutletState) (law : Ou
       ])
       (λ e. law.ready k here (spoke e))
       (λ j l e. law.in_order j k l here (spoke e))
-      (past_stays (rejects end.rule.when (head_of o)) end.rule.steady (is_cut end) (is_refused (stage_at o k)) (is_refused stage) tells.refused)
+      (past_stays (rejects end.rule.when (head_of o)) end.rule.steady (is_cut end) (is_refused (stage_at o k)) (is_refused stage) tells.refused))
 
 pub offers_keep : (pending : Bool) (o : OutletState) → OutletLaw pending None o → (k : ℕ) → may_offer o ≡ Some k
     → o.parcel ≡ head_of o → OutletLaw pending None (offers k o)
@@ -127,7 +141,8 @@ offers_keep pending o law k may ready =
     let stage = Out o.next in
     let free : stage_at o k ≡ Free = free_is (stage_at o k) next.free in
     let none = none_true (is_over end.stage) (is_cut end) (speaks_of o.next end.stage) (end.declined == o.next) (rejects end.rule.when (head_of o)) next.stops in
-    one_changes o law k next.there (record end { stage = stage }) (Some k)
+    renewed (record o { ends = set o.ends k (record end { stage = stage }); offer = Some k }) false
+    (one_changes o law k next.there (record end { stage = stage }) (Some k)
     (record {
       risen = old.risen;
       none_later = λ i e. let same : o.next ≡ i = cc in omega arith;
@@ -151,7 +166,7 @@ offers_keep pending o law k may ready =
     (subst (λ (offer : Option ℕ). EndLaw o.next (head_of o) offer pending None j (end_at o j)) next.none_out
     (law.each j (let near : j < length o.ends = omega (arith, l, next.there) in near))) (next.earlier j l))
     (past_stays (rejects end.rule.when (head_of o)) end.rule.steady (is_cut end) (is_refused (stage_at o k)) false
-    (λ e. let no : is_refused Free ≡ true = rw free at e in cc))
+    (λ e. let no : is_refused Free ≡ true = rw free at e in cc)))
 
 -- What is put
 
@@ -256,7 +271,7 @@ record Wanted (next k : ℕ) (offer : Option ℕ) (stage : SourceStage) : Type 0
   alone : (j : ℕ) → j ≢ k → offer ≡ Some j → ⊥
 
 wanted_alone : (next k : ℕ) (offer : Option ℕ) (stage : SourceStage) → is_wanted next (is_some offer) stage ≡ true
-    → (is_out stage ≡ true → offer ≡ Some k) → Wanted next k offer stage
+    → (is_spoken_for stage ≡ true → offer ≡ Some k) → Wanted next k offer stage
 wanted_alone next k offer (Accepted i) e mine = record {
   speaks = e;
   alone = λ j other is. other (let same : Some j ≡ Some k = sym is ∙ mine refl in cc);
@@ -264,9 +279,10 @@ wanted_alone next k offer (Accepted i) e mine = record {
 wanted_alone next k offer (Wished i) e mine =
     let all = and_parts (i == next) (not (is_some offer)) e in
     record { speaks = all.0; alone = λ j other is. let none : None ≡ Some j = sym (not_some offer all.1) ∙ is in cc }
-wanted_alone next k offer (Claimed i) e mine =
-    let all = and_parts (i == next) (not (is_some offer)) e in
-    record { speaks = all.0; alone = λ j other is. let none : None ≡ Some j = sym (not_some offer all.1) ∙ is in cc }
+wanted_alone next k offer (Claimed i) e mine = record {
+  speaks = e;
+  alone = λ j other is. other (let same : Some j ≡ Some k = sym is ∙ mine refl in cc);
+}
 wanted_alone next k offer Free e mine = cc
 wanted_alone next k offer (Posted _) e mine = cc
 wanted_alone next k offer (Out _) e mine = cc
@@ -307,8 +323,8 @@ module _ {pending : Bool} {stopped : Option Outcome} (o : OutletState) (law : Ou
     risen = omega (arith, old.risen);
     none_later = λ i e. let low : i ≤ o.next = old.none_later i e in omega arith;
     declined_before = omega (arith, old.declined_before);
-    out = OnTrue_from (is_out end.stage) _ (λ e. absurd (is_wanted_here.alone j other (OnTrue_at e old.out)));
-    out_head = OnTrue_from (is_out end.stage) _ (λ e. absurd (is_wanted_here.alone j other (OnTrue_at e old.out)));
+    out = OnTrue_from (is_spoken_for end.stage) _ (λ e. absurd (is_wanted_here.alone j other (OnTrue_at e old.out)));
+    out_head = OnTrue_from (is_spoken_for end.stage) _ (λ e. absurd (is_wanted_here.alone j other (OnTrue_at e old.out)));
     offers = old.offers;
     admitted = OnTrue_from (speaks_of (o.next + 1) end.stage) _ (λ e. absurd (later_silent o.next end.stage old.none_later e));
     put_off = old.put_off;
@@ -357,6 +373,55 @@ module _ {pending : Bool} {stopped : Option Outcome} (o : OutletState) (law : Ou
     in_order = λ j i before l e. absurd (later_none i l e);
   }
 
+-- What is kept
+
+asked_for : (next : ℕ) (stage : SourceStage) → is_asked next stage ≡ true
+    → (speaks_of next stage ≡ true) × (is_put_off stage ≡ true) × (is_refused stage ≡ false)
+asked_for next (AskedBy i) e = (e, refl, refl)
+asked_for next Free e = cc
+asked_for next (Posted _) e = cc
+asked_for next (Out _) e = cc
+asked_for next (Waiting _) e = cc
+asked_for next (Accepted _) e = cc
+asked_for next (Wished _) e = cc
+asked_for next (Reserved _) e = cc
+asked_for next (Claimed _) e = cc
+asked_for next Crossing e = cc
+asked_for next Refused e = cc
+asked_for next (Ended _) e = cc
+
+pub holds_keep : {pending : Bool} {stopped : Option Outcome} (o : OutletState) → OutletLaw pending stopped o → (k : ℕ) → k < length o.ends
+    → may_hold k o ≡ true → OutletLaw pending stopped (holds k o)
+holds_keep o law k here may =
+    let old = law.each k here in
+    let end = end_at o k in
+    let parts = and_parts (is_asked o.next (stage_at o k)) (not (is_some o.offer)) may in
+    let tells = asked_for o.next (stage_at o k) parts.0 in
+    let none : o.offer ≡ None = not_some o.offer parts.1 in
+    one_changes o law k here (record end { stage = Reserved o.next }) (Some k)
+    (record {
+      risen = old.risen;
+      none_later = λ i e. let same : o.next ≡ i = cc in omega arith;
+      declined_before = old.declined_before;
+      out = refl;
+      out_head = number_same o.next;
+      offers = refl;
+      admitted = OnTrue_from (o.next == o.next) _ (λ _. OnTrue_at tells.0 old.admitted);
+      put_off = OnTrue_at tells.1 old.put_off;
+      within = old.within;
+      room = λ i e. old.room o.next (speaks_id o.next (stage_at o k) tells.0);
+      ended = λ how e. cc;
+      given_up = old.given_up;
+      given_up_late = old.given_up_late;
+    })
+    (λ j l other out. let mine : o.offer ≡ Some j = OnTrue_at out (law.each j l).out in let no : None ≡ Some j = sym none ∙ mine in cc)
+    (λ j e. let same : k ≡ j = cc in subst (λ (n : ℕ). n < length o.ends) same here)
+    (λ j e. let same : j ≡ k = cc in rw (same, get_or-set_same o.ends k (record end { stage = Reserved o.next }) no_end here) refl)
+    (λ _. law.ready k here tells.0)
+    (λ j l _. law.in_order j k l here tells.0)
+    (past_stays (rejects end.rule.when (head_of o)) end.rule.steady (is_cut end) (is_refused (stage_at o k)) false
+    (λ e. never_both (is_refused (stage_at o k)) e tells.2))
+
 -- What is taken back, and what ends
 
 module _ {pending : Bool} {stopped : Option Outcome} (o : OutletState) (law : OutletLaw pending stopped o) (k : ℕ) (here : k < length o.ends) where
@@ -368,24 +433,38 @@ module _ {pending : Bool} {stopped : Option Outcome} (o : OutletState) (law : Ou
       (λ e. never_both (is_refused (stage_at o k)) e home.1) old.declined_before
       (λ e. (OnTrue_at e old.given_up, OnTrue_at e old.given_up_late))
 
-  pub withdraws_keep : is_waiting (stage_at o k) ≡ true → (speaks_of o.next (stage_at o k) ≡ true → pending ≡ true)
+  pub withdraws_keep : is_waiting (stage_at o k) ≡ true
+      → (o.renewing ≡ false → speaks_of o.next (stage_at o k) ≡ true → pending ≡ true)
       → OutletLaw pending stopped (withdraws k o)
   withdraws_keep wait up =
       let old = law.each k here in
       let waits = waits_for (stage_at o k) wait in
       let low : waits.id ≤ o.next = old.none_later waits.id (ap id_of waits.is) in
       let steady : (end_at o k).rule.steady ≡ false = OnTrue_at (ap is_put_off waits.is) old.put_off in
-      let same : unwrap_or (id_of (stage_at o k)) 0 ≡ waits.id = ap (λ (stage : SourceStage). unwrap_or (id_of stage) 0) waits.is in
-      rw same (settles_keep o law k here Free waits.id refl refl refl refl (ap is_out waits.is) (λ how e. cc)
-      (λ e. let no : is_refused (Waiting waits.id) ≡ true = sym (ap is_refused waits.is) ∙ e in cc) low
-      (λ e. (up (ap (speaks_of o.next) waits.is ∙ e), steady)))
+      withdrawn old waits steady low o.renewing refl
+    where
+      freed : (old : EndLaw o.next (head_of o) o.offer pending stopped k (end_at o k)) (waits : Waits (stage_at o k)) (declined : ℕ)
+          → declined ≤ o.next → ((declined == o.next) ≡ true → (pending ≡ true) × ((end_at o k).rule.steady ≡ false))
+          → OutletLaw pending stopped (changes k Free declined o)
+      freed old waits declined low up =
+          settles_keep o law k here Free declined refl refl refl refl (ap is_spoken_for waits.is) (λ how e. cc)
+          (λ e. let no : is_refused (Waiting waits.id) ≡ true = sym (ap is_refused waits.is) ∙ e in cc) low up
+
+      withdrawn : (old : EndLaw o.next (head_of o) o.offer pending stopped k (end_at o k)) (waits : Waits (stage_at o k))
+          → (end_at o k).rule.steady ≡ false → waits.id ≤ o.next → (renewing : Bool) → o.renewing ≡ renewing
+          → OutletLaw pending stopped (changes k Free (cond renewing (end_at o k).declined (unwrap_or (id_of (stage_at o k)) 0)) o)
+      withdrawn old waits steady low true e =
+          freed old waits (end_at o k).declined old.declined_before (λ up. (OnTrue_at up old.given_up, OnTrue_at up old.given_up_late))
+      withdrawn old waits steady low false e =
+          let same : unwrap_or (id_of (stage_at o k)) 0 ≡ waits.id = ap (λ (stage : SourceStage). unwrap_or (id_of stage) 0) waits.is in
+          rw same (freed old waits waits.id low (λ speaks. (up e (ap (speaks_of o.next) waits.is ∙ speaks), steady)))
 
   pub ends_keep : (how : LinkEnd) → is_free (stage_at o k) ≡ true → end_of (end_at o k) stopped ≡ Some how
       → OutletLaw pending stopped (ends_link k how o)
   ends_keep how free e =
       let old = law.each k here in
       let is : stage_at o k ≡ Free = free_is (stage_at o k) free in
-      settles_keep o law k here (Ended how) (end_at o k).declined refl refl refl refl (ap is_out is)
+      settles_keep o law k here (Ended how) (end_at o k).declined refl refl refl refl (ap is_spoken_for is)
       (λ other same. let equal : how ≡ other = cc in e ∙ ap Some equal)
       (λ r. let no : is_refused Free ≡ true = sym (ap is_refused is) ∙ r in cc) old.declined_before
       (λ up. (OnTrue_at up old.given_up, OnTrue_at up old.given_up_late))

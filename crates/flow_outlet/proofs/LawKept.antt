@@ -1,6 +1,6 @@
 -- Each call keeps the outlet's law.
 use Rattle.flow_outlet.specs.Keeps.{CallsKeepLaw, GivesInOrder}
-use Rattle.flow_outlet.proofs.EndsKeepLaw.{given_admitted, given_in_order, gives_keep, looks_keep, offers_keep, puts_keep, sets_aside_keep, puts_aside_keep, prepares_keep, room_keeps, fresh_keeps, denies_keep, withdraws_keep, ends_keep, fault_keeps, stop_keeps}
+use Rattle.flow_outlet.proofs.EndsKeepLaw.{given_admitted, given_in_order, gives_keep, looks_keep, offers_keep, puts_keep, sets_aside_keep, puts_aside_keep, prepares_keep, room_keeps, fresh_keeps, holds_keep, denies_keep, withdraws_keep, ends_keep, fault_keeps, stop_keeps}
 
 pub gives_in_order : GivesInOrder
 gives_in_order = record {
@@ -19,6 +19,7 @@ calls_keep_law = record {
   offer = offers_keep;
   look = λ pending stopped o law k here. looks_keep o law k here;
   give = λ pending stopped o law k here may room. gives_keep o law k here may room;
+  hold = λ pending stopped o law k here may. holds_keep o law k here may;
   deny = λ pending stopped o law k here wish. denies_keep o law k here wish;
   withdraw = λ pending stopped o law k here wait up. withdraws_keep o law k here wait up;
   ends = λ pending stopped o law k here how free e. ends_keep o law k here how free e;

@@ -1,5 +1,6 @@
 pub mod CursorMoves
 pub mod EndsKeepLaw
+pub mod HeadRenewed
 pub mod LawKept
 pub mod LookTells
 pub mod MovesAllowed

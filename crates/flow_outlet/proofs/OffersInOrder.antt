@@ -1,11 +1,11 @@
 -- The head is offered next where link order says, and nowhere only where nobody is left to offer it to.
 use Rattle.std.proofs.Common.{◌≡◌, ℕ, ◌+◌, ◌<◌, ◌≤◌, ◌||◌, not, zero, suc, ltb, cond, Bool, true, false, List, [], ◌∷◌, length, Option, Some, None, is_some, refl, ◌∙◌, ap, subst, inl, inr, arith}
-use Rattle.std.proofs.lemmas.Bool.{cases_lt, ltb-true, lt-ltb}
+use Rattle.std.proofs.lemmas.Bool.{cases_lt, ltb-true, lt-ltb, or_parts}
 use Rattle.flow_value.specs.declared.value.Value.{Value}
 use Rattle.flow_lists.proofs.ListTests.{never_both}
 use Rattle.flow_outlet.specs.declared.ends.OutEnd.{OutEnd}
 use Rattle.flow_outlet.specs.End.{is_passed, place_in, end_in, is_free}
-use Rattle.flow_outlet.specs.Outlet.{OutletState, head_of, is_empty, stage_at, may_offer}
+use Rattle.flow_outlet.specs.Outlet.{OutletState, head_of, is_empty, stage_at, is_held_back, is_renewing, may_offer}
 use Rattle.flow_outlet.specs.Order.{StopsAt, IsNextOffer, IsHeldBack, OffersInOrder}
 
 earlier_in : (next : ℕ) (head : Option Value) (e : OutEnd) (es : List OutEnd) (b : Bool) → is_passed next head e ≡ b
@@ -69,6 +69,9 @@ busy_then : (a b c d : Bool) (n : ℕ) → cond (a || b || not c || not d) None 
 busy_then a b c true n e p q r = let chosen : cond (a || b || not c || not true) None (Some n) ≡ Some n = rw (p, q, r) refl in cc
 busy_then a b c false n e p q r = refl
 
+none_back : (a b : Bool) → a ≡ false → b ≡ false → (a || b) ≡ false
+none_back a b e f = rw (e, f) refl
+
 is_none_is : (offer : Option ℕ) → is_some offer ≡ false → offer ≡ None
 is_none_is None e = refl
 is_none_is (Some k) e = cc
@@ -76,13 +79,14 @@ is_none_is (Some k) e = cc
 pub named_is : (o : OutletState) (k : ℕ) → may_offer o ≡ Some k → IsNextOffer o k
 named_is o k e =
     let place = place_in o.next (head_of o) o.ends in
-    let all = chosen (is_empty o.left) (is_some o.offer) (ltb place (length o.ends)) (is_free (stage_at o place)) place k e in
+    let all = chosen (is_empty o.left) (is_held_back o) (ltb place (length o.ends)) (is_free (stage_at o place)) place k e in
     let there : place < length o.ends = ltb-true place (length o.ends) all.there in
     let at = λ (n : ℕ). n < length o.ends in
     record {
       there = subst at all.same there;
       some_left = all.is_some;
-      none_out = is_none_is o.offer all.is_none;
+      none_out = is_none_is o.offer (or_parts (is_some o.offer) (is_renewing o) all.is_none).0;
+      none_back = (or_parts (is_some o.offer) (is_renewing o) all.is_none).1;
       stops = subst (λ (n : ℕ). StopsAt o n) all.same (stops_there o.next (head_of o) o.ends there);
       free = subst (λ (n : ℕ). is_free (stage_at o n) ≡ true) all.same all.free;
       earlier = λ j l. earlier_passed o.next (head_of o) o.ends j (let here : j < place = rw all.same l in here);
@@ -99,11 +103,11 @@ is_named o k next =
     ] in
     let there : ltb place (length o.ends) ≡ true = lt-ltb place (length o.ends) (let near : place < length o.ends = rw same next.there in near) in
     let free : is_free (stage_at o place) ≡ true = rw same next.free in
-    choose _ _ _ _ place next.some_left (ap is_some next.none_out) there free ∙ ap Some same
+    choose _ _ _ _ place next.some_left (none_back (is_some o.offer) (is_renewing o) (ap is_some next.none_out) next.none_back) there free ∙ ap Some same
 
-none_is : (o : OutletState) → may_offer o ≡ None → is_empty o.left ≡ false → o.offer ≡ None
+none_is : (o : OutletState) → may_offer o ≡ None → is_empty o.left ≡ false → o.offer ≡ None → is_renewing o ≡ false
     → (k : ℕ) → k < length o.ends → StopsAt o k → IsHeldBack o k
-none_is o e left out k l stops =
+none_is o e left out back k l stops =
     let place = place_in o.next (head_of o) o.ends in
     let before : place ≤ k = first_stop o.next (head_of o) o.ends k stops in
     let near : place < length o.ends = omega arith in
@@ -111,7 +115,7 @@ none_is o e left out k l stops =
       place = place;
       before = before;
       stops = stops_there o.next (head_of o) o.ends near;
-      busy = busy_then _ _ _ (is_free (stage_at o place)) place e left (ap is_some out) (lt-ltb place (length o.ends) near);
+      busy = busy_then _ _ _ (is_free (stage_at o place)) place e left (none_back (is_some o.offer) (is_renewing o) (ap is_some out) back) (lt-ltb place (length o.ends) near);
     }
 
 pub offers_in_order : OffersInOrder

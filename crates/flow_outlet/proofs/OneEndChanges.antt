@@ -6,7 +6,7 @@ use Rattle.std.proofs.lemmas.List.{length-set, get_or-set_same, get_or-set_other
 use Rattle.flow_value.specs.declared.value.Value.{Value}
 use Rattle.flow_link.specs.declared.trace.Outcome.{Outcome}
 use Rattle.flow_outlet.specs.declared.ends.OutEnd.{OutEnd}
-use Rattle.flow_outlet.specs.End.{speaks_of, is_out, end_in, no_end}
+use Rattle.flow_outlet.specs.End.{speaks_of, is_spoken_for, end_in, no_end}
 use Rattle.flow_outlet.specs.Outlet.{OutletState, head_of, end_at, stage_at}
 use Rattle.flow_outlet.specs.Law.{EndLaw, OutletLaw, may_go_past}
 
@@ -21,13 +21,13 @@ each_set P ends k end here at_k elsewhere j l = elim (cases_eq j k) [
 
 -- the end's law reads of the offer only whether it is its own
 pub framed : {next : ℕ} {head : Option Value} {before : Option ℕ} {pending : Bool} {stopped : Option Outcome} {k : ℕ} {end : OutEnd}
-    (offer : Option ℕ) → EndLaw next head before pending stopped k end → (is_out end.stage ≡ true → offer ≡ Some k)
+    (offer : Option ℕ) → EndLaw next head before pending stopped k end → (is_spoken_for end.stage ≡ true → offer ≡ Some k)
     → EndLaw next head offer pending stopped k end
 framed {end = end} offer law out = record {
   risen = law.risen;
   none_later = law.none_later;
   declined_before = law.declined_before;
-  out = OnTrue_from (is_out end.stage) _ out;
+  out = OnTrue_from (is_spoken_for end.stage) _ out;
   out_head = law.out_head;
   offers = law.offers;
   admitted = law.admitted;
@@ -60,9 +60,9 @@ module _ {pending : Bool} {stopped : Option Outcome} (o : OutletState) (law : Ou
   ]
 
   pub one_changes : EndLaw o.next (head_of o) offer pending stopped k end
-      → ((j : ℕ) → j < length o.ends → j ≢ k → is_out (stage_at o j) ≡ true → offer ≡ Some j)
+      → ((j : ℕ) → j < length o.ends → j ≢ k → is_spoken_for (stage_at o j) ≡ true → offer ≡ Some j)
       → ForSome offer (λ j. j < length o.ends)
-      → ForSome offer (λ j. is_out (end_in (set o.ends k end) j).stage ≡ true)
+      → ForSome offer (λ j. is_spoken_for (end_in (set o.ends k end) j).stage ≡ true)
       → (speaks_of o.next end.stage ≡ true → o.parcel ≡ head_of o)
       → ((j : ℕ) → j < k → speaks_of o.next end.stage ≡ true → may_go_past (head_of o) (end_at o j) ≡ true)
       → (may_go_past (head_of o) (end_at o k) ≡ true → may_go_past (head_of o) end ≡ true)

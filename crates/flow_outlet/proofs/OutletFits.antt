@@ -10,7 +10,7 @@ use Rattle.flow_outlet.specs.declared.ends.LinkRule.{LinkRule}
 use Rattle.flow_outlet.specs.declared.ends.OutEnd.{OutEnd}
 use Rattle.flow_outlet.specs.declared.group.Group.{Group}
 use Rattle.flow_outlet.specs.End.{end_in, no_end, fresh_end, is_away, is_waiting, cursor_after, place_in, count_at}
-use Rattle.flow_outlet.specs.ByLink.{forgotten, forgotten_stage}
+use Rattle.flow_outlet.specs.ByLink.{forgotten, forgotten_stage, forgotten_for}
 use Rattle.flow_outlet.specs.Fits.{Fits, weight_of}
 use Rattle.flow_outlet.specs.Outlet.{first_of, is_empty, recounted, given_end, groups_after, weight_at, groups_with, room_with}
 use Rattle.flow_outlet.proofs.CursorMoves.{cursor_is, count_is, count_some, count_below}
@@ -219,7 +219,31 @@ no_waiting : (ends : List OutEnd) → count_at is_waiting (map forgotten ends) �
 no_waiting [] = refl
 no_waiting (end ∷ ends) = rw (none_waits end.stage, no_waiting ends) refl
 
+-- the same, where it is forgotten what was declined, too
+away_less_for : (id : ℕ) (ends : List OutEnd) → count_at is_away (map (forgotten_for id) ends) + count_at is_waiting ends ≡ count_at is_away ends
+away_less_for id [] = omega arith
+away_less_for id (end ∷ ends) = omega (arith, away_less_for id ends, one_less end.stage)
+
+no_waiting_for : (id : ℕ) (ends : List OutEnd) → count_at is_waiting (map (forgotten_for id) ends) ≡ 0
+no_waiting_for id [] = refl
+no_waiting_for id (end ∷ ends) = rw (none_waits end.stage, no_waiting_for id ends) refl
+
 module _ {ends : List OutEnd} {left : List Value} {next : ℕ} {parcel : Option Value} {groups : List Group} {room cursor away waiting spare space slots : ℕ} (fits : Fits ends left next parcel groups room cursor away waiting spare space slots) where
+  pub fits_forgotten_for : Fits (map (forgotten_for next) ends) left next parcel groups room
+      (0 + place_in next (first_of left) (drop 0 (map (forgotten_for next) ends))) (away - waiting) 0 spare space slots
+  fits_forgotten_for = record {
+    few = omega (arith, fits.few, length-map ends (forgotten_for next));
+    cursor_is = omega arith;
+    away_is = omega (arith, fits.away_is, fits.waiting_is, away_less_for next ends);
+    waiting_is = sym (no_waiting_for next ends);
+    ids_begin = fits.ids_begin;
+    ids_fit = fits.ids_fit;
+    values_fit = fits.values_fit;
+    groups_fit = fits.groups_fit;
+    room_fits = fits.room_fits;
+    parcel_is = fits.parcel_is;
+  }
+
   pub waiting_less : waiting ≤ away
   waiting_less = omega (arith, fits.away_is, fits.waiting_is, away_less ends)
 

@@ -1,12 +1,12 @@
 -- What is left where the head went over a link in one call: one end counts it, and nothing is under way there.
-use Rattle.std.proofs.Common.{◌≡◌, ℕ, ◌+◌, ◌<◌, ◌≤◌, ◌^◌, Bool, true, false, List, ◌∷◌, length, set, get_or, drop, Option, Some, None, refl, sym, ◌∙◌, ap, arith}
+use Rattle.std.proofs.Common.{◌≡◌, ℕ, ◌+◌, ◌<◌, ◌≤◌, ◌^◌, ◌||◌, Bool, true, false, List, ◌∷◌, length, set, get_or, drop, Option, Some, None, refl, sym, ◌∙◌, ap, arith}
 use Rattle.std.proofs.lemmas.List.{length-set, set-set, get_or_read, get_or-set_same}
 use Rattle.flow_value.specs.declared.value.Value.{Value}
 use Rattle.flow_link.specs.declared.phase.Phase.{Phase}
 use Rattle.flow_link.specs.declared.phase.Phase.TheVariants.{Idle, Wanted, Opened}
 use Rattle.flow_link.specs.declared.stage.SourceStage.{SourceStage}
 use Rattle.flow_link.specs.declared.stage.SourceStage.TheVariants.{Free, Posted, Out, Waiting, Accepted, Wished, AskedBy, Reserved, Claimed, Crossing, Refused, Ended}
-use Rattle.flow_link.specs.Stage.{source_looks}
+use Rattle.flow_link.specs.Stage.{source_looks, source_is_released}
 use Rattle.flow_outlet.specs.declared.ends.OutEnd.{OutEnd}
 use Rattle.flow_outlet.specs.declared.group.Group.{Group}
 use Rattle.flow_outlet.specs.End.{no_end, end_in, is_free, is_away, is_waiting, place_in, count_at}
@@ -86,11 +86,13 @@ looked_from : (o : OutletState) (k : ℕ) (end : OutEnd) (phase : Phase) → end
     ≡ record o {
       ends = set o.ends k (record end { stage = source_looks end.stage phase });
       offer = offer_kept k (source_looks end.stage phase) o.offer;
+      renewing = o.renewing || source_is_released end.stage phase;
     }
 looked_from o k end phase e =
     ap (λ (x : OutEnd). record o {
       ends = set o.ends k (record x { stage = source_looks x.stage phase });
       offer = offer_kept k (source_looks x.stage phase) o.offer;
+      renewing = o.renewing || source_is_released x.stage phase;
     }) e
 
 looked_at : (o : OutletState) (k : ℕ) (ends : List OutEnd) (end : OutEnd) (phase : Phase) → k < length ends
@@ -98,10 +100,15 @@ looked_at : (o : OutletState) (k : ℕ) (ends : List OutEnd) (end : OutEnd) (pha
     ≡ record o {
       ends = set ends k (record end { stage = source_looks end.stage phase });
       offer = offer_kept k (source_looks end.stage phase) o.offer;
+      renewing = o.renewing || source_is_released end.stage phase;
     }
 looked_at o k ends end phase l =
     looked_from (record o { ends = set ends k end }) k end phase (get_or-set_same ends k end no_end l)
-    ∙ ap (λ (all : List OutEnd). record o { ends = all; offer = offer_kept k (source_looks end.stage phase) o.offer })
+    ∙ ap (λ (all : List OutEnd). record o {
+      ends = all;
+      offer = offer_kept k (source_looks end.stage phase) o.offer;
+      renewing = o.renewing || source_is_released end.stage phase;
+    })
     (set-set ends k end (record end { stage = source_looks end.stage phase }))
 
 gave_at : (o : OutletState) (k : ℕ) (ends : List OutEnd) (end : OutEnd) → k < length ends
@@ -123,9 +130,9 @@ sends_is : (o : OutletState) (k : ℕ) → k < length o.ends → sends k o ≡ s
 sends_is o k l =
     let given = given_end o.next (accepted_end o k) in
     ap (λ s. looks k Idle (looks k (Opened o.next) (gives k s)))
-    (looked_at (record o { offer = Some k }) k o.ends (offered_end o k) (Wanted o.next) l)
+    (looked_at (record o { offer = Some k; renewing = false }) k o.ends (offered_end o k) (Wanted o.next) l)
     ∙ ap (λ s. looks k Idle (looks k (Opened o.next) s))
-    (gave_at (record o { offer = offer_kept k (Accepted o.next) (Some k) }) k o.ends (accepted_end o k) l)
+    (gave_at (record o { offer = offer_kept k (Accepted o.next) (Some k); renewing = false }) k o.ends (accepted_end o k) l)
     ∙ ap (λ s. looks k Idle s) (looked_at (gives k o) k o.ends given (Opened o.next) l)
     ∙ looked_at (gives k o) k o.ends given Idle l
 
@@ -139,6 +146,7 @@ pub is_sent : (o : OutletState) (k : ℕ) → IsNextOffer o k → (before end : 
       left = rest;
       next = o.next + 1;
       offer = o.offer;
+      renewing = false;
       parcel = parcel;
       groups = groups;
       room = o.room + back;

@@ -8,7 +8,7 @@ use Rattle.flow_link.specs.declared.phase.LinkEnd.TheVariants.{Plain}
 use Rattle.flow_link.specs.declared.stage.SourceStage.{SourceStage}
 use Rattle.flow_link.specs.declared.stage.SourceStage.TheVariants.{Free, Posted, Out, Waiting, Accepted, Wished, AskedBy, Reserved, Claimed, Crossing, Refused, Ended}
 use Rattle.flow_outlet.specs.declared.ends.OutEnd.{OutEnd}
-use Rattle.flow_outlet.specs.End.{id_of, is_id, speaks_of, is_out, is_over, is_free, is_waiting, is_cut, is_passed, rejects}
+use Rattle.flow_outlet.specs.End.{id_of, is_id, speaks_of, is_spoken_for, is_over, is_free, is_waiting, is_cut, is_passed, rejects}
 use Rattle.flow_outlet.specs.Outlet.{offer_kept, is_at, is_wish}
 use Rattle.flow_outlet.specs.Law.{EndLaw, is_put_off, is_posted, is_refused, may_go_past}
 
@@ -44,8 +44,8 @@ is_id_of id o e = rw e (number_same id)
 pub id_speaks : (id : ℕ) (stage : SourceStage) → id_of stage ≡ Some id → speaks_of id stage ≡ true
 id_speaks id stage e = is_id_of id (id_of stage) e
 
--- a message that is spoken of is out, or was put off
-pub out_or_off : (stage : SourceStage) (i : ℕ) → is_posted stage ≡ false → id_of stage ≡ Some i → is_out stage ≡ false
+-- a message that a stage speaks of is spoken for, or was put off
+pub out_or_off : (stage : SourceStage) (i : ℕ) → is_posted stage ≡ false → id_of stage ≡ Some i → is_spoken_for stage ≡ false
     → is_put_off stage ≡ true
 out_or_off (Posted _) i p e n = cc
 out_or_off (Out _) i p e n = cc
@@ -53,8 +53,8 @@ out_or_off (Waiting _) i p e n = refl
 out_or_off (Accepted _) i p e n = cc
 out_or_off (Wished _) i p e n = refl
 out_or_off (AskedBy _) i p e n = refl
-out_or_off (Reserved _) i p e n = refl
-out_or_off (Claimed _) i p e n = refl
+out_or_off (Reserved _) i p e n = cc
+out_or_off (Claimed _) i p e n = cc
 out_or_off Free i p e n = cc
 out_or_off Crossing i p e n = cc
 out_or_off Refused i p e n = cc
@@ -144,7 +144,7 @@ goes_past_well {next} {head} end law passed =
     (λ over. over_then end over (λ how e. cut_then (is_cut end) None how (law.ended how e) refl) end.stage refl head)
     (λ cut. past_cut a end.rule.steady (is_cut end) d cut)
     (λ speaks.
-    let not_out : is_out end.stage ≡ false = false_from_ne_true (is_out end.stage)
+    let not_out : is_spoken_for end.stage ≡ false = false_from_ne_true (is_spoken_for end.stage)
     (λ out. let none : None ≡ Some _ = OnTrue_at out law.out in let never : ⊥ = cc in never) in
     unsteady (OnTrue_at (out_or_off end.stage next law.offers (speaks_id next end.stage speaks) not_out) law.put_off))
     (λ up. unsteady (OnTrue_at up law.given_up_late))
@@ -159,8 +159,8 @@ kept_where false true offer e = refl
 kept_where true false offer e = cc
 kept_where false false offer e = cc
 
-pub kept_mine : (k : ℕ) (stage : SourceStage) (offer : Option ℕ) → is_out stage ≡ true → offer ≡ Some k → offer_kept k stage offer ≡ Some k
-kept_mine k stage offer out mine = kept_where (is_at offer k) (is_out stage) offer out ∙ mine
+pub kept_mine : (k : ℕ) (stage : SourceStage) (offer : Option ℕ) → is_spoken_for stage ≡ true → offer ≡ Some k → offer_kept k stage offer ≡ Some k
+kept_mine k stage offer out mine = kept_where (is_at offer k) (is_spoken_for stage) offer out ∙ mine
 
 pub kept_off : (mine out : Bool) (offer : Option ℕ) → mine ≡ false → cond (mine && not out) None offer ≡ offer
 kept_off true out offer e = cc
@@ -170,7 +170,7 @@ pub elsewhere_at : (k j : ℕ) (offer : Option ℕ) → j ≢ k → offer ≡ So
 elsewhere_at k j offer other e = rw e (false_from_ne_true (j == k) (λ same. other (same_number j k same)))
 
 pub kept_other : (k j : ℕ) (stage : SourceStage) (offer : Option ℕ) → j ≢ k → offer ≡ Some j → offer_kept k stage offer ≡ Some j
-kept_other k j stage offer other e = kept_off (is_at offer k) (is_out stage) offer (elsewhere_at k j offer other e) ∙ e
+kept_other k j stage offer other e = kept_off (is_at offer k) (is_spoken_for stage) offer (elsewhere_at k j offer other e) ∙ e
 
 pub was_there : (mine out : Bool) (offer : Option ℕ) (j : ℕ) → cond (mine && not out) None offer ≡ Some j → offer ≡ Some j
 was_there true true offer j e = e
@@ -178,7 +178,7 @@ was_there false out offer j e = e
 was_there true false offer j e = cc
 
 pub was_offer : (k : ℕ) (stage : SourceStage) (offer : Option ℕ) (j : ℕ) → offer_kept k stage offer ≡ Some j → offer ≡ Some j
-was_offer k stage offer j e = was_there (is_at offer k) (is_out stage) offer j e
+was_offer k stage offer j e = was_there (is_at offer k) (is_spoken_for stage) offer j e
 
 pub still_out : (mine out : Bool) (offer : Option ℕ) (k : ℕ) → cond (mine && not out) None offer ≡ Some k → mine ≡ true → out ≡ true
 still_out true true offer k e m = refl
@@ -188,11 +188,11 @@ still_out false out offer k e m = cc
 pub at_itself : (offer : Option ℕ) (k : ℕ) → offer ≡ Some k → is_at offer k ≡ true
 at_itself offer k e = rw e (number_same k)
 
-pub kept_out : (k : ℕ) (stage : SourceStage) (offer : Option ℕ) → offer_kept k stage offer ≡ Some k → is_out stage ≡ true
+pub kept_out : (k : ℕ) (stage : SourceStage) (offer : Option ℕ) → offer_kept k stage offer ≡ Some k → is_spoken_for stage ≡ true
 kept_out k stage offer e =
-    still_out (is_at offer k) (is_out stage) offer k e (at_itself offer k (was_offer k stage offer k e))
+    still_out (is_at offer k) (is_spoken_for stage) offer k e (at_itself offer k (was_offer k stage offer k e))
 
-pub out_speaks : (stage : SourceStage) (next : ℕ) → is_out stage ≡ true → ((i : ℕ) → id_of stage ≡ Some i → i ≡ next)
+pub out_speaks : (stage : SourceStage) (next : ℕ) → is_spoken_for stage ≡ true → ((i : ℕ) → id_of stage ≡ Some i → i ≡ next)
     → speaks_of next stage ≡ true
 out_speaks (Out i) next e f = let same : i ≡ next = f i refl in rw same (number_same next)
 out_speaks (Accepted i) next e f = let same : i ≡ next = f i refl in rw same (number_same next)
@@ -201,8 +201,8 @@ out_speaks (Posted _) next e f = cc
 out_speaks (Waiting _) next e f = cc
 out_speaks (Wished _) next e f = cc
 out_speaks (AskedBy _) next e f = cc
-out_speaks (Reserved _) next e f = cc
-out_speaks (Claimed _) next e f = cc
+out_speaks (Reserved i) next e f = let same : i ≡ next = f i refl in rw same (number_same next)
+out_speaks (Claimed i) next e f = let same : i ≡ next = f i refl in rw same (number_same next)
 out_speaks Crossing next e f = cc
 out_speaks Refused next e f = cc
 out_speaks (Ended _) next e f = cc
@@ -223,7 +223,7 @@ free_is Crossing e = cc
 free_is Refused e = cc
 free_is (Ended _) e = cc
 
-pub wish_home : (stage : SourceStage) → is_wish stage ≡ true → (is_out stage ≡ false) × (is_refused stage ≡ false)
+pub wish_home : (stage : SourceStage) → is_wish stage ≡ true → (is_spoken_for stage ≡ false) × (is_refused stage ≡ false)
 wish_home (Wished _) e = (refl, refl)
 wish_home (AskedBy _) e = (refl, refl)
 wish_home Free e = cc

@@ -1,11 +1,11 @@
 -- The tests of what the calls by link require tell exactly that.
-use Rattle.std.proofs.Common.{◌≡◌, ℕ, ◌↔◌, ◌&&◌, ◌||◌, not, ltb, Bool, true, false, length, Option, Some, None, is_some, refl}
-use Rattle.std.proofs.lemmas.Bool.{OnTrue_at, OnTrue_from, ltb-true, lt-ltb}
+use Rattle.std.proofs.Common.{◌≡◌, ℕ, ◌↔◌, ◌&&◌, ◌||◌, not, ltb, Bool, true, false, length, Option, Some, None, is_some, refl, ap}
+use Rattle.std.proofs.lemmas.Bool.{OnTrue_at, OnTrue_from, and_from, and_parts, not-true, ltb-true, lt-ltb}
 use Rattle.flow_link.specs.declared.stage.SourceStage.{SourceStage}
 use Rattle.flow_link.specs.declared.stage.SourceStage.TheVariants.{Free, Posted, Out, Waiting, Accepted, Wished, AskedBy, Reserved, Claimed, Crossing, Refused, Ended}
 use Rattle.flow_link.specs.LinkOk.{HasRoom}
-use Rattle.flow_outlet.specs.Outlet.{OutletState, end_at, stage_at, is_at}
-use Rattle.flow_outlet.specs.ByLink.{IsAsked, MayConsume, MayTake, place_of, is_head, is_taken, is_offered, has_room, tests_asked, tests_take, tests_consume}
+use Rattle.flow_outlet.specs.Outlet.{OutletState, end_at, stage_at, is_at, has_offer_out}
+use Rattle.flow_outlet.specs.ByLink.{IsAsked, MayConsume, MayTake, place_of, is_head, is_taken, is_offered, has_room, tests_asked, tests_take, tests_consume, is_there, MayReserve, IsReserved, is_waiting_for, is_kept_for, tests_reserve, tests_reserved}
 use Rattle.flow_outlet.proofs.StagesTell.{same_number, number_same}
 
 pub record All (a b c : Bool) : Type 0 where
@@ -91,11 +91,47 @@ pub consume_tells : (link header : ℕ) (o : OutletState)
 consume_tells link header o =
     let k = place_of link o.ends in (
       λ e.
-          let all = there_then (ltb k (length o.ends)) (is_head header o) (tests_take k o) e in
+          let all = there_then (ltb k (length o.ends)) (is_there k header o) (tests_take k o) e in
           record {
             known = ltb-true k (length o.ends) all.0;
-            there = OnTrue_from (is_head header o) _ (λ h. take_is k o (all.1 h));
+            there = OnTrue_from (is_there k header o) _ (λ h. take_is k o (all.1 h));
           },
-      λ may. then_there (ltb k (length o.ends)) (is_head header o) (tests_take k o) (lt-ltb k (length o.ends) may.known)
+      λ may. then_there (ltb k (length o.ends)) (is_there k header o) (tests_take k o) (lt-ltb k (length o.ends) may.known)
           (λ h. is_take k o (OnTrue_at h may.there)),
+    )
+
+-- What is kept
+
+waiting_is : (header : ℕ) (stage : SourceStage) → is_waiting_for header stage ≡ true → stage ≡ Waiting header
+waiting_is header (Waiting i) e = let same : i ≡ header = same_number i header e in ap Waiting same
+waiting_is header stage e = absurd (cc)
+
+kept_is : (header : ℕ) (stage : SourceStage) → is_kept_for header stage ≡ true → stage ≡ Reserved header
+kept_is header (Reserved i) e = let same : i ≡ header = same_number i header e in ap Reserved same
+kept_is header stage e = absurd (cc)
+
+pub reserve_tells : (link header : ℕ) (o : OutletState)
+    → (tests_reserve (place_of link o.ends) header o ≡ true) ↔ MayReserve link header o
+reserve_tells link header o =
+    let k = place_of link o.ends in (
+      λ e.
+          let all = all_three (ltb k (length o.ends)) (is_waiting_for header (stage_at o k)) (not (has_offer_out o)) e in
+          record {
+            known = ltb-true k (length o.ends) all.first;
+            waits = waiting_is header (stage_at o k) all.second;
+            none_out = not-true (has_offer_out o) all.third;
+          },
+      λ may. three_all (ltb k (length o.ends)) (is_waiting_for header (stage_at o k)) (not (has_offer_out o))
+          (lt-ltb k (length o.ends) may.known) (rw (may.waits) (number_same header)) (ap not may.none_out),
+    )
+
+pub reserved_tells : (link header : ℕ) (o : OutletState)
+    → (tests_reserved (place_of link o.ends) header o ≡ true) ↔ IsReserved link header o
+reserved_tells link header o =
+    let k = place_of link o.ends in (
+      λ e.
+          let both = and_parts (ltb k (length o.ends)) (is_kept_for header (stage_at o k)) e in
+          record { known = ltb-true k (length o.ends) both.0; kept = kept_is header (stage_at o k) both.1 },
+      λ kept. and_from (ltb k (length o.ends)) (is_kept_for header (stage_at o k)) (lt-ltb k (length o.ends) kept.known)
+          (rw (kept.kept) (number_same header)),
     )

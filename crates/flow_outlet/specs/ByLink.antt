@@ -4,11 +4,11 @@ use Rattle.std.specs.Bool.{OnTrue}
 use Rattle.flow_value.specs.declared.value.Value.{Value}
 use Rattle.flow_value.specs.declared.message.MessageStatus.{MessageStatus}
 use Rattle.flow_value.specs.declared.message.MessageStatus.TheVariants as status
-use Rattle.flow_link.specs.declared.phase.Phase.TheVariants.{Idle, Wanted}
+use Rattle.flow_link.specs.declared.phase.Phase.TheVariants.{Idle, Wanted, Asked, Postponed}
 use Rattle.flow_link.specs.declared.stage.SourceStage.{SourceStage}
-use Rattle.flow_link.specs.declared.stage.SourceStage.TheVariants.{Free, Out, Waiting, Accepted, Wished, Refused}
+use Rattle.flow_link.specs.declared.stage.SourceStage.TheVariants.{Free, Out, Waiting, Accepted, Wished, Reserved, Refused}
 use Rattle.flow_link.specs.LinkOk.{HasRoom}
-use Rattle.flow_outlet.specs.Outlet.{OutletState, end_at, stage_at, head_of, is_empty, is_at, may_offer, prepares, offers, changes, looks, gives}
+use Rattle.flow_outlet.specs.Outlet.{OutletState, end_at, stage_at, head_of, is_empty, is_at, may_offer, prepares, offers, changes, looks, gives, holds, has_offer_out}
 use Rattle.flow_outlet.specs.declared.ends.OutEnd.{OutEnd}
 
 -- the place of a link's end; where there is none, behind the last
@@ -62,9 +62,18 @@ answered status header k o =
 abbrev pub is_head : ℕ → OutletState → Bool
 is_head header o = header == o.next && not (is_empty o.left)
 
--- the target accepted the message; or it postponed it, and no offer is out
+-- the head is kept for another
+abbrev pub is_kept_elsewhere : ℕ → OutletState → Bool
+is_kept_elsewhere k o = is_some o.offer && not (is_at o.offer k) && not (has_offer_out o)
+
+-- the target may have the message, for all that others do
+abbrev pub is_there : ℕ → ℕ → OutletState → Bool
+is_there k header o = is_head header o && not (is_kept_elsewhere k o)
+
+-- the target accepted the message, or reserved it; or it postponed it, and it is spoken for nowhere
 abbrev pub is_taken : ℕ → Bool → SourceStage → Bool
 is_taken next out (Accepted i) = i == next
+is_taken next out (Reserved i) = i == next
 is_taken next out (Waiting i) = i == next && not out
 is_taken next out (Wished i) = i == next && not out
 is_taken next out _ = false
@@ -77,10 +86,10 @@ pub record MayTake (k : ℕ) (o : OutletState) : Type 0 where
 -- where the message is still there, the target may take it
 pub record MayConsume (link header : ℕ) (o : OutletState) : Type 0 where
   pub known : place_of link o.ends < length o.ends
-  pub there : OnTrue (is_head header o) (MayTake (place_of link o.ends) o)
+  pub there : OnTrue (is_there (place_of link o.ends) header o) (MayTake (place_of link o.ends) o)
 
-abbrev pub consumed : ℕ → OutletState → Option Value
-consumed header o = cond (is_head header o) (head_of o) None
+abbrev pub consumed : ℕ → ℕ → OutletState → Option Value
+consumed link header o = cond (is_there (place_of link o.ends) header o) (head_of o) None
 
 -- that an offer was postponed is forgotten
 abbrev pub forgotten_stage : SourceStage → SourceStage
@@ -98,7 +107,7 @@ abbrev pub gives_home : ℕ → ℕ → OutletState → OutletState
 gives_home k header o = forgets (looks k Idle (gives k (looks k (Wanted header) o)))
 
 abbrev pub consumes : ℕ → ℕ → OutletState → OutletState
-consumes link header o = cond (is_head header o) (gives_home (place_of link o.ends) header o) o
+consumes link header o = cond (is_there (place_of link o.ends) header o) (gives_home (place_of link o.ends) header o) o
 
 -- Tests of what these calls require
 
@@ -113,9 +122,57 @@ has_room (Some max) given = ltb given max
 abbrev pub tests_asked : ℕ → ℕ → OutletState → Bool
 tests_asked k header o = ltb k (length o.ends) && is_offered header (stage_at o k) && is_at o.offer k
 
+abbrev pub is_waiting_for : ℕ → SourceStage → Bool
+is_waiting_for header (Waiting i) = i == header
+is_waiting_for header _ = false
+
+abbrev pub is_kept_for : ℕ → SourceStage → Bool
+is_kept_for header (Reserved i) = i == header
+is_kept_for header _ = false
+
 abbrev pub tests_take : ℕ → OutletState → Bool
 tests_take k o =
     is_taken o.next (is_some o.offer) (stage_at o k) && is_some o.parcel && has_room (end_at o k).rule.max (end_at o k).given
 
 abbrev pub tests_consume : ℕ → ℕ → OutletState → Bool
-tests_consume k header o = ltb k (length o.ends) && (not (is_head header o) || tests_take k o)
+tests_consume k header o = ltb k (length o.ends) && (not (is_there k header o) || tests_take k o)
+
+-- What is kept for a link
+
+-- its target postponed this message, and no offer is out
+pub record MayReserve (link header : ℕ) (o : OutletState) : Type 0 where
+  pub known : place_of link o.ends < length o.ends
+  pub waits : stage_at o (place_of link o.ends) ≡ Waiting header
+  pub none_out : has_offer_out o ≡ false
+
+-- it is the head, and kept for nobody
+abbrev pub reserved : ℕ → OutletState → Bool
+reserved header o = is_head header o && not (is_some o.offer)
+
+abbrev pub keeps : ℕ → ℕ → OutletState → OutletState
+keeps k header o = holds k (looks k (Asked header) o)
+
+abbrev pub reserves : ℕ → ℕ → OutletState → OutletState
+reserves link header o = cond (reserved header o) (keeps (place_of link o.ends) header o) o
+
+-- this message is kept for the link
+pub record IsReserved (link header : ℕ) (o : OutletState) : Type 0 where
+  pub known : place_of link o.ends < length o.ends
+  pub kept : stage_at o (place_of link o.ends) ≡ Reserved header
+
+-- all answers for this message are forgotten, also that it was declined
+abbrev pub forgotten_for : ℕ → OutEnd → OutEnd
+forgotten_for id end = record end { declined = cond (end.declined == id) 0 end.declined; stage = forgotten_stage end.stage }
+
+abbrev pub forgets_all : OutletState → OutletState
+forgets_all o = record o { ends = map (forgotten_for o.next) o.ends }
+
+abbrev pub releases : ℕ → ℕ → OutletState → OutletState
+releases link header o = forgets_all (looks (place_of link o.ends) (Postponed header) o)
+
+-- tests of what these two require
+abbrev pub tests_reserve : ℕ → ℕ → OutletState → Bool
+tests_reserve k header o = ltb k (length o.ends) && is_waiting_for header (stage_at o k) && not (has_offer_out o)
+
+abbrev pub tests_reserved : ℕ → ℕ → OutletState → Bool
+tests_reserved k header o = ltb k (length o.ends) && is_kept_for header (stage_at o k)

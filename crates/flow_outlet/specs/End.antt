@@ -1,5 +1,5 @@
 -- The source's end of one link, and what can be said of it alone.
-use Rattle.std.specs.Prelude.{ℕ, ◌+◌, ◌==◌, ltb, cond, Bool, true, false, not, ◌||◌, List, [], ◌∷◌, drop, get_or, Option, Some, None}
+use Rattle.std.specs.Prelude.{ℕ, ◌+◌, ◌==◌, ltb, cond, Bool, true, false, not, ◌||◌, ◌&&◌, List, [], ◌∷◌, drop, get_or, Option, Some, None}
 use Rattle.flow_value.specs.When.{admits}
 use Rattle.flow_value.specs.declared.value.Value.{Value}
 use Rattle.flow_value.specs.declared.when.When.{When}
@@ -59,9 +59,21 @@ is_out (Out _) = true
 is_out (Accepted _) = true
 is_out _ = false
 
+-- the head is spoken for over the link: its offer is out, or it is kept for the target, which may claim it
+abbrev pub is_spoken_for : SourceStage → Bool
+is_spoken_for (Out _) = true
+is_spoken_for (Accepted _) = true
+is_spoken_for (Reserved _) = true
+is_spoken_for (Claimed _) = true
+is_spoken_for _ = false
+
 abbrev pub is_waiting : SourceStage → Bool
 is_waiting (Waiting _) = true
 is_waiting _ = false
+
+-- the message with this id waits over the link
+abbrev pub waits_with : ℕ → OutEnd → Bool
+waits_with id end = is_waiting end.stage && speaks_of id end.stage
 
 -- something is under way over the link, or waits there
 abbrev pub is_away : SourceStage → Bool

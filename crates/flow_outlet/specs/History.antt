@@ -4,7 +4,7 @@ use Rattle.flow_value.specs.declared.value.Value.{Value}
 use Rattle.flow_link.specs.declared.phase.LinkEnd.{LinkEnd}
 use Rattle.flow_link.specs.declared.phase.Phase.{Phase}
 use Rattle.flow_outlet.specs.Fits.{weight_of}
-use Rattle.flow_outlet.specs.Outlet.{OutletState, head_of, puts, sets_aside, puts_aside, prepares, offers, looks, gives, denies, withdraws, ends_link}
+use Rattle.flow_outlet.specs.Outlet.{OutletState, head_of, puts, sets_aside, puts_aside, prepares, offers, looks, gives, holds, denies, withdraws, ends_link}
 
 -- the calls that change an outlet, at places
 pub data Call : Type 0 where
@@ -15,6 +15,7 @@ pub data Call : Type 0 where
   offer : ℕ → Call
   look : ℕ → Phase → Call
   give : ℕ → Call
+  hold : ℕ → Call
   deny : ℕ → Call
   withdraw : ℕ → Call
   «end» : ℕ → LinkEnd → Call
@@ -28,6 +29,7 @@ after Call.prepare o = prepares o
 after (Call.offer k) o = offers k o
 after (Call.look k phase) o = looks k phase o
 after (Call.give k) o = gives k o
+after (Call.hold k) o = holds k o
 after (Call.deny k) o = denies k o
 after (Call.withdraw k) o = withdraws k o
 after (Call.«end» k how) o = ends_link k how o

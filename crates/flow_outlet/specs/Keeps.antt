@@ -9,7 +9,7 @@ use Rattle.flow_link.specs.LinkOk.{HasRoom}
 use Rattle.flow_link.specs.Stage.{source_looks}
 use Rattle.flow_outlet.specs.declared.ends.LinkRule.{LinkRule}
 use Rattle.flow_outlet.specs.End.{is_free, is_waiting, speaks_of}
-use Rattle.flow_outlet.specs.Outlet.{OutletState, head_of, end_at, stage_at, fresh_outlet, lacks_ids, lacks_ids_for, puts, sets_aside, puts_aside, prepares, may_offer, offers, looks, may_give, gives, is_wish, denies, withdraws, end_of, ends_link}
+use Rattle.flow_outlet.specs.Outlet.{OutletState, head_of, end_at, stage_at, fresh_outlet, lacks_ids, lacks_ids_for, puts, sets_aside, puts_aside, prepares, may_offer, offers, looks, may_give, gives, may_hold, holds, is_wish, denies, withdraws, end_of, ends_link}
 use Rattle.flow_outlet.specs.Law.{OutletLaw, is_put_off, admits_head, may_go_past}
 
 -- a fact of each outlet that keeps its law, at each of its ends
@@ -41,10 +41,11 @@ pub record CallsKeepLaw : Type 0 where
       → OutletLaw pending stopped (looks k phase o)
   pub give : AtEachEnd λ pending stopped o k.
       may_give k o ≡ true → HasRoom (end_at o k).rule.max (end_at o k).given → OutletLaw pending stopped (gives k o)
+  pub hold : AtEachEnd λ pending stopped o k. may_hold k o ≡ true → OutletLaw pending stopped (holds k o)
   pub deny : AtEachEnd λ pending stopped o k. is_wish (stage_at o k) ≡ true → OutletLaw pending stopped (denies k o)
-  -- the head's offer is withdrawn only where the block faults
+  -- the head's offer is withdrawn only where the block faults, or the head is to be offered anew
   pub withdraw : AtEachEnd λ pending stopped o k.
-      is_waiting (stage_at o k) ≡ true → (speaks_of o.next (stage_at o k) ≡ true → pending ≡ true)
+      is_waiting (stage_at o k) ≡ true → (o.renewing ≡ false → speaks_of o.next (stage_at o k) ≡ true → pending ≡ true)
       → OutletLaw pending stopped (withdraws k o)
   pub ends : AtEachEnd λ pending stopped o k.
       (how : LinkEnd) → is_free (stage_at o k) ≡ true → end_of (end_at o k) stopped ≡ Some how

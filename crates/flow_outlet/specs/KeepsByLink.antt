@@ -5,7 +5,7 @@ use Rattle.flow_value.specs.declared.message.MessageStatus.{MessageStatus}
 use Rattle.flow_value.specs.declared.message.MessageStatus.TheVariants as status
 use Rattle.flow_link.specs.declared.trace.Outcome.{Outcome}
 use Rattle.flow_outlet.specs.Outlet.{OutletState, end_at}
-use Rattle.flow_outlet.specs.ByLink.{IsAsked, answered, place_of, forgets}
+use Rattle.flow_outlet.specs.ByLink.{IsAsked, answered, place_of, forgets, MayReserve, reserves, IsReserved, releases}
 use Rattle.flow_outlet.specs.Law.{OutletLaw}
 
 -- the target takes the message, or takes none any more
@@ -20,3 +20,7 @@ pub record LinkCallsKeepLaw : Type 0 where
       → OutletLaw true stopped (answered answer header (place_of link o.ends) o)
   pub forget : (pending : Bool) (stopped : Option Outcome) (o : OutletState) → OutletLaw pending stopped o
       → OutletLaw pending stopped (forgets o)
+  pub reserve : (pending : Bool) (stopped : Option Outcome) (o : OutletState) → OutletLaw pending stopped o
+      → (link header : ℕ) → MayReserve link header o → OutletLaw pending stopped (reserves link header o)
+  pub release : (pending : Bool) (stopped : Option Outcome) (o : OutletState) → OutletLaw pending stopped o
+      → (link header : ℕ) → IsReserved link header o → OutletLaw pending stopped (releases link header o)

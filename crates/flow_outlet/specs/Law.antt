@@ -10,7 +10,7 @@ use Rattle.flow_link.specs.declared.stage.SourceStage.{SourceStage}
 use Rattle.flow_link.specs.declared.stage.SourceStage.TheVariants.{Posted, Waiting, Wished, AskedBy, Reserved, Claimed, Refused, Ended}
 use Rattle.flow_link.specs.declared.trace.Outcome.{Outcome}
 use Rattle.flow_link.specs.LinkOk.{IsWithin, HasRoom}
-use Rattle.flow_outlet.specs.End.{id_of, speaks_of, is_out, is_cut, rejects}
+use Rattle.flow_outlet.specs.End.{id_of, speaks_of, is_spoken_for, is_cut, rejects}
 use Rattle.flow_outlet.specs.Outlet.{OutletState, head_of, end_at, stage_at, end_of}
 use Rattle.flow_outlet.specs.declared.ends.OutEnd.{OutEnd}
 
@@ -36,16 +36,16 @@ abbrev pub admits_head : When → Option Value → Bool
 admits_head when None = false
 admits_head when (Some value) = admits when value
 
--- what holds of the end at place k, where next is the id of the head, offer the place of the end whose offer is out,
--- pending says that the block faults or has faulted, and stopped how the block stopped, if it did
+-- what holds of the end at place k, where next is the id of the head, offer the place of the end over which the head is
+-- spoken for, pending says that the block faults or has faulted, and stopped how the block stopped, if it did
 pub record EndLaw (next : ℕ) (head : Option Value) (offer : Option ℕ) (pending : Bool) (stopped : Option Outcome) (k : ℕ) (end : OutEnd) : Type 0 where
   -- ids rise
   pub risen : end.last < next
   pub none_later : ForSome (id_of end.stage) (λ i. i ≤ next)
   pub declined_before : end.declined ≤ next
-  -- one offer is out, and it is the head's
-  pub out : OnTrue (is_out end.stage) (offer ≡ Some k)
-  pub out_head : OnTrue (is_out end.stage) (speaks_of next end.stage ≡ true)
+  -- the head is spoken for over one link
+  pub out : OnTrue (is_spoken_for end.stage) (offer ≡ Some k)
+  pub out_head : OnTrue (is_spoken_for end.stage) (speaks_of next end.stage ≡ true)
   -- a block offers what may be postponed
   pub offers : is_posted end.stage ≡ false
   pub admitted : OnTrue (speaks_of next end.stage) (admits_head end.rule.when head ≡ true)
@@ -70,9 +70,9 @@ pub record OutletLaw (pending : Bool) (stopped : Option Outcome) (o : OutletStat
   -- what is set aside has its ids, too
   pub ids : o.next + length o.left + o.spare ≤ 2 ^ 59
   pub each : (k : ℕ) → k < length o.ends → EndLaw o.next (head_of o) o.offer pending stopped k (end_at o k)
-  -- what is said to be out is out
+  -- what is said to be spoken for is
   pub offer_there : ForSome o.offer (λ k. k < length o.ends)
-  pub offer_out : ForSome o.offer (λ k. is_out (stage_at o k) ≡ true)
+  pub offer_out : ForSome o.offer (λ k. is_spoken_for (stage_at o k) ≡ true)
   -- what may be wanted is ready to be given
   pub ready : (k : ℕ) → k < length o.ends → speaks_of o.next (stage_at o k) ≡ true → o.parcel ≡ head_of o
   -- the head is offered in the order of the links

@@ -1,17 +1,18 @@
 -- What an outlet keeps, as plain data, and what each call makes of it.
 use Rattle.std.specs.Prelude.{ℕ, ◌+◌, ◌-◌, ◌^◌, ◌==◌, ltb, cond, Bool, true, false, not, ◌||◌, ◌&&◌, List, [], ◌∷◌, ◌++◌, length, set, map, Option, Some, None, is_some, unwrap_or}
+use Rattle.std.specs.List.{list_any}
 use Rattle.flow_value.specs.declared.value.Value.{Value}
 use Rattle.flow_link.specs.declared.phase.LinkEnd.{LinkEnd}
 use Rattle.flow_link.specs.declared.phase.LinkEnd.TheVariants.{Plain, Complete, Fault}
 use Rattle.flow_link.specs.declared.phase.Move.{Move}
-use Rattle.flow_link.specs.declared.phase.Move.TheVariants.{Offer, Withdraw, Deny, Give, End}
+use Rattle.flow_link.specs.declared.phase.Move.TheVariants.{Offer, Withdraw, Deny, Hold, Give, End}
 use Rattle.flow_link.specs.declared.phase.Phase.{Phase}
 use Rattle.flow_link.specs.declared.stage.SourceStage.{SourceStage}
-use Rattle.flow_link.specs.declared.stage.SourceStage.TheVariants.{Free, Out, Waiting, Accepted, Wished, AskedBy, Claimed, Crossing, Ended}
+use Rattle.flow_link.specs.declared.stage.SourceStage.TheVariants.{Free, Out, Waiting, Accepted, Wished, AskedBy, Reserved, Claimed, Crossing, Ended}
 use Rattle.flow_link.specs.declared.trace.Outcome.{Outcome}
 use Rattle.flow_link.specs.declared.trace.Outcome.TheVariants.{Done, Faulted}
-use Rattle.flow_link.specs.Stage.{source_looks}
-use Rattle.flow_outlet.specs.End.{end_in, fresh_end, id_of, is_free, is_out, is_away, is_waiting, is_cut, counted, count_at, place_in}
+use Rattle.flow_link.specs.Stage.{source_looks, source_is_released}
+use Rattle.flow_outlet.specs.End.{end_in, fresh_end, id_of, is_free, is_out, is_spoken_for, is_away, is_waiting, waits_with, is_cut, counted, count_at, place_in}
 use Rattle.flow_outlet.specs.declared.ends.LinkRule.{LinkRule}
 use Rattle.flow_outlet.specs.declared.ends.OutEnd.{OutEnd}
 use Rattle.flow_outlet.specs.declared.group.Group.{Group}
@@ -22,8 +23,10 @@ pub record OutletState : Type 0 where
   -- what was put and is not given, oldest first, and the id of the first of it
   pub left : List Value
   pub next : ℕ
-  -- the place of the end whose offer is out
+  -- the place of the end over which the head is spoken for: its offer is out, or it is kept for the target
   pub offer : Option ℕ
+  -- the head was kept, and released: what waits for it is taken back before it is offered anew
+  pub renewing : Bool
   -- the parcel of the head, once it is made
   pub parcel : Option Value
   -- the results that are not wholly given and have a weight, oldest first
@@ -57,7 +60,7 @@ stage_at o k = (end_at o k).stage
 -- nothing is put, and nothing has gone over a link
 abbrev pub fresh_outlet : List LinkRule → ℕ → OutletState
 fresh_outlet rules first =
-    record { ends = map fresh_end rules; left = []; next = first; offer = None; parcel = None; groups = []; room = 0; spare = 0 }
+    record { ends = map fresh_end rules; left = []; next = first; offer = None; renewing = false; parcel = None; groups = []; room = 0; spare = 0 }
 
 -- a count, where one end counted before and counts now
 abbrev pub recounted : ℕ → Bool → Bool → ℕ
@@ -106,9 +109,17 @@ puts_aside values weight o = record (puts values weight o) { spare = o.spare - l
 
 -- What is offered
 
+-- the head was released, and still waits somewhere
+abbrev pub is_renewing : OutletState → Bool
+is_renewing o = o.renewing && list_any (waits_with o.next) o.ends
+
+-- the head is not offered now: it is spoken for, or is still to be taken back
+abbrev pub is_held_back : OutletState → Bool
+is_held_back o = is_some o.offer || is_renewing o
+
 -- the place of the end over which the head is offered next, if any: nothing else is out, and nothing is under way there
 abbrev pub offer_at : ℕ → OutletState → Option ℕ
-offer_at k o = cond (is_empty o.left || is_some o.offer || not (ltb k (length o.ends)) || not (is_free (stage_at o k))) None (Some k)
+offer_at k o = cond (is_empty o.left || is_held_back o || not (ltb k (length o.ends)) || not (is_free (stage_at o k))) None (Some k)
 
 abbrev pub may_offer : OutletState → Option ℕ
 may_offer o = offer_at (place_in o.next (head_of o) o.ends) o
@@ -122,15 +133,17 @@ abbrev pub prepares : OutletState → OutletState
 prepares o = record o { parcel = head_of o }
 
 abbrev pub offers : ℕ → OutletState → OutletState
-offers k o = record (restages k (Out o.next) o) { offer = Some k }
+offers k o = record (restages k (Out o.next) o) { offer = Some k; renewing = false }
 
--- the source looks at the phase: its offer is out no more, unless it is unanswered or accepted
+-- the source looks at the phase: the head is spoken for no more, unless it is unanswered, accepted or kept
 abbrev pub offer_kept : ℕ → SourceStage → Option ℕ → Option ℕ
-offer_kept k stage offer = cond (is_at offer k && not (is_out stage)) None offer
+offer_kept k stage offer = cond (is_at offer k && not (is_spoken_for stage)) None offer
 
 abbrev pub looks : ℕ → Phase → OutletState → OutletState
-looks k phase o =
-    record (restages k (source_looks (stage_at o k) phase) o) { offer = offer_kept k (source_looks (stage_at o k) phase) o.offer }
+looks k phase o = record (restages k (source_looks (stage_at o k) phase) o) {
+  offer = offer_kept k (source_looks (stage_at o k) phase) o.offer;
+  renewing = o.renewing || source_is_released (stage_at o k) phase;
+}
 
 -- What is given
 
@@ -151,21 +164,35 @@ gives k o = record {
   left = rest_of o.left;
   next = o.next + 1;
   offer = None;
+  renewing = false;
   parcel = None;
   groups = groups_after o.next o.groups;
   room = o.room + weight_at o.next o.groups;
   spare = o.spare;
 }
 
--- the target wants the head: it accepted it, or it claims it or wishes for it while no offer is out
+-- the target wants the head: it accepted it or claims it, or wishes for it while it is spoken for nowhere
 abbrev pub is_wanted : ℕ → Bool → SourceStage → Bool
 is_wanted next out (Accepted i) = i == next
-is_wanted next out (Claimed i) = i == next && not out
+is_wanted next out (Claimed i) = i == next
 is_wanted next out (Wished i) = i == next && not out
 is_wanted next out _ = false
 
 abbrev pub may_give : ℕ → OutletState → Bool
 may_give k o = is_wanted o.next (is_some o.offer) (stage_at o k)
+
+-- What is kept
+
+-- the target asks to reserve the head, and it is spoken for nowhere
+abbrev pub is_asked : ℕ → SourceStage → Bool
+is_asked next (AskedBy i) = i == next
+is_asked next _ = false
+
+abbrev pub may_hold : ℕ → OutletState → Bool
+may_hold k o = is_asked o.next (stage_at o k) && not (is_some o.offer)
+
+abbrev pub holds : ℕ → OutletState → OutletState
+holds k o = record (restages k (Reserved o.next) o) { offer = Some k }
 
 -- What is taken back
 
@@ -177,9 +204,9 @@ is_wish _ = false
 abbrev pub denies : ℕ → OutletState → OutletState
 denies k o = restages k Free o
 
--- an offer that is withdrawn is not made again
+-- an offer that is withdrawn is not made again, unless the head is to be offered anew
 abbrev pub withdraws : ℕ → OutletState → OutletState
-withdraws k o = changes k Free (unwrap_or (id_of (stage_at o k)) 0) o
+withdraws k o = changes k Free (cond o.renewing (end_at o k).declined (unwrap_or (id_of (stage_at o k)) 0)) o
 
 abbrev pub ends_link : ℕ → LinkEnd → OutletState → OutletState
 ends_link k how o = restages k (Ended how) o
@@ -200,8 +227,17 @@ end_by passes (Some outcome) = Some (passed_on passes outcome)
 abbrev pub end_of : OutEnd → Option Outcome → Option LinkEnd
 end_of end stopped = cond (is_cut end) (Some Plain) (end_by end.rule.passes stopped)
 
-abbrev pub answers_wish : ℕ → ℕ → Bool → Option Move
-answers_wish next i out = cond out None (Some (cond (i == next) Give Deny))
+-- an offer is out: it is not answered, or accepted and not given
+abbrev pub out_at : OutletState → Option ℕ → Bool
+out_at o None = false
+out_at o (Some k) = is_out (stage_at o k)
+
+abbrev pub has_offer_out : OutletState → Bool
+has_offer_out o = out_at o o.offer
+
+-- a wish is answered while no offer is out: so, or by a denial where the message is given, or kept for another
+abbrev pub answers_wish : Move → ℕ → OutletState → Option Move
+answers_wish so i o = cond (has_offer_out o) None (Some (cond (i == o.next && not (is_some o.offer)) so Deny))
 
 abbrev pub free_move : OutletState → ℕ → Option LinkEnd → Option Move
 free_move o k (Some how) = Some (End how)
@@ -210,11 +246,10 @@ free_move o k None = cond (is_at (may_offer o) k) (Some (Offer o.next)) None
 abbrev pub move_at : OutletState → ℕ → Option Outcome → Bool → SourceStage → Option Move
 move_at o k stopped held_up Free = free_move o k (end_of (end_at o k) stopped)
 move_at o k stopped held_up (Accepted _) = Some Give
-move_at o k stopped held_up (Claimed i) = cond (is_some o.offer || not (i == o.next)) None (Some Give)
-move_at o k stopped held_up (Wished i) = answers_wish o.next i (is_some o.offer)
--- nothing is kept for a target yet: what it may have is not answered, and what is gone is denied
-move_at o k stopped held_up (AskedBy i) = cond (is_some o.offer || i == o.next) None (Some Deny)
-move_at o k stopped held_up (Waiting i) = cond (held_up || not (i == o.next)) (Some Withdraw) None
+move_at o k stopped held_up (Claimed _) = Some Give
+move_at o k stopped held_up (Wished i) = answers_wish Give i o
+move_at o k stopped held_up (AskedBy i) = answers_wish Hold i o
+move_at o k stopped held_up (Waiting i) = cond (held_up || o.renewing || not (i == o.next)) (Some Withdraw) None
 move_at o k stopped held_up _ = None
 
 abbrev pub out_move : ℕ → Option Outcome → Bool → OutletState → Option Move

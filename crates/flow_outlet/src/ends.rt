@@ -3,10 +3,10 @@ ghost use Rattle.std.specs.Prelude.{◌≡◌, ◌+◌, ◌≤◌, ◌<◌, ◌=
 ghost use Rattle.flow_outlet.specs.declared.ends.OutEnd.{OutEnd};
 ghost use Rattle.std.specs.Option.{option_copied};
 ghost use Rattle.flow_outlet.specs.End.{is_cut, is_passed, id_of, speaks_of, is_free, is_over};
-ghost use Rattle.flow_outlet.specs.End.{is_away, is_waiting, is_out};
+ghost use Rattle.flow_outlet.specs.End.{is_away, is_waiting, is_out, is_spoken_for, waits_with};
 ghost use Rattle.flow_link.specs.LinkOk.{HasRoom};
-ghost use Rattle.flow_outlet.specs.ByLink.{answer_stage, answer_declined, place_of, forgotten};
-ghost use Rattle.flow_outlet.specs.ByLink.{is_offered, is_taken, has_room};
+ghost use Rattle.flow_outlet.specs.ByLink.{answer_stage, answer_declined, place_of, forgotten, forgotten_for};
+ghost use Rattle.flow_outlet.specs.ByLink.{is_offered, is_waiting_for, is_kept_for, is_taken, has_room};
 ghost use Rattle.flow_outlet.specs.Outlet.{given_end, end_of};
 ghost use Rattle.flow_outlet.specs.End.{fresh_end, place_in, cursor_after};
 ghost use Rattle.flow_outlet.specs.Sends.{sent_end};
@@ -139,6 +139,27 @@ impl OutEnd {
         matches!(self.stage, SourceStage::Out(_) | SourceStage::Accepted(_))
     }
 
+    /// Whether the head is spoken for over it: its offer is out, or it is kept for the target, which may claim it.
+    #[inline]
+    pub fn is_spoken_for(&self) -> bool
+        ensures { result ≡ is_spoken_for self.now.stage }
+    {
+        matches!(
+            self.stage,
+            SourceStage::Out(_)
+                | SourceStage::Accepted(_)
+                | SourceStage::Reserved(_)
+                | SourceStage::Claimed(_)
+        )
+    }
+
+    /// Whether the message with this id waits over it.
+    pub fn waits_with(&self, id: u64) -> bool
+        ensures { result ≡ waits_with id self.now }
+    {
+        self.is_waiting() && self.speaks_of(id)
+    }
+
     /// Whether an offer over it was postponed, as far as the source has seen.
     #[inline]
     pub fn is_waiting(&self) -> bool
@@ -168,13 +189,33 @@ impl OutEnd {
         }
     }
 
+    /// Whether the offer of this message that was made over it was postponed, as far as the source has seen.
+    pub fn is_waiting_for(&self, header: MessageHeader) -> bool
+        ensures { result ≡ is_waiting_for header self.now.stage }
+    {
+        match self.stage {
+            SourceStage::Waiting(waiting) => waiting.id() == header.id(),
+            _ => false,
+        }
+    }
+
+    /// Whether this message is kept for its target.
+    pub fn is_kept_for(&self, header: MessageHeader) -> bool
+        ensures { result ≡ is_kept_for header self.now.stage }
+    {
+        match self.stage {
+            SourceStage::Reserved(kept) => kept.id() == header.id(),
+            _ => false,
+        }
+    }
+
     /// Whether its target may take the message with this id, while another offer is out or none: it accepted it, or it
     /// postponed it or wishes for it and none is out.
     pub fn is_taken(&self, id: u64, is_out: bool) -> bool
         ensures { result ≡ is_taken id is_out self.now.stage }
     {
         match self.stage {
-            SourceStage::Accepted(header) => header.id() == id,
+            SourceStage::Accepted(header) | SourceStage::Reserved(header) => header.id() == id,
             SourceStage::Waiting(header) | SourceStage::Wished(header) => header.id() == id
                 && !is_out,
             _ => false,
@@ -248,6 +289,19 @@ impl OutEnd {
             },
             _ => self,
         }
+    }
+
+    /// The end where it is forgotten what was answered for the message with this id.
+    pub fn forgotten_for(self, id: u64) -> OutEnd
+        ensures { result ≡ forgotten_for id self }
+    {
+        let declined = if self.declined == id {
+            0
+        } else {
+            self.declined
+        };
+        let before = self.forgotten();
+        OutEnd { declined, ..before }
     }
 
     // whether a message goes past it by its stage alone
@@ -341,6 +395,16 @@ pub(crate) fn forget_waiting(ends: &mut Vec<OutEnd>)
 {
     for place in 0..ends.len() {
         let end = ends[place].forgotten();
+        ends[place] = end;
+    }
+}
+
+/// Forgets all answers for the message with this id.
+pub(crate) fn forget_answers(ends: &mut Vec<OutEnd>, id: u64)
+    ensures { ends.new.items ≡ map (forgotten_for id) ends.old.items }
+{
+    for place in 0..ends.len() {
+        let end = ends[place].forgotten_for(id);
         ends[place] = end;
     }
 }

@@ -12,11 +12,16 @@
 //! free                it offers the head in its turn, or ends
 //! offered, crossing   none: it waits for its target
 //! postponed           it withdraws what is not the head any more, or all where the block could stop but for it
-//! accepted            it gives
-//! wished for          it gives the head, or denies what is gone, while no offer is out
+//! accepted, claimed   it gives
+//! wished for          it gives the head, or denies what is gone or kept for another, while no offer is out
+//! asked for           it keeps the head for the target, or denies what is gone or kept for another, while no offer is out
+//! kept                none: it waits for its target, and no other link gets the head
 //! refused, ended      none for good
+//!
+//! Where a target gives up the head that was kept for it, all offers of it that wait are withdrawn, and it is offered anew.
 #![tactic(auto)]
 
+mod by_link;
 mod ends;
 mod fault;
 mod group;

@@ -5,6 +5,8 @@ ghost use Rattle.std.specs.Option.{option_copied, ForSome};
 ghost use Rattle.std.specs.VecDeque.{deque_capacity};
 ghost use Rattle.flow_link.specs.LinkOk.{HasRoom};
 ghost use Rattle.flow_outlet.specs.ByLink.{offer_named, offers_next, IsAsked, answered, MayConsume, consumed};
+ghost use Rattle.flow_outlet.specs.ByLink.{MayReserve, tests_reserve, reserved, reserves, IsReserved, tests_reserved};
+ghost use Rattle.flow_outlet.specs.ByLink.{releases, forgets_all, is_kept_elsewhere};
 ghost use Rattle.flow_outlet.specs.ByLink.{consumes, place_of, forgets, tests_asked, tests_consume};
 ghost use Rattle.flow_outlet.specs.End.{count_at, is_away, is_waiting, is_free, is_cut, place_in, fresh_end};
 ghost use Rattle.flow_outlet.specs.Fits.{weight_of};
@@ -13,10 +15,16 @@ ghost use Rattle.flow_outlet.specs.Outlet.{lacks_ids_for, sets_aside, puts_aside
 ghost use Rattle.flow_outlet.specs.Outlet.{groups_with, groups_after, weight_at, may_offer, prepares, offers, looks};
 ghost use Rattle.flow_outlet.specs.Outlet.{gives, may_give, is_wish, denies, withdraws, ends_link, out_move, free_move};
 ghost use Rattle.flow_outlet.specs.Outlet.{answers_wish, end_at, stage_at, is_at_rest, only_waits};
+ghost use Rattle.flow_outlet.specs.Outlet.{is_renewing, has_offer_out, may_hold, holds};
+ghost use Rattle.flow_outlet.specs.End.{waits_with};
+ghost use Rattle.std.specs.List.{list_any};
+ghost use Rattle.flow_link.specs.Stage.{source_is_released};
 ghost use Rattle.flow_outlet.specs.Sends.{sends};
 ghost use Rattle.flow_outlet.specs.declared.fault.OutletFault.TheVariants.{Ids, Memory};
 
-use crate::ends::{LinkRule, OutEnd, cursor_after, first_from, forget_waiting, place_of};
+use crate::ends::{
+    LinkRule, OutEnd, cursor_after, first_from, forget_answers, forget_waiting, place_of,
+};
 use crate::fault::OutletFault;
 use crate::group::Group;
 use flow_link::{LinkEnd, LinkId, Move, Outcome, Phase, SourceStage};
@@ -30,20 +38,21 @@ use std::marker::Model;
 /// Contracts see an `OutletState`.
 #[derive(Debug, Drop)]
 pub struct Outlet {
-    ends: Vec<OutEnd>,
-    left: VecDeque<Value>,
-    next: u64,
-    offer: Option<usize>,
-    parcel: Option<Parcel>,
-    groups: VecDeque<Group>,
-    room: u32,
+    pub(crate) ends: Vec<OutEnd>,
+    pub(crate) left: VecDeque<Value>,
+    pub(crate) next: u64,
+    pub(crate) offer: Option<usize>,
+    pub(crate) renewing: bool,
+    pub(crate) parcel: Option<Parcel>,
+    pub(crate) groups: VecDeque<Group>,
+    pub(crate) room: u32,
     // the first place that the head does not go past
-    cursor: usize,
+    pub(crate) cursor: usize,
     // how many ends are under way, and how many of them only wait
-    away: usize,
-    waiting: usize,
+    pub(crate) away: usize,
+    pub(crate) waiting: usize,
     // for how many more values memory and ids are set aside
-    spare: usize,
+    pub(crate) spare: usize,
 }
 
 impl Model for Outlet {
@@ -62,6 +71,7 @@ impl Model for Outlet {
       left = o.left.items;
       next = o.next;
       offer = o.offer;
+      renewing = o.renewing;
       parcel = o.parcel;
       groups = o.groups.items;
       room = o.room;
@@ -92,6 +102,7 @@ impl Outlet {
             left: VecDeque::new(alloc),
             next: first.id(),
             offer: None,
+            renewing: false,
             parcel: None,
             groups: VecDeque::new(alloc),
             room: 0,
@@ -262,12 +273,29 @@ impl Outlet {
     pub fn may_offer(&self) -> Option<usize>
         ensures { result ≡ may_offer self.now }
     {
-        if self.left.is_empty() || self.offer.is_some() {
+        if self.left.is_empty() || self.offer.is_some() || self.is_renewing() {
             return None;
         }
         match self.ends.get(self.cursor) {
             Some(end) if end.is_free() => Some(self.cursor),
             _ => None,
+        }
+    }
+
+    /// Whether the head was released, and still waits somewhere.
+    fn is_renewing(&self) -> bool
+        ensures { result ≡ is_renewing self.now }
+    {
+        self.renewing && some_waits(&self.ends, self.next)
+    }
+
+    /// Whether an offer is out: not answered yet, or accepted and not given yet.
+    pub(crate) fn has_offer_out(&self) -> bool
+        ensures { result ≡ has_offer_out self.now }
+    {
+        match self.offer {
+            Some(place) => place < self.ends.len() && self.ends[place].is_out(),
+            None => false,
         }
     }
 
@@ -283,23 +311,15 @@ impl Outlet {
                 Some(how) => Some(Move::End(how)),
                 None => self.next_move(place),
             },
-            SourceStage::Accepted(_) => Some(Move::Give),
-            SourceStage::Wished(header) => self.answer_to(header),
-            SourceStage::Claimed(header) if self.offer.is_none() && header.id() == self.next => {
-                Some(Move::Give)
-            }
-            SourceStage::AskedBy(header) if self.offer.is_none() && header.id() != self.next => {
-                Some(Move::Deny)
-            }
-            SourceStage::Waiting(header) if held_up || header.id() != self.next => {
-                Some(Move::Withdraw)
-            }
+            SourceStage::Accepted(_) | SourceStage::Claimed(_) => Some(Move::Give),
+            SourceStage::Wished(header) => self.answer_to(Move::Give, header),
+            SourceStage::AskedBy(header) => self.answer_to(Move::Hold, header),
+            SourceStage::Waiting(header) if held_up || self.renewing || header.id() != self.next =>
+                { Some(Move::Withdraw) }
             SourceStage::Posted(_)
             | SourceStage::Out(_)
             | SourceStage::Waiting(_)
-            | SourceStage::AskedBy(_)
             | SourceStage::Reserved(_)
-            | SourceStage::Claimed(_)
             | SourceStage::Crossing
             | SourceStage::Refused
             | SourceStage::Ended(_) => None,
@@ -317,14 +337,14 @@ impl Outlet {
         }
     }
 
-    // a wish is answered only while no offer is out
-    fn answer_to(&self, header: MessageHeader) -> Option<Move>
-        ensures { result ≡ answers_wish self.now.next header (is_some self.now.offer) }
+    // a wish is answered only while no offer is out: so, or by a denial where the message is not there for it
+    fn answer_to(&self, so: Move, header: MessageHeader) -> Option<Move>
+        ensures { result ≡ answers_wish so header self.now }
     {
-        if self.offer.is_some() {
+        if self.has_offer_out() {
             None
-        } else if header.id() == self.next {
-            Some(Move::Give)
+        } else if header.id() == self.next && self.offer.is_none() {
+            Some(so)
         } else {
             Some(Move::Deny)
         }
@@ -363,6 +383,7 @@ impl Outlet {
         };
         self.restage(place, SourceStage::Out(header));
         self.offer = Some(place);
+        self.renewing = false;
         header
     }
 
@@ -371,11 +392,13 @@ impl Outlet {
         requires { place < length self.old.ends }
         ensures { self.new ≡ looks place phase self.old }
     {
+        let released = is_released(&self.ends[place], &phase);
         let stage = self.ends[place].stage.look(phase);
         self.restage(place, stage);
-        if self.offer == Some(place) && !self.ends[place].is_out() {
+        if self.offer == Some(place) && !self.ends[place].is_spoken_for() {
             self.offer = None;
         }
+        self.renewing = self.renewing || released;
     }
 
     /// Gives the head over the link at a place, where it is wanted: the message for the block's own account, and its
@@ -397,6 +420,7 @@ impl Outlet {
         self.room += end_group(&mut self.groups, self.next);
         self.next += 1;
         self.offer = None;
+        self.renewing = false;
         self.cursor = first_from(&self.ends, 0, self.next, front(&self.left));
         head
     }
@@ -415,8 +439,21 @@ impl Outlet {
         self.ends[place].note_sent(self.next);
         self.room += end_group(&mut self.groups, self.next);
         self.next += 1;
+        self.renewing = false;
         self.cursor = first_from(&self.ends, 0, self.next, front(&self.left));
         head
+    }
+
+    /// Keeps the head for the target that asks to reserve it over the link at a place.
+    pub fn hold(&mut self, place: usize)
+        requires there { place < length self.old.ends }
+        requires asked { may_hold place self.old ≡ true }
+        ensures { self.new ≡ holds place self.old }
+    {
+        if let SourceStage::AskedBy(header) = self.ends[place].stage {
+            self.restage(place, SourceStage::Reserved(header));
+            self.offer = Some(place);
+        }
     }
 
     /// Denies the wish for a message over the link at a place.
@@ -428,13 +465,15 @@ impl Outlet {
         self.restage(place, SourceStage::Free);
     }
 
-    /// Withdraws the offer that was postponed over the link at a place. That message is not offered there again.
+    /// Withdraws the offer that was postponed over the link at a place. That message is not offered there again, unless it
+    /// is to be offered anew.
     pub fn withdraw(&mut self, place: usize)
         requires there { place < length self.old.ends }
         requires waits { is_waiting (stage_at self.old place) ≡ true }
         ensures { self.new ≡ withdraws place self.old }
     {
         let declined = match self.ends[place].id() {
+            _ if self.renewing => self.ends[place].declined,
             Some(header) => header.id(),
             None => 0,
         };
@@ -450,109 +489,6 @@ impl Outlet {
         self.restage(place, SourceStage::Ended(how));
     }
 
-    /// The link over which the head is offered next, and its header: its offer is then out.
-    pub fn next_offer(
-        &mut self,
-        alloc: Global,
-    ) -> Result<Option<(LinkId, MessageHeader)>, AllocError>
-        ensures named { IfOk result (λ named. named ≡ offer_named self.old) }
-        ensures out { OnOk result (self.new ≡ offers_next self.old) }
-        ensures kept { OnErr result (self.new ≡ self.old) }
-    {
-        let Some(place) = self.may_offer() else {
-            return Ok(None);
-        };
-        self.prepare_offer(alloc)?;
-        let header = self.offer(place);
-        Ok(Some((self.ends[place].rule.id, header)))
-    }
-
-    /// Whether the link's offer of this message is out, and not answered.
-    pub fn is_asked(&self, link: LinkId, header: MessageHeader) -> bool
-        ensures { (result ≡ true) ↔ IsAsked link header self.now }
-    {
-        self.tests_asked(place_of(&self.ends, link), header)
-    }
-
-    fn tests_asked(&self, place: usize, header: MessageHeader) -> bool
-        ensures { result ≡ tests_asked place header self.now }
-    {
-        match self.ends.get(place) {
-            Some(end) => end.is_offered(header) && self.offer == Some(place),
-            None => false,
-        }
-    }
-
-    /// Whether the link may be told of this message, that it comes or that it has gone elsewhere: where it is the head,
-    /// the link's target accepted it, or it postponed it and no offer is out.
-    pub fn may_consume(&self, link: LinkId, header: MessageHeader) -> bool
-        ensures { (result ≡ true) ↔ MayConsume link header self.now }
-    {
-        self.tests_consume(place_of(&self.ends, link), header)
-    }
-
-    fn tests_consume(&self, place: usize, header: MessageHeader) -> bool
-        ensures { result ≡ tests_consume place header self.now }
-    {
-        let is_head = header.id() == self.next && !is_empty(&self.left);
-        match self.ends.get(place) {
-            Some(end) => {
-                let is_taken = end.is_taken(self.next, self.offer.is_some());
-                !is_head || is_taken && self.parcel.is_some() && end.has_room()
-            }
-            None => false,
-        }
-    }
-
-    /// Notes what the target answered to the offer that is out.
-    pub fn note_answer(&mut self, link: LinkId, header: MessageHeader, status: MessageStatus)
-        requires { IsAsked link header self.old }
-        ensures { self.new ≡ answered status header (place_of link self.old.ends) self.old }
-    {
-        let place = place_of(&self.ends, link);
-        let (stage, declined) = self.ends[place].answered(header, status);
-        self.change(place, stage, declined);
-        if status != MessageStatus::Accepted {
-            self.offer = None;
-        }
-    }
-
-    /// Gives the message to the target that accepted it, or that it postponed; none, where it has gone elsewhere. All
-    /// answers for it are forgotten.
-    pub fn consume_message(&mut self, link: LinkId, header: MessageHeader) -> Option<Parcel>
-        requires { MayConsume link header self.old }
-        ensures consumed { result ≡ consumed header self.old }
-        ensures left { self.new ≡ consumes link header self.old }
-    {
-        if header.id() != self.next || self.left.is_empty() {
-            return None;
-        }
-        let place = place_of(&self.ends, link);
-        self.look_out(place, Phase::Wanted(header));
-        let (_value, parcel) = self.give(place);
-        self.look_out(place, Phase::Idle);
-        self.forget();
-        Some(parcel)
-    }
-
-    /// Whether the link has carried as many messages as it may. It then ends, and passes nothing on.
-    pub fn cut(&self, link: LinkId) -> bool
-        requires { place_of link self.now.ends < length self.now.ends }
-        ensures { result ≡ is_cut (end_at self.now (place_of link self.now.ends)) }
-    {
-        self.ends[place_of(&self.ends, link)].is_cut()
-    }
-
-    // what was postponed may be offered anew
-    fn forget(&mut self)
-        ensures { self.new ≡ forgets self.old }
-    {
-        forget_waiting(&mut self.ends);
-        self.away -= self.waiting;
-        self.waiting = 0;
-        self.cursor = first_from(&self.ends, 0, self.next, front(&self.left));
-    }
-
     /// How much room came back with the results that were wholly given since this was asked last.
     pub fn room_back(&mut self) -> u32
         ensures room { result ≡ self.old.room }
@@ -564,7 +500,7 @@ impl Outlet {
     }
 
     // puts the end at a place to a stage
-    fn restage(&mut self, place: usize, stage: SourceStage)
+    pub(crate) fn restage(&mut self, place: usize, stage: SourceStage)
         requires { place < length self.old.ends }
         ensures { self.new ≡ changes place stage (end_at self.old place).declined self.old }
     {
@@ -573,7 +509,7 @@ impl Outlet {
     }
 
     // puts the end at a place to a stage
-    fn change(&mut self, place: usize, stage: SourceStage, declined: u64)
+    pub(crate) fn change(&mut self, place: usize, stage: SourceStage, declined: u64)
         requires { place < length self.old.ends }
         ensures { self.new ≡ changes place stage declined self.old }
     {
@@ -589,6 +525,24 @@ impl Outlet {
         let head = front(&self.left);
         self.cursor = cursor_after(&self.ends, place, self.cursor, self.next, head);
     }
+}
+
+// whether a look that finds this phase tells that the target released the message that was kept for it
+fn is_released(end: &OutEnd, phase: &Phase) -> bool
+    ensures { result ≡ source_is_released end.now.stage phase.now }
+{
+    matches!(end.stage, SourceStage::Reserved(_))
+        && matches!(
+            phase,
+            Phase::Postponed(_) | Phase::Asked(_) | Phase::Refused
+        )
+}
+
+// whether the message with this id waits over a link
+fn some_waits(ends: &[OutEnd], id: u64) -> bool
+    ensures { result ≡ list_any (waits_with id) ends.now }
+{
+    ends.iter().any(|end| end.waits_with(id))
 }
 
 // the head, and its parcel
@@ -608,7 +562,7 @@ fn taken(left: &mut VecDeque<Value>, parcel: &mut Option<Parcel>) -> (Value, Par
 }
 
 #[inline]
-fn front(left: &VecDeque<Value>) -> Option<&Value>
+pub(crate) fn front(left: &VecDeque<Value>) -> Option<&Value>
     ensures { option_copied result ≡ first_of left.now.items }
 {
     left.front()
@@ -648,7 +602,7 @@ fn left_count(left: &VecDeque<Value>) -> u64
     left.len() as u64
 }
 
-fn is_empty(left: &VecDeque<Value>) -> bool
+pub(crate) fn is_empty(left: &VecDeque<Value>) -> bool
     ensures { result ≡ is_empty left.now.items }
 {
     left.is_empty()

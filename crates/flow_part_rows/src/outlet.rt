@@ -3,6 +3,7 @@ use crate::shared::link;
 use flow_outlet::{Outlet, OutletFault};
 use flow_value::{MAX_ID, MessageHeader, MessageStatus, Value};
 use std::alloc::{AllocError, Global};
+use std::process::Abort;
 use std::test::Fail;
 
 /// What is done with the outlet.
@@ -18,8 +19,14 @@ enum Call {
     Answer(usize, MessageStatus),
     /// The link's target takes the message that was offered to it last.
     Consume(usize),
+    /// The link's target asks to reserve the message that was offered to it last.
+    Reserve(usize),
+    /// The link's target gives that message up.
+    Release(usize),
     /// It is asked which room came back.
     Room,
+    /// It is asked whether these numbers are what is left.
+    Left(&'static [i64]),
 }
 
 /// What comes of it.
@@ -32,11 +39,15 @@ enum Done {
     Noted,
     Gave(i64),
     Gone,
+    Kept,
+    NotKept,
+    Released,
     Room(u32),
+    Left(bool),
 }
 
 /// The calls with two links, where two ids are behind the first.
-const CALLS: &[(Call, Done)] = &[
+const LAST_IDS: &[(Call, Done)] = &[
     (Call::PutOne(4, 1), Done::Taken),
     (Call::Next, Done::Offered(0, MAX_ID - 2)),
     (Call::Answer(0, MessageStatus::Accepted), Done::Noted),
@@ -58,6 +69,26 @@ const CALLS: &[(Call, Done)] = &[
     (Call::Room, Done::Room(2)),
     (Call::Put(&[7], 1), Done::NoIds),
     (Call::PutOne(7, 1), Done::NoIds),
+    (Call::Left(&[]), Done::Left(true)),
+];
+
+/// The calls with two links that both postponed the same message: it is kept for one of them, and released.
+const RESERVATIONS: &[(Call, Done)] = &[
+    (Call::Put(&[5, 6], 2), Done::Taken),
+    (Call::Next, Done::Offered(0, MAX_ID - 1)),
+    (Call::Answer(0, MessageStatus::Postponed), Done::Noted),
+    (Call::Next, Done::Offered(1, MAX_ID - 1)),
+    (Call::Answer(1, MessageStatus::Postponed), Done::Noted),
+    (Call::Next, Done::NoOffer),
+    (Call::Reserve(0), Done::Kept),
+    (Call::Reserve(1), Done::NotKept),
+    (Call::Consume(1), Done::Gone),
+    (Call::Release(0), Done::Released),
+    (Call::Left(&[5, 6]), Done::Left(true)),
+    (Call::Next, Done::Offered(0, MAX_ID - 1)),
+    (Call::Answer(0, MessageStatus::Accepted), Done::Noted),
+    (Call::Consume(0), Done::Gave(5)),
+    (Call::Left(&[6]), Done::Left(true)),
 ];
 
 fn values_of(alloc: Global, numbers: &[i64]) -> Result<Vec<Value>, AllocError> {
@@ -76,8 +107,8 @@ struct Case {
 }
 
 impl Case {
-    fn new(alloc: Global) -> Result<Case, Fail> {
-        let first = MessageHeader::new(MAX_ID - 2).ok_or("no header")?;
+    fn new(alloc: Global, first: u64) -> Result<Case, Fail> {
+        let first = MessageHeader::new(first).ok_or("no header")?;
         let mut rules = Vec::new(alloc);
         rules.push(link(0))?;
         rules.push(link(1))?;
@@ -95,7 +126,10 @@ impl Case {
             Call::Next => self.next(alloc),
             Call::Answer(link, status) => self.answer(*link, *status),
             Call::Consume(link) => self.consume(*link),
+            Call::Reserve(link) => self.reserve(*link),
+            Call::Release(link) => self.release(*link),
             Call::Room => Ok(Done::Room(self.outlet.room_back())),
+            Call::Left(numbers) => Ok(Done::Left(self.has_left(numbers))),
         }
     }
 
@@ -149,15 +183,58 @@ impl Case {
             None => Ok(Done::Gone),
         }
     }
+
+    fn reserve(&mut self, link: usize) -> Result<Done, Fail> {
+        let header = *self.offered.get(link).ok_or("no such link")?;
+        if !self.outlet.may_reserve(link, header) {
+            return Err(Fail::from("not to be reserved"));
+        }
+        if self.outlet.reserve_message(link, header) {
+            Ok(Done::Kept)
+        } else {
+            Ok(Done::NotKept)
+        }
+    }
+
+    fn release(&mut self, link: usize) -> Result<Done, Fail> {
+        let header = *self.offered.get(link).ok_or("no such link")?;
+        if !self.outlet.is_reserved(link, header) {
+            return Err(Fail::from("not kept"));
+        }
+        self.outlet.release_reservation(link, header);
+        Ok(Done::Released)
+    }
+
+    fn has_left(&self, numbers: &[i64]) -> bool {
+        self.outlet
+            .left()
+            .iter()
+            .map(Value::as_int)
+            .eq(numbers.iter().copied().map(Some))
+    }
+}
+
+/// Does these calls with an outlet whose first message has this id.
+fn does_all(
+    rt: &impl Abort,
+    alloc: Global,
+    first: u64,
+    calls: &[(Call, Done)],
+) -> Result<(), Fail> {
+    let mut case = Case::new(alloc, first)?;
+    for (call, due) in calls {
+        let done = case.act(alloc, call)?;
+        assert!(rt; done == *due, "{call:?} came to {done:?}");
+    }
+    Ok(())
 }
 
 #[test]
 fn outlet_ids_run_out(rt: HostRuntime) -> Result<(), Fail> {
-    let mut case = Case::new(rt.alloc())?;
-    for (call, due) in CALLS {
-        let done = case.act(rt.alloc(), call)?;
-        assert!(rt; done == *due, "{call:?} came to {done:?}");
-    }
-    assert!(rt; case.outlet.left().is_empty());
-    Ok(())
+    does_all(&rt, rt.alloc(), MAX_ID - 2, LAST_IDS)
+}
+
+#[test]
+fn outlet_reservations(rt: HostRuntime) -> Result<(), Fail> {
+    does_all(&rt, rt.alloc(), MAX_ID - 1, RESERVATIONS)
 }

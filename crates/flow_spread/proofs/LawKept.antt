@@ -11,16 +11,16 @@ use Rattle.flow_outlet.specs.declared.ends.LinkRule.{LinkRule}
 use Rattle.flow_outlet.specs.ByLink.{is_taken}
 use Rattle.flow_outlet.specs.Outlet.{given_end}
 use Rattle.flow_link.specs.declared.stage.SourceStage.{SourceStage}
-use Rattle.flow_link.specs.declared.stage.SourceStage.TheVariants.{Free, Crossing}
+use Rattle.flow_link.specs.declared.stage.SourceStage.TheVariants.{Free, Crossing, Waiting, Reserved}
 use Rattle.flow_outlet.specs.Law.{is_put_off, admits_head}
 use Rattle.flow_link.specs.declared.phase.Phase.{Phase}
-use Rattle.flow_link.specs.declared.phase.Phase.TheVariants.{Idle, Wanted}
+use Rattle.flow_link.specs.declared.phase.Phase.TheVariants.{Idle, Wanted, Asked, Postponed}
 use Rattle.flow_link.specs.Stage.{source_looks}
 use Rattle.std.specs.Bool.{OnTrue}
-use Rattle.flow_spread.specs.ByLink.{is_there, gives_home, place_of}
+use Rattle.flow_spread.specs.ByLink.{is_there, gives_home, place_of, reserved, reserves, releases}
 use Rattle.flow_spread.specs.declared.end.CopyEnd.{CopyEnd}
 use Rattle.flow_spread.specs.End.{end_in, no_end, fresh_end, moved, is_answer, takes_up, count_of, owes_it, is_away_at, is_busy_at}
-use Rattle.flow_spread.specs.Spread.{SpreadState, end_at, link_at, stage_at, changes, fresh_spread, is_spread_free, is_at_rest, puts, left_of, looks, gives, may_give, is_wanted}
+use Rattle.flow_spread.specs.Spread.{SpreadState, end_at, link_at, stage_at, changes, fresh_spread, is_spread_free, is_at_rest, puts, left_of, looks, gives, may_give, is_wanted, is_asked_by, holds}
 use Rattle.flow_spread.specs.Law.{SpreadLaw, CopyEndLaw, MayPutOff, speaks}
 use Rattle.flow_spread.specs.Keeps.{CallsKeepLaw, IsGivenWell, LawTells}
 use Rattle.flow_spread.proofs.CountsOfEnds.{none_there, count_same}
@@ -227,6 +227,19 @@ consumed_or_not s law k header here true e =
     home_keeps s law k header here (and_parts (header == s.id) (is_taken s.id false (stage_at s k)) e).1
 consumed_or_not s law k header here false e = law
 
+reserved_or_not : {first : ℕ} {pending : Bool} {stopped : Option Outcome} (s : SpreadState) → SpreadLaw first pending stopped s
+    → (k header : ℕ) → k < length s.ends → stage_at s k ≡ Waiting header → (b : Bool)
+    → SpreadLaw first pending stopped (cond b (holds k (looks k (Asked header) s)) s)
+reserved_or_not s law k header here waits false = law
+reserved_or_not s law k header here waits true =
+    let seen = looks k (Asked header) s in
+    let seen_law = looks_keep s law k here (Asked header)
+    (OnTrue_from (is_put_off (source_looks (stage_at s k) (Asked header))) _ (λ o. OnTrue_at (ap is_put_off waits) (law.each k here).put_off)) in
+    let there : k < length seen.ends = rw (look_count s k (Asked header)) here in
+    let asks : is_asked_by (stage_at seen k) ≡ true =
+    ap is_asked_by (look_stage s k (Asked header) here ∙ ap (λ (stage : SourceStage). source_looks stage (Asked header)) waits) in
+    one_changes seen seen_law k there _ (holds_each (end_at seen k) (seen_law.each k there) asks)
+
 pub calls_keep_law : CallsKeepLaw
 calls_keep_law = record {
   fresh = fresh_keeps;
@@ -236,6 +249,12 @@ calls_keep_law = record {
   offer = λ first pending s law k here may ready. one_changes s law k here _ (offers_each (end_at s k) (law.each k here) may ready);
   look = λ first pending stopped s law k here phase off. one_changes s law k here _ (looks_each (end_at s k) (law.each k here) phase off);
   give = λ first pending stopped s law k here wanted. one_changes s law k here _ (gives_each (end_at s k) (law.each k here) wanted);
+  reserve = λ first pending stopped s law link header may.
+      reserved_or_not s law (place_of link s.ends) header may.known may.waits (reserved header s);
+  release = λ first pending stopped s law link header kept.
+      looks_keep s law (place_of link s.ends) kept.known (Postponed header)
+      (OnTrue_from (is_put_off (source_looks (stage_at s (place_of link s.ends)) (Postponed header))) _
+      (λ o. OnTrue_at (ap is_put_off kept.kept) (law.each (place_of link s.ends) kept.known).put_off));
   hold = λ first pending stopped s law k here asked. one_changes s law k here _ (holds_each (end_at s k) (law.each k here) asked);
   withdraw = λ first pending stopped s law k here wait up. one_changes s law k here _ (withdraws_each (end_at s k) (law.each k here) wait up);
   ends = λ first pending stopped s law k here how free by. one_changes s law k here _ (ends_each (end_at s k) (law.each k here) how free by);

@@ -150,7 +150,7 @@ taken_is id header Free e = cc
 taken_is id header (Posted _) e = cc
 taken_is id header (Out _) e = cc
 taken_is id header (AskedBy _) e = cc
-taken_is id header (Reserved _) e = cc
+taken_is id header (Reserved i) e = record { wanted = e; off = λ o. refl }
 taken_is id header (Claimed _) e = cc
 taken_is id header Crossing e = cc
 taken_is id header Refused e = cc

@@ -4,13 +4,13 @@ use Rattle.std.specs.Bool.{OnTrue}
 use Rattle.flow_value.specs.declared.value.Value.{Value}
 use Rattle.flow_value.specs.declared.message.MessageStatus.{MessageStatus}
 use Rattle.flow_value.specs.declared.message.MessageStatus.TheVariants as status
-use Rattle.flow_link.specs.declared.phase.Phase.TheVariants.{Idle, Wanted}
-use Rattle.flow_link.specs.declared.stage.SourceStage.TheVariants.{Out}
+use Rattle.flow_link.specs.declared.phase.Phase.TheVariants.{Idle, Wanted, Asked, Postponed}
+use Rattle.flow_link.specs.declared.stage.SourceStage.TheVariants.{Out, Waiting, Reserved}
 use Rattle.flow_link.specs.LinkOk.{HasRoom}
-use Rattle.flow_outlet.specs.ByLink.{answer_stage, answer_declined, is_offered, is_taken, has_room}
+use Rattle.flow_outlet.specs.ByLink.{answer_stage, answer_declined, is_offered, is_waiting_for, is_kept_for, is_taken, has_room}
 use Rattle.flow_outlet.specs.declared.ends.OutEnd.{OutEnd}
 use Rattle.flow_spread.specs.declared.end.CopyEnd.{CopyEnd}
-use Rattle.flow_spread.specs.Spread.{SpreadState, end_at, link_at, stage_at, next_place, prepares, offers, moves, looks, gives}
+use Rattle.flow_spread.specs.Spread.{SpreadState, end_at, link_at, stage_at, next_place, prepares, offers, moves, looks, gives, holds}
 
 -- the place of a link's end; where there is none, behind the last
 abbrev pub place_of : ℕ → List CopyEnd → ℕ
@@ -87,3 +87,32 @@ tests_take k s = is_some (end_at s k).share && has_room (link_at s k).rule.max (
 
 abbrev pub tests_consume : ℕ → ℕ → SpreadState → Bool
 tests_consume k header s = ltb k (length s.ends) && (not (is_there k header s) || tests_take k s)
+
+-- What is kept for a link
+
+-- its target postponed this message
+pub record MayReserve (link header : ℕ) (s : SpreadState) : Type 0 where
+  pub known : place_of link s.ends < length s.ends
+  pub waits : stage_at s (place_of link s.ends) ≡ Waiting header
+
+abbrev pub reserved : ℕ → SpreadState → Bool
+reserved header s = header == s.id
+
+abbrev pub reserves : ℕ → ℕ → SpreadState → SpreadState
+reserves link header s = cond (reserved header s) (holds (place_of link s.ends) (looks (place_of link s.ends) (Asked header) s)) s
+
+-- this message is kept for the link
+pub record IsReserved (link header : ℕ) (s : SpreadState) : Type 0 where
+  pub known : place_of link s.ends < length s.ends
+  pub kept : stage_at s (place_of link s.ends) ≡ Reserved header
+
+-- it waits again
+abbrev pub releases : ℕ → ℕ → SpreadState → SpreadState
+releases link header s = looks (place_of link s.ends) (Postponed header) s
+
+-- tests of what these two require
+abbrev pub tests_reserve : ℕ → ℕ → SpreadState → Bool
+tests_reserve k header s = ltb k (length s.ends) && is_waiting_for header (stage_at s k)
+
+abbrev pub tests_reserved : ℕ → ℕ → SpreadState → Bool
+tests_reserved k header s = ltb k (length s.ends) && is_kept_for header (stage_at s k)

@@ -15,7 +15,7 @@ use Rattle.flow_outlet.specs.KeepsByLink.{settles_it}
 use Rattle.flow_outlet.specs.Law.{is_put_off, is_refused, admits_head}
 use Rattle.flow_outlet.specs.Outlet.{end_of}
 use Rattle.flow_outlet.specs.declared.ends.LinkRule.{LinkRule}
-use Rattle.flow_spread.specs.ByLink.{answered, consumes, place_of}
+use Rattle.flow_spread.specs.ByLink.{answered, consumes, place_of, MayReserve, reserves, IsReserved, releases}
 use Rattle.flow_spread.specs.Spread.{SpreadState, end_at, link_at, stage_at, fresh_spread, is_spread_free, is_at_rest, puts, left_of, prepares, may_offer, offers, looks, may_give, gives, is_asked_by, holds, withdraws, ends_link}
 use Rattle.flow_spread.specs.Law.{SpreadLaw, MayPutOff}
 
@@ -39,6 +39,10 @@ pub record CallsKeepLaw : Type 0 where
       (phase : Phase) → OnTrue (is_put_off (source_looks (stage_at s k) phase)) (MayPutOff (link_at s k))
       → SpreadLaw first pending stopped (looks k phase s)
   pub give : AtEachEnd λ first pending stopped s k. may_give k s ≡ true → SpreadLaw first pending stopped (gives k s)
+  pub reserve : (first : ℕ) (pending : Bool) (stopped : Option Outcome) (s : SpreadState) → SpreadLaw first pending stopped s
+      → (link header : ℕ) → MayReserve link header s → SpreadLaw first pending stopped (reserves link header s)
+  pub release : (first : ℕ) (pending : Bool) (stopped : Option Outcome) (s : SpreadState) → SpreadLaw first pending stopped s
+      → (link header : ℕ) → IsReserved link header s → SpreadLaw first pending stopped (releases link header s)
   pub hold : AtEachEnd λ first pending stopped s k. is_asked_by (stage_at s k) ≡ true → SpreadLaw first pending stopped (holds k s)
   -- where a link still owes the element, its offer is withdrawn only where the block faults
   pub withdraw : AtEachEnd λ first pending stopped s k.

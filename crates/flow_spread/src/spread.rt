@@ -6,6 +6,8 @@ ghost use Rattle.flow_link.specs.LinkOk.{HasRoom};
 ghost use Rattle.flow_link.specs.declared.stage.SourceStage.TheVariants.{Out};
 ghost use Rattle.flow_outlet.specs.End.{is_cut, is_free, is_waiting, id_of};
 ghost use Rattle.flow_spread.specs.ByLink.{place_of, offer_named, offers_next, IsAsked, answered, MayConsume, consumed};
+ghost use Rattle.flow_spread.specs.ByLink.{MayReserve, tests_reserve, reserved, reserves};
+ghost use Rattle.flow_spread.specs.ByLink.{IsReserved, tests_reserved, releases};
 ghost use Rattle.flow_spread.specs.ByLink.{consumes, tests_asked, tests_consume, is_there, still_owes};
 ghost use Rattle.flow_spread.specs.End.{count_of, owes_it, is_busy_at, is_waiting_at};
 ghost use Rattle.flow_spread.specs.Spread.{fresh_spread, is_spread_free, puts, left_of, is_at_rest, only_waits, moves};
@@ -491,6 +493,56 @@ impl Spread {
         let (_value, parcel) = self.give(place);
         self.look_out(place, Phase::Idle);
         Some(parcel)
+    }
+
+    /// Whether the link may ask to reserve this message: its target postponed it.
+    pub fn may_reserve(&self, link: LinkId, header: MessageHeader) -> bool
+        ensures { (result ≡ true) ↔ MayReserve link header self.now }
+    {
+        self.tests_reserve(self.ends.place_of(link), header)
+    }
+
+    fn tests_reserve(&self, place: usize, header: MessageHeader) -> bool
+        ensures { result ≡ tests_reserve place header self.now }
+    {
+        place < self.ends.all().len() && self.ends.at(place).link.is_waiting_for(header)
+    }
+
+    /// Whether this message is kept for the link.
+    pub fn is_reserved(&self, link: LinkId, header: MessageHeader) -> bool
+        ensures { (result ≡ true) ↔ IsReserved link header self.now }
+    {
+        self.tests_reserved(self.ends.place_of(link), header)
+    }
+
+    fn tests_reserved(&self, place: usize, header: MessageHeader) -> bool
+        ensures { result ≡ tests_reserved place header self.now }
+    {
+        place < self.ends.all().len() && self.ends.at(place).link.is_kept_for(header)
+    }
+
+    /// Keeps the message for the target that postponed it; false, where it is not the element any more.
+    pub fn reserve_message(&mut self, link: LinkId, header: MessageHeader) -> bool
+        requires { MayReserve link header self.old }
+        ensures told { result ≡ reserved header self.old }
+        ensures kept { self.new ≡ reserves link header self.old }
+    {
+        if header.id() != self.id {
+            return false;
+        }
+        let place = self.ends.place_of(link);
+        self.look_out(place, Phase::Asked(header));
+        self.hold(place);
+        true
+    }
+
+    /// The target gives up the message that is kept for it, which waits again.
+    pub fn release_reservation(&mut self, link: LinkId, header: MessageHeader)
+        requires { IsReserved link header self.old }
+        ensures { self.new ≡ releases link header self.old }
+    {
+        let place = self.ends.place_of(link);
+        self.look_out(place, Phase::Postponed(header));
     }
 
     /// Whether the link has carried as many messages as it may. It then ends, and passes nothing on.

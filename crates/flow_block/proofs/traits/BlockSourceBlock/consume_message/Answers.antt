@@ -1,9 +1,22 @@
-use Rattle.std.proofs.Common.{◌≡◌, true, is_some, ap, sym, ◌∙◌}
+use Rattle.std.proofs.Common.{◌≡◌, ℕ, Bool, true, false, cond, Option, Some, None, is_some, refl, ap, sym, ◌∙◌, subst}
 use Rattle.std.proofs.lemmas.Bool.{OnTrue_from}
+use Rattle.flow_link.specs.BlockCalls.{Stays}
+use Rattle.flow_link.specs.declared.trace.Outcome.{Outcome}
 use Rattle.flow_link.specs.SourceCalls.{is_promised}
-use Rattle.flow_block.specs.Traits.{source_at}
+use Rattle.flow_block.specs.Block.{BlockState}
+use Rattle.flow_block.specs.Traits.{source_at, outcome_of, may_take, gives_over}
 use Rattle.flow_block.proofs.SourceMoves.{head_consumes, copy_consumes, gives_so}
 use Rattle.flow_block.proofs.traits.BlockSourceBlock.consume_message.Goals as goal
+
+-- it has not stopped by that, whether it gives or not
+stopped_so : (gives : Bool) (link header : ℕ) (block : BlockState)
+    → outcome_of (cond gives (gives_over link header block) block) ≡ outcome_of block
+stopped_so true link header block = refl
+stopped_so false link header block = refl
+
+stays_so : (how : Option Outcome) → Stays how how
+stays_so None = tt
+stays_so (Some how) = refl
 
 pub returns-then-shares-clause-moves : goal.returns-then-shares-clause-moves
 returns-then-shares-clause-moves c =
@@ -24,3 +37,10 @@ returns-else-shares-clause-moves c =
     let told = copy_consumes block c.args.link c.args.header (sym c.if-shares.ensures) c.requires in
     gives_so block _ c.give_copy_over.new.self c.args.link c.args.header _ c.give_copy_over.result told c.give_copy_over.ensures.given
     c.give_copy_over.ensures.left
+
+pub returns-then-shares-clause-outcome_stays : goal.returns-then-shares-clause-outcome_stays
+returns-then-shares-clause-outcome_stays c =
+    let block = c.args.self.now in
+    let gives = may_take c.args.link c.args.header block.exits in
+    let same = ap outcome_of c.give_head.ensures.left ∙ stopped_so gives c.args.link c.args.header block in
+    subst (λ (later : Option Outcome). Stays (outcome_of block) later) (sym same) (stays_so (outcome_of block))
