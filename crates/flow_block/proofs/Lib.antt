@@ -17,6 +17,7 @@ pub mod MarksOfNext
 pub mod MovesOut
 pub mod NothingLeft
 pub mod OutcomesStay
+pub mod PassesFreely
 pub mod PassesOfNodes
 pub mod PlanMade
 pub mod PortsChange

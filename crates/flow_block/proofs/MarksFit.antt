@@ -6,11 +6,11 @@ use Rattle.flow_link.specs.declared.draft.BlockKind.TheVariants.{Action}
 use Rattle.flow_link.specs.declared.phase.Phase.{Phase}
 use Rattle.flow_link.specs.declared.stage.Refusal.{Refusal}
 use Rattle.flow_link.specs.declared.stage.TargetStage.{TargetStage}
-use Rattle.flow_link.specs.declared.stage.TargetStage.TheVariants.{Offered, Posted, Postponed, Arrived}
+use Rattle.flow_link.specs.declared.stage.TargetStage.TheVariants.{Offered, Posted, Postponed, Holding, Arrived}
 use Rattle.flow_link.specs.declared.trace.Outcome.{Outcome}
 use Rattle.flow_link.specs.Stage.{target_looks}
-use Rattle.flow_intake.specs.Port.{EndState, PortState, stage_at, is_offer, is_queued, is_coming, is_owed, is_hand, count_at}
-use Rattle.flow_intake.specs.Calls.{is_offered, is_postponed, is_arrived, refused_by, prepared, wants, turns_down, postpones, refuses, consumes, opens, closes, looks, takes_next, gives_room, port_closes, port_fails}
+use Rattle.flow_intake.specs.Port.{EndState, PortState, stage_at, is_offer, is_queued, is_coming, is_owed, is_hand, is_holding, count_at}
+use Rattle.flow_intake.specs.Calls.{is_offered, is_postponed, is_arrived, refused_by, prepared, wants, turns_down, postpones, refuses, consumes, asks, claims, releases, opens, closes, looks, takes_next, gives_room, port_closes, port_fails}
 use Rattle.flow_intake.proofs.CountsOfEnds.{count_after_set, coming_is_owed, hand_comes}
 use Rattle.flow_intake.proofs.EndsInOrder.{look_tells}
 use Rattle.flow_outlet.specs.Outlet.{gives, head_of}
@@ -49,6 +49,10 @@ offered_is_offer _ e = absurd (cc)
 postponed_is_owed : (stage : TargetStage) → is_postponed stage ≡ true → is_owed stage ≡ true
 postponed_is_owed (Postponed _) e = refl
 postponed_is_owed _ e = absurd (cc)
+
+held_is_owed : (stage : TargetStage) → is_holding stage ≡ true → is_owed stage ≡ true
+held_is_owed (Holding _) e = refl
+held_is_owed _ e = absurd (cc)
 
 arrived_is_owed : (stage : TargetStage) → is_arrived stage ≡ true → is_owed stage ≡ true
 arrived_is_owed (Arrived _) e = refl
@@ -105,6 +109,18 @@ module _ (p : ℕ) (block : BlockState) (l : p < length block.ports) where
         → marks_due (with_port p (consumes k) block) ≤ marks_due block
     due_consumes postponed =
         omega (arith, due_with p 0 0 (consumes k) block l (due_moved k 0 0 _ (port_at p block).ready (port_at p block) there (rw (postponed_is_owed _ postponed) (omega arith))))
+
+    pub due_asks : is_postponed (stage_at k (port_at p block)) ≡ true → marks_due (with_port p (asks k) block) ≤ marks_due block
+    due_asks postponed =
+        omega (arith, due_with p 0 0 (asks k) block l (due_moved k 0 0 _ (port_at p block).ready (port_at p block) there (rw (postponed_is_owed _ postponed) (omega arith))))
+
+    pub due_claims : is_holding (stage_at k (port_at p block)) ≡ true → marks_due (with_port p (claims k) block) ≤ marks_due block
+    due_claims holding =
+        omega (arith, due_with p 0 0 (claims k) block l (due_moved k 0 0 _ (port_at p block).ready (port_at p block) there (rw (held_is_owed _ holding) (omega arith))))
+
+    pub due_releases : is_holding (stage_at k (port_at p block)) ≡ true → marks_due (with_port p (releases k) block) ≤ marks_due block
+    due_releases holding =
+        omega (arith, due_with p 0 0 (releases k) block l (due_moved k 0 0 _ (port_at p block).ready (port_at p block) there (rw (held_is_owed _ holding) (omega arith))))
 
     pub due_opens : (value : Value) → is_arrived (stage_at k (port_at p block)) ≡ true
         → marks_due (with_port p (opens k value) block) ≤ marks_due block

@@ -1,8 +1,9 @@
 -- A node of a network: a block with its journal. Its calls are its side of each move of a link, its looks, and what it does by
 -- itself.
-use Rattle.std.specs.Prelude.{ℕ, ◌+◌, cond, List, [], ◌∷◌, ◌++◌, map, drop, Option, Some, None, Result}
+use Rattle.std.specs.Prelude.{ℕ, ◌+◌, cond, Bool, false, List, [], ◌∷◌, ◌++◌, map, drop, Option, Some, None, Result}
 use Rattle.flow_value.specs.declared.value.Value.{Value}
 use Rattle.flow_link.specs.declared.phase.LinkEnd.{LinkEnd}
+use Rattle.flow_link.specs.declared.phase.Move.{Move}
 use Rattle.flow_link.specs.declared.phase.Phase.{Phase}
 use Rattle.flow_link.specs.declared.trace.Mark.{Mark}
 use Rattle.flow_link.specs.declared.trace.Mark.TheVariants.{Took, Gave, Complete, Fault, Done}
@@ -11,13 +12,14 @@ use Rattle.flow_link.specs.Stage.{source_stage_of, target_stage_of}
 use Rattle.flow_link.specs.Trace.{BlockTrace, gave_over, took_over}
 use Rattle.flow_link.specs.Views.{SourceView, TargetView}
 use Rattle.flow_intake.specs.Port.{EndState, PortState, end_in, link_in, hand_in}
-use Rattle.flow_intake.specs.Calls.{wants, turns_down, postpones, refuses, consumes, opens, closes, looks as port_looks, port_closes}
+use Rattle.flow_intake.specs.Calls.{in_move, is_front, loses_front, wants, turns_down, postpones, refuses, consumes, asks, claims, releases, opens, closes, looks as port_looks, port_closes}
 use Rattle.flow_outlet.specs.Outlet.{OutletState, head_of, end_at, prepares, offers, holds, denies, withdraws, ends_link, looks as exit_looks}
 use Rattle.flow_outlet.specs.declared.ends.OutEnd.{OutEnd}
 use Rattle.flow_outlet.specs.History.{listed}
 use Rattle.flow_spread.specs.Spread.{SpreadState, link_at, left_of}
 use Rattle.flow_link.specs.Plan.{is_one_taker}
 use Rattle.flow_group.specs.Group.{group_of}
+use Rattle.flow_group.specs.Round.{RoundState, settles, claims_on, round_move}
 use Rattle.flow_block.specs.Block.{BlockState, port_at, with_port, begins, makes, put_next, gives_out, with_copies, stops_by, is_batched_join, copies_taken}
 use Rattle.flow_block.specs.Copies.{CopyCall, after_copy}
 use Rattle.flow_block.specs.Groups.{makes_group, ports_in, marks_until}
@@ -27,6 +29,8 @@ pub record NodeState : Type 0 where
   pub journal : List Mark
   -- how many of its marks are no younger than those of the messages that are in groups, if it is a batched join
   pub grouped : ℕ
+  -- how far its round is, if it is a join that reserves
+  pub round : RoundState
 
 -- a call of a node. The ends of its links are told by their places: those of the links into it by a port and a place there
 pub data NodeCall : Type 0 where
@@ -36,6 +40,9 @@ pub data NodeCall : Type 0 where
   postpone : ℕ → ℕ → NodeCall
   refuse : ℕ → ℕ → NodeCall
   consume : ℕ → ℕ → NodeCall
+  ask : ℕ → ℕ → NodeCall
+  claim : ℕ → ℕ → NodeCall
+  release : ℕ → ℕ → NodeCall
   open_with : ℕ → ℕ → Value → NodeCall
   close : ℕ → ℕ → NodeCall
   -- the source's side; an offer's parcel is made ready with it
@@ -82,6 +89,10 @@ holds_in p k None node = node
 holds_in p k (Some value) node =
     marks (Took p (in_link_at p k node) value) (with_block (with_port p (closes k value) node.block) node)
 
+-- the round of a join that reserves goes on with its ports: an offer in front of one has gone, or none has
+abbrev pub goes_round : Bool → NodeState → NodeState
+goes_round gone node = record node { round = settles gone node.block.ports node.round }
+
 -- or copies it at once
 abbrev pub takes_in : ℕ → ℕ → Option Value → NodeState → NodeState
 takes_in p k hand node = with_block (copies_taken (holds_in p k hand node).block) (holds_in p k hand node)
@@ -120,6 +131,14 @@ makes_next_group node = record node {
 abbrev pub next_group_in : NodeState → Value
 next_group_in node = group_of node.block.size (order_in node) node.block.ports
 
+-- what the end of a link into it would do next: by itself, or for the round of a join that reserves
+abbrev pub or_else : Option Move → Option Move → Option Move
+or_else (Some next) other = Some next
+or_else None other = other
+
+abbrev pub next_in : ℕ → ℕ → NodeState → Option Move
+next_in p k node = or_else (in_move k (port_at p node.block)) (round_move p k node.round node.block.ports)
+
 -- what a node makes of a message by its function
 module _ (result : Value → Result (List Value) ℕ) where
   -- a batched join makes its next group, and each other block what it makes by itself
@@ -134,17 +153,23 @@ module _ (result : Value → Result (List Value) ℕ) where
   after (NodeCall.want p k) node = with_block (with_port p (wants k) node.block) node
   after (NodeCall.turn_down p k) node = with_block (with_port p (turns_down k) node.block) node
   after (NodeCall.postpone p k) node = with_block (with_port p (postpones k) node.block) node
-  after (NodeCall.refuse p k) node = with_block (with_port p (refuses k) node.block) node
+  after (NodeCall.refuse p k) node =
+      goes_round (is_front k (port_at p node.block)) (with_block (with_port p (refuses k) node.block) node)
   after (NodeCall.consume p k) node = with_block (with_port p (consumes k) node.block) node
+  after (NodeCall.ask p k) node = with_block (with_port p (asks k) node.block) node
+  after (NodeCall.claim p k) node =
+      record (with_block (with_port p (claims k) node.block) node) { round = claims_on node.round }
+  after (NodeCall.release p k) node = goes_round false (with_block (with_port p (releases k) node.block) node)
   after (NodeCall.open_with p k value) node = with_block (with_port p (opens k value) node.block) node
-  after (NodeCall.close p k) node = takes_in p k (hand_at p k node) node
+  after (NodeCall.close p k) node = goes_round false (takes_in p k (hand_at p k node) node)
   after (NodeCall.offer k) node = with_exits (offers k (prepares node.block.exits)) node
   after (NodeCall.give k) node = gives_from k (head_of node.block.exits) node
   after (NodeCall.hold k) node = with_exits (holds k node.block.exits) node
   after (NodeCall.deny k) node = with_exits (denies k node.block.exits) node
   after (NodeCall.withdraw k) node = with_exits (withdraws k node.block.exits) node
   after (NodeCall.end_link k how) node = with_exits (ends_link k how node.block.exits) node
-  after (NodeCall.look_in p k phase) node = with_block (with_port p (port_looks k phase) node.block) node
+  after (NodeCall.look_in p k phase) node =
+      goes_round (loses_front k phase (port_at p node.block)) (with_block (with_port p (port_looks k phase) node.block) node)
   after (NodeCall.look_out k phase) node = with_exits (exit_looks k phase node.block.exits) node
   after (NodeCall.copy call) node = copies_by call node
   after NodeCall.begin node = with_block (begins node.block) node

@@ -1,13 +1,15 @@
 -- A message that goes over a link in one call: what the five moves of the link and the looks at its phases make of the source,
 -- and of the target. The message has id i.
-use Rattle.std.specs.Prelude.{ℕ}
+use Rattle.std.specs.Prelude.{ℕ, Bool, ◌&&◌, not}
 use Rattle.flow_value.specs.declared.value.Value.{Value}
 use Rattle.flow_link.specs.declared.phase.Phase.{Phase}
 use Rattle.flow_link.specs.declared.phase.Phase.TheVariants.{Idle, Offered, Wanted, Given, Opened}
 use Rattle.flow_intake.specs.Port.{PortState}
 use Rattle.flow_intake.specs.Calls.{wants, opens, looks as port_looks}
+use Rattle.flow_intake.specs.Receives.{takes_at_once}
 use Rattle.flow_outlet.specs.Outlet.{head_of, prepares, offers, looks as exit_looks}
-use Rattle.flow_block.specs.Block.{BlockState, with_port, gives_out}
+use Rattle.flow_group.specs.Round.{reserves}
+use Rattle.flow_block.specs.Block.{BlockState, port_at, with_port, gives_out}
 use Rattle.flow_block.specs.Copies.{CopyCall}
 use Rattle.flow_block.specs.Input.{InputState, InputCall, after_input}
 use Rattle.flow_block.specs.Node.{NodeState, with_block, with_exits, gives_from, takes_in, hand_at, copies_by}
@@ -51,6 +53,10 @@ abbrev pub receives_on : ℕ → ℕ → ℕ → Value → NodeState → NodeSta
 receives_on p k i value node =
     takes_hand p k (on_port p (opens k value) (on_port p (port_looks k (Given i)) (on_port p (wants k)
     (on_port p (port_looks k (Offered i)) node))))
+
+-- a port takes at once what is offered to it, and no round stands in its way
+abbrev pub takes_freely : ℕ → ℕ → NodeState → Bool
+takes_freely p k node = takes_at_once k (port_at p node.block) && not (reserves node.round)
 
 -- an input
 abbrev pub input_sends : ℕ → InputState → InputState

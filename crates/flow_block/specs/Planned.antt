@@ -1,17 +1,21 @@
 -- What a layout says of one of its blocks: its ports, and its ends of the links that lead into it and out of it.
-use Rattle.std.specs.Prelude.{ℕ, Bool, List, [], map, filter, length, take, count_by, unwrap_or, Option, Some, None, Result}
+use Rattle.std.specs.Prelude.{ℕ, Bool, cond, List, [], map, filter, length, take, count_by, unwrap_or, Option, Some, None, Result}
 use Rattle.flow_value.specs.declared.value.Value.{Value}
 use Rattle.flow_link.specs.declared.draft.BlockDef.{BlockDef}
 use Rattle.flow_link.specs.declared.draft.BlockKind.{BlockKind}
 use Rattle.flow_link.specs.declared.kinds.BlockUnit.{BlockUnit}
 use Rattle.flow_link.specs.declared.kinds.BlockUnit.TheVariants.{Message, Row, Tuple, Group, Copy, OneCopy}
 use Rattle.flow_link.specs.declared.plan.Link.{Link}
+use Rattle.flow_link.specs.declared.plan.LinkSource.{LinkSource}
+use Rattle.flow_link.specs.declared.plan.LinkSource.TheVariants.{Block, Input}
 use Rattle.flow_link.specs.Kinds.{unit_of}
 use Rattle.flow_link.specs.Layout.{Layout}
 use Rattle.flow_lists.specs.Lists.{below}
 use Rattle.flow_link.specs.Making.{result_of}
-use Rattle.flow_link.specs.Plan.{block_in, link_in, begins_at, ends_at_port, port_count, is_steady, is_sole}
+use Rattle.flow_link.specs.Plan.{block_in, link_in, begins_at, ends_at, ends_at_port, port_count, is_steady, is_sole, is_reserving}
 use Rattle.flow_intake.specs.Port.{PortState, fresh_port, fresh_end}
+use Rattle.flow_group.specs.declared.round.RoundStep.TheVariants as steps
+use Rattle.flow_group.specs.declared.round.Source.{Source}
 use Rattle.flow_outlet.specs.declared.ends.LinkRule.{LinkRule}
 use Rattle.flow_outlet.specs.Outlet.{fresh_outlet}
 use Rattle.flow_block.specs.Copies.{shared_rules, fresh_copies}
@@ -33,12 +37,20 @@ room_by kind capacity = room_by_unit (unit_of kind) capacity
 abbrev pub room_of : {W : Type 0} → BlockDef W → Option ℕ
 room_of block = room_by block.kind block.capacity
 
+-- the block from which a link comes: that of an input is the block that it feeds
+abbrev pub block_from : LinkSource → ℕ
+block_from (Block s) = s
+block_from (Input s) = s
+
 module _ {W : Type 0} (layout : Layout W) where
   abbrev pub is_out_of : ℕ → ℕ → Bool
   is_out_of b l = begins_at b (link_in layout.links l).source
 
   abbrev pub is_into : ℕ → ℕ → ℕ → Bool
   is_into b p l = ends_at_port b p (link_in layout.links l).target
+
+  abbrev pub enters : ℕ → ℕ → Bool
+  enters b l = ends_at b (link_in layout.links l).target
 
   -- the links that leave a block, and those that enter one of its ports, in the order of the links
   abbrev pub links_from : ℕ → List ℕ
@@ -73,7 +85,17 @@ module _ {W : Type 0} (layout : Layout W) where
 
   -- a port and a node in which nothing has happened; messages are counted from 1 on
   abbrev pub port_of_plan : ℕ → ℕ → PortState
-  port_of_plan b p = record (fresh_port (room_of (block_in layout.blocks b))) { ends = map fresh_end (links_to b p) }
+  port_of_plan b p = record (fresh_port (room_of (block_in layout.blocks b))) {
+    reserves = is_reserving (block_in layout.blocks b);
+    ends = map fresh_end (links_to b p);
+  }
+
+  abbrev pub source_by : ℕ → Source
+  source_by l = record { link = l; block = block_from (link_in layout.links l).source }
+
+  -- the sources of a join that reserves, of all links into it; another block has none
+  abbrev pub sources_of : ℕ → List Source
+  sources_of b = cond (is_reserving (block_in layout.blocks b)) (map source_by (filter (enters b) (below (length layout.links)))) []
 
   -- how many messages a block may work on at once
   abbrev pub lanes_of : ℕ → ℕ
@@ -98,6 +120,7 @@ module _ {W : Type 0} (layout : Layout W) where
     };
     journal = [];
     grouped = 0;
+    round = record { sources = sources_of b; step = steps.Asks };
   }
 
   -- what a block makes of one message

@@ -1,6 +1,6 @@
 //! One block, and what can be asked of it.
 ghost use Rattle.std.specs.Prelude.{◌≡◌, ◌<◌, ◌^◌, true, length, MatchResult};
-ghost use Rattle.flow_intake.specs.Calls.{in_move, next_place};
+ghost use Rattle.flow_intake.specs.Calls.{first_of, in_move, next_place};
 ghost use Rattle.flow_intake.specs.Port.{link_in};
 ghost use Rattle.flow_outlet.specs.End.{count_at, is_away};
 ghost use Rattle.flow_outlet.specs.Outlet.{out_move, end_at, may_offer};
@@ -218,6 +218,14 @@ impl Block {
         ensures { result ≡ next_place (port_at port self.now) }
     {
         self.ports[port].next_place()
+    }
+
+    /// The place of the link over which the offer came that waits longest at a port.
+    pub fn front(&self, port: usize) -> Option<usize>
+        requires { port < length self.now.ports }
+        ensures { result ≡ first_of (port_at port self.now).queue }
+    {
+        self.ports[port].front()
     }
 
     /// Over how many links out of it something is under way, or waits there.

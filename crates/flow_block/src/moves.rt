@@ -4,9 +4,9 @@
 //! follows takes none.
 ghost use Rattle.std.specs.Prelude.{◌≡◌, ◌<◌, ◌∷◌, true, length, is_some, Some, OnOk, OnErr};
 ghost use Rattle.flow_link.specs.LinkOk.{HasRoom};
-ghost use Rattle.flow_intake.specs.Port.{stage_at as port_stage, is_offer, is_hand, has_room, hand_in};
+ghost use Rattle.flow_intake.specs.Port.{stage_at as port_stage, is_offer, is_hand, is_holding, has_room, hand_in};
 ghost use Rattle.flow_intake.specs.Calls.{prepared, is_offered, is_posted, is_postponed, is_arrived};
-ghost use Rattle.flow_intake.specs.Calls.{may_be_refused, wants, turns_down, postpones, refuses, consumes, opens};
+ghost use Rattle.flow_intake.specs.Calls.{may_be_refused, wants, turns_down, postpones, refuses, consumes, asks, claims, releases, opens};
 ghost use Rattle.flow_intake.specs.Calls.{closes, looks as port_looks};
 ghost use Rattle.flow_outlet.specs.End.{is_waiting, is_free};
 ghost use Rattle.flow_outlet.specs.Outlet.{end_at, stage_at, may_offer, may_give, may_hold, is_wish, prepares, offers};
@@ -84,6 +84,37 @@ impl Block {
         ensures { self.new ≡ with_port port (consumes place) self.old }
     {
         self.ports[port].consume(place);
+    }
+
+    /// Asks to reserve the offer over the link at this place, which it postponed.
+    pub fn ask(&mut self, port: usize, place: usize)
+        requires port { port < length self.old.ports }
+        requires place { place < length (port_at port self.old).ends }
+        requires postponed { is_postponed (port_stage place (port_at port self.old)) ≡ true }
+        requires room { has_room (port_at port self.old) ≡ true }
+        ensures { self.new ≡ with_port port (asks place) self.old }
+    {
+        self.ports[port].ask(place);
+    }
+
+    /// Claims the message over the link at this place, which is kept for it.
+    pub fn claim(&mut self, port: usize, place: usize)
+        requires port { port < length self.old.ports }
+        requires place { place < length (port_at port self.old).ends }
+        requires holding { is_holding (port_stage place (port_at port self.old)) ≡ true }
+        ensures { self.new ≡ with_port port (claims place) self.old }
+    {
+        self.ports[port].claim(place);
+    }
+
+    /// Gives up the message over the link at this place, which is kept for it.
+    pub fn release(&mut self, port: usize, place: usize)
+        requires port { port < length self.old.ports }
+        requires place { place < length (port_at port self.old).ends }
+        requires holding { is_holding (port_stage place (port_at port self.old)) ≡ true }
+        ensures { self.new ≡ with_port port (releases place) self.old }
+    {
+        self.ports[port].release(place);
     }
 
     /// Takes the message out of the slot of the link at this place: this is its parcel.

@@ -9,9 +9,12 @@ ghost use Rattle.flow_link.specs.LinkOk.{HasRoom};
 ghost use Rattle.flow_link.specs.Plan.{has_work, is_write_once};
 ghost use Rattle.flow_link.specs.declared.trace.Mark.TheVariants.{Complete, Fault, Done};
 ghost use Rattle.flow_link.specs.declared.trace.Outcome.TheVariants as outcome;
-ghost use Rattle.flow_intake.specs.Port.{stage_at as port_stage, is_offer, is_hand, has_room};
+ghost use Rattle.flow_intake.specs.Port.{stage_at as port_stage, is_offer, is_hand, is_holding, has_room};
 ghost use Rattle.flow_intake.specs.Calls.{prepared, is_offered, is_posted, is_postponed, is_arrived};
-ghost use Rattle.flow_intake.specs.Calls.{may_be_refused, wants, turns_down, postpones, refuses, consumes, opens};
+ghost use Rattle.flow_intake.specs.Calls.{may_be_refused, wants, turns_down, postpones, refuses, consumes, asks, claims, releases, opens};
+ghost use Rattle.flow_intake.specs.Calls.{is_front, loses_front};
+ghost use Rattle.flow_group.specs.Round.{claims_on};
+ghost use Rattle.flow_group.specs.declared.round.RoundStep.TheVariants as steps;
 ghost use Rattle.flow_intake.specs.Calls.{looks as port_looks, port_closes};
 ghost use Rattle.flow_outlet.specs.End.{is_waiting, is_free};
 ghost use Rattle.flow_outlet.specs.Outlet.{end_at, stage_at, may_offer, may_give, may_hold, is_wish, prepares, offers};
@@ -21,12 +24,14 @@ ghost use Rattle.flow_block.specs.Block.{port_at, with_port, with_jobs, begins, 
 ghost use Rattle.flow_block.specs.Block.{put_by_job, has_ports, fails, stops_by};
 ghost use Rattle.flow_block.specs.Jobs.{has_ticket, works_off, is_out, is_front_back, faults_at_once};
 ghost use Rattle.flow_block.specs.JournalFits.{marks_due};
-ghost use Rattle.flow_block.specs.Node.{with_block, with_exits, marks, takes_in, gives_from, hand_at, makes_next};
+ghost use Rattle.flow_block.specs.Node.{next_in, goes_round, with_block, with_exits, marks, takes_in, gives_from, hand_at, makes_next};
 ghost use Rattle.flow_block.specs.Peeks.{may_make, lacks_next};
 
 use crate::block::Block;
 use crate::jobs::Answer;
-use flow_link::{LinkEnd, Mark, Outcome, Phase};
+use flow_group::{Round, Source};
+use flow_intake::Intake;
+use flow_link::{LinkEnd, Mark, Move, Outcome, Phase};
 use flow_outlet::OutletFault;
 use flow_value::{MessageHeader, Parcel, Value};
 use std::alloc::{AllocError, Global};
@@ -39,6 +44,8 @@ pub struct Node {
     pub(crate) block: Block,
     /// How many of its marks are no younger than those of the messages that are in groups, if it is a batched join.
     pub(crate) grouped: usize,
+    /// How far its round is, if it is a join that reserves.
+    pub(crate) round: Round,
 }
 
 impl Model for Node {
@@ -53,22 +60,55 @@ impl Model for Node {
 
     ghost coded = { Prim.hlevel (codes, mark.the_row.coded, content.the_row.coded) };
 
-    ghost view = { λ n. record { block = n.block; journal = n.journal.items; grouped = n.grouped } };
+    ghost view = { λ n. record { block = n.block; journal = n.journal.items; grouped = n.grouped; round = n.round } };
 
     ghost invariant = { λ n. vec_len n.journal + marks_due n.block ≤ vec_capacity n.journal };
 }
 
 impl Node {
-    /// A node with this block, for which nothing is under way, and with an empty journal.
-    pub fn new(alloc: Global, block: Block) -> Node
+    /// A node with this block, for which nothing is under way, and with an empty journal. A join that reserves has the
+    /// sources of all links into it; another block has none.
+    pub fn new(alloc: Global, block: Block, sources: Vec<Source>) -> Node
         requires { marks_due block ≡ 0 }
-        ensures { result ≡ record { block = block; journal = []; grouped = 0 } }
+        ensures { result ≡ record {
+          block = block;
+          journal = [];
+          grouped = 0;
+          round = record { sources = sources.items; step = steps.Asks };
+        } }
     {
         Node {
             journal: Vec::new(alloc),
             block,
             grouped: 0,
+            round: Round::new(sources),
         }
+    }
+
+    /// How far its round is, if it is a join that reserves.
+    pub fn round(&self) -> &Round
+        ensures { result.now ≡ self.now.round }
+    {
+        &self.round
+    }
+
+    /// What the end of a link into it would do next.
+    pub fn next_in(&self, port: usize, place: usize) -> Option<Move>
+        requires port { port < length self.now.block.ports }
+        requires place { place < length (port_at port self.now.block).ends }
+        ensures { result ≡ next_in port place self.now }
+    {
+        match self.block.in_move(port, place) {
+            Some(next) => Some(next),
+            None => self.round.next(&self.block.ports, port, place),
+        }
+    }
+
+    // a round goes on with the ports as they are: an offer in front of one has gone, or none has
+    fn settle(&mut self, gone: bool)
+        ensures { self.new ≡ goes_round gone self.old }
+    {
+        self.round.settle(gone, &self.block.ports);
     }
 
     /// The block.
@@ -140,9 +180,12 @@ impl Node {
         requires place { place < length (port_at port self.old.block).ends }
         requires refusing { is_some (port_at port self.old.block).refusing ≡ true }
         requires offer { may_be_refused (port_stage place (port_at port self.old.block)) ≡ true }
-        ensures { self.new ≡ with_block (with_port port (refuses place) self.old.block) self.old }
+        ensures { self.new ≡ goes_round (is_front place (port_at port self.old.block))
+            (with_block (with_port port (refuses place) self.old.block) self.old) }
     {
+        let gone = self.block.ports[port as usize].is_front(place);
         self.block.refuse(port as usize, place);
+        self.settle(gone);
     }
 
     /// Consumes the offer over the link at this place, which it postponed.
@@ -154,6 +197,41 @@ impl Node {
         ensures { self.new ≡ with_block (with_port port (consumes place) self.old.block) self.old }
     {
         self.block.consume(port as usize, place);
+    }
+
+    /// Asks to reserve the offer over the link at this place, which it postponed.
+    pub fn ask(&mut self, port: u32, place: usize)
+        requires port { port < length self.old.block.ports }
+        requires place { place < length (port_at port self.old.block).ends }
+        requires postponed { is_postponed (port_stage place (port_at port self.old.block)) ≡ true }
+        requires room { has_room (port_at port self.old.block) ≡ true }
+        ensures { self.new ≡ with_block (with_port port (asks place) self.old.block) self.old }
+    {
+        self.block.ask(port as usize, place);
+    }
+
+    /// Claims the message over the link at this place, which is kept for it.
+    pub fn claim(&mut self, port: u32, place: usize)
+        requires port { port < length self.old.block.ports }
+        requires place { place < length (port_at port self.old.block).ends }
+        requires holding { is_holding (port_stage place (port_at port self.old.block)) ≡ true }
+        ensures { self.new ≡ record (with_block (with_port port (claims place) self.old.block) self.old) {
+          round = claims_on self.old.round;
+        } }
+    {
+        self.block.claim(port as usize, place);
+        self.round.claim();
+    }
+
+    /// Gives up the message over the link at this place, which is kept for it.
+    pub fn release(&mut self, port: u32, place: usize)
+        requires port { port < length self.old.block.ports }
+        requires place { place < length (port_at port self.old.block).ends }
+        requires holding { is_holding (port_stage place (port_at port self.old.block)) ≡ true }
+        ensures { self.new ≡ goes_round false (with_block (with_port port (releases place) self.old.block) self.old) }
+    {
+        self.block.release(port as usize, place);
+        self.settle(false);
     }
 
     /// Takes the message out of the slot of the link at this place: this is its parcel.
@@ -172,22 +250,34 @@ impl Node {
         requires port { port < length self.old.block.ports }
         requires place { place < length (port_at port self.old.block).ends }
         requires hand { is_hand (port_stage place (port_at port self.old.block)) ≡ true }
-        ensures { self.new ≡ takes_in port place (hand_at port place self.old) self.old }
+        ensures { self.new ≡ goes_round false (takes_in port place (hand_at port place self.old) self.old) }
     {
         let link = self.block.in_link(port as usize, place);
         let value = self.block.close(port as usize, place);
         self.journal.push_reserved(Mark::Took(port, link, value));
         self.block.copy_taken();
+        self.settle(false);
     }
 
     /// Looks at the phase of the link into it at this place.
     pub fn look_in(&mut self, port: u32, place: usize, phase: Phase)
         requires port { port < length self.old.block.ports }
         requires place { place < length (port_at port self.old.block).ends }
-        ensures { self.new ≡ with_block (with_port port (port_looks place phase) self.old.block) self.old }
+        ensures { self.new ≡ goes_round (loses_front place phase (port_at port self.old.block))
+            (with_block (with_port port (port_looks place phase) self.old.block) self.old) }
     {
+        let gone = loses_front(&self.block.ports[port as usize], place, &phase);
         self.block.look_in(port as usize, place, phase);
+        self.settle(gone);
     }
+}
+
+/// Whether the offer over the link at this place waits longest at its port, and has gone, by a look that finds this phase.
+fn loses_front(port: &Intake, place: usize, phase: &Phase) -> bool
+    requires { place < length port.now.ends }
+    ensures { result ≡ loses_front place phase.now port.now }
+{
+    port.loses_front(place, *phase)
 }
 
 // The source's side.

@@ -12,7 +12,7 @@ ghost use Rattle.flow_outlet.specs.Outlet.{end_at, may_offer, head_of};
 ghost use Rattle.flow_spread.specs.Spread.{end_at as copy_end_at, link_at, stage_at};
 ghost use Rattle.flow_block.specs.Block.{port_at, with_port};
 ghost use Rattle.flow_block.specs.Input.{next_id, next_value};
-ghost use Rattle.flow_block.specs.Passes.{block_sends, sends_ready, sends_copy, receives_on, input_sends};
+ghost use Rattle.flow_block.specs.Passes.{block_sends, sends_ready, sends_copy, receives_on, takes_freely, input_sends};
 
 use crate::block::Block;
 use crate::input::Input;
@@ -112,6 +112,16 @@ impl Node {
         let (value, parcel) = self.block.send_copy(place);
         self.journal.push_reserved(Mark::Gave(link, value));
         parcel
+    }
+
+    /// Whether a port takes at once what is offered over the link at this place, over which nothing is under way. A join
+    /// that reserves does not: it takes by rounds.
+    pub fn takes_at_once(&self, port: usize, place: usize) -> bool
+        requires port { port < length self.now.block.ports }
+        requires place { place < length (port_at port self.now.block).ends }
+        ensures { result ≡ takes_freely port place self.now }
+    {
+        self.block.takes_at_once(port, place) && !self.round.reserves()
     }
 
     /// Takes a message that comes over the link at this place, and that the port takes at once, and marks that. This is

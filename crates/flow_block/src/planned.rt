@@ -1,14 +1,16 @@
 //! What a block has of a plan in which nothing has happened: its ports, the rules of the links that leave it, and the
 //! places of all links at their two ends.
-ghost use Rattle.std.specs.Prelude.{◌≡◌, ℕ, ◌<◌, ◌≤◌, length, map, HoldsAt, IfOk};
+ghost use Rattle.std.specs.Prelude.{◌≡◌, ℕ, ◌<◌, ◌≤◌, length, map, HoldsAt, IfOk, filter};
 ghost use Rattle.flow_link.specs.declared.plan.LinkTarget.TheVariants.{Port};
 ghost use Rattle.flow_lists.specs.Lists.{below};
 ghost use Rattle.flow_link.specs.Plan.{begins_at, block_in, ends_at, ends_at_port, is_reserving, is_sole, is_steady};
 ghost use Rattle.flow_link.specs.Plan.{links_into, port_count, takes_at_once};
 ghost use Rattle.flow_link.specs.Planned.{layout_of};
-ghost use Rattle.flow_block.specs.Planned.{in_place, input_place, links_from, out_place, port_of_plan, room_of, rule_of};
+ghost use Rattle.flow_intake.specs.Port.{fresh_port};
+ghost use Rattle.flow_block.specs.Planned.{block_from, enters, source_by, sources_of, in_place, input_place, links_from, out_place, port_of_plan, room_of, rule_of};
 ghost use Rattle.flow_block.specs.Routes.{route_of};
 
+use flow_group::Source;
 use flow_intake::Intake;
 use flow_link::{BlockDef, BlockUnit, LinkId, LinkSource, LinkTarget, Plan};
 use flow_outlet::LinkRule;
@@ -57,13 +59,63 @@ pub fn port_of<W>(
     requires { block < length (layout_of plan.now).blocks }
     ensures { IfOk result (λ made. made ≡ port_of_plan (layout_of plan.now) block port) }
 {
-    let mut made = Intake::new(alloc, room_of(plan.block(block)));
+    let mut made = port_like(alloc, plan.block(block));
     for id in 0..plan.link_count() {
         if enters(plan.link(id).target, block, port) {
             made.add_link(id)?;
         }
     }
     Ok(made)
+}
+
+/// A port of this block without a link: a join that reserves has ports that postpone all that is offered.
+fn port_like<W>(alloc: Global, block: &BlockDef<W>) -> Intake
+    ensures { result ≡ record (fresh_port (room_of block.now)) { reserves = is_reserving block.now } }
+{
+    if is_reserving(block) {
+        Intake::reserving(alloc, room_of(block))
+    } else {
+        Intake::new(alloc, room_of(block))
+    }
+}
+
+/// The links into this block, each with the block from which it comes, in the order of the links, if it is a join that
+/// reserves; another block has none. It fails only where memory is out.
+pub fn sources_of<W>(alloc: Global, plan: &Plan<W>, block: usize) -> Result<Vec<Source>, AllocError>
+    requires { block < length (layout_of plan.now).blocks }
+    ensures { IfOk result (λ sources. sources.items ≡ sources_of (layout_of plan.now) block) }
+{
+    if is_reserving(plan.block(block)) {
+        sources_into(alloc, plan, block)
+    } else {
+        Ok(Vec::new(alloc))
+    }
+}
+
+/// The links into this block, each with the block from which it comes.
+fn sources_into<W>(alloc: Global, plan: &Plan<W>, block: usize) -> Result<Vec<Source>, AllocError>
+    ensures { IfOk result (λ sources. sources.items ≡
+        map (source_by (layout_of plan.now)) (filter (enters (layout_of plan.now) block) (below (length (layout_of plan.now).links)))) }
+{
+    let mut sources = Vec::new(alloc);
+    for id in 0..plan.link_count() {
+        if ends_at(plan.link(id).target, block) {
+            sources.push(Source {
+                link: id,
+                block: block_from(plan.link(id).source),
+            })?;
+        }
+    }
+    Ok(sources)
+}
+
+/// The block from which messages come: that of an input is the block that it feeds.
+fn block_from(source: LinkSource) -> usize
+    ensures { result ≡ block_from source }
+{
+    match source {
+        LinkSource::Block(block) | LinkSource::Input(block) => block,
+    }
 }
 
 /// For how many messages a block has room: for one, where it takes one message in all.

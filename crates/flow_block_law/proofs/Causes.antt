@@ -29,6 +29,7 @@ use Rattle.flow_outlet.proofs.OffersInOrder.{offers_in_order}
 use Rattle.flow_block.specs.Block.{BlockState, port_at}
 use Rattle.flow_block_law.specs.Causes.{MayRefuse, FaultsItself, FaultsInTime, OffersBefore, TakesBack, NextMovesHaveCauses}
 use Rattle.flow_block.specs.Node.{NodeState}
+use Rattle.flow_block_law.proofs.WishesTell.{own_move}
 use Rattle.flow_block_law.specs.NodeLaw.{NodeLaw}
 use Rattle.flow_spread.specs.Spread.{is_at_rest as is_spread_at_rest}
 use Rattle.flow_block.specs.Peeks.{next_fault, is_worked_off, could_stop, nothing_comes, fault_at_ports, fault_cause, is_held_up}
@@ -245,13 +246,13 @@ at_rest_out block number e = rests_out (could_stop block) (is_at_rest block.exit
 
 pub next_moves_have_causes : (W : Type 0) → NextMovesHaveCauses W
 next_moves_have_causes W layout meaning b node law = record {
-  refuses = λ p k here there e. refuses_for layout meaning b node law p here (port_at p node.block).refusing refl (refuses_at (port_at p node.block) k (port_stage k (port_at p node.block)) e);
-  puts_off = λ p k e. postpones_at (port_at p node.block) k (port_stage k (port_at p node.block)) e;
-  takes = λ p k capacity is e. (room_adds_up.room (port_at p node.block) capacity is).0 (wants_at (port_at p node.block) k (port_stage k (port_at p node.block)) e);
+  refuses = λ p k here there e. refuses_for layout meaning b node law p here (port_at p node.block).refusing refl (refuses_at (port_at p node.block) k (port_stage k (port_at p node.block)) (own_move p k node move.Refuse refl e));
+  puts_off = λ p k e. postpones_at (port_at p node.block) k (port_stage k (port_at p node.block)) (own_move p k node move.Postpone refl e);
+  takes = λ p k capacity is e. (room_adds_up.room (port_at p node.block) capacity is).0 (wants_at (port_at p node.block) k (port_stage k (port_at p node.block)) (own_move p k node move.Want refl e));
   consumes = λ p k capacity is e.
       (room_adds_up.room (port_at p node.block) capacity is).0
-      (oldest_first.oldest (port_at p node.block) k (consumes_at (port_at p node.block) k (port_stage k (port_at p node.block)) e)).0.room;
-  oldest = λ p k e. (oldest_first.oldest (port_at p node.block) k (consumes_at (port_at p node.block) k (port_stage k (port_at p node.block)) e)).1;
+      (oldest_first.oldest (port_at p node.block) k (consumes_at (port_at p node.block) k (port_stage k (port_at p node.block)) (own_move p k node move.Consume refl e))).0.room;
+  oldest = λ p k e. (oldest_first.oldest (port_at p node.block) k (consumes_at (port_at p node.block) k (port_stage k (port_at p node.block)) (own_move p k node move.Consume refl e))).1;
   faults = λ number e. in_time layout meaning b node law (could_stop node.block) (is_at_rest node.block.exits) number refl refl (at_rest_out node.block number e);
   offers = λ k here going left none stops. offers_where layout meaning b node law k here going left none stops (is_renewing node.block.exits) refl;
 }

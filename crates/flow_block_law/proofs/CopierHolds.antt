@@ -36,6 +36,7 @@ use Rattle.flow_spread.specs.End.{no_end, moved, takes_up, is_open, count_of, ow
 use Rattle.flow_spread.specs.Law.{SpreadLaw}
 use Rattle.flow_spread.specs.Spread.{SpreadState, end_at, link_at, stage_at, changes, prepares, offers, puts, looks, gives, holds, withdraws, ends_link, may_offer, may_give, is_wanted, is_asked_by, asked_id, left_of, is_at_rest, is_spread_free}
 use Rattle.flow_spread.proofs.LawKept.{calls_keep_law, law_tells}
+use Rattle.flow_group.specs.Round.{RoundState}
 use Rattle.flow_block.specs.Block.{BlockState, port_in, held_by, with_copies, copies_next, copies_it, stops_by}
 use Rattle.flow_block_law.specs.Copier.{Copier, CopiedOver, copier_start, course_of}
 use Rattle.flow_block.specs.Copies.{CopyCall, after_copy, copies_left, copies_weight}
@@ -382,16 +383,17 @@ module _ {W : Type 0} (layout : Layout W) (b : ℕ) where
       give_keeps None is some = absurd (cc)
       give_keeps (Some value) is some = give_to value is
 
-    pub copy_keeps : (grouped : ℕ) (call : CopyCall) (law : MayCopy call (record { block = block; journal = journal; grouped = grouped }))
+    pub copy_keeps : (grouped : ℕ) (round : RoundState) (call : CopyCall)
+        (law : MayCopy call (record { block = block; journal = journal; grouped = grouped; round = round }))
         → Copier layout b (with_copies (after_copy call block.copies) block) (marks_copy call block.copies journal)
-    copy_keeps grouped (CopyCall.offer k) may = offer_keeps k may.place may.stands.0 may.stands.1
-    copy_keeps grouped (CopyCall.look k phase) may = look_keeps k may.place phase (may.place, may.stands)
-    copy_keeps grouped (CopyCall.give k) may =
+    copy_keeps grouped round (CopyCall.offer k) may = offer_keeps k may.place may.stands.0 may.stands.1
+    copy_keeps grouped round (CopyCall.look k phase) may = look_keeps k may.place phase (may.place, may.stands)
+    copy_keeps grouped round (CopyCall.give k) may =
         let well = law_tells.given 1 c.pending block.stopped block.copies copies_lawful k may.place may.stands in
         give_keeps k may.place may.stands block.copies.element refl well.is_element
-    copy_keeps grouped (CopyCall.hold k) may = hold_keeps k may.place may.stands
-    copy_keeps grouped (CopyCall.withdraw k) may = withdraw_keeps k may.place (is_pending block) refl may.stands.0 may.stands.1
-    copy_keeps grouped (CopyCall.end_link k how) may = end_keeps k may.place how may.stands.0 may.stands.1
+    copy_keeps grouped round (CopyCall.hold k) may = hold_keeps k may.place may.stands
+    copy_keeps grouped round (CopyCall.withdraw k) may = withdraw_keeps k may.place (is_pending block) refl may.stands.0 may.stands.1
+    copy_keeps grouped round (CopyCall.end_link k how) may = end_keeps k may.place how may.stands.0 may.stands.1
 
     -- What it does by itself
 

@@ -15,8 +15,8 @@ use Rattle.flow_link.specs.declared.kinds.BlockUnit.TheVariants as unit
 use Rattle.flow_link.specs.Kinds.{unit_of}
 use Rattle.flow_link.proofs.KindsTell.{kind_tells, copy_is}
 use Rattle.flow_lists.proofs.ListTests.{never_both}
-use Rattle.flow_intake.specs.Port.{EndState, PortState, fresh_port, stage_at as port_stage, is_offer, is_hand}
-use Rattle.flow_intake.specs.Calls.{first_of, is_offered, is_posted, is_postponed, is_arrived, may_be_refused, wants, turns_down, postpones, refuses, consumes, opens, closes, looks as port_looks}
+use Rattle.flow_intake.specs.Port.{EndState, PortState, fresh_port, stage_at as port_stage, is_offer, is_hand, is_holding}
+use Rattle.flow_intake.specs.Calls.{first_of, is_offered, is_posted, is_postponed, is_arrived, may_be_refused, wants, turns_down, postpones, refuses, consumes, asks, claims, releases, opens, closes, looks as port_looks}
 use Rattle.flow_intake.specs.Ended.{fault_seen, fault_at_ends}
 use Rattle.flow_outlet.specs.Outlet.{is_empty}
 use Rattle.flow_outlet.proofs.OffersInOrder.{offers_in_order}
@@ -37,6 +37,7 @@ use Rattle.flow_block_law.proofs.GoingOn.{may_work_tells, may_fault_tells, may_f
 use Rattle.flow_block_law.proofs.JournalTells.{gave_same, took_here}
 use Rattle.flow_block_law.proofs.Joins.{batched_is}
 use Rattle.flow_block_law.proofs.KindsBuilt.{makes_by, next_by}
+use Rattle.flow_block_law.proofs.WishesTell.{asks_so, claims_so, releases_so}
 
 free_to_copy : (some broadcast free : Bool) → (some && (not broadcast || free)) ≡ true → broadcast ≡ true → free ≡ true
 free_to_copy true true free e is = e
@@ -118,6 +119,12 @@ module _ {W : Type 0} (layout : Layout W) (meaning : ℕ → Value → Result (L
       end_offers p k (refuses k (port_at p block)) _ refl refl may_be_refused (λ how. refl) may.0.stands
   call_keeps (NodeCall.consume p k) may alone copying none goes =
       end_offers p k (consumes k (port_at p block)) _ refl refl is_postponed (λ how. refl) may.0.stands
+  call_keeps (NodeCall.ask p k) may alone copying none goes =
+      end_offers p k (asks k (port_at p block)) _ refl refl is_postponed (λ how. refl) (asks_so p k node may).waits
+  call_keeps (NodeCall.claim p k) may alone copying none goes =
+      end_offers p k (claims k (port_at p block)) _ refl refl is_holding (λ how. refl) (claims_so p k node may).held
+  call_keeps (NodeCall.release p k) may alone copying none goes =
+      end_offers p k (releases k (port_at p block)) _ refl refl is_holding (λ how. refl) (releases_so p k node may).held
   call_keeps (NodeCall.open_with p k value) may alone copying none goes =
       end_offers p k (opens k value (port_at p block)) _ refl refl is_arrived (λ how. refl) may.stands
   call_keeps (NodeCall.close p k) may alone copying none goes =
@@ -135,7 +142,7 @@ module _ {W : Type 0} (layout : Layout W) (meaning : ℕ → Value → Result (L
   call_keeps (NodeCall.look_in p k phase) may alone copying none goes =
       end_moves p k (port_looks k phase (port_at p block)) _ refl refl (seen_by_looks (port_stage k (port_at p block)) phase)
   call_keeps (NodeCall.look_out k phase) may alone copying none goes = none_out k may.place
-  call_keeps (NodeCall.copy call) may alone copying none goes = copy_keeps layout b block node.journal law node.grouped call may
+  call_keeps (NodeCall.copy call) may alone copying none goes = copy_keeps layout b block node.journal law node.grouped node.round call may
   call_keeps NodeCall.begin may alone copying none goes = jobs_change layout b block node.journal law (begins block.jobs)
   call_keeps NodeCall.make may alone copying none goes =
       next_by (λ (new : NodeState). Copier layout b new.block new.journal) (block_makes layout meaning b) node

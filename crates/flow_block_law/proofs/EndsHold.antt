@@ -6,17 +6,16 @@ use Rattle.flow_value.specs.declared.value.Value.{Value}
 use Rattle.flow_link.specs.declared.draft.BlockKind.{BlockKind}
 use Rattle.flow_link.specs.declared.draft.BlockKind.TheVariants.{Buffer, Action}
 use Rattle.flow_link.specs.declared.stage.SourceStage.TheVariants as source
-use Rattle.flow_link.specs.declared.stage.TargetStage.TheVariants.{Free, Postponed, Accepted, Consuming, Hand}
+use Rattle.flow_link.specs.declared.stage.TargetStage.TheVariants.{Free, Postponed, Accepted, Consuming, Asking, Claiming, Hand}
 use Rattle.flow_link.specs.declared.trace.Mark.{Mark}
 use Rattle.flow_link.specs.declared.trace.Mark.TheVariants.{Took, Gave, Complete}
-use Rattle.flow_link.specs.declared.trace.Outcome.{Outcome}
 use Rattle.flow_link.specs.Layout.{Layout}
 use Rattle.flow_link.specs.Stage.{source_looks, target_looks}
 use Rattle.flow_link.specs.Trace.{has_complete, has_ended, is_complete_mark, is_any_fault_mark, is_done_mark, took}
 use Rattle.flow_link.proofs.KindsTell.{kind_tells}
 use Rattle.flow_lists.proofs.ListTests.{never_both}
-use Rattle.flow_intake.specs.Port.{PortState, stage_at as port_stage, end_in, hand_in, is_offer, is_hand}
-use Rattle.flow_intake.specs.Calls.{message_of, is_offered, is_posted, is_postponed, is_arrived, may_be_refused, first_of, refused_by, wants, turns_down, postpones, refuses, consumes, opens, closes, looks as port_looks, takes_next, gives_room, port_closes, port_fails}
+use Rattle.flow_intake.specs.Port.{PortState, stage_at as port_stage, end_in, hand_in, is_offer, is_hand, is_holding}
+use Rattle.flow_intake.specs.Calls.{message_of, is_offered, is_posted, is_postponed, is_arrived, may_be_refused, first_of, refused_by, wants, turns_down, postpones, refuses, consumes, asks, claims, releases, opens, closes, looks as port_looks, takes_next, gives_room, port_closes, port_fails}
 use Rattle.flow_intake.proofs.CountsOfEnds.{hand_comes}
 use Rattle.flow_outlet.specs.Outlet.{OutletState, is_empty, head_of, gives, prepares, offers, holds, denies, withdraws, ends_link, looks as exit_looks, end_at, stage_at}
 use Rattle.flow_block.specs.Copies.{CopyCall, after_copy, copies_weight}
@@ -26,9 +25,8 @@ use Rattle.flow_block.specs.Jobs.{JobsState, begins, works_off}
 use Rattle.flow_block.specs.Node.{NodeState, NodeCall, gives_from, in_link_at, out_link_at, copies_by, order_in, holds_in}
 use Rattle.flow_block_law.specs.NodeKeeps.{EndsKept, MayCall, InAt, MayGive, MayCompletePort, after_call, MayCopy}
 use Rattle.flow_block_law.specs.NodeLaw.{NodeLaw, EndsLaw, has_made_all, stops_at, outcome_in, has_its_message}
-use Rattle.flow_block.specs.Peeks.{holds_nothing, is_written}
+use Rattle.flow_block.specs.Peeks.{is_written}
 use Rattle.flow_link.specs.Plan.{is_write_once, is_one_taker}
-use Rattle.flow_link.specs.declared.kinds.BlockUnit.{BlockUnit}
 use Rattle.flow_intake.specs.Ended.{has_seen_completion}
 use Rattle.flow_block.proofs.CopiesTaken.{taken_in_keeps, held_stopped}
 use Rattle.flow_block_law.proofs.WrittenOnce.{written_tells}
@@ -39,6 +37,7 @@ use Rattle.flow_block.specs.Planned.{block_makes}
 use Rattle.flow_block_law.proofs.GoingOn.{open_goes_on, away_goes_on, rest_stays, wanted_away, asked_away, wish_away, waiting_away, look_stays_home, may_work_tells, may_complete_tells}
 use Rattle.flow_block_law.proofs.JournalTells.{goes_on, outcome_more, ended_no_more, ended_by_complete}
 use Rattle.flow_block_law.proofs.KindsBuilt.{makes_by, next_by}
+use Rattle.flow_block_law.proofs.WishesTell.{asks_so, claims_so, releases_so}
 use Rattle.flow_block_law.proofs.PortEnds.{PortEnds, end_moves, port_closed, port_failed, unseen_goes, refuses_so, look_goes, completes_by, completes_tells, unwritten_before, completes_more, fewer_complete, seen_unless}
 use Rattle.flow_block.proofs.PortsChange.{each_after_one, each_after_all}
 use Rattle.flow_block.proofs.RoomBack.{back_at, each_after_back}
@@ -355,6 +354,27 @@ module _ {W : Type 0} (layout : Layout W) (meaning : ℕ → Value → Result (L
       (record (end_in k port.ends) { stage = Consuming (message_of stage) }) may.0.port refl refl refl
       (unseen_goes node.block.fault port.refusing stage (Consuming (message_of stage))
       is_postponed (λ how. refl) may.0.stands (λ why is. absurd (cc)))
+  after_each node (NodeCall.ask p k) law may =
+      let port = port_at p node.block in
+      let stage = port_stage k port in
+      moves_in layout meaning b node.block node.journal law.ends p k (asks k port)
+      (record (end_in k port.ends) { stage = Asking (message_of stage) }) may.port refl refl refl
+      (unseen_goes node.block.fault port.refusing stage (Asking (message_of stage))
+      is_postponed (λ how. refl) (asks_so p k node may).waits (λ why is. absurd (cc)))
+  after_each node (NodeCall.claim p k) law may =
+      let port = port_at p node.block in
+      let stage = port_stage k port in
+      moves_in layout meaning b node.block node.journal law.ends p k (claims k port)
+      (record (end_in k port.ends) { stage = Claiming (message_of stage) }) may.port refl refl refl
+      (unseen_goes node.block.fault port.refusing stage (Claiming (message_of stage))
+      is_holding (λ how. refl) (claims_so p k node may).held (λ why is. absurd (cc)))
+  after_each node (NodeCall.release p k) law may =
+      let port = port_at p node.block in
+      let stage = port_stage k port in
+      moves_in layout meaning b node.block node.journal law.ends p k (releases k port)
+      (record (end_in k port.ends) { stage = Postponed (message_of stage) }) may.port refl refl refl
+      (unseen_goes node.block.fault port.refusing stage (Postponed (message_of stage))
+      is_holding (λ how. refl) (releases_so p k node may).held (λ why is. absurd (cc)))
   after_each node (NodeCall.open_with p k value) law may =
       let port = port_at p node.block in
       let stage = port_stage k port in

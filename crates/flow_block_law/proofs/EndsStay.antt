@@ -10,6 +10,7 @@ use Rattle.flow_link.specs.Plan.{is_broadcast}
 use Rattle.flow_spread.specs.Spread.{link_at as link_over, puts}
 use Rattle.flow_block.specs.Copies.{copies_weight, none_waits}
 use Rattle.flow_block_law.proofs.CopiesMove.{puts_move_none}
+use Rattle.flow_group.specs.Round.{no_round}
 use Rattle.flow_block.specs.Block.{BlockState, port_at, with_port, with_jobs, made_of, keeps_results, yields, makes_of, makes, makes_row, takes_group, copies_next, held_by, stops_by}
 use Rattle.flow_block.specs.Jobs.{JobsState}
 use Rattle.flow_block_law.proofs.KindsBuilt.{makes_by}
@@ -78,7 +79,7 @@ copied_stays (Some value) block none =
       ins = λ p below.
           kept_at_one (λ (port : PortState). port.ends) block.ports 0 p (gives_room room (takes_next (port_at 0 block))) refl;
       outs = refl;
-      copies = λ k there. puts_move_none value (record { block = block; journal = []; grouped = 0 }) k there none;
+      copies = λ k there. puts_move_none value (record { block = block; journal = []; grouped = 0; round = no_round }) k there none;
     }
 
 pub group_stays : (size weight : ℕ) (order : List ℕ) (block : BlockState) → EndsStay block (makes_group size weight order block)

@@ -16,15 +16,14 @@ use Rattle.flow_link.specs.LinkOk.{HasRoom}
 use Rattle.flow_link.specs.declared.kinds.BlockUnit.{BlockUnit}
 use Rattle.flow_link.specs.declared.kinds.BlockUnit.TheVariants as unit
 use Rattle.flow_link.specs.Kinds.{unit_of}
-use Rattle.flow_link.proofs.KindsTell.{kind_tells, row_is, tuple_is}
+use Rattle.flow_link.proofs.KindsTell.{row_is, tuple_is}
 use Rattle.flow_lists.proofs.ListTests.{or_weaker}
-use Rattle.flow_intake.specs.Port.{EndState, PortState, stage_at as port_stage, is_offer, is_hand}
-use Rattle.flow_intake.specs.Calls.{first_of, is_offered, is_posted, is_postponed, is_arrived, may_be_refused, wants, turns_down, postpones, refuses, consumes, opens, closes, looks as port_looks, takes_next, gives_room, port_closes}
+use Rattle.flow_intake.specs.Port.{EndState, PortState, stage_at as port_stage, is_offer, is_hand, is_holding}
+use Rattle.flow_intake.specs.Calls.{first_of, is_offered, is_posted, is_postponed, is_arrived, may_be_refused, wants, turns_down, postpones, refuses, consumes, asks, claims, releases, opens, closes, looks as port_looks, takes_next, gives_room, port_closes}
 use Rattle.flow_intake.specs.Ended.{fault_seen, fault_at_ends}
-use Rattle.flow_outlet.specs.declared.ends.OutEnd.{OutEnd}
 use Rattle.flow_outlet.specs.End.{id_of}
 use Rattle.flow_outlet.specs.Law.{OutletLaw}
-use Rattle.flow_outlet.specs.Outlet.{OutletState, head_of, end_at, stage_at, is_wanted, may_give, may_offer, prepares, offers, gives, lacks_ids, holds, denies, withdraws, ends_link, looks}
+use Rattle.flow_outlet.specs.Outlet.{OutletState, head_of, end_at, is_wanted, may_give, may_offer, prepares, offers, gives, lacks_ids, holds, denies, withdraws, ends_link, looks}
 use Rattle.flow_outlet.proofs.LawKept.{calls_keep_law}
 use Rattle.flow_spread.specs.Spread.{puts}
 use Rattle.flow_block.specs.Copies.{after_copy, copies_weight}
@@ -38,6 +37,7 @@ use Rattle.flow_block.proofs.CopiesTaken.{taken_in_keeps}
 use Rattle.flow_block_law.proofs.FaultsSeen.{StaysSeen, stays_at_ends, stays_at_ports, seen_over_ports, seen_by_looks, unseen_where}
 use Rattle.flow_block_law.proofs.GoingOn.{may_fault_tells, may_finish_tells}
 use Rattle.flow_block_law.proofs.KindsBuilt.{makes_by, next_by, puts_one}
+use Rattle.flow_block_law.proofs.WishesTell.{asks_so, claims_so, releases_so}
 use Rattle.flow_group.specs.Tuple.{tuple_of}
 use Rattle.flow_block.proofs.RoomBack.{seen_over_back}
 use Rattle.flow_block_law.proofs.GroupPorts.{seen_by_group}
@@ -237,6 +237,12 @@ module _ {W : Type 0} (layout : Layout W) (meaning : ℕ → Value → Result (L
       end_offers node.block law p k (refuses k (port_at p node.block)) _ refl may_be_refused (λ how. refl) may.0.stands
   exits_keep node (NodeCall.consume p k) law may =
       end_offers node.block law p k (consumes k (port_at p node.block)) _ refl is_postponed (λ how. refl) may.0.stands
+  exits_keep node (NodeCall.ask p k) law may =
+      end_offers node.block law p k (asks k (port_at p node.block)) _ refl is_postponed (λ how. refl) (asks_so p k node may).waits
+  exits_keep node (NodeCall.claim p k) law may =
+      end_offers node.block law p k (claims k (port_at p node.block)) _ refl is_holding (λ how. refl) (claims_so p k node may).held
+  exits_keep node (NodeCall.release p k) law may =
+      end_offers node.block law p k (releases k (port_at p node.block)) _ refl is_holding (λ how. refl) (releases_so p k node may).held
   exits_keep node (NodeCall.open_with p k value) law may =
       end_offers node.block law p k (opens k value (port_at p node.block)) _ refl is_arrived (λ how. refl) may.stands
   exits_keep node (NodeCall.close p k) law may =

@@ -14,7 +14,7 @@ use Rattle.flow_lists.specs.Lists.{numbers_from, below}
 use Rattle.flow_link.specs.Plan.{block_in, port_count, is_one_taker, is_write_once}
 use Rattle.flow_link.specs.Trace.{has_ended}
 use Rattle.flow_lists.proofs.ListTests.{length_numbers}
-use Rattle.flow_intake.specs.Port.{EndState, PortState, fresh_end, end_in, stage_at as port_stage, is_coming}
+use Rattle.flow_intake.specs.Port.{EndState, PortState, fresh_end, end_in, stage_at as port_stage, is_coming, coming}
 use Rattle.flow_intake.specs.PortLaw.{InLaw, PortLaw, has_ended as has_port_ended}
 use Rattle.flow_outlet.specs.declared.ends.LinkRule.{LinkRule}
 use Rattle.flow_outlet.specs.declared.ends.OutEnd.{OutEnd}
@@ -24,14 +24,18 @@ use Rattle.flow_outlet.specs.Outlet.{is_empty, fresh_outlet}
 use Rattle.flow_spread.specs.Copied.{Course}
 use Rattle.flow_spread.specs.End.{fresh_end as fresh_copy, end_in as copy_in}
 use Rattle.flow_spread.specs.Spread.{fresh_spread}
+use Rattle.flow_group.specs.declared.round.RoundStep.TheVariants as steps
+use Rattle.flow_group.specs.declared.round.Source.{Source}
+use Rattle.flow_group.specs.Round.{none_comes, is_asked, is_taken, front_stage}
+use Rattle.flow_group.specs.RoundLaw.{PortInRound, takes_freely}
 use Rattle.flow_block.specs.Block.{port_in, held_by}
 use Rattle.flow_block.proofs.RoomFits.{weighs_fresh}
 use Rattle.flow_block_law.specs.Copier.{Copier, CopiedOver}
 use Rattle.flow_block.specs.Copies.{shared_rules, copied_rules, fresh_copies, copies_weight}
 use Rattle.flow_block_law.specs.Fresh.{FreshInOrder}
-use Rattle.flow_block_law.specs.NodeLaw.{is_kept, MakesAs, WeighsAs, PortAsPlanned, GaveOver, weighed, rows_weighed, partly_weighed, places_out}
+use Rattle.flow_block_law.specs.NodeLaw.{InRound, MakesAs, WeighsAs, PortAsPlanned, GaveOver, weighed, rows_weighed, partly_weighed, places_out}
 use Rattle.flow_block.specs.Peeks.{is_pending}
-use Rattle.flow_block.specs.Planned.{block_makes, links_to, links_from, rule_of, port_of_plan, fresh_node, room_of}
+use Rattle.flow_block.specs.Planned.{block_makes, links_to, links_from, sources_of, rule_of, port_of_plan, fresh_node, room_of}
 use Rattle.flow_block_law.proofs.FreshGroups.{fresh_tuples}
 use Rattle.flow_block_law.proofs.PlacesOfCopies.{rule_at_end}
 use Rattle.flow_block_law.proofs.EndsTell.{none_come}
@@ -148,6 +152,37 @@ module _ {W : Type 0} (layout : Layout W) (b : ℕ) where
     took = omega arith;
   }
 
+  -- nothing comes, and nothing waits
+  none_coming : (p : ℕ) → coming (port_of_plan layout b p) ≡ 0
+  none_coming p =
+      none_come (map fresh_end (links_to layout b p))
+      (λ k small. in_ends_fresh (links_to layout b p) (λ (end : EndState). is_coming end.stage ≡ false) (λ l. refl) k)
+
+  none_comes_yet : (ps : List ℕ) → none_comes (map (port_of_plan layout b) ps) ≡ true
+  none_comes_yet [] = refl
+  none_comes_yet (p ∷ ps) = rw (none_coming p, none_comes_yet ps) refl
+
+  port_in_round : (p : ℕ) → PortInRound steps.Asks (port_of_plan layout b p)
+  port_in_round p = record {
+    freely = λ k there. in_ends_fresh (links_to layout b p) (λ (end : EndState). takes_freely end.stage ≡ false) (λ l. refl) k;
+    front = λ k there asked. absurd (in_ends_fresh (links_to layout b p) (λ (end : EndState). is_asked end.stage ≡ true → ⊥) (λ l e. cc) k asked);
+    one = let none = none_coming p in omega (arith, none);
+    taken = λ k there taken. absurd (in_ends_fresh (links_to layout b p) (λ (end : EndState). is_taken end.stage ≡ true → ⊥) (λ l e. cc) k taken);
+    none_asked = λ is. absurd (let no : steps.Asks ≡ steps.Claims = is in cc);
+  }
+
+  round_in_order : (sources : List Source) → InRound (record { sources = sources; step = steps.Asks }) ports []
+  round_in_order sources = record {
+    law = record {
+      each = each_port (λ p port. PortInRound steps.Asks port) port_in_round;
+      under_way = λ not_asks. absurd (not_asks refl);
+      there = λ _ comes.
+          absurd (let wrong : true ≡ false = sym (none_comes_yet (below (port_count (block_in layout.blocks b)))) ∙ comes in cc);
+      level = λ p q low_p low_q. refl;
+    };
+    turns = λ _ p q low_p low_q asked waits. absurd (each_port (λ r port. is_asked (front_stage port) ≡ true → ⊥) (λ r e. cc) p low_p asked);
+  }
+
 -- a block that shares its messages out copies none
 fresh_shared : (kind : BlockKind) (rules : List LinkRule) → is_one_taker kind ≡ true → fresh_copies kind rules ≡ fresh_spread false [] 1
 fresh_shared Broadcast rules e = absurd (cc)
@@ -191,7 +226,7 @@ fresh_copier layout b copying =
     }
 
 pub fresh_in_order : (W : Type 0) → FreshInOrder W
-fresh_in_order W layout meaning b some freely lane size group unlimited =
+fresh_in_order W layout meaning b some lane size group unlimited =
     let block = block_in layout.blocks b in
     let rules = map (rule_of layout) (links_from layout b) in
     let shared = shared_rules block.kind rules in
@@ -206,9 +241,8 @@ fresh_in_order W layout meaning b some freely lane size group unlimited =
         no_capacity = unlimited;
         port_count_is = count_is layout b;
         some_port = subst (λ (count : ℕ). 0 < count) (sym (count_is layout b)) some;
-        takes_freely = freely;
         ports = each_port layout b (PortAsPlanned layout meaning b)
-            (λ p. record { links = links_kept (links_to layout b p); capacity = refl; never_reserves = refl });
+            (λ p. record { links = links_kept (links_to layout b p); capacity = refl; reserves_is = refl });
         rules = rules_kept shared;
       };
       ports = each_port layout b (λ p port. PortLaw (facts_in layout) 0 port) (port_in_order layout b);
@@ -234,6 +268,7 @@ fresh_in_order W layout meaning b some freely lane size group unlimited =
       };
       rows = λ batch. record { groups = refl; whole_before = refl; whole = or_right (false && is_empty (held_by node.block)) true refl };
       tuples = λ join. fresh_tuples layout b;
+      round = record { sources_are = refl; in_round = λ reserving. round_in_order layout b (sources_of layout b) };
       jobs = record {
         lanes_are = refl;
         some_lane = lane;

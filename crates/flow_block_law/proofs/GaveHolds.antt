@@ -317,6 +317,9 @@ module _ {W : Type 0} (layout : Layout W) (meaning : ℕ → Value → Result (L
   gave_keep node (NodeCall.postpone p k) law may shares gave = gave
   gave_keep node (NodeCall.refuse p k) law may shares gave = gave
   gave_keep node (NodeCall.consume p k) law may shares gave = gave
+  gave_keep node (NodeCall.ask p k) law may shares gave = gave
+  gave_keep node (NodeCall.claim p k) law may shares gave = gave
+  gave_keep node (NodeCall.release p k) law may shares gave = gave
   gave_keep node (NodeCall.open_with p k value) law may shares gave = gave
   gave_keep node (NodeCall.close p k) law may shares gave =
       let held = holds_in p k (hand_at p k node) node in

@@ -11,7 +11,7 @@ use Rattle.flow_link.specs.Layout.{Layout}
 use Rattle.flow_link.specs.Making.{items_of, all_items, column, row_weight, arrivals}
 use Rattle.flow_link.specs.Trace.{gave}
 use Rattle.flow_intake.specs.Port.{PortState}
-use Rattle.flow_intake.specs.Calls.{first_of, one_more, wants, turns_down, postpones, refuses, consumes, opens, closes, looks as port_looks, port_closes}
+use Rattle.flow_intake.specs.Calls.{first_of, one_more, wants, turns_down, postpones, refuses, consumes, asks, claims, releases, opens, closes, looks as port_looks, port_closes}
 use Rattle.flow_outlet.specs.Fits.{weight_of}
 use Rattle.flow_outlet.specs.Outlet.{OutletState, head_of, rest_of, gives, groups_after, weight_at, prepares, offers, holds, denies, withdraws, ends_link, looks as exit_looks}
 use Rattle.flow_group.specs.Group.{came_at, row_of, rows_from, group_of, takes_group}
@@ -241,6 +241,12 @@ module _ {W : Type 0} (layout : Layout W) (meaning : ℕ → Value → Result (L
   after_each node (NodeCall.refuse p k) batched groups law may = one_port node.block p (refuses k (port_at p node.block)) law (λ was. was)
   after_each node (NodeCall.consume p k) batched groups law may =
       one_port node.block p (consumes k (port_at p node.block)) law (λ was. was)
+  after_each node (NodeCall.ask p k) batched groups law may =
+      one_port node.block p (asks k (port_at p node.block)) law (λ was. was)
+  after_each node (NodeCall.claim p k) batched groups law may =
+      one_port node.block p (claims k (port_at p node.block)) law (λ was. was)
+  after_each node (NodeCall.release p k) batched groups law may =
+      one_port node.block p (releases k (port_at p node.block)) law (λ was. was)
   after_each node (NodeCall.open_with p k value) batched groups law may =
       one_port node.block p (opens k value (port_at p node.block)) law (λ was. was)
   after_each node (NodeCall.close p k) batched groups law may = taken_in node p k (hand_at p k node) law

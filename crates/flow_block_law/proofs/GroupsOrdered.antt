@@ -7,7 +7,7 @@ use Rattle.flow_link.specs.Layout.{Layout}
 use Rattle.flow_link.specs.declared.trace.Mark.{Mark}
 use Rattle.flow_link.specs.declared.trace.Mark.TheVariants.{Took, Gave, Complete, Fault, Done}
 use Rattle.flow_intake.specs.Port.{PortState}
-use Rattle.flow_intake.specs.Calls.{wants, turns_down, postpones, refuses, consumes, opens, closes, looks as port_looks, port_closes}
+use Rattle.flow_intake.specs.Calls.{wants, turns_down, postpones, refuses, consumes, asks, claims, releases, opens, closes, looks as port_looks, port_closes}
 use Rattle.flow_outlet.specs.Outlet.{head_of, gives}
 use Rattle.flow_group.proofs.GroupsCut.{as_many_taken}
 use Rattle.flow_block.specs.Block.{BlockState, port_at, with_port}
@@ -157,6 +157,9 @@ module _ {W : Type 0} (layout : Layout W) (meaning : ℕ → Value → Result (L
   ordered_after node (NodeCall.postpone p k) within may = as_it_was node within
   ordered_after node (NodeCall.refuse p k) within may = as_it_was node within
   ordered_after node (NodeCall.consume p k) within may = as_it_was node within
+  ordered_after node (NodeCall.ask p k) within may = as_it_was node within
+  ordered_after node (NodeCall.claim p k) within may = as_it_was node within
+  ordered_after node (NodeCall.release p k) within may = as_it_was node within
   ordered_after node (NodeCall.open_with p k value) within may = as_it_was node within
   ordered_after node (NodeCall.offer k) within may = as_it_was node within
   ordered_after node (NodeCall.hold k) within may = as_it_was node within
@@ -203,6 +206,12 @@ module _ {W : Type 0} (layout : Layout W) (meaning : ℕ → Value → Result (L
       record { block = refl; journal = refl; size = refl; count = at_port p (refuses k) node.block }
   same_after node (NodeCall.consume p k) may =
       record { block = refl; journal = refl; size = refl; count = at_port p (consumes k) node.block }
+  same_after node (NodeCall.ask p k) may =
+      record { block = refl; journal = refl; size = refl; count = at_port p (asks k) node.block }
+  same_after node (NodeCall.claim p k) may =
+      record { block = refl; journal = refl; size = refl; count = at_port p (claims k) node.block }
+  same_after node (NodeCall.release p k) may =
+      record { block = refl; journal = refl; size = refl; count = at_port p (releases k) node.block }
   same_after node (NodeCall.open_with p k value) may =
       record { block = refl; journal = refl; size = refl; count = at_port p (opens k value) node.block }
   same_after node (NodeCall.close p k) may =

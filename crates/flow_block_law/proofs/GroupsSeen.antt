@@ -71,6 +71,9 @@ module _ {W : Type 0} (layout : Layout W) (meaning : ℕ → Value → Result (L
   whole_after node (NodeCall.postpone p k) groups may law = law
   whole_after node (NodeCall.refuse p k) groups may law = law
   whole_after node (NodeCall.consume p k) groups may law = law
+  whole_after node (NodeCall.ask p k) groups may law = law
+  whole_after node (NodeCall.claim p k) groups may law = law
+  whole_after node (NodeCall.release p k) groups may law = law
   whole_after node (NodeCall.open_with p k value) groups may law = law
   whole_after node (NodeCall.close p k) groups may law =
       taken_in size node (length node.block.ports) p k (hand_in k (port_at p node.block).ends) law

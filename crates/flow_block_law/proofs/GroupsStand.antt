@@ -15,7 +15,7 @@ use Rattle.flow_link.specs.Trace.{gave, has_complete, is_complete_mark}
 use Rattle.flow_lists.proofs.ListTests.{every_weaker_below, never_both, passes_below}
 use Rattle.flow_link.proofs.OneMoreMark.{some_before, some_no_more, gave_no_more, gave_by_took, gave_by_gave}
 use Rattle.flow_intake.specs.Port.{PortState, hand_in}
-use Rattle.flow_intake.specs.Calls.{put_hand, wants, turns_down, postpones, refuses, consumes, opens, closes, looks as port_looks, port_closes}
+use Rattle.flow_intake.specs.Calls.{put_hand, wants, turns_down, postpones, refuses, consumes, asks, claims, releases, opens, closes, looks as port_looks, port_closes}
 use Rattle.flow_outlet.specs.Outlet.{OutletState, head_of, gives, prepares, offers, holds, denies, withdraws, ends_link, looks as exit_looks}
 use Rattle.flow_group.specs.Group.{has_group, group_of}
 use Rattle.flow_group.specs.Groups.{GroupsLaw, arrival_at}
@@ -193,6 +193,9 @@ module _ {W : Type 0} (layout : Layout W) (meaning : ℕ → Value → Result (L
   after_each node (NodeCall.postpone p k) law may = port_stays size some order node law p (postpones k) refl
   after_each node (NodeCall.refuse p k) law may = port_stays size some order node law p (refuses k) refl
   after_each node (NodeCall.consume p k) law may = port_stays size some order node law p (consumes k) refl
+  after_each node (NodeCall.ask p k) law may = port_stays size some order node law p (asks k) refl
+  after_each node (NodeCall.claim p k) law may = port_stays size some order node law p (claims k) refl
+  after_each node (NodeCall.release p k) law may = port_stays size some order node law p (releases k) refl
   after_each node (NodeCall.open_with p k value) law may = port_stays size some order node law p (opens k value) refl
   after_each node (NodeCall.close p k) law may = taken_in size some order node law p k may (hand_in k (port_at p node.block).ends)
   after_each node (NodeCall.offer k) law may = exits_stay size some order node law (offers k (prepares node.block.exits)) refl

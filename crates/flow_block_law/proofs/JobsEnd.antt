@@ -18,6 +18,7 @@ use Rattle.flow_outlet.specs.Outlet.{OutletState, lacks_ids, puts}
 use Rattle.flow_block.specs.Block.{BlockState, port_at, unit_weight, with_jobs, job_message, held_by, put_by_kind, values_of_result, put_of, fails, keeps_results, yields, makes_of, makes, yields_all, yields_where, put_where, put_next, has_ports, is_batched_join, makes_by_unit, puts_by_unit}
 use Rattle.flow_block.specs.Jobs.{Slot, JobsState, no_slot, out_count, place_of, is_out, is_front_back, brings, comes_out, AreOf}
 use Rattle.flow_block_law.specs.JobsEnd.{JobsEndWell, MayEndJob, EndsWell, ViewsStay, after_job, job_result}
+use Rattle.flow_group.specs.Round.{RoundState}
 use Rattle.flow_block.specs.Node.{NodeState, NodeCall, with_block, view_of_in, view_of_out, makes_next_group, next_group_in}
 use Rattle.flow_block_law.specs.NodeKeeps.{NodesKept, MayMake}
 use Rattle.flow_block_law.specs.NodeLaw.{NodeLaw}
@@ -144,12 +145,13 @@ views_stay node block stay = record {
   copies = λ k near. ap (view_of_out node.journal) (stay.copies k near);
 }
 
-module _ {W : Type 0} (kept : NodesKept W) (layout : Layout W) (meaning : ℕ → Value → Result (List Value) ℕ) (b grouped : ℕ) where
+module _ {W : Type 0} (kept : NodesKept W) (layout : Layout W) (meaning : ℕ → Value → Result (List Value) ℕ) (b grouped : ℕ)
+    (round : RoundState) where
   abbrev result : Value → Result (List Value) ℕ
   result = block_makes layout meaning b
 
   abbrev InOrder : BlockState → List Mark → Type 0
-  InOrder block journal = NodeLaw layout meaning b (record { block = block; journal = journal; grouped = grouped })
+  InOrder block journal = NodeLaw layout meaning b (record { block = block; journal = journal; grouped = grouped; round = round })
 
   -- other slots, of which the law of jobs holds
   slots_stand : (block : BlockState) (journal : List Mark) (slots : List Slot) → InOrder block journal
@@ -169,7 +171,7 @@ module _ {W : Type 0} (kept : NodesKept W) (layout : Layout W) (meaning : ℕ �
         };
         none_held = law.none_held;
         gave = law.gave;
-        makes = makes_stay layout meaning b (record { block = block; journal = journal; grouped = grouped }) law.makes change;
+        makes = makes_stay layout meaning b (record { block = block; journal = journal; grouped = grouped; round = round }) law.makes change;
         rows = law.rows;
         tuples = law.tuples;
         jobs = record {
@@ -193,6 +195,7 @@ module _ {W : Type 0} (kept : NodesKept W) (layout : Layout W) (meaning : ℕ �
           no_copies = old.no_copies;
           load = old.load;
         };
+        round = record { sources_are = law.round.sources_are; in_round = law.round.in_round };
         marks = law.marks;
         ends = ends_stay layout meaning b block journal law.ends change;
       }
@@ -215,7 +218,7 @@ module _ {W : Type 0} (kept : NodesKept W) (layout : Layout W) (meaning : ℕ �
       → InOrder (yields made (with_slots [] block)) journal
   made_next block journal made value rest works going well held is ids law =
       let old = with_slots [] block in
-      let node : NodeState = record { block = old; journal = journal; grouped = grouped } in
+      let node : NodeState = record { block = old; journal = journal; grouped = grouped; round = round } in
       let may : MayMake result node = record {
         waits = rw (
           going,
@@ -310,7 +313,7 @@ module _ {W : Type 0} (kept : NodesKept W) (layout : Layout W) (meaning : ℕ �
       let made = job_result (block_makes layout meaning b) ticket block in
       let k = place_of ticket block.jobs in
       let both = and_parts (is_none block.stopped) (is_out ticket block.jobs) may.out in
-      where_keeps kept layout meaning b node.grouped block node.journal (set block.jobs.slots k (Some made)) (is_none block.fault) refl works
+      where_keeps kept layout meaning b node.grouped node.round block node.journal (set block.jobs.slots k (Some made)) (is_none block.fault) refl works
       (none_is block.stopped both.0)
       (omega (arith, out_set block.jobs.slots k made, law.jobs.within))
       (back_at (block_makes layout meaning b) (held_by block) block.jobs.slots k made

@@ -20,7 +20,7 @@ use Rattle.flow_link.proofs.KindsTell.{kind_tells}
 use Rattle.flow_lists.proofs.ListTests.{never_both}
 use Rattle.flow_link.proofs.OneMoreMark.{took_no_more, took_by_took, took_by_gave}
 use Rattle.flow_intake.specs.Port.{PortState, fresh_port, hand_in}
-use Rattle.flow_intake.specs.Calls.{first_of, wants, turns_down, postpones, refuses, consumes, opens, closes, looks as port_looks, takes_next, gives_room, port_closes, port_fails}
+use Rattle.flow_intake.specs.Calls.{first_of, wants, turns_down, postpones, refuses, consumes, asks, claims, releases, opens, closes, looks as port_looks, takes_next, gives_room, port_closes, port_fails}
 use Rattle.flow_outlet.specs.Outlet.{OutletState, head_of, gives}
 use Rattle.flow_link.specs.Plan.{is_one_taker}
 use Rattle.flow_block.specs.Copies.{after_copy}
@@ -308,6 +308,9 @@ module _ {W : Type 0} (layout : Layout W) (meaning : ℕ → Value → Result (L
   after_each node (NodeCall.postpone p k) law may = port_stays node law.jobs p (postpones k) refl
   after_each node (NodeCall.refuse p k) law may = port_stays node law.jobs p (refuses k) refl
   after_each node (NodeCall.consume p k) law may = port_stays node law.jobs p (consumes k) refl
+  after_each node (NodeCall.ask p k) law may = port_stays node law.jobs p (asks k) refl
+  after_each node (NodeCall.claim p k) law may = port_stays node law.jobs p (claims k) refl
+  after_each node (NodeCall.release p k) law may = port_stays node law.jobs p (releases k) refl
   after_each node (NodeCall.open_with p k value) law may = port_stays node law.jobs p (opens k value) refl
   after_each node (NodeCall.close p k) law may =
       let hand = hand_in k (port_at p node.block).ends in

@@ -36,12 +36,14 @@ pub mod GroupsRest
 pub mod GroupsSeen
 pub mod GroupsStand
 pub mod GroupsTold
+pub mod HoldersMove
 pub mod InputsAreParts
 pub mod InputsInOrder
 pub mod JobsEnd
 pub mod JobsHold
 pub mod JobsRest
 pub mod Joins
+pub mod JoinsRest
 pub mod JoinsEnd
 pub mod JournalTells
 pub mod KindsBuilt
@@ -63,7 +65,9 @@ pub mod PlacesOfCopies
 pub mod PlacesOfLinks
 pub mod PortEnds
 pub mod PortsHold
+pub mod PortsLevel
 pub mod PortsStand
+pub mod RoundHolds
 pub mod RowsHold
 pub mod ShapeHolds
 pub mod SharersAreLawful
@@ -73,4 +77,5 @@ pub mod TuplesHold
 pub mod TuplesSeen
 pub mod ViewsMove
 pub mod WeightsOfResults
+pub mod WishesTell
 pub mod WrittenOnce

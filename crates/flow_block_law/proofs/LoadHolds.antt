@@ -1,5 +1,5 @@
 -- Each call keeps what a block counts of its places: one is taken by each message that it holds or has not wholly given.
-use Rattle.std.proofs.Common.{◌≡◌, ℕ, ◌+◌, ◌<◌, leb, Bool, true, false, List, [], ◌∷◌, ◌++◌, length, map, drop, Option, Some, None, is_some, Result, Ok, Err, refl, ap, sym, ◌∙◌, subst, append-nil, arith, length-append, not, ◌-◌}
+use Rattle.std.proofs.Common.{◌≡◌, ℕ, ◌+◌, ◌<◌, leb, Bool, true, false, List, [], ◌∷◌, ◌++◌, length, map, drop, Option, Some, None, is_some, Result, Ok, Err, refl, ap, sym, ◌∙◌, subst, append-nil, arith, length-append, ◌-◌}
 use Rattle.std.proofs.lemmas.List.{get_or-set_same, take-append-drop}
 use Rattle.flow_value.specs.View.{values_of-items_from}
 use Rattle.flow_value.specs.declared.value.Value.{Value}
@@ -17,7 +17,7 @@ use Rattle.flow_link.specs.Trace.{took, gave}
 use Rattle.flow_link.proofs.KindsTell.{kind_tells}
 use Rattle.flow_link.proofs.OneMoreMark.{took_no_more, gave_no_more, took_by_took, gave_by_took, took_by_gave, gave_by_gave}
 use Rattle.flow_intake.specs.Port.{PortState, fresh_port}
-use Rattle.flow_intake.specs.Calls.{first_of, wants, turns_down, postpones, refuses, consumes, opens, closes, looks as port_looks, takes_next, gives_room, port_closes, port_fails}
+use Rattle.flow_intake.specs.Calls.{first_of, wants, turns_down, postpones, refuses, consumes, asks, claims, releases, opens, closes, looks as port_looks, takes_next, gives_room, port_closes, port_fails}
 use Rattle.flow_intake.specs.PortLaw.{has_ended as has_port_ended}
 use Rattle.flow_outlet.specs.declared.group.Group.{Group}
 use Rattle.flow_outlet.specs.Fits.{weight_of}
@@ -438,6 +438,12 @@ module _ {W : Type 0} (layout : Layout W) (meaning : ℕ → Value → Result (L
       one_moves node.block node.journal node.journal p (refuses k) refl refl refl refl (law.load grouped)
   call_keeps node (NodeCall.consume p k) law grouped may =
       one_moves node.block node.journal node.journal p (consumes k) refl refl refl refl (law.load grouped)
+  call_keeps node (NodeCall.ask p k) law grouped may =
+      one_moves node.block node.journal node.journal p (asks k) refl refl refl refl (law.load grouped)
+  call_keeps node (NodeCall.claim p k) law grouped may =
+      one_moves node.block node.journal node.journal p (claims k) refl refl refl refl (law.load grouped)
+  call_keeps node (NodeCall.release p k) law grouped may =
+      one_moves node.block node.journal node.journal p (releases k) refl refl refl refl (law.load grouped)
   call_keeps node (NodeCall.open_with p k value) law grouped may =
       one_moves node.block node.journal node.journal p (opens k value) refl refl refl refl (law.load grouped)
   call_keeps node (NodeCall.close p k) law grouped may =

@@ -19,12 +19,13 @@ use Rattle.flow_link.proofs.KindsTell.{kind_tells}
 use Rattle.flow_link.proofs.OneMoreMark.{took_no_more, gave_no_more, took_by_took, gave_by_took, took_by_gave, gave_by_gave}
 use Rattle.flow_link.proofs.OneMoreWorked.{worked_more}
 use Rattle.flow_intake.specs.Port.{PortState, fresh_port, hand_in}
-use Rattle.flow_intake.specs.Calls.{first_of, wants, turns_down, postpones, refuses, consumes, opens, closes, looks as port_looks, takes_next, gives_room, port_closes, port_fails}
+use Rattle.flow_intake.specs.Calls.{first_of, wants, turns_down, postpones, refuses, consumes, asks, claims, releases, opens, closes, looks as port_looks, takes_next, gives_room, port_closes, port_fails}
 use Rattle.flow_outlet.specs.Outlet.{OutletState, first_of as first_left, rest_of, head_of, gives, prepares, offers, holds, denies, withdraws, ends_link, looks as exit_looks}
 use Rattle.flow_lists.proofs.ListTests.{never_both}
 use Rattle.flow_link.specs.Plan.{is_one_taker}
 use Rattle.flow_block.specs.Copies.{copy_place, CopyCall, after_copy}
 use Rattle.flow_block_law.proofs.CopiesIdle.{copies_at}
+use Rattle.flow_group.specs.Round.{no_round}
 use Rattle.flow_block.specs.Block.{BlockState, port_at, with_port, with_jobs, held_by, made_of, puts_out, put_by_kind, yields, keeps_results, makes_of, is_batch, row_of, takes_group, makes_row, stops_by, is_join, makes_tuple, copies_next, has_ports, is_batched_join}
 use Rattle.flow_block_law.proofs.CopiesLeave.{held_by_copy}
 use Rattle.flow_block.specs.Jobs.{JobsState, begins, works_off}
@@ -323,11 +324,11 @@ module _ {W : Type 0} (layout : Layout W) (meaning : ℕ → Value → Result (L
       put_so Buffer values block journal value rest same one none first
       (made_more Buffer block journal value rest values same other first made law)
   kept_as Transform block journal value rest values same built other one none first made law =
-      jobs_change (record { block = puts_out values block; journal = journal; grouped = 0 })
+      jobs_change (record { block = puts_out values block; journal = journal; grouped = 0; round = no_round })
       (put_so Transform values block journal value rest same one none first
       (made_more Transform block journal value rest values same other first made law)) works_off
   kept_as TransformMany block journal value rest values same built other one none first made law =
-      jobs_change (record { block = puts_out values block; journal = journal; grouped = 0 })
+      jobs_change (record { block = puts_out values block; journal = journal; grouped = 0; round = no_round })
       (put_so TransformMany values block journal value rest same one none first
       (made_more TransformMany block journal value rest values same other first made law)) works_off
   kept_as kind block journal value rest values same built other one none first made law = absurd (cc)
@@ -423,6 +424,9 @@ module _ {W : Type 0} (layout : Layout W) (meaning : ℕ → Value → Result (L
   after_each node (NodeCall.postpone p k) law may = port_stays node law.makes p (postpones k) refl
   after_each node (NodeCall.refuse p k) law may = port_stays node law.makes p (refuses k) refl
   after_each node (NodeCall.consume p k) law may = port_stays node law.makes p (consumes k) refl
+  after_each node (NodeCall.ask p k) law may = port_stays node law.makes p (asks k) refl
+  after_each node (NodeCall.claim p k) law may = port_stays node law.makes p (claims k) refl
+  after_each node (NodeCall.release p k) law may = port_stays node law.makes p (releases k) refl
   after_each node (NodeCall.open_with p k value) law may = port_stays node law.makes p (opens k value) refl
   after_each node (NodeCall.close p k) law may =
       let hand = hand_in k (port_at p node.block).ends in

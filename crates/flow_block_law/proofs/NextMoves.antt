@@ -1,6 +1,6 @@
 -- What a node would do next at an end of a link is a call that it may make.
 use Rattle.std.proofs.Common.{◌≡◌, ℕ, zero, suc, ◌+◌, ◌<◌, ◌≤◌, ◌==◌, ◌&&◌, ◌||◌, not, cond, Bool, true, false, List, [], ◌∷◌, length, Option, Some, None, is_some, is_none, Result, refl, ap, sym, subst, ◌∙◌, arith, eqb-true, eq-eqb, lt-ltb}
-use Rattle.std.proofs.lemmas.Bool.{and_parts, false_from_ne_true}
+use Rattle.std.proofs.lemmas.Bool.{and_parts, false_from_ne_true, not-true}
 use Rattle.flow_value.specs.declared.value.Value.{Value}
 use Rattle.flow_value.specs.declared.message.MessageStatus.{MessageStatus}
 use Rattle.flow_value.specs.declared.message.MessageStatus.TheVariants as status
@@ -25,7 +25,7 @@ use Rattle.flow_link.specs.WellFormed.{IsWellFormed}
 use Rattle.flow_link.specs.declared.plan.LinkTarget.TheVariants.{Port}
 use Rattle.flow_lists.proofs.ListTests.{not_both}
 use Rattle.flow_intake.specs.Port.{PortState, stage_at as port_stage, link_in, coming, has_room, is_below, is_offer, is_queued, is_coming, is_hand}
-use Rattle.flow_intake.specs.Calls.{answer_where, answer_to, move_of, move_at, is_at, next_place, is_offered, is_posted, is_postponed, is_arrived, may_be_refused}
+use Rattle.flow_intake.specs.Calls.{first_of, in_move, next_where, answer_where, answer_to, move_of, move_at, is_at, next_place, is_offered, is_posted, is_postponed, is_arrived, may_be_refused}
 use Rattle.flow_intake.specs.PortLaw.{PortLaw, AreBelow, puts_off, is_in as is_in_queue}
 use Rattle.flow_intake.proofs.AnswersTell.{accepted_has_room, accepted_is_open, declining_is_refusing, next_tells}
 use Rattle.flow_outlet.specs.End.{is_free, is_waiting, is_cut, speaks_of}
@@ -37,7 +37,9 @@ use Rattle.flow_link.specs.declared.draft.BlockKind.TheVariants.{WriteOnce}
 use Rattle.flow_block.specs.Planned.{room_by, room_of}
 use Rattle.flow_block.specs.Block.{BlockState, port_at}
 use Rattle.flow_block_law.specs.NextMoves.{NextMovesMay, MayMoveIn, MayMoveOut, next_out}
-use Rattle.flow_block.specs.Node.{NodeState}
+use Rattle.flow_block.specs.Node.{NodeState, or_else, next_in}
+use Rattle.flow_group.specs.Round.{round_move}
+use Rattle.flow_block_law.proofs.WishesTell.{is_wish, wishes_only}
 use Rattle.flow_block_law.specs.NodeKeeps.{InAt, IsOpen, MayPostpone}
 use Rattle.flow_block_law.specs.NodeLaw.{NodeLaw}
 use Rattle.flow_block.specs.Peeks.{is_held_up, could_stop, fault_cause, fault_at_ports, is_worked_off, is_pending}
@@ -136,6 +138,19 @@ no_room_of : {W : Type 0} (block : BlockDef W) → not (is_write_once block.kind
     → room_of block ≡ None
 no_room_of block many none = no_room_by block.kind block.capacity many none
 
+-- only a port that does not reserve takes a message at once, or consumes one
+accepts_freely : (refusing : Option Refusal) (reserves free : Bool) (put_off : MessageStatus) → (put_off ≡ status.Accepted → ⊥)
+    → answer_where refusing reserves free put_off ≡ status.Accepted → reserves ≡ false
+accepts_freely (Some why) reserves free put_off never is = absurd (cc)
+accepts_freely None true free put_off never is = absurd (never is)
+accepts_freely None false free put_off never is = refl
+
+consumes_freely : (refusing : Option Refusal) (reserves room : Bool) (place : Option ℕ) (other : ℕ)
+    → next_where refusing reserves room place ≡ Some other → reserves ≡ false
+consumes_freely (Some why) reserves room place other is = absurd (cc)
+consumes_freely None true room place other is = absurd (cc)
+consumes_freely None false room place other is = refl
+
 -- what is postponed may be put off
 module _ {W : Type 0} (layout : Layout W) (meaning : ℕ → Value → Result (List Value) ℕ) (b : ℕ) (node : NodeState)
     (well : IsWellFormed layout.blocks layout.links) (here : b < length layout.blocks)
@@ -153,9 +168,12 @@ module _ {W : Type 0} (layout : Layout W) (meaning : ℕ → Value → Result (L
     kept : PortLaw (facts_in layout) (length (took_at p node.journal)) port
     kept = law.ports p port_there
 
-    no_room : has_room port && is_empty port.queue ≡ false
-    no_room = put_off_where port.refusing port.reserves (has_room port && is_empty port.queue)
-        (law.shape.ports p port_there).never_reserves put_off
+    no_room : port.reserves ≡ false → has_room port && is_empty port.queue ≡ false
+    no_room freely = put_off_where port.refusing port.reserves (has_room port && is_empty port.queue) freely put_off
+
+    -- what the plan says of its block
+    takes_freely : not (is_reserving (block_in layout.blocks b)) ≡ true → port.reserves ≡ false
+    takes_freely free = (law.shape.ports p port_there).reserves_is ∙ not-true (is_reserving (block_in layout.blocks b)) free
 
     leads : (j : ℕ) → j < length port.ends → (plan_link layout.links (link_in j port.ends)).target ≡ Port b p
     leads j small = (end_in_is layout meaning b node.block law.shape p j port_there small).leads
@@ -176,7 +194,7 @@ module _ {W : Type 0} (layout : Layout W) (meaning : ℕ → Value → Result (L
         let capacity : port.capacity ≡ None = (law.shape.ports p port_there).capacity ∙ no_room_of planned free.1 unbounded in
         let room : has_room port ≡ true = ap (is_below (port.load + coming port)) capacity in
         let other = someone_waits layout (length (took_at p node.journal)) port kept
-        (not_both (has_room port) (is_empty port.queue) no_room room) in
+        (not_both (has_room port) (is_empty port.queue) (no_room (takes_freely both.1)) room) in
         let not_so = ((kept.each other.place other.there).put_off other.put_off).not_steady in
         let wrong : true ≡ false = sym at_once ∙ sym (steady_is other.place other.there) ∙ not_so in
         cc
@@ -210,7 +228,9 @@ module _ {W : Type 0} (layout : Layout W) (meaning : ℕ → Value → Result (L
         let capacity = (law.shape.ports p port_there).capacity in
         let room = room_at_first port.load (coming port) port.capacity load nothing
         (subst (λ (c : Option ℕ). is_in 1 2147483647 c ≡ true) (sym capacity) range) in
-        let full = no_room_alone (has_room port) (is_empty port.queue) no_room (nobody_waits sole) in
+        let freely = (and_parts (links_into b layout.links == 1) (not (is_reserving planned))
+        (sym (ap (is_sole layout.blocks layout.links) (leads k place_there)) ∙ sole)).1 in
+        let full = no_room_alone (has_room port) (is_empty port.queue) (no_room (takes_freely freely)) (nobody_waits sole) in
         let wrong : true ≡ false = sym room ∙ full in
         cc
 
@@ -232,7 +252,11 @@ module _ {W : Type 0} (layout : Layout W) (meaning : ℕ → Value → Result (L
   by_offer i at status.Accepted next is e =
       let same : move.Want ≡ next = cc in
       let may : IsOpen p node =
-      record { room = accepted_has_room true port is; open_port = accepted_is_open true port is } in
+      record {
+        room = accepted_has_room true port is;
+        open_port = accepted_is_open true port is;
+        freely = accepts_freely port.refusing port.reserves (has_room port && is_empty port.queue) status.Postponed (λ same. cc) is;
+      } in
       subst May same (in_at is_offer (target.Offered i) at refl, may)
   by_offer i at status.Declined next is e =
       absurd (never_declined port.refusing port.reserves (has_room port && is_empty port.queue) is)
@@ -256,7 +280,11 @@ module _ {W : Type 0} (layout : Layout W) (meaning : ℕ → Value → Result (L
   by_post i at status.Accepted next is e =
       let same : move.Want ≡ next = cc in
       let may : IsOpen p node =
-      record { room = accepted_has_room false port is; open_port = accepted_is_open false port is } in
+      record {
+        room = accepted_has_room false port is;
+        open_port = accepted_is_open false port is;
+        freely = accepts_freely port.refusing port.reserves (has_room port && is_empty port.queue) status.Declined (λ same. cc) is;
+      } in
       subst May same (in_at is_offer (target.Posted i) at refl, may)
   by_post i at status.Declined next is e =
       let same : move.TurnDown ≡ next = cc in
@@ -285,7 +313,11 @@ module _ {W : Type 0} (layout : Layout W) (meaning : ℕ → Value → Result (L
       here_or_there true equal e =
           let tells = next_tells port other is in
           let same : move.Consume ≡ next = cc in
-          let may : IsOpen p node = record { room = tells.room; open_port = tells.going } in
+          let may : IsOpen p node = record {
+            room = tells.room;
+            open_port = tells.going;
+            freely = consumes_freely port.refusing port.reserves (has_room port) (first_of port.queue) other is;
+          } in
           subst May same (in_at is_postponed (target.Postponed i) at refl, may)
       here_or_there false equal e = absurd (cc)
 
@@ -310,6 +342,21 @@ module _ {W : Type 0} (layout : Layout W) (meaning : ℕ → Value → Result (L
       let same : move.Close ≡ next = cc in
       subst May same (in_at is_hand (target.Hand i) at refl)
   by_stage _ at next e = absurd (cc)
+
+  -- a move for the round of a join that reserves
+  by_wish : (next : Move) → next_in p k node ≡ Some next → is_wish (Some next) ≡ true → May next
+  by_wish move.Ask is wish = record { port = port_there; place = place_there; next = is }
+  by_wish move.Claim is wish = record { port = port_there; place = place_there; next = is }
+  by_wish move.Release is wish = record { port = port_there; place = place_there; next = is }
+  by_wish _ is wish = absurd (cc)
+
+  by_either : (own : Option Move) → in_move k port ≡ own → (next : Move) → next_in p k node ≡ Some next
+      → or_else own (round_move p k node.round node.block.ports) ≡ Some next → May next
+  by_either (Some move) is next e either = by_stage (port_stage k port) refl next (is ∙ either)
+  by_either None is next e either = by_wish next e (wishes_only p k node.round node.block.ports next either)
+
+  by_end : (next : Move) → next_in p k node ≡ Some next → May next
+  by_end next e = by_either (in_move k port) refl next e e
 
 -- the source's moves
 stopped_or_not : (o : OutletState) (k : ℕ) (stopped : Option Outcome) (id : ℕ)
@@ -444,8 +491,7 @@ module _ {W : Type 0} (layout : Layout W) (meaning : ℕ → Value
 pub next_moves_may : {W : Type 0} → NextMovesMay W
 next_moves_may {W} layout meaning b node well here law = (
   λ p k next port_there place_there e.
-      by_stage layout meaning b node well here law p k port_there place_there (port_stage k (port_at p node.block))
-      refl next e,
+      by_end layout meaning b node well here law p k port_there place_there next e,
   λ k next there e. by_source layout meaning b node law k there next e,
   λ k next there e. next_copies_may W layout b node (law.copies.copier (copies_at layout meaning b node law k there)) k next there e,
 )

@@ -1,10 +1,9 @@
 -- A node in order keeps what each block of a lawful run keeps.
-use Rattle.std.proofs.Common.{zero, suc, ◌≡◌, ℕ, ◌+◌, ◌<◌, Bool, true, false, not, ◌&&◌, ◌||◌, is_some, List, [], ◌∷◌, length, Option, Some, None, refl, ap, sym, subst, ◌∙◌, arith, ⊎_elim, eq-eqb, ltb-true, le-leb, cond}
+use Rattle.std.proofs.Common.{zero, suc, ◌≡◌, ℕ, ◌+◌, ◌<◌, ◌==◌, leb, Bool, true, false, not, ◌&&◌, ◌||◌, is_some, List, [], ◌∷◌, length, Option, Some, None, refl, ap, sym, subst, ◌∙◌, arith, ⊎_elim, eq-eqb, ltb-true, le-leb, cond}
 use Rattle.std.proofs.lemmas.Bool.{and_from, and_parts, or_left, or_right, or_cases}
 use Rattle.flow_value.specs.declared.value.Value.{Value}
 use Rattle.flow_link.specs.declared.draft.BlockKind.{BlockKind}
 use Rattle.flow_link.specs.declared.draft.BlockKind.TheVariants.{Join}
-use Rattle.flow_link.specs.declared.phase.LinkEnd.{LinkEnd}
 use Rattle.flow_link.specs.declared.plan.LinkSource.TheVariants.{Block}
 use Rattle.flow_link.specs.declared.plan.LinkTarget.TheVariants.{Port}
 use Rattle.flow_link.specs.declared.stage.Refusal.{Refusal}
@@ -15,13 +14,13 @@ use Rattle.flow_link.specs.declared.trace.Outcome.TheVariants as outcome
 use Rattle.flow_lawful.specs.Composes.{Ends, SourceKeeps, TargetKeeps, NodeMakes, NodeKeeps, RefusesFor, as_seen, is_coming, has_seen_completion, has_seen_fault, has_seen_cause, has_room_at, coming}
 use Rattle.flow_link.specs.Copies.{copies_as}
 use Rattle.flow_lawful.specs.Endings.{own_fault, is_number, is_complete, has_nothing, stops, completes_once, is_complete_as}
-use Rattle.flow_lawful.specs.Law.{is_own_mark, has_own_marks, has_room_for, takes_level, keeps_link_order}
+use Rattle.flow_lawful.specs.Law.{is_own_mark, has_own_marks, has_room_for, is_level, takes_level, keeps_link_order}
 use Rattle.flow_link.specs.LinkOk.{IsWithin}
 use Rattle.flow_lists.specs.Lists.{every, some, below, is_empty, numbers_from}
 use Rattle.flow_link.specs.Making.{load}
 use Rattle.flow_link.specs.Plan.{ends_at, ends_at_port, is_one_taker, is_reserving, port_count, is_write_once}
 use Rattle.flow_link.specs.Stage.{target_stage_of, refusal_of}
-use Rattle.flow_link.specs.Trace.{BlockTrace, Run, took, took_over, has_complete, has_fault, has_ended, is_done, block_of, link_of, link_numbers, marks_of, held_at, left_at, ports_of, took_at}
+use Rattle.flow_link.specs.Trace.{BlockTrace, Run, took, took_over, has_complete, has_fault, has_ended, is_faulted, is_done, block_of, link_of, link_numbers, marks_of, held_at, left_at, ports_of, took_at}
 use Rattle.flow_link.specs.Views as views
 use Rattle.flow_link.proofs.KindsTell.{kind_tells}
 use Rattle.flow_block_law.proofs.OnceHolds.{room_once}
@@ -33,7 +32,7 @@ use Rattle.flow_intake.specs.PortLaw.{has_ended as has_port_ended}
 use Rattle.flow_intake.specs.Ended.{is_completion}
 use Rattle.flow_block.specs.Block.{port_at, is_join, port_in, is_batched_join}
 use Rattle.flow_block.specs.Node.{NodeState, in_view}
-use Rattle.flow_block_law.specs.NodeLaw.{NodeLaw, MakesAs, RefusesFor as RefusesBy, run_seen_by, is_fault_seen, have_completed, has_its_message}
+use Rattle.flow_block_law.specs.NodeLaw.{NodeLaw, RefusesFor as RefusesBy, is_fault_seen, have_completed, has_its_message}
 use Rattle.flow_block_law.specs.NodeSeen.{IsNodeOf, NodesAreLawful, EachMayCarry}
 use Rattle.flow_block.specs.Planned.{out_place, in_place}
 use Rattle.flow_block_law.specs.CopiesSeen.{CopierSeen}
@@ -42,6 +41,7 @@ use Rattle.flow_block_law.proofs.EndsTell.{refusal_told, coming_told, completion
 use Rattle.flow_block_law.proofs.JournalTells.{every_mark, complete_own, done_outcome}
 use Rattle.flow_block_law.proofs.KindsBuilt.{within_capacity}
 use Rattle.flow_block_law.proofs.NodesSeen.{held_is, none_held, own_fault_is, load_is, is_joining, complete_by_port}
+use Rattle.flow_block_law.proofs.PortsLevel.{is_near, level_at_end}
 use Rattle.flow_block_law.proofs.PlacesOfLinks.{IsEndIn, end_in_is, end_in_of, count_of_links, there_at_port, there_at_block}
 use Rattle.flow_block_law.proofs.SharersAreLawful.{left_is, makes_shared, copies_shared, order_shared, one_so, source_shared}
 use Rattle.flow_lists.proofs.TestsTell.{some_tells, every_tells}
@@ -54,10 +54,10 @@ fits run None count kept same within = refl
 fits run (Some capacity) count kept same within = le-leb count capacity (omega (arith, same refl, within))
 
 -- a test that holds of a place before the last holds somewhere
-record HoldsAt (test : ℕ → Bool) (count : ℕ) : Type 0 where
-  place : ℕ
-  there : place < count
-  holds : test place ≡ true
+pub record HoldsAt (test : ℕ → Bool) (count : ℕ) : Type 0 where
+  pub place : ℕ
+  pub there : place < count
+  pub holds : test place ≡ true
 
 holds_from : (test : ℕ → Bool) (first count : ℕ) → some test (numbers_from first count) ≡ true
     → (place : ℕ) × (place < first + count) × (test place ≡ true)
@@ -68,7 +68,7 @@ holds_from test first (suc count) e =
     (λ later. let found = holds_from test (suc first) count later in (found.0, omega (arith, found.1), found.2))
     (or_cases (test first) (some test (numbers_from (suc first) count)) e)
 
-found_below : (test : ℕ → Bool) (count : ℕ) → some test (below count) ≡ true → HoldsAt test count
+pub found_below : (test : ℕ → Bool) (count : ℕ) → some test (below count) ≡ true → HoldsAt test count
 found_below test count e =
     let found = holds_from test 0 count e in record { place = found.0; there = omega (arith, found.1); holds = found.2 }
 
@@ -154,9 +154,39 @@ module _ {W : Type 0} (run : Run W) (ends : ℕ → Ends) (b : ℕ) (node : Node
       (subst (λ (capacity : Option ℕ). IsWithin capacity kept) (law.shape.ports p there).capacity
       (law.ports p there).room)))
 
+  -- the ports of a join that reserves take together
+  level_by : (reserving : Bool) → is_reserving (block_of run b) ≡ reserving → takes_level run b ≡ true
+  level_by false so = or_left (not (is_reserving (block_of run b))) _ (ap not so)
+  level_by true so =
+      or_right (not (is_reserving (block_of run b))) _
+      (every_below (λ p. every (is_level run b p) (ports_of run b)) (port_count (block_of run b))
+      (λ p small_p. every_below (is_level run b p) (port_count (block_of run b))
+      (λ q small_q. level_at p q (port_there p small_p) (port_there q small_q))))
+    where
+      level_at : (p q : ℕ) → p < length node.block.ports → q < length node.block.ports → is_level run b p q ≡ true
+      level_at p q there other =
+          of_marks (λ marks.
+          (leb (length (took_at p marks)) (length (took_at q marks) + 1)
+          && (not (is_faulted marks || is_done marks) || length (took_at p marks) == length (took_at q marks))) ≡ true)
+          (and_from (leb (length (took_at p node.journal)) (length (took_at q node.journal) + 1))
+          (not (is_faulted node.journal || is_done node.journal)
+          || length (took_at p node.journal) == length (took_at q node.journal))
+          (le-leb (length (took_at p node.journal)) (length (took_at q node.journal) + 1)
+          (is_near run.layout run.meaning b node law so p q there other))
+          (at_end p q there other (is_faulted node.journal || is_done node.journal) refl))
+        where
+          at_end : (p q : ℕ) → p < length node.block.ports → q < length node.block.ports → (over : Bool)
+              → (is_faulted node.journal || is_done node.journal) ≡ over
+              → (not (is_faulted node.journal || is_done node.journal)
+              || length (took_at p node.journal) == length (took_at q node.journal)) ≡ true
+          at_end p q there other false going = or_left (not (is_faulted node.journal || is_done node.journal)) _ (ap not going)
+          at_end p q there other true over =
+              or_right (not (is_faulted node.journal || is_done node.journal)) _
+              (eq-eqb (length (took_at p node.journal)) (length (took_at q node.journal))
+              (level_at_end run.layout run.meaning b node law so over p q there other))
+
   level_so : takes_level run b ≡ true
-  level_so =
-      or_left (not (is_reserving (block_of run b))) _ (ap not law.shape.takes_freely)
+  level_so = level_by (is_reserving (block_of run b)) refl
 
   -- how it ends
   complete_so : (join : Bool) → is_join node.block.kind ≡ join → holds_nothing node.block.ports ≡ true

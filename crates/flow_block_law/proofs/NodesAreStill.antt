@@ -1,5 +1,5 @@
 -- A node that has nothing to do is still.
-use Rattle.std.proofs.Common.{◌≡◌, ℕ, ◌<◌, Bool, true, false, cond, ◌&&◌, length, is_some, Option, Some, None, refl, ap, sym, ◌∙◌}
+use Rattle.std.proofs.Common.{◌≡◌, ℕ, ◌<◌, Bool, true, false, cond, ◌&&◌, length, Option, Some, None, refl, ap, sym, ◌∙◌}
 use Rattle.std.proofs.lemmas.Bool.{and_from}
 use Rattle.flow_value.specs.declared.value.Value.{Value}
 use Rattle.flow_value.specs.declared.message.MessageStatus.TheVariants.{Postponed as put_off, Declined}
@@ -12,28 +12,32 @@ use Rattle.flow_link.specs.declared.stage.TargetStage.{TargetStage}
 use Rattle.flow_link.specs.declared.stage.TargetStage.TheVariants as target
 use Rattle.flow_link.specs.declared.trace.Outcome.{Outcome}
 use Rattle.flow_lawful.specs.Composes.{Ends}
-use Rattle.flow_link.specs.Plan.{begins_at, is_one_taker}
-use Rattle.flow_lawful.specs.RestsByParts.{NodeIsStill, is_to_hand_over, is_wished_for, is_to_receive, is_holding, is_out, has_offer_out}
+use Rattle.flow_link.specs.Plan.{begins_at, ends_at, is_one_taker, is_reserving}
+use Rattle.flow_lawful.specs.RestsByParts.{NodeIsStill, is_to_hand_over, is_wished_for, is_to_receive, is_asking, is_holding, is_out, has_offer_out, asks_somewhere}
 use Rattle.flow_link.specs.Stage.{source_stage_of, target_stage_of}
-use Rattle.flow_link.specs.Trace.{Run, link_of}
+use Rattle.flow_link.specs.Trace.{Run, block_of, link_of}
 use Rattle.flow_link.specs.Views.{SourceView, TargetView}
 use Rattle.flow_link.proofs.RoundsOfWalks.{some_here_below}
 use Rattle.flow_lists.proofs.ListTests.{never_both}
-use Rattle.flow_intake.specs.Port.{PortState, hand_in, stage_at as port_stage}
-use Rattle.flow_intake.specs.Calls.{answer_where, move_of, move_at as move_in}
+use Rattle.flow_intake.specs.Port.{PortState, end_in, hand_in, stage_at as port_stage, is_holding as is_kept}
+use Rattle.flow_intake.specs.Calls.{first_of, answer_where, move_of, move_at as move_in}
+use Rattle.flow_group.specs.Round.{is_asking as is_asking_for, stage_from}
+use Rattle.flow_group.specs.RoundLaw.{GoesOn}
 use Rattle.flow_outlet.specs.End.{is_out as is_offer_out}
 use Rattle.flow_outlet.specs.Outlet.{OutletState, end_at, stage_at, out_at, has_offer_out as is_offering, move_at}
 use Rattle.flow_block.specs.Block.{port_at}
-use Rattle.flow_block.specs.Node.{NodeState}
+use Rattle.flow_block.specs.Node.{NodeState, in_view}
 use Rattle.flow_block_law.specs.NodeLaw.{NodeLaw}
-use Rattle.flow_block_law.specs.NodeRests.{HasNothingToDo, NoneReserve, NodesAreStill, is_reserving}
+use Rattle.flow_block_law.specs.NodeRests.{HasNothingToDo, HoldsByPlan, NodesAreStill}
 use Rattle.flow_block_law.specs.NodeSeen.{IsNodeOf}
 use Rattle.flow_block.specs.Peeks.{is_held_up}
 use Rattle.flow_block.specs.Planned.{out_place, in_place}
 use Rattle.flow_block_law.proofs.CopierOf.{copier_still}
 use Rattle.flow_block_law.proofs.CopiesIdle.{view_is_shared}
-use Rattle.flow_block_law.proofs.PlacesOfLinks.{end_in_of, end_out_is, end_out_of, there_at_source}
-use Rattle.flow_lists.proofs.TestsTell.{some_is}
+use Rattle.flow_block_law.proofs.HoldersMove.{holder_moves}
+use Rattle.flow_block_law.proofs.RoundHolds.{front_there}
+use Rattle.flow_block_law.proofs.WishesTell.{moves_in_front, no_own_move, no_round_move}
+use Rattle.flow_block_law.proofs.PlacesOfLinks.{end_in_is, end_in_of, end_out_is, end_out_of, there_at_block, there_at_source}
 
 -- What an end that has no move tells
 
@@ -90,16 +94,19 @@ receives_nothing place port (target.Arrived i) hand none = absurd (cc)
 receives_nothing place port (target.Hand i) hand none = absurd (cc)
 receives_nothing place port _ hand none = refl
 
-holds_nothing : (stage : TargetStage) (hand : Option Value) → is_reserving stage ≡ false
-    → is_holding (target_stage_of stage hand) ≡ false
-holds_nothing (target.Holding i) hand free = absurd (cc)
-holds_nothing _ hand free = refl
+kept_there : (stage : TargetStage) (hand : Option Value) → is_holding (target_stage_of stage hand) ≡ true → is_kept stage ≡ true
+kept_there (target.Holding i) hand holds = refl
+kept_there _ hand holds = absurd (cc)
+
+asks_there : (stage : TargetStage) (hand : Option Value) → is_asking_for stage ≡ true → is_asking (target_stage_of stage hand) ≡ true
+asks_there (target.Asking i) hand asks = refl
+asks_there _ hand asks = absurd (cc)
 
 module _ {W : Type 0} (run : Run W) (ends : ℕ → Ends) (b : ℕ) (node : NodeState)
     (law : NodeLaw run.layout run.meaning b node)
     (part : IsNodeOf run ends b node)
     (ports : (l p : ℕ) → l < length run.layout.links → (link_of run l).target ≡ Port b p → p < length node.block.ports)
-    (nothing : HasNothingToDo node) (none : NoneReserve node) where
+    (nothing : HasNothingToDo node) (plan : HoldsByPlan run ends b) where
   abbrev exits : OutletState
   exits = node.block.exits
 
@@ -178,25 +185,52 @@ module _ {W : Type 0} (run : Run W) (ends : ℕ → Ends) (b : ℕ) (node : Node
       let port = port_at p node.block in
       ap is_to_receive (target_is l p small to)
       ∙ receives_nothing k port (port_stage k port) (hand_in k port.ends)
-      (nothing.ins p k (ports l p small to) (is_in_place l p small to))
+      (no_own_move p k node (nothing.ins p k (ports l p small to) (is_in_place l p small to)))
 
-  never_holds : (l p : ℕ) → l < length run.layout.links → (link_of run l).target ≡ Port b p
-      → is_holding (ends l).target.stage ≡ false
-  never_holds l p small to =
+  -- what a node asks for, its link asks for
+  asks_over : is_reserving (block_of run b) ≡ true → (q : ℕ) → q < length node.block.ports → (place : Option ℕ)
+      → first_of (port_at q node.block).queue ≡ place → is_asking_for (stage_from place (port_at q node.block)) ≡ true
+      → asks_somewhere run ends b ≡ true
+  asks_over reserving q low None is asks = absurd (cc)
+  asks_over reserving q low (Some j) is asks =
+      let port = port_at q node.block in
+      let end = end_in j port.ends in
+      let there = front_there run.layout run.meaning b node law reserving q j low is in
+      let link = end_in_is run.layout run.meaning b node.block law.shape q j low there in
+      let seen : (ends end.link).target.stage ≡ target_stage_of end.stage end.hand =
+      ap (λ (view : TargetView Value). view.stage)
+      (part.targets end.link q link.there link.leads ∙ ap (λ (place : ℕ). in_view q place node) link.place) in
+      some_here_below (λ l. ends_at b (link_of run l).target && is_asking (ends l).target.stage) (length run.layout.links) end.link link.there
+      (and_from (ends_at b (link_of run end.link).target) (is_asking (ends end.link).target.stage)
+      (there_at_block b q (link_of run end.link).target link.leads)
+      (ap is_asking seen ∙ asks_there end.stage end.hand asks))
+
+  -- a round goes on, or asks
+  goes_on : is_reserving (block_of run b) ≡ true → GoesOn node.round node.block.ports → asks_somewhere run ends b ≡ true
+  goes_on reserving (GoesOn.moves q j next low e) =
+      let front = moves_in_front q j node.round node.block.ports next e in
+      let there = front_there run.layout run.meaning b node law reserving q j low front in
+      absurd (let wrong : Some next ≡ None = sym e ∙ no_round_move q j node (nothing.ins q j low there) in cc)
+  goes_on reserving (GoesOn.waits q low asks) = asks_over reserving q low (first_of (port_at q node.block).queue) refl asks
+
+  claims : (l p : ℕ) → l < length run.layout.links → (link_of run l).target ≡ Port b p → is_holding (ends l).target.stage ≡ true
+      → asks_somewhere run ends b ≡ true
+  claims l p small to holds =
       let k = in_place run.layout b p l in
       let port = port_at p node.block in
-      ap is_holding (target_is l p small to)
-      ∙ holds_nothing (port_stage k port) (hand_in k port.ends)
-      (none.ins p k (ports l p small to) (is_in_place l p small to))
+      let reserving = plan l p small to holds in
+      let kept = kept_there (port_stage k port) (hand_in k port.ends) (ap is_holding (sym (target_is l p small to)) ∙ holds) in
+      goes_on reserving
+      (holder_moves run.layout run.meaning b node law reserving p k (ports l p small to) (is_in_place l p small to) kept)
 
   is_still : NodeIsStill run ends b
   is_still = record {
     gives = gives (is_one_taker node.block.kind) refl;
     answers = answers (is_one_taker node.block.kind) refl;
     receives = receives;
-    claims = λ l p small to holds. never_both (is_holding (ends l).target.stage) holds (never_holds l p small to);
+    claims = claims;
   }
 
 pub nodes_are_still : (W : Type 0) → NodesAreStill W
-nodes_are_still W run ends b node small law part ports nothing none =
-    is_still run ends b node law part ports nothing none
+nodes_are_still W run ends b node small law part ports nothing plan =
+    is_still run ends b node law part ports nothing plan

@@ -10,6 +10,7 @@ use Rattle.flow_block_law.proofs.MakesHold.{makes_kept}
 use Rattle.flow_block_law.proofs.MarksHold.{marks_kept}
 use Rattle.flow_block_law.proofs.OnceHolds.{none_held_kept}
 use Rattle.flow_block_law.proofs.PortsHold.{ports_kept}
+use Rattle.flow_block_law.proofs.RoundHolds.{round_stays}
 use Rattle.flow_block_law.proofs.RowsHold.{rows_kept}
 use Rattle.flow_block_law.proofs.ShapeHolds.{shape_kept}
 use Rattle.flow_block_law.proofs.TuplesHold.{tuples_kept_so}
@@ -30,6 +31,7 @@ nodes_kept W layout meaning b node call law may = record {
   load = load_kept W layout meaning b node call law may;
   groups = groups_kept_so W layout meaning b node call law may;
   group_load = group_load_kept W layout meaning b node call law may;
+  round = round_stays W layout meaning b node call law may;
   marks = marks_kept W layout meaning b node call law may;
   ends = ends_kept W layout meaning b node call law may;
 }

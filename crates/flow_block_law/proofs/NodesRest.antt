@@ -1,5 +1,5 @@
 -- A node that has nothing to do rests when its links do.
-use Rattle.std.proofs.Common.{◌≡◌, ℕ, ◌+◌, ◌<◌, ◌≤◌, Bool, true, false, not, ltb, leb, ◌==◌, ◌&&◌, ◌||◌, List, [], ◌∷◌, length, map, sum, is_some, Option, Some, None, refl, ap, ap₂, sym, subst, ◌∙◌, ⊎_elim, arith, eq-eqb, eqb-true}
+use Rattle.std.proofs.Common.{◌≡◌, ℕ, ◌+◌, ◌<◌, ◌≤◌, Bool, true, false, not, ltb, leb, ◌==◌, ◌&&◌, ◌||◌, List, [], ◌∷◌, length, map, sum, is_some, Option, Some, None, refl, ap, ap₂, sym, subst, ◌∙◌, ⊎_elim, inl, inr, arith, eq-eqb, eqb-true}
 use Rattle.std.proofs.lemmas.Bool.{or_cases, ltb-false, lt-ltb, and_from, and_parts, or_left, or_right, false_from_ne_true, not-true}
 use Rattle.flow_value.specs.declared.value.Value.{Value}
 use Rattle.flow_link.specs.declared.draft.BlockKind.{BlockKind}
@@ -12,21 +12,25 @@ use Rattle.flow_lawful.specs.Composes.{Ends}
 use Rattle.flow_lawful.specs.Endings.{is_complete, has_nothing, is_complete_as}
 use Rattle.flow_link.specs.Facts.{facts_in}
 use Rattle.flow_link.specs.LinkOk.{IsWithin}
-use Rattle.flow_lists.specs.Lists.{every, below, is_empty as is_none_left}
+use Rattle.flow_lists.specs.Lists.{every, some, below, is_empty as is_none_left}
 use Rattle.flow_link.specs.Making.{load, group_size}
-use Rattle.flow_link.specs.Plan.{port_count, is_broadcast, is_one_taker, is_reserving, is_write_once}
+use Rattle.flow_link.specs.Plan.{port_count, ends_at_port, is_broadcast, is_one_taker, is_reserving, is_write_once}
 use Rattle.flow_lawful.specs.Quiet.{has_served_all, has_this_fault, faulted_by_itself, rests, rests_as, held_in_all, holds_nothing as run_holds_nothing, all_completed, has_no_group, is_done_if_can, is_full_with}
 use Rattle.flow_lawful.specs.RestsByParts.{OutletRests, KindRests, NodeRests, is_postponed as is_view_postponed, has_seen_end, has_to_wait, lacks_an_offer}
 use Rattle.flow_link.specs.Stage.{target_stage_of}
-use Rattle.flow_link.specs.Trace.{BlockTrace, Run, took_at, has_complete, has_fault, has_ended, is_faulted, is_done, block_of, link_of, marks_of, held_at, left_at, ports_of}
+use Rattle.flow_link.specs.Trace.{BlockTrace, Run, took_at, has_complete, has_fault, has_ended, is_faulted, is_done, block_of, link_of, link_numbers, marks_of, held_at, left_at, ports_of}
+use Rattle.flow_link.specs.declared.stage.TargetStage.{TargetStage}
+use Rattle.flow_link.specs.declared.stage.TargetStage.TheVariants as target
 use Rattle.flow_link.specs.Views.{TargetView}
 use Rattle.flow_link.proofs.KindsTell.{kind_tells}
+use Rattle.flow_link.proofs.RoundsOfWalks.{some_here_below}
 use Rattle.flow_block.specs.Copies.{copies_left}
 use Rattle.flow_block_law.proofs.OnceHolds.{room_once}
 use Rattle.flow_block_law.proofs.WrittenOnce.{message_is, weighs_written}
 use Rattle.flow_lists.proofs.ListTests.{never_both, passes_below, unless_done}
-use Rattle.flow_intake.specs.Port.{EndState, PortState, fresh_port, fresh_end, hand_in, stage_at as port_stage, coming, has_room, is_below}
-use Rattle.flow_intake.specs.PortLaw.{has_ended as has_port_ended}
+use Rattle.flow_intake.specs.Port.{EndState, PortState, fresh_port, fresh_end, hand_in, stage_at as port_stage, coming, has_room, is_below, is_queued}
+use Rattle.flow_intake.specs.Calls.{is_postponed}
+use Rattle.flow_intake.specs.PortLaw.{has_ended as has_port_ended, is_in}
 use Rattle.flow_intake.specs.Ended.{has_seen_completion, is_completion, fault_seen}
 use Rattle.flow_outlet.specs.Outlet.{OutletState, is_empty}
 use Rattle.flow_block.specs.Block.{BlockState, port_at, held_by, is_join, is_batched_join, has_ports}
@@ -35,14 +39,15 @@ use Rattle.flow_block_law.specs.NodeLaw.{NodeLaw, has_made_all, outcome_in, has_
 use Rattle.flow_block_law.specs.NodeRests.{HasNothingToDo, EndsRest, NodesRest}
 use Rattle.flow_block_law.specs.NodeSeen.{IsNodeOf}
 use Rattle.flow_block.specs.Peeks.{holds_nothing, is_complete as is_complete_here, is_pending, all_ended, is_written, is_off_by_unit}
-use Rattle.flow_block_law.proofs.NodesAreLawful.{join_is}
+use Rattle.flow_block_law.proofs.JoinsRest.{held_alike, lacks_or_full}
+use Rattle.flow_block_law.proofs.NodesAreLawful.{join_is, found_below}
 use Rattle.flow_block_law.proofs.NodesSeen.{join_seen, is_joining, as_ports, complete_by_port}
 use Rattle.flow_group.specs.Tuple.{has_tuple}
 use Rattle.flow_lawful.specs.Quiet.{has_no_row}
 use Rattle.flow_link.specs.declared.kinds.BlockUnit.{BlockUnit}
 use Rattle.flow_link.specs.declared.kinds.BlockUnit.TheVariants as unit
 use Rattle.flow_link.specs.Kinds.{unit_of, makes_rows}
-use Rattle.flow_block.specs.Planned.{out_place, in_place}
+use Rattle.flow_block.specs.Planned.{in_place}
 use Rattle.flow_block_law.specs.CopiesSeen.{MayCarry, CopierRests}
 use Rattle.flow_block_law.proofs.CopierOf.{CopiesQuiet, copies_quiet, copier_rests, none_shared, copier_seen}
 use Rattle.flow_block_law.proofs.CopiesIdle.{none_copied}
@@ -55,7 +60,8 @@ use Rattle.flow_block_law.proofs.JournalTells.{fault_marked, none_stopped, stopp
 use Rattle.flow_block_law.proofs.KindsBuilt.{has_one_port, room_shared}
 use Rattle.flow_block_law.proofs.NodesSeen.{held_is, none_held, own_fault_is, load_is}
 use Rattle.flow_block_law.proofs.NothingToDo.{not_pending, worked_off, none_seen, no_coming, not_finished}
-use Rattle.flow_block_law.proofs.PlacesOfLinks.{end_in_of}
+use Rattle.flow_block_law.proofs.WishesTell.{no_own_move}
+use Rattle.flow_block_law.proofs.PlacesOfLinks.{target_there, end_in_of}
 use Rattle.flow_lists.proofs.TestsTell.{every_tells, every_where, some_where}
 use Rattle.flow_block.specs.Groups.{has_group_at, waiting_in_all}
 use Rattle.flow_block_law.specs.GroupsLaw.{are_complete}
@@ -86,6 +92,21 @@ nothing_where : (values : List Value) → is_none_left values ≡ true → value
 nothing_where [] e = refl
 nothing_where (value ∷ values) e = absurd (cc)
 
+-- as many as none
+empty_as : (values others : List Value) → length values ≡ length others → is_empty others ≡ true → is_empty values ≡ true
+empty_as [] others same none = refl
+empty_as (value ∷ values) [] same none = absurd (cc)
+empty_as (value ∷ values) (other ∷ others) same none = absurd (cc)
+
+waits_queued : (stage : TargetStage) → is_postponed stage ≡ true → is_queued stage ≡ true
+waits_queued (target.Postponed i) waits = refl
+waits_queued _ waits = absurd (cc)
+
+none_below : (test : ℕ → Bool) (count : ℕ) → ((k : ℕ) → k < count → test k ≡ true → ⊥) → some test (below count) ≡ false
+none_below test count never =
+    false_from_ne_true (some test (below count)) (λ passes.
+    let found = found_below test count passes in never found.place found.there found.holds)
+
 -- where nothing is held, there is no tuple
 no_first : (ports : List PortState) → 0 < length ports → holds_nothing ports ≡ true → not (has_tuple ports) ≡ true
 no_first [] some none = absurd (omega (arith, some))
@@ -111,7 +132,8 @@ module _ {W : Type 0} (run : Run W) (ends : ℕ → Ends) (b : ℕ) (node : Node
     (law : NodeLaw run.layout run.meaning b node)
     (part : IsNodeOf run ends b node)
     (ports : (l p : ℕ) → l < length run.layout.links → (link_of run l).target ≡ Port b p → p < length node.block.ports)
-    (nothing : HasNothingToDo node) (rest : EndsRest node) (carries : MayCarry run ends b node) where
+    (nothing : HasNothingToDo node) (rest : EndsRest node)
+    (carries : MayCarry run ends b node) where
   abbrev own : BlockState
   own = node.block
 
@@ -171,6 +193,22 @@ module _ {W : Type 0} (run : Run W) (ends : ℕ → Ends) (b : ℕ) (node : Node
   abbrev made_all_as : BlockKind → Bool
   made_all_as k = made_all_by_unit (unit_of k) own node.journal
 
+  -- a join that reserves holds nothing at any port, where it holds nothing at one
+  by_row : (reserving : Bool) → is_reserving (block_of run b) ≡ reserving → has_no_row run b false ≡ true
+      → has_no_row run b (is_reserving (block_of run b)) ≡ true
+  by_row false freely none = ap (has_no_row run b) freely ∙ none
+  by_row true reserving none =
+      let found = found_below (λ p. is_empty (held_at run b p)) (port_count (block_of run b)) none in
+      let low : found.place < length own.ports = let there = found.there in omega (arith, there, law.shape.port_count_is) in
+      let empty : is_empty (port_at found.place own).waiting ≡ true =
+      ap is_empty (sym (held_is run ends b node law part found.place)) ∙ found.holds in
+      ap (has_no_row run b) reserving
+      ∙ none_held run ends b node law part
+      (every_where (λ (port : PortState). is_empty port.waiting) own.ports (fresh_port None) (λ p small.
+      empty_as (port_at p own).waiting (port_at found.place own).waiting
+      (held_alike run.layout run.meaning b node law reserving nothing rest
+      (λ q near. no_coming run.layout run.meaning b node law nothing rest quiet q near) p found.place small low) empty))
+
   -- a block of its kind that could make nothing more rests
   rests_by : (k : BlockKind) → own.kind ≡ k → made_all_as k ≡ true → rests_as run k b ≡ true
   rests_by Batch is none = no_group_where (ap has_ports is) none
@@ -181,8 +219,8 @@ module _ {W : Type 0} (run : Run W) (ends : ℕ → Ends) (b : ℕ) (node : Node
   rests_by Broadcast is none = none_held run ends b node law part none
   rests_by WriteOnce is none = none_held run ends b node law part none
   rests_by Join is none =
-      ap (has_no_row run b) law.shape.takes_freely
-      ∙ (join_seen run ends b node law part (ap is_join is)).rests (not-true (has_tuple own.ports) none)
+      by_row (is_reserving (block_of run b)) refl
+      ((join_seen run ends b node law part (ap is_join is)).rests (not-true (has_tuple own.ports) none))
   rests_by BatchedJoin is none =
       let batched = ap is_batched_join is in
       let size : own.size ≡ group_size run b = law.shape.size_is in
@@ -293,6 +331,25 @@ module _ {W : Type 0} (run : Run W) (ends : ℕ → Ends) (b : ℕ) (node : Node
 
   -- Its links in
 
+  -- a link into a port over which an offer waits
+  abbrev waits_over : ℕ → ℕ → Bool
+  waits_over q l = ends_at_port b q (link_of run l).target && is_view_postponed (ends l).target.stage
+
+  -- where no offer is in the queue of a port, none waits over a link into it
+  none_waits_over : (q : ℕ) → q < length own.ports → (port_at q own).queue ≡ [] → some (waits_over q) (link_numbers run) ≡ false
+  none_waits_over q low none =
+      none_below (waits_over q) (length run.layout.links) (λ l small waits.
+      let both = and_parts (ends_at_port b q (link_of run l).target) (is_view_postponed (ends l).target.stage) waits in
+      let to = target_there b q (link_of run l).target both.0 in
+      let port = port_at q own in
+      let k = in_place run.layout b q l in
+      let there = (end_in_of run.layout run.meaning b own law.shape q l low small to).there in
+      let seen = ap (λ (view : TargetView Value). view.stage) (part.targets l q small to) in
+      let waits = postponed_back (port_stage k port) (hand_in k port.ends) (ap is_view_postponed (sym seen) ∙ both.1) in
+      let queued = ((law.ports q low).each k there).queued ∙ waits_queued (port_stage k port) waits in
+      let wrong : false ≡ true = sym (ap (is_in k) none) ∙ queued in
+      cc)
+
   module _ (l p : ℕ) (small : l < length run.layout.links) (to : (link_of run l).target ≡ Port b p) where
     abbrev port : PortState
     port = port_at p node.block
@@ -344,21 +401,16 @@ module _ {W : Type 0} (run : Run W) (ends : ℕ → Ends) (b : ℕ) (node : Node
         (nothing.completes p port_there) in
         never_both (has_port_ended port.refusing) ended (ap has_port_ended open_port)
 
-    put_off_so : is_view_postponed (ends l).target.stage ≡ true → has_to_wait run ends b p ≡ true
-    put_off_so e =
+    -- an offer waits where there is no room
+    full_so : is_postponed (port_stage in_at port) ≡ true → has_room port ≡ false → has_to_wait run ends b p ≡ true
+    full_so waits full =
         let planned = law.shape.ports p port_there in
         let order = law.ports p port_there in
-        let waits =
-        postponed_back (port_stage in_at port) (hand_in in_at port.ends)
-        (ap is_view_postponed (sym target_is) ∙ e) in
-        let full : has_room port ≡ false =
-        no_room_where (facts_in run.layout) (length (took_at p node.journal)) port in_at order planned.never_reserves
-        (λ k near. rest.ins p k port_there near) (λ k near. nothing.ins p k port_there near) end_there waits in
         let here =
         full_at port.capacity port.load (coming port)
         (no_coming run.layout run.meaning b node law nothing rest quiet p port_there) order.room full in
         let open_port =
-        (waiting_queue in_at port (port_stage in_at port) waits (nothing.ins p in_at port_there end_there)).0 in
+        (waiting_queue in_at port (port_stage in_at port) waits (no_own_move p in_at node (nothing.ins p in_at port_there end_there))).0 in
         let many = false_from_ne_true (is_write_once own.kind) (λ once. never_waits once open_port full) in
         let capacity : port.capacity ≡ (block_of run b).capacity =
         planned.capacity ∙ room_shared kind (block_of run b).capacity (ap is_write_once (sym law.shape.kind_is) ∙ many) in
@@ -367,6 +419,35 @@ module _ {W : Type 0} (run : Run W) (ends : ℕ → Ends) (b : ℕ) (node : Node
         or_left (is_full_with run (block_of run b).capacity (load run b p))
         (is_reserving (block_of run b) && lacks_an_offer run ends b)
         (ap₂ (is_full_with run) (sym capacity) (sym load_here) ∙ here.1)
+
+    -- or, at a join that reserves, where another port lacks an offer
+    lacks_so : is_reserving (block_of run b) ≡ true → (q : ℕ) → q < length own.ports → (port_at q own).queue ≡ []
+        → has_to_wait run ends b p ≡ true
+    lacks_so reserving q low none =
+        or_right (is_full_with run (block_of run b).capacity (load run b p)) (is_reserving (block_of run b) && lacks_an_offer run ends b)
+        (and_from (is_reserving (block_of run b)) (lacks_an_offer run ends b) reserving
+        (some_here_below (λ r. not (some (waits_over r) (link_numbers run))) (port_count (block_of run b)) q
+        (omega (arith, low, law.shape.port_count_is))
+        (ap not (none_waits_over q low none))))
+
+    put_off_by : (reserving : Bool) → is_reserving (block_of run b) ≡ reserving → is_postponed (port_stage in_at port) ≡ true
+        → has_to_wait run ends b p ≡ true
+    put_off_by false freely waits =
+        full_so waits
+        (no_room_where (facts_in run.layout) (length (took_at p node.journal)) port in_at (law.ports p port_there)
+        ((law.shape.ports p port_there).reserves_is ∙ freely)
+        (λ k near. rest.ins p k port_there near) (λ k near. no_own_move p k node (nothing.ins p k port_there near)) end_there waits)
+    put_off_by true reserving waits =
+        elim (lacks_or_full run.layout run.meaning b node law reserving nothing rest
+        (λ q low. no_coming run.layout run.meaning b node law nothing rest quiet q low) p in_at port_there end_there) [
+          | inl lacks ↦ lacks_so reserving lacks.0 lacks.1 lacks.2
+          | inr full ↦ full_so waits full
+        ]
+
+    put_off_so : is_view_postponed (ends l).target.stage ≡ true → has_to_wait run ends b p ≡ true
+    put_off_so e =
+        put_off_by (is_reserving (block_of run b)) refl
+        (postponed_back (port_stage in_at port) (hand_in in_at port.ends) (ap is_view_postponed (sym target_is) ∙ e))
 
     completed : is_completion (port_stage in_at port) ≡ true → has_ended p (marks_of run b) ≡ true
     completed e =

@@ -35,7 +35,6 @@ use Rattle.flow_block_law.proofs.EndsTell.{none_come}
 use Rattle.flow_block_law.proofs.FaultsSeen.{first_none}
 use Rattle.flow_block_law.proofs.GoingOn.{away_goes_on, waiting_away}
 use Rattle.flow_block_law.proofs.JobsRest.{holds_none}
-use Rattle.flow_block_law.proofs.Joins.{others_at_one}
 use Rattle.flow_block_law.proofs.KindsBuilt.{has_one_port}
 use Rattle.flow_lists.proofs.TestsTell.{every_where}
 use Rattle.flow_block.proofs.NothingLeft.{none_left}

@@ -9,7 +9,7 @@ use Rattle.flow_link.specs.Plan.{block_in, is_write_once, is_one_taker}
 use Rattle.flow_link.proofs.KindsTell.{kind_tells}
 use Rattle.flow_lists.proofs.ListTests.{never_both}
 use Rattle.flow_intake.specs.Port.{PortState, fresh_port, coming, is_coming, is_hand, stage_at as port_stage}
-use Rattle.flow_intake.specs.Calls.{first_of, wants, turns_down, postpones, refuses, consumes, opens, closes, looks as port_looks, takes_next, port_closes, gives_room}
+use Rattle.flow_intake.specs.Calls.{first_of, wants, turns_down, postpones, refuses, consumes, asks, claims, releases, opens, closes, looks as port_looks, takes_next, port_closes, gives_room}
 use Rattle.flow_intake.proofs.CountsOfEnds.{count_there, hand_comes}
 use Rattle.flow_outlet.specs.Outlet.{is_empty}
 use Rattle.flow_spread.specs.Spread.{is_spread_free, puts}
@@ -139,6 +139,9 @@ module _ {W : Type 0} (layout : Layout W) (meaning : ℕ → Value → Result (L
     call_keeps (NodeCall.postpone p k) may = at_one p (postpones k (port_at p block)) refl
     call_keeps (NodeCall.refuse p k) may = at_one p (refuses k (port_at p block)) refl
     call_keeps (NodeCall.consume p k) may = at_one p (consumes k (port_at p block)) refl
+    call_keeps (NodeCall.ask p k) may = at_one p (asks k (port_at p block)) refl
+    call_keeps (NodeCall.claim p k) may = at_one p (claims k (port_at p block)) refl
+    call_keeps (NodeCall.release p k) may = at_one p (releases k (port_at p block)) refl
     call_keeps (NodeCall.open_with p k value) may = at_one p (opens k value (port_at p block)) refl
     call_keeps (NodeCall.close p k) may = taken_in p k may (hand_at p k node)
     call_keeps (NodeCall.give k) may = absurd (no_exit_at layout b block node.journal copier k may.place)

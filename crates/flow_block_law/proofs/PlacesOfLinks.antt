@@ -24,7 +24,7 @@ use Rattle.flow_block.specs.Planned.{is_out_of, is_into, links_from, links_to, r
 use Rattle.flow_lists.proofs.PlacesOfNumbers.{stands_below, place_below, filter_two, length_cond, count_shift}
 
 -- where a link leads, and whence
-target_there : (b p : ℕ) (target : LinkTarget) → ends_at_port b p target ≡ true → target ≡ Port b p
+pub target_there : (b p : ℕ) (target : LinkTarget) → ends_at_port b p target ≡ true → target ≡ Port b p
 target_there b p (Port n q) e =
     let both = and_parts (n == b) (q == p) e in
     ap (λ (t : ℕ). Port t q) (eqb-true n b both.0) ∙ ap (λ (k : ℕ). Port b k) (eqb-true q p both.1)

@@ -15,7 +15,7 @@ use Rattle.flow_link.specs.Views.{LinkFacts}
 use Rattle.flow_link.proofs.KindsTell.{kind_tells}
 use Rattle.flow_intake.specs.Port.{PortState, coming, is_hand, fresh_port}
 use Rattle.flow_intake.specs.PortLaw.{PortLaw}
-use Rattle.flow_intake.specs.Calls.{first_of, wants, turns_down, postpones, refuses, consumes, opens, closes, looks, takes_next, gives_room, port_closes, port_fails}
+use Rattle.flow_intake.specs.Calls.{first_of, wants, turns_down, postpones, refuses, consumes, asks, claims, releases, opens, closes, looks, takes_next, gives_room, port_closes, port_fails}
 use Rattle.flow_intake.proofs.CallsKeepOrder.{moves_keep}
 use Rattle.flow_outlet.specs.Fits.{weight_of}
 use Rattle.flow_outlet.specs.Outlet.{head_of, weight_at, gives}
@@ -33,6 +33,7 @@ use Rattle.flow_block.specs.Peeks.{nothing_comes}
 use Rattle.flow_block.specs.Planned.{block_makes, room_of}
 use Rattle.flow_block_law.proofs.CopiesLeave.{took_by_copy_at, left_by_copy}
 use Rattle.flow_block_law.proofs.GoingOn.{may_complete_tells, may_fault_tells, may_finish_tells}
+use Rattle.flow_block_law.proofs.WishesTell.{asks_so, claims_so, releases_so, asks_openly}
 use Rattle.flow_block_law.proofs.JournalTells.{took_same, took_here}
 use Rattle.flow_block_law.proofs.KindsBuilt.{makes_by, next_by}
 use Rattle.flow_block.proofs.PortsChange.{each_after_one, each_after_all}
@@ -41,18 +42,18 @@ use Rattle.flow_block_law.proofs.GroupPorts.{each_after_group}
 use Rattle.flow_group.specs.Group.{takes_first}
 
 -- how many messages a port took, when the journal has one more mark
-took_as_many : (q : ℕ) (journal : List Mark) (mark : Mark) → taken_by_mark (λ port link. port == q) mark ≡ []
+pub took_as_many : (q : ℕ) (journal : List Mark) (mark : Mark) → taken_by_mark (λ port link. port == q) mark ≡ []
     → length (took_at q (journal ++ mark ∷ [])) ≡ length (took_at q journal)
 took_as_many q journal mark none =
     ap length (took_same (λ port link. port == q) journal mark none)
 
-took_elsewhere : (p l : ℕ) (value : Value) (q : ℕ) (journal : List Mark) → q ≢ p
+pub took_elsewhere : (p l : ℕ) (value : Value) (q : ℕ) (journal : List Mark) → q ≢ p
     → length (took_at q (journal ++ Took p l value ∷ [])) ≡ length (took_at q journal)
 took_elsewhere p l value q journal other =
     took_as_many q journal (Took p l value)
     (ap (λ (b : Bool). cond b (value ∷ []) []) (ne_eqb p q (λ e. other (sym e))))
 
-took_one_more : (p l : ℕ) (value : Value) (journal : List Mark)
+pub took_one_more : (p l : ℕ) (value : Value) (journal : List Mark)
     → length (took_at p (journal ++ Took p l value ∷ [])) ≡ length (took_at p journal) + 1
 took_one_more p l value journal =
     ap length (took_here (λ port link. port == p) journal p l value (eq-eqb p p refl))
@@ -291,6 +292,19 @@ module _ {W : Type 0} (layout : Layout W) (meaning : ℕ → Value → Result (L
       one_port node.block.ports node.journal p (consumes k port) law.ports
       (λ old. moves_keep.consume facts (taken node.journal p) port old k may.0.place may.0.stands
       may.1.room may.1.open_port)
+  call_keeps node (NodeCall.ask p k) law may =
+      let port = port_in node.block.ports p in
+      let now = asks_so p k node may in
+      one_port node.block.ports node.journal p (asks k port) law.ports
+      (λ old. moves_keep.ask facts (taken node.journal p) port old k may.place now.waits now.room (asks_openly p k node may))
+  call_keeps node (NodeCall.claim p k) law may =
+      let port = port_in node.block.ports p in
+      one_port node.block.ports node.journal p (claims k port) law.ports
+      (λ old. moves_keep.claim facts (taken node.journal p) port old k may.place (claims_so p k node may).held)
+  call_keeps node (NodeCall.release p k) law may =
+      let port = port_in node.block.ports p in
+      one_port node.block.ports node.journal p (releases k port) law.ports
+      (λ old. moves_keep.release facts (taken node.journal p) port old k may.place (releases_so p k node may).held)
   call_keeps node (NodeCall.open_with p k value) law may =
       let port = port_in node.block.ports p in
       one_port node.block.ports node.journal p (opens k value port) law.ports

@@ -18,7 +18,7 @@ use Rattle.flow_lists.proofs.ListTests.{never_both}
 use Rattle.flow_link.proofs.OneMoreMark.{some_no_more, gave_no_more, gave_by_took, gave_by_gave}
 use Rattle.flow_intake.specs.Port.{PortState, fresh_port, stage_at as port_stage, hand_in, is_hand}
 use Rattle.flow_intake.specs.PortLaw.{has_ended as has_port_ended}
-use Rattle.flow_intake.specs.Calls.{first_of, wants, turns_down, postpones, refuses, consumes, opens, closes, looks as port_looks, port_closes}
+use Rattle.flow_intake.specs.Calls.{first_of, wants, turns_down, postpones, refuses, consumes, asks, claims, releases, opens, closes, looks as port_looks, port_closes}
 use Rattle.flow_intake.proofs.CountsOfEnds.{hand_comes}
 use Rattle.flow_outlet.specs.Outlet.{OutletState, first_of as first_left, rest_of, is_empty, head_of, gives, prepares, offers, holds, denies, withdraws, ends_link, looks as exit_looks}
 use Rattle.flow_link.specs.Plan.{is_one_taker, is_broadcast, is_write_once}
@@ -226,6 +226,9 @@ module _ {W : Type 0} (layout : Layout W) (meaning : ℕ → Value → Result (L
   after_each node (NodeCall.postpone p k) law may = port_stays node law.rows p (postpones k) refl
   after_each node (NodeCall.refuse p k) law may = port_stays node law.rows p (refuses k) refl
   after_each node (NodeCall.consume p k) law may = port_stays node law.rows p (consumes k) refl
+  after_each node (NodeCall.ask p k) law may = port_stays node law.rows p (asks k) refl
+  after_each node (NodeCall.claim p k) law may = port_stays node law.rows p (claims k) refl
+  after_each node (NodeCall.release p k) law may = port_stays node law.rows p (releases k) refl
   after_each node (NodeCall.open_with p k value) law may = port_stays node law.rows p (opens k value) refl
   after_each node (NodeCall.close p k) law may =
       let hand = hand_in k (port_at p node.block).ends in

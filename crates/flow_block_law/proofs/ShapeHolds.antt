@@ -9,7 +9,7 @@ use Rattle.flow_link.specs.declared.phase.Phase.{Phase}
 use Rattle.flow_link.specs.declared.stage.TargetStage.{TargetStage}
 use Rattle.flow_link.specs.Layout.{Layout}
 use Rattle.flow_intake.specs.Port.{EndState, PortState, fresh_end}
-use Rattle.flow_intake.specs.Calls.{first_of, put_hand, wants, turns_down, postpones, refuses, consumes, opens, closes, looks, takes_next, gives_room, port_closes, port_fails}
+use Rattle.flow_intake.specs.Calls.{first_of, put_hand, wants, turns_down, postpones, refuses, consumes, asks, claims, releases, opens, closes, looks, takes_next, gives_room, port_closes, port_fails}
 use Rattle.flow_outlet.specs.declared.ends.OutEnd.{OutEnd}
 use Rattle.flow_outlet.specs.End.{end_in, no_end}
 use Rattle.flow_outlet.specs.Outlet.{head_of, gives}
@@ -54,6 +54,15 @@ refuses_same k port = record { links = links_stay k _ _ port.ends; capacity = re
 consumes_same : (k : ℕ) (port : PortState) → SamePort port (consumes k port)
 consumes_same k port = record { links = links_stay k _ _ port.ends; capacity = refl; reserves = refl }
 
+asks_same : (k : ℕ) (port : PortState) → SamePort port (asks k port)
+asks_same k port = record { links = links_stay k _ _ port.ends; capacity = refl; reserves = refl }
+
+claims_same : (k : ℕ) (port : PortState) → SamePort port (claims k port)
+claims_same k port = record { links = links_stay k _ _ port.ends; capacity = refl; reserves = refl }
+
+releases_same : (k : ℕ) (port : PortState) → SamePort port (releases k port)
+releases_same k port = record { links = links_stay k _ _ port.ends; capacity = refl; reserves = refl }
+
 opens_same : (k : ℕ) (value : Value) (port : PortState) → SamePort port (opens k value port)
 opens_same k value port = record { links = links_stay k _ _ port.ends; capacity = refl; reserves = refl }
 
@@ -94,7 +103,7 @@ module _ {W : Type 0} (layout : Layout W) (meaning : ℕ → Value → Result (L
   port_stays p before after same planned = record {
     links = same.links ∙ planned.links;
     capacity = same.capacity ∙ planned.capacity;
-    never_reserves = same.reserves ∙ planned.never_reserves;
+    reserves_is = same.reserves ∙ planned.reserves_is;
   }
 
   -- a block that differs in one port, in each port, or in its exits' ends, or in what no plan speaks of
@@ -111,7 +120,6 @@ module _ {W : Type 0} (layout : Layout W) (meaning : ℕ → Value → Result (L
     no_capacity = rw kind law.no_capacity;
     port_count_is = rw (ports, length-set before.ports p (change (port_in before.ports p))) law.port_count_is;
     some_port = rw (ports, length-set before.ports p (change (port_in before.ports p))) law.some_port;
-    takes_freely = law.takes_freely;
     ports =
         let port = port_in before.ports p in
         rw ports (each_after_one IsPlanned before.ports p (change port)
@@ -133,7 +141,6 @@ module _ {W : Type 0} (layout : Layout W) (meaning : ℕ → Value → Result (L
     no_capacity = rw kind law.no_capacity;
     port_count_is = rw (ports, length-map before.ports change) law.port_count_is;
     some_port = rw (ports, length-map before.ports change) law.some_port;
-    takes_freely = law.takes_freely;
     ports =
         rw ports (each_after_all IsPlanned change before.ports
         (λ q below.
@@ -153,7 +160,6 @@ module _ {W : Type 0} (layout : Layout W) (meaning : ℕ → Value → Result (L
     no_capacity = rw kind law.no_capacity;
     port_count_is = rw ports law.port_count_is;
     some_port = rw ports law.some_port;
-    takes_freely = law.takes_freely;
     ports = rw ports law.ports;
     rules = rw kind (rules ∙ law.rules);
   }
@@ -205,7 +211,6 @@ module _ {W : Type 0} (layout : Layout W) (meaning : ℕ → Value → Result (L
     some_port =
         subst (λ (count : ℕ). 0 < count)
         (sym (length_back (gives k block.exits) block.copies block.kind (head_of block.exits) block.ports)) law.some_port;
-    takes_freely = law.takes_freely;
     ports =
         each_after_back (gives k block.exits) block.copies block.kind (head_of block.exits) IsPlanned block.ports
         (λ q below.
@@ -232,7 +237,6 @@ module _ {W : Type 0} (layout : Layout W) (meaning : ℕ → Value → Result (L
     no_capacity = law.no_capacity;
     port_count_is = length_by_group size order block.ports ∙ law.port_count_is;
     some_port = subst (λ (count : ℕ). 0 < count) (sym (length_by_group size order block.ports)) law.some_port;
-    takes_freely = law.takes_freely;
     ports =
         each_after_group size order IsPlanned block.ports
         (λ q count below.
@@ -250,6 +254,9 @@ module _ {W : Type 0} (layout : Layout W) (meaning : ℕ → Value → Result (L
       one_port node.block _ p (postpones k) (postpones_same k) refl refl refl refl law
   call_keeps node (NodeCall.refuse p k) law = one_port node.block _ p (refuses k) (refuses_same k) refl refl refl refl law
   call_keeps node (NodeCall.consume p k) law = one_port node.block _ p (consumes k) (consumes_same k) refl refl refl refl law
+  call_keeps node (NodeCall.ask p k) law = one_port node.block _ p (asks k) (asks_same k) refl refl refl refl law
+  call_keeps node (NodeCall.claim p k) law = one_port node.block _ p (claims k) (claims_same k) refl refl refl refl law
+  call_keeps node (NodeCall.release p k) law = one_port node.block _ p (releases k) (releases_same k) refl refl refl refl law
   call_keeps node (NodeCall.open_with p k value) law =
       one_port node.block _ p (opens k value) (opens_same k value) refl refl refl refl law
   call_keeps node (NodeCall.close p k) law =

@@ -15,7 +15,7 @@ use Rattle.flow_link.specs.Plan.{is_broadcast, is_one_taker, is_write_once}
 use Rattle.flow_link.proofs.KindsTell.{kind_tells}
 use Rattle.flow_link.proofs.OneMoreMark.{gave_no_more, gave_by_took, gave_by_gave}
 use Rattle.flow_intake.specs.Port.{PortState, hand_in}
-use Rattle.flow_intake.specs.Calls.{put_hand, takes_next, wants, turns_down, postpones, refuses, consumes, opens, closes, looks as port_looks, port_closes}
+use Rattle.flow_intake.specs.Calls.{put_hand, takes_next, wants, turns_down, postpones, refuses, consumes, asks, claims, releases, opens, closes, looks as port_looks, port_closes}
 use Rattle.flow_outlet.specs.Outlet.{OutletState, head_of, gives, prepares, offers, holds, denies, withdraws, ends_link, looks as exit_looks}
 use Rattle.flow_group.specs.Tuple.{held_at, has_tuple, tuple_of}
 use Rattle.flow_group.specs.Tuples.{only_at}
@@ -140,6 +140,9 @@ module _ {W : Type 0} (layout : Layout W) (meaning : ℕ → Value → Result (L
   after_each node (NodeCall.postpone p k) whole join law may = port_stays node law p (postpones k) refl
   after_each node (NodeCall.refuse p k) whole join law may = port_stays node law p (refuses k) refl
   after_each node (NodeCall.consume p k) whole join law may = port_stays node law p (consumes k) refl
+  after_each node (NodeCall.ask p k) whole join law may = port_stays node law p (asks k) refl
+  after_each node (NodeCall.claim p k) whole join law may = port_stays node law p (claims k) refl
+  after_each node (NodeCall.release p k) whole join law may = port_stays node law p (releases k) refl
   after_each node (NodeCall.open_with p k value) whole join law may = port_stays node law p (opens k value) refl
   after_each node (NodeCall.close p k) whole join law may =
       let hand = hand_in k (port_at p node.block).ends in

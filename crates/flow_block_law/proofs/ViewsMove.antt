@@ -8,7 +8,6 @@ use Rattle.flow_link.specs.declared.stage.SourceStage.TheVariants as source
 use Rattle.flow_link.specs.declared.stage.TargetStage.TheVariants as target
 use Rattle.flow_link.specs.declared.trace.Mark.{Mark}
 use Rattle.flow_link.specs.declared.trace.Mark.TheVariants.{Took, Gave, Complete, Fault, Done}
-use Rattle.flow_link.specs.declared.trace.Outcome.{Outcome}
 use Rattle.flow_link.specs.declared.trace.Outcome.TheVariants as outcome
 use Rattle.flow_link.specs.JournalGrows.{taken_by_mark, given_by_mark}
 use Rattle.flow_link.specs.Layout.{Layout}
@@ -19,7 +18,7 @@ use Rattle.flow_link.specs.Views.{SourceStage, TargetStage, SourceView, TargetVi
 use Rattle.flow_link.proofs.KindsTell.{kind_tells}
 use Rattle.flow_link.proofs.StagesKept.{source_looks_kept, target_looks_kept}
 use Rattle.flow_intake.specs.Port.{EndState, PortState, end_in}
-use Rattle.flow_intake.specs.Calls.{first_of, refused_by, wants, turns_down, postpones, refuses, consumes, opens, closes, looks as port_looks}
+use Rattle.flow_intake.specs.Calls.{first_of, refused_by, wants, turns_down, postpones, refuses, consumes, asks, claims, releases, opens, closes, looks as port_looks}
 use Rattle.flow_outlet.specs.declared.ends.OutEnd.{OutEnd}
 use Rattle.flow_outlet.specs.End.{end_in as end_out_in, no_end, id_of}
 use Rattle.flow_outlet.specs.Law.{admits_head}
@@ -27,6 +26,7 @@ use Rattle.flow_outlet.specs.Outlet.{OutletState, head_of, end_at, stage_at, giv
 use Rattle.flow_outlet.proofs.LawKept.{gives_in_order}
 use Rattle.flow_outlet.proofs.OffersInOrder.{offers_in_order}
 use Rattle.flow_link.specs.Plan.{is_broadcast, is_one_taker, is_write_once}
+use Rattle.flow_group.specs.Round.{RoundState, claims_on}
 use Rattle.flow_spread.specs.Spread.{link_at as link_over}
 use Rattle.flow_block_law.proofs.CopiesLeave.{free_is_given}
 use Rattle.flow_block.proofs.CopiesTaken.{taken_keeps}
@@ -252,6 +252,11 @@ head_there : (when : When) (head : Option Value) → admits_head when head ≡ t
 head_there when None e = absurd (cc)
 head_there when (Some value) e = refl
 
+-- how far its round is, no end of a link knows
+of_any_round : (call : NodeCall) (node new : NodeState) (round : RoundState) → OthersStay call node new
+    → OthersStay call node (record new { round = round })
+of_any_round call node new round others = record { ins = others.ins; outs = others.outs; copies = others.copies }
+
 pub calls_move_views : (W : Type 0) → CallsMoveViews W
 calls_move_views W layout meaning b node (NodeCall.want p k) law may =
     let i = message_at p k node in
@@ -289,7 +294,7 @@ calls_move_views W layout meaning b node (NodeCall.refuse p k) law may =
         view = ap (view_of_in node.journal) one.here
             ∙ ap (λ (o : Option Refusal). view_of_in node.journal (record old { stage = refused_by o })) reason.1;
       };
-      others = others_in (NodeCall.refuse p k) node p k _ end (λ q j apart. apart) one;
+      others = of_any_round (NodeCall.refuse p k) node _ _ (others_in (NodeCall.refuse p k) node p k _ end (λ q j apart. apart) one);
     }
 calls_move_views W layout meaning b node (NodeCall.consume p k) law may =
     let i = message_at p k node in
@@ -298,6 +303,31 @@ calls_move_views W layout meaning b node (NodeCall.consume p k) law may =
     record {
       moved = ap (view_of_in node.journal) one.here;
       others = others_in (NodeCall.consume p k) node p k _ end (λ q j apart. apart) one;
+    }
+calls_move_views W layout meaning b node (NodeCall.ask p k) law may =
+    let i = message_at p k node in
+    let end : EndState = record (end_in k (port_at p node.block).ends) { stage = target.Asking i } in
+    let one = one_in node p k (asks k (port_at p node.block)) end may.port may.place refl in
+    record {
+      moved = ap (view_of_in node.journal) one.here;
+      others = others_in (NodeCall.ask p k) node p k _ end (λ q j apart. apart) one;
+    }
+calls_move_views W layout meaning b node (NodeCall.claim p k) law may =
+    let i = message_at p k node in
+    let end : EndState = record (end_in k (port_at p node.block).ends) { stage = target.Claiming i } in
+    let one = one_in node p k (claims k (port_at p node.block)) end may.port may.place refl in
+    record {
+      moved = ap (view_of_in node.journal) one.here;
+      others = of_any_round (NodeCall.claim p k) node _ (claims_on node.round)
+          (others_in (NodeCall.claim p k) node p k _ end (λ q j apart. apart) one);
+    }
+calls_move_views W layout meaning b node (NodeCall.release p k) law may =
+    let i = message_at p k node in
+    let end : EndState = record (end_in k (port_at p node.block).ends) { stage = target.Postponed i } in
+    let one = one_in node p k (releases k (port_at p node.block)) end may.port may.place refl in
+    record {
+      moved = ap (view_of_in node.journal) one.here;
+      others = of_any_round (NodeCall.release p k) node _ _ (others_in (NodeCall.release p k) node p k _ end (λ q j apart. apart) one);
     }
 calls_move_views W layout meaning b node (NodeCall.open_with p k value) law may =
     let i = message_at p k node in
@@ -312,7 +342,7 @@ calls_move_views W layout meaning b node (NodeCall.close p k) law may =
     let value = in_hand.0 in
     let held = holds_in p k (Some value) node in
     let moves = closed layout meaning b node law p k value may.port may.place in_hand.1 in
-    subst (λ (hand : Option Value). ViewsMove (NodeCall.close p k) node (takes_in p k hand node)) (sym in_hand.1)
+    let taken = subst (λ (hand : Option Value). ViewsMove (NodeCall.close p k) node (takes_in p k hand node)) (sym in_hand.1)
     (taken_keeps (λ new. ViewsMove (NodeCall.close p k) node (with_block new held)) held.block moves
     (λ at_once.
     let once = at_once.once in
@@ -321,7 +351,11 @@ calls_move_views W layout meaning b node (NodeCall.close p k) law may =
     let same = length-set node.block.ports p (closes k value (port_at p node.block)) in
     let new = copies_next (first_of (held_by held.block)) held.block in
     views_after p k node held (with_block new held) (omega (arith, may.port, same)) same refl
-    (none_moves held new (copied_stays (first_of (held_by held.block)) held.block waits)) moves))
+    (none_moves held new (copied_stays (first_of (held_by held.block)) held.block waits)) moves)) in
+    record {
+      moved = record { value = taken.moved.value; in_hand = taken.moved.in_hand; view = taken.moved.view };
+      others = of_any_round (NodeCall.close p k) node _ _ taken.others;
+    }
 calls_move_views W layout meaning b node (NodeCall.offer k) law may =
     let o = node.block.exits in
     let there = ((offers_in_order.named o k).0 may.next).there in
@@ -377,7 +411,7 @@ calls_move_views W layout meaning b node (NodeCall.look_in p k phase) law may =
       moved = ap (view_of_in node.journal) one.here
           ∙ ap (λ (stage : TargetStage Value). target_at stage (view_of_in node.journal old))
           (target_looks_kept old.stage old.hand phase);
-      others = others_in (NodeCall.look_in p k phase) node p k _ end (λ q j apart. apart) one;
+      others = of_any_round (NodeCall.look_in p k phase) node _ _ (others_in (NodeCall.look_in p k phase) node p k _ end (λ q j apart. apart) one);
     }
 calls_move_views W layout meaning b node (NodeCall.look_out k phase) law may =
     let old = end_at node.block.exits k in

@@ -6,19 +6,16 @@ use Rattle.flow_link.specs.declared.phase.Move.TheVariants as move
 use Rattle.flow_link.specs.Layout.{Layout}
 use Rattle.flow_link.specs.Plan.{is_one_taker}
 use Rattle.flow_link.specs.WellFormed.{IsWellFormed}
-use Rattle.flow_intake.specs.Calls.{in_move}
 use Rattle.flow_outlet.specs.Outlet.{out_move}
 use Rattle.flow_block.specs.Block.{port_at}
+pub use Rattle.flow_block.specs.Node.{next_in}
 use Rattle.flow_block.specs.Node.{NodeState, NodeCall}
 use Rattle.flow_block_law.specs.NodeKeeps.{MayCall}
 use Rattle.flow_block_law.specs.NodeLaw.{NodeLaw}
 use Rattle.flow_block_law.specs.NextCopies.{next_copy, MayMoveCopy}
 use Rattle.flow_block.specs.Peeks.{is_held_up}
 
--- what the end of a link into the node, and of a link out of it, would do next
-abbrev pub next_in : ℕ → ℕ → NodeState → Option Move
-next_in p k node = in_move k (port_at p node.block)
-
+-- what the end of a link out of the node would do next
 abbrev pub next_out : ℕ → NodeState → Option Move
 next_out k node = out_move k node.block.stopped (is_held_up node.block) node.block.exits
 
@@ -37,6 +34,9 @@ module _ {W : Type 0} (layout : Layout W) (meaning : ℕ → Value → Result (L
   MayMoveIn p k move.Postpone = May (NodeCall.postpone p k)
   MayMoveIn p k move.Refuse = May (NodeCall.refuse p k)
   MayMoveIn p k move.Consume = May (NodeCall.consume p k)
+  MayMoveIn p k move.Ask = May (NodeCall.ask p k)
+  MayMoveIn p k move.Claim = May (NodeCall.claim p k)
+  MayMoveIn p k move.Release = May (NodeCall.release p k)
   MayMoveIn p k move.Open = (value : Value) → May (NodeCall.open_with p k value)
   MayMoveIn p k move.Close = May (NodeCall.close p k)
   MayMoveIn p k _ = ⊥

@@ -3,6 +3,8 @@ use Rattle.std.specs.Prelude.{◌≡◌, ℕ, ◌+◌, ◌^◌, ◌<◌, Bool, t
 use Rattle.std.specs.Bool.{OnTrue}
 use Rattle.flow_value.specs.declared.value.Value.{Value}
 use Rattle.flow_link.specs.declared.phase.LinkEnd.{LinkEnd}
+use Rattle.flow_link.specs.declared.phase.Move.{Move}
+use Rattle.flow_link.specs.declared.phase.Move.TheVariants as move
 use Rattle.flow_link.specs.declared.phase.Phase.{Phase}
 use Rattle.flow_link.specs.declared.stage.SourceStage.{SourceStage}
 use Rattle.flow_link.specs.declared.stage.TargetStage.{TargetStage}
@@ -24,8 +26,8 @@ use Rattle.flow_spread.specs.Spread.{may_offer as may_offer_copy, may_give as ma
 use Rattle.flow_spread.specs.Spread as spread
 use Rattle.flow_block.specs.Block.{port_at, is_join, is_batched_join, held_by}
 use Rattle.flow_block.specs.Copies.{CopyCall, copy_place}
-use Rattle.flow_block.specs.Node.{NodeState, NodeCall, in_link_at, after, puts_next}
-use Rattle.flow_block_law.specs.NodeLaw.{NodeLaw, ShapeLaw, PortsLaw, ExitsLaw, CopiesLaw, GaveLaw, MakesLaw, KeepsRows, KeepsTuples, JobsLaw, LoadLaw, MarksLaw, EndsLaw}
+use Rattle.flow_block.specs.Node.{NodeState, NodeCall, next_in, in_link_at, after, puts_next}
+use Rattle.flow_block_law.specs.NodeLaw.{NodeLaw, RoundKept, ShapeLaw, PortsLaw, ExitsLaw, CopiesLaw, GaveLaw, MakesLaw, KeepsRows, KeepsTuples, JobsLaw, LoadLaw, MarksLaw, EndsLaw}
 use Rattle.flow_block.specs.Peeks.{is_pending, may_work, may_begin, may_complete, next_fault, may_finish}
 use Rattle.flow_block.specs.Planned.{block_makes}
 use Rattle.flow_block_law.specs.GroupsLaw.{OrderedGroups, LoadByPort}
@@ -40,6 +42,14 @@ pub record InAt (test : TargetStage → Bool) (p k : ℕ) (node : NodeState) : T
 pub record IsOpen (p : ℕ) (node : NodeState) : Type 0 where
   pub room : has_room (port_at p node.block) ≡ true
   pub open_port : has_ended (port_at p node.block).refusing ≡ false
+  -- at once: what reserves asks first
+  pub freely : (port_at p node.block).reserves ≡ false
+
+-- a join that reserves would do so next at an end of a link into it
+pub record MayWish (wish : Move) (p k : ℕ) (node : NodeState) : Type 0 where
+  pub port : p < length node.block.ports
+  pub place : k < length (port_at p node.block).ends
+  pub next : next_in p k node ≡ Some wish
 
 abbrev pub any_stage : TargetStage → Bool
 any_stage _ = true
@@ -119,6 +129,9 @@ module _ {W : Type 0} (layout : Layout W) (meaning : ℕ → Value → Result (L
   MayCall (NodeCall.postpone p k) node = MayPostpone p k node
   MayCall (NodeCall.refuse p k) node = InAt may_be_refused p k node × (is_some (port_at p node.block).refusing ≡ true)
   MayCall (NodeCall.consume p k) node = InAt is_postponed p k node × IsOpen p node
+  MayCall (NodeCall.ask p k) node = MayWish move.Ask p k node
+  MayCall (NodeCall.claim p k) node = MayWish move.Claim p k node
+  MayCall (NodeCall.release p k) node = MayWish move.Release p k node
   MayCall (NodeCall.open_with p k value) node = InAt is_arrived p k node
   MayCall (NodeCall.close p k) node = InAt is_hand p k node
   MayCall (NodeCall.offer k) node = MayOffer k node
@@ -188,6 +201,9 @@ module _ (W : Type 0) where
 
   abbrev pub GroupLoadKept : Type 0
   GroupLoadKept = AtEachBlock (λ layout meaning b node. is_batched_join node.block.kind ≡ true → LoadByPort node.block)
+
+  abbrev pub RoundStays : Type 0
+  RoundStays = AtEachBlock (λ layout meaning b node. RoundKept layout meaning b node)
 
   abbrev pub MarksKept : Type 0
   MarksKept = AtEachBlock (λ layout meaning b node. MarksLaw layout meaning b node.journal)

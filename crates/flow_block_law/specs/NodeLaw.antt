@@ -30,10 +30,12 @@ use Rattle.flow_intake.specs.PortLaw.{PortLaw, has_ended as has_port_ended}
 use Rattle.flow_intake.specs.Ended.{has_seen_completion, fault_seen}
 use Rattle.flow_outlet.specs.Law.{OutletLaw, is_refused}
 use Rattle.flow_outlet.specs.Fits.{weight_of}
-use Rattle.flow_outlet.specs.Outlet.{OutletState, end_at, stage_at, is_at_rest, is_empty}
+use Rattle.flow_outlet.specs.Outlet.{OutletState, end_at, is_at_rest, is_empty}
 use Rattle.flow_outlet.specs.declared.ends.OutEnd.{OutEnd}
 use Rattle.flow_outlet.specs.declared.group.Group.{Group}
 use Rattle.flow_spread.specs.Spread.{fresh_spread}
+use Rattle.flow_group.specs.Round.{RoundState}
+use Rattle.flow_group.specs.RoundLaw.{RoundLaw, InTurn}
 use Rattle.flow_group.specs.Tuple.{held_at, has_tuple}
 use Rattle.flow_group.specs.Tuples.{TuplesLaw}
 use Rattle.flow_block.specs.Block.{BlockState, port_at, held_by, is_batch, is_join, is_batched_join}
@@ -42,7 +44,7 @@ use Rattle.flow_block.specs.Copies.{copies_weight, shared_rules}
 use Rattle.flow_block.specs.Jobs.{out_count, AreOf, is_front_back}
 use Rattle.flow_block.specs.Node.{NodeState}
 use Rattle.flow_block.specs.Peeks.{is_pending, holds_nothing}
-use Rattle.flow_block.specs.Planned.{lanes_of, size_of, links_to, links_from, rule_of, block_makes, room_of}
+use Rattle.flow_block.specs.Planned.{lanes_of, size_of, links_to, links_from, sources_of, rule_of, block_makes, room_of}
 use Rattle.flow_block.specs.Groups.{has_group_at}
 use Rattle.flow_block_law.specs.GroupsLaw.{are_complete, OrderedGroups, LoadByPort}
 
@@ -188,6 +190,11 @@ have_completed kind count journal =
 abbrev pub is_fault_seen : ℕ → EndState → Bool
 is_fault_seen number end = is_number number (fault_seen end.stage)
 
+-- the round of a join that reserves is in order, where its ports took what the marks tell
+pub record InRound (round : RoundState) (ports : List PortState) (journal : List Mark) : Type 0 where
+  pub law : RoundLaw round.step ports (λ p. length (took_at p journal))
+  pub turns : InTurn round.sources round.step ports
+
 -- a port refused for this, and still would
 abbrev pub RefusesFor : Option Refusal → Option ℕ → Refusal → Type 0
 RefusesFor refusing fault PortEnded = refusing ≡ Some PortEnded
@@ -203,7 +210,7 @@ module _ {W : Type 0} (layout : Layout W) (meaning : ℕ → Value → Result (L
   pub record PortAsPlanned (p : ℕ) (port : PortState) : Type 0 where
     pub links : map (λ (end : EndState). end.link) port.ends ≡ links_to layout b p
     pub capacity : port.capacity ≡ room_of (block_in layout.blocks b)
-    pub never_reserves : port.reserves ≡ false
+    pub reserves_is : port.reserves ≡ is_reserving (block_in layout.blocks b)
 
   -- the block is of the kind that the plan has there, with the ports and links that the plan gives it
   pub record ShapeLaw (block : BlockState) : Type 0 where
@@ -214,7 +221,6 @@ module _ {W : Type 0} (layout : Layout W) (meaning : ℕ → Value → Result (L
     pub no_capacity : is_write_once block.kind ≡ true → (block_in layout.blocks b).capacity ≡ None
     pub port_count_is : length block.ports ≡ port_count (block_in layout.blocks b)
     pub some_port : 0 < length block.ports
-    pub takes_freely : is_reserving (block_in layout.blocks b) ≡ false
     pub ports : (p : ℕ) → p < length block.ports → PortAsPlanned p (port_at p block)
     -- the links over which it shares its messages out; where it copies them, there is none
     pub rules : map (λ (end : OutEnd). end.rule) block.exits.ends ≡ shared_rules block.kind (map (rule_of layout) (links_from layout b))
@@ -300,6 +306,11 @@ module _ {W : Type 0} (layout : Layout W) (meaning : ℕ → Value → Result (L
     pub faulted_by : (number : ℕ) → block.stopped ≡ Some (Faulted number)
         → (block.fault ≡ Some number) ⊎ ((block.fault ≡ None) × (has_made_all block journal ≡ true))
 
+  -- a join that reserves has its links' sources, and keeps its round in order
+  pub record RoundKept (node : NodeState) : Type 0 where
+    pub sources_are : node.round.sources ≡ sources_of layout b
+    pub in_round : is_reserving (block_in layout.blocks b) ≡ true → InRound node.round node.block.ports node.journal
+
   pub record NodeLaw (node : NodeState) : Type 0 where
     pub shape : ShapeLaw node.block
     pub ports : PortsLaw node.block node.journal
@@ -316,5 +327,6 @@ module _ {W : Type 0} (layout : Layout W) (meaning : ℕ → Value → Result (L
     -- a batched join cuts what it took into groups, and counts at each port what they have from there
     pub groups : is_batched_join node.block.kind ≡ true → OrderedGroups node
     pub group_load : is_batched_join node.block.kind ≡ true → LoadByPort node.block
+    pub round : RoundKept node
     pub marks : MarksLaw node.journal
     pub ends : EndsLaw node.block node.journal

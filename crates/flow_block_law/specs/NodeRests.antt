@@ -6,8 +6,9 @@ use Rattle.flow_link.specs.declared.stage.SourceStage.TheVariants as source
 use Rattle.flow_link.specs.declared.stage.TargetStage.{TargetStage}
 use Rattle.flow_link.specs.declared.stage.TargetStage.TheVariants as target
 use Rattle.flow_lawful.specs.Composes.{Ends}
-use Rattle.flow_lawful.specs.RestsByParts.{NodeIsStill, NodeRests}
-use Rattle.flow_link.specs.Trace.{Run, link_of}
+use Rattle.flow_lawful.specs.RestsByParts.{NodeIsStill, NodeRests, is_holding}
+use Rattle.flow_link.specs.Plan.{is_reserving as joins_by_rounds}
+use Rattle.flow_link.specs.Trace.{Run, block_of, link_of}
 use Rattle.flow_intake.specs.Port.{stage_at as port_stage}
 use Rattle.flow_outlet.specs.Outlet.{stage_at}
 use Rattle.flow_spread.specs.Spread.{stage_at as copy_stage}
@@ -57,17 +58,11 @@ abbrev pub is_asked : SourceStage → Bool
 is_asked (source.AskedBy _) = true
 is_asked _ = false
 
--- a message is kept for the target, or it asks for that, or claims it
-abbrev pub is_reserving : TargetStage → Bool
-is_reserving (target.Asking _) = true
-is_reserving (target.Holding _) = true
-is_reserving (target.Claiming _) = true
-is_reserving _ = false
-
--- no end into the node reserves
-pub record NoneReserve (node : NodeState) : Type 0 where
-  pub ins : (p k : ℕ) → p < length node.block.ports → k < length (port_at p node.block).ends
-      → is_reserving (port_stage k (port_at p node.block)) ≡ false
+-- only for a join that reserves is a message kept
+abbrev pub HoldsByPlan : {W : Type 0} → Run W → (ℕ → Ends) → ℕ → Type 0
+HoldsByPlan run ends b =
+    (l p : ℕ) → l < length run.layout.links → (link_of run l).target ≡ Port b p → is_holding (ends l).target.stage ≡ true
+    → joins_by_rounds (block_of run b) ≡ true
 
 module _ (W : Type 0) where
   -- what is known of a node of a run
@@ -79,7 +74,7 @@ module _ (W : Type 0) where
       → HasNothingToDo node → P run ends b node
 
   abbrev pub NodesAreStill : Type 0
-  NodesAreStill = OfEachNode (λ run ends b node. NoneReserve node → NodeIsStill run ends b)
+  NodesAreStill = OfEachNode (λ run ends b node. HoldsByPlan run ends b → NodeIsStill run ends b)
 
   abbrev pub NodesRest : Type 0
   NodesRest = OfEachNode (λ run ends b node. EndsRest node → EachMayCarry run b → NodeRests run ends b)

@@ -4,7 +4,7 @@ use Rattle.std.specs.Prelude.{◌≡◌, ℕ, ◌<◌, List, length, Some, Resul
 use Rattle.flow_value.specs.declared.value.Value.{Value}
 use Rattle.flow_link.specs.Layout.{Layout}
 use Rattle.flow_link.specs.Looks.{looking_in, looking_out}
-use Rattle.flow_link.specs.Moves.{offering, ending, giving, denying, holding, withdrawing, wanting, turning_down, refusing, postponing, consuming, opening, closing}
+use Rattle.flow_link.specs.Moves.{offering, ending, giving, denying, holding, withdrawing, wanting, turning_down, refusing, postponing, consuming, asking, claiming, releasing, opening, closing}
 use Rattle.flow_link.specs.Stage.{refusal_of}
 use Rattle.flow_intake.specs.Calls.{message_of}
 use Rattle.flow_intake.specs.Port.{stage_at as port_stage}
@@ -61,6 +61,9 @@ module _ (node new : NodeState) where
   MovesView (NodeCall.postpone p k) = in_view p k new ≡ postponing (message_at p k node) (in_view p k node)
   MovesView (NodeCall.refuse p k) = RefusesAt p k
   MovesView (NodeCall.consume p k) = in_view p k new ≡ consuming (message_at p k node) (in_view p k node)
+  MovesView (NodeCall.ask p k) = in_view p k new ≡ asking (message_at p k node) (in_view p k node)
+  MovesView (NodeCall.claim p k) = in_view p k new ≡ claiming (message_at p k node) (in_view p k node)
+  MovesView (NodeCall.release p k) = in_view p k new ≡ releasing (message_at p k node) (in_view p k node)
   MovesView (NodeCall.open_with p k value) = in_view p k new ≡ opening (message_at p k node) value (in_view p k node)
   MovesView (NodeCall.close p k) = ClosesAt p k
   MovesView (NodeCall.offer k) = out_view k new ≡ offering node.block.exits.next (out_view k node)
@@ -85,6 +88,9 @@ IsAboutIn p k (NodeCall.turn_down q j) = (p ≡ q) × (k ≡ j)
 IsAboutIn p k (NodeCall.postpone q j) = (p ≡ q) × (k ≡ j)
 IsAboutIn p k (NodeCall.refuse q j) = (p ≡ q) × (k ≡ j)
 IsAboutIn p k (NodeCall.consume q j) = (p ≡ q) × (k ≡ j)
+IsAboutIn p k (NodeCall.ask q j) = (p ≡ q) × (k ≡ j)
+IsAboutIn p k (NodeCall.claim q j) = (p ≡ q) × (k ≡ j)
+IsAboutIn p k (NodeCall.release q j) = (p ≡ q) × (k ≡ j)
 IsAboutIn p k (NodeCall.open_with q j value) = (p ≡ q) × (k ≡ j)
 IsAboutIn p k (NodeCall.close q j) = (p ≡ q) × (k ≡ j)
 IsAboutIn p k (NodeCall.look_in q j phase) = (p ≡ q) × (k ≡ j)

@@ -121,6 +121,12 @@ module _ {W : Type 0} (layout : Layout W) (meaning : ℕ → Value → Result (L
         in_by p k (NodeCall.refuse p k) may (λ q j about. about) (λ j about. about) (λ j about. about)
     in_steps p k slot move.Consume may =
         in_by p k (NodeCall.consume p k) may (λ q j about. about) (λ j about. about) (λ j about. about)
+    in_steps p k slot move.Ask may =
+        in_by p k (NodeCall.ask p k) may (λ q j about. about) (λ j about. about) (λ j about. about)
+    in_steps p k slot move.Claim may =
+        in_by p k (NodeCall.claim p k) may (λ q j about. about) (λ j about. about) (λ j about. about)
+    in_steps p k slot move.Release may =
+        in_by p k (NodeCall.release p k) may (λ q j about. about) (λ j about. about) (λ j about. about)
     in_steps p k (Some value) move.Open may =
         in_by p k (NodeCall.open_with p k value) (may value) (λ q j about. about) (λ j about. about) (λ j about. about)
     in_steps p k None move.Open may =

@@ -207,7 +207,7 @@ fresh_keeps blocks inputs layout meaning runs posted count = record {
       subst (NodeLaw layout meaning b)
       (sym (mapped_at (fresh_node layout) (length layout.blocks) b no_node here))
       (blocks layout meaning b
-      (some_port (block_in layout.blocks b) (runs.well_formed.options b here)) (runs.freely b here)
+      (some_port (block_in layout.blocks b) (runs.well_formed.options b here))
       (some_lane (block_in layout.blocks b) (runs.well_formed.options b here))
       (λ batch. some_size (block_in layout.blocks b) (runs.well_formed.options b here)
       (or_left (is_batch (block_in layout.blocks b).kind) (is_batched_join (block_in layout.blocks b).kind) batch))

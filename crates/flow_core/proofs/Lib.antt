@@ -5,9 +5,9 @@ pub mod EventsKeep
 pub mod FaultsNumbered
 pub mod FreshNets
 pub mod InputsMove
+pub mod InputsTakeFreely
 pub mod KeptIsLawful
 pub mod LinesKeep
-pub mod LinksTakeFreely
 pub mod NetworksInOrder
 pub mod NextIsAllowed
 pub mod PartsChange

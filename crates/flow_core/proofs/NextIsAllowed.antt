@@ -1,5 +1,5 @@
 -- What an end of a link would do next is a move that the link's phase allows.
-use Rattle.std.proofs.Common.{◌≡◌, ℕ, ◌==◌, ◌||◌, ◌&&◌, not, cond, Bool, true, false, Option, Some, None, is_some, refl, ap, sym, ◌∙◌}
+use Rattle.std.proofs.Common.{◌≡◌, ℕ, ◌==◌, ◌||◌, ◌&&◌, not, cond, Bool, true, false, List, Option, Some, None, is_some, refl, ap, sym, ◌∙◌, subst, eqb-true}
 use Rattle.std.proofs.lemmas.Bool.{not-true, and_parts}
 use Rattle.flow_value.specs.declared.value.Value.{Value}
 use Rattle.flow_value.specs.declared.message.MessageStatus.{MessageStatus}
@@ -28,14 +28,17 @@ use Rattle.flow_link.specs.Stage.{source_stage_of, target_stage_of}
 use Rattle.flow_link.specs.Views.{SourceStage, SourceView, TargetStage}
 use Rattle.flow_link.proofs.LooksKeepOrder.{looks_keep}
 use Rattle.flow_intake.specs.Port.{PortState, stage_at as port_stage, hand_in, has_room}
-use Rattle.flow_intake.specs.Calls.{move_of, move_at as in_move_at, is_at as is_queued_at, next_place, answer_where}
+use Rattle.flow_intake.specs.Calls.{first_of, in_move, move_of, move_at as in_move_at, is_at as is_queued_at, next_place, answer_where}
 use Rattle.flow_outlet.specs.Outlet.{OutletState, stage_at, end_at, end_of, has_offer_out, answers_wish, free_move, is_at, may_offer, move_at as out_move_at}
 use Rattle.flow_block.specs.Block.{port_at}
 use Rattle.flow_block.specs.Input.{InputState, move_from, end_move, end_by, has_next, next_id}
 use Rattle.flow_spread.specs.Spread.{SpreadState, link_at, stage_at as copy_stage, may_offer as may_offer_copy, free_move as free_copy_move, move_at as copy_move_at}
 use Rattle.flow_block_law.specs.NextCopies.{next_copy}
 use Rattle.flow_block_law.specs.NextMoves.{next_out}
-use Rattle.flow_block.specs.Node.{out_view, copy_view}
+use Rattle.flow_group.specs.declared.round.RoundStep.{RoundStep}
+use Rattle.flow_group.specs.declared.round.RoundStep.TheVariants as steps
+use Rattle.flow_group.specs.Round.{RoundState, reserves, all_held, asks_for, held_move, move_by, stage_from, round_move}
+use Rattle.flow_block.specs.Node.{or_else, out_view, copy_view}
 use Rattle.flow_block.specs.Peeks.{is_held_up, is_copy_held_up}
 use Rattle.flow_block.specs.Planned.{in_place, out_place}
 use Rattle.flow_core.specs.Events.{is_of_source, peek_by, source_peek, target_peek}
@@ -152,6 +155,49 @@ in_fits k port (target.Arrived i) hand = refl
 in_fits k port (target.Hand i) hand = refl
 in_fits k port _ hand = refl
 
+-- so does the end of a join that reserves, for its round
+held_fits : (i : ℕ) (step : RoundStep) (all : Bool) → target_fits (TargetStage.holding i) (held_move step all) ≡ true
+held_fits i steps.Asks true = refl
+held_fits i steps.Asks false = refl
+held_fits i steps.Releases all = refl
+held_fits i steps.Claims all = refl
+
+moved_fits : (round : RoundState) (port : PortState) (ports : List PortState) (stage : TargetKept) (hand : Option Value)
+    → target_fits (target_stage_of stage hand) (move_by round port ports stage) ≡ true
+moved_fits round port ports (target.Postponed i) hand =
+    either (target_fits (TargetStage.postponed i)) (asks_for port round ports) (Some move.Ask) None refl refl
+moved_fits round port ports (target.Holding i) hand = held_fits i round.step (all_held ports)
+moved_fits round port ports _ hand = refl
+
+not_here : (some : Bool) → (some && false) ≡ false
+not_here true = refl
+not_here false = refl
+
+front_fits : (k : ℕ) (round : RoundState) (ports : List PortState) (port : PortState) (place : Option ℕ)
+    → target_fits (target_stage_of (port_stage k port) (hand_in k port.ends))
+    (cond (reserves round && is_queued_at k place) (move_by round port ports (stage_from place port)) None) ≡ true
+front_fits k round ports port None =
+    either (target_fits (target_stage_of (port_stage k port) (hand_in k port.ends))) (reserves round && false)
+    (move_by round port ports (stage_from None port)) None refl refl
+front_fits k round ports port (Some front) = by (front == k) refl
+  where
+    by : (b : Bool) → front == k ≡ b
+        → target_fits (target_stage_of (port_stage k port) (hand_in k port.ends))
+        (cond (reserves round && front == k) (move_by round port ports (stage_from (Some front) port)) None) ≡ true
+    by true same =
+        let is : front ≡ k = eqb-true front k same in
+        subst (λ (n : ℕ).
+        target_fits (target_stage_of (port_stage k port) (hand_in k port.ends))
+        (cond (reserves round && front == k) (move_by round port ports (port_stage n port)) None) ≡ true) (sym is)
+        (either (target_fits (target_stage_of (port_stage k port) (hand_in k port.ends))) (reserves round && front == k)
+        (move_by round port ports (port_stage k port)) None (moved_fits round port ports (port_stage k port) (hand_in k port.ends)) refl)
+    by false other = rw (other, not_here (reserves round)) refl
+
+else_fits : (t : TargetStage Value) (own other : Option Move) → target_fits t own ≡ true → target_fits t other ≡ true
+    → target_fits t (or_else own other) ≡ true
+else_fits t (Some next) other fits also = fits
+else_fits t None other fits also = also
+
 -- the phase that both ends have seen allows it too: a source has no move while its message crosses
 source_may : (next : Move) (phase : Phase) (s : SourceStage) (t : TargetStage Value) → SeenAt phase s t
     → source_fits s (Some next) ≡ (is_allowed phase next && is_of_source next)
@@ -189,9 +235,13 @@ module _ {W : Type 0} (layout : Layout W) (net : NetState) (l : ℕ) where
   target_peek_fits : (into : LinkTarget)
       → target_fits (target_from layout net l into).stage (target_peek layout net l into) ≡ true
   target_peek_fits (Port t p) =
-      let port = port_at p (node_at net t).block in
-      in_fits (in_place layout t p l) port (port_stage (in_place layout t p l) port)
-      (hand_in (in_place layout t p l) port.ends)
+      let node = node_at net t in
+      let port = port_at p node.block in
+      let k = in_place layout t p l in
+      let stage = target_stage_of (port_stage k port) (hand_in k port.ends) in
+      else_fits stage (in_move k port) (round_move p k node.round node.block.ports)
+      (in_fits k port (port_stage k port) (hand_in k port.ends))
+      (front_fits k node.round node.block.ports port (first_of port.queue))
   target_peek_fits Exit = refl
 
   abbrev source_stage : SourceStage

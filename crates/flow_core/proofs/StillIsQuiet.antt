@@ -1,6 +1,6 @@
 -- Where nothing may happen any more in a network in order, its run is quiet.
-use Rattle.std.proofs.Common.{◌≡◌, ℕ, ◌<◌, Bool, true, false, ◌||◌, List, length, Option, Some, None, is_some, Result, refl, ap, sym, ◌∙◌}
-use Rattle.std.proofs.lemmas.Bool.{OnTrue_at, false_from_ne_true, or_parts}
+use Rattle.std.proofs.Common.{◌≡◌, ℕ, ◌<◌, Bool, true, false, List, length, Option, Some, None, is_some, Result, refl, ap, sym, ◌∙◌}
+use Rattle.std.proofs.lemmas.Bool.{OnTrue_at, false_from_ne_true, or_left, or_right}
 use Rattle.flow_value.specs.declared.value.Value.{Value}
 use Rattle.flow_link.specs.declared.phase.Move.{Move}
 use Rattle.flow_link.specs.declared.plan.Link.{Link}
@@ -12,13 +12,13 @@ use Rattle.flow_link.specs.declared.stage.SourceStage.TheVariants as source
 use Rattle.flow_link.specs.declared.stage.TargetStage.{TargetStage as TargetKept}
 use Rattle.flow_link.specs.declared.stage.TargetStage.TheVariants as target
 use Rattle.flow_lawful.specs.Composes.{Ends, PartsKeep}
-use Rattle.flow_link.specs.Facts.{facts_in}
+use Rattle.flow_link.specs.Facts.{facts_in, reserves_in}
 use Rattle.flow_link.specs.Layout.{Layout}
 use Rattle.flow_link.specs.LinkOk.{source_reserves, target_reserves}
 use Rattle.flow_link.specs.LooksKeep.{SeenAt}
 use Rattle.flow_link.specs.Plan.{link_in}
 use Rattle.flow_lawful.specs.Quiet.{Quiet}
-use Rattle.flow_lawful.specs.RestsByParts.{EndsAreStill, PartsRest, is_at_rest}
+use Rattle.flow_lawful.specs.RestsByParts.{EndsAreStill, PartsRest, is_at_rest, is_holding}
 use Rattle.flow_link.specs.Stage.{source_stage_of, target_stage_of}
 use Rattle.flow_link.specs.Trace.{Run}
 use Rattle.flow_link.specs.Views.{SourceStage, SourceView, TargetStage}
@@ -34,7 +34,7 @@ use Rattle.flow_block_law.specs.InputKeeps.{InputsAreParts}
 use Rattle.flow_block_law.specs.NextCopies.{next_copy}
 use Rattle.flow_block_law.specs.NextMoves.{next_in, next_out, next_source}
 use Rattle.flow_block.specs.Node.{NodeState, in_view, source_view}
-use Rattle.flow_block_law.specs.NodeRests.{NodesAreStill, NodesRest, HasNothingToDo, EndsRest, NoneReserve, rests_in, rests_out, is_asked, is_reserving}
+use Rattle.flow_block_law.specs.NodeRests.{NodesAreStill, NodesRest, HasNothingToDo, EndsRest, HoldsByPlan, rests_in, rests_out, is_asked}
 use Rattle.flow_block_law.specs.NodeSeen.{NodesAreLawful}
 use Rattle.flow_block.specs.Peeks.{may_make, may_begin, may_end, may_complete, next_fault, may_finish}
 use Rattle.flow_spread.specs.Spread.{link_at, stage_at as copy_stage}
@@ -47,7 +47,7 @@ use Rattle.flow_core.specs.Keeps.{IsRun, NetKeeps}
 use Rattle.flow_core.specs.State.{NetState, node_at, input_at, ends_of, source_from, target_from, run_of_net}
 use Rattle.flow_core.specs.Statements.{IsStill, StillIsQuiet}
 use Rattle.flow_core.proofs.KeptIsLawful.{input_law, is_input, is_node, parts_keep, port_of_link, may_carry}
-use Rattle.flow_core.proofs.LinksTakeFreely.{takes_freely}
+use Rattle.flow_core.proofs.InputsTakeFreely.{input_takes_freely}
 use Rattle.flow_core.proofs.NextIsAllowed.{of_source, of_target, next_is_allowed}
 use Rattle.flow_core.proofs.StagesShow.{source_shows, source_shown, target_shows, target_shown}
 
@@ -62,12 +62,9 @@ not_asked : (stage : SourceKept) → source_reserves (source_stage_of stage) ≡
 not_asked (source.AskedBy i) e = absurd (cc)
 not_asked _ e = refl
 
-not_reserving : (stage : TargetKept) (hand : Option Value) → target_reserves (target_stage_of stage hand) ≡ false
-    → is_reserving stage ≡ false
-not_reserving (target.Asking i) hand e = absurd (cc)
-not_reserving (target.Holding i) hand e = absurd (cc)
-not_reserving (target.Claiming i) hand e = absurd (cc)
-not_reserving _ hand e = refl
+held_reserves : (stage : TargetStage Value) → is_holding stage ≡ true → target_reserves stage ≡ true
+held_reserves (TargetStage.holding i) e = refl
+held_reserves _ e = absurd (cc)
 
 -- The ends of a link that is at rest are at rest
 
@@ -101,24 +98,14 @@ module _ {W : Type 0} (layout : Layout W) (meaning : ℕ → Value → Result (L
   link = link_in layout.links
 
   module _ (runs : IsRun layout) (keeps : NetKeeps layout meaning net) where
-    -- nothing is reserved over any link
-    none_reserved : (l : ℕ) → l < length layout.links
-        → source_reserves (ends l).source.stage || target_reserves (ends l).target.stage ≡ false
-    none_reserved l there =
-        false_from_ne_true (source_reserves (ends l).source.stage || target_reserves (ends l).target.stage)
-        (λ reserves. never_both (facts_in layout l).reserving
-        (OnTrue_at reserves (keeps.lines l there).in_order.plan.reserved)
-        (takes_freely layout runs l there))
-
-    source_takes_freely : (l : ℕ) → l < length layout.links → source_reserves (ends l).source.stage ≡ false
-    source_takes_freely l there =
-        (or_parts (source_reserves (ends l).source.stage) (target_reserves (ends l).target.stage)
-        (none_reserved l there)).0
-
-    target_takes_freely : (l : ℕ) → l < length layout.links → target_reserves (ends l).target.stage ≡ false
-    target_takes_freely l there =
-        (or_parts (source_reserves (ends l).source.stage) (target_reserves (ends l).target.stage)
-        (none_reserved l there)).1
+    -- nothing that an input posts is reserved
+    none_reserved : (l b : ℕ) → l < length layout.links → (link l).source ≡ Input b → source_reserves (ends l).source.stage ≡ false
+    none_reserved l b there from =
+        false_from_ne_true (source_reserves (ends l).source.stage) (λ reserves.
+        never_both (facts_in layout l).reserving
+        (OnTrue_at (or_left (source_reserves (ends l).source.stage) (target_reserves (ends l).target.stage) reserves)
+        (keeps.lines l there).in_order.plan.reserved)
+        (input_takes_freely layout runs l b there from))
 
     -- each end of a block is that of a link, which tells where it stands and what it would do next
     record IsOutOf (b k l : ℕ) : Type 0 where
@@ -193,14 +180,12 @@ module _ {W : Type 0} (layout : Layout W) (meaning : ℕ → Value → Result (L
         (looks_keep Value).seen_tells (facts_in layout l) (ends l).phase (ends l).slot
         (ends l).source (ends l).target (keeps.lines l there).in_order (keeps.lines l there).seen
 
-    none_reserve : (b : ℕ) → b < length layout.blocks → NoneReserve (node b)
-    none_reserve b low = record {
-      ins = λ p k known small.
-          let is = in_end b p k low known small in
-          let end = end_in k (port_at p (node b).block).ends in
-          not_reserving end.stage end.hand
-          (sym (ap target_reserves is.stage) ∙ target_takes_freely end.link is.there);
-    }
+    -- a message is kept only where the plan has a join that reserves
+    holds_by_plan : (b : ℕ) → HoldsByPlan run ends b
+    holds_by_plan b l p there into holds =
+        sym (ap (reserves_in layout) into)
+        ∙ OnTrue_at (or_right (source_reserves (ends l).source.stage) (target_reserves (ends l).target.stage)
+        (held_reserves (ends l).target.stage holds)) (keeps.lines l there).in_order.plan.reserved
 
     -- where the links rest, so do the ends of blocks and inputs
     module _ (rest : (l : ℕ) → l < length layout.links → is_at_rest (ends l).phase ≡ true) where
@@ -292,7 +277,7 @@ module _ {W : Type 0} (layout : Layout W) (meaning : ℕ → Value → Result (L
           → is_asked (input_at layout net b).stage ≡ false
       input_not_asked l b there from =
           not_asked (input_at layout net b).stage
-          (sym (ap source_reserves (input_stage l b from)) ∙ source_takes_freely l there)
+          (sym (ap source_reserves (input_stage l b from)) ∙ none_reserved l b there from)
 
       -- so all rests
       module _ (nodes_are_still : NodesAreStill W) (nodes_rest : NodesRest W) (inputs_are_parts : InputsAreParts W)
@@ -303,7 +288,7 @@ module _ {W : Type 0} (layout : Layout W) (meaning : ℕ → Value → Result (L
           nodes = λ b low.
               nodes_are_still run ends b (node b) low (keeps.nodes b low) (is_node layout meaning runs net keeps b)
               (λ l p there into. port_of_link layout meaning runs net keeps b l p low there into)
-              (nothing_to_do b low) (none_reserve b low);
+              (nothing_to_do b low) (holds_by_plan b);
           inputs = λ l b there from.
               inputs_are_parts.still run ends l b (input_at layout net b)
               (input_law layout meaning runs net keeps l b there from)

@@ -4,14 +4,14 @@ use Rattle.flow_value.specs.declared.value.Value.{Value}
 use Rattle.flow_link.specs.declared.phase.Move.{Move}
 use Rattle.flow_link.specs.declared.phase.Move.TheVariants as move
 use Rattle.flow_link.specs.declared.phase.Phase.{Phase}
-use Rattle.flow_link.specs.declared.phase.Phase.TheVariants.{Idle, Posted, Offered, Postponed, Wanted, Opened, Refused}
+use Rattle.flow_link.specs.declared.phase.Phase.TheVariants.{Idle, Posted, Offered, Postponed, Wanted, Asked, Opened, Refused}
 use Rattle.flow_link.specs.declared.stage.TargetStage.{TargetStage as TargetKept}
 use Rattle.flow_link.specs.declared.stage.TargetStage.TheVariants as target
-use Rattle.flow_link.specs.Facts.{facts_in}
+use Rattle.flow_link.specs.Facts.{facts_in, reserves_in}
 use Rattle.flow_link.specs.Layout.{Layout}
 use Rattle.flow_link.specs.LinkOk.{LinkOk, StandAt, MayPutOff}
 use Rattle.flow_link.specs.Looks.{TargetHasSeen}
-use Rattle.flow_link.specs.Moves.{source_at, target_at, wanting, turning_down, refusing, postponing, consuming, opening, closing}
+use Rattle.flow_link.specs.Moves.{source_at, target_at, wanting, turning_down, refusing, postponing, consuming, asking, claiming, releasing, opening, closing}
 use Rattle.flow_link.specs.LooksKeep.{OwnMovesAreSeen}
 use Rattle.flow_link.specs.MovesKeep.{Keeps, TargetMovesKeep}
 use Rattle.flow_link.specs.Phase.{phase_after}
@@ -21,7 +21,7 @@ use Rattle.flow_link.specs.Views.{SourceStage, TargetStage, Refusal, SourceView,
 use Rattle.flow_link.proofs.LooksKeepOrder.{looks_keep}
 use Rattle.flow_link.proofs.TargetMoves.{target_moves_keep}
 use Rattle.flow_intake.specs.Calls.{is_offered, is_posted, is_postponed, is_arrived, may_be_refused, message_of}
-use Rattle.flow_intake.specs.Port.{EndState, end_in, is_offer, is_hand}
+use Rattle.flow_intake.specs.Port.{EndState, end_in, is_offer, is_hand, is_holding}
 use Rattle.flow_block.specs.Block.{port_at}
 use Rattle.flow_block_law.specs.NextMoves.{NextMovesMay, MayMoveIn}
 use Rattle.flow_block.specs.Node.{NodeState, NodeCall, in_view}
@@ -30,7 +30,9 @@ use Rattle.flow_block.specs.Planned.{in_place}
 use Rattle.flow_block_law.specs.ViewsMove.{CallsMoveViews}
 use Rattle.flow_core.specs.Events.{node_after, in_call, slot_after}
 use Rattle.flow_core.specs.OneMove.{TargetMoved, TargetsMoveWell}
-use Rattle.flow_core.proofs.LinksTakeFreely.{takes_freely}
+use Rattle.flow_group.specs.Round.{reserves}
+use Rattle.flow_block_law.proofs.RoundHolds.{round_is_of_join}
+use Rattle.flow_block_law.proofs.WishesTell.{asks_so, claims_so, releases_so}
 use Rattle.flow_core.proofs.PlacesOfLinks.{entry_there, link_there, port_there}
 use Rattle.flow_core.proofs.SoleLinks.{all_over_sole}
 
@@ -52,6 +54,15 @@ waits_there (Postponed j) new i (SourceStage.waiting k) stands e = ap Postponed 
 waits_there (Postponed j) new i (SourceStage.reserved k) stands e = ap Postponed (sym stands.1)
 waits_there (Postponed j) new i _ stands e = absurd stands
 waits_there _ new i _ stands e = absurd (cc)
+
+-- one that is asked for waits, too
+asked_there : (phase new : Phase) (i : ℕ) (s : SourceStage) → StandAt {V = Value} phase s (TargetStage.postponed i)
+    → phase_after phase move.Ask ≡ Some new → phase ≡ Postponed i
+asked_there (Postponed j) new i (SourceStage.out k) stands e = ap Postponed (sym stands.1)
+asked_there (Postponed j) new i (SourceStage.waiting k) stands e = ap Postponed (sym stands.1)
+asked_there (Postponed j) new i (SourceStage.reserved k) stands e = ap Postponed (sym stands.1)
+asked_there (Postponed j) new i _ stands e = absurd stands
+asked_there _ new i _ stands e = absurd (cc)
 
 -- a target that stands at postponed refuses also what it has not seen yet
 module _ (facts : LinkFacts) (slot : Option Value) (source : SourceView Value) (target : TargetView Value) where
@@ -149,6 +160,31 @@ module _ (facts : LinkFacts) (phase new : Phase) (slot : Option Value) (source :
         (own_moves.consume i view)
     consumes_offer free _ e ok allowed = absurd (cc)
 
+    asks_for_offer : facts.reserving ≡ true → (stage : TargetKept) → is_postponed stage ≡ true → Stands stage
+        → IsAllowed move.Ask → Moved (asking (message_of stage) (standing taken stage hand))
+    asks_for_offer reserves (target.Postponed i) e ok allowed =
+        let view = standing taken (target.Postponed i) hand in
+        let found = asked_there phase new i source.stage ok.stages allowed in
+        leads_on move.Ask (Asked i) slot (asking i view)
+        (keeps.ask facts phase slot source view ok i refl found reserves) allowed (own_moves.ask i view)
+    asks_for_offer reserves _ e ok allowed = absurd (cc)
+
+    claims_held : (stage : TargetKept) → is_holding stage ≡ true → Stands stage → IsAllowed move.Claim
+        → Moved (claiming (message_of stage) (standing taken stage hand))
+    claims_held (target.Holding i) e ok allowed =
+        let view = standing taken (target.Holding i) hand in
+        leads_on move.Claim (Wanted i) slot (claiming i view) (keeps.claim facts phase slot source view ok i refl) allowed
+        (own_moves.claim i view)
+    claims_held _ e ok allowed = absurd (cc)
+
+    releases_held : (stage : TargetKept) → is_holding stage ≡ true → Stands stage → IsAllowed move.Release
+        → Moved (releasing (message_of stage) (standing taken stage hand))
+    releases_held (target.Holding i) e ok allowed =
+        let view = standing taken (target.Holding i) hand in
+        leads_on move.Release (Postponed i) slot (releasing i view) (keeps.release facts phase slot source view ok i refl) allowed
+        (own_moves.release i view)
+    releases_held _ e ok allowed = absurd (cc)
+
     -- what lies in the slot is there, and is opened
     record OpensSlot (stage : TargetKept) : Type 0 where
       value : Value
@@ -191,8 +227,9 @@ module _ {W : Type 0} (layout : Layout W) (meaning : ℕ → Value → Result (L
   abbrev view_after : Option NodeCall → TargetView Value
   view_after call = in_view p k (node_after layout meaning t call node)
 
-  -- the end at this place is the link's, whose target does not reserve; at a sole link all comes over it
-  module _ (link_is : end.link ≡ l) (free : facts.reserving ≡ false)
+  -- the end at this place is the link's, whose target may be a join that reserves; at a sole link all comes over it
+  module _ (link_is : end.link ≡ l) (reserves_as : facts.reserving ≡ (port_at p node.block).reserves)
+      (by_rounds : reserves node.round ≡ true → facts.reserving ≡ true)
       (sole : facts.sole ≡ true → length (took_at p node.journal) ≤ length (took_over l node.journal)) where
     -- what was taken before a message is put off
     took_one : (facts.sole ≡ true → 1 ≤ length (took_at p node.journal)) → facts.sole ≡ true → 1 ≤ 0 + length view.taken
@@ -211,7 +248,7 @@ module _ {W : Type 0} (layout : Layout W) (meaning : ℕ → Value → Result (L
       moves move.Want may allowed =
           let known = (views layout meaning t node (NodeCall.want p k) law may).moved in
           subst (Comes slot) (sym known)
-          (wants_offer facts phase new slot source view.taken end.hand free end.stage may.0.stands ok allowed)
+          (wants_offer facts phase new slot source view.taken end.hand (reserves_as ∙ may.1.freely) end.stage may.0.stands ok allowed)
       moves move.TurnDown may allowed =
           let known = (views layout meaning t node (NodeCall.turn_down p k) law may).moved in
           subst (Comes slot) (sym known)
@@ -231,7 +268,21 @@ module _ {W : Type 0} (layout : Layout W) (meaning : ℕ → Value → Result (L
       moves move.Consume may allowed =
           let known = (views layout meaning t node (NodeCall.consume p k) law may).moved in
           subst (Comes slot) (sym known)
-          (consumes_offer facts phase new slot source view.taken end.hand free end.stage may.0.stands ok allowed)
+          (consumes_offer facts phase new slot source view.taken end.hand (reserves_as ∙ may.1.freely) end.stage may.0.stands ok
+          allowed)
+      moves move.Ask may allowed =
+          let known = (views layout meaning t node (NodeCall.ask p k) law may).moved in
+          let now = asks_so p k node may in
+          subst (Comes slot) (sym known)
+          (asks_for_offer facts phase new slot source view.taken end.hand (by_rounds now.some) end.stage now.waits ok allowed)
+      moves move.Claim may allowed =
+          let known = (views layout meaning t node (NodeCall.claim p k) law may).moved in
+          subst (Comes slot) (sym known)
+          (claims_held facts phase new slot source view.taken end.hand end.stage (claims_so p k node may).held ok allowed)
+      moves move.Release may allowed =
+          let known = (views layout meaning t node (NodeCall.release p k) law may).moved in
+          subst (Comes slot) (sym known)
+          (releases_held facts phase new slot source view.taken end.hand end.stage (releases_so p k node may).held ok allowed)
       moves move.Open may allowed =
           let arrived = (may (in_hand None)).stands in
           let opens = opens_slot facts phase new slot source view.taken end.hand end.stage arrived ok allowed in
@@ -254,6 +305,7 @@ targets_move views may layout meaning runs l t p low leads node law phase new sl
     let place = entry_there layout meaning t node law runs p l low leads in
     let own = (may layout meaning t node runs.well_formed enters.0 law).0 p k next port place peek in
     moves layout meaning t p l k node law views (link_there layout meaning t node law runs p l low leads)
-    (takes_freely layout runs l low)
+    (ap (reserves_in layout) leads ∙ sym (law.shape.ports p port).reserves_is)
+    (λ some. ap (reserves_in layout) leads ∙ round_is_of_join layout meaning t node law some)
     (λ sole. all_over_sole layout meaning t p l low leads sole node.journal law.marks.own)
     phase new slot given source ok next own allowed

@@ -1,6 +1,6 @@
 -- Which networks run, and what such a network keeps whatever happens: its blocks and inputs are in order, each link is, and both
 -- ends of each link have seen its phase.
-use Rattle.std.specs.Prelude.{◌≡◌, ℕ, ◌<◌, true, false, List, length, count_by, Result}
+use Rattle.std.specs.Prelude.{◌≡◌, ℕ, ◌<◌, true, List, length, count_by, Result}
 use Rattle.flow_value.specs.declared.value.Value.{Value}
 use Rattle.flow_link.specs.declared.plan.LinkTarget.TheVariants.{Exit}
 use Rattle.flow_link.specs.Facts.{facts_in}
@@ -8,19 +8,17 @@ use Rattle.flow_link.specs.Layout.{Layout}
 use Rattle.flow_link.specs.LeadsWell.{LeadsWell}
 use Rattle.flow_link.specs.LinkOk.{LinkOk}
 use Rattle.flow_link.specs.Looks.{Seen}
-use Rattle.flow_link.specs.Plan.{block_in, link_in, is_reserving}
+use Rattle.flow_link.specs.Plan.{block_in, link_in}
 use Rattle.flow_link.specs.WellFormed.{IsWellFormed}
 use Rattle.flow_block_law.specs.InputKeeps.{InputLaw}
 use Rattle.flow_block_law.specs.NodeLaw.{NodeLaw}
 use Rattle.flow_core.specs.State.{NetState, node_at, input_at, ends_of}
 
 module _ {W : Type 0} (layout : Layout W) where
-  -- a network of blocks of any kinds, linked in any way that a plan allows; none of them reserves, and
-  -- nothing is received from it
+  -- a network of blocks of any kinds, linked in any way that a plan allows; nothing is received from it
   pub record IsRun : Type 0 where
     pub leads : LeadsWell layout
     pub well_formed : IsWellFormed layout.blocks layout.links
-    pub freely : (b : ℕ) → b < length layout.blocks → is_reserving (block_in layout.blocks b) ≡ false
     pub inside : (l : ℕ) → l < length layout.links → (link_in layout.links l).target ≡ Exit → ⊥
 
   -- a link is in order, and a look of either end would find nothing new

@@ -13,6 +13,7 @@ use Rattle.flow_link.specs.Layout.{Layout}
 use Rattle.flow_link.specs.Plan.{link_in}
 use Rattle.flow_link.specs.Trace.{InputTrace, Trace, Run}
 use Rattle.flow_link.specs.Views.{SourceView, TargetView, TargetStage}
+use Rattle.flow_group.specs.Round.{no_round}
 use Rattle.flow_block.specs.BlockFits.{fresh_block}
 use Rattle.flow_block.specs.Input.{InputState, fresh_input, no_input, input_view, input_trace}
 use Rattle.flow_block.specs.Node.{NodeState, in_view, source_view, node_trace}
@@ -34,6 +35,7 @@ no_node = record {
   block = fresh_block Buffer 1 0 [] [];
   journal = [];
   grouped = 0;
+  round = no_round;
 }
 
 abbrev pub node_at : NetState → ℕ → NodeState

@@ -10,6 +10,7 @@ pub mod RoundKeeps
 pub mod RoundMoves
 pub mod RoundOpens
 pub mod RoundStays
+pub mod RoundTells
 pub mod RoundTurn
 pub mod TuplesKeep
 pub mod TuplesSay

@@ -1,19 +1,19 @@
 -- A round in which a message is held goes on.
-use Rattle.std.proofs.Common.{◌≡◌, ℕ, zero, suc, ◌<◌, ◌≤◌, leb, ◌==◌, ◌&&◌, ◌||◌, cond, not, Bool, true, false, List, [], ◌∷◌, length, Option, Some, None, is_none, refl, ap, sym, ◌∙◌, subst, inl, inr, arith, eq-eqb, le-leb}
+use Rattle.std.proofs.Common.{◌≡◌, ℕ, zero, suc, ◌<◌, ◌≤◌, leb, ◌==◌, ◌&&◌, ◌||◌, cond, not, Bool, true, false, List, [], ◌∷◌, length, Option, Some, None, is_none, refl, ap, sym, ◌∙◌, subst, inl, inr, arith, eq-eqb, eqb-true, le-leb}
 use Rattle.std.proofs.lemmas.Bool.{and_parts, leb-true, cases_lt}
 use Rattle.std.specs.List.{list_all}
 use Rattle.flow_link.specs.declared.phase.Move.{Move}
 use Rattle.flow_link.specs.declared.phase.Move.TheVariants.{Ask, Claim, Release}
 use Rattle.flow_link.specs.declared.stage.TargetStage.{TargetStage}
 use Rattle.flow_link.specs.declared.stage.TargetStage.TheVariants.{Postponed, Asking, Holding}
-use Rattle.flow_intake.specs.Port.{PortState, fresh_port, stage_at, coming, count_at, is_coming, is_queued, is_holding}
+use Rattle.flow_intake.specs.Port.{PortState, stage_at, coming, is_coming, is_queued, is_holding}
 use Rattle.flow_intake.specs.Calls.{first_of, is_at, is_postponed}
 use Rattle.flow_intake.proofs.CountsOfEnds.{count_there}
 use Rattle.flow_group.specs.declared.round.RoundStep.{RoundStep}
 use Rattle.flow_group.specs.declared.round.RoundStep.TheVariants as steps
-use Rattle.flow_group.specs.Round.{RoundState, reserves, is_asked, is_asking, none_comes, has_front, all_there, all_held, all_open, all_have_room, none_asking, may_ask, comes_first, front_source, front_stage, stage_from, move_by, held_move, port_in, round_move}
-use Rattle.flow_group.specs.RoundLaw.{PortInRound, RoundLaw, FrontsWait, GoesOn, RoundGoes}
-use Rattle.flow_group.proofs.RoundKeeps.{some_comes, there_at}
+use Rattle.flow_group.specs.Round.{RoundState, reserves, is_asked, is_asking, none_comes, all_there, all_held, all_open, all_have_room, none_asking, may_ask, comes_first, front_source, front_stage, stage_from, move_by, held_move, port_in}
+use Rattle.flow_group.specs.RoundLaw.{RoundLaw, FrontsWait, GoesOn, RoundGoes}
+use Rattle.flow_group.proofs.RoundKeeps.{some_comes, there_at, front_comes}
 
 -- The least of those that pass
 
@@ -150,7 +150,7 @@ by_waiting round port ports (Postponed i) e asks may first = rw (asks, may, firs
 by_waiting round port ports stage e asks may first = absurd (cc)
 
 module _ (round : RoundState) (ports : List PortState) (took : ℕ → ℕ) (law : RoundLaw round.step ports took) (has : reserves round ≡ true)
-    (fronts : FrontsWait ports) (room : all_have_room ports ≡ true)
+    (fronts : FrontsWait ports) (room : round.step ≡ steps.Asks → none_asking ports ≡ true → all_have_room ports ≡ true)
     (p k : ℕ) (here : p < length ports) (place : k < length (port_in ports p).ends) (holding : is_holding (stage_at k (port_in ports p)) ≡ true) where
   asked : (stage : TargetStage) → is_holding stage ≡ true → (is_asked stage ≡ true) × (is_coming stage ≡ true)
   asked (Holding i) e = (refl, refl)
@@ -178,7 +178,7 @@ module _ (round : RoundState) (ports : List PortState) (took : ℕ → ℕ) (law
   asks_next : round.step ≡ steps.Asks → none_asking ports ≡ true → all_held ports ≡ false → GoesOn round ports
   asks_next is none some =
       let there = law.there is some_come in
-      let may : may_ask ports ≡ true = rw (there, none, some_come, room) refl in
+      let may : may_ask ports ≡ true = rw (there, none, some_come, room is none) refl in
       let waiting : list_all (λ (port : PortState). not (is_postponed (front_stage port))) ports ≡ false = some_wait there none some in
       let found = least_of (λ port. is_postponed (front_stage port)) (front_source round.sources) ports waiting in
       let next = front_is (port_in ports found.at) (first_of (port_in ports found.at).queue) found.passes in
@@ -209,8 +209,42 @@ module _ (round : RoundState) (ports : List PortState) (took : ℕ → ℕ) (law
       let found = fails_at (λ port. not (is_asking (front_stage port))) ports asking in
       GoesOn.waits found.at found.here (is_not (is_asking (front_stage (port_in ports found.at))) found.fails)
 
+-- Nothing comes, so that none is held: the one of the least source is asked for
+module _ (round : RoundState) (ports : List PortState) (has : reserves round ≡ true) (fronts : FrontsWait ports)
+    (is : round.step ≡ steps.Asks) (some : 0 < length ports) (none : none_comes ports ≡ true) (quiet : none_asking ports ≡ true)
+    (there : all_there ports ≡ true) (going : all_open ports ≡ true) (room : all_have_room ports ≡ true) where
+  none_held : (p : ℕ) → p < length ports → is_holding (front_stage (port_in ports p)) ≡ false
+  none_held p l = never_all (is_holding (front_stage (port_in ports p))) (λ held.
+      let comes = front_comes (port_in ports p) (first_of (port_in ports p).queue) held in
+      let zero : coming (port_in ports p) ≡ 0 =
+      eqb-true (coming (port_in ports p)) 0 (pass_at (λ (port : PortState). coming port == 0) ports p l none) in
+      omega (arith, comes, zero))
+
+  first_waits : is_postponed (front_stage (port_in ports 0)) ≡ true
+  first_waits =
+      let port = port_in ports 0 in
+      waits_now (front_stage port) (front_waits port (first_of port.queue) (λ j e. fronts 0 j some e) (there_at ports 0 some there))
+      (is_so (is_asking (front_stage port)) (pass_at (λ (port : PortState). not (is_asking (front_stage port))) ports 0 some quiet))
+      (none_held 0 some)
+
+  starts : GoesOn round ports
+  starts =
+      let may : may_ask ports ≡ true = rw (there, quiet, none, going, room) refl in
+      let waiting : list_all (λ (port : PortState). not (is_postponed (front_stage port))) ports ≡ false =
+      never_all (list_all (λ (port : PortState). not (is_postponed (front_stage port))) ports) (λ all.
+      let no = pass_at (λ (port : PortState). not (is_postponed (front_stage port))) ports 0 some all in
+      let so : true ≡ false = sym first_waits ∙ is_so (is_postponed (front_stage (port_in ports 0))) no in
+      cc) in
+      let found = least_of (λ port. is_postponed (front_stage port)) (front_source round.sources) ports waiting in
+      let next = front_is (port_in ports found.at) (first_of (port_in ports found.at).queue) found.passes in
+      GoesOn.moves found.at next.0 Ask found.here
+      (move_there found.at next.0 round ports (first_of (port_in ports found.at).queue)
+      (move_by round (port_in ports found.at) ports (front_stage (port_in ports found.at))) has next.1
+      ∙ by_waiting round (port_in ports found.at) ports (front_stage (port_in ports found.at)) found.passes is may found.least)
+
 pub round_goes : RoundGoes
 round_goes = record {
+  starter = λ round ports has fronts is some none quiet there going room. starts round ports has fronts is some none quiet there going room;
   holder = λ round ports took law has fronts room p k here place holding.
       goes round ports took law has fronts room p k here place holding round.step refl (all_held ports) refl (none_asking ports) refl;
 }

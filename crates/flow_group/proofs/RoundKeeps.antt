@@ -3,9 +3,9 @@ use Rattle.std.proofs.Common.{◌≡◌, ◌≢◌, ℕ, zero, suc, ◌+◌, ◌
 use Rattle.std.proofs.lemmas.Bool.{cases_eq, and_parts}
 use Rattle.std.proofs.lemmas.List.{length-set, get_or-set_same, get_or-set_other}
 use Rattle.flow_link.specs.declared.stage.TargetStage.{TargetStage}
-use Rattle.flow_link.specs.declared.stage.TargetStage.TheVariants.{Free, Postponed, Accepted, Consuming, Asking, Holding, Claiming, Arrived, Hand}
+use Rattle.flow_link.specs.declared.stage.TargetStage.TheVariants.{Postponed, Accepted, Consuming, Asking, Holding, Claiming, Arrived, Hand}
 use Rattle.flow_intake.specs.Port.{EndState, PortState, fresh_end, fresh_port, stage_in, stage_at, coming, count_at, is_coming, is_holding}
-use Rattle.flow_intake.specs.Calls.{first_of, is_at, is_front, is_postponed, message_of, put_stage, asks, claims, releases}
+use Rattle.flow_intake.specs.Calls.{first_of, is_at, is_front, is_postponed, message_of, asks, claims, releases}
 use Rattle.flow_intake.specs.Queue.{without}
 use Rattle.flow_intake.proofs.CountsOfEnds.{count_after_set, count_there, count_same, count_less}
 use Rattle.flow_group.specs.declared.round.RoundStep.{RoundStep}
@@ -182,7 +182,7 @@ in_range (end ∷ ends) zero e = omega arith
 in_range (end ∷ ends) (suc j) e = let l = in_range ends j e in omega arith
 
 -- what is held in front of a port comes there
-front_comes : (port : PortState) (place : Option ℕ) → is_holding (stage_from place port) ≡ true → 1 ≤ coming port
+pub front_comes : (port : PortState) (place : Option ℕ) → is_holding (stage_from place port) ≡ true → 1 ≤ coming port
 front_comes port None e = absurd (cc)
 front_comes port (Some j) e =
     let counted = count_there is_coming port.ends j (in_range port.ends j e) in

@@ -1,24 +1,17 @@
 -- What becomes of a round when a message is taken out of its slot, or is turned down: an end stands elsewhere, and nothing else.
-use Rattle.std.proofs.Common.{◌≡◌, ◌≢◌, ℕ, zero, suc, ◌+◌, ◌<◌, ◌≤◌, ◌==◌, ◌&&◌, cond, not, Bool, true, false, List, [], ◌∷◌, ◌++◌, length, get_or, set, Option, Some, None, is_none, refl, ap, sym, ◌∙◌, subst, inl, inr, arith, eqb-true, eq-eqb, ne_eqb}
-use Rattle.std.proofs.lemmas.Bool.{cases_eq, and_parts}
-use Rattle.std.proofs.lemmas.List.{length-set, get_or-set_same, get_or-set_other}
+use Rattle.std.proofs.Common.{◌≡◌, ℕ, ◌<◌, not, true, false, List, length, get_or, set, Some, is_none, refl, ap, sym, ◌∙◌, subst, arith}
+use Rattle.std.proofs.lemmas.List.{length-set}
 use Rattle.flow_value.specs.declared.value.Value.{Value}
-use Rattle.flow_link.specs.declared.phase.Phase.{Phase}
-use Rattle.flow_link.specs.declared.phase.Phase.TheVariants as phase
-use Rattle.flow_link.specs.declared.stage.Refusal.{Refusal}
 use Rattle.flow_link.specs.declared.stage.TargetStage.{TargetStage}
-use Rattle.flow_link.specs.declared.stage.TargetStage.TheVariants.{Free, Offered, Posted, Postponed, Accepted, Consuming, Asking, Holding, Claiming, Arrived, Hand, Refused, Ended}
-use Rattle.flow_link.specs.Stage.{target_looks}
-use Rattle.flow_intake.specs.Port.{EndState, PortState, fresh_end, fresh_port, stage_in, stage_at, coming, count_at, is_coming, is_queued, is_hand, is_holding}
-use Rattle.flow_intake.specs.Calls.{first_of, is_at, is_front, is_offered, may_be_refused, message_of, refused_by, queue_after, looks, refuses, postpones, closes}
-use Rattle.flow_intake.specs.Queue.{without}
-use Rattle.flow_intake.proofs.CountsOfEnds.{count_there, count_same, count_less, hand_comes}
-use Rattle.flow_intake.proofs.EndsInOrder.{coming_moved, look_tells}
+use Rattle.flow_link.specs.declared.stage.TargetStage.TheVariants.{Free, Posted, Arrived, Hand}
+use Rattle.flow_intake.specs.Port.{EndState, PortState, fresh_end, stage_in, stage_at, coming, count_at, is_coming}
+use Rattle.flow_intake.specs.Calls.{first_of, message_of}
+use Rattle.flow_intake.proofs.CountsOfEnds.{count_same}
 use Rattle.flow_group.specs.declared.round.RoundStep.{RoundStep}
 use Rattle.flow_group.specs.declared.round.RoundStep.TheVariants as steps
-use Rattle.flow_group.specs.Round.{is_asked, is_asking, is_taken, none_comes, has_front, all_there, step_after, port_in}
-use Rattle.flow_group.specs.RoundLaw.{PortInRound, RoundLaw, RoundsKept, LevelsTell, SameEnds, RoundGoesOn, TookOneMore, goes_from, level_of, takes_freely}
-use Rattle.flow_group.proofs.RoundKeeps.{each_stage, each_port, all_there_set, there_at, wishes_kept}
+use Rattle.flow_group.specs.Round.{is_asked, is_asking, is_taken, port_in}
+use Rattle.flow_group.specs.RoundLaw.{PortInRound, RoundLaw, takes_freely}
+use Rattle.flow_group.proofs.RoundKeeps.{each_stage, each_port, all_there_set, there_at}
 use Rattle.flow_intake.specs.Calls.{is_posted, is_arrived, opens, turns_down}
 use Rattle.flow_group.proofs.RoundMoves.{level_same, none_comes_same}
 

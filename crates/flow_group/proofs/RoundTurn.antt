@@ -1,5 +1,5 @@
 -- A round asks in the order of the sources.
-use Rattle.std.proofs.Common.{◌≡◌, ◌≢◌, ℕ, zero, suc, ◌+◌, ◌<◌, ◌≤◌, leb, ◌==◌, ◌&&◌, ◌||◌, cond, not, Bool, true, false, List, [], ◌∷◌, ◌++◌, length, get_or, set, Option, Some, None, is_none, refl, ap, sym, ◌∙◌, subst, inl, inr, arith, eqb-true, eq-eqb}
+use Rattle.std.proofs.Common.{◌≡◌, ◌≢◌, ℕ, zero, suc, ◌+◌, ◌<◌, ◌≤◌, leb, ◌||◌, cond, not, Bool, true, false, List, [], ◌∷◌, ◌++◌, length, set, Option, Some, None, refl, ap, sym, ◌∙◌, subst, inl, inr, arith, eq-eqb}
 use Rattle.std.proofs.lemmas.Bool.{cases_eq, leb-true}
 use Rattle.std.proofs.lemmas.List.{length-set, get_or-set_same, get_or-set_other}
 use Rattle.flow_value.specs.declared.value.Value.{Value}
@@ -7,19 +7,19 @@ use Rattle.flow_link.specs.declared.phase.Phase.{Phase}
 use Rattle.flow_link.specs.declared.phase.Phase.TheVariants as phase
 use Rattle.flow_link.specs.declared.stage.Refusal.{Refusal}
 use Rattle.flow_link.specs.declared.stage.TargetStage.{TargetStage}
-use Rattle.flow_link.specs.declared.stage.TargetStage.TheVariants.{Free, Offered, Posted, Postponed, Accepted, Consuming, Asking, Holding, Claiming, Arrived, Hand, Refused, Ended}
+use Rattle.flow_link.specs.declared.stage.TargetStage.TheVariants.{Free, Offered, Posted, Postponed, Accepted, Consuming, Asking, Holding, Claiming, Hand, Refused, Ended}
 use Rattle.flow_link.specs.Stage.{target_looks}
-use Rattle.flow_intake.specs.Port.{EndState, PortState, fresh_end, fresh_port, end_in, link_in, stage_in, stage_at, coming, count_at, is_coming, is_queued, is_hand}
-use Rattle.flow_intake.specs.Calls.{first_of, is_at, is_front, is_offered, is_postponed, may_be_refused, message_of, refused_by, queue_after, asks, claims, releases, looks, refuses, turns_down, postpones, opens, closes}
+use Rattle.flow_intake.specs.Port.{EndState, PortState, fresh_end, fresh_port, end_in, link_in, stage_in, stage_at, coming, is_coming, is_queued, is_hand}
+use Rattle.flow_intake.specs.Calls.{first_of, is_front, is_offered, is_postponed, may_be_refused, message_of, refused_by, queue_after, asks, claims, releases, looks, refuses, turns_down, postpones, opens, closes}
 use Rattle.flow_intake.specs.Queue.{without}
 use Rattle.flow_intake.proofs.CountsOfEnds.{count_there}
 use Rattle.flow_group.specs.declared.round.RoundStep.{RoundStep}
 use Rattle.flow_group.specs.declared.round.RoundStep.TheVariants as steps
 use Rattle.flow_group.specs.declared.round.Source.{Source}
-use Rattle.flow_group.specs.Round.{is_asked, is_taken, none_comes, has_front, all_there, front_stage, front_source, stage_from, source_from, source_of, is_behind, comes_first, step_after, port_in}
-use Rattle.flow_group.specs.RoundLaw.{PortInRound, RoundLaw, FrontsWait, SameEnds, InTurn, TurnsKept, goes_from}
+use Rattle.flow_group.specs.Round.{is_asked, none_comes, has_front, front_stage, front_source, stage_from, source_from, source_of, is_behind, comes_first, step_after, port_in}
+use Rattle.flow_group.specs.RoundLaw.{RoundLaw, FrontsWait, SameEnds, InTurn, TurnsKept, goes_from}
 use Rattle.flow_group.proofs.RoundKeeps.{each_port, some_comes, there_at, at_is}
-use Rattle.flow_group.proofs.RoundMoves.{Quietly, look_quietly, refusal_quietly, refusal_unqueued, hand_taken, first_without, first_joined, first_there}
+use Rattle.flow_group.proofs.RoundMoves.{look_quietly, refusal_unqueued, hand_taken, first_without, first_joined, first_there}
 use Rattle.flow_group.proofs.RoundGoes.{pass_at}
 
 -- What stands in front

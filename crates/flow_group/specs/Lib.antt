@@ -4,6 +4,7 @@ pub mod Groups
 pub mod Journal
 pub mod Round
 pub mod RoundLaw
+pub mod RoundTells
 pub mod Taken
 pub mod Tuple
 pub mod Tuples

@@ -109,6 +109,10 @@ step_after steps.Claims gone none = cond none steps.Asks steps.Claims
 abbrev pub settles : Bool → List PortState → RoundState → RoundState
 settles gone ports round = cond (reserves round) (record round { step = step_after round.step gone (none_comes ports) }) round
 
+-- it claims what is kept for it
+abbrev pub claims_on : RoundState → RoundState
+claims_on round = record round { step = steps.Claims }
+
 -- What it does next
 
 abbrev pub asks_step : RoundStep → Bool

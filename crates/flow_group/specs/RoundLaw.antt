@@ -1,5 +1,5 @@
 -- When a round is in order, whatever the sources do, and what a call of one port leaves of it.
-use Rattle.std.specs.Prelude.{◌≡◌, ℕ, ◌+◌, ◌≢◌, ◌<◌, ◌≤◌, ◌&&◌, not, Bool, true, false, List, length, set, Option, Some}
+use Rattle.std.specs.Prelude.{◌≡◌, ℕ, ◌+◌, ◌≢◌, ◌<◌, ◌≤◌, ◌&&◌, not, Bool, true, false, List, length, set, Some}
 use Rattle.flow_value.specs.declared.value.Value.{Value}
 use Rattle.flow_link.specs.declared.phase.Move.{Move}
 use Rattle.flow_link.specs.declared.phase.Phase.{Phase}
@@ -11,7 +11,7 @@ use Rattle.flow_intake.specs.Calls.{first_of, is_front, is_postponed, is_offered
 use Rattle.flow_group.specs.declared.round.RoundStep.{RoundStep}
 use Rattle.flow_group.specs.declared.round.RoundStep.TheVariants as steps
 use Rattle.flow_group.specs.declared.round.Source.{Source}
-use Rattle.flow_group.specs.Round.{RoundState, is_asked, is_asking, is_taken, none_comes, all_there, all_held, all_have_room, none_asking, step_after, port_in, reserves, front_stage, front_source, comes_first, round_move}
+use Rattle.flow_group.specs.Round.{RoundState, is_asked, is_asking, is_taken, none_comes, all_there, all_held, all_open, all_have_room, none_asking, step_after, port_in, reserves, front_stage, front_source, comes_first, round_move}
 
 abbrev pub takes_freely : TargetStage → Bool
 takes_freely (Accepted _) = true
@@ -121,11 +121,15 @@ pub data GoesOn (round : RoundState) (ports : List PortState) : Type 0 where
   waits : (p : ℕ) → p < length ports → is_asking (front_stage (port_in ports p)) ≡ true → GoesOn round ports
 
 pub record RoundGoes : Type 0 where
-  -- where a message is held, and each port that holds none has room
+  -- where a message is held; to ask for the next one, each port that holds none has to have room
   pub holder : (round : RoundState) (ports : List PortState) (took : ℕ → ℕ) → RoundLaw round.step ports took → reserves round ≡ true
-      → FrontsWait ports → all_have_room ports ≡ true
+      → FrontsWait ports → (round.step ≡ steps.Asks → none_asking ports ≡ true → all_have_room ports ≡ true)
       → (p k : ℕ) → p < length ports → k < length (port_in ports p).ends → is_holding (stage_at k (port_in ports p)) ≡ true
       → GoesOn round ports
+  -- and a round begins where each port has an offer, is open and has room
+  pub starter : (round : RoundState) (ports : List PortState) → reserves round ≡ true → FrontsWait ports → round.step ≡ steps.Asks
+      → 0 < length ports → none_comes ports ≡ true → none_asking ports ≡ true → all_there ports ≡ true → all_open ports ≡ true
+      → all_have_room ports ≡ true → GoesOn round ports
 
 -- While it asks, no offer that waits in front comes from a block below one that it asked.
 abbrev pub InTurn : List Source → RoundStep → List PortState → Type 0

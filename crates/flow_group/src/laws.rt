@@ -3,6 +3,7 @@ ghost use Rattle.flow_group.specs.Examples.{GroupExamples};
 ghost use Rattle.flow_group.specs.Groups.{GroupsKept, GroupsTell, GroupsAreCutInOrder};
 ghost use Rattle.flow_group.specs.Journal.{JournalsTell};
 ghost use Rattle.flow_group.specs.RoundLaw.{RoundsKept, LevelsTell, RoundGoes, TurnsKept};
+ghost use Rattle.flow_group.specs.RoundTells.{RoundMovesTell};
 ghost use Rattle.flow_group.specs.Taken.{PortsTaken, NothingMore};
 ghost use Rattle.flow_group.specs.Tuples.{TuplesKept, TuplesTell, NoTupleIsTorn};
 
@@ -96,4 +97,11 @@ pub fn holder_goes_on()
 #[tactic(auto, using(crate::proofs::RoundTurn::turns_kept))]
 pub fn turns_are_kept()
     ensures { TurnsKept }
+{}
+
+/// What asks, claims or gives up stands in front of its port; it asks where all ports have an offer and room, claims where
+/// all are kept, and gives up where an offer has gone.
+#[tactic(auto, using(crate::proofs::RoundTells::round_moves_tell))]
+pub fn round_moves_tell()
+    ensures { RoundMovesTell }
 {}

@@ -21,7 +21,8 @@ pub use group::{copy_group, has_group, make_group, take_group};
 pub use laws::{
     groups_are_cut_in_order, groups_are_kept, groups_in_order_and_not, groups_tell, holder_goes_on,
     journals_tell_arrivals, levels_are_told, no_tuple_is_torn, nothing_more_is_made,
-    ports_give_what_is_taken, rounds_are_kept, tuples_are_kept, tuples_tell, turns_are_kept,
+    ports_give_what_is_taken, round_moves_tell, rounds_are_kept, tuples_are_kept, tuples_tell,
+    turns_are_kept,
 };
 pub use round::{Round, RoundStep, Source, none_comes};
 pub use tuple::{all_ended, copy_tuple, has_tuple, is_join_complete, make_tuple, take_tuple};

@@ -9,7 +9,7 @@ ghost use Rattle.flow_intake.specs.Calls.{is_postponed};
 ghost use Rattle.flow_intake.specs.Port.{is_holding, link_in};
 ghost use Rattle.flow_group.specs.Round.{no_round, reserves, block_at, source_of, is_behind, front_stage, front_source, is_asking, none_comes, all_there};
 ghost use Rattle.flow_group.specs.Round.{all_held, none_asking, all_open, all_have_room, may_ask, asks_for, comes_first, step_after};
-ghost use Rattle.flow_group.specs.Round.{settles, held_move, move_by, round_move, port_in};
+ghost use Rattle.flow_group.specs.Round.{settles, claims_on, held_move, move_by, round_move, port_in};
 ghost use Rattle.flow_group.specs.declared.round.RoundStep.TheVariants as steps;
 
 use flow_intake::Intake;
@@ -186,7 +186,7 @@ impl Round {
 
     /// It claims from now on.
     pub fn claim(&mut self)
-        ensures { self.new ≡ record self.old { step = steps.Claims } }
+        ensures { self.new ≡ claims_on self.old }
     {
         self.step = RoundStep::Claims;
     }

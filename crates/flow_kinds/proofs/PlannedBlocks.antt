@@ -134,10 +134,14 @@ module _ {W : Type 0} (layout : Layout W) (b : ℕ) where
 
   -- nothing is under way over any link into it
 
+  free_planned : (p : ℕ) (place : Option ℕ) → port_shown place (port_of_plan layout b p) ≡ target.Free
+  free_planned p None = refl
+  free_planned p (Some place) = free_port (room_of def) (links_to layout b p) (Some place)
+
   each_free : (numbers : List ℕ) (link p : ℕ) → shown_over (port_in (map (port_of_plan layout b) numbers) p) link ≡ target.Free
   each_free [] link p = free_anywhere (fresh_port None) link (free_port None [])
   each_free (q ∷ numbers) link zero =
-      free_anywhere (port_of_plan layout b q) link (free_port (room_of def) (links_to layout b q))
+      free_anywhere (port_of_plan layout b q) link (free_planned q)
   each_free (q ∷ numbers) link (suc p) = each_free numbers link p
 
   free_over : (numbers : List ℕ) → 0 < length numbers → (link : ℕ) → target_over (map (port_of_plan layout b) numbers) link ≡ target.Free

@@ -51,6 +51,7 @@ use Rattle.flow_core.specs.State.{NetState, node_at, line_at, input_at}
 use Rattle.flow_core.proofs.PartsChange.{given_at, taken_as}
 use Rattle.flow_core.proofs.PlacesOfLinks.{exit_there, copy_there, entry_there, port_there}
 use Rattle.flow_core.proofs.SourcesByKind.{shared_next, copied_next}
+use Rattle.flow_block_law.proofs.WishesTell.{asks_so, claims_so, releases_so}
 use Rattle.flow_moves.specs.Ready.{GiveIsReady, OutIsReady, CopyIsReadyToGive, CopyIsReady, ReadyBy, InIsReady}
 use Rattle.flow_moves.specs.Ready.{InputIsReady, SourceIsReady, TargetIsReady, MoverIsReady}
 use Rattle.flow_moves.specs.Statements.{MovesAreReady}
@@ -157,6 +158,13 @@ module _ {W : Type 0} (layout : Layout W) (meaning : ℕ → Value → Result (L
   in_ready p k facts phase slot source ok move.Postpone may = may.offered
   in_ready p k facts phase slot source ok move.Refuse may = may
   in_ready p k facts phase slot source ok move.Consume may = (may.0, may.1.room)
+  in_ready p k facts phase slot source ok move.Ask may =
+      let now = asks_so p k node may in
+      (record { port = may.port; place = may.place; stands = now.waits }, now.room)
+  in_ready p k facts phase slot source ok move.Claim may =
+      record { port = may.port; place = may.place; stands = (claims_so p k node may).held }
+  in_ready p k facts phase slot source ok move.Release may =
+      record { port = may.port; place = may.place; stands = (releases_so p k node may).held }
   in_ready p k facts phase slot source ok move.Open may =
       let arrived = may (in_hand None) in
       let end = end_in k (port_at p node.block).ends in

@@ -29,7 +29,8 @@ use Rattle.flow_block.specs.Block.{port_at}
 use Rattle.flow_block.specs.Copies.{CopyCall}
 use Rattle.flow_block.specs.Input.{InputState, InputCall, no_input, input_move, move_from, after_input}
 use Rattle.flow_block_law.specs.NextMoves.{next_in, next_source}
-use Rattle.flow_block.specs.Node.{NodeState, NodeCall, source_view}
+use Rattle.flow_group.specs.Round.{round_move}
+use Rattle.flow_block.specs.Node.{NodeState, NodeCall, or_else, source_view}
 use Rattle.flow_block.specs.Peeks.{is_held_up, is_copy_held_up}
 use Rattle.flow_block.specs.Planned.{in_place, out_place, input_place}
 use Rattle.flow_block.specs.Routes.{route_of, source_place, target_place}
@@ -46,7 +47,7 @@ use Rattle.flow_moves.specs.Ready.{SourceIsThere, TargetIsThere, IsThere, exit_c
 use Rattle.flow_moves.proofs.EndsAnswer.{still_accepts, out_kept, sees_accepted, copy_accepted, arrived_opens, hand_closes}
 use Rattle.flow_moves.proofs.LinksThere.{links_are_there}
 use Rattle.flow_moves.proofs.NextMovesHappen.{sources_may}
-use Rattle.flow_moves.proofs.PassesTell.{pass_tells, blocks_apart}
+use Rattle.flow_moves.proofs.PassesTell.{takes_port, pass_tells, blocks_apart}
 
 module _ {W : Type 0} (layout : Layout W) (meaning : ℕ → Value → Result (List Value) ℕ) (l : ℕ) where
   abbrev link : Link
@@ -127,8 +128,9 @@ module _ {W : Type 0} (layout : Layout W) (meaning : ℕ → Value → Result (L
         let here : t < length (offered from line).nodes = subst (λ (count : ℕ). t < count) (sym (as_many from line)) there.0 in
         ap (next_in p k) (get_or-set_same (offered from line).nodes t (look (node_at (offered from line) t)) no_node here)
         ∙ ap (λ (node : NodeState). next_in p k (look node)) (stays_beside from line t p apart)
-        ∙ ap (in_move k) (get_or-set_same old.block.ports p (looks k (Offered i) port) _ there.1.port)
-        ∙ still_accepts k i port there.1.place takes
+        ∙ ap (λ (own : Option Move). or_else own (round_move p k (look old).round (look old).block.ports))
+        (ap (in_move k) (get_or-set_same old.block.ports p (looks k (Offered i) port) _ there.1.port)
+        ∙ still_accepts k i port there.1.place (takes_port p k old takes))
 
     -- the source of an offer that is wanted
     abbrev wanted : LinkTarget → LinkState → NetState
@@ -205,16 +207,20 @@ module _ {W : Type 0} (layout : Layout W) (meaning : ℕ → Value → Result (L
     opens_next Exit is = absurd (cc)
     opens_next (Port t p) is =
         let k = in_place layout t p l in
-        let port = port_at p (node_at net t).block in
-        arrived_opens k i port (stage_at k port) (hand_in k port.ends) is
+        let node = node_at net t in
+        let port = port_at p node.block in
+        ap (λ (own : Option Move). or_else own (round_move p k node.round node.block.ports))
+        (arrived_opens k i port (stage_at k port) (hand_in k port.ends) is)
 
     closes_next : (into : LinkTarget) (value : Value) → (target_from layout net l into).stage ≡ TargetSeen.hand i value
         → target_peek layout net l into ≡ Some Close
     closes_next Exit value is = absurd (cc)
     closes_next (Port t p) value is =
         let k = in_place layout t p l in
-        let port = port_at p (node_at net t).block in
-        hand_closes k i value port (stage_at k port) (hand_in k port.ends) is
+        let node = node_at net t in
+        let port = port_at p node.block in
+        ap (λ (own : Option Move). or_else own (round_move p k node.round node.block.ports))
+        (hand_closes k i value port (stage_at k port) (hand_in k port.ends) is)
 
   -- An event that the link's phase allows, and that its mover would do next, may happen
 

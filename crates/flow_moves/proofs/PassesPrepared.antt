@@ -29,7 +29,7 @@ use Rattle.flow_moves.specs.Passes.{id_in, id_next, may_carry, takes_now, are_ap
 use Rattle.flow_moves.specs.Ready.{SourceIsThere, TargetIsThere, SourceIsReady, InputIsReady}
 use Rattle.flow_moves.specs.Ways.{input_in, with_input_in, value_next, source_moved, target_looked}
 use Rattle.flow_moves.proofs.MovesPrepared.{next_is_there}
-use Rattle.flow_moves.proofs.PassesTell.{blocks_apart}
+use Rattle.flow_moves.proofs.PassesTell.{takes_port, blocks_apart}
 use Rattle.flow_moves.proofs.SendsByKind.{ready_id, ready_value, ready_may_go, ready_sends, ready_offers}
 
 -- a node, or an input, changes twice
@@ -207,14 +207,14 @@ module _ (net : NetState) (id : ℕ) where
     target_may (Input b) k (Port t p) j there takes apart = (
       still_there t t (with_room p) net there.0,
       subst (λ (node : NodeState). BlockMayReceive node.block p j) (sym (node_found t (with_room p) net there.0))
-          (block_may_receive p j (node_at net t) there.1 takes),
+          (block_may_receive p j (node_at net t) there.1 (takes_port p j (node_at net t) takes)),
     )
     target_may (Block s) k (Port t p) j there takes apart =
         let first = source_prepared (Block s) k net in
         let here = still_there s t (node_prepared k) net there.0 in (
           still_there s t (node_sends_ready k i) (both_ready (Block s) k (Port t p)) (still_there t t (with_room p) first here),
           subst (λ (node : NodeState). BlockMayReceive node.block p j) (sym (at_target s k t p (blocks_apart s t apart) there.0))
-              (block_may_receive p j (node_at net t) there.1 takes),
+              (block_may_receive p j (node_at net t) there.1 (takes_port p j (node_at net t) takes)),
         )
 
     module _ (value : Value) (t p j : ℕ) where

@@ -1,5 +1,5 @@
 -- A message that goes over a link in one call: its five moves come to what source and target do, each by itself.
-use Rattle.std.proofs.Common.{◌≡◌, ◌≢◌, ℕ, ◌<◌, true, not, ◌&&◌, ◌==◌, length, List, set, Option, Some, None, Result, is_none}
+use Rattle.std.proofs.Common.{◌≡◌, ◌≢◌, ℕ, ◌<◌, true, false, not, ◌&&◌, ◌==◌, length, List, set, Option, Some, None, Result, is_none}
 use Rattle.std.proofs.Common.{refl, sym, ap, ◌∙◌}
 use Rattle.std.proofs.lemmas.Bool.{and_parts, not-true, eqb-false}
 use Rattle.std.proofs.lemmas.List.{get_or-set_same, get_or-set_other, set-set, set_comm, set-get_or, length-set}
@@ -14,7 +14,11 @@ use Rattle.flow_link.specs.declared.plan.LinkTarget.{LinkTarget}
 use Rattle.flow_link.specs.declared.plan.LinkTarget.TheVariants.{Port, Exit}
 use Rattle.flow_block.specs.Input.{InputState, InputCall, no_input, next_value, after_input}
 use Rattle.flow_block.specs.Node.{NodeState, NodeCall, given_next}
-use Rattle.flow_block.specs.Passes.{receives_on, input_sends}
+use Rattle.flow_intake.specs.Receives.{takes_at_once}
+use Rattle.flow_group.specs.Round.{reserves}
+use Rattle.flow_block.specs.Block.{port_at}
+use Rattle.flow_block.proofs.PassesFreely.{by_calls, receives_by_calls}
+use Rattle.flow_block.specs.Passes.{takes_freely, receives_on, input_sends}
 use Rattle.flow_block.specs.declared.planned.Route.{Route}
 use Rattle.flow_core.specs.Events.{source_call, source_look, in_call, input_call, input_after}
 use Rattle.flow_core.specs.Events.{slot_after, with_node, with_line}
@@ -131,7 +135,8 @@ module _ (makes : ℕ → Value → Result (List Value) ℕ) (l i : ℕ) (value 
       (ap (λ (nodes : List NodeState). set nodes t (node_at net t)) (set-get_or net.nodes s no_node) ∙ set-get_or net.nodes t no_node)
       ∙ ap (λ (lines : List LinkState). record net { lines = lines }) (set-get_or net.lines l fresh_line))
 
-  module _ (head : given_next (node_at net s) ≡ Some value) (idle : line_at net l ≡ IdleLine) where
+  module _ (head : given_next (node_at net s) ≡ Some value) (idle : line_at net l ≡ IdleLine)
+      (none : reserves (node_at net t).round ≡ false) where
     abbrev s_old : NodeState
     s_old = node_at net s
 
@@ -161,7 +166,8 @@ module _ (makes : ℕ → Value → Result (List Value) ℕ) (l i : ℕ) (value 
         ∙ ap (λ (x : NetState). moved_by_target makes l Close Idle way x)
         (by_target Open (Opened i) a3 b3 (line_of (Given i) (Some value)))
         ∙ by_target Close Idle a4 b4 (line_of (Opened i) None)
-        ∙ ap (λ (x : NodeState). at_ends x (receives_on p j i value t_old) IdleLine) (sends_is (makes s) k i s_old)
+        ∙ ap (λ (x : NodeState). at_ends x (by_calls (makes t) p j i value t_old none) IdleLine) (sends_is (makes s) k i s_old)
+        ∙ ap (λ (x : NodeState). at_ends (node_sends k i s_old) x IdleLine) (receives_by_calls (makes t) p j i value t_old none)
 
     alone : passed i value way net ≡ at_ends (node_sends k i s_old) (receives_on p j i value t_old) IdleLine
     alone =
@@ -260,7 +266,8 @@ module _ (makes : ℕ → Value → Result (List Value) ℕ) (l i : ℕ) (value 
       (set-get_or net.inputs k no_input)
       ∙ ap (λ (lines : List LinkState). record net { lines = lines }) (set-get_or net.lines l fresh_line))
 
-  module _ (head : next_value (input_in net k) ≡ Some value) (idle : line_at net l ≡ IdleLine) where
+  module _ (head : next_value (input_in net k) ≡ Some value) (idle : line_at net l ≡ IdleLine)
+      (none : reserves (node_at net t).round ≡ false) where
     abbrev in_old : InputState
     in_old = input_in net k
 
@@ -290,6 +297,7 @@ module _ (makes : ℕ → Value → Result (List Value) ℕ) (l i : ℕ) (value 
         ∙ ap (λ (x : NetState). moved_by_target makes l Close Idle way_in x)
         (by_block Open (Opened i) a3 b3 (line_of (Given i) (Some value)))
         ∙ by_block Close Idle a4 b4 (line_of (Opened i) None)
+        ∙ ap (λ (x : NodeState). at_both (input_sends i in_old) x IdleLine) (receives_by_calls (makes t) p j i value to_old none)
 
     alone_input : passed i value way_in net ≡ at_both (input_sends i in_old) (receives_on p j i value to_old) IdleLine
     alone_input =
@@ -300,6 +308,13 @@ module _ (makes : ℕ → Value → Result (List Value) ℕ) (l i : ℕ) (value 
 
     pub inputs_tell : passed_along makes l i way_in net ≡ passed i value way_in net
     inputs_tell = along_input ∙ sym alone_input
+
+-- what takes at once has no round
+takes_no_round : (p k : ℕ) (node : NodeState) → takes_freely p k node ≡ true → reserves node.round ≡ false
+takes_no_round p k node e = not-true (reserves node.round) (and_parts (takes_at_once k (port_at p node.block)) (not (reserves node.round)) e).1
+
+pub takes_port : (p k : ℕ) (node : NodeState) → takes_freely p k node ≡ true → takes_at_once k (port_at p node.block) ≡ true
+takes_port p k node e = (and_parts (takes_at_once k (port_at p node.block)) (not (reserves node.round)) e).0
 
 -- what may pass, part by part
 pub record PassTells (l : ℕ) (route : Route) (net : NetState) : Type 0 where
@@ -338,8 +353,10 @@ module _ (makes : ℕ → Value → Result (List Value) ℕ) (l i : ℕ) (value 
   tell_by source k Exit j there head tells = let no = tells.takes in absurd (cc)
   tell_by (Block s) k (Port t p) j there head tells =
       blocks_tell makes l i value net s k t p j (blocks_apart s t tells.apart) there.source.0 there.target.0 there.line head tells.idle
+      (takes_no_round p j (node_at net t) tells.takes)
   tell_by (Input b) k (Port t p) j there head tells =
       inputs_tell makes l i value net b k t p j there.source there.target.0 there.line head tells.idle
+      (takes_no_round p j (node_at net t) tells.takes)
 
 -- the five moves come to this
 pub passes_tell : (makes : ℕ → Value → Result (List Value) ℕ) (l i : ℕ) (value : Value) (route : Route) (net : NetState)

@@ -11,11 +11,11 @@ use Rattle.flow_link.specs.declared.plan.LinkTarget.{LinkTarget}
 use Rattle.flow_link.specs.declared.plan.LinkTarget.TheVariants.{Port, Exit}
 use Rattle.flow_link.specs.Layout.{Layout}
 use Rattle.flow_link.specs.Plan.{is_one_taker}
-use Rattle.flow_intake.specs.Receives.{takes_at_once}
 use Rattle.flow_outlet.specs.ByLink.{has_room}
 use Rattle.flow_outlet.specs.Outlet.{end_at}
 use Rattle.flow_spread.specs.Spread.{link_at}
-use Rattle.flow_block.specs.Block.{BlockState, port_at}
+use Rattle.flow_block.specs.Block.{BlockState}
+use Rattle.flow_block.specs.Passes.{takes_freely}
 use Rattle.flow_block.specs.Input.{next_id}
 use Rattle.flow_block.specs.Routes.{route_of}
 use Rattle.flow_block.specs.declared.planned.Route.{Route}
@@ -52,7 +52,7 @@ may_carry net (Input b) k = true
 
 -- the target takes at once what is offered to it
 abbrev pub takes_now : NetState → LinkTarget → ℕ → Bool
-takes_now net (Port t p) k = takes_at_once k (port_at p (node_at net t).block)
+takes_now net (Port t p) k = takes_freely p k (node_at net t)
 takes_now net Exit k = false
 
 -- its two ends are not of one block

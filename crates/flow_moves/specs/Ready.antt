@@ -9,7 +9,7 @@ use Rattle.flow_link.specs.declared.plan.LinkTarget.{LinkTarget}
 use Rattle.flow_link.specs.declared.plan.LinkTarget.TheVariants.{Port, Exit}
 use Rattle.flow_link.specs.LinkOk.{HasRoom}
 use Rattle.flow_link.specs.Plan.{is_one_taker}
-use Rattle.flow_intake.specs.Port.{has_room, is_offer, is_hand}
+use Rattle.flow_intake.specs.Port.{has_room, is_offer, is_hand, is_holding}
 use Rattle.flow_intake.specs.Calls.{is_offered, is_posted, is_postponed, is_arrived, may_be_refused}
 use Rattle.flow_outlet.specs.End.{is_free, is_waiting}
 use Rattle.flow_outlet.specs.Outlet.{OutletState, end_at, may_offer, may_give, is_wish}
@@ -79,6 +79,9 @@ InIsReady p k slot move.TurnDown node = InAt is_posted p k node
 InIsReady p k slot move.Postpone node = InAt is_offered p k node
 InIsReady p k slot move.Refuse node = InAt may_be_refused p k node × (is_some (port_at p node.block).refusing ≡ true)
 InIsReady p k slot move.Consume node = InAt is_postponed p k node × (has_room (port_at p node.block) ≡ true)
+InIsReady p k slot move.Ask node = InAt is_postponed p k node × (has_room (port_at p node.block) ≡ true)
+InIsReady p k slot move.Claim node = InAt is_holding p k node
+InIsReady p k slot move.Release node = InAt is_holding p k node
 InIsReady p k slot move.Open node = InAt is_arrived p k node × (is_some slot ≡ true)
 InIsReady p k slot move.Close node = InAt is_hand p k node
 InIsReady p k slot _ node = ⊥

@@ -171,6 +171,9 @@ pub(crate) fn move_in(
         Move::TurnDown => node.turn_down(port, place),
         Move::Refuse => node.refuse(port, place),
         Move::Consume => node.consume(port, place),
+        Move::Ask => node.ask(port, place),
+        Move::Claim => node.claim(port, place),
+        Move::Release => node.release(port, place),
         Move::Open => {
             if let Some(parcel) = slot.take() {
                 node.open(port, place, parcel);

@@ -6,7 +6,7 @@ ghost use Rattle.flow_link.specs.Planned.{layout_of};
 ghost use Rattle.flow_block.specs.Planned.{fresh_node};
 ghost use Rattle.flow_core.specs.State.{fresh_line};
 
-use flow_block::{Block, Node, ports_of, rules_from};
+use flow_block::{Block, Node, ports_of, rules_from, sources_of};
 use flow_link::{LinkState, Phase, Plan};
 use std::alloc::{AllocError, Global};
 
@@ -31,11 +31,12 @@ fn node_of<W>(alloc: Global, plan: &Plan<W>, number: usize) -> Result<Node, Allo
 {
     let ports = ports_of(alloc, plan, number)?;
     let rules = rules_from(alloc, plan, number)?;
+    let sources = sources_of(alloc, plan, number)?;
     let def = plan.block(number);
     let lanes = def.lanes.unwrap_or(1) as usize;
     let size = def.size.unwrap_or(0);
     match Block::new(alloc, def.kind, lanes, size, ports, rules) {
-        Ok(block) => Ok(Node::new(alloc, block)),
+        Ok(block) => Ok(Node::new(alloc, block, sources)),
         Err(_) => Err(AllocError),
     }
 }

@@ -114,9 +114,9 @@ impl Parts {
         ensures { result ≡ target_next self.now route.now.target route.now.target_place }
     {
         match route.target {
-            LinkTarget::Port(block, port) => self.nodes[block]
-                .block()
-                .in_move(port as usize, route.target_place),
+            LinkTarget::Port(block, port) => {
+                self.nodes[block].next_in(port as usize, route.target_place)
+            }
             LinkTarget::Exit => None,
         }
     }

@@ -45,9 +45,9 @@ impl Parts {
         ensures { result ≡ takes_now self.now route.now.target route.now.target_place }
     {
         match route.target {
-            LinkTarget::Port(block, port) => self.nodes[block]
-                .block()
-                .takes_at_once(port as usize, route.target_place),
+            LinkTarget::Port(block, port) => {
+                self.nodes[block].takes_at_once(port as usize, route.target_place)
+            }
             LinkTarget::Exit => false,
         }
     }

@@ -3,7 +3,7 @@
 ghost use Rattle.std.specs.Prelude.{◌≡◌, ◌<◌, IfSome, length, vec_len};
 
 use crate::due::Due;
-use crate::find::{link_to_consume, link_to_offer};
+use crate::find::{link_in_front, link_to_consume, link_to_offer};
 use flow_block::{Block, Route};
 use flow_link::{LinkId, LinkSource, LinkTarget, Move};
 use flow_moves::Parts;
@@ -212,6 +212,11 @@ impl Agenda {
                 self.list(Spot::Block(number));
             }
             Move::Withdraw => self.list(Spot::Block(number)),
+            Move::Release => {
+                self.list_giver(parts, number);
+                self.list_copies_held_up(parts, number);
+                self.list(Spot::Block(number));
+            }
             _ => {
                 self.list_copies_held_up(parts, number);
                 self.list(Spot::Block(number));
@@ -221,6 +226,7 @@ impl Agenda {
 
     /// Lists the target of a link after this move.
     fn list_target(&mut self, parts: &Parts, number: usize, next: &Move) {
+        self.list_fronts(parts, number);
         match next {
             Move::Offer(_) | Move::Want | Move::Give | Move::Open => {}
             Move::End(_) | Move::Close => {
@@ -228,6 +234,24 @@ impl Agenda {
                 self.list(Spot::Block(number));
             }
             _ => self.list(Spot::Block(number)),
+        }
+    }
+
+    /// Lists what a join that reserves may ask for, claim or release next: the offers that wait longest at its ports.
+    fn list_fronts(&mut self, parts: &Parts, number: usize) {
+        if let Some(node) = parts.find_node(number) {
+            if node.round().reserves() {
+                self.list_front_links(node.block());
+            }
+        }
+    }
+
+    /// Lists the links over which the offers came that wait longest at the ports of a block.
+    fn list_front_links(&mut self, block: &Block) {
+        for port in 0..block.port_count() {
+            if let Some(id) = link_in_front(block, port) {
+                self.list(Spot::Link(id));
+            }
         }
     }
 

@@ -364,6 +364,18 @@ fn link_to_consume_at(block: &Block, port: usize) -> Option<LinkId>
     }
 }
 
+/// The link over which the offer came that waits longest at a port.
+pub(crate) fn link_in_front(block: &Block, port: usize) -> Option<LinkId>
+    requires { port < length block.now.ports }
+{
+    let place = block.front(port)?;
+    if place < block.in_count(port) {
+        Some(block.in_link(port, place))
+    } else {
+        None
+    }
+}
+
 /// The link over which a block would consume next, at the first of its ports that would.
 pub(crate) fn link_to_consume(block: &Block) -> Option<LinkId> {
     for port in 0..block.port_count() {

@@ -7,7 +7,7 @@ use Rattle.flow_link.specs.declared.draft.BlockDef.{BlockDef}
 use Rattle.flow_link.specs.declared.draft.BlockKind.{BlockKind}
 use Rattle.flow_link.specs.declared.draft.BlockKind.TheVariants as kinds
 use Rattle.flow_link.specs.Layout.{Layout}
-use Rattle.flow_link.specs.Plan.{block_in, is_write_once}
+use Rattle.flow_link.specs.Plan.{block_in, is_reserving, is_write_once, reserves_by_kind}
 use Rattle.flow_intake.specs.Port.{PortState, fresh_port, fresh_end as fresh_in}
 use Rattle.flow_outlet.specs.History.{listed}
 use Rattle.flow_outlet.specs.Outlet.{first_of}
@@ -21,7 +21,7 @@ use Rattle.flow_spread.proofs.LawKept.{each_fresh, end_mapped}
 use Rattle.flow_block.specs.Block.{BlockState}
 use Rattle.flow_block.specs.BlockFits.{fresh_block}
 use Rattle.flow_block.specs.Copies.{fresh_copies}
-use Rattle.flow_block.specs.Planned.{links_from, links_to, rule_of, lanes_of, size_of}
+use Rattle.flow_block.specs.Planned.{links_from, links_to, rule_of, lanes_of, size_of, room_of}
 use Rattle.flow_lists.proofs.PlacesNamed.{place_is}
 use Rattle.flow_block_law.proofs.PlacesOfCopies.{rule_at_end, rule_at, copies_differ}
 use Rattle.flow_history.specs.Calls.{Call, MayCallInOrder, Does, Fits, Step, AllDone, after_all}
@@ -270,10 +270,15 @@ module _ {W : Type 0} (layout : Layout W) (b : ℕ) where
     is_once : is_write_once def.kind ≡ true
     is_once = ap is_write_once once
 
+    takes_freely : is_reserving def ≡ false
+    takes_freely = ap (λ (kind : BlockKind). reserves_by_kind kind def.greedy) once
+
     planned_fresh : planned_block layout b ≡ fresh
     planned_fresh =
         ap (λ (count : ℕ). fresh_block def.kind (lanes_of layout b) (size_of layout b) (ports_in layout b count) out_rules)
         (one_port layout b (once_alone def.kind is_once))
+        ∙ ap (λ (reserves : Bool). fresh_block def.kind (lanes_of layout b) (size_of layout b)
+        (record (fresh_port (room_of def)) { reserves = reserves; ends = map fresh_in (links_to layout b 0) } ∷ []) out_rules) takes_freely
         ∙ ap (λ (capacity : Option ℕ). fresh_block def.kind (lanes_of layout b) (size_of layout b)
         (record (fresh_port capacity) { ends = map fresh_in (links_to layout b 0) } ∷ []) out_rules)
         (one_room def.kind def.capacity is_once)

@@ -1,7 +1,6 @@
 -- The calls that name a link keep the outlet's law.
-use Rattle.std.proofs.Common.{◌≡◌, ◌≢◌, ℕ, ◌<◌, ◌≤◌, ◌==◌, ◌&&◌, cond, not, is_some, subst, eqb-true, zero, suc, Bool, true, false, List, [], ◌∷◌, length, map, Option, Some, None, refl, sym, ◌∙◌, ap, arith}
+use Rattle.std.proofs.Common.{◌≡◌, ◌≢◌, ℕ, ◌<◌, ◌≤◌, ◌==◌, cond, not, is_some, subst, eqb-true, zero, suc, Bool, true, false, List, [], ◌∷◌, length, map, Option, Some, None, refl, sym, ◌∙◌, ap, arith}
 use Rattle.std.proofs.lemmas.Bool.{OnTrue_at, OnTrue_from, and_parts}
-use Rattle.std.specs.Bool.{OnTrue}
 use Rattle.std.proofs.lemmas.List.{length-map, length-set, get_or-set_same}
 use Rattle.flow_link.specs.Stage.{source_looks}
 use Rattle.flow_value.specs.declared.message.MessageStatus.{MessageStatus}
@@ -13,7 +12,7 @@ use Rattle.flow_link.specs.declared.trace.Outcome.{Outcome}
 use Rattle.flow_outlet.specs.declared.ends.OutEnd.{OutEnd}
 use Rattle.flow_outlet.specs.End.{id_of, speaks_of, is_spoken_for, is_cut, rejects, end_in, no_end}
 use Rattle.flow_outlet.specs.Outlet.{OutletState, head_of, end_at, stage_at, changes, is_empty, looks, may_hold, holds, offer_kept}
-use Rattle.flow_outlet.specs.ByLink.{answered, place_of, forgets, forgotten, forgotten_stage, forgets_all, forgotten_for, is_head as head_is, reserved, reserves, MayReserve, IsReserved, releases}
+use Rattle.flow_outlet.specs.ByLink.{answered, place_of, forgets, forgotten, forgotten_stage, forgets_all, forgotten_for, is_head as head_is, reserved}
 use Rattle.flow_outlet.specs.Law.{EndLaw, OutletLaw, is_put_off, is_refused, may_go_past}
 use Rattle.flow_outlet.specs.KeepsByLink.{LinkCallsKeepLaw, settles_it}
 use Rattle.flow_outlet.proofs.EndsKeepLaw.{looks_keep, holds_keep}

@@ -5,7 +5,7 @@ use Rattle.flow_link.specs.declared.stage.SourceStage.{SourceStage}
 use Rattle.flow_link.specs.declared.stage.SourceStage.TheVariants.{Free, Posted, Out, Waiting, Accepted, Wished, AskedBy, Reserved, Claimed, Crossing, Refused, Ended}
 use Rattle.flow_link.specs.LinkOk.{HasRoom}
 use Rattle.flow_outlet.specs.Outlet.{OutletState, end_at, stage_at, is_at, has_offer_out}
-use Rattle.flow_outlet.specs.ByLink.{IsAsked, MayConsume, MayTake, place_of, is_head, is_taken, is_offered, has_room, tests_asked, tests_take, tests_consume, is_there, MayReserve, IsReserved, is_waiting_for, is_kept_for, tests_reserve, tests_reserved}
+use Rattle.flow_outlet.specs.ByLink.{IsAsked, MayConsume, MayTake, place_of, is_taken, is_offered, has_room, tests_asked, tests_take, tests_consume, is_there, MayReserve, IsReserved, is_waiting_for, is_kept_for, tests_reserve, tests_reserved}
 use Rattle.flow_outlet.proofs.StagesTell.{same_number, number_same}
 
 pub record All (a b c : Bool) : Type 0 where

@@ -11,13 +11,13 @@ use Rattle.flow_outlet.specs.declared.ends.LinkRule.{LinkRule}
 use Rattle.flow_outlet.specs.ByLink.{is_taken}
 use Rattle.flow_outlet.specs.Outlet.{given_end}
 use Rattle.flow_link.specs.declared.stage.SourceStage.{SourceStage}
-use Rattle.flow_link.specs.declared.stage.SourceStage.TheVariants.{Free, Crossing, Waiting, Reserved}
+use Rattle.flow_link.specs.declared.stage.SourceStage.TheVariants.{Free, Crossing, Waiting}
 use Rattle.flow_outlet.specs.Law.{is_put_off, admits_head}
 use Rattle.flow_link.specs.declared.phase.Phase.{Phase}
 use Rattle.flow_link.specs.declared.phase.Phase.TheVariants.{Idle, Wanted, Asked, Postponed}
 use Rattle.flow_link.specs.Stage.{source_looks}
 use Rattle.std.specs.Bool.{OnTrue}
-use Rattle.flow_spread.specs.ByLink.{is_there, gives_home, place_of, reserved, reserves, releases}
+use Rattle.flow_spread.specs.ByLink.{is_there, gives_home, place_of, reserved}
 use Rattle.flow_spread.specs.declared.end.CopyEnd.{CopyEnd}
 use Rattle.flow_spread.specs.End.{end_in, no_end, fresh_end, moved, is_answer, takes_up, count_of, owes_it, is_away_at, is_busy_at}
 use Rattle.flow_spread.specs.Spread.{SpreadState, end_at, link_at, stage_at, changes, fresh_spread, is_spread_free, is_at_rest, puts, left_of, looks, gives, may_give, is_wanted, is_asked_by, holds}

@@ -1,6 +1,6 @@
 use Rattle.std.proofs.Common.{◌≡◌, ap, sym, ◌∙◌}
 use Rattle.flow_link.specs.declared.plan.Link.{Link}
-use Rattle.flow_link.specs.Plan.{block_in, ends_at_port, no_link}
+use Rattle.flow_link.specs.Plan.{block_in, ends_at_port, is_reserving, no_link}
 use Rattle.flow_link.specs.Planned.{layout_of}
 use Rattle.flow_intake.specs.Port.{fresh_port}
 use Rattle.flow_block.specs.Planned.{is_into, room_of}
@@ -12,7 +12,8 @@ pub loop-id-preserved : goal.loop-id-preserved
 loop-id-preserved g c =
     let layout = layout_of c.args.plan.now in
     let id = c.loop-id.id in
-    let base = fresh_port (room_of (block_in layout.blocks c.args.block)) in
+    let def = block_in layout.blocks c.args.block in
+    let base = record (fresh_port (room_of def)) { reserves = is_reserving def } in
     let so_far = c.loop-id.invariant in
     let here : is_into layout c.args.block c.args.port id ≡ c.enters.result =
     sym (c.enters.ensures
