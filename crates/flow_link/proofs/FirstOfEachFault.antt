@@ -13,8 +13,8 @@ use Rattle.flow_link.specs.declared.plan.PlanFault.TheVariants.{Limit, Duplicate
 use Rattle.flow_link.specs.declared.plan.Place.TheVariants.{Block, Link as at_link}
 use Rattle.flow_lists.specs.Lists.{numbers_from, below, some}
 use Rattle.flow_link.specs.Plan.{block_named, block_in, link_in, named_link, named_links, planned_links, is_reserving}
-use Rattle.flow_link.specs.PlanFaults.{lacks_port, lacks_output, options_fit, is_in, holds_no_group, stands, walks, faults_in_order, first_plan_fault}
-use Rattle.flow_link.specs.NotBuilt.{stands_now, first_at, name_faults, end_faults, option_faults, is_built_block, is_bad_block, first_fault_now}
+use Rattle.flow_link.specs.PlanFaults.{lacks_port, lacks_output, options_fit, is_in, holds_no_group, shares_among, stands, faults_in_order, first_plan_fault}
+use Rattle.flow_link.specs.NotBuilt.{stands_now, first_at, name_faults, end_faults, option_faults, is_built_block, is_bad_block, first_fault_now, shared_first, fault_of_ways}
 use Rattle.flow_link.specs.Layout.{IsLaidOut}
 use Rattle.flow_link.proofs.LinksLaidOut.{laid_out_of, none_step}
 use Rattle.flow_lists.proofs.FirstInOrder.{position_is_first, none_below}
@@ -125,18 +125,6 @@ fails_from test first (suc count) k low e =
     [ true ↦ λ here wrong. cc | false ↦ λ here rest. fails_after test first count k low here (λ j small. fails_from test (suc first) count j small rest) ] in
     go (test first) refl e
 
-last_of_built : (a b c : Bool) → (a || not (not b && not c)) ≡ false → c ≡ false
-last_of_built true b c h = cc
-last_of_built false true c h = cc
-last_of_built false false true h = cc
-last_of_built false false false h = refl
-
-module _ {W : Type 0} where
-  -- what is built does not reserve
-  built_takes : (block : BlockDef W) → is_bad_block block ≡ false → is_reserving block ≡ false
-  unfolding is_bad_block
-  built_takes block good = last_of_built (not (options_fit block)) block.output (is_reserving block) good
-
 -- the first fault of each group, from the first place of each fault
 module _ {W : Type 0} (blocks : List (BlockDef W)) (links : List LinkDef) where
   pub first_name_fault : (limit : Bool) (repeated unknown : Option ℕ)
@@ -183,29 +171,13 @@ pub none_image : {A B : Type 0} (image : A → B) (x : Option A) → option_map 
 none_image image None e = refl
 none_image image (Some a) e = cc
 
--- groups of which some are found nothing in
-with_none : {A : Type 0} (a e o c s y : Option A) → s ≡ None
-    → option_or a (option_or e (option_or o (option_or c (option_or s y)))) ≡ option_or a (option_or e (option_or o (option_or c y)))
-with_none a e o c s y es = rw es refl
+-- the last two faults are looked for one after the other
+ways_first : (shared : Option ℕ) (cycle : Bool)
+    → option_or (option_map SharedSource shared) (cond cycle (Some Cycle) None) ≡ shared_first shared cycle
+ways_first (Some b) cycle = refl
+ways_first None cycle = refl
 
-with_some : {A : Type 0} (a e : Option A) (f : A) (x y : Option A)
-    → option_or a (option_or e (option_or (Some f) x)) ≡ option_or a (option_or e (option_or (Some f) y))
-with_some a e f x y = refl
-
--- where every option is as its kind has it and is built, no block reserves
 module _ {W : Type 0} (blocks : List (BlockDef W)) (links : List LinkDef) where
-  pub good_blocks : find (stands_now blocks links) (option_faults blocks links) ≡ None
-      → (k : ℕ) → k < length blocks → is_reserving (block_in blocks k) ≡ false
-  good_blocks e k low =
-      let test = stands_now blocks links in
-      let bad = λ (b : ℕ). BadOption (Block b) in
-      let front : find test (map bad (below (length blocks))) ≡ None =
-      none_front _ _ (sym (find-append test (map bad (below (length blocks))) (map (λ l. BadOption (at_link l)) (below (length links)))) ∙ e) in
-      let none : find (λ b. test (bad b)) (below (length blocks)) ≡ None =
-      none_image bad _ (sym (find_of_images test bad (below (length blocks))) ∙ front) in
-      let zeroth : 0 + k ≡ k = omega arith in
-      built_takes (block_in blocks k) (ap (λ j. is_bad_block (block_in blocks j)) (sym zeroth) ∙ fails_from (λ b. test (bad b)) 0 (length blocks) k low none)
-
   -- the first batch that has no room for a group
   first_small_batch : (small : Option ℕ) → position (λ block. holds_no_group block.kind block.capacity block.size) blocks ≡ small
       → find (stands_now blocks links) (map CapacityBelowSize (below (length blocks))) ≡ option_map CapacityBelowSize small
@@ -213,55 +185,43 @@ module _ {W : Type 0} (blocks : List (BlockDef W)) (links : List LinkDef) where
       find_of_images (stands_now blocks links) CapacityBelowSize (below (length blocks))
       ∙ ap (option_map CapacityBelowSize) (small_batch_by_position blocks links ∙ es)
 
-  pub no_shared_source : find (stands_now blocks links) (option_faults blocks links) ≡ None
-      → find (stands_now blocks links) (map SharedSource (below (length blocks))) ≡ None
-  no_shared_source e =
-      let test = stands_now blocks links in
-      find_of_images test SharedSource (below (length blocks))
-      ∙ ap (option_map SharedSource) (none_below (λ b. test (SharedSource b)) (length blocks)
-      (λ k low. rw (good_blocks e k low) refl))
+  -- how links lead: a join whose source is shared, or a cycle
+  first_way : find (stands_now blocks links) (map SharedSource (below (length blocks)))
+      ≡ option_map SharedSource (find (shares_among blocks (named_links blocks links)) (below (length blocks)))
+  first_way = find_of_images (stands_now blocks links) SharedSource (below (length blocks))
 
   -- the first fault, from the first of each group
-  pub first_fault_of : (names ends options : Option PlanFault) (small : Option ℕ) (cycle : Bool)
+  pub first_fault_of : (names ends options : Option PlanFault) (small : Option ℕ) (ways : Option PlanFault)
       → find (stands_now blocks links) (name_faults blocks links) ≡ names
       → find (stands_now blocks links) (end_faults blocks links) ≡ ends
       → find (stands_now blocks links) (option_faults blocks links) ≡ options
       → position (λ block. holds_no_group block.kind block.capacity block.size) blocks ≡ small
-      → stands_now blocks links Cycle ≡ cycle
-      → first_fault_now blocks links
-      ≡ option_or names (option_or ends (option_or options (option_or (option_map CapacityBelowSize small) (cond cycle (Some Cycle) None))))
-  first_fault_of names ends options small cycle en ee eo es ec =
+      → fault_of_ways blocks (named_links blocks links) ≡ ways
+      → first_fault_now blocks links ≡ option_or names (option_or ends (option_or options (option_or (option_map CapacityBelowSize small) ways)))
+  first_fault_of names ends options small ways en ee eo es ew =
       let test = stands_now blocks links in
       let b = below (length blocks) in
       let l = below (length links) in
       let c = find test (map CapacityBelowSize b) in
       let s = find test (map SharedSource b) in
       let y = find test (Cycle ∷ []) in
-      let last = option_or (option_map CapacityBelowSize small) (cond cycle (Some Cycle) None) in
-      let ey : option_or c y ≡ last =
-      ap (λ v. option_or v y) (first_small_batch small es) ∙ ap (λ v. option_or (option_map CapacityBelowSize small) (cond v (Some Cycle) None)) ec in
+      let found = find (shares_among blocks (named_links blocks links)) b in
       let groups : first_fault_now blocks links ≡ option_or (find test (name_faults blocks links)) (option_or (find test (end_faults blocks links)) (option_or (find test (option_faults blocks links)) (option_or c (option_or s y)))) =
       first_of_groups test (name_faults blocks links) (map Port l) (map NoOutput l) (map (λ k. BadOption (Block k)) b) (map (λ k. BadOption (at_link k)) l)
       (map CapacityBelowSize b) (map SharedSource b) (Cycle ∷ []) in
-      let rest : (o : Option PlanFault) → find test (option_faults blocks links) ≡ o
-      → option_or names (option_or ends (option_or o (option_or c (option_or s y)))) ≡ option_or names (option_or ends (option_or o last)) =
-      λ o. elim o as (λ v. find test (option_faults blocks links) ≡ v
-      → option_or names (option_or ends (option_or v (option_or c (option_or s y)))) ≡ option_or names (option_or ends (option_or v last))) [
-        | None ↦ λ e. with_none names ends None c s y (no_shared_source e) ∙ ap (λ v. option_or names (option_or ends (option_or None v))) ey
-        | Some f ↦ λ e. with_some names ends f (option_or c (option_or s y)) last
-      ] in
+      let last : option_or s y ≡ ways =
+      ap (λ v. option_or v y) first_way ∙ ways_first found (test Cycle) ∙ ew in
       groups
       ∙ ap (λ v. option_or v (option_or (find test (end_faults blocks links)) (option_or (find test (option_faults blocks links)) (option_or c (option_or s y))))) en
       ∙ ap (λ v. option_or names (option_or v (option_or (find test (option_faults blocks links)) (option_or c (option_or s y))))) ee
       ∙ ap (λ v. option_or names (option_or ends (option_or v (option_or c (option_or s y))))) eo
-      ∙ rest options eo
+      ∙ ap (λ v. option_or names (option_or ends (option_or options (option_or v (option_or s y))))) (first_small_batch small es)
+      ∙ ap (λ v. option_or names (option_or ends (option_or options (option_or (option_map CapacityBelowSize small) v)))) last
 
-  -- a cycle stands where it is found in the links that the draft's links become
-  pub cycle_stands : (named : List Link) (found answer : Bool) → named ≡ named_links blocks links
-      → found ≡ some (λ b. walks named (length blocks) (length blocks) b b) (below (length blocks)) → found ≡ answer
-      → stands_now blocks links Cycle ≡ answer
-  cycle_stands named found answer en ef ea =
-      ap (λ x. some (λ b. walks x (length blocks) (length blocks) b b) (below (length blocks))) (sym en) ∙ sym ef ∙ ea
+  -- how links lead is told of the links that the draft's links become
+  pub ways_told : (named : List Link) (found : Option PlanFault) → named ≡ named_links blocks links → found ≡ fault_of_ways blocks named
+      → fault_of_ways blocks (named_links blocks links) ≡ found
+  ways_told named found en ef = ap (fault_of_ways blocks) (sym en) ∙ sym ef
 
   -- where no fault is first, all names are known
   pub known_where_none : first_fault_now blocks links ≡ None

@@ -1,6 +1,7 @@
 -- The plan of a draft without a fault uses only what is built.
 use Rattle.std.proofs.Common.{◌≡◌, ℕ, ◌<◌, Bool, true, false, not, ◌&&◌, ◌||◌, List, length, map, None, refl, sym, ◌∙◌, subst}
 use Rattle.std.specs.List.{find}
+use Rattle.std.proofs.lemmas.Bool.{not-true}
 use Rattle.std.proofs.lemmas.List.Folds.{find-append}
 use Rattle.flow_link.specs.declared.draft.BlockDef.{BlockDef}
 use Rattle.flow_link.specs.declared.draft.LinkDef.{LinkDef}
@@ -11,16 +12,11 @@ use Rattle.flow_link.specs.Built.{IsBuilt, is_port}
 use Rattle.flow_link.specs.Layout.{input_links, exit_links, outer_links}
 use Rattle.flow_lists.specs.Lists.{below}
 use Rattle.flow_link.specs.NotBuilt.{stands_now, first_fault_now, option_faults, is_built_block, is_bad_block}
-use Rattle.flow_link.specs.Plan.{block_in, named_links, planned_links, is_reserving}
+use Rattle.flow_link.specs.Plan.{block_in, named_links, planned_links}
 use Rattle.flow_link.specs.PlanFaults.{options_fit}
 use Rattle.flow_link.proofs.EachLinkOf.{each_append, each_input, each_exit, none_at, each_named}
 use Rattle.flow_link.proofs.FirstOfEachFault.{first_fault_of, none_front, none_back}
 use Rattle.flow_lists.proofs.ListTests.{never_both}
-
--- of a block that is built
-no_output_of : (a b : Bool) → (not a && b) ≡ true → a ≡ false
-no_output_of true b e = cc
-no_output_of false b e = refl
 
 of_no_bad : (a b : Bool) → (not a || not b) ≡ false → b ≡ true
 of_no_bad true true e = refl
@@ -33,7 +29,7 @@ module _ {W : Type 0} where
   good_is_built block good = of_no_bad (options_fit block) (is_built_block block) good
 
   built_has_no_output : (block : BlockDef W) → is_built_block block ≡ true → block.output ≡ false
-  built_has_no_output block e = no_output_of block.output (not (is_reserving block)) e
+  built_has_no_output block e = not-true block.output e
 
 module _ {W : Type 0} (blocks : List (BlockDef W)) (links : List LinkDef) (fine : first_fault_now blocks links ≡ None) where
   no_option_fault : find (stands_now blocks links) (option_faults blocks links) ≡ None

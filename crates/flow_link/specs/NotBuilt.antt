@@ -1,21 +1,32 @@
 -- What of the format is not built yet: a draft that uses it is refused with BadOption, at its place in the order of faults.
-use Rattle.std.specs.Prelude.{ℕ, Bool, not, ◌&&◌, ◌||◌, List, [], ◌∷◌, ◌++◌, length, map, find, Option}
+use Rattle.std.specs.Prelude.{ℕ, Bool, cond, not, ◌||◌, List, [], ◌∷◌, ◌++◌, length, map, find, Option, Some, None}
 use Rattle.flow_link.specs.declared.draft.BlockDef.{BlockDef}
 use Rattle.flow_link.specs.declared.draft.LinkDef.{LinkDef}
 use Rattle.flow_link.specs.declared.plan.Place.TheVariants.{Block, Link as at_link}
 use Rattle.flow_link.specs.declared.plan.PlanFault.{PlanFault}
-use Rattle.flow_link.specs.declared.plan.PlanFault.TheVariants.{Limit, DuplicateName, UnknownBlock, Port, NoOutput, BadOption}
-use Rattle.flow_lists.specs.Lists.{below}
-use Rattle.flow_link.specs.Plan.{block_in, is_reserving}
-use Rattle.flow_link.specs.PlanFaults.{stands, options_fit, faults_in_order}
+use Rattle.flow_link.specs.declared.plan.PlanFault.TheVariants.{Limit, DuplicateName, UnknownBlock, Port, NoOutput, BadOption, SharedSource, Cycle}
+use Rattle.flow_link.specs.declared.plan.Link.{Link}
+use Rattle.flow_lists.specs.Lists.{some, below}
+use Rattle.flow_link.specs.Plan.{block_in}
+use Rattle.flow_link.specs.PlanFaults.{stands, options_fit, faults_in_order, shares_among, walks}
 
--- the block gives nothing to the caller, and takes each message without reserving it first; each kind is built
+-- the block gives nothing to the caller; each kind is built, in all its forms
 abbrev pub is_built_block : {W : Type 0} → BlockDef W → Bool
-is_built_block block = not block.output && not (is_reserving block)
+is_built_block block = not block.output
 
 -- the block has a name or an option that its kind does not have, or one that is not built
 unfoldable pub is_bad_block : {W : Type 0} → BlockDef W → Bool
 is_bad_block block = not (options_fit block) || not (is_built_block block)
+
+-- the first of the last two faults, where links lead so
+abbrev pub shared_first : Option ℕ → Bool → Option PlanFault
+shared_first (Some b) cycle = Some (SharedSource b)
+shared_first None cycle = cond cycle (Some Cycle) None
+
+abbrev pub fault_of_ways : {W : Type 0} → List (BlockDef W) → List Link → Option PlanFault
+fault_of_ways blocks links =
+    shared_first (find (shares_among blocks links) (below (length blocks)))
+    (some (λ b. walks links (length blocks) (length blocks) b b) (below (length blocks)))
 
 module _ {W : Type 0} (blocks : List (BlockDef W)) (links : List LinkDef) where
   -- this fault stands, or the block there uses what is not built; nothing that the format says of a link is left to build

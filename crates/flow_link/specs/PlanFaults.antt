@@ -108,11 +108,25 @@ walks links blocks zero a b = false
 walks links blocks (suc steps) a b =
     leads links a b || some (λ c. leads links a c && walks links blocks steps c b) (below blocks)
 
+-- a link leads from one block into another port of this block than this one
+abbrev pub enters_another : (source b port : ℕ) → Link → Bool
+enters_another source b port other = begins_at source other.source && ends_at b other.target && not (ends_at_port b port other.target)
+
 -- one block's links lead into two ports of this block
 abbrev pub shares_with : ℕ → ℕ → LinkTarget → List Link → Bool
-shares_with source b (at_port target port) links =
-    target == b && some (λ other. begins_at source other.source && ends_at b other.target && not (ends_at_port b port other.target)) links
+shares_with source b (at_port target port) links = target == b && some (enters_another source b port) links
 shares_with source b Exit links = false
+
+abbrev pub leads_beside : List Link → (source b : ℕ) → Link → Bool
+leads_beside links source b link = begins_at source link.source && shares_with source b link.target links
+
+-- and lead into two of its ports, whatever else they lead into
+abbrev pub leads_twice : List Link → (source b : ℕ) → Bool
+leads_twice links source b = some (leads_beside links source b) links
+
+-- a join that reserves, into two of whose ports one block is linked
+abbrev pub shares_among : {W : Type 0} → List (BlockDef W) → List Link → ℕ → Bool
+shares_among blocks links b = is_reserving (block_in blocks b) && some (λ source. leads_twice links source b) (below (length blocks))
 
 module _ {W : Type 0} (blocks : List (BlockDef W)) (links : List LinkDef) where
   abbrev pub resolved : List Link
@@ -134,9 +148,7 @@ module _ {W : Type 0} (blocks : List (BlockDef W)) (links : List LinkDef) where
   lacks_output (Some b) = gives_nothing (block_in blocks b).kind
 
   abbrev pub shares_a_source : ℕ → Bool
-  shares_a_source b =
-      is_reserving (block_in blocks b)
-      && some (λ source. some (λ link. begins_at source link.source && shares_with source b link.target resolved) resolved) (below (length blocks))
+  shares_a_source b = shares_among blocks resolved b
 
   -- this fault stands
   abbrev pub stands : PlanFault → Bool

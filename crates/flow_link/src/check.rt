@@ -1,21 +1,22 @@
 //! What makes a draft a plan: the faults in their order, a function each.
-//!
-//! One of the nine cannot come first yet: SharedSource is of a join that reserves, and that is not built.
-ghost use Rattle.std.specs.Prelude.{◌≡◌, ◌<◌, [], length, ◌||◌, not, find, position, IfOk, IfErr, IfSome, OnOk, None};
+ghost use Rattle.std.specs.Prelude.{◌≡◌, ◌<◌, [], length, ◌||◌, ◌&&◌, ◌≤◌, not, find, position, IfOk, IfErr, IfSome, OnOk, None};
 ghost use Rattle.std.specs.Prelude.{is_none};
 ghost use Rattle.flow_link.specs.declared.plan.PlanFault.TheVariants.{Limit, DuplicateName};
-ghost use Rattle.flow_link.specs.Plan.{block_named, named_link, planned_links};
+ghost use Rattle.flow_link.specs.Plan.{begins_at, ends_at, ends_at_port, block_named, named_link, planned_links};
 ghost use Rattle.flow_link.specs.Planned.{layout_of};
 ghost use Rattle.flow_link.specs.Refusal.{IsWhy};
 ghost use Rattle.flow_link.specs.PlanFaults.{holds_no_group, lacks_port, lacks_output, is_in, first_plan_fault};
+ghost use Rattle.flow_link.specs.PlanFaults.{shares_with, enters_another, leads_beside, leads_twice, shares_among};
+ghost use Rattle.std.specs.List.{list_any};
+ghost use Rattle.flow_lists.specs.Lists.{some, below};
 ghost use Rattle.flow_link.specs.NotBuilt.{first_fault_now, stands_now, first_at, name_faults, end_faults};
-ghost use Rattle.flow_link.specs.NotBuilt.{option_faults, is_bad_block};
+ghost use Rattle.flow_link.specs.NotBuilt.{option_faults, is_bad_block, fault_of_ways};
 
 use crate::cycle::{MOST_BLOCKS, has_cycle};
 use crate::draft::{BlockDef, Draft, LinkDef};
 use crate::layout::{NO_LINK, name_links, planned_links};
 use crate::options::{holds_no_group, is_built_block, max_fits, options_fit};
-use crate::plan::{Place, Plan, PlanFault};
+use crate::plan::{Link, LinkSource, LinkTarget, Place, Plan, PlanFault};
 use std::alloc::Global;
 use thiserror::Error;
 
@@ -73,10 +74,122 @@ fn first_fault<W>(blocks: &[BlockDef<W>], links: &[LinkDef]) -> Option<PlanFault
     }
     let mut room = [NO_LINK; MOST_LINKS];
     name_links(blocks, links, &mut room);
-    if has_cycle(&room[..links.len()], blocks.len()) {
+    fault_of_ways(blocks, &room[..links.len()])
+}
+
+/// The first fault among those of how links lead from block to block.
+fn fault_of_ways<W>(blocks: &[BlockDef<W>], links: &[Link]) -> Option<PlanFault>
+    requires { length blocks.now ≤ 256 }
+    ensures { result ≡ fault_of_ways blocks.now links.now }
+{
+    if let Some(block) = first_shared_source(blocks, links) {
+        return Some(PlanFault::SharedSource(block));
+    }
+    if has_cycle(links, blocks.len()) {
         return Some(PlanFault::Cycle);
     }
     None
+}
+
+/// The first block that is a join that reserves, and into two of whose ports one block is linked.
+fn first_shared_source<W>(blocks: &[BlockDef<W>], links: &[Link]) -> Option<usize>
+    ensures { result ≡ find (shares_among blocks.now links.now) (below (length blocks.now)) }
+{
+    for block in 0..blocks.len() {
+        if shares_a_source(blocks, links, block) {
+            return Some(block);
+        }
+    }
+    None
+}
+
+fn shares_a_source<W>(blocks: &[BlockDef<W>], links: &[Link], block: usize) -> bool
+    requires { block < length blocks.now }
+    ensures { result ≡ shares_among blocks.now links.now block }
+{
+    let join = &blocks[block];
+    join.kind.unit().reserves(join.greedy) && has_shared_source(blocks.len(), links, block)
+}
+
+fn has_shared_source(count: usize, links: &[Link], block: usize) -> bool
+    ensures { result ≡ some (λ source. leads_twice links.now source block) (below count) }
+{
+    for source in 0..count {
+        if leads_twice(links, source, block) {
+            return true;
+        }
+    }
+    false
+}
+
+fn leads_twice(links: &[Link], source: usize, block: usize) -> bool
+    ensures { result ≡ list_any (leads_beside links.now source block) links.now }
+{
+    links
+        .iter()
+        .any(|link| leads_beside(links, source, block, link))
+}
+
+/// Whether this link leads from the source into a port of the block, and another one into another.
+fn leads_beside(links: &[Link], source: usize, block: usize, link: &Link) -> bool
+    ensures { result ≡ leads_beside links.now source block link.now }
+{
+    begins_at(source, link.source) && shares_with(links, source, block, link.target)
+}
+
+#[tactic(auto, using(flow_lists::proofs::FirstInOrder::any_is_some))]
+fn shares_with(links: &[Link], source: usize, block: usize, target: LinkTarget) -> bool
+    ensures { result ≡ shares_with source block target links.now }
+{
+    match target {
+        LinkTarget::Port(target, port) => target == block
+            && has_another(links, source, block, port),
+        LinkTarget::Exit => false,
+    }
+}
+
+fn has_another(links: &[Link], source: usize, block: usize, port: u32) -> bool
+    ensures { result ≡ list_any (enters_another source block port) links.now }
+{
+    links
+        .iter()
+        .any(|other| enters_another(source, block, port, other))
+}
+
+/// Whether this link leads from the source into another port of the block than this one.
+fn enters_another(source: usize, block: usize, port: u32, link: &Link) -> bool
+    ensures { result ≡ enters_another source block port link.now }
+{
+    begins_at(source, link.source)
+        && ends_at(block, link.target)
+        && !ends_at_port(block, port, link.target)
+}
+
+fn ends_at(block: usize, target: LinkTarget) -> bool
+    ensures { result ≡ ends_at block target }
+{
+    match target {
+        LinkTarget::Port(other, _) => other == block,
+        LinkTarget::Exit => false,
+    }
+}
+
+fn ends_at_port(block: usize, port: u32, target: LinkTarget) -> bool
+    ensures { result ≡ ends_at_port block port target }
+{
+    match target {
+        LinkTarget::Port(other, place) => other == block && place == port,
+        LinkTarget::Exit => false,
+    }
+}
+
+fn begins_at(block: usize, source: LinkSource) -> bool
+    ensures { result ≡ begins_at block source }
+{
+    match source {
+        LinkSource::Block(other) => other == block,
+        LinkSource::Input(_) => false,
+    }
 }
 
 /// The first fault among those of numbers and names.

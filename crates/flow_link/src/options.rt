@@ -22,7 +22,7 @@ pub fn options_fit<W>(block: &BlockDef<W>) -> bool
 pub fn is_built_block<W>(block: &BlockDef<W>) -> bool
     ensures { result ≡ is_built_block block.now }
 {
-    !block.output && !block.kind.unit().reserves(block.greedy)
+    !block.output
 }
 
 /// Whether the link's number of messages is in its range.

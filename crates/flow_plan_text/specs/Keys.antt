@@ -29,7 +29,7 @@ abbrev pub rules_of : Part → List Rule
 rules_of Top = required (codes "format") Integer ∷ required (codes "block") Tables ∷ optional (codes "link") Tables ∷ []
 rules_of Block = required (codes "name") Text ∷ required (codes "kind") Kind ∷ optional (codes "input") Boolean ∷ optional (codes "capacity") Count
     ∷ optional (codes "work") Texts ∷ optional (codes "lanes") Count ∷ optional (codes "size") Count
-    ∷ optional (codes "ports") Count ∷ []
+    ∷ optional (codes "ports") Count ∷ optional (codes "greedy") Boolean ∷ []
 rules_of Link = required (codes "from") Text ∷ required (codes "to") Text ∷ optional (codes "port") Count ∷ optional (codes "when") Text
     ∷ optional (codes "max") Count ∷ optional (codes "propagate") Boolean ∷ []
 

@@ -29,9 +29,13 @@ text_at key ms = option_and_then as_str (get_member key ms)
 abbrev pub kind_at : Members → Option BlockKind
 kind_at ms = option_and_then kind_named (text_at (codes "kind") ms)
 
--- the boolean at a key, false where there is none
+-- the boolean at a key
+abbrev pub choice_at : List ℕ → Members → Option Bool
+choice_at key ms = option_and_then as_bool (get_member key ms)
+
+-- and false where there is none
 abbrev pub flag_at : List ℕ → Members → Bool
-flag_at key ms = elim (option_and_then as_bool (get_member key ms)) [ None ↦ false | Some b ↦ b ]
+flag_at key ms = elim (choice_at key ms) [ None ↦ false | Some b ↦ b ]
 
 -- the count at a key
 abbrev pub count_at : List ℕ → Members → Option ℕ
@@ -74,7 +78,7 @@ pub record IsBlock (ms : Members) (block : BlockDef Steps) : Type 0 where
   pub lanes : block.lanes ≡ count_at (codes "lanes") ms
   pub size : block.size ≡ count_at (codes "size") ms
   pub ports : block.ports ≡ count_at (codes "ports") ms
-  pub greedy : block.greedy ≡ None
+  pub greedy : block.greedy ≡ choice_at (codes "greedy") ms
 
 -- the link that a table is
 pub record IsLink (ms : Members) (link : LinkDef) : Type 0 where

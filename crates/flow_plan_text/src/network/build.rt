@@ -3,7 +3,7 @@ ghost use Rattle.std.specs.Prelude.{◌≡◌, Some, true, map, option_map, is_s
 ghost use Rattle.toml.specs.Data.{as_table};
 ghost use Rattle.toml.specs.View.{view, table_view, items_view};
 ghost use Rattle.flow_plan_text.specs.Keys.{all_items};
-ghost use Rattle.flow_plan_text.specs.Read.{text_at, kind_at, flag_at, count_at, texts_of, texts, IsWork, IsWhen};
+ghost use Rattle.flow_plan_text.specs.Read.{text_at, kind_at, flag_at, choice_at, count_at, texts_of, texts, IsWork, IsWhen};
 ghost use Rattle.flow_plan_text.specs.Read.{IsBlock, IsLink, AreEach, is_sound, is_sound_in};
 ghost use Rattle.flow_plan_text.specs.Built.{IsWorkRefusal, IsWhenRefusal, IsBlocksRefusal, IsLinksRefusal};
 
@@ -72,7 +72,7 @@ fn block(alloc: Global, table: &Table, place: TextPlace) -> Result<BlockDef<Step
         lanes: count(table, "lanes"),
         size: count(table, "size"),
         ports: count(table, "ports"),
-        greedy: None,
+        greedy: choice(table, "greedy"),
     })
 }
 
@@ -128,9 +128,16 @@ fn kind(table: &Table) -> BlockKind
 fn flag(table: &Table, key: &str) -> bool
     ensures { result ≡ flag_at key.now (table_view table.now) }
 {
+    choice(table, key).unwrap_or(false)
+}
+
+/// The boolean at a key, if it is there.
+fn choice(table: &Table, key: &str) -> Option<bool>
+    ensures { result ≡ choice_at key.now (table_view table.now) }
+{
     match value_at(table, key) {
-        Some(value) => value.as_bool().unwrap_or(false),
-        None => false,
+        Some(value) => value.as_bool(),
+        None => None,
     }
 }
 

@@ -112,6 +112,11 @@ const BLOCK: &[Key] = &[
         form: Form::Count,
         is_required: false,
     },
+    Key {
+        name: "greedy",
+        form: Form::Boolean,
+        is_required: false,
+    },
 ];
 
 const LINK: &[Key] = &[

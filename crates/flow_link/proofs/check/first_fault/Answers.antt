@@ -1,5 +1,5 @@
-use Rattle.std.proofs.Common.{◌∙◌, Some, None, true, false, refl, sym, length, take}
-use Rattle.flow_link.proofs.FirstOfEachFault.{first_fault_of, cycle_stands}
+use Rattle.std.proofs.Common.{◌∙◌, Some, None, refl, sym, length, take}
+use Rattle.flow_link.proofs.FirstOfEachFault.{first_fault_of, ways_told}
 use Rattle.flow_link.proofs.check.first_fault.Goals as goal
 
 pub returns-in-Some : goal.returns-in-Some
@@ -22,18 +22,10 @@ returns-in-Some-first_small_batch g c =
     (sym c.fault_of_ends.ensures ∙ c.in_default-fault_of_ends.is) (sym c.fault_of_options.ensures ∙ c.in_default-fault_of_options.is)
     (sym c.first_small_batch.ensures ∙ c.in-Some-first_small_batch.is) refl)
 
-pub returns-then-has_cycle : goal.returns-then-has_cycle
-returns-then-has_cycle g c =
-    sym (first_fault_of c.args.blocks.now c.args.links.now None None None None true (sym c.fault_of_names.ensures ∙ c.in_default.is)
-    (sym c.fault_of_ends.ensures ∙ c.in_default-fault_of_ends.is) (sym c.fault_of_options.ensures ∙ c.in_default-fault_of_options.is)
-    (sym c.first_small_batch.ensures ∙ c.in_default-first_small_batch.is)
-    (cycle_stands c.args.blocks.now c.args.links.now (take (length c.args.links.now) c.name_links.new.room) c.has_cycle.result true
-    c.name_links.ensures.named c.has_cycle.ensures c.if-has_cycle.true))
-
 pub returns : goal.returns
 returns g c =
-    sym (first_fault_of c.args.blocks.now c.args.links.now None None None None false (sym c.fault_of_names.ensures ∙ c.in_default.is)
+    sym (first_fault_of c.args.blocks.now c.args.links.now None None None None c.fault_of_ways.result (sym c.fault_of_names.ensures ∙ c.in_default.is)
     (sym c.fault_of_ends.ensures ∙ c.in_default-fault_of_ends.is) (sym c.fault_of_options.ensures ∙ c.in_default-fault_of_options.is)
     (sym c.first_small_batch.ensures ∙ c.in_default-first_small_batch.is)
-    (cycle_stands c.args.blocks.now c.args.links.now (take (length c.args.links.now) c.name_links.new.room) c.has_cycle.result false
-    c.name_links.ensures.named c.has_cycle.ensures c.if-has_cycle.false))
+    (ways_told c.args.blocks.now c.args.links.now (take (length c.args.links.now) c.name_links.new.room) c.fault_of_ways.result
+    c.name_links.ensures.named c.fault_of_ways.ensures))
