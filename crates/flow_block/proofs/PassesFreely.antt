@@ -16,7 +16,7 @@ settles_none gone ports round none =
 goes_none : (gone : Bool) (node : NodeState) → reserves node.round ≡ false → goes_round gone node ≡ node
 goes_none gone node none = ap (λ (round : RoundState). record node { round = round }) (settles_none gone node.block.ports node.round none)
 
-held_round : (p k : ℕ) (hand : Option Value) (node : NodeState) → (holds_in p k hand node).round ≡ node.round
+pub held_round : (p k : ℕ) (hand : Option Value) (node : NodeState) → (holds_in p k hand node).round ≡ node.round
 held_round p k None node = refl
 held_round p k (Some value) node = refl
 

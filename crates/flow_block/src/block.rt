@@ -114,6 +114,13 @@ impl Block {
         self.ports.len()
     }
 
+    /// Its ports, in order: what each has put off, and how much room it has.
+    pub fn ports(&self) -> &[Intake]
+        ensures { result.now ≡ self.now.ports }
+    {
+        &self.ports
+    }
+
     /// How many links lead into a port.
     pub fn in_count(&self, port: usize) -> usize
         requires { port < length self.now.ports }

@@ -6,8 +6,8 @@ ghost use Rattle.std.specs.Prelude.{◌≡◌, ◌<◌, ◌∷◌, true, length,
 ghost use Rattle.flow_link.specs.LinkOk.{HasRoom};
 ghost use Rattle.flow_intake.specs.Port.{stage_at as port_stage, is_offer, is_hand, is_holding, has_room, hand_in};
 ghost use Rattle.flow_intake.specs.Calls.{prepared, is_offered, is_posted, is_postponed, is_arrived};
-ghost use Rattle.flow_intake.specs.Calls.{may_be_refused, wants, turns_down, postpones, refuses, consumes, asks, claims, releases, opens};
-ghost use Rattle.flow_intake.specs.Calls.{closes, looks as port_looks};
+ghost use Rattle.flow_intake.specs.Calls.{may_be_refused, wants, turns_down, postpones, refuses, consumes};
+ghost use Rattle.flow_intake.specs.Calls.{asks, claims, releases, opens, closes, looks as port_looks};
 ghost use Rattle.flow_outlet.specs.End.{is_waiting, is_free};
 ghost use Rattle.flow_outlet.specs.Outlet.{end_at, stage_at, may_offer, may_give, may_hold, is_wish, prepares, offers};
 ghost use Rattle.flow_outlet.specs.Outlet.{holds, denies, withdraws, ends_link, looks};

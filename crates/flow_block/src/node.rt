@@ -11,11 +11,11 @@ ghost use Rattle.flow_link.specs.declared.trace.Mark.TheVariants.{Complete, Faul
 ghost use Rattle.flow_link.specs.declared.trace.Outcome.TheVariants as outcome;
 ghost use Rattle.flow_intake.specs.Port.{stage_at as port_stage, is_offer, is_hand, is_holding, has_room};
 ghost use Rattle.flow_intake.specs.Calls.{prepared, is_offered, is_posted, is_postponed, is_arrived};
-ghost use Rattle.flow_intake.specs.Calls.{may_be_refused, wants, turns_down, postpones, refuses, consumes, asks, claims, releases, opens};
+ghost use Rattle.flow_intake.specs.Calls.{may_be_refused, wants, turns_down, postpones, refuses, consumes};
+ghost use Rattle.flow_intake.specs.Calls.{asks, claims, releases, opens, looks as port_looks, port_closes};
 ghost use Rattle.flow_intake.specs.Calls.{is_front, loses_front};
 ghost use Rattle.flow_group.specs.Round.{claims_on};
 ghost use Rattle.flow_group.specs.declared.round.RoundStep.TheVariants as steps;
-ghost use Rattle.flow_intake.specs.Calls.{looks as port_looks, port_closes};
 ghost use Rattle.flow_outlet.specs.End.{is_waiting, is_free};
 ghost use Rattle.flow_outlet.specs.Outlet.{end_at, stage_at, may_offer, may_give, may_hold, is_wish, prepares, offers};
 ghost use Rattle.flow_outlet.specs.Outlet.{holds, denies, withdraws, ends_link, looks, head_of, lacks_ids};
@@ -24,7 +24,8 @@ ghost use Rattle.flow_block.specs.Block.{port_at, with_port, with_jobs, begins, 
 ghost use Rattle.flow_block.specs.Block.{put_by_job, has_ports, fails, stops_by};
 ghost use Rattle.flow_block.specs.Jobs.{has_ticket, works_off, is_out, is_front_back, faults_at_once};
 ghost use Rattle.flow_block.specs.JournalFits.{marks_due};
-ghost use Rattle.flow_block.specs.Node.{next_in, goes_round, with_block, with_exits, marks, takes_in, gives_from, hand_at, makes_next};
+ghost use Rattle.flow_block.specs.Node.{next_in, goes_round, with_block, with_exits, marks};
+ghost use Rattle.flow_block.specs.Node.{takes_in, gives_from, hand_at, makes_next};
 ghost use Rattle.flow_block.specs.Peeks.{may_make, lacks_next};
 
 use crate::block::Block;

@@ -1,11 +1,11 @@
 -- A join that reserves and that holds a message goes on: it claims, releases or asks for the next one, or waits for the source that
 -- it asks. For while it does not claim, all its ports hold equally many messages, so that one has room where another has.
-use Rattle.std.proofs.Common.{◌≡◌, ℕ, suc, ◌+◌, ◌<◌, ◌≤◌, ◌||◌, ◌⊎◌, inl, inr, cond, not, Bool, true, false, List, [], ◌∷◌, ◌++◌, length, Option, Some, None, is_some, Result, refl, ap, sym, ◌∙◌, subst, arith, lt-ltb}
+use Rattle.std.proofs.Common.{◌≡◌, ℕ, suc, ◌+◌, ◌<◌, ◌≤◌, ◌||◌, inl, inr, cond, not, Bool, true, false, List, [], ◌∷◌, ◌++◌, length, Option, Some, None, is_some, Result, refl, ap, sym, ◌∙◌, subst, arith, lt-ltb}
 use Rattle.std.proofs.lemmas.Bool.{and_from, or_right, or_left, not-true}
 use Rattle.std.specs.List.{list_all}
 use Rattle.flow_value.specs.declared.value.Value.{Value}
 use Rattle.flow_link.specs.declared.stage.TargetStage.{TargetStage}
-use Rattle.flow_link.specs.declared.stage.TargetStage.TheVariants.{Accepted, Consuming, Asking, Holding, Claiming, Arrived, Hand}
+use Rattle.flow_link.specs.declared.stage.TargetStage.TheVariants.{Holding}
 use Rattle.flow_link.specs.Layout.{Layout}
 use Rattle.flow_link.specs.LinkOk.{IsWithin}
 use Rattle.flow_link.specs.Plan.{block_in, is_reserving}
@@ -15,9 +15,10 @@ use Rattle.flow_intake.specs.Port.{PortState, coming, has_room, is_below, is_com
 use Rattle.flow_intake.proofs.CountsOfEnds.{count_there}
 use Rattle.flow_group.specs.declared.round.RoundStep.TheVariants as steps
 use Rattle.flow_group.specs.Round.{is_asked, is_asking, is_taken, none_asking, all_have_room, front_stage, stage_from, port_in}
-use Rattle.flow_group.specs.RoundLaw.{PortInRound, GoesOn, takes_freely}
+use Rattle.flow_group.specs.RoundLaw.{PortInRound, GoesOn}
 use Rattle.flow_group.specs.Tuple.{held_at}
 use Rattle.flow_group.proofs.RoundGoes.{round_goes, pass_at}
+use Rattle.flow_group.proofs.RoundKeeps.{coming_is}
 use Rattle.flow_group.proofs.RoundStays.{levels_tell}
 use Rattle.flow_group.proofs.TuplesSay.{tuples_tell}
 use Rattle.flow_block.specs.Block.{port_at, is_join, is_batched_join}
@@ -26,17 +27,6 @@ use Rattle.flow_block.specs.Planned.{room_of}
 use Rattle.flow_block_law.specs.NodeLaw.{NodeLaw}
 use Rattle.flow_block_law.proofs.NothingComes.{none_counted}
 use Rattle.flow_block_law.proofs.RoundHolds.{kept, some, is_a_join, fronts_wait}
-
--- what comes is asked for, kept, or goes the way of a claim
-comes_as : (stage : TargetStage) → is_coming stage ≡ true → takes_freely stage ≡ false → (is_asked stage ≡ true) ⊎ (is_taken stage ≡ true)
-comes_as (Accepted i) comes free = absurd (cc)
-comes_as (Consuming i) comes free = absurd (cc)
-comes_as (Asking i) comes free = inl refl
-comes_as (Holding i) comes free = inl refl
-comes_as (Claiming i) comes free = inr refl
-comes_as (Arrived i) comes free = inr refl
-comes_as (Hand i) comes free = inr refl
-comes_as stage comes free = absurd (cc)
 
 comes_held : (stage : TargetStage) → is_holding stage ≡ true → is_coming stage ≡ true
 comes_held (Holding i) e = refl
@@ -114,7 +104,7 @@ module _ {W : Type 0} (layout : Layout W) (meaning : ℕ → Value → Result (L
 
     comes_not : (k : ℕ) → k < length port.ends → (comes : Bool) → is_coming (stage_at k port) ≡ comes → is_coming (stage_at k port) ≡ false
     comes_not k small false is = is
-    comes_not k small true is = elim (comes_as (stage_at k port) is (in_round.freely k small)) [
+    comes_not k small true is = elim (coming_is (stage_at k port) is (in_round.freely k small)) [
       | inl asked ↦ absurd (asked_no k small asked)
       | inr taken ↦ absurd (taken_no k small taken)
     ]

@@ -30,6 +30,7 @@ use Rattle.flow_block.specs.Copies.{copy_place}
 use Rattle.flow_block.specs.Node.{NodeState, NodeCall, after, hand_at, holds_in, takes_in, in_link_at, out_link_at, gives_from, makes_next_group, with_block}
 use Rattle.flow_block.specs.Planned.{block_makes, enters, is_into, links_to, source_by}
 use Rattle.flow_block.proofs.CopiesTaken.{taken_as_held}
+use Rattle.flow_block.proofs.PassesFreely.{held_round}
 use Rattle.flow_block.proofs.PortsChange.{kept_at_one, kept_at_all}
 use Rattle.flow_block.proofs.RoomBack.{length_back, kept_back}
 use Rattle.flow_block_law.specs.NodeLaw.{NodeLaw, InRound}
@@ -134,10 +135,6 @@ settles_stays gone ports round = by (reserves round)
     by : (some : Bool) → (cond some (record round { step = step_after round.step gone (none_comes ports) }) round).sources ≡ round.sources
     by true = refl
     by false = refl
-
-held_round : (p k : ℕ) (hand : Option Value) (node : NodeState) → (holds_in p k hand node).round ≡ node.round
-held_round p k None node = refl
-held_round p k (Some value) node = refl
 
 given_round : (k : ℕ) (head : Option Value) (node : NodeState) → (gives_from k head node).round ≡ node.round
 given_round k None node = refl

@@ -15,7 +15,7 @@ use Rattle.flow_group.specs.RoundLaw.{PortInRound, RoundLaw, WishesKept, level_o
 
 -- What a stage tells
 
-coming_is : (stage : TargetStage) → is_coming stage ≡ true → takes_freely stage ≡ false → (is_asked stage ≡ true) ⊎ (is_taken stage ≡ true)
+pub coming_is : (stage : TargetStage) → is_coming stage ≡ true → takes_freely stage ≡ false → (is_asked stage ≡ true) ⊎ (is_taken stage ≡ true)
 coming_is (Accepted i) comes free = absurd (cc)
 coming_is (Consuming i) comes free = absurd (cc)
 coming_is (Asking i) comes free = inl refl

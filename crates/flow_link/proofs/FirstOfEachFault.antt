@@ -1,5 +1,5 @@
 -- Where each fault of a draft stands first, by going through its blocks or links.
-use Rattle.std.proofs.Common.{◌≡◌, ℕ, zero, suc, ◌+◌, ◌<◌, Bool, true, false, cond, not, ◌&&◌, ◌||◌, List, [], ◌∷◌, ◌++◌, length, map, Option, Some, None, get_or, take, is_none, is_some, refl, ap, sym, ◌∙◌, subst, arith}
+use Rattle.std.proofs.Common.{◌≡◌, ℕ, zero, suc, ◌+◌, ◌<◌, Bool, true, false, cond, not, ◌||◌, List, [], ◌∷◌, ◌++◌, length, map, Option, Some, None, get_or, take, is_none, is_some, refl, ap, sym, ◌∙◌, subst, arith}
 use Rattle.std.specs.List.{find, position}
 use Rattle.std.specs.Option.{option_or, option_map}
 use Rattle.std.proofs.lemmas.Bool.{or_left}
@@ -11,13 +11,13 @@ use Rattle.flow_link.specs.declared.plan.Link.{Link}
 use Rattle.flow_link.specs.declared.plan.PlanFault.{PlanFault}
 use Rattle.flow_link.specs.declared.plan.PlanFault.TheVariants.{Limit, DuplicateName, UnknownBlock, Port, NoOutput, BadOption, CapacityBelowSize, SharedSource, Cycle}
 use Rattle.flow_link.specs.declared.plan.Place.TheVariants.{Block, Link as at_link}
-use Rattle.flow_lists.specs.Lists.{numbers_from, below, some}
-use Rattle.flow_link.specs.Plan.{block_named, block_in, link_in, named_link, named_links, planned_links, is_reserving}
+use Rattle.flow_lists.specs.Lists.{numbers_from, below}
+use Rattle.flow_link.specs.Plan.{block_named, block_in, link_in, named_link, named_links, planned_links}
 use Rattle.flow_link.specs.PlanFaults.{lacks_port, lacks_output, options_fit, is_in, holds_no_group, shares_among, stands, faults_in_order, first_plan_fault}
 use Rattle.flow_link.specs.NotBuilt.{stands_now, first_at, name_faults, end_faults, option_faults, is_built_block, is_bad_block, first_fault_now, shared_first, fault_of_ways}
 use Rattle.flow_link.specs.Layout.{IsLaidOut}
 use Rattle.flow_link.proofs.LinksLaidOut.{laid_out_of, none_step}
-use Rattle.flow_lists.proofs.FirstInOrder.{position_is_first, none_below}
+use Rattle.flow_lists.proofs.FirstInOrder.{position_is_first}
 
 module _ {W : Type 0} (blocks : List (BlockDef W)) where
   pub named_link_at : (links : List LinkDef) (l : ℕ) (d : LinkDef) → l < length links
