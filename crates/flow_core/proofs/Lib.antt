@@ -6,6 +6,7 @@ pub mod FaultsNumbered
 pub mod FreshNets
 pub mod InputsMove
 pub mod InputsTakeFreely
+pub mod KeptForOne
 pub mod KeptIsLawful
 pub mod LinesKeep
 pub mod NetworksInOrder

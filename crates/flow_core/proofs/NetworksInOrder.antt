@@ -10,12 +10,13 @@ use Rattle.flow_block_law.proofs.NodesKept.{nodes_kept}
 use Rattle.flow_block_law.proofs.NodesRest.{nodes_rest}
 use Rattle.flow_block_law.proofs.ViewsMove.{calls_move_views}
 use Rattle.flow_core.specs.Numbers.{BlocksFaultByNumber}
-use Rattle.flow_core.specs.Statements.{EventsKeep, FreshKeeps, KeptIsLawful, StillIsQuiet, SchedulesGoWell}
+use Rattle.flow_core.specs.Statements.{EventsKeep, FreshKeeps, KeptIsLawful, KeptIsHeld, StillIsQuiet, SchedulesGoWell}
 use Rattle.flow_core.proofs.BlocksMove.{blocks_move}
 use Rattle.flow_core.proofs.EventsKeep.{events_keep}
 use Rattle.flow_core.proofs.FaultsNumbered.{blocks_fault_by_number}
 use Rattle.flow_core.proofs.FreshNets.{fresh_keeps}
 use Rattle.flow_core.proofs.InputsMove.{inputs_move}
+use Rattle.flow_core.proofs.KeptForOne.{kept_is_held}
 use Rattle.flow_core.proofs.KeptIsLawful.{kept_is_lawful}
 use Rattle.flow_core.proofs.SchedulesGoWell.{schedules_go_well}
 use Rattle.flow_core.proofs.StillIsQuiet.{still_is_quiet}
@@ -33,13 +34,16 @@ all_events_keep W =
 pub kept_nets_are_lawful : (W : Type 0) → KeptIsLawful W
 kept_nets_are_lawful W = kept_is_lawful (nodes_are_lawful W) (inputs_are_parts W)
 
+pub kept_nets_hold : (W : Type 0) → KeptIsHeld W
+kept_nets_hold W = kept_is_held (nodes_are_lawful W) (inputs_are_parts W)
+
 pub still_nets_are_quiet : (W : Type 0) → StillIsQuiet W
 still_nets_are_quiet W =
     still_is_quiet (nodes_are_still W) (nodes_rest W) (nodes_are_lawful W) (inputs_are_parts W)
 
 pub all_schedules_go_well : (W : Type 0) → SchedulesGoWell W
 all_schedules_go_well W =
-    schedules_go_well (all_events_keep W) (fresh_nets_keep W) (kept_nets_are_lawful W) (still_nets_are_quiet W)
+    schedules_go_well (all_events_keep W) (fresh_nets_keep W) (kept_nets_are_lawful W) (kept_nets_hold W) (still_nets_are_quiet W)
 
 pub all_blocks_fault_by_number : (W : Type 0) → BlocksFaultByNumber W
 all_blocks_fault_by_number W = blocks_fault_by_number (all_schedules_go_well W)

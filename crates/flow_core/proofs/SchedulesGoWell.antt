@@ -18,7 +18,7 @@ use Rattle.flow_block.specs.Planned.{input_place}
 use Rattle.flow_core.specs.Events.{NetEvent, after, after_move, moved_by, source_moves, target_moves, source_sees, target_sees, with_line, line_after, with_input, is_of_source, input_after, input_call}
 use Rattle.flow_core.specs.Keeps.{IsRun, NetKeeps}
 use Rattle.flow_core.specs.State.{NetState, line_at, input_at, fresh_net}
-use Rattle.flow_core.specs.Statements.{EventsKeep, FreshKeeps, KeptIsLawful, StillIsQuiet, SchedulesGoWell, Goes, Answers}
+use Rattle.flow_core.specs.Statements.{EventsKeep, FreshKeeps, KeptIsLawful, KeptIsHeld, StillIsQuiet, SchedulesGoWell, Goes, Answers}
 
 -- what is posted stays
 same_call : (call : Option InputCall) (input : InputState) → input_trace (input_after call input) ≡ input_trace input
@@ -101,13 +101,14 @@ module _ {W : Type 0} (layout : Layout W) (meaning : ℕ → Value → Result (L
         let rest = all_events events goes.0 new first.keeps goes.1.1 in
         record { keeps = rest.keeps; same = rest.same ∙ first.same }
 
-pub schedules_go_well : {W : Type 0} → EventsKeep W → FreshKeeps W → KeptIsLawful W → StillIsQuiet W → SchedulesGoWell W
-schedules_go_well keep fresh lawful quiet layout meaning runs posted events now count goes =
+pub schedules_go_well : {W : Type 0} → EventsKeep W → FreshKeeps W → KeptIsLawful W → KeptIsHeld W → StillIsQuiet W → SchedulesGoWell W
+schedules_go_well keep fresh lawful held quiet layout meaning runs posted events now count goes =
     let start = fresh_net layout posted in
     let comes = all_events layout meaning keep runs events start now (fresh layout meaning runs posted count) goes in
     record {
       lawful = lawful layout meaning runs now comes.keeps;
       links = comes.keeps.lines;
       same_inputs = comes.same;
+      kept = held layout meaning runs now comes.keeps;
       quiet = λ still. quiet layout meaning runs now comes.keeps still;
     }

@@ -2,16 +2,19 @@
 use Rattle.std.specs.Prelude.{◌≡◌, ℕ, ◌<◌, ◌⊎◌, List, [], ◌∷◌, length, count_by, Some, Result, is_some, true}
 use Rattle.flow_value.specs.declared.value.Value.{Value}
 use Rattle.flow_link.specs.declared.phase.Move.{Move}
+use Rattle.flow_link.specs.declared.phase.Move.TheVariants.{Deny}
 use Rattle.flow_link.specs.Layout.{Layout}
+use Rattle.flow_lawful.specs.Composes.{SpeaksForOne}
 use Rattle.flow_lawful.specs.Lawful.{Lawful}
 use Rattle.flow_link.specs.Phase.{phase_after}
-use Rattle.flow_link.specs.Plan.{link_in}
+use Rattle.flow_link.specs.Plan.{block_in, link_in, is_one_taker}
 use Rattle.flow_lawful.specs.Quiet.{Quiet}
 use Rattle.flow_link.specs.Trace.{InputTrace}
+use Rattle.flow_link.specs.Views.{SourceStage}
 use Rattle.flow_core.specs.AtRest.{AtRest}
 use Rattle.flow_core.specs.Events.{NetEvent, Enabled, MayHappen, after, peek_by, is_of_source}
 use Rattle.flow_core.specs.Keeps.{IsRun, NetKeeps, LineKeeps}
-use Rattle.flow_core.specs.State.{NetState, line_at, run_of_net, fresh_net}
+use Rattle.flow_core.specs.State.{NetState, line_at, ends_of, run_of_net, fresh_net}
 
 module _ {W : Type 0} (layout : Layout W) (meaning : ℕ → Value → Result (List Value) ℕ) where
   -- nothing may happen any more
@@ -36,12 +39,21 @@ module _ {W : Type 0} (layout : Layout W) (meaning : ℕ → Value → Result (L
   Goes [] old new = new ≡ old
   Goes (event ∷ events) old new = (mid : NetState) × (Answers event old mid × Goes events mid new)
 
+  -- what is kept for a target that reserves. A block that gives each message once speaks for one link at a time, so that nobody else
+  -- is offered it or given it; of a copy each link has its own. And the target that claims it is given it
+  pub record HoldsForOne (net : NetState) : Type 0 where
+    pub alone : (b : ℕ) → b < length layout.blocks → is_one_taker (block_in layout.blocks b).kind ≡ true
+        → SpeaksForOne (run_of_net layout meaning net) (ends_of layout net) b
+    pub granted : (l i : ℕ) → l < length layout.links → (ends_of layout net l).source.stage ≡ SourceStage.claimed i
+        → Enabled layout net (NetEvent.at_link l Deny) → ⊥
+
   -- what is known of a network that came from its start by such a list
   pub record GoesWell (start now : NetState) : Type 0 where
     pub lawful : Lawful (run_of_net layout meaning now)
     -- each link is in order, and each end of it has seen its phase
     pub links : (l : ℕ) → l < length layout.links → LineKeeps layout now l
     pub same_inputs : (run_of_net layout meaning now).trace.inputs ≡ (run_of_net layout meaning start).trace.inputs
+    pub kept : HoldsForOne now
     -- and it is quiet where nothing may happen any more
     pub quiet : IsStill now → Quiet (run_of_net layout meaning now)
 
@@ -66,6 +78,11 @@ module _ (W : Type 0) where
   abbrev pub KeptIsLawful : Type 0
   KeptIsLawful = OfEachNet λ layout meaning.
       (net : NetState) → NetKeeps layout meaning net → Lawful (run_of_net layout meaning net)
+
+  -- and what is kept is kept for one
+  abbrev pub KeptIsHeld : Type 0
+  KeptIsHeld = OfEachNet λ layout meaning.
+      (net : NetState) → NetKeeps layout meaning net → HoldsForOne layout meaning net
 
   -- what an end would do next is a move that its link's phase allows
   abbrev pub NextIsAllowed : Type 0

@@ -1,7 +1,7 @@
 //! Laws about the states of a network. Each stands on a function that does nothing: whoever calls it has the whole law.
 ghost use Rattle.flow_core.specs.Numbers.{BlocksFaultByNumber};
-ghost use Rattle.flow_core.specs.Statements.{EventsKeep, FreshKeeps, KeptIsLawful, NextIsAllowed, SchedulesGoWell};
-ghost use Rattle.flow_core.specs.Statements.{StillIsQuiet, StillRests};
+ghost use Rattle.flow_core.specs.Statements.{EventsKeep, FreshKeeps, KeptIsHeld, KeptIsLawful, NextIsAllowed};
+ghost use Rattle.flow_core.specs.Statements.{SchedulesGoWell, StillIsQuiet, StillRests};
 
 /// A network in which nothing has happened is in order.
 pub fn fresh_networks_are_in_order<W>()
@@ -16,6 +16,12 @@ pub fn events_keep_networks_in_order<W>()
 /// The run of a network in order is lawful.
 pub fn networks_in_order_are_lawful<W>()
     ensures { KeptIsLawful W }
+{}
+
+/// In a network in order, what a source keeps for a target that reserves is offered and given to nobody else, and the target
+/// that claims it is given it. Of a copy, each link has its own.
+pub fn kept_messages_go_to_one<W>()
+    ensures { KeptIsHeld W }
 {}
 
 /// What an end of a link would do next, by its own data alone, is a move that the link's phase allows.
@@ -33,8 +39,8 @@ pub fn quiet_networks_are_at_rest<W>()
     ensures { StillRests W }
 {}
 
-/// Whatever events are asked for, in whatever order: the run so far is lawful, and where nothing may happen any more it
-/// is quiet.
+/// Whatever events are asked for, in whatever order: the run so far is lawful, what is kept for a target goes to it alone, and
+/// where nothing may happen any more the run is quiet.
 pub fn every_schedule_goes_well<W>()
     ensures { SchedulesGoWell W }
 {}

@@ -1,5 +1,5 @@
--- A block stays of its kind by each call, with as many ports, and with as much room at the first.
-use Rattle.std.proofs.Common.{◌≡◌, ℕ, ◌-◌, Bool, true, false, cond, List, [], ◌∷◌, length, map, set, take, is_some, is_none, Option, Some, None, Result, Ok, Err, IfOk, OnErr, refl, sym, subst, ◌∙◌}
+-- A block stays of its kind by each call, with as many ports, and each has as much room and takes messages as before.
+use Rattle.std.proofs.Common.{◌≡◌, ℕ, ◌-◌, Bool, true, false, cond, List, [], ◌∷◌, length, map, set, take, is_some, is_none, Option, Some, None, Result, Ok, Err, IfOk, OnErr, refl, ap, sym, subst, ◌∙◌}
 use Rattle.std.proofs.lemmas.List.{length-map, length-set}
 use Rattle.std.specs.declared.alloc.AllocError.{AllocError}
 use Rattle.flow_value.specs.declared.value.Value.{Value}
@@ -33,26 +33,31 @@ use Rattle.flow_block.proofs.PortsChange.{kept_at_one, kept_at_all}
 use Rattle.flow_block.proofs.RoomBack.{length_back, kept_back}
 use Rattle.flow_kinds.specs.Kinds.{IsOf}
 
+-- what a port is made with: its capacity, and whether it reserves
+abbrev fixed_of : PortState → Option ℕ × Bool
+fixed_of port = (port.capacity, port.reserves)
+
 pub record SameShape (old new : BlockState) : Type 0 where
   pub kind : new.kind ≡ old.kind
   pub count : length new.ports ≡ length old.ports
-  pub room : (port_at 0 new).capacity ≡ (port_at 0 old).capacity
+  pub same : (p : ℕ) → fixed_of (port_at p new) ≡ fixed_of (port_at p old)
 
 pub stays_of : (kind : BlockKind) (old new : BlockState) → SameShape old new → IsOf kind old → IsOf kind new
 stays_of kind old new same is = record {
   kind_is = same.kind ∙ is.kind_is;
   alone = λ e. same.count ∙ is.alone e;
-  once = λ e. same.room ∙ is.once e;
+  once = λ e. ap (λ (fixed : Option ℕ × Bool). fixed.0) (same.same 0) ∙ is.once e;
+  freely = λ p. ap (λ (fixed : Option ℕ × Bool). fixed.1) (same.same p) ∙ is.freely p;
 }
 
 same_shape : (block : BlockState) → SameShape block block
-same_shape block = record { kind = refl; count = refl; room = refl }
+same_shape block = record { kind = refl; count = refl; same = λ p. refl }
 
 both_same : (a b c : BlockState) → SameShape a b → SameShape b c → SameShape a c
 both_same a b c first second = record {
   kind = second.kind ∙ first.kind;
   count = second.count ∙ first.count;
-  room = second.room ∙ first.room;
+  same = λ p. second.same p ∙ first.same p;
 }
 
 as_it_is : (old block new : BlockState) → new ≡ block → SameShape old block → SameShape old new
@@ -60,65 +65,62 @@ as_it_is old block new is same = subst (λ (b : BlockState). SameShape old b) (s
 
 -- Where ports change
 
-abbrev room_of : PortState → Option ℕ
-room_of port = port.capacity
-
-at_one : (block : BlockState) (p : ℕ) (port : PortState) → port.capacity ≡ (port_at p block).capacity
+at_one : (block : BlockState) (p : ℕ) (port : PortState) → fixed_of port ≡ fixed_of (port_at p block)
     → SameShape block (record block { ports = set block.ports p port })
 at_one block p port same = record {
   kind = refl;
   count = length-set block.ports p port;
-  room = kept_at_one room_of block.ports p 0 port same;
+  same = λ q. kept_at_one fixed_of block.ports p q port same;
 }
 
-at_all : (block : BlockState) (change : PortState → PortState) → ((port : PortState) → (change port).capacity ≡ port.capacity)
+at_all : (block : BlockState) (change : PortState → PortState) → ((port : PortState) → fixed_of (change port) ≡ fixed_of port)
     → SameShape block (record block { ports = map change block.ports })
 at_all block change same = record {
   kind = refl;
   count = length-map block.ports change;
-  room = kept_at_all room_of change block.ports 0 same;
+  same = λ q. kept_at_all fixed_of change block.ports q same;
 }
 
-known_room : (link : ℕ) (port : PortState) (place : Option ℕ) → (with_link_at place link port).capacity ≡ port.capacity
-known_room link port None = refl
-known_room link port (Some k) = refl
+known_fixed : (link : ℕ) (port : PortState) (place : Option ℕ) → fixed_of (with_link_at place link port) ≡ fixed_of port
+known_fixed link port None = refl
+known_fixed link port (Some k) = refl
 
-closed_room : (port : PortState) (place : Option ℕ) → (closes_link place port).capacity ≡ port.capacity
-closed_room port None = refl
-closed_room port (Some k) = refl
+closed_fixed : (port : PortState) (place : Option ℕ) → fixed_of (closes_link place port) ≡ fixed_of port
+closed_fixed port None = refl
+closed_fixed port (Some k) = refl
 
-answered_room : (link header : ℕ) (how : MessageStatus) (port : PortState) → (answered link header how port).capacity ≡ port.capacity
-answered_room link header status.Accepted port = known_room link port (place_of link port.ends)
-answered_room link header status.Postponed port = known_room link port (place_of link port.ends)
-answered_room link header status.DecliningPermanently port = closed_room port (place_of link port.ends)
-answered_room link header status.Declined port = refl
-answered_room link header status.NotAvailable port = refl
+answered_fixed : (link header : ℕ) (how : MessageStatus) (port : PortState) → fixed_of (answered link header how port) ≡ fixed_of port
+answered_fixed link header status.Accepted port = known_fixed link port (place_of link port.ends)
+answered_fixed link header status.Postponed port = known_fixed link port (place_of link port.ends)
+answered_fixed link header status.DecliningPermanently port = closed_fixed port (place_of link port.ends)
+answered_fixed link header status.Declined port = refl
+answered_fixed link header status.NotAvailable port = refl
 
-arrived_room : (value : Value) (port : PortState) (place : Option ℕ) → (arrives_at place value port).capacity ≡ port.capacity
-arrived_room value port None = refl
-arrived_room value port (Some k) = refl
+arrived_fixed : (value : Value) (port : PortState) (place : Option ℕ) → fixed_of (arrives_at place value port) ≡ fixed_of port
+arrived_fixed value port None = refl
+arrived_fixed value port (Some k) = refl
 
-consumed_room : (port : PortState) (place : Option ℕ) → (consumes_at place port).capacity ≡ port.capacity
-consumed_room port None = refl
-consumed_room port (Some k) = where_postponed (is_postponed (stage_at k port))
+consumed_fixed : (port : PortState) (place : Option ℕ) → fixed_of (consumes_at place port) ≡ fixed_of port
+consumed_fixed port None = refl
+consumed_fixed port (Some k) = where_postponed (is_postponed (stage_at k port))
   where
-    where_postponed : (postponed : Bool) → (cond postponed (port_consumes k port) port).capacity ≡ port.capacity
+    where_postponed : (postponed : Bool) → fixed_of (cond postponed (port_consumes k port) port) ≡ fixed_of port
     where_postponed true = refl
     where_postponed false = refl
 
-dropped_room : (port : PortState) (place : Option ℕ) → (drops_at place port).capacity ≡ port.capacity
-dropped_room port None = refl
-dropped_room port (Some k) = refl
+dropped_fixed : (port : PortState) (place : Option ℕ) → fixed_of (drops_at place port) ≡ fixed_of port
+dropped_fixed port None = refl
+dropped_fixed port (Some k) = refl
 
-held_room : (port : PortState) (place : Option ℕ) → (holds_at place port).capacity ≡ port.capacity
-held_room port None = refl
-held_room port (Some k) = refl
+held_fixed : (port : PortState) (place : Option ℕ) → fixed_of (holds_at place port) ≡ fixed_of port
+held_fixed port None = refl
+held_fixed port (Some k) = refl
 
-noted_room : (told : WishAnswer) (link : ℕ) (port : PortState) → (notes told link port).capacity ≡ port.capacity
-noted_room answer.Coming link port = refl
-noted_room answer.Held link port = held_room port (place_of link port.ends)
-noted_room answer.NotAvailable link port = dropped_room port (place_of link port.ends)
-noted_room answer.Withdrawn link port = dropped_room port (place_of link port.ends)
+noted_fixed : (told : WishAnswer) (link : ℕ) (port : PortState) → fixed_of (notes told link port) ≡ fixed_of port
+noted_fixed answer.Coming link port = refl
+noted_fixed answer.Held link port = held_fixed port (place_of link port.ends)
+noted_fixed answer.NotAvailable link port = dropped_fixed port (place_of link port.ends)
+noted_fixed answer.Withdrawn link port = dropped_fixed port (place_of link port.ends)
 
 -- By its own calls
 
@@ -126,7 +128,7 @@ module _ (old : BlockState) where
   stopped_stays : (how : Outcome) → SameShape old (stops_by how old)
   stopped_stays how =
       let ports = at_all old port_closes (λ port. refl) in
-      record { kind = refl; count = ports.count; room = ports.room }
+      record { kind = refl; count = ports.count; same = ports.same }
 
   fault_where : (number : ℕ) (ended : Bool) → SameShape old (cond ended old (stops_by (Faulted number) old))
   fault_where number true = same_shape old
@@ -136,23 +138,23 @@ module _ (old : BlockState) where
   copied_stays None = same_shape old
   copied_stays (Some value) =
       let port = at_one old 0 (gives_room (1 - copies_weight (copies_put value old.copies)) (takes_next (port_at 0 old))) refl in
-      record { kind = refl; count = port.count; room = port.room }
+      record { kind = refl; count = port.count; same = port.same }
 
   put_out_stays : (values : List Value) → SameShape old (puts_out values old)
   put_out_stays [] = at_one old 0 (gives_room 1 (takes_next (port_at 0 old))) refl
   put_out_stays (value ∷ values) =
       let port = at_one old 0 (takes_next (port_at 0 old)) refl in
-      record { kind = refl; count = port.count; room = port.room }
+      record { kind = refl; count = port.count; same = port.same }
 
   row_stays : SameShape old (makes_row old)
   row_stays =
       let port = at_one old 0 (takes_group old.size (port_at 0 old)) refl in
-      record { kind = refl; count = port.count; room = port.room }
+      record { kind = refl; count = port.count; same = port.same }
 
   tuple_stays : SameShape old (makes_tuple old)
   tuple_stays =
       let ports = at_all old takes_next (λ port. refl) in
-      record { kind = refl; count = ports.count; room = ports.room }
+      record { kind = refl; count = ports.count; same = ports.same }
 
   made_where : (made : BlockUnit) → SameShape old (goes_on_by_unit made old)
   made_where unit.Message = put_out_stays (take 1 (held_by old))
@@ -185,15 +187,15 @@ module _ (old : BlockState) where
   with_copies_stays : (copies : SpreadState) → SameShape old (with_copies copies old)
   with_copies_stays copies =
       let ports = at_all old (gives_room (copies_weight old.copies - copies_weight copies)) (λ port. refl) in
-      record { kind = refl; count = ports.count; room = ports.room }
+      record { kind = refl; count = ports.count; same = ports.same }
 
   offered_stays : (one : Bool) (place : Option ℕ) → SameShape old (offered_by one place old)
-  offered_stays true place = record { kind = refl; count = refl; room = refl }
+  offered_stays true place = record { kind = refl; count = refl; same = λ p. refl }
   offered_stays false None = same_shape old
   offered_stays false (Some k) = with_copies_stays (offers k (prepares k old.copies))
 
   answered_stays : (one : Bool) (link header : ℕ) (how : MessageStatus) → SameShape old (answered_by one link header how old)
-  answered_stays true link header how = record { kind = refl; count = refl; room = refl }
+  answered_stays true link header how = record { kind = refl; count = refl; same = λ p. refl }
   answered_stays false link header how =
       with_copies_stays (copy_answered how header (copy_place link old.copies.ends) old.copies)
 
@@ -204,7 +206,7 @@ module _ (old : BlockState) where
       record {
         kind = refl;
         count = length_back exits old.copies old.kind head old.ports;
-        room = kept_back exits old.copies old.kind head room_of old.ports 0 (λ back port. refl);
+        same = λ p. kept_back exits old.copies old.kind head fixed_of old.ports p (λ back port. refl);
       }
 
   where_given : (taken : Bool) (given : BlockState) → SameShape old given → SameShape old (cond taken given old)
@@ -227,7 +229,7 @@ module _ (old : BlockState) where
 
   -- As a target
 
-  port_stays : (link : ℕ) (change : PortState → PortState) → ((port : PortState) → (change port).capacity ≡ port.capacity)
+  port_stays : (link : ℕ) (change : PortState → PortState) → ((port : PortState) → fixed_of (change port) ≡ fixed_of port)
       → SameShape old (with_port_of link change old)
   port_stays link change same =
       at_one old (port_into link old.ports) (change (port_at (port_into link old.ports) old)) (same (port_at (port_into link old.ports) old))
@@ -235,7 +237,7 @@ module _ (old : BlockState) where
   wish_stays : (place : Option ℕ) → SameShape old (wishes place old)
   wish_stays None = same_shape old
   wish_stays (Some p) =
-      at_one old p (consumes_next (port_at p old)) (consumed_room (port_at p old) (next_place (port_at p old)))
+      at_one old p (consumes_next (port_at p old)) (consumed_fixed (port_at p old) (next_place (port_at p old)))
 
 at_once_stays : (block : BlockState) (once : Bool) → SameShape block (copies_where once block)
 at_once_stays block true = copied_stays block (first_of (held_by block))
@@ -244,17 +246,17 @@ at_once_stays block false = same_shape block
 pub takes_stay : (old new : BlockState) (call : TargetCall) → Takes old call new → SameShape old new
 takes_stay old new (TargetCall.offered link header may_postpone how) does =
     as_it_is old (with_port_of link (answered link header how) old) new does.1
-    (port_stays old link (answered link header how) (answered_room link header how))
+    (port_stays old link (answered link header how) (answered_fixed link header how))
 takes_stay old new (TargetCall.handed link header value) does =
     let arrived = with_port_of link (arrives link value) old in
     as_it_is old (copies_where (copies_at_once arrived) arrived) new does
     (both_same old arrived (copies_where (copies_at_once arrived) arrived)
-    (port_stays old link (arrives link value) (λ port. arrived_room value port (place_of link port.ends)))
+    (port_stays old link (arrives link value) (λ port. arrived_fixed value port (place_of link port.ends)))
     (at_once_stays arrived (copies_at_once arrived)))
 takes_stay old new (TargetCall.wished told) does =
     as_it_is old (wishes (wishing_port old.ports) old) new does.1 (wish_stays old (wishing_port old.ports))
 takes_stay old new (TargetCall.noted link told) does =
-    as_it_is old (with_port_of link (notes told link) old) new does (port_stays old link (notes told link) (noted_room told link))
+    as_it_is old (with_port_of link (notes told link) old) new does (port_stays old link (notes told link) (noted_fixed told link))
 
 -- Where memory is out, it stays as it was
 

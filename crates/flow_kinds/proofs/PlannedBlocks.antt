@@ -6,7 +6,7 @@ use Rattle.flow_link.specs.declared.draft.BlockKind.{BlockKind}
 use Rattle.flow_link.specs.declared.draft.BlockKind.TheVariants as kinds
 use Rattle.flow_link.specs.Layout.{Layout}
 use Rattle.flow_lists.specs.Lists.{every, below}
-use Rattle.flow_link.specs.Plan.{block_in, ports_by_kind, port_count, has_work, is_write_once}
+use Rattle.flow_link.specs.Plan.{block_in, ports_by_kind, port_count, has_work, is_write_once, is_reserving}
 use Rattle.flow_link.specs.PlanFaults.{is_name, is_in, allows, input_rule, output_rule, capacity_rule, work_rule, lanes_rule, size_rule, ports_rule, greedy_rule, keys_fit, ranges_fit, options_fit}
 use Rattle.flow_link.specs.declared.stage.TargetStage.TheVariants as target
 use Rattle.flow_lists.proofs.ListTests.{length_numbers}
@@ -156,8 +156,14 @@ module _ {W : Type 0} (layout : Layout W) (b : ℕ) where
 
   -- It is of its kind
 
-  pub planned_is : (kind : BlockKind) → def.kind ≡ kind → IsOf kind (planned_block layout b)
-  planned_is kind same = record {
+  freely_at : (numbers : List ℕ) (p : ℕ) → is_reserving def ≡ false
+      → (port_in (map (port_of_plan layout b) numbers) p).reserves ≡ false
+  freely_at [] p greedy = refl
+  freely_at (q ∷ numbers) zero greedy = greedy
+  freely_at (q ∷ numbers) (suc p) greedy = freely_at numbers p greedy
+
+  pub planned_is : (kind : BlockKind) → def.kind ≡ kind → is_reserving def ≡ false → IsOf kind (planned_block layout b)
+  planned_is kind same greedy = record {
     kind_is = same;
     alone = λ e.
         subst (λ (n : ℕ). length (ports_in n) ≡ 1)
@@ -166,6 +172,7 @@ module _ {W : Type 0} (layout : Layout W) (b : ℕ) where
         let here : is_write_once def.kind ≡ true = ap is_write_once same ∙ e in
         subst (λ (n : ℕ). (port_in (ports_in n) 0).capacity ≡ Some 1) (sym (one_port (once_alone def.kind here)))
         (one_room def.kind def.capacity here);
+    freely = λ p. freely_at (below (port_count def)) p greedy;
   }
 
   -- A block with a function has no size, and a batched join one lane

@@ -1,6 +1,6 @@
 //! A block without a function, with its kind as a type.
-ghost use Rattle.std.specs.Prelude.{◌≡◌, ℕ, ◌<◌, length, IfOk};
-ghost use Rattle.flow_link.specs.Plan.{block_in};
+ghost use Rattle.std.specs.Prelude.{◌≡◌, ℕ, ◌<◌, false, length, IfOk};
+ghost use Rattle.flow_link.specs.Plan.{block_in, is_reserving};
 ghost use Rattle.flow_link.specs.Planned.{layout_of};
 ghost use Rattle.flow_link.specs.declared.stage.TargetStage.TheVariants.{Free};
 ghost use Rattle.flow_block.specs.Traits.{target_over};
@@ -63,12 +63,13 @@ pub type GreedyJoin = TypedBlock<kind::GreedyJoin>;
 
 impl<K: Kind> TypedBlock<K> {
     /// The block of the plan with this number, in which nothing has happened. It fails only where memory is out. Over each
-    /// link into it an offer may be made.
+    /// link into it an offer may be made. A join that reserves is of no such type.
     ///
     /// It looks at each link of the plan once for each port, and once more.
     pub fn new<W>(alloc: Global, plan: &Plan<W>, number: usize) -> Result<TypedBlock<K>, AllocError>
         requires there { number < length (layout_of plan.now).blocks }
         requires kind { (block_in (layout_of plan.now).blocks number).kind ≡ K.kind }
+        requires greedy { is_reserving (block_in (layout_of plan.now).blocks number) ≡ false }
         ensures fresh { IfOk result (λ block. block ≡ planned_block (layout_of plan.now) number) }
         ensures rests { IfOk result (λ block. (link : ℕ) → target_over block.ports link ≡ Free) }
     {
@@ -79,8 +80,8 @@ impl<K: Kind> TypedBlock<K> {
         })
     }
 
-    /// What holds of each: it is of its kind, and has the ports of that kind. What takes one message in all has room for
-    /// one.
+    /// What holds of each: it is of its kind, and has the ports of that kind, none of which reserves. What takes one message
+    /// in all has room for one.
     pub fn is_of_its_kind(&self)
         ensures { IsOf K.kind self.now }
     {

@@ -1,6 +1,6 @@
 //! Small plans: a block between the buffers before it and those behind it.
-ghost use Rattle.std.specs.Prelude.{◌≡◌, ◌<◌, length};
-ghost use Rattle.flow_link.specs.Plan.{block_in};
+ghost use Rattle.std.specs.Prelude.{◌≡◌, ◌<◌, false, length};
+ghost use Rattle.flow_link.specs.Plan.{block_in, is_reserving};
 ghost use Rattle.flow_link.specs.Planned.{layout_of};
 
 use flow_link::{BlockDef, BlockKind, Draft, LinkDef, Plan, plan_check};
@@ -59,6 +59,7 @@ fn draft(alloc: Global, kind: BlockKind) -> Result<Draft<Steps>, AllocError> {
 pub(crate) fn plan(rt: &impl Abort, alloc: Global, kind: BlockKind) -> Plan<Steps>
     ensures there { MIDDLE < length (layout_of result).blocks }
     ensures kind { (block_in (layout_of result).blocks MIDDLE).kind ≡ kind }
+    ensures greedy { is_reserving (block_in (layout_of result).blocks MIDDLE) ≡ false }
 {
     let Ok(draft) = draft(alloc, kind) else {
         panic!(rt; "out of memory");
@@ -68,6 +69,9 @@ pub(crate) fn plan(rt: &impl Abort, alloc: Global, kind: BlockKind) -> Plan<Step
     };
     if plan.block_count() <= MIDDLE || plan.block(MIDDLE).kind != kind {
         panic!(rt; "the block in the middle is another");
+    }
+    if kind.unit().reserves(plan.block(MIDDLE).greedy) {
+        panic!(rt; "the block in the middle reserves");
     }
     plan
 }

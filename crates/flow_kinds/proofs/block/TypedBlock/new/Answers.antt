@@ -10,7 +10,7 @@ use Rattle.flow_kinds.proofs.block.TypedBlock.new.Goals as goal
 pub invariant_of-result : goal.invariant_of-result
 invariant_of-result g c =
     subst (IsOf g.K.Kind.kind) (sym c.in_ok-block.ensures)
-    (planned_is (layout_of c.args.plan.now) c.args.number g.K.Kind.kind c.requires.kind)
+    (planned_is (layout_of c.args.plan.now) c.args.number g.K.Kind.kind c.requires.kind c.requires.greedy)
 
 pub returns-clause-rests : goal.returns-clause-rests
 returns-clause-rests g c link =
