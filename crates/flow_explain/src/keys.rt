@@ -57,6 +57,7 @@ const BLOCK: &[Key] = &[
     key!("lanes", Count),
     key!("size", Count),
     key!("ports", Count),
+    key!("greedy", Boolean),
 ];
 
 const LINK: &[Key] = &[
@@ -71,7 +72,7 @@ const LINK: &[Key] = &[
 const TOP_NAMES: &[&str] = &["format", "block", "link"];
 
 const BLOCK_NAMES: &[&str] = &[
-    "name", "kind", "input", "capacity", "work", "lanes", "size", "ports",
+    "name", "kind", "input", "capacity", "work", "lanes", "size", "ports", "greedy",
 ];
 
 const LINK_NAMES: &[&str] = &["from", "to", "port", "when", "max", "propagate"];

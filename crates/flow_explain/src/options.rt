@@ -2,7 +2,9 @@
 use flow_link::BlockKind;
 
 /// The options of a block, by their keys.
-pub(crate) const OPTIONS: &[&str] = &["input", "capacity", "work", "lanes", "size", "ports"];
+pub(crate) const OPTIONS: &[&str] = &[
+    "input", "capacity", "work", "lanes", "size", "ports", "greedy",
+];
 
 /// Whether a block of this kind may have this option.
 pub(crate) fn allows(kind: BlockKind, option: &str) -> bool {
@@ -13,7 +15,7 @@ pub(crate) fn allows(kind: BlockKind, option: &str) -> bool {
             is_in(option, &["input", "capacity", "lanes", "work"])
         }
         BlockKind::Batch => is_in(option, &["input", "capacity", "size"]),
-        BlockKind::Join => is_in(option, &["capacity", "ports"]),
+        BlockKind::Join => is_in(option, &["capacity", "ports", "greedy"]),
         BlockKind::BatchedJoin => is_in(option, &["ports", "size"]),
     }
 }

@@ -49,6 +49,9 @@ pub(crate) fn add_plan_flaws(
     for block in 0..network.block_count() {
         add_small_capacity(alloc, network, block, flaws)?;
     }
+    for block in 0..network.block_count() {
+        add_shared_source(alloc, network, ends.as_slice(), block, flaws)?;
+    }
     add_circle(alloc, network, ends.as_slice(), flaws)
 }
 
@@ -277,6 +280,83 @@ fn add_small_capacity(
     add_flaw(flaws, fault, network.value_span(part, "capacity"), message)
 }
 
+// Adds that one block leads to two ports of a join that reserves, at the first link that makes it so.
+fn add_shared_source(
+    alloc: Global,
+    network: Network<'_>,
+    ends: &[Ends],
+    block: usize,
+    flaws: &mut Vec<Flaw>,
+) -> Result<(), AllocError> {
+    if !is_reserving(network, block) {
+        return Ok(());
+    }
+    let Some((first, second)) = shared_links(network, ends, block) else {
+        return Ok(());
+    };
+    let part = Part::Link(second);
+    let title = network.title(alloc, Part::Block(block))?;
+    let source = quoted(alloc, network.text_at(part, "from").unwrap_or(""))?;
+    let message = format!(in alloc;
+        "links {first} and {second} lead from {source} to two ports of {title}, which reserves: each port needs sources of its own."
+    )?;
+    let fault = TextFault::Plan(PlanFault::SharedSource(block));
+    add_flaw(flaws, fault, network.value_span(part, "from"), message)
+}
+
+// Whether a block is a join that is not greedy.
+fn is_reserving(network: Network<'_>, block: usize) -> bool {
+    let greedy = match network.value(Part::Block(block), "greedy") {
+        Some(value) => value.as_bool(),
+        None => None,
+    };
+    match network.kind_of(block) {
+        Some(kind) => kind.unit().reserves(greedy),
+        None => false,
+    }
+}
+
+// The first link from a block that another link leads from, too, to another port of this block; that one comes first.
+fn shared_links(network: Network<'_>, ends: &[Ends], block: usize) -> Option<(usize, usize)> {
+    for second in 0..ends.len() {
+        if let Some(first) = shared_before(network, ends, block, second) {
+            return Some((first, second));
+        }
+    }
+    None
+}
+
+// The first link in front of this one that leads from its source to another port of this block.
+fn shared_before(
+    network: Network<'_>,
+    ends: &[Ends],
+    block: usize,
+    second: usize,
+) -> Option<usize> {
+    let source = source_into(*ends.get(second)?, block)?;
+    let port = port_of(network, second);
+    for (first, other) in ends.iter().enumerate().take(second) {
+        if source_into(*other, block) == Some(source) && port_of(network, first) != port {
+            return Some(first);
+        }
+    }
+    None
+}
+
+// The source of a link that leads to this block.
+fn source_into(ends: Ends, block: usize) -> Option<usize> {
+    if ends.target == Some(block) {
+        ends.source
+    } else {
+        None
+    }
+}
+
+// The port to which a link leads.
+fn port_of(network: Network<'_>, link: usize) -> u32 {
+    network.count_at(Part::Link(link), "port").unwrap_or(0)
+}
+
 // The names of all blocks, in order, as far as they are texts.
 fn all_names<'t>(alloc: Global, network: Network<'t>) -> Result<Vec<Option<&'t str>>, AllocError> {
     let mut names = Vec::new(alloc);
@@ -399,7 +479,7 @@ fn add_port_flaw(
     let Some(kind) = network.kind_of(target) else {
         return Ok(());
     };
-    let port = network.count_at(part, "port").unwrap_or(0);
+    let port = port_of(network, link);
     let count = port_count(kind, network.count_at(Part::Block(target), "ports"));
     if port < count {
         return Ok(());

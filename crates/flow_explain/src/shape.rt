@@ -44,7 +44,7 @@ fn add_unknown_key(
 
 // What may have been meant by a key that a part does not have.
 fn key_hint(alloc: Global, part: Part, key: &str) -> Result<String, AllocError> {
-    if key == "greedy" || key == "ordered" || key == "groups" {
+    if key == "ordered" || key == "groups" {
         return String::from_str(alloc, " It is not built yet.");
     }
     let near = did_you_mean(alloc, key, key_names(part))?;

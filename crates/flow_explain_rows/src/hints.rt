@@ -74,11 +74,31 @@ const SHORT: &[(&str, &[&str])] = &[
         ],
     ),
     (
-        "block = [{greedy = true}]",
+        "block = [{ordered = true}]",
         &[
-            "net:2:11: error: block 0 has a key \"greedy\", which blocks do not have. It is not built yet.",
+            "net:2:11: error: block 0 has a key \"ordered\", which blocks do not have. It is not built yet.",
             "net:2:10: error: block 0 has no key \"name\", which all blocks have.",
             "net:2:10: error: block 0 has no key \"kind\", which all blocks have.",
+        ],
+    ),
+    (
+        "block = [{name = \"j\", kind = \"join\", gredy = false}]",
+        &[
+            "net:2:38: error: block 0 \"j\" has a key \"gredy\", which blocks do not have. Did you mean \"greedy\"?",
+        ],
+    ),
+    (
+        "block = [{name = \"j\", kind = \"join\", greedy = \"no\"}]",
+        &["net:2:47: error: \"greedy\" of block 0 \"j\" is to be true or false, and is a text."],
+    ),
+    (
+        "block = [{name = \"a\", kind = \"batch\", size = 1, greedy = false}]",
+        &["net:2:49: error: block 0 \"a\" is a batch, which has no \"greedy\"."],
+    ),
+    (
+        "block = [{name = \"a\", kind = \"buffer\"}, {name = \"j\", kind = \"join\", greedy = false}] ; link = [{from = \"a\", to = \"j\"}, {from = \"a\", to = \"j\", port = 1}]",
+        &[
+            "net:3:41: error: links 0 and 1 lead from \"a\" to two ports of block 1 \"j\", which reserves: each port needs sources of its own.",
         ],
     ),
     (

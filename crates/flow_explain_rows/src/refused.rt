@@ -37,7 +37,9 @@ const TEXTS: &str = r#"
 2 UnknownKey block 0 | block = [{name = "a", kind = "buffer", <<capasity>> = 1}]
 2 UnknownKey block 0 | block = [{<<sise>> = 1}]
 2 UnknownKey block 0 | block = [{<<port>> = 1}]
-2 UnknownKey block 0 | block = [{<<greedy>> = true}]
+2 UnknownKey block 0 | block = [{<<gredy>> = true}]
+2 UnknownKey block 0 | block = [{<<ordered>> = true}]
+2 UnknownKey block 0 | block = [{<<groups>> = 1}]
 2 UnknownKey block 0 | block = [{<<output>> = true}]
 2 UnknownKey block 2 | block = [{}, {}, {<<strange>> = 1}, {strange = 1}]
 2 UnknownKey link 0 | block = [] ; link = [{<<ports>> = 1}]
@@ -85,6 +87,8 @@ const TEXTS: &str = r#"
 4 WrongType link 0 | block = [] ; link = [{from = "a", to = "b", max = <<-1>>}]
 4 WrongType link 0 | block = [] ; link = [{from = "a", to = "b", max = <<4294967296>>}]
 4 WrongType block 0 | block = [{name = "a", kind = "buffer", ports = <<-1>>}]
+4 WrongType block 0 | block = [{name = "a", kind = "join", greedy = <<0>>}]
+4 WrongType block 0 | block = [{name = "a", kind = "buffer", greedy = <<"false">>}]
 4 WrongType link 0 | block = [] ; link = [{from = "a", to = "b", port = <<"0">>}]
 4 WrongType link 0 | block = [] ; link = [{from = "a", to = "b", port = <<4294967296>>}]
 # Predicates that there are not.
@@ -121,6 +125,18 @@ const TEXTS: &str = r#"
 8 Plan 6 BadOption block 2 | block = [{name = "in", kind = "buffer", input = true}, {name = "t", kind = "transform", work = ["int"]}, {name = "b", kind = "batch", size = <<0>>}, {name = "out", kind = "action", work = []}]
 8 Plan 7 CapacityBelowSize block 2 | block = [{name = "in", kind = "buffer", input = true}, {name = "t", kind = "transform", work = ["int"]}, {name = "b", kind = "batch", size = 3, capacity = <<2>>}, {name = "out", kind = "action", work = []}]
 8 Plan 6 BadOption block 1 | block = [{name = "a", kind = "batch", size = 3, capacity = 2}, <<{name = "b", kind = "batch"}>>]
+# Blocks of kinds that take each message at once, or by rules of their own.
+8 Plan 6 BadOption block 0 | block = [{name = "a", kind = "buffer", <<greedy>> = true}]
+8 Plan 6 BadOption block 0 | block = [{name = "a", kind = "action", work = [], <<greedy>> = false}]
+8 Plan 6 BadOption block 0 | block = [{name = "a", kind = "batch", size = 1, <<greedy>> = false}]
+8 Plan 6 BadOption block 0 | block = [{name = "a", kind = "batched_join", size = 1, <<greedy>> = true}]
+# Joins that reserve, with a block that leads to two of their ports. Another join may have it, and one port may have it twice.
+8 Plan 8 SharedSource block 1 | block = [{name = "s", kind = "buffer"}, {name = "j", kind = "join", greedy = false}] ; link = [{from = "s", to = "j"}, {from = <<"s">>, to = "j", port = 1}]
+8 Plan 8 SharedSource block 2 | block = [{name = "s", kind = "buffer"}, {name = "t", kind = "buffer"}, {name = "j", kind = "join", greedy = false}] ; link = [{from = "s", to = "j", port = 1}, {from = "s", to = "j", port = 1}, {from = "t", to = "j"}, {from = <<"s">>, to = "j", port = 0}]
+8 Plan 8 SharedSource block 3 | block = [{name = "s", kind = "buffer"}, {name = "t", kind = "buffer"}, {name = "j", kind = "join", greedy = false}, {name = "k", kind = "join", greedy = false}] ; link = [{from = "s", to = "j"}, {from = "s", to = "k", port = 1}, {from = "t", to = "j", port = 1}, {from = <<"s">>, to = "k"}]
+# That comes before a circle, and behind a capacity below a size.
+8 Plan 8 SharedSource block 1 | block = [{name = "s", kind = "buffer"}, {name = "j", kind = "join", greedy = false}] ; link = [{from = "j", to = "s"}, {from = "s", to = "j"}, {from = <<"s">>, to = "j", port = 1}]
+8 Plan 7 CapacityBelowSize block 2 | block = [{name = "s", kind = "buffer"}, {name = "j", kind = "join", greedy = false}, {name = "b", kind = "batch", size = 3, capacity = <<2>>}] ; link = [{from = "s", to = "j"}, {from = "s", to = "j", port = 1}]
 # Links that are in no plan. Only the first port is there.
 8 Plan 4 Port link 0 | block = [{name = "a", kind = "buffer"}, {name = "b", kind = "buffer"}] ; link = [{from = "a", to = "b", port = <<1>>}]
 8 Plan 4 Port link 1 | block = [{name = "a", kind = "buffer"}, {name = "b", kind = "buffer", ports = 2}] ; link = [{from = "a", to = "b", port = 0}, {from = "a", to = "b", port = <<1>>}]
