@@ -97,6 +97,27 @@ const WARNED: &[(&str, &str, &[&str])] = &[
         &[],
     ),
     (
+        "one block at two ports of a join that takes at once",
+        r#"block = [ ; {name = "in", kind = "buffer", input = true}, ; {name = "j", kind = "join", greedy = true}, ; {name = "out", kind = "action", work = []}, ; ] ; link = [ ; {from = "in", to = "j", propagate = true}, ; {from = "in", to = "j", port = 1}, ; {from = "j", to = "out", propagate = true}, ; ]"#,
+        &[
+            "net:4:1: warning: block 1 \"j\" matches by order",
+            "net:9:1: warning: nothing crosses link 1 while link 0 is open",
+        ],
+    ),
+    (
+        "joins that reserve, of the same two inputs",
+        r#"block = [ ; {name = "in", kind = "buffer", input = true}, ; {name = "more", kind = "buffer", input = true}, ; {name = "j", kind = "join", greedy = false}, ; {name = "k", kind = "join", greedy = false}, ; {name = "out", kind = "action", work = []}, ; ] ; link = [ ; {from = "in", to = "j", propagate = true}, ; {from = "more", to = "j", port = 1}, ; {from = "in", to = "k", propagate = true}, ; {from = "more", to = "k", port = 1}, ; {from = "j", to = "out", propagate = true}, ; {from = "k", to = "out", propagate = true}, ; ]"#,
+        &[
+            "net:5:1: warning: block 2 \"j\" matches by order",
+            "net:6:1: warning: block 3 \"k\" matches by order",
+        ],
+    ),
+    (
+        "a join that reserves, and may miss copies",
+        r#"block = [ ; {name = "in", kind = "buffer", input = true}, ; {name = "all", kind = "broadcast"}, ; {name = "t", kind = "transform", work = ["int"]}, ; {name = "j", kind = "join", greedy = false}, ; {name = "out", kind = "action", work = []}, ; ] ; link = [ ; {from = "in", to = "all", propagate = true}, ; {from = "all", to = "t", propagate = true}, ; {from = "t", to = "j", propagate = true}, ; {from = "all", to = "j", port = 1, propagate = true}, ; {from = "j", to = "out", propagate = true}, ; ]"#,
+        &["net:6:1: warning: block 3 \"j\" matches by order"],
+    ),
+    (
         "a port to which nothing leads",
         r#"block = [ ; {name = "in", kind = "buffer", input = true}, ; {name = "more", kind = "buffer", input = true}, ; {name = "j", kind = "join", ports = 3}, ; {name = "out", kind = "action", work = []}, ; ] ; link = [ ; {from = "in", to = "j", propagate = true}, ; {from = "more", to = "j", port = 1}, ; {from = "j", to = "out", propagate = true}, ; ]"#,
         &[

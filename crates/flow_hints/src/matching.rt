@@ -48,17 +48,9 @@ fn is_whole(ways: &Ways<'_>, way: Way) -> bool {
         return false;
     }
     if ways.copies(way.source) {
-        return has_room(ways, way.target);
+        return ways.takes_at_once(way.target);
     }
     ways.ways.iter().all(|other| other.source != way.source || other.link == way.link)
-}
-
-// Whether a block always takes what it is offered.
-fn has_room(ways: &Ways<'_>, block: usize) -> bool {
-    match ways.block(block) {
-        Some(block) => block.capacity.is_none() && block.kind != BlockKind::WriteOnce,
-        None => false,
-    }
 }
 
 // The block of whose messages this block gives one for each.

@@ -345,18 +345,7 @@ impl<'a, 'p> Look<'a, 'p> {
     }
 
     fn takes_all(&self, way: Way) -> bool {
-        way.when == When::Any && way.max.is_none() && self.has_room(way.target)
-    }
-
-    fn has_room(&self, block: usize) -> bool {
-        match self.ways.block(block) {
-            Some(block) => {
-                block.capacity.is_none()
-                    && block.kind != BlockKind::WriteOnce
-                    && block.greedy != Some(false)
-            }
-            None => false,
-        }
+        way.when == When::Any && way.max.is_none() && self.ways.takes_at_once(way.target)
     }
 }
 

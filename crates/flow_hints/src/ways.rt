@@ -80,6 +80,18 @@ impl<'p> Ways<'p> {
             None => false,
         }
     }
+
+    /// Whether the block takes each message at once, as long as it takes any.
+    pub(crate) fn takes_at_once(&self, block: usize) -> bool {
+        match self.block(block) {
+            Some(block) => {
+                block.capacity.is_none()
+                    && block.kind != BlockKind::WriteOnce
+                    && !block.kind.unit().reserves(block.greedy)
+            }
+            None => false,
+        }
+    }
 }
 
 fn is_copier(kind: BlockKind) -> bool {
