@@ -10,6 +10,9 @@ pub enum MergeFault<'n> {
     /// The block with this name is of a kind that keeps something from one message to the next.
     #[error("{0} is a {1}, and what it makes of the whole is not what it makes of the parts")]
     Kind(&'n str, Kind),
+    /// The join with this name reserves.
+    #[error("{0} is a join that reserves, and a network with one is not merged")]
+    Reserves(&'n str),
     /// This link has a `max`.
     #[error("link {0} has a max, which counts anew in each part")]
     Max(usize),

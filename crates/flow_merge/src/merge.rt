@@ -30,7 +30,7 @@ pub fn merge_reports<'n, W: Write>(
     }
 }
 
-/// Refuses a network with a block or a link that keeps or counts something over messages.
+/// Refuses a network with a block or a link that keeps or counts something over messages, or with a join that reserves.
 fn check_network<'n>(network: &Outline<'n>) -> Result<(), MergeFault<'n>> {
     if let Some(block) = network
         .blocks
@@ -38,6 +38,9 @@ fn check_network<'n>(network: &Outline<'n>) -> Result<(), MergeFault<'n>> {
         .find(|block| !keeps_nothing(block.kind))
     {
         return Err(MergeFault::Kind(block.name, block.kind));
+    }
+    if let Some(block) = network.blocks.iter().find(|block| block.reserves) {
+        return Err(MergeFault::Reserves(block.name));
     }
     match network.links.iter().position(|link| link.max.is_some()) {
         Some(number) => Err(MergeFault::Max(number)),

@@ -20,6 +20,8 @@ pub struct BlockOutline<'a> {
     pub size: Option<u32>,
     /// How many ports it has, at least one.
     pub ports: u32,
+    /// Whether it reserves a message at each port before it takes any.
+    pub reserves: bool,
 }
 
 /// A link of a network.

@@ -41,6 +41,7 @@ fn block_of<W>(block: &BlockDef<W>) -> BlockOutline<'_> {
             | Kind::TransformMany
             | Kind::Batch => 1,
         },
+        reserves: block.kind.unit().reserves(block.greedy),
     }
 }
 

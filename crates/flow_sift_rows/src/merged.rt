@@ -92,6 +92,14 @@ const REFUSED: &[(&str, &str)] = &[
         "kind = \"buffer\"\n[[link]]\nfrom = \"b\"\nto = \"c\"\nmax = 9",
         "link 0 has a max, which counts anew in each part",
     ),
+    (
+        "kind = \"join\"\ngreedy = false",
+        "b is a join that reserves, and a network with one is not merged",
+    ),
+    (
+        "kind = \"join\"\ngreedy = true",
+        "there is no part to merge",
+    ),
     ("kind = \"buffer\"", "there is no part to merge"),
 ];
 
