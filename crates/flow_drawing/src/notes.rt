@@ -30,6 +30,9 @@ pub(crate) fn write_options<W: Write>(writer: &mut W, block: &BlockOutline) -> i
             write!(writer, "{word}{number}")?;
         }
     }
+    if block.reserves {
+        writer.write_all(b", reserves")?;
+    }
     Ok(())
 }
 

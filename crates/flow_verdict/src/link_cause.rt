@@ -1,7 +1,7 @@
 //! Why a link carries no more, or no end.
 ghost use Rattle.std.specs.Prelude.{◌≤◌, ◌↔◌, IsTrue};
 
-use flow_outline::{LinkOutline, Outline, given_over};
+use flow_outline::{BlockOutline, LinkOutline, Outline, given_over};
 use flow_reading::{PrintedValue, Report, State};
 use std::io;
 use std::io::Write;
@@ -46,7 +46,16 @@ pub(crate) fn write_stuck<W: Write>(
     match reported.state {
         State::Faulted(_) => writer.write_all(b"faulted and takes no more"),
         State::Done | State::Completing => writer.write_all(b"takes no more"),
-        State::Open => writer.write_all(b"has no room for it"),
+        State::Open => writer.write_all(why_not_taken(target).as_bytes()),
+    }
+}
+
+/// Why a block that is open did not take a message that is there for it.
+fn why_not_taken(target: &BlockOutline) -> &'static str {
+    match (target.reserves, target.capacity) {
+        (false, _) => "has no room for it",
+        (true, None) => "takes whole rows alone, and has nothing at another port to go with it",
+        (true, Some(_)) => "takes whole rows alone, and lacks room or a message at another port",
     }
 }
 
