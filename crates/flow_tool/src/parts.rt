@@ -132,6 +132,7 @@ fn status_of(fault: MergeFault<'_>, parts: &[Report<'_>]) -> u8 {
         MergeFault::NoPart
         | MergeFault::Misfit(_, _)
         | MergeFault::Kind(_, _)
+        | MergeFault::Reserves(_)
         | MergeFault::Max(_)
         | MergeFault::Status(_, _)
         | MergeFault::Passed { .. } => match worst_status(parts) {
