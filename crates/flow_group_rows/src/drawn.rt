@@ -7,11 +7,13 @@ ghost use Rattle.std.specs.Prelude.{◌≡◌, ◌+◌, ◌≤◌, OnOk, IfOk, c
 ghost use Rattle.flow_link.specs.Planned.{layout_of};
 
 use crate::check::check;
+use crate::shares::share;
 use flow_link::{
     BlockDef, BlockKind, Draft, Ending, LinkDef, Plan, PlanFault, PlanRefusal, plan_check,
 };
-use flow_net::{Net, Posted};
-use flow_trial::{ENOUGH, add, came_to, do_first, has_lines, in_order, settles, told_with, wander};
+use flow_net::{Net, Posted, Settled};
+use flow_text::write_report;
+use flow_trial::{ENOUGH, add, do_first, has_lines, in_order, settles, told_with, wander};
 use flow_value::{Steps, Text, Value, When};
 use std::alloc::{AllocError, Global};
 use std::process::Abort;
@@ -229,7 +231,8 @@ pub(crate) struct Case<'a> {
     drawn: &'a str,
     /// Records, as `a,1 b,2`, or `none`.
     records: &'a str,
-    /// In each line a status and lines of the report; the network comes to one of them.
+    /// In each line a status and lines of the report, and behind a stroke rows that the records share, if they do. The
+    /// network comes to one of them.
     due: &'a str,
 }
 
@@ -315,11 +318,22 @@ impl Case<'_> {
 
     /// Whether what is due stands in the report of a network that is quiet.
     pub(crate) fn is_met(&self, alloc: Global, net: &Net<Steps>) -> Result<bool, Fail> {
-        let mut lists = Vec::new(alloc);
+        let mut report = Vec::new(alloc);
+        write_report(alloc, net, Settled::Quiet, &mut report)?;
+        self.is_told(alloc, None, report.as_slice())
+    }
+
+    /// Whether what is due stands in a report. A status has to be the one that is due, too.
+    fn is_told(&self, alloc: Global, status: Option<u8>, report: &[u8]) -> Result<bool, Fail> {
         for line in self.due.lines() {
-            lists.push(split_word(line).1)?;
+            let (due, others) = split_word(line);
+            let (lines, rows) = others.split_once(" | ").unwrap_or((others, ""));
+            let is_status = status.is_none() || due.parse::<u8>().ok() == status;
+            if is_status && has_lines(report, lines) && share(alloc, report, rows)? {
+                return Ok(true);
+            }
         }
-        Ok(came_to(alloc, net, lists.as_slice())?.is_some())
+        Ok(false)
     }
 
     /// Whether a run of the text over the records comes to what is due.
@@ -334,13 +348,7 @@ impl Case<'_> {
         let network = text(alloc, self.drawn)?;
         let records = records_of(alloc, self.records)?;
         let told = told_with(rt, alloc, &network, records.as_slice(), workers, ENOUGH)?;
-        for line in self.due.lines() {
-            let (status, lines) = split_word(line);
-            if status.parse::<u8>() == Ok(told.status) && has_lines(told.text.as_slice(), lines) {
-                return Ok(true);
-            }
-        }
-        Ok(false)
+        self.is_told(alloc, Some(told.status), told.text.as_slice())
     }
 
     /// Whether the draft, settled at once, comes to what is due.
@@ -382,8 +390,8 @@ fn check_orders(rt: &(impl Abort + Print), alloc: Global, case: Case) -> Result<
     Ok(())
 }
 
-/// Tests each case of a table, between which empty lines stand: as a text with two workers and with three, as a draft,
-/// and as a draft in several orders of events.
+/// Tests each case of a table, between which empty lines stand: as a text with one worker, with two and with eight, as a
+/// draft, and as a draft in several orders of events.
 pub(crate) fn check_cases(
     rt: &(impl Abort + Print + Threads + Wait + Sync),
     alloc: Global,
@@ -391,8 +399,9 @@ pub(crate) fn check_cases(
 ) -> Result<(), Fail> {
     for lines in table.trim().split("\n\n") {
         let case = read_case(lines)?;
+        check(rt, case.name, case.runs(rt, alloc, 1)?);
         check(rt, case.name, case.runs(rt, alloc, 2)?);
-        check(rt, case.name, case.runs(rt, alloc, 3)?);
+        check(rt, case.name, case.runs(rt, alloc, 8)?);
         check(rt, case.name, case.settles(alloc)?);
         check_orders(rt, alloc, case)?;
     }

@@ -61,11 +61,7 @@ const DRAFTS: &[(&str, Option<PlanFault>)] = &[
     ("j join", None),
     ("j join ports 3 capacity 1", None),
     ("j join greedy true", None),
-    // That a join reserves is not built.
-    (
-        "j join greedy false",
-        Some(PlanFault::BadOption(Place::Block(0))),
-    ),
+    ("j join greedy false", None),
     ("j* join", Some(PlanFault::BadOption(Place::Block(0)))),
     (
         "j join ports 0",
@@ -124,8 +120,17 @@ const DRAFTS: &[(&str, Option<PlanFault>)] = &[
         "j batched_join size 2 capacity 4",
         Some(PlanFault::BadOption(Place::Block(0))),
     ),
+    // Joins alone have the option that they reserve.
     (
         "j batched_join size 2 greedy true",
+        Some(PlanFault::BadOption(Place::Block(0))),
+    ),
+    (
+        "b batch size 2 greedy false",
+        Some(PlanFault::BadOption(Place::Block(0))),
+    ),
+    (
+        "b buffer greedy true",
         Some(PlanFault::BadOption(Place::Block(0))),
     ),
     (

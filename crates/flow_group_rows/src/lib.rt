@@ -11,3 +11,7 @@ mod copies;
 mod drawn;
 #[cfg(test)]
 mod joins;
+#[cfg(test)]
+mod reserving;
+#[cfg(test)]
+mod shares;
