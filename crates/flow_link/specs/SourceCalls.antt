@@ -1,11 +1,11 @@
 -- The calls of a source, and how its stages change by them.
-use Rattle.std.specs.Prelude.{◌≡◌, ◌≢◌, ℕ, Bool, true, false, ◌⊎◌, Option, Some, None}
+use Rattle.std.specs.Prelude.{◌≡◌, ◌≢◌, ℕ, ◌==◌, cond, Bool, true, false, ◌⊎◌, Option, Some, None}
 use Rattle.flow_value.specs.declared.value.Value.{Value}
 use Rattle.flow_value.specs.declared.message.MessageStatus.{MessageStatus}
 use Rattle.flow_value.specs.declared.message.MessageStatus.TheVariants as status
 use Rattle.flow_link.specs.declared.stage.SourceStage.{SourceStage}
 use Rattle.flow_link.specs.declared.stage.SourceStage.TheVariants.{Free, Out, Waiting, Accepted, Reserved, Refused}
-use Rattle.flow_link.specs.StagesMove.{MovesBy}
+use Rattle.flow_link.specs.StagesMove.{MovesBy, MovesTo}
 
 -- a call with its answer; links and messages by their ids
 pub data SourceCall : Type 0 where
@@ -15,6 +15,10 @@ pub data SourceCall : Type 0 where
   noted : ℕ → ℕ → MessageStatus → SourceCall
   -- over this link this message is consumed, if it is still there
   consumed : ℕ → ℕ → Option Value → SourceCall
+  -- over this link this message is to be kept, and whether it is
+  reserved : ℕ → ℕ → Bool → SourceCall
+  -- over this link the message that was kept is given up
+  released : ℕ → ℕ → SourceCall
 
 abbrev pub GoesOut : ℕ → SourceStage → SourceStage → Type 0
 GoesOut i Free stage = stage ≡ Out i
@@ -64,3 +68,22 @@ StaysOrForgets i old stage = stage ≡ old
 pub record GivesOver (link i : ℕ) (old new : ℕ → SourceStage) : Type 0 where
   pub here : new link ≡ Free
   pub elsewhere : (other : ℕ) → other ≢ link → StaysOrForgets i (old other) (new other)
+
+-- what is to be kept for the link: what it postponed, while no offer holds it back
+abbrev pub MayReserve : ℕ → Bool → SourceStage → Type 0
+MayReserve i busy (Waiting j) = (j ≡ i) × (busy ≡ false)
+MayReserve i busy _ = ⊥
+
+-- where a link stands after all answers for this message are forgotten
+abbrev pub stage_forgotten : ℕ → SourceStage → SourceStage
+stage_forgotten i (Waiting j) = cond (j == i) Free (Waiting j)
+stage_forgotten i stage = stage
+
+-- all answers for the message are forgotten, so it is offered anew
+pub record ForgetsAll (link i : ℕ) (old new : ℕ → SourceStage) : Type 0 where
+  pub here : new link ≡ Free
+  pub elsewhere : (other : ℕ) → other ≢ link → new other ≡ stage_forgotten i (old other)
+
+-- the message that was kept for this link is given up: its target waits on, as before it was kept, or is offered it anew
+abbrev pub GivesUp : (link i : ℕ) → (old new : ℕ → SourceStage) → Type 0
+GivesUp link i old new = MovesTo (Waiting i) link old new ⊎ ForgetsAll link i old new

@@ -10,6 +10,9 @@
 //!                    next_wish         where it postponed, and comes back by itself
 //! consume_message    hand_over         where the message is still there
 //!                    note_wish         where it is not available any more
+//! reserve_message    note_wish         where it asks: Held, or not available
+//! consume_message    hand_over         where it claims what is kept for it
+//! release_reservation                  where it gives up what is kept for it
 ghost use Rattle.std.specs.Prelude.{◌≡◌};
 ghost use Rattle.flow_link.specs.Fault.{make_fault_number};
 
@@ -153,11 +156,11 @@ pub trait SourceBlock: DataflowBlock {
     ghost use Rattle.std.specs.Prelude.{◌≡◌, ℕ, Bool, false, Ok, None, IfOk, IfSome, IfNone, IsSome, OnErr};
     ghost use Rattle.std.specs.Bool.{OnTrue};
     ghost use Rattle.flow_link.specs.declared.stage.SourceStage.{SourceStage};
-    ghost use Rattle.flow_link.specs.declared.stage.SourceStage.TheVariants.{Out};
+    ghost use Rattle.flow_link.specs.declared.stage.SourceStage.TheVariants.{Out, Reserved};
     ghost use Rattle.flow_link.specs.BlockCalls.{Stays};
     ghost use Rattle.flow_link.specs.StagesMove.{MovesTo};
     ghost use Rattle.flow_link.specs.SourceCalls.{SourceCall, Offers, stage_answered, MayConsume, is_promised};
-    ghost use Rattle.flow_link.specs.SourceCalls.{GivesOver, NothingOut};
+    ghost use Rattle.flow_link.specs.SourceCalls.{GivesOver, NothingOut, MayReserve, GivesUp};
 
     /// Where it stands at each link.
     ghost source_stage: { Self → ℕ → SourceStage };
@@ -198,6 +201,27 @@ pub trait SourceBlock: DataflowBlock {
         ensures moves { IfSome result (λ _. GivesOver link header (source_stage self.old) (source_stage self.new)) }
         ensures kept { IfNone result (self.new ≡ self.old) }
         ensures promised { OnTrue (is_promised (source_stage self.old link)) (IsSome result) }
+        ensures outcome_stays { Stays (Self.outcome self.old) (Self.outcome self.new) };
+
+    /// Keeps the message, which the target at this link put off, for that target: until it is consumed over this link or
+    /// given up, it stays there. False, where the message has gone elsewhere, or is kept for another.
+    ///
+    /// Microsoft: `ISourceBlock<TOutput>.ReserveMessage`.
+    fn reserve_message(&mut self, link: LinkId, header: MessageHeader) -> bool
+        requires { MayReserve header (is_busy self.old) (source_stage self.old link) }
+        ensures gives { gives self.old (SourceCall.reserved link header result) self.new }
+        ensures moves { OnTrue result (MovesTo (Reserved header) link (source_stage self.old) (source_stage self.new)) }
+        ensures kept { (result ≡ false) → self.new ≡ self.old }
+        ensures outcome_stays { Stays (Self.outcome self.old) (Self.outcome self.new) };
+
+    /// Gives up the message that is kept for the target at this link. Where the source has one message for all its links, it
+    /// forgets all answers for it, and offers it anew; where each link has its own copy, this link waits on.
+    ///
+    /// Microsoft: `ISourceBlock<TOutput>.ReleaseReservation`.
+    fn release_reservation(&mut self, link: LinkId, header: MessageHeader)
+        requires { source_stage self.old link ≡ Reserved header }
+        ensures gives { gives self.old (SourceCall.released link header) self.new }
+        ensures moves { GivesUp link header (source_stage self.old) (source_stage self.new) }
         ensures outcome_stays { Stays (Self.outcome self.old) (Self.outcome self.new) };
 
     /// Without an offer out or accepted, wishes are answered.
