@@ -43,10 +43,13 @@ const TEXTS: &str = r#"
 2 UnknownKey block 0 | block = [{name = "a", kind = "buffer", capasity = 1}]
 2 UnknownKey block 0 | block = [{sise = 1}]
 2 UnknownKey block 0 | block = [{port = 1}]
-2 UnknownKey block 0 | block = [{greedy = true}]
+2 UnknownKey block 0 | block = [{gredy = true}]
+2 UnknownKey block 0 | block = [{ordered = true}]
+2 UnknownKey block 0 | block = [{groups = 1}]
 2 UnknownKey block 0 | block = [{output = true}]
 2 UnknownKey block 2 | block = [{}, {}, {strange = 1}, {strange = 1}]
 2 UnknownKey link 0 | block = [] ; link = [{ports = 1}]
+2 UnknownKey link 0 | block = [] ; link = [{greedy = true}]
 2 UnknownKey link 1 | block = [] ; link = [{}, {strange = 1}]
 # Keys that are required.
 3 MissingKey top | # nothing else
@@ -54,6 +57,7 @@ const TEXTS: &str = r#"
 3 MissingKey block 0 | block = [{kind = "buffer"}, {name = "a", kind = "transfrom"}]
 3 MissingKey block 0 | block = [{name = "a"}]
 3 MissingKey block 1 | block = [{name = "a", kind = "buffer"}, {}]
+3 MissingKey block 0 | block = [{greedy = true}]
 3 MissingKey link 0 | block = [] ; link = [{to = "a"}]
 3 MissingKey link 0 | block = [] ; link = [{from = "a"}]
 3 MissingKey link 0 | block = [] ; link = [{port = 0}]
@@ -72,6 +76,8 @@ const TEXTS: &str = r#"
 4 WrongType block 0 | block = [{name = "a", kind = "transfrom"}]
 4 WrongType block 0 | block = [{name = "a", kind = "writeonce"}]
 4 WrongType block 0 | block = [{name = "a", kind = "buffer", input = "true"}]
+4 WrongType block 0 | block = [{name = "a", kind = "join", greedy = "false"}]
+4 WrongType block 0 | block = [{name = "a", kind = "join", greedy = 0}]
 4 WrongType block 0 | block = [{name = "a", kind = "action", work = "id"}]
 4 WrongType block 0 | block = [{name = "a", kind = "action", work = ["id", 2]}]
 4 WrongType link 0 | block = [] ; link = [{from = 1, to = "a"}]
@@ -127,13 +133,22 @@ const TEXTS: &str = r#"
 8 Plan 6 BadOption block 2 | block = [{name = "in", kind = "buffer", input = true}, {name = "t", kind = "transform", work = ["int"]}, {name = "b", kind = "batch", size = 0}, {name = "out", kind = "action", work = []}]
 8 Plan 7 CapacityBelowSize block 2 | block = [{name = "in", kind = "buffer", input = true}, {name = "t", kind = "transform", work = ["int"]}, {name = "b", kind = "batch", size = 3, capacity = 2}, {name = "out", kind = "action", work = []}]
 8 Plan 6 BadOption block 1 | block = [{name = "a", kind = "batch", size = 3, capacity = 2}, {name = "b", kind = "batch"}]
+# That a block reserves is said of joins alone.
+8 Plan 6 BadOption block 0 | block = [{name = "a", kind = "buffer", greedy = true}]
+8 Plan 6 BadOption block 0 | block = [{name = "a", kind = "batch", size = 1, greedy = true}]
+8 Plan 6 BadOption block 0 | block = [{name = "a", kind = "batch", size = 1, greedy = false}]
+8 Plan 6 BadOption block 0 | block = [{name = "a", kind = "batched_join", size = 1, greedy = false}]
 # Links that are in no plan. Only the first port is there.
 8 Plan 4 Port link 0 | block = [{name = "a", kind = "buffer"}, {name = "b", kind = "buffer"}] ; link = [{from = "a", to = "b", port = 1}]
 8 Plan 4 Port link 1 | block = [{name = "a", kind = "buffer"}, {name = "b", kind = "buffer", ports = 2}] ; link = [{from = "a", to = "b", port = 0}, {from = "a", to = "b", port = 1}]
 8 Plan 6 BadOption block 1 | block = [{name = "a", kind = "buffer"}, {name = "b", kind = "buffer", ports = 2}] ; link = [{from = "a", to = "b", port = 0}]
 8 Plan 6 BadOption link 0 | block = [{name = "a", kind = "buffer"}] ; link = [{from = "a", to = "a", max = 0}]
 8 Plan 6 BadOption link 0 | block = [{name = "a", kind = "buffer"}] ; link = [{from = "a", to = "a", max = 2147483648}]
+# shared source
+8 Plan 8 SharedSource block 1 | block = [{name = "a", kind = "buffer", input = true}, {name = "j", kind = "join", ports = 2, greedy = false}] ; link = [{from = "a", to = "j"}, {from = "a", to = "j", port = 1}]
 # With two faults the first in order counts.
+8 Plan 8 SharedSource block 1 | block = [{name = "a", kind = "buffer"}, {name = "j", kind = "join", greedy = false}] ; link = [{from = "j", to = "a"}, {from = "a", to = "j"}, {from = "a", to = "j", port = 1}]
+8 Plan 7 CapacityBelowSize block 0 | block = [{name = "a", kind = "batch", size = 2, capacity = 1}, {name = "j", kind = "join", greedy = false}] ; link = [{from = "a", to = "j"}, {from = "a", to = "j", port = 1}]
 # An unknown key comes before one that is missing, wherever they stand.
 2 UnknownKey link 0 | block = [{}] ; link = [{strange = 1}]
 2 UnknownKey block 0 | block = [{strange = 1, name = 1, kind = 1}]
