@@ -5,10 +5,10 @@ use Rattle.std.proofs.lemmas.List.{length-set}
 use Rattle.flow_value.specs.declared.value.Value.{Value}
 use Rattle.flow_link.specs.declared.phase.LinkEnd.{LinkEnd}
 use Rattle.flow_link.specs.declared.phase.Phase.{Phase}
-use Rattle.flow_link.specs.declared.phase.Phase.TheVariants.{Idle, Wanted}
+use Rattle.flow_link.specs.declared.phase.Phase.TheVariants.{Idle, Wanted, Asked, Postponed}
 use Rattle.flow_value.specs.declared.message.MessageStatus.{MessageStatus}
 use Rattle.flow_value.specs.declared.message.MessageStatus.TheVariants as status
-use Rattle.flow_spread.specs.ByLink.{place_of, still_owes, answered, is_there, gives_home, consumes}
+use Rattle.flow_spread.specs.ByLink.{place_of, still_owes, answered, is_there, gives_home, consumes, reserved, reserves, releases}
 use Rattle.flow_link.specs.declared.stage.SourceStage.{SourceStage}
 use Rattle.flow_link.specs.declared.stage.SourceStage.TheVariants.{Out, Accepted, Wished, AskedBy, Claimed}
 use Rattle.flow_link.specs.Stage.{source_looks}
@@ -116,6 +116,25 @@ pub consume_left : (copies : SpreadState) (link header : ℕ) → place_of link 
     → copies_weight (consumes link header copies) ≤ copies_weight copies
 consume_left copies link header here =
     consume_where copies (place_of link copies.ends) header (is_there (place_of link copies.ends) header copies) here
+
+keep_where : (copies : SpreadState) (k header : ℕ) (kept : Bool) → k < length copies.ends
+    → copies_weight (cond kept (holds k (looks k (Asked header) copies)) copies) ≤ copies_weight copies
+keep_where copies k header true here =
+    let asked = looks k (Asked header) copies in
+    let count : length asked.ends ≡ length copies.ends = length-set copies.ends k _ in
+    let near : k < length asked.ends = omega (arith, here, count) in
+    let first = look_left copies k here (Asked header) in
+    let last = hold_left asked k near in
+    omega (arith, first, last)
+keep_where copies k header false here = omega arith
+
+pub keep_left : (copies : SpreadState) (link header : ℕ) → place_of link copies.ends < length copies.ends
+    → copies_weight (reserves link header copies) ≤ copies_weight copies
+keep_left copies link header here = keep_where copies (place_of link copies.ends) header (reserved header copies) here
+
+pub release_left : (copies : SpreadState) (link header : ℕ) → place_of link copies.ends < length copies.ends
+    → copies_weight (releases link header copies) ≤ copies_weight copies
+release_left copies link header here = look_left copies (place_of link copies.ends) here (Postponed header)
 
 -- The marks that may follow
 

@@ -47,14 +47,14 @@ there_where s k stage e some = at (ltb k (length s.ends)) refl
     at false is = absurd (some (sym (ap (λ (b : Bool). cond b (copy_shown (end_at s k) s) source.Refused) is) ∙ e))
 
 -- one end changes, and keeps its link
-record Alone (k : ℕ) (old new : SpreadState) : Type 0 where
+pub record Alone (k : ℕ) (old new : SpreadState) : Type 0 where
   pub count : length new.ends ≡ length old.ends
   pub places : (link : ℕ) → place_of link new.ends ≡ place_of link old.ends
   pub others : (j : ℕ) → j ≢ k → end_at new j ≡ end_at old j
   pub id : new.id ≡ old.id
   pub element : new.element ≡ old.element
 
-alone_changed : (k : ℕ) (s : SpreadState) (end : CopyEnd) → end.link.rule.id ≡ (link_at s k).rule.id → Alone k s (changes k end s)
+pub alone_changed : (k : ℕ) (s : SpreadState) (end : CopyEnd) → end.link.rule.id ≡ (link_at s k).rule.id → Alone k s (changes k end s)
 alone_changed k s end same = record {
   count = length-set s.ends k end;
   places = λ link.
@@ -65,7 +65,7 @@ alone_changed k s end same = record {
   element = refl;
 }
 
-alone_both : (k : ℕ) (a b c : SpreadState) → Alone k a b → Alone k b c → Alone k a c
+pub alone_both : (k : ℕ) (a b c : SpreadState) → Alone k a b → Alone k b c → Alone k a c
 alone_both k a b c first second = record {
   count = second.count ∙ first.count;
   places = λ link. second.places link ∙ first.places link;
@@ -80,12 +80,12 @@ shown_same end old new id element =
     (ap is_some element) id
 
 module _ (k : ℕ) (old new : SpreadState) (alone : Alone k old new) (l : k < length old.ends) where
-  copy_here : (link : ℕ) → place_of link old.ends ≡ k → copy_over new link ≡ copy_shown (end_at new k) new
+  pub copy_here : (link : ℕ) → place_of link old.ends ≡ k → copy_over new link ≡ copy_shown (end_at new k) new
   copy_here link at =
       ap (λ (n : ℕ). copy_place_shown n new) (alone.places link ∙ at)
       ∙ shown_there new k (let near : k < length new.ends = omega (arith, l, alone.count) in near)
 
-  copy_elsewhere : (link other : ℕ) → place_of link old.ends ≡ k → other ≢ link → copy_over new other ≡ copy_over old other
+  pub copy_elsewhere : (link other : ℕ) → place_of link old.ends ≡ k → other ≢ link → copy_over new other ≡ copy_over old other
   copy_elsewhere link other at apart =
       ap (λ (n : ℕ). copy_place_shown n new) (alone.places other) ∙ by (place_of other old.ends) refl (ltb (place_of other old.ends) (length old.ends)) refl
     where

@@ -1,10 +1,12 @@
 pub mod CopiesFit
 pub mod CopiesSent
 pub mod CopiesTaken
+pub mod CopyKept
 pub mod CopyStands
 pub mod GroupNoted
 pub mod GroupsFit
 pub mod GroupsTaken
+pub mod HeadKept
 pub mod JobsBack
 pub mod JobsCount
 pub mod JobsOut

@@ -11,11 +11,17 @@ use Rattle.flow_block.proofs.SourceStands.{shown_known, known_where, first_of_fo
 
 accepted_where : (ready same : Bool) (next i header : ℕ) (busy : Bool) → (i == next) ≡ same
     → MayConsume header busy (cond (ready && same) (source.Accepted i) source.Crossing)
-    → is_promised (cond (ready && same) (source.Accepted i) source.Crossing) ≡ true
     → (ready ≡ true) × (((i == next) ≡ true) × ((header == next) ≡ true))
-accepted_where true true next i header busy is may promised = (refl, (is, subst (λ (n : ℕ). (n == next) ≡ true) may is))
-accepted_where true false next i header busy is may promised = absurd may
-accepted_where false same next i header busy is may promised = absurd may
+accepted_where true true next i header busy is may = (refl, (is, subst (λ (n : ℕ). (n == next) ≡ true) may is))
+accepted_where true false next i header busy is may = absurd may
+accepted_where false same next i header busy is may = absurd may
+
+reserved_where : (ready same : Bool) (next i header : ℕ) (busy : Bool) → (i == next) ≡ same
+    → MayConsume header busy (cond (ready && same) (source.Reserved i) source.Crossing)
+    → (ready ≡ true) × (((i == next) ≡ true) × ((header == next) ≡ true))
+reserved_where true true next i header busy is may = (refl, (is, subst (λ (n : ℕ). (n == next) ≡ true) may is))
+reserved_where true false next i header busy is may = absurd may
+reserved_where false same next i header busy is may = absurd may
 
 never_kept : (same : Bool) (i : ℕ) → is_promised (cond same (source.Waiting i) source.Free) ≡ true → ⊥
 never_kept true i e = cc
@@ -30,10 +36,11 @@ pub promised_by : (ready busy : Bool) (next header : ℕ) (stage : SourceStage) 
     → is_promised (source_shown ready next stage) ≡ true
     → (ready ≡ true) × (((header == next) ≡ true) × ((out : Bool) → is_taken next out stage ≡ true))
 promised_by ready busy next header (source.Accepted i) may promised =
-    let told = accepted_where ready (i == next) next i header busy refl may promised in (told.0, (told.1.1, λ out. told.1.0))
+    let told = accepted_where ready (i == next) next i header busy refl may in (told.0, (told.1.1, λ out. told.1.0))
+promised_by ready busy next header (source.Reserved i) may promised =
+    let told = reserved_where ready (i == next) next i header busy refl may in (told.0, (told.1.1, λ out. told.1.0))
 promised_by ready busy next header (source.Waiting i) may promised = absurd (never_kept (i == next) i promised)
 promised_by ready busy next header (source.Out i) may promised = absurd (never_out (ready && i == next) i promised)
-promised_by ready busy next header (source.Reserved _) may promised = absurd may
 promised_by ready busy next header source.Free may promised = absurd may
 promised_by ready busy next header (source.Posted _) may promised = absurd may
 promised_by ready busy next header (source.Wished _) may promised = absurd may

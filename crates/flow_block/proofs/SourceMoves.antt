@@ -1,11 +1,12 @@
 -- How a block's stages at the links out of it change by the calls that name a link: it shares its messages out, or it copies.
-use Rattle.std.proofs.Common.{◌≡◌, ℕ, ◌==◌, ◌&&◌, not, Bool, true, false, cond, List, [], ◌∷◌, IfSome, IfNone, IfOk, OnOk, Result, Ok, Err, Option, Some, None, is_some, refl, ap, sym, ◌∙◌, subst}
-use Rattle.std.proofs.lemmas.Bool.{and_parts}
+use Rattle.std.proofs.Common.{◌≡◌, ℕ, ◌==◌, ◌&&◌, not, Bool, true, false, cond, List, [], ◌∷◌, IfSome, IfNone, IfOk, OnOk, inl, inr, Result, Ok, Err, Option, Some, None, is_some, refl, ap, sym, ◌∙◌, subst}
+use Rattle.std.proofs.lemmas.Bool.{OnTrue_from, and_parts}
+use Rattle.std.specs.Bool.{OnTrue}
 use Rattle.flow_value.specs.declared.value.Value.{Value}
 use Rattle.flow_value.specs.declared.message.MessageStatus.{MessageStatus}
 use Rattle.flow_link.specs.declared.stage.SourceStage.{SourceStage}
-use Rattle.flow_link.specs.declared.stage.SourceStage.TheVariants.{Out}
-use Rattle.flow_link.specs.SourceCalls.{Offers, stage_answered, MayConsume, is_promised, GivesOver}
+use Rattle.flow_link.specs.declared.stage.SourceStage.TheVariants.{Out, Waiting, Reserved}
+use Rattle.flow_link.specs.SourceCalls.{Offers, stage_answered, MayConsume, is_promised, GivesOver, ForgetsAll, GivesUp}
 use Rattle.flow_link.specs.StagesMove.{MovesTo}
 use Rattle.flow_outlet.specs.Outlet.{OutletState, is_empty, first_of, head_of, may_offer}
 use Rattle.flow_outlet.specs.ByLink.{place_of, named_at, offers_at, answered, is_there as is_head_there, tests_consume, consumed}
@@ -13,8 +14,10 @@ use Rattle.flow_spread.specs.Spread.{next_place}
 use Rattle.flow_spread.specs.ByLink.{place_of as copy_place, named_at as copy_named, answered as copy_answered, tests_consume as tests_copy, is_there}
 use Rattle.flow_spread.proofs.NextOffer.{next_is}
 use Rattle.flow_block.specs.Block.{BlockState, with_copies}
-use Rattle.flow_block.specs.Traits.{source_over, carries, offers_over, copy_over, carries_copy, copies_over, offers_copy_at, shares, source_by, source_at, is_busy, busy_with, is_source_busy, may_take, gives_over, may_take_copy, copies_home}
+use Rattle.flow_block.specs.Traits.{source_over, carries, offers_over, copy_over, carries_copy, copies_over, offers_copy_at, shares, source_by, source_at, is_busy, busy_with, is_source_busy, may_take, gives_over, may_take_copy, copies_home, may_keep, keeps_head, releases_head, may_keep_copy, keeps_copy, releases_its_copy}
+use Rattle.flow_block.proofs.CopyKept.{copy_keep_moves, copy_release_moves}
 use Rattle.flow_block.proofs.CopyStands.{copy_answer_moves, copy_offer_moves, promised_copy, copy_consume_moves}
+use Rattle.flow_block.proofs.HeadKept.{keep_moves, release_moves}
 use Rattle.flow_block.proofs.SourceStands.{answer_moves, offer_moves, consume_moves, there_is_head}
 use Rattle.flow_block.proofs.PromisedStands.{promised_head}
 
@@ -197,3 +200,59 @@ copy_consumes block link header is may =
 pub gives_so : (block after new : BlockState) (link header : ℕ) (given value : Option Value) → Consumes block after link header given
     → value ≡ given → new ≡ after → IfSome value (λ _. GivesOver link header (source_at block) (source_at new))
 gives_so block after new link header given value told value_is new_is = rw (value_is, new_is) told.moves
+
+-- A message that is kept, or given up
+
+-- what is known where a message is to be kept
+pub record Keeps (block new : BlockState) (link header : ℕ) (kept : Bool) : Type 0 where
+  pub moves : OnTrue kept (MovesTo (Reserved header) link (source_at block) (source_at new))
+  pub same : kept ≡ false → new ≡ block
+
+keeps_where : (block after : BlockState) (link header : ℕ) (keep : Bool)
+    → (keep ≡ true → MovesTo (Reserved header) link (source_at block) (source_at after))
+    → Keeps block (cond keep after block) link header keep
+keeps_where block after link header true moves =
+    record { moves = OnTrue_from true _ (λ _. moves refl); same = λ e. absurd (cc) }
+keeps_where block after link header false moves = record { moves = tt; same = λ _. refl }
+
+pub head_keeps : (block : BlockState) (link header : ℕ) → shares block ≡ true
+    → Keeps block (cond (may_keep link header block.exits) (keeps_head link header block) block) link header
+    (may_keep link header block.exits)
+head_keeps block link header is =
+    keeps_where block (keeps_head link header block) link header (may_keep link header block.exits)
+    (λ keep. by_exits (MovesTo (Reserved header) link) block (keeps_head link header block) is is (keep_moves block.exits link header keep))
+
+pub copy_keeps : (block : BlockState) (link header : ℕ) → shares block ≡ false
+    → Keeps block (cond (may_keep_copy link header block.copies) (keeps_copy link header block) block) link header
+    (may_keep_copy link header block.copies)
+copy_keeps block link header is =
+    keeps_where block (keeps_copy link header block) link header (may_keep_copy link header block.copies)
+    (λ keep. by_copies (MovesTo (Reserved header) link) block (keeps_copy link header block) is is
+    (copy_keep_moves block.copies link header keep))
+
+-- the same of what the call answered and left
+pub keeps_so : (block after new : BlockState) (link header : ℕ) (keep kept : Bool) → Keeps block after link header keep → kept ≡ keep
+    → new ≡ after → Keeps block new link header kept
+keeps_so block after new link header keep kept told kept_is new_is =
+    subst (λ (k : Bool). Keeps block new link header k) (sym kept_is)
+    (subst (λ (b : BlockState). Keeps block b link header keep) (sym new_is) told)
+
+pub head_kept : (block : BlockState) (link header : ℕ) → shares block ≡ true → source_at block link ≡ Reserved header
+    → source_over block.exits link ≡ Reserved header
+head_kept block link header is kept = subst (λ (stages : ℕ → SourceStage). stages link ≡ Reserved header) (at_shared block is) kept
+
+pub copy_kept : (block : BlockState) (link header : ℕ) → shares block ≡ false → source_at block link ≡ Reserved header
+    → copy_over block.copies link ≡ Reserved header
+copy_kept block link header is kept = subst (λ (stages : ℕ → SourceStage). stages link ≡ Reserved header) (at_copied block is) kept
+
+pub head_releases : (block : BlockState) (link header : ℕ) → shares block ≡ true → source_at block link ≡ Reserved header
+    → GivesUp link header (source_at block) (source_at (releases_head link header block))
+head_releases block link header is kept =
+    inr (by_exits (ForgetsAll link header) block (releases_head link header block) is is
+    (release_moves block.exits link header (head_kept block link header is kept)))
+
+pub copy_releases : (block : BlockState) (link header : ℕ) → shares block ≡ false → source_at block link ≡ Reserved header
+    → GivesUp link header (source_at block) (source_at (releases_its_copy link header block))
+copy_releases block link header is kept =
+    inl (by_copies (MovesTo (Waiting header) link) block (releases_its_copy link header block) is is
+    (copy_release_moves block.copies link header (copy_kept block link header is kept)))

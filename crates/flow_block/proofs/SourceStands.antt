@@ -28,27 +28,27 @@ own_link link ends (Some k) at l =
     eqb-true (end_in ends k).rule.id link (position-Some (λ (end : OutEnd). end.rule.id == link) ends k no_end at).1
 own_link link ends None at l = absurd (omega arith)
 
-own : (o : OutletState) (link : ℕ) → place_of link o.ends < length o.ends → (end_at o (place_of link o.ends)).rule.id ≡ link
+pub own : (o : OutletState) (link : ℕ) → place_of link o.ends < length o.ends → (end_at o (place_of link o.ends)).rule.id ≡ link
 own o link l = own_link link o.ends (position (λ (end : OutEnd). end.rule.id == link) o.ends) refl l
 
 pub shown_known : (o : OutletState) (k : ℕ) → k < length o.ends → place_shown k o ≡ end_shown k (end_at o k) o
 shown_known o k l = ap (λ (there : Bool). cond there (end_shown k (end_at o k) o) source.Refused) (lt-ltb k (length o.ends) l)
 
 -- an end over which no offer is out
-shown_dark : (o : OutletState) (k : ℕ) (end : OutEnd) → is_at o.offer k ≡ false → end_shown k end o ≡ source_shown false o.next end.stage
+pub shown_dark : (o : OutletState) (k : ℕ) (end : OutEnd) → is_at o.offer k ≡ false → end_shown k end o ≡ source_shown false o.next end.stage
 shown_dark o k end dark =
     ap (λ (at : Bool). source_shown (at && not (is_empty o.left) && is_some o.parcel && has_room end.rule.max end.given) o.next end.stage) dark
 
 -- all ends but one become so, and each end has its link
-record Apart (change : OutEnd → OutEnd) (k : ℕ) (old new : OutletState) : Type 0 where
+pub record Apart (change : OutEnd → OutEnd) (k : ℕ) (old new : OutletState) : Type 0 where
   pub count : length new.ends ≡ length old.ends
   pub places : (link : ℕ) → place_of link new.ends ≡ place_of link old.ends
   pub others : (j : ℕ) → j ≢ k → end_at new j ≡ change (end_at old j)
 
-abbrev Alone : ℕ → OutletState → OutletState → Type 0
+abbrev pub Alone : ℕ → OutletState → OutletState → Type 0
 Alone = Apart (λ end. end)
 
-alone_set : (k : ℕ) (old new : OutletState) (end : OutEnd) → new.ends ≡ set old.ends k end → end.rule.id ≡ (end_at old k).rule.id → Alone k old new
+pub alone_set : (k : ℕ) (old new : OutletState) (end : OutEnd) → new.ends ≡ set old.ends k end → end.rule.id ≡ (end_at old k).rule.id → Alone k old new
 alone_set k old new end ends_are same = record {
   count = ap length ends_are ∙ length-set old.ends k end;
   places = λ link.
@@ -57,47 +57,51 @@ alone_set k old new end ends_are same = record {
   others = λ j apart. ap (λ ends. end_in ends j) ends_are ∙ get_or-set_other old.ends k j end no_end apart;
 }
 
-set_here : (k : ℕ) (old new : OutletState) (end : OutEnd) → new.ends ≡ set old.ends k end → k < length old.ends → end_at new k ≡ end
+pub set_here : (k : ℕ) (old new : OutletState) (end : OutEnd) → new.ends ≡ set old.ends k end → k < length old.ends → end_at new k ≡ end
 set_here k old new end ends_are l = ap (λ ends. end_in ends k) ends_are ∙ get_or-set_same old.ends k end no_end l
 
-alone_both : (k : ℕ) (a b c : OutletState) → Alone k a b → Alone k b c → Alone k a c
+pub alone_both : (k : ℕ) (a b c : OutletState) → Alone k a b → Alone k b c → Alone k a c
 alone_both k a b c first second = record {
   count = second.count ∙ first.count;
   places = λ link. second.places link ∙ first.places link;
   others = λ j apart. second.others j apart ∙ first.others j apart;
 }
 
-end_forgotten : (ends : List OutEnd) (k : ℕ) → end_in (map forgotten ends) k ≡ forgotten (end_in ends k)
-end_forgotten [] k = refl
-end_forgotten (end ∷ ends) zero = refl
-end_forgotten (end ∷ ends) (suc k) = end_forgotten ends k
+-- every end changes so
+pub end_mapped : (change : OutEnd → OutEnd) → change no_end ≡ no_end → (ends : List OutEnd) (k : ℕ)
+    → end_in (map change ends) k ≡ change (end_in ends k)
+end_mapped change none [] k = sym none
+end_mapped change none (end ∷ ends) zero = refl
+end_mapped change none (end ∷ ends) (suc k) = end_mapped change none ends k
 
-apart_forgotten : (k : ℕ) (a b c : OutletState) → Alone k a b → c.ends ≡ map forgotten b.ends → Apart forgotten k a c
-apart_forgotten k a b c alone ends_are = record {
-  count = ap length ends_are ∙ length-map b.ends forgotten ∙ alone.count;
+pub apart_mapped : (change : OutEnd → OutEnd) → change no_end ≡ no_end → ((end : OutEnd) → (change end).rule.id ≡ end.rule.id)
+    → (k : ℕ) (a b c : OutletState) → Alone k a b → c.ends ≡ map change b.ends → Apart change k a c
+apart_mapped change none same k a b c alone ends_are = record {
+  count = ap length ends_are ∙ length-map b.ends change ∙ alone.count;
   places = λ link.
       ap (place_of link) ends_are
-      ∙ ap₂ unwrap_or (place_map (λ (e : OutEnd). e.rule.id == link) forgotten (λ _. refl) b.ends) (length-map b.ends forgotten)
+      ∙ ap₂ unwrap_or (place_map (λ (e : OutEnd). e.rule.id == link) change (λ end. ap (λ (id : ℕ). id == link) (same end)) b.ends)
+      (length-map b.ends change)
       ∙ alone.places link;
-  others = λ j apart. ap (λ ends. end_in ends j) ends_are ∙ end_forgotten b.ends j ∙ ap forgotten (alone.others j apart);
+  others = λ j apart. ap (λ ends. end_in ends j) ends_are ∙ end_mapped change none b.ends j ∙ ap change (alone.others j apart);
 }
 
 -- at the links
 module _ (change : OutEnd → OutEnd) (old new : OutletState) (link : ℕ) (known : place_of link old.ends < length old.ends) (apart : Apart change (place_of link old.ends) old new) where
-  abbrev here : ℕ
+  abbrev pub here : ℕ
   here = place_of link old.ends
 
   differ : (other : ℕ) → other ≢ link → place_of other old.ends < length old.ends → place_of other old.ends ≢ here
   differ other unlike l one =
       unlike (sym (own old other l) ∙ ap (λ (j : ℕ). (end_at old j).rule.id) one ∙ own old link known)
 
-  there : (stage : SourceStage) → end_shown here (end_at new here) new ≡ stage → source_over new link ≡ stage
+  pub there : (stage : SourceStage) → end_shown here (end_at new here) new ≡ stage → source_over new link ≡ stage
   there stage is =
       ap (λ (k : ℕ). place_shown k new) (apart.places link)
       ∙ shown_known new here (let l : here < length new.ends = omega (arith, known, apart.count) in l) ∙ is
 
   -- what is so of each other end is so of each other link
-  elsewhere : (Stays : SourceStage → SourceStage → Type 0) → Stays source.Refused source.Refused
+  pub elsewhere : (Stays : SourceStage → SourceStage → Type 0) → Stays source.Refused source.Refused
       → ((j : ℕ) → j ≢ here → Stays (end_shown j (end_at old j) old) (end_shown j (change (end_at old j)) new))
       → (other : ℕ) → other ≢ link → Stays (source_over old other) (source_over new other)
   elsewhere Stays unknown each other unlike =
@@ -121,7 +125,7 @@ module _ (change : OutEnd → OutEnd) (old new : OutletState) (link : ℕ) (know
           (subst (λ (s : SourceStage). Stays s source.Refused) (sym before) unknown)
 
 -- no offer is out over another end, before and after
-stays : (old new : OutletState) (link : ℕ) → place_of link old.ends < length old.ends → Alone (place_of link old.ends) old new → new.next ≡ old.next
+pub stays : (old new : OutletState) (link : ℕ) → place_of link old.ends < length old.ends → Alone (place_of link old.ends) old new → new.next ≡ old.next
     → ((j : ℕ) → j ≢ place_of link old.ends → is_at old.offer j ≡ false) → ((j : ℕ) → j ≢ place_of link old.ends → is_at new.offer j ≡ false)
     → (other : ℕ) → other ≢ link → source_over new other ≡ source_over old other
 stays old new link known alone next before after =
@@ -130,7 +134,7 @@ stays old new link known alone next before after =
     ∙ ap (λ (n : ℕ). source_shown false n (end_at old j).stage) next
     ∙ sym (shown_dark old j (end_at old j) (before j far)))
 
-out_only : (k j : ℕ) → j ≢ k → is_at (Some k) j ≡ false
+pub out_only : (k j : ℕ) → j ≢ k → is_at (Some k) j ≡ false
 out_only k j far = false_from_ne_true (k == j) (λ e. far (sym (eqb-true k j e)))
 
 -- The answer to an offer
@@ -167,6 +171,10 @@ never_taken : (both : Bool) (i header : ℕ) → cond both (source.Accepted i) s
 never_taken true i header e = cc
 never_taken false i header e = cc
 
+never_kept : (both : Bool) (i header : ℕ) → cond both (source.Reserved i) source.Crossing ≡ source.Out header → ⊥
+never_kept true i header e = cc
+never_kept false i header e = cc
+
 pub shown_out : (ready : Bool) (next header : ℕ) (stage : SourceStage) → source_shown ready next stage ≡ source.Out header
     → IsOut ready next header stage (source.Out header)
 shown_out ready next header (source.Out i) e = out_where ready (i == next) next i header refl e
@@ -176,7 +184,7 @@ shown_out ready next header source.Free e = absurd (cc)
 shown_out ready next header (source.Posted _) e = absurd (cc)
 shown_out ready next header (source.Wished _) e = absurd (cc)
 shown_out ready next header (source.AskedBy _) e = absurd (cc)
-shown_out ready next header (source.Reserved _) e = absurd (cc)
+shown_out ready next header (source.Reserved i) e = absurd (never_kept (ready && i == next) i header e)
 shown_out ready next header (source.Claimed _) e = absurd (cc)
 shown_out ready next header source.Crossing e = absurd (cc)
 shown_out ready next header source.Refused e = absurd (cc)
@@ -261,7 +269,7 @@ pub free_stage : (stage : SourceStage) → is_free stage ≡ true → stage ≡ 
 free_stage source.Free e = refl
 free_stage stage e = absurd (cc)
 
-none_dark : (offer : Option ℕ) (j : ℕ) → is_some offer ≡ false → is_at offer j ≡ false
+pub none_dark : (offer : Option ℕ) (j : ℕ) → is_some offer ≡ false → is_at offer j ≡ false
 none_dark None j e = refl
 none_dark (Some _) j e = absurd (cc)
 
@@ -337,27 +345,32 @@ taken_waiting true false e = refl
 taken_waiting true true e = absurd (cc)
 taken_waiting false out e = absurd (cc)
 
-taken_accepted : (ready head : Bool) (busy : Bool) (header i : ℕ)
-    → MayConsume header busy (cond (ready && head) (source.Accepted i) source.Crossing) → ready ≡ true
-taken_accepted true head busy header i may = refl
-taken_accepted false head busy header i may = absurd may
+taken_where : (ready head busy : Bool) (header : ℕ) (stage : SourceStage)
+    → MayConsume header busy (cond (ready && head) stage source.Crossing) → ready ≡ true
+taken_where true head busy header stage may = refl
+taken_where false head busy header stage may = absurd may
+
+-- where the message is spoken for over an end, it is over no other
+pub dark_ready : (o : OutletState) (k : ℕ) → is_ready k (end_at o k) o ≡ true → (j : ℕ) → j ≢ k → is_at o.offer j ≡ false
+dark_ready o k ready j far =
+    ap (λ (offer : Option ℕ). is_at offer j)
+    (at_is o.offer k (first_of_four (is_at o.offer k) (not (is_empty o.left)) (is_some o.parcel) (has_room (end_at o k).rule.max (end_at o k).given) ready))
+    ∙ out_only k j far
 
 -- no offer is out over another end
 module _ (o : OutletState) (k header : ℕ) (busy : Bool) where
   dark_where : (stage : SourceStage) → MayConsume header busy (source_shown (is_ready k (end_at o k) o) o.next stage)
       → is_taken o.next (is_some o.offer) stage ≡ true → (j : ℕ) → j ≢ k → is_at o.offer j ≡ false
   dark_where (source.Accepted i) may taken j far =
-      let ready = taken_accepted (is_ready k (end_at o k) o) (i == o.next) busy header i may in
-      ap (λ (offer : Option ℕ). is_at offer j)
-      (at_is o.offer k (first_of_four (is_at o.offer k) (not (is_empty o.left)) (is_some o.parcel) (has_room (end_at o k).rule.max (end_at o k).given) ready))
-      ∙ out_only k j far
+      dark_ready o k (taken_where (is_ready k (end_at o k) o) (i == o.next) busy header (source.Accepted i) may) j far
+  dark_where (source.Reserved i) may taken j far =
+      dark_ready o k (taken_where (is_ready k (end_at o k) o) (i == o.next) busy header (source.Reserved i) may) j far
   dark_where (source.Waiting i) may taken j far = none_dark o.offer j (taken_waiting (i == o.next) (is_some o.offer) taken)
   dark_where (source.Wished i) may taken j far = absurd may
   dark_where source.Free may taken j far = absurd (cc)
   dark_where (source.Posted _) may taken j far = absurd (cc)
   dark_where (source.Out _) may taken j far = absurd (cc)
   dark_where (source.AskedBy _) may taken j far = absurd (cc)
-  dark_where (source.Reserved _) may taken j far = absurd may
   dark_where (source.Claimed _) may taken j far = absurd (cc)
   dark_where source.Crossing may taken j far = absurd (cc)
   dark_where source.Refused may taken j far = absurd (cc)
@@ -422,7 +435,7 @@ module _ (o : OutletState) (k header : ℕ) where
       let back : stage_at home k ≡ source_looks (stage_at given k) Idle =
       ap (λ (end : OutEnd). end.stage)
       (set_here k given home (record (end_at given k) { stage = source_looks (stage_at given k) Idle }) refl (given_known l)) in
-      ap (λ (end : OutEnd). end.stage) (end_forgotten home.ends k)
+      ap (λ (end : OutEnd). end.stage) (end_mapped forgotten refl home.ends k)
       ∙ ap forgotten_stage (back ∙ ap (λ (s : SourceStage). source_looks s Idle) crossing)
 
 -- what is given was there for the link
@@ -455,7 +468,7 @@ consume_moves o link header may tested mine_there =
     first_of_three (is_taken o.next (is_some o.offer) (stage_at o k)) (is_some o.parcel) (has_room (end_at o k).rule.max (end_at o k).given) take in
     let same : header ≡ o.next = eqb-true header o.next (and_parts (header == o.next) (not (is_empty o.left)) head).0 in
     let new = told_room o k header in
-    let apart : Apart forgotten k o new = apart_forgotten k o (home o k header) new (alone_home o k header) refl in
+    let apart : Apart forgotten k o new = apart_mapped forgotten refl (λ end. refl) k o (home o k header) new (alone_home o k header) refl in
     let mine : MayConsume header (is_busy o) (end_shown k (end_at o k) o) = subst (λ (s : SourceStage). MayConsume header (is_busy o) s) (shown_known o k l) may in
     let is : record (consumes link header o) { room = 0 } ≡ new =
     ap (λ (after : OutletState). record after { room = 0 }) (consumed_home o link header mine_there) in

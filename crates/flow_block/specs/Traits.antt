@@ -30,12 +30,12 @@ use Rattle.flow_intake.specs.Calls.{answer_to, first_of, next_place, refused_by,
 use Rattle.flow_intake.specs.ByLink.{place_of as port_place, answered as port_answered, arrives, drops, next_wish, consumes_next}
 use Rattle.flow_outlet.specs.End.{end_in}
 use Rattle.flow_outlet.specs.Outlet.{OutletState, end_at, is_empty, is_at, may_offer, lacks_ids}
-use Rattle.flow_outlet.specs.ByLink.{place_of, named_at, offers_at, answered, is_there as is_head_there, has_room, tests_consume, consumed, consumes}
+use Rattle.flow_outlet.specs.ByLink.{place_of, named_at, offers_at, answered, is_there as is_head_there, has_room, tests_consume, consumed, consumes, tests_reserve, reserved, reserves, releases}
 use Rattle.flow_outlet.specs.declared.ends.OutEnd.{OutEnd}
 use Rattle.flow_spread.specs.declared.end.CopyEnd.{CopyEnd}
 use Rattle.flow_spread.specs.End.{end_in as copy_in}
 use Rattle.flow_spread.specs.Spread.{SpreadState, end_at as copy_at, next_place as next_copy, prepares, offers as offers_copy}
-use Rattle.flow_spread.specs.ByLink.{place_of as copy_place, named_at as copy_named, answered as copy_answered, tests_consume as tests_copy, is_there, gives_home}
+use Rattle.flow_spread.specs.ByLink.{place_of as copy_place, named_at as copy_named, answered as copy_answered, tests_consume as tests_copy, is_there, gives_home, tests_reserve as asks_copy, reserved as is_element, reserves as reserves_copy, releases as releases_copy}
 use Rattle.flow_group.specs.Tuple.{tuple_of}
 use Rattle.flow_block.specs.Block.{BlockState, port_in, port_at, with_port, held_by, row_of, next_group, makes_row, makes_tuple, copies_next, copies_taken, puts_out, stops_by, comes_back, with_copies}
 use Rattle.flow_block.specs.Peeks.{may_make, may_finish, would_copy}
@@ -129,7 +129,7 @@ Acts old (BlockCall.made result) new = Made result old new
 
 -- Where it stands at the links out of it: those over which it shares its messages out
 
--- the offer is out over the end at this place, and what it needs to be given is there
+-- the message is spoken for over the end at this place, and what it needs to be given is there
 abbrev pub is_ready : ℕ → OutEnd → OutletState → Bool
 is_ready k end o = is_at o.offer k && not (is_empty o.left) && is_some o.parcel && has_room end.rule.max end.given
 
@@ -139,7 +139,7 @@ abbrev pub source_shown : Bool → ℕ → SourceStage → SourceStage
 source_shown ready next (source.Out i) = cond (ready && i == next) (source.Out i) source.Crossing
 source_shown ready next (source.Accepted i) = cond (ready && i == next) (source.Accepted i) source.Crossing
 source_shown ready next (source.Waiting i) = cond (i == next) (source.Waiting i) source.Free
-source_shown ready next (source.Reserved i) = source.Crossing
+source_shown ready next (source.Reserved i) = cond (ready && i == next) (source.Reserved i) source.Crossing
 source_shown ready next stage = stage
 
 abbrev pub end_shown : ℕ → OutEnd → OutletState → SourceStage
@@ -185,6 +185,17 @@ gives_over link header block = record block {
   ports = comes_back (consumes link header block.exits) block.copies block.kind (consumed link header block.exits) block.ports;
 }
 
+-- the message may be kept for the link, and may cross there
+abbrev pub may_keep : ℕ → ℕ → OutletState → Bool
+may_keep link header o =
+    tests_reserve (place_of link o.ends) header o && tests_consume (place_of link o.ends) header o && reserved header o
+
+abbrev pub keeps_head : ℕ → ℕ → BlockState → BlockState
+keeps_head link header block = record block { exits = reserves link header block.exits }
+
+abbrev pub releases_head : ℕ → ℕ → BlockState → BlockState
+releases_head link header block = record block { exits = releases link header block.exits }
+
 -- And those over which it copies: each has an offer of its own
 
 -- the element is there for the end, and may cross there
@@ -220,6 +231,18 @@ may_take_copy link header s =
 
 abbrev pub copies_home : ℕ → ℕ → BlockState → BlockState
 copies_home link header block = with_copies (gives_home (copy_place link block.copies.ends) header block.copies) block
+
+-- the element may be kept for the link, and may cross there
+abbrev pub may_keep_copy : ℕ → ℕ → SpreadState → Bool
+may_keep_copy link header s =
+    is_some s.element && asks_copy (copy_place link s.ends) header s && tests_copy (copy_place link s.ends) header s
+    && is_element header s
+
+abbrev pub keeps_copy : ℕ → ℕ → BlockState → BlockState
+keeps_copy link header block = with_copies (reserves_copy link header block.copies) block
+
+abbrev pub releases_its_copy : ℕ → ℕ → BlockState → BlockState
+releases_its_copy link header block = with_copies (releases_copy link header block.copies) block
 
 -- It shares its messages out, or it copies: the first argument says which
 
@@ -257,6 +280,18 @@ abbrev pub given_by : Bool → (link header : ℕ) → BlockState → BlockState
 given_by true link header block = cond (may_take link header block.exits) (gives_over link header block) block
 given_by false link header block = cond (may_take_copy link header block.copies) (copies_home link header block) block
 
+abbrev pub kept_by : Bool → (link header : ℕ) → BlockState → Bool
+kept_by true link header block = may_keep link header block.exits
+kept_by false link header block = may_keep_copy link header block.copies
+
+abbrev pub reserved_by : Bool → (link header : ℕ) → BlockState → BlockState
+reserved_by true link header block = cond (may_keep link header block.exits) (keeps_head link header block) block
+reserved_by false link header block = cond (may_keep_copy link header block.copies) (keeps_copy link header block) block
+
+abbrev pub released_by : Bool → (link header : ℕ) → BlockState → BlockState
+released_by true link header block = releases_head link header block
+released_by false link header block = releases_its_copy link header block
+
 abbrev pub shares : BlockState → Bool
 shares block = is_one_taker block.kind
 
@@ -281,6 +316,9 @@ Gives old (SourceCall.offered offer) new =
 Gives old (SourceCall.noted link header status) new = new ≡ answered_by (shares old) link header status old
 Gives old (SourceCall.consumed link header value) new =
     (value ≡ taken_by (shares old) link header old) × (new ≡ given_by (shares old) link header old)
+Gives old (SourceCall.reserved link header kept) new =
+    (kept ≡ kept_by (shares old) link header old) × (new ≡ reserved_by (shares old) link header old)
+Gives old (SourceCall.released link header) new = new ≡ released_by (shares old) link header old
 
 -- Where it stands at the links into it
 

@@ -9,11 +9,13 @@ ghost use Rattle.flow_outlet.specs.Outlet.{may_offer};
 ghost use Rattle.flow_outlet.specs.declared.ends.OutEnd.{OutEnd};
 ghost use Rattle.flow_spread.specs.declared.end.CopyEnd.{CopyEnd};
 ghost use Rattle.flow_spread.specs.ByLink.{place_of as copy_place, named_at as copy_named, answered as copy_answered, IsAsked};
+ghost use Rattle.flow_spread.specs.ByLink.{IsReserved};
 ghost use Rattle.flow_spread.specs.Spread.{next_place as next_copy};
 ghost use Rattle.flow_block.specs.Block.{with_copies};
 ghost use Rattle.flow_block.specs.JournalFits.{ports_due};
 ghost use Rattle.flow_block.specs.Traits.{carries, offers_over, may_take, gives_over, carries_copy, copies_over};
 ghost use Rattle.flow_block.specs.Traits.{offers_copy_at, may_take_copy, copies_home, port_shown, holds_at};
+ghost use Rattle.flow_block.specs.Traits.{may_keep, keeps_head, may_keep_copy, keeps_copy, releases_its_copy};
 ghost use Rattle.flow_block.specs.Traits.{port_into, wishes_at, wishing_port};
 
 use crate::block::Block;
@@ -75,6 +77,16 @@ impl Block {
         );
         Some(parcel)
     }
+
+    /// Keeps the head for this link's target, where it is the message, may cross there, and is kept for no other.
+    pub(crate) fn keep_head(&mut self, link: LinkId, header: MessageHeader) -> bool
+        ensures told { result ≡ may_keep link header self.old.exits }
+        ensures left { self.new ≡ cond (may_keep link header self.old.exits) (keeps_head link header self.old) self.old }
+    {
+        self.exits.may_reserve(link, header)
+            && self.exits.may_consume(link, header)
+            && self.exits.reserve_message(link, header)
+    }
 }
 
 // At the links over which it copies.
@@ -125,6 +137,40 @@ impl Block {
         let parcel = self.copies.consume_message(link, header)?;
         give_back(&mut self.ports, counted, &self.copies);
         Some(parcel)
+    }
+
+    /// Keeps a copy of the element for this link's target, where it is the message and may cross there.
+    pub(crate) fn keep_copy(&mut self, link: LinkId, header: MessageHeader) -> bool
+        ensures told { result ≡ may_keep_copy link header self.old.copies }
+        ensures left { self.new ≡
+            cond (may_keep_copy link header self.old.copies) (keeps_copy link header self.old) self.old }
+    {
+        if !self.may_keep_copy(link, header) {
+            return false;
+        }
+        let counted = copies_weight(&self.copies);
+        let kept = self.copies.reserve_message(link, header);
+        give_back(&mut self.ports, counted, &self.copies);
+        kept
+    }
+
+    fn may_keep_copy(&self, link: LinkId, header: MessageHeader) -> bool
+        ensures { result ≡ may_keep_copy link header self.now.copies }
+    {
+        self.copies.element().is_some()
+            && self.copies.may_reserve(link, header)
+            && self.copies.may_consume(link, header)
+            && self.copies.id() == header.id()
+    }
+
+    /// The target at this link gives up the copy that is kept for it, and waits on.
+    pub(crate) fn release_copy(&mut self, link: LinkId, header: MessageHeader)
+        requires { IsReserved link header self.old.copies }
+        ensures { self.new ≡ releases_its_copy link header self.old }
+    {
+        let counted = copies_weight(&self.copies);
+        self.copies.release_reservation(link, header);
+        give_back(&mut self.ports, counted, &self.copies);
     }
 }
 

@@ -109,6 +109,22 @@ impl SourceBlock for Block {
         }
     }
 
+    fn reserve_message(&mut self, link: LinkId, header: MessageHeader) -> bool {
+        if self.shares() {
+            self.keep_head(link, header)
+        } else {
+            self.keep_copy(link, header)
+        }
+    }
+
+    fn release_reservation(&mut self, link: LinkId, header: MessageHeader) {
+        if self.shares() {
+            self.exits.release_reservation(link, header);
+        } else {
+            self.release_copy(link, header);
+        }
+    }
+
     ghost rests = { λ block nothing. rests_by (shares block) block nothing };
 }
 

@@ -102,7 +102,7 @@ consume_tells link header o =
 
 -- What is kept
 
-waiting_is : (header : ℕ) (stage : SourceStage) → is_waiting_for header stage ≡ true → stage ≡ Waiting header
+pub waiting_is : (header : ℕ) (stage : SourceStage) → is_waiting_for header stage ≡ true → stage ≡ Waiting header
 waiting_is header (Waiting i) e = let same : i ≡ header = same_number i header e in ap Waiting same
 waiting_is header stage e = absurd (cc)
 
