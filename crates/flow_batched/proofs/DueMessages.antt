@@ -24,13 +24,13 @@ use Rattle.flow_intake.specs.Queue.{without}
 use Rattle.flow_intake.specs.ByLink.{place_of, with_link_at, answered, closes_link, arrives, arrives_at, drops_at, next_wish, consumes_at, consumes_next}
 use Rattle.flow_group.specs.Group.{ArrivalsState, takes_from, drops_group}
 use Rattle.flow_outlet.specs.ByLink.{consumes, consumed}
-use Rattle.flow_spread.specs.ByLink.{place_of as copy_place, answered as copy_answered, gives_home}
+use Rattle.flow_spread.specs.ByLink.{place_of as copy_place, answered as copy_answered, gives_home, reserves as reserves_copy, releases as releases_copy}
 use Rattle.flow_spread.specs.Spread.{SpreadState, is_spread_free, prepares, offers}
 use Rattle.flow_block.specs.Block.{BlockState, port_in, port_at, with_port, held_by, stops_by, copies_taken, copies_at_once, copies_where, with_copies}
 use Rattle.flow_block.specs.Copies.{copies_weight}
 use Rattle.flow_block.specs.Groups.{makes_group}
 use Rattle.flow_block.specs.JournalFits.{port_due, ports_due}
-use Rattle.flow_block.specs.Traits.{Takes as BlockTakes, outcome_of, settles, faults, shown_over, port_shown, port_into, target_over, with_port_of, names_itself, leads_to, wishing_port, wishes, holds_at, notes, shares, offered_by, answered_by, may_take, gives_over, may_take_copy, copies_home, given_by}
+use Rattle.flow_block.specs.Traits.{Takes as BlockTakes, outcome_of, settles, faults, shown_over, port_shown, port_into, target_over, with_port_of, names_itself, leads_to, wishing_port, wishes, holds_at, notes, shares, offered_by, answered_by, may_take, gives_over, may_take_copy, copies_home, given_by, may_keep, keeps_head, releases_head, may_keep_copy, keeps_copy, releases_its_copy, reserved_by, released_by}
 use Rattle.flow_block.proofs.MarksFit.{due_set, due_moved, due_map}
 use Rattle.flow_block.proofs.RoomBack.{due_back}
 use Rattle.flow_block.proofs.TargetStands.{found, at_place}
@@ -311,6 +311,32 @@ module _ (old new : BlockState) (order : ArrivalsState) (fits : JoinFits old ord
 
   pub give_fits : (link header : ℕ) → new ≡ given_by (shares old) link header old → Fits
   give_fits link header is = given_where (shares old) link header is
+
+  keep_head_where : (keep : Bool) (link header : ℕ) → new ≡ cond keep (keeps_head link header old) old → Fits
+  keep_head_where true link header is = changed (keeps_head link header old) is refl refl (omega arith)
+  keep_head_where false link header is = changed old is refl refl (omega arith)
+
+  keep_copy_where : (keep : Bool) (link header : ℕ) → new ≡ cond keep (keeps_copy link header old) old → Fits
+  keep_copy_where true link header is =
+      changed (keeps_copy link header old) is refl
+      (copied_waits (reserves_copy link header old.copies)) (copied_due (reserves_copy link header old.copies))
+  keep_copy_where false link header is = changed old is refl refl (omega arith)
+
+  kept_where : (one : Bool) (link header : ℕ) → new ≡ reserved_by one link header old → Fits
+  kept_where true link header is = keep_head_where (may_keep link header old.exits) link header is
+  kept_where false link header is = keep_copy_where (may_keep_copy link header old.copies) link header is
+
+  pub keep_fits : (link header : ℕ) → new ≡ reserved_by (shares old) link header old → Fits
+  keep_fits link header is = kept_where (shares old) link header is
+
+  released_where : (one : Bool) (link header : ℕ) → new ≡ released_by one link header old → Fits
+  released_where true link header is = changed (releases_head link header old) is refl refl (omega arith)
+  released_where false link header is =
+      changed (releases_its_copy link header old) is refl
+      (copied_waits (releases_copy link header old.copies)) (copied_due (releases_copy link header old.copies))
+
+  pub release_fits : (link header : ℕ) → new ≡ released_by (shares old) link header old → Fits
+  release_fits link header is = released_where (shares old) link header is
 
   wish_where : (place : Option ℕ) → wishing_port old.ports ≡ place → new ≡ wishes place old → Fits
   wish_where None at is = changed old is refl refl (omega arith)

@@ -82,6 +82,14 @@ impl SourceBlock for BatchedJoin {
         self.block.consume_message(link, header)
     }
 
+    fn reserve_message(&mut self, link: LinkId, header: MessageHeader) -> bool {
+        self.block.reserve_message(link, header)
+    }
+
+    fn release_reservation(&mut self, link: LinkId, header: MessageHeader) {
+        self.block.release_reservation(link, header);
+    }
+
     ghost rests = { λ join nothing. rests_by (shares join.block) join.block nothing };
 }
 

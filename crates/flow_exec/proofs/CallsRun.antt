@@ -1,5 +1,5 @@
--- What holds of each execution block stays so when it is asked whether it has ended, when it faults and when it gives a message:
--- what waits at its port stays.
+-- What holds of each execution block stays so when it is asked whether it has ended, when it faults and when it gives or keeps a
+-- message: what waits at its port stays.
 use Rattle.std.proofs.Common.{◌≡◌, ℕ, ◌+◌, Bool, true, false, cond, List, length, map, is_some, refl, ap, sym, subst, ◌∙◌, arith}
 use Rattle.std.proofs.lemmas.List.{length-map}
 use Rattle.flow_value.specs.declared.value.Value.{Value}
@@ -15,7 +15,7 @@ use Rattle.flow_outlet.specs.Fits.{weight_of}
 use Rattle.flow_block.specs.Block.{BlockState, held_by, stops_by, is_batched_join, row_count}
 use Rattle.flow_block.specs.Copies.{copies_weight}
 use Rattle.flow_block.specs.Peeks.{may_finish}
-use Rattle.flow_block.specs.Traits.{outcome_of, settles, faults, shares, may_take, gives_over, may_take_copy, copies_home, given_by}
+use Rattle.flow_block.specs.Traits.{outcome_of, settles, faults, shares, may_take, gives_over, may_take_copy, copies_home, given_by, may_keep, keeps_head, may_keep_copy, keeps_copy, reserved_by, releases_its_copy, released_by}
 use Rattle.flow_block.proofs.PortsChange.{kept_at_all}
 use Rattle.flow_block.proofs.RoomFits.{no_rows, none_beside}
 use Rattle.flow_exec.specs.Execution.{Runs}
@@ -88,3 +88,41 @@ give_where link header false block runs = give_copy link header (may_take_copy l
 
 pub give_runs : (link header : ℕ) (old new : BlockState) → new ≡ given_by (shares old) link header old → Runs old → Runs new
 give_runs link header old new is runs = subst Runs (sym is) (give_where link header (shares old) old runs)
+
+keep_head : (link header : ℕ) (keep : Bool) (block : BlockState) → Runs block
+    → Runs (cond keep (keeps_head link header block) block)
+keep_head link header true block runs = record {
+  one_port = runs.one_port;
+  works = runs.works;
+  within = runs.within;
+  held = runs.held;
+  drained = runs.drained;
+}
+keep_head link header false block runs = runs
+
+keep_copy : (link header : ℕ) (keep : Bool) (block : BlockState) → Runs block
+    → Runs (cond keep (keeps_copy link header block) block)
+keep_copy link header true block runs =
+    ports_run _ block (keeps_copy link header block) (λ port. refl) refl refl refl refl runs
+keep_copy link header false block runs = runs
+
+keep_where : (link header : ℕ) (one : Bool) (block : BlockState) → Runs block → Runs (reserved_by one link header block)
+keep_where link header true block runs = keep_head link header (may_keep link header block.exits) block runs
+keep_where link header false block runs = keep_copy link header (may_keep_copy link header block.copies) block runs
+
+pub keep_runs : (link header : ℕ) (old new : BlockState) → new ≡ reserved_by (shares old) link header old → Runs old → Runs new
+keep_runs link header old new is runs = subst Runs (sym is) (keep_where link header (shares old) old runs)
+
+release_where : (link header : ℕ) (one : Bool) (block : BlockState) → Runs block → Runs (released_by one link header block)
+release_where link header true block runs = record {
+  one_port = runs.one_port;
+  works = runs.works;
+  within = runs.within;
+  held = runs.held;
+  drained = runs.drained;
+}
+release_where link header false block runs =
+    ports_run _ block (releases_its_copy link header block) (λ port. refl) refl refl refl refl runs
+
+pub release_runs : (link header : ℕ) (old new : BlockState) → new ≡ released_by (shares old) link header old → Runs old → Runs new
+release_runs link header old new is runs = subst Runs (sym is) (release_where link header (shares old) old runs)

@@ -69,6 +69,14 @@ impl<W> SourceBlock for Execution<W> {
         self.block.consume_message(link, header)
     }
 
+    fn reserve_message(&mut self, link: LinkId, header: MessageHeader) -> bool {
+        self.block.reserve_message(link, header)
+    }
+
+    fn release_reservation(&mut self, link: LinkId, header: MessageHeader) {
+        self.block.release_reservation(link, header);
+    }
+
     ghost rests = { λ execution nothing. rests_by (shares execution.block) execution.block nothing };
 }
 
