@@ -40,7 +40,7 @@ counts_none : (b : Bool) (n : ℕ) → b ≡ false → (n == 0) ≡ true → (co
 counts_none true n e none = absurd (cc)
 counts_none false n e none = let is = eqb-true n 0 none in eq-eqb (0 + n) 0 (omega arith)
 
-nothing_away : (ends : List OutEnd) (k : ℕ) → (count_at is_away ends == 0) ≡ true
+pub nothing_away : (ends : List OutEnd) (k : ℕ) → (count_at is_away ends == 0) ≡ true
     → is_away (end_in ends k).stage ≡ false
 nothing_away [] k rest = refl
 nothing_away (end ∷ ends) zero rest = (none_counted (is_away end.stage) (count_at is_away ends) rest).0

@@ -46,6 +46,7 @@ pub mod Joins
 pub mod JoinsRest
 pub mod JoinsEnd
 pub mod JournalTells
+pub mod KeptAlone
 pub mod KindsBuilt
 pub mod LoadHolds
 pub mod MakesHold

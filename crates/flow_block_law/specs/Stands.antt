@@ -1,21 +1,20 @@
 -- In a block in order: at each link it stands as its end does, and no call that names a link turns away what it could do.
-use Rattle.std.specs.Prelude.{◌≡◌, ℕ, ◌<◌, ◌==◌, cond, Bool, true, false, List, length, Option, Some, None}
-use Rattle.flow_link.specs.SourceCalls.{MayConsume}
+use Rattle.std.specs.Prelude.{◌≡◌, ◌≢◌, ℕ, ◌<◌, ◌==◌, cond, Bool, true, false, not, List, length, Option, Some, None}
+use Rattle.flow_link.specs.SourceCalls.{MayConsume, MayReserve}
 use Rattle.flow_link.specs.declared.stage.SourceStage.{SourceStage}
 use Rattle.flow_link.specs.declared.stage.SourceStage.TheVariants as source
 use Rattle.flow_link.specs.declared.trace.Outcome.{Outcome}
 use Rattle.flow_intake.specs.Port.{PortState, stage_at as port_stage, link_in, is_coming, coming}
 use Rattle.flow_intake.specs.ByLink.{place_of as port_place, next_wish}
 use Rattle.flow_outlet.specs.Outlet.{OutletState, end_at, stage_at, may_offer, has_offer_out}
-use Rattle.flow_outlet.specs.ByLink.{place_of, is_there as is_head_there}
+use Rattle.flow_outlet.specs.ByLink.{place_of, is_there as is_head_there, is_kept_elsewhere}
 use Rattle.flow_outlet.specs.Law.{OutletLaw}
 use Rattle.flow_spread.specs.Spread.{SpreadState, link_at, stage_at as copy_stage, next_place}
 use Rattle.flow_spread.specs.ByLink.{place_of as copy_place}
 use Rattle.flow_spread.specs.Law.{SpreadLaw}
-use Rattle.flow_block.specs.Block.{port_in}
-use Rattle.flow_block_law.specs.NodeLaw.{is_kept}
+use Rattle.flow_block.specs.Block.{BlockState, port_in}
 use Rattle.flow_block.specs.Peeks.{nothing_comes}
-use Rattle.flow_block.specs.Traits.{source_over, is_busy, offers_over, may_take, copy_over, copies_over, may_take_copy, port_into, target_over, wishing_port}
+use Rattle.flow_block.specs.Traits.{source_over, is_busy, offers_over, may_take, may_keep, copy_over, copies_over, may_take_copy, may_keep_copy, shares, source_at, offer_next, taken_by, kept_by, port_into, target_over, wishing_port}
 
 -- Where it shares its messages out
 
@@ -33,9 +32,8 @@ module _ (pending : Bool) (stopped : Option Outcome) (o : OutletState) where
   abbrev pub InOrder : Type 0 → Type 0
   InOrder Holds = OutletLaw pending stopped o → OwnEnds o → Holds
 
-  -- what is known of an end that keeps nothing for a target
   abbrev pub OfEachEnd : (ℕ → Type 0) → Type 0
-  OfEachEnd Holds = InOrder ((k : ℕ) → k < length o.ends → is_kept (stage_at o k) ≡ false → Holds k)
+  OfEachEnd Holds = InOrder ((k : ℕ) → k < length o.ends → Holds k)
 
   pub record StandsInOrder : Type 0 where
     -- it stands at each link as its end does
@@ -44,12 +42,29 @@ module _ (pending : Bool) (stopped : Option Outcome) (o : OutletState) where
     pub gives : OfEachEnd (λ k.
         (header : ℕ) → MayConsume header (is_busy o) (source_over o (end_at o k).rule.id)
         → may_take (end_at o k).rule.id header o ≡ is_head_there k header o)
+    -- what may be kept for a link is, unless it is kept for another
+    pub keeps : OfEachEnd (λ k.
+        (header : ℕ) → MayReserve header (is_busy o) (source_over o (end_at o k).rule.id)
+        → may_keep (end_at o k).rule.id header o ≡ not (is_kept_elsewhere k o))
     -- it is busy while an offer is out, and what may be offered it offers
     pub busy : InOrder (has_offer_out o ≡ true → is_busy o ≡ true)
     pub offers : InOrder ((k : ℕ) → may_offer o ≡ Some k → offers_over o (may_offer o) ≡ Some k)
 
 abbrev pub BlocksStandInOrder : Type 0
 BlocksStandInOrder = (pending : Bool) (stopped : Option Outcome) (o : OutletState) → StandsInOrder pending stopped o
+
+-- And in any block that shares its messages out a message is kept for one link alone
+
+abbrev pub WhereKept : (BlockState → ℕ → Type 0) → Type 0
+WhereKept Holds =
+    (block : BlockState) (link header : ℕ) → shares block ≡ true → source_at block link ≡ source.Reserved header → Holds block link
+
+pub record KeptForOne : Type 0 where
+  pub alone : WhereKept (λ block link. (other header : ℕ) → source_at block other ≡ source.Reserved header → other ≡ link)
+  -- until it is given up it is offered to nobody, and neither given over another link nor kept for another
+  pub unoffered : WhereKept (λ block link. offer_next block ≡ None)
+  pub ungiven : WhereKept (λ block link. (other header : ℕ) → other ≢ link → taken_by true other header block ≡ None)
+  pub unkept : WhereKept (λ block link. (other header : ℕ) → other ≢ link → kept_by true other header block ≡ false)
 
 -- Where it copies
 
@@ -61,7 +76,7 @@ module _ (first : ℕ) (pending : Bool) (stopped : Option Outcome) (s : SpreadSt
   CopiesInOrder Holds = SpreadLaw first pending stopped s → OwnCopies s → Holds
 
   abbrev pub OfEachCopy : (ℕ → Type 0) → Type 0
-  OfEachCopy Holds = CopiesInOrder ((k : ℕ) → k < length s.ends → is_kept (copy_stage s k) ≡ false → Holds k)
+  OfEachCopy Holds = CopiesInOrder ((k : ℕ) → k < length s.ends → Holds k)
 
   pub record CopiesStand : Type 0 where
     -- it stands at each link as its end does
@@ -70,6 +85,10 @@ module _ (first : ℕ) (pending : Bool) (stopped : Option Outcome) (s : SpreadSt
     pub gives : OfEachCopy (λ k.
         (header : ℕ) → MayConsume header false (copy_over s (link_at s k).rule.id)
         → may_take_copy (link_at s k).rule.id header s ≡ true)
+    -- what may be kept for a link is
+    pub keeps : OfEachCopy (λ k.
+        (header : ℕ) → MayReserve header false (copy_over s (link_at s k).rule.id)
+        → may_keep_copy (link_at s k).rule.id header s ≡ true)
     -- and what may be offered it offers
     pub offers : CopiesInOrder ((k : ℕ) → next_place s ≡ Some k → copies_over s (next_place s) ≡ Some k)
 

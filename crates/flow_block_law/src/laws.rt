@@ -9,6 +9,7 @@ ghost use Rattle.flow_block_law.specs.NodeKeeps.{NodesKept};
 ghost use Rattle.flow_block_law.specs.NodeRests.{NodesAreStill, NodesRest};
 ghost use Rattle.flow_block_law.specs.NodeSeen.{NodesAreLawful};
 ghost use Rattle.flow_block_law.specs.Stands.{BlocksStandInOrder, CopiesStandInOrder, PortsStandInOrder, PortsAtRest};
+ghost use Rattle.flow_block_law.specs.Stands.{KeptForOne};
 ghost use Rattle.flow_block_law.specs.ViewsMove.{CallsMoveViews};
 
 /// A block in which nothing has happened is in order.
@@ -76,10 +77,12 @@ pub fn inputs_are_parts<W>()
 /// that is gone. It is busy while an offer is out, offers what may be offered, and gives what a link may consume. One that
 /// copies does the same at each link for itself. At each link into it a block stands as its end does, and it wishes for
 /// nothing only where no port would consume what it postponed. Where nothing comes over any link into a port, nothing comes
-/// there; and in any block, where nothing comes at a port, nothing comes over a link into it.
+/// there; and in any block, where nothing comes at a port, nothing comes over a link into it. In any block that shares its
+/// messages out, one that is kept for a link is kept, given and offered nowhere else.
 pub fn blocks_in_order_stand_as_their_ends()
     ensures exits { BlocksStandInOrder }
     ensures copies { CopiesStandInOrder }
     ensures ports { PortsStandInOrder }
     ensures rests { PortsAtRest }
+    ensures kept { KeptForOne }
 {}
