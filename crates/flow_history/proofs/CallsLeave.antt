@@ -19,14 +19,15 @@ use Rattle.flow_intake.specs.Calls.{answer_to, next_place, is_postponed, gives_r
 use Rattle.flow_intake.specs.ByLink.{place_of, with_link_at, closes_link, answered, drops_at, consumes_at, consumes_next}
 use Rattle.flow_intake.proofs.CallsKeepOrder.{moves_keep}
 use Rattle.flow_outlet.specs.Outlet.{is_empty, is_at_rest, OutletState}
-use Rattle.flow_outlet.specs.ByLink.{place_of as out_place, is_there as is_head_there, consumes, consumed, gives_home}
+use Rattle.flow_outlet.specs.ByLink.{place_of as out_place, is_there as is_head_there, consumes, consumed, gives_home, reserves, releases}
 use Rattle.flow_outlet.proofs.OutletFits.{weight_stays}
-use Rattle.flow_spread.specs.Spread.{SpreadState, prepares, offers}
-use Rattle.flow_spread.specs.ByLink.{place_of as copy_place, answered as copy_answered, gives_home as copy_home}
+use Rattle.flow_spread.specs.Spread.{SpreadState, prepares, offers, looks, holds}
+use Rattle.flow_link.specs.declared.phase.Phase.TheVariants.{Asked}
+use Rattle.flow_spread.specs.ByLink.{place_of as copy_place, answered as copy_answered, gives_home as copy_home, reserves as reserves_copy, releases as releases_copy, reserved as is_element, reserves as reserves_copy, releases as releases_copy}
 use Rattle.flow_block.specs.Block.{BlockState, port_in, port_at, with_port, stops_by, with_copies}
 use Rattle.flow_block.specs.BlockFits.{GaveOut, AllGaveOut, weight_out}
 use Rattle.flow_block.specs.Copies.{copies_weight}
-use Rattle.flow_block.specs.Traits.{settles, outcome_of, faults, port_into, target_over, with_port_of, wishing_port, wishes, holds_at, notes, shares, offer_next, offered_by, answered_by, may_take, may_take_copy, gives_over, copies_home, given_by}
+use Rattle.flow_block.specs.Traits.{settles, outcome_of, faults, port_into, target_over, with_port_of, wishing_port, wishes, holds_at, notes, shares, offer_next, offered_by, answered_by, may_take, may_take_copy, gives_over, copies_home, given_by, may_keep, keeps_head, may_keep_copy, keeps_copy, reserved_by, released_by}
 use Rattle.flow_block.proofs.PortsChange.{each_after_one, each_after_all}
 use Rattle.flow_block.proofs.RoomBack.{back_at, length_back, kept_back, each_after_back, back_fits}
 use Rattle.flow_block.proofs.TargetMoves.{some_port, shown_is}
@@ -348,6 +349,41 @@ module _ (took : ℕ → ℕ) (old : BlockState) (law : Ordered took old.ports) 
     gifts_leave true link header = gifts_where (may_take link header old.exits) (gives_over link header old) (head_leaves link header)
     gifts_leave false link header = gifts_where (may_take_copy link header old.copies) (copies_home link header old) (copy_leaves link header)
 
+    -- a message is kept, or given up: what waits at the ports stays
+    exits_leave : (exits : OutletState) → Goes (record old { exits = exits })
+    exits_leave exits = record {
+      still = record { kind = refl; size = refl; count = refl; held = λ p. refl; ended = λ p e. e; capacity = λ p. refl; element = refl; once = refl };
+      jobs = refl;
+      recorded = refl;
+      fault = refl;
+      ordered = law;
+    }
+
+    same_element : (copies kept : SpreadState) (keep : Bool) → kept.element ≡ copies.element → (cond keep kept copies).element ≡ copies.element
+    same_element copies kept true same = same
+    same_element copies kept false same = refl
+
+    same_once : (copies kept : SpreadState) (keep : Bool) → kept.once ≡ copies.once → (cond keep kept copies).once ≡ copies.once
+    same_once copies kept true same = same
+    same_once copies kept false same = refl
+
+    keep_leaves : (link header : ℕ) → Goes (keeps_copy link header old)
+    keep_leaves link header =
+        let k = copy_place link old.copies.ends in
+        let kept = holds k (looks k (Asked header) old.copies) in
+        let keep = is_element header old.copies in
+        copies_leave (reserves_copy link header old.copies) (same_element old.copies kept keep refl) (same_once old.copies kept keep refl)
+
+    pub reserves_leave : (one : Bool) (link header : ℕ) → Goes (reserved_by one link header old)
+    reserves_leave true link header =
+        gifts_where (may_keep link header old.exits) (keeps_head link header old) (exits_leave (reserves link header old.exits))
+    reserves_leave false link header =
+        gifts_where (may_keep_copy link header old.copies) (keeps_copy link header old) (keep_leaves link header)
+
+    pub releases_leave : (one : Bool) (link header : ℕ) → Goes (released_by one link header old)
+    releases_leave true link header = exits_leave (releases link header old.exits)
+    releases_leave false link header = copies_leave (releases_copy link header old.copies) refl refl
+
 -- By each call
 
 -- no message comes by it, and nothing is made
@@ -376,6 +412,10 @@ module _ (took : ℕ → ℕ) (old new : BlockState) (law : Ordered took old.por
       left_as (answered_by (shares old) link header how old) does (answers_leave took old law fits (shares old) link header how)
   gives_leave (SourceCall.consumed link header value) does =
       left_as (given_by (shares old) link header old) does.1 (gifts_leave took old law fits (shares old) link header)
+  gives_leave (SourceCall.reserved link header kept) does =
+      left_as (reserved_by (shares old) link header old) does.1 (reserves_leave took old law fits (shares old) link header)
+  gives_leave (SourceCall.released link header) does =
+      left_as (released_by (shares old) link header old) does (releases_leave took old law fits (shares old) link header)
 
   takes_leave : (call : TargetCall) → IsPlain (Call.takes call) → MayCallInOrder (Call.takes call) old → Does (Call.takes call) old new
       → Leaves took old new

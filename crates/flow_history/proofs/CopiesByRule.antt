@@ -22,7 +22,8 @@ use Rattle.flow_spread.proofs.LinksCopied.{law_after, each_link_has}
 use Rattle.flow_block.specs.Block.{BlockState}
 use Rattle.flow_block.specs.BlockFits.{fresh_block}
 use Rattle.flow_block.specs.Copies.{copied_rules}
-use Rattle.flow_block.specs.Traits.{made_next, offer_next, with_port_of}
+use Rattle.flow_block.specs.Traits.{made_next, offer_next, with_port_of, copy_over, source_by, may_keep_copy, kept_by}
+use Rattle.flow_block.proofs.CopyKept.{may_reserve, is_reserved}
 use Rattle.flow_history.specs.Calls.{Call, MayCall, Fits, Does, Step, AllDone}
 use Rattle.flow_history.specs.Copied.{AnswersByRule, MayCallByRule, CopiesAreGiven}
 use Rattle.flow_history.specs.History.{nothing_yet, copied_at_once}
@@ -40,9 +41,9 @@ is_home (Wanted _) = true
 is_home Idle = true
 is_home _ = false
 
--- a call whose target answers by the rule of its link
+-- a call whose target answers by the rule of its link: a look finds nothing put off that was not
 abbrev obeys : copied.Call → copied.Course → Type 0
-obeys (copied.Call.look k phase) c = is_home phase ≡ true
+obeys (copied.Call.look k phase) c = is_put_off (source_looks (stage_at c.spread k) phase) ≡ true → is_put_off (stage_at c.spread k) ≡ true
 obeys (copied.Call.answer k header how) c = settles_it how ≡ false → MayPutOff (link_at c.spread k)
 obeys _ c = Unit {0}
 
@@ -55,7 +56,7 @@ obey_both : (first then_on : List copied.Call) (c : copied.Course) → all_obey 
 obey_both [] then_on c one other = other
 obey_both (call ∷ first) then_on c one other = (one.0, obey_both first then_on (copied.after call c) one.1 other)
 
--- such a look finds nothing put off that was not
+-- where a message is wanted, or has gone, a look finds nothing put off that was not
 off_before : (stage : SourceStage) (phase : Phase) → is_home phase ≡ true → is_put_off (source_looks stage phase) ≡ true → is_put_off stage ≡ true
 off_before (source.Out _) (Wanted _) home off = absurd (cc)
 off_before (source.Out _) Idle home off = absurd (cc)
@@ -81,7 +82,7 @@ one_allowed : (call : copied.Call) (c : copied.Course) → law_of_course c → I
 one_allowed (copied.Call.look k phase) c law made obey = (
   made,
   OnTrue_from (is_put_off (source_looks (stage_at c.spread k) phase)) _
-      (λ off. OnTrue_at (off_before (stage_at c.spread k) phase obey off) (law.each k made).put_off),
+      (λ off. OnTrue_at (obey off) (law.each k made).put_off),
 )
 one_allowed (copied.Call.answer k header how) c law made obey = (made.0, made.1, obey, made.2)
 one_allowed (copied.Call.put value) c law made obey = made
@@ -112,17 +113,29 @@ offers_obey (Some k) c = (tt, (tt, tt))
 
 gives_obey : (k header : ℕ) (value : Option Value) (c : copied.Course) → all_obey (gives_of k header value) c
 gives_obey k header None c = tt
-gives_obey k header (Some value) c = (refl, (tt, (refl, tt)))
+gives_obey k header (Some value) c =
+    let looked = copied.after (copied.Call.look k (Wanted header)) c in
+    let gone = copied.after (copied.Call.give k) looked in
+    (off_before (stage_at c.spread k) (Wanted header) refl, (tt, (off_before (stage_at gone.spread k) Idle refl, tt)))
 
-call_obeys : (call : Call) (block : BlockState) → AnswersByRule call block → all_obey (calls_by call block) (course block.copies)
-call_obeys (Call.acts (BlockCall.made (Ok true))) block rule = puts_obey (made_next block) (course block.copies)
-call_obeys (Call.takes (TargetCall.handed link header value)) block rule =
+call_obeys : (call : Call) (block new : BlockState) → is_one_taker block.kind ≡ false → MayCall call block → Does call block new
+    → AnswersByRule call block → all_obey (calls_by call block) (course block.copies)
+call_obeys (Call.acts (BlockCall.made (Ok true))) block new copies may does rule = puts_obey (made_next block) (course block.copies)
+call_obeys (Call.takes (TargetCall.handed link header value)) block new copies may does rule =
     puts_obey (copied_at_once (with_port_of link (arrives link value) block)) (course block.copies)
-call_obeys (Call.gives (SourceCall.offered offer)) block rule = offers_obey (offer_next block) (course block.copies)
-call_obeys (Call.gives (SourceCall.noted link header how)) block rule = (rule, tt)
-call_obeys (Call.gives (SourceCall.consumed link header value)) block rule =
+call_obeys (Call.gives (SourceCall.offered offer)) block new copies may does rule = offers_obey (offer_next block) (course block.copies)
+call_obeys (Call.gives (SourceCall.noted link header how)) block new copies may does rule = (rule, tt)
+call_obeys (Call.gives (SourceCall.consumed link header value)) block new copies may does rule =
     gives_obey (place_of link block.copies.ends) header value (course block.copies)
-call_obeys _ block rule = tt
+call_obeys (Call.gives (SourceCall.reserved link header true)) block new copies may does rule =
+    let keep : may_keep_copy link header block.copies ≡ true =
+    sym (does.0 ∙ ap (λ (one : Bool). kept_by one link header block) copies) in
+    ((λ off. ap is_put_off (may_reserve block.copies link header keep).waits), (tt, tt))
+call_obeys (Call.gives (SourceCall.released link header)) block new copies may does rule =
+    let shown : copy_over block.copies link ≡ source.Reserved header =
+    sym (ap (λ (one : Bool). source_by one block link) copies) ∙ may in
+    ((λ off. ap is_put_off (is_reserved block.copies link header shown).kept), tt)
+call_obeys _ block new copies may does rule = tt
 
 record AllObey (steps : List (Step Call BlockState)) (block : BlockState) : Type 0 where
   pub done : AllDone Fits MayCall Does steps block
@@ -136,7 +149,7 @@ steps_obey (step ∷ steps) block copies done =
     let rest = steps_obey steps step.left (ap is_one_taker one.kind ∙ copies) done.1.1.1 in
     record {
       done = (done.0.0, (done.1.0, (done.1.1.0, rest.done)));
-      obey = obey_both (calls_by step.call block) (all_by steps step.left) (course block.copies) (call_obeys step.call block done.0.1)
+      obey = obey_both (calls_by step.call block) (all_by steps step.left) (course block.copies) (call_obeys step.call block step.left copies done.0.0 done.1.0 done.0.1)
           (subst (λ (d : copied.Course). all_obey (all_by steps step.left) d) (sym one.follows.after) rest.obey);
     }
 

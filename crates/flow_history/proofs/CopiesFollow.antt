@@ -1,5 +1,5 @@
 -- What a call of a block by the name of a link is to the block's copies: a list of their own calls, and what that gives and tells.
-use Rattle.std.proofs.Common.{◌≡◌, ℕ, zero, suc, ◌+◌, ◌<◌, ◌^◌, ◌==◌, ltb, Bool, true, false, not, ◌&&◌, ◌||◌, cond, is_some, List, [], ◌∷◌, ◌++◌, length, map, set, get_or, position, Option, Some, None, unwrap_or, refl, ap, ap₂, sym, ◌∙◌, arith, append-nil, append_assoc, eqb-true, eq-eqb, ne_eqb}
+use Rattle.std.proofs.Common.{◌≡◌, ℕ, zero, suc, ◌+◌, ◌<◌, ◌^◌, ◌==◌, ltb, Bool, true, false, not, ◌&&◌, ◌||◌, cond, is_some, List, [], ◌∷◌, ◌++◌, length, map, set, get_or, position, Option, Some, None, unwrap_or, refl, ap, ap₂, sym, subst, ◌∙◌, arith, append-nil, append_assoc, eqb-true, eq-eqb, ne_eqb}
 use Rattle.std.proofs.lemmas.Bool.{and_parts, ltb-true}
 use Rattle.std.proofs.lemmas.List.{length-map, length-set, get_or-set_same}
 use Rattle.std.proofs.lemmas.List.Quantifiers.{position-Some}
@@ -7,7 +7,7 @@ use Rattle.std.proofs.Math.ListN.{get_or-map}
 use Rattle.std.proofs.Math.Seq.{map-set_same}
 use Rattle.flow_value.specs.declared.value.Value.{Value}
 use Rattle.flow_value.specs.declared.message.MessageStatus.{MessageStatus}
-use Rattle.flow_link.specs.declared.phase.Phase.TheVariants.{Idle, Wanted}
+use Rattle.flow_link.specs.declared.phase.Phase.TheVariants.{Idle, Wanted, Asked, Postponed}
 use Rattle.flow_link.specs.declared.stage.SourceStage.{SourceStage}
 use Rattle.flow_link.specs.declared.stage.SourceStage.TheVariants as source
 use Rattle.flow_link.specs.Stage.{source_looks}
@@ -16,13 +16,14 @@ use Rattle.flow_outlet.specs.History.{listed}
 use Rattle.flow_outlet.specs.Outlet.{given_end}
 use Rattle.flow_spread.specs.declared.end.CopyEnd.{CopyEnd}
 use Rattle.flow_spread.specs.End.{end_in, no_end, takes_up, is_answer, moved}
-use Rattle.flow_spread.specs.ByLink.{place_of, answered as copy_answered, answered_link, still_owes, is_there, tests_take, tests_consume, gives_home}
+use Rattle.flow_spread.specs.ByLink.{place_of, answered as copy_answered, answered_link, still_owes, is_there, tests_take, tests_consume, gives_home, reserves, releases}
 use Rattle.flow_spread.specs.Accounts.{Told, nothing_told, told_both, told_gift, told_answer, told_look, told_in, AllMade}
 use Rattle.flow_spread.specs.Accounts.{told_by as told_by_copies}
 use Rattle.flow_spread.specs.Copied as copied
-use Rattle.flow_spread.specs.Spread.{SpreadState, end_at, link_at, stage_at, next_place, is_spread_free, puts, prepares, offers, looks, is_wanted, may_give, gives, changes}
+use Rattle.flow_spread.specs.Spread.{SpreadState, end_at, link_at, stage_at, next_place, is_spread_free, puts, prepares, offers, looks, is_wanted, may_give, gives, changes, asked_id, is_asked_by, holds}
 use Rattle.flow_spread.proofs.NextOffer.{next_is, prepared_may}
-use Rattle.flow_block.specs.Traits.{copy_over, may_take_copy}
+use Rattle.flow_block.specs.Traits.{copy_over, may_take_copy, may_keep_copy}
+use Rattle.flow_block.proofs.CopyKept.{looked_end as copy_looked, may_reserve, kept_so, is_reserved}
 use Rattle.flow_block.proofs.CopyStands.{is_asked}
 use Rattle.flow_lists.proofs.PlacesNamed.{place_set, place_map}
 use Rattle.flow_history.specs.Copied.{link_id, NamesItself}
@@ -138,6 +139,12 @@ offers_of (Some k) = copied.Call.prepare k ∷ copied.Call.offer k ∷ []
 abbrev pub gives_of : (k header : ℕ) → Option Value → List copied.Call
 gives_of k header None = []
 gives_of k header (Some value) = copied.Call.look k (Wanted header) ∷ copied.Call.give k ∷ copied.Call.look k Idle ∷ []
+
+abbrev pub keeps_of : (k header : ℕ) → List copied.Call
+keeps_of k header = copied.Call.look k (Asked header) ∷ copied.Call.hold k ∷ []
+
+abbrev pub releases_of : (k header : ℕ) → List copied.Call
+releases_of k header = copied.Call.look k (Postponed header) ∷ []
 
 pub record Follows (calls : List copied.Call) (old new : SpreadState) (values : List Value) (gifts : List Gift) (tells : ℕ → Told) : Type 0 where
   pub made : AllMade calls (course old)
@@ -314,3 +321,49 @@ module _ (s : SpreadState) (link header : ℕ) (value : Value) (element : s.elem
         (links_both s looked gave (links_change at s looked_end refl) (links_change at looked gave_end refl))
         (links_change at gave home_end refl);
   }
+
+-- it is kept, or given up: that tells nothing new
+
+told_none : (here : Bool) (told : Told) → told ≡ nothing_told → told_both (cond here told nothing_told) nothing_told ≡ nothing_told
+told_none true told none = rw none refl
+told_none false told none = refl
+
+pub keep_follows : (s : SpreadState) (link header : ℕ) → may_keep_copy link header s ≡ true
+    → Follows (keeps_of (place_of link s.ends) header) s (reserves link header s) [] [] tells_nothing
+keep_follows s link header keep =
+    let k = place_of link s.ends in
+    let may = may_reserve s link header keep in
+    let asked = looks k (Asked header) s in
+    let asked_end = copy_looked s k (source_looks (stage_at s k) (Asked header)) in
+    let near : k < length asked.ends = (let l = may.known in omega (arith, l, length-set s.ends k asked_end)) in
+    let asks : is_asked_by (stage_at asked k) ≡ true =
+    ap (λ (end : CopyEnd). is_asked_by end.link.stage) (get_or-set_same s.ends k asked_end no_end may.known)
+    ∙ ap (λ (stage : SourceStage). is_asked_by (source_looks stage (Asked header))) may.waits in
+    subst (λ (after : SpreadState). Follows (keeps_of k header) s after [] [] tells_nothing) (sym (kept_so s link header keep)) (record {
+      made = (may.known, ((near, asks), tt));
+      after = refl;
+      put = refl;
+      given = λ j l own. refl;
+      told = λ j l own.
+          told_none (k == j) (told_look s.id (stage_at s k) (source_looks (stage_at s k) (Asked header)))
+          (ap (λ (stage : SourceStage). told_look s.id stage (source_looks stage (Asked header))) may.waits);
+      links =
+          links_both s asked (holds k asked) (links_change k s asked_end refl)
+          (links_change k asked (moved (record (link_at asked k) { stage = source.Reserved (asked_id (stage_at asked k)) }) (end_at asked k).owes (end_at asked k)) refl);
+    })
+
+pub release_follows : (s : SpreadState) (link header : ℕ) → copy_over s link ≡ source.Reserved header
+    → Follows (releases_of (place_of link s.ends) header) s (releases link header s) [] [] tells_nothing
+release_follows s link header shown =
+    let k = place_of link s.ends in
+    let kept = is_reserved s link header shown in
+    record {
+      made = (kept.known, tt);
+      after = refl;
+      put = refl;
+      given = λ j l own. refl;
+      told = λ j l own.
+          told_none (k == j) (told_look s.id (stage_at s k) (source_looks (stage_at s k) (Postponed header)))
+          (ap (λ (stage : SourceStage). told_look s.id stage (source_looks stage (Postponed header))) kept.kept);
+      links = links_change k s (copy_looked s k (source_looks (stage_at s k) (Postponed header))) refl;
+    }

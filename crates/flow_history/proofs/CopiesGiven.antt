@@ -28,11 +28,11 @@ use Rattle.flow_block.specs.Block.{BlockState, held_by, with_port, copies_next, 
 use Rattle.flow_block.specs.BlockFits.{fresh_block}
 use Rattle.flow_block.specs.Copies.{copied_rules}
 use Rattle.flow_block.specs.Peeks.{may_finish, would_copy}
-use Rattle.flow_block.specs.Traits.{settles, outcome_of, faults, makes_alone, has_turn, made_next, makes_its_next, Makes, carries_copy, copies_over, copy_over, may_take_copy, copies_home, shares, source_by, offer_by, offer_next, offered_by, answered_by, taken_by, given_by, with_port_of, wishing_port, wishes, notes, made_by_unit, goes_on_by_unit}
+use Rattle.flow_block.specs.Traits.{settles, outcome_of, faults, makes_alone, has_turn, made_next, makes_its_next, Makes, carries_copy, copies_over, copy_over, may_take_copy, copies_home, shares, source_by, offer_by, offer_next, offered_by, answered_by, taken_by, given_by, with_port_of, wishing_port, wishes, notes, made_by_unit, goes_on_by_unit, may_keep_copy, keeps_copy, kept_by, reserved_by, released_by}
 use Rattle.flow_history.specs.Calls.{Call, MayCall, Fits, Does, Step, AllDone, after_all}
 use Rattle.flow_history.specs.Copied.{told_by, told_over, link_id, NamesItself}
 use Rattle.flow_history.specs.History.{Gift, History, nothing_yet, given_over, came_by, copied_at_once, made_by, gifts_of, gave_by, noted, history_of}
-use Rattle.flow_history.proofs.CopiesFollow.{after_both, made_both, put_both, given_both, told_all_both, course, puts_of, offers_of, gives_of, Follows, tells_nothing, nothing_follows, put_follows, offer_follows, answer_follows, gift_follows}
+use Rattle.flow_history.proofs.CopiesFollow.{after_both, made_both, put_both, given_both, told_all_both, course, puts_of, offers_of, gives_of, Follows, tells_nothing, nothing_follows, put_follows, offer_follows, answer_follows, gift_follows, keeps_of, releases_of, keep_follows, release_follows}
 
 -- By each call of the block
 
@@ -42,6 +42,8 @@ calls_by (Call.takes (TargetCall.handed link header value)) block = puts_of (cop
 calls_by (Call.gives (SourceCall.offered offer)) block = offers_of (offer_next block)
 calls_by (Call.gives (SourceCall.noted link header how)) block = copied.Call.answer (place_of link block.copies.ends) header how ∷ []
 calls_by (Call.gives (SourceCall.consumed link header value)) block = gives_of (place_of link block.copies.ends) header value
+calls_by (Call.gives (SourceCall.reserved link header true)) block = keeps_of (place_of link block.copies.ends) header
+calls_by (Call.gives (SourceCall.released link header)) block = releases_of (place_of link block.copies.ends) header
 calls_by _ block = []
 
 pub record CallFollows (call : Call) (old new : BlockState) : Type 0 where
@@ -180,6 +182,14 @@ module _ (old new : BlockState) (copies : is_one_taker old.kind ≡ false) where
       let none : is_some old.copies.element ≡ false = ap is_some (sym told) in absurd (cc)
   consumed_where link header (Some value) true is told = (gift_follows old.copies link header value (sym told) is, refl)
 
+  kept_where : (link header : ℕ) (kept keep : Bool) → may_keep_copy link header old.copies ≡ keep → kept ≡ keep
+      → Follows (calls_by (Call.gives (SourceCall.reserved link header kept)) old) old.copies (cond keep (keeps_copy link header old) old).copies [] [] tells_nothing
+      × ((cond keep (keeps_copy link header old) old).kind ≡ old.kind)
+  kept_where link header true true is told = (keep_follows old.copies link header is, refl)
+  kept_where link header false false is told = (nothing_follows old.copies, refl)
+  kept_where link header true false is told = absurd (cc)
+  kept_where link header false true is told = absurd (cc)
+
   acts_follow : (call : BlockCall) → Does (Call.acts call) old new → CallFollows (Call.acts call) old new
   acts_follow (BlockCall.completed p) does = stays (Call.acts (BlockCall.completed p)) (with_port p port_closes old) does refl refl refl refl refl refl
   acts_follow (BlockCall.faulted number) does =
@@ -212,6 +222,21 @@ module _ (old new : BlockState) (copies : is_one_taker old.kind ≡ false) where
       record {
         follows = subst (λ (b : BlockState). Follows (gives_of (place_of link old.copies.ends) header value) old.copies b.copies [] (gifts_of link value) (told_of link header value)) (sym is) after.0;
         kind = ap (λ (b : BlockState). b.kind) is ∙ after.1;
+      }
+  gives_follow (SourceCall.reserved link header kept) may does =
+      let told : kept ≡ may_keep_copy link header old.copies = does.0 ∙ ap (λ (one : Bool). kept_by one link header old) copies in
+      let is : new ≡ reserved_by false link header old = does.1 ∙ ap (λ (one : Bool). reserved_by one link header old) copies in
+      let after = kept_where link header kept (may_keep_copy link header old.copies) refl told in
+      record {
+        follows = subst (λ (b : BlockState). Follows (calls_by (Call.gives (SourceCall.reserved link header kept)) old) old.copies b.copies [] [] tells_nothing) (sym is) after.0;
+        kind = ap (λ (b : BlockState). b.kind) is ∙ after.1;
+      }
+  gives_follow (SourceCall.released link header) may does =
+      let is : new ≡ released_by false link header old = does ∙ ap (λ (one : Bool). released_by one link header old) copies in
+      record {
+        follows = subst (λ (b : BlockState). Follows (releases_of (place_of link old.copies.ends) header) old.copies b.copies [] [] tells_nothing) (sym is)
+            (release_follows old.copies link header (sym (source_copies link) ∙ may));
+        kind = ap (λ (b : BlockState). b.kind) is;
       }
 
   takes_follow : (call : TargetCall) → Does (Call.takes call) old new → CallFollows (Call.takes call) old new

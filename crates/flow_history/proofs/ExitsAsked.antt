@@ -9,16 +9,16 @@ use Rattle.std.specs.List.{list_any}
 use Rattle.flow_value.specs.declared.value.Value.{Value}
 use Rattle.flow_value.specs.declared.message.MessageStatus.{MessageStatus}
 use Rattle.flow_link.specs.declared.phase.Phase.{Phase}
-use Rattle.flow_link.specs.declared.phase.Phase.TheVariants.{Idle, Wanted}
+use Rattle.flow_link.specs.declared.phase.Phase.TheVariants.{Idle, Wanted, Asked, Postponed}
 use Rattle.flow_link.specs.declared.stage.SourceStage.{SourceStage}
 use Rattle.flow_link.specs.declared.stage.SourceStage.TheVariants as source
 use Rattle.flow_link.specs.LinkOk.{IsWithin, HasRoom}
 use Rattle.flow_link.specs.Stage.{source_looks, source_is_released}
-use Rattle.flow_outlet.specs.ByLink.{IsAsked, place_of, answered, answer_stage, answer_declined, is_taken, has_room, tests_take, forgotten, forgets, gives_home}
-use Rattle.flow_outlet.specs.End.{no_end, is_passed, place_in, is_spoken_for, is_free, waits_with, fresh_end}
+use Rattle.flow_outlet.specs.ByLink.{IsAsked, place_of, answered, answer_stage, answer_declined, is_taken, has_room, tests_take, forgotten, forgets, gives_home, MayReserve, reserved, reserves, keeps, IsReserved, forgotten_for, forgets_all, releases}
+use Rattle.flow_outlet.specs.End.{no_end, is_passed, place_in, is_spoken_for, is_free, waits_with, fresh_end, is_out}
 use Rattle.flow_outlet.specs.KeepsByLink.{settles_it}
 use Rattle.flow_outlet.specs.Law.{OutletLaw, is_put_off, admits_head, may_go_past}
-use Rattle.flow_outlet.specs.Outlet.{OutletState, head_of, is_empty, is_at, end_at, stage_at, is_held_back, offer_at, may_offer, puts, lacks_ids, prepares, offers, looks, may_give, is_wanted, offer_kept, gives, given_end, fresh_outlet}
+use Rattle.flow_outlet.specs.Outlet.{OutletState, head_of, is_empty, is_at, end_at, stage_at, is_held_back, offer_at, may_offer, puts, lacks_ids, prepares, offers, looks, may_give, is_wanted, offer_kept, gives, given_end, fresh_outlet, out_at, holds}
 use Rattle.flow_outlet.specs.declared.ends.LinkRule.{LinkRule}
 use Rattle.flow_outlet.specs.declared.ends.OutEnd.{OutEnd}
 use Rattle.flow_outlet.proofs.LawKept.{calls_keep_law, gives_in_order}
@@ -227,6 +227,38 @@ module _ (sure : Bool) where
       ∙ ap forgets (same_looks k Idle (gives k (looks k (Wanted header) o)))
       ∙ same_forgets (looks k Idle (gives k (looks k (Wanted header) o)))
 
+  same_keeps : (k header : ℕ) (o : OutletState) → keeps k header (asked sure o) ≡ asked sure (keeps k header o)
+  same_keeps k header o =
+      ap (holds k) (same_looks k (Asked header) o)
+      ∙ ap (λ (ends : List OutEnd). record (holds k (looks k (Asked header) o)) { ends = ends })
+      (changed (λ (end : OutEnd). record end { declined = end.declined; stage = source.Reserved o.next }) (λ end. refl) k
+      (looks k (Asked header) o))
+
+  same_reserves : (link header : ℕ) (o : OutletState) → reserves link header (asked sure o) ≡ asked sure (reserves link header o)
+  same_reserves link header o = by (reserved header o)
+    where
+      by : (b : Bool) → cond b (keeps (place_of link (asked sure o).ends) header (asked sure o)) (asked sure o)
+          ≡ asked sure (cond b (keeps (place_of link o.ends) header o) o)
+      by true = ap (λ (n : ℕ). keeps n header (asked sure o)) (place_asked o link) ∙ same_keeps (place_of link o.ends) header o
+      by false = refl
+
+  same_releases : (link header : ℕ) (o : OutletState) → releases link header (asked sure o) ≡ asked sure (releases link header o)
+  same_releases link header o =
+      ap (λ (n : ℕ). forgets_all (looks n (Postponed header) (asked sure o))) (place_asked o link)
+      ∙ ap forgets_all (same_looks (place_of link o.ends) (Postponed header) o)
+      ∙ ap (λ (ends : List OutEnd). record (looks (place_of link o.ends) (Postponed header) o) { ends = ends })
+      (all_forgotten (looks (place_of link o.ends) (Postponed header) o).ends)
+    where
+      all_forgotten : (ends : List OutEnd)
+          → map (forgotten_for o.next) (map (asked_end sure) ends) ≡ map (asked_end sure) (map (forgotten_for o.next) ends)
+      all_forgotten [] = refl
+      all_forgotten (end ∷ ends) =
+          ap (λ (rest : List OutEnd). asked_end sure (forgotten_for o.next end) ∷ rest) (all_forgotten ends)
+
+  out_asked : (o : OutletState) (offer : Option ℕ) → out_at (asked sure o) offer ≡ out_at o offer
+  out_asked o None = refl
+  out_asked o (Some k) = ap (λ (end : OutEnd). is_out end.stage) (end_asked o k)
+
   -- What keeps the law
 
   pub fresh_law : (rules : List LinkRule) → AskedLaw sure (fresh_outlet rules 1)
@@ -267,6 +299,31 @@ module _ (sure : Bool) where
       unsteady : (b steady : Bool) → (b ≡ true → steady ≡ false) → (b && steady) ≡ false
       unsteady true steady rule = rule refl
       unsteady false steady rule = refl
+
+  pub reserves_law : (o : OutletState) (link header : ℕ) → MayReserve link header o → AskedLaw sure o → AskedLaw sure (reserves link header o)
+  reserves_law o link header may law =
+      let k = place_of link o.ends in
+      let place = place_asked o link in
+      let count = count_asked o in
+      let may_there : MayReserve link header (asked sure o) = record {
+        known = (let l = may.known in omega (arith, l, place, count));
+        waits = ap (stage_at (asked sure o)) place ∙ ap (λ (end : OutEnd). end.stage) (end_asked o k) ∙ may.waits;
+        none_out = out_asked o o.offer ∙ may.none_out;
+      } in
+      subst (λ (v : OutletState). OutletLaw true None v) (same_reserves link header o)
+      (link_calls_keep.reserve true None (asked sure o) law link header may_there)
+
+  pub releases_law : (o : OutletState) (link header : ℕ) → IsReserved link header o → AskedLaw sure o → AskedLaw sure (releases link header o)
+  releases_law o link header kept law =
+      let k = place_of link o.ends in
+      let place = place_asked o link in
+      let count = count_asked o in
+      let kept_there : IsReserved link header (asked sure o) = record {
+        known = (let l = kept.known in omega (arith, l, place, count));
+        kept = ap (stage_at (asked sure o)) place ∙ ap (λ (end : OutEnd). end.stage) (end_asked o k) ∙ kept.kept;
+      } in
+      subst (λ (v : OutletState). OutletLaw true None v) (same_releases link header o)
+      (link_calls_keep.release true None (asked sure o) law link header kept_there)
 
   module _ (o : OutletState) (law : AskedLaw sure o) (at header : ℕ) (near : at < length o.ends) (takes : tests_take at o ≡ true) where
     near_asked : at < length (asked sure o).ends

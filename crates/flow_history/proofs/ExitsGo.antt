@@ -11,10 +11,10 @@ use Rattle.flow_link.specs.declared.trace.Outcome.TheVariants.{Done, Faulted}
 use Rattle.flow_link.specs.declared.traits.MakeFault.TheVariants as make_fault
 use Rattle.flow_intake.specs.ByLink.{answered}
 use Rattle.flow_intake.specs.Calls.{port_closes}
-use Rattle.flow_outlet.specs.ByLink.{place_of, is_head, is_there, tests_consume, consumed, gives_home}
+use Rattle.flow_outlet.specs.ByLink.{place_of, is_head, is_there, tests_consume, consumed, gives_home, reserved, keeps}
 use Rattle.flow_outlet.specs.Outlet.{OutletState, head_of, first_of, rest_of, is_empty, groups_after}
 use Rattle.flow_block.specs.Block.{BlockState, with_port, stops_by}
-use Rattle.flow_block.specs.Traits.{settles, outcome_of, faults, offer_next, offered_by, answered_by, taken_by, given_by, may_take, gives_over, with_port_of, wishing_port, wishes, notes}
+use Rattle.flow_block.specs.Traits.{settles, outcome_of, faults, offer_next, offered_by, answered_by, taken_by, given_by, may_take, gives_over, with_port_of, wishing_port, wishes, notes, may_keep, keeps_head, reserved_by, released_by}
 use Rattle.flow_block.specs.Peeks.{may_finish}
 use Rattle.flow_block.proofs.SourceStands.{there_is_head}
 use Rattle.flow_history.specs.Calls.{Call, Does}
@@ -97,6 +97,16 @@ module _ (old : BlockState) where
       (and_parts (tests_consume (place_of link old.exits.ends) header old.exits)
       (is_there (place_of link old.exits.ends) header old.exits) is).1 told
 
+  -- the head is kept
+
+  exits_kept : (link header : ℕ) (keep : Bool) → SameExits old.exits (cond keep (keeps_head link header old) old).exits
+  exits_kept link header true = of (reserved header old.exits)
+    where
+      of : (b : Bool) → SameExits old.exits (cond b (keeps (place_of link old.exits.ends) header old.exits) old.exits)
+      of true = record { left = refl; next = refl; groups = refl; room = refl }
+      of false = same_exits old.exits
+  exits_kept link header false = same_exits old.exits
+
 module _ (old new : BlockState) (one : is_one_taker old.kind ≡ true) where
   exits_as : (value : Option Value) (block : BlockState) → new ≡ block → Goes value old.exits block.exits → Goes value old.exits new.exits
   exits_as value block is goes = subst (λ (b : BlockState). Goes value old.exits b.exits) (sym is) goes
@@ -121,6 +131,12 @@ module _ (old new : BlockState) (one : is_one_taker old.kind ≡ true) where
       exits_as value (given_by true link header old) (does.1 ∙ ap (λ (b : Bool). given_by b link header old) one)
       (exits_consumed old link header value (may_take link header old.exits) refl
       (does.0 ∙ ap (λ (b : Bool). taken_by b link header old) one))
+  exits_give (SourceCall.reserved link header kept) does =
+      exits_as None (reserved_by true link header old) (does.1 ∙ ap (λ (b : Bool). reserved_by b link header old) one)
+      (exits_kept old link header (may_keep link header old.exits))
+  exits_give (SourceCall.released link header) does =
+      exits_as None (released_by true link header old) (does ∙ ap (λ (b : Bool). released_by b link header old) one)
+      (record { left = refl; next = refl; groups = refl; room = refl })
 
   exits_take : (call : TargetCall) → IsPlain (Call.takes call) → Does (Call.takes call) old new → SameExits old.exits new.exits
   exits_take (TargetCall.offered link header may_postpone how) plain does =

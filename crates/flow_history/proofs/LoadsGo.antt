@@ -20,7 +20,7 @@ use Rattle.flow_intake.specs.Calls.{next_place, is_postponed, port_closes, consu
 use Rattle.flow_outlet.specs.ByLink.{place_of as out_place, is_head, is_there as is_head_there, tests_consume, consumes, consumed, gives_home}
 use Rattle.flow_outlet.specs.Outlet.{head_of, weight_at, is_empty}
 use Rattle.flow_block.specs.Block.{BlockState, port_in, port_at, with_port, row_count, stops_by}
-use Rattle.flow_block.specs.Traits.{settles, outcome_of, faults, offer_next, offered_by, answered_by, taken_by, given_by, may_take, gives_over, with_port_of, port_into, wishing_port, wishes, holds_at, notes}
+use Rattle.flow_block.specs.Traits.{settles, outcome_of, faults, offer_next, offered_by, answered_by, taken_by, given_by, may_take, gives_over, with_port_of, port_into, wishing_port, wishes, holds_at, notes, may_keep, keeps_head, reserved_by, released_by}
 use Rattle.flow_block.proofs.PortsChange.{kept_at_one, kept_at_all}
 use Rattle.flow_block.proofs.RoomBack.{port_back}
 use Rattle.flow_outlet.specs.Fits.{weight_of}
@@ -92,6 +92,10 @@ module _ (old : BlockState) (p : ℕ) where
 
   offered_loads : (place : Option ℕ) → (port_at p (offered_by true place old)).load ≡ (port_at p old).load
   offered_loads place = refl
+
+  kept_loads : (link header : ℕ) (keep : Bool) → (port_at p (cond keep (keeps_head link header old) old)).load ≡ (port_at p old).load
+  kept_loads link header true = refl
+  kept_loads link header false = refl
 
   -- room comes back with the head
   back_loads : (room weight count load waiting : ℕ) → room ≡ 0 → load ≤ load - (room + min count (load - waiting - room - weight)) + count
@@ -170,6 +174,11 @@ module _ (old new : BlockState) (one : is_one_taker old.kind ≡ true) (p : ℕ)
         loads_as value (given_by true link header old) (does.1 ∙ ap (λ (b : Bool). given_by b link header old) one)
         (consumed_loads old p there no_room no_groups link header value (may_take link header old.exits) refl
         (does.0 ∙ ap (λ (b : Bool). taken_by b link header old) one))
+    loads_give (SourceCall.reserved link header kept) does =
+        loads_as None (reserved_by true link header old) (does.1 ∙ ap (λ (b : Bool). reserved_by b link header old) one)
+        (kept_loads old p link header (may_keep link header old.exits))
+    loads_give (SourceCall.released link header) does =
+        loads_as None (released_by true link header old) (does ∙ ap (λ (b : Bool). released_by b link header old) one) refl
 
     pub loads_go : (call : Call) → IsPlain call → Does call old new → LoadsAt (given_value call) old new p
     loads_go (Call.acts call) plain does = loads_act call plain does

@@ -21,14 +21,15 @@ use Rattle.flow_outlet.specs.ByLink.{place_of, is_head, is_there, tests_consume,
 use Rattle.flow_outlet.specs.Law.{may_go_past}
 use Rattle.flow_outlet.specs.Outlet.{OutletState, head_of, may_offer, lacks_ids, is_empty, end_at}
 use Rattle.flow_block.specs.Block.{BlockState, held_by, row_of, next_group, with_port, puts_out, copies_next, copies_at_once, copies_where, copies_taken, stops_by}
-use Rattle.flow_block.specs.Traits.{settles, outcome_of, faults, makes_alone, has_turn, makes_its_next, Makes, carries, offers_over, source_by, offer_by, offer_next, offered_by, answered_by, may_take, taken_by, gives_over, given_by, with_port_of, wishing_port, wishes, notes, made_by_unit, goes_on_by_unit}
+use Rattle.flow_block.specs.Traits.{settles, outcome_of, faults, makes_alone, has_turn, makes_its_next, Makes, carries, offers_over, source_by, offer_by, offer_next, offered_by, answered_by, may_take, taken_by, gives_over, given_by, with_port_of, wishing_port, wishes, notes, made_by_unit, goes_on_by_unit, may_keep, keeps_head, reserved_by, released_by}
 use Rattle.flow_block.specs.Peeks.{may_finish}
+use Rattle.flow_block.proofs.HeadKept.{may_reserve, is_reserved}
 use Rattle.flow_block.proofs.SourceStands.{there_is_head}
 use Rattle.flow_history.specs.Calls.{Call, MayCall, Does}
 use Rattle.flow_history.specs.History.{Gift, gifts_of, gave_by}
 use Rattle.flow_history.specs.Ordered.{AnswersSteadily, GoesInOrder}
 use Rattle.flow_history.proofs.ExitsGo.{no_head}
-use Rattle.flow_history.proofs.RulesKept.{GoesByRule, puts_by_rule, offers_by_rule, answers_by_rule, gives_by_rule, goes_past}
+use Rattle.flow_history.proofs.RulesKept.{GoesByRule, puts_by_rule, offers_by_rule, answers_by_rule, gives_by_rule, goes_past, reserves_by_rule, releases_by_rule}
 
 -- a call that may be made; where targets are asked to, one answers by rule
 abbrev pub MayCallAsked : Bool → Call → BlockState → Type 0
@@ -162,6 +163,18 @@ module _ (sure : Bool) (gave : List Gift) (old new : BlockState) (one : is_one_t
       let told : value ≡ taken_by true link header old = does.0 ∙ ap (λ (b : Bool). taken_by b link header old) one in
       subst (λ (b : BlockState). GoesByRule sure (gave ++ gifts_of link value) b.exits) (sym is)
       (consumed_by_rule sure gave old goes link header value (may_take link header old.exits) refl told)
+  given_so (SourceCall.reserved link header kept) may does =
+      becomes (reserved_by true link header old) (does.1 ∙ ap (λ (b : Bool). reserved_by b link header old) one)
+      (kept_by_rule (may_keep link header old.exits) refl)
+    where
+      kept_by_rule : (keep : Bool) → may_keep link header old.exits ≡ keep
+          → GoesByRule sure gave (cond keep (keeps_head link header old) old).exits
+      kept_by_rule true is = reserves_by_rule sure gave old.exits link header (may_reserve old.exits link header is) goes
+      kept_by_rule false is = goes
+  given_so (SourceCall.released link header) may does =
+      becomes (released_by true link header old) (does ∙ ap (λ (b : Bool). released_by b link header old) one)
+      (releases_by_rule sure gave old.exits link header
+      (is_reserved old.exits link header (sym (ap (λ (b : Bool). source_by b old link) one) ∙ may.0)) goes)
 
   took_so : (call : TargetCall) → Does (Call.takes call) old new → GoesByRule sure (gave ++ []) new.exits
   took_so (TargetCall.offered link header may_postpone how) does = stays_so (with_port_of link (answered link header how) old) does.1 refl
@@ -197,6 +210,8 @@ module _ (gave : List Gift) (old new : BlockState) (one : is_one_taker old.kind 
   call_in_order (Call.gives (SourceCall.consumed link header None)) does = tt
   call_in_order (Call.gives (SourceCall.offered offer)) does = tt
   call_in_order (Call.gives (SourceCall.noted link header how)) does = tt
+  call_in_order (Call.gives (SourceCall.reserved link header kept)) does = tt
+  call_in_order (Call.gives (SourceCall.released link header)) does = tt
   call_in_order (Call.acts call) does = tt
   call_in_order (Call.takes call) does = tt
   call_in_order Call.asked does = tt
@@ -249,6 +264,11 @@ module _ (old new : BlockState) (one : is_one_taker old.kind ≡ true) where
   kind_stays (Call.gives (SourceCall.consumed link header value)) does =
       kind_as (given_by true link header old) (does.1 ∙ ap (λ (b : Bool). given_by b link header old) one)
       (kind_where (may_take link header old.exits) (gives_over link header old) old refl refl)
+  kind_stays (Call.gives (SourceCall.reserved link header kept)) does =
+      kind_as (reserved_by true link header old) (does.1 ∙ ap (λ (b : Bool). reserved_by b link header old) one)
+      (kind_where (may_keep link header old.exits) (keeps_head link header old) old refl refl)
+  kind_stays (Call.gives (SourceCall.released link header)) does =
+      kind_as (released_by true link header old) (does ∙ ap (λ (b : Bool). released_by b link header old) one) refl
   kind_stays (Call.takes (TargetCall.offered link header may_postpone how)) does = kind_as (with_port_of link (answered link header how) old) does.1 refl
   kind_stays (Call.takes (TargetCall.handed link header value)) does =
       let arrived = with_port_of link (arrives link value) old in

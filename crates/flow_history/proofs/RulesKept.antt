@@ -8,24 +8,25 @@ use Rattle.std.proofs.Math.Seq.{map-set_same}
 use Rattle.flow_value.specs.When.{admits}
 use Rattle.flow_value.specs.declared.value.Value.{Value}
 use Rattle.flow_value.specs.declared.message.MessageStatus.{MessageStatus}
-use Rattle.flow_link.specs.declared.phase.Phase.TheVariants.{Idle, Wanted}
+use Rattle.flow_link.specs.declared.phase.Phase.TheVariants.{Idle, Wanted, Asked, Postponed}
+use Rattle.flow_link.specs.declared.phase.Phase.{Phase}
 use Rattle.flow_link.specs.declared.stage.SourceStage.TheVariants as source
 use Rattle.flow_link.specs.LinkOk.{IsWithin}
 use Rattle.flow_lists.specs.Lists.{every}
 use Rattle.flow_link.specs.Stage.{source_looks}
 use Rattle.flow_link.proofs.OneMoreMark.{every_more}
-use Rattle.flow_outlet.specs.ByLink.{IsAsked, place_of, answered, answer_stage, answer_declined, is_there, has_room, tests_take, tests_consume, forgotten, forgets, gives_home}
+use Rattle.flow_outlet.specs.ByLink.{IsAsked, place_of, answered, answer_stage, answer_declined, is_there, has_room, tests_take, tests_consume, forgotten, forgets, gives_home, MayReserve, reserved, reserves, keeps, IsReserved, forgotten_for, releases}
 use Rattle.flow_outlet.specs.End.{end_in, no_end, counted}
 use Rattle.flow_outlet.specs.KeepsByLink.{settles_it}
 use Rattle.flow_outlet.specs.Law.{admits_head, may_go_past}
-use Rattle.flow_outlet.specs.Outlet.{OutletState, head_of, is_empty, is_at, end_at, stage_at, may_offer, puts, lacks_ids, prepares, offers, looks, gives, given_end}
+use Rattle.flow_outlet.specs.Outlet.{OutletState, head_of, is_empty, is_at, end_at, stage_at, may_offer, puts, lacks_ids, prepares, offers, looks, gives, given_end, holds}
 use Rattle.flow_outlet.specs.declared.ends.OutEnd.{OutEnd}
 use Rattle.flow_block.specs.Traits.{is_ready, end_shown, source_over, may_take}
 use Rattle.flow_lists.proofs.PlacesNamed.{place_set, place_map}
 use Rattle.flow_block.proofs.SourceStands.{shown_known, shown_out}
 use Rattle.flow_history.specs.History.{Gift, given_over, gifts_of}
 use Rattle.flow_history.specs.Ordered.{NamesItsEnd, GivenByRule}
-use Rattle.flow_history.proofs.ExitsAsked.{AskedLaw, puts_law, offers_law, answers_law, gifts_law, admitted_by_law, within_by_law, past_by_law}
+use Rattle.flow_history.proofs.ExitsAsked.{AskedLaw, puts_law, offers_law, answers_law, gifts_law, admitted_by_law, within_by_law, past_by_law, reserves_law, releases_law}
 
 -- Links that stay where they are, and what was given over each
 
@@ -70,24 +71,31 @@ outs_set o new j end ends_are rule given = record {
       ∙ ap₂ unwrap_or (place_set (λ (e : OutEnd). e.rule.id == link) o.ends j end no_end (ap (λ r. r.id == link) rule)) (length-set o.ends j end);
 }
 
-outs_forgotten : (o : OutletState) → SameOuts o (forgets o)
-outs_forgotten o = record {
-  count = length-map o.ends forgotten;
-  rules = λ k. rule_of o.ends k;
-  counts = λ k. given_of o.ends k;
+-- each end changes, and keeps its rule and its count
+outs_mapped : (change : OutEnd → OutEnd) → ((end : OutEnd) → (change end).rule ≡ end.rule) → ((end : OutEnd) → (change end).given ≡ end.given)
+    → (o new : OutletState) → new.ends ≡ map change o.ends → SameOuts o new
+outs_mapped change rule given o new ends_are = record {
+  count = ap length ends_are ∙ length-map o.ends change;
+  rules = λ k. ap (λ (ends : List OutEnd). (end_in ends k).rule) ends_are ∙ rule_of o.ends k;
+  counts = λ k. ap (λ (ends : List OutEnd). (end_in ends k).given) ends_are ∙ given_of o.ends k;
   places = λ link.
-      ap₂ unwrap_or (place_map (λ (e : OutEnd). e.rule.id == link) forgotten (λ end. refl) o.ends) (length-map o.ends forgotten);
+      ap (place_of link) ends_are
+      ∙ ap₂ unwrap_or (place_map (λ (e : OutEnd). e.rule.id == link) change (λ end. ap (λ r. r.id == link) (rule end)) o.ends)
+      (length-map o.ends change);
 }
   where
-    rule_of : (ends : List OutEnd) (k : ℕ) → (end_in (map forgotten ends) k).rule ≡ (end_in ends k).rule
+    rule_of : (ends : List OutEnd) (k : ℕ) → (end_in (map change ends) k).rule ≡ (end_in ends k).rule
     rule_of [] k = refl
-    rule_of (end ∷ ends) zero = refl
+    rule_of (end ∷ ends) zero = rule end
     rule_of (end ∷ ends) (suc k) = rule_of ends k
 
-    given_of : (ends : List OutEnd) (k : ℕ) → (end_in (map forgotten ends) k).given ≡ (end_in ends k).given
+    given_of : (ends : List OutEnd) (k : ℕ) → (end_in (map change ends) k).given ≡ (end_in ends k).given
     given_of [] k = refl
-    given_of (end ∷ ends) zero = refl
+    given_of (end ∷ ends) zero = given end
     given_of (end ∷ ends) (suc k) = given_of ends k
+
+outs_forgotten : (o : OutletState) → SameOuts o (forgets o)
+outs_forgotten o = outs_mapped forgotten (λ end. refl) (λ end. refl) o (forgets o) refl
 
 -- what was given over the link at a place
 pub record SoFar (o : OutletState) (gave : List Gift) (k : ℕ) : Type 0 where
@@ -161,6 +169,35 @@ answers_by_rule sure gave o link header how out steady goes =
     let end = record (end_at o k) { declined = answer_declined how header (end_at o k).declined; stage = answer_stage how header } in
     stays_by_rule sure gave o (answered how header k o) (outs_set o (answered how header k o) k end refl refl refl)
     (answers_law sure o link header how (asked_is o link header out) steady goes.law) goes
+
+-- A message is kept, or given up
+
+outs_looked : (o : OutletState) (k : ℕ) (phase : Phase) → SameOuts o (looks k phase o)
+outs_looked o k phase =
+    outs_set o (looks k phase o) k (record (end_at o k) { declined = (end_at o k).declined; stage = source_looks (stage_at o k) phase })
+    refl refl refl
+
+outs_kept : (o : OutletState) (link header : ℕ) (keep : Bool) → SameOuts o (cond keep (keeps (place_of link o.ends) header o) o)
+outs_kept o link header true =
+    let k = place_of link o.ends in
+    let asked = looks k (Asked header) o in
+    outs_both o asked (holds k asked) (outs_looked o k (Asked header))
+    (outs_set asked (holds k asked) k (record (end_at asked k) { declined = (end_at asked k).declined; stage = source.Reserved o.next }) refl refl refl)
+outs_kept o link header false = outs_same o o refl
+
+pub reserves_by_rule : (sure : Bool) (gave : List Gift) (o : OutletState) (link header : ℕ) → MayReserve link header o
+    → GoesByRule sure gave o → GoesByRule sure gave (reserves link header o)
+reserves_by_rule sure gave o link header may goes =
+    stays_by_rule sure gave o (reserves link header o) (outs_kept o link header (reserved header o)) (reserves_law sure o link header may goes.law) goes
+
+pub releases_by_rule : (sure : Bool) (gave : List Gift) (o : OutletState) (link header : ℕ) → IsReserved link header o
+    → GoesByRule sure gave o → GoesByRule sure gave (releases link header o)
+releases_by_rule sure gave o link header kept goes =
+    let looked = looks (place_of link o.ends) (Postponed header) o in
+    stays_by_rule sure gave o (releases link header o)
+    (outs_both o looked (releases link header o) (outs_looked o (place_of link o.ends) (Postponed header))
+    (outs_mapped (forgotten_for o.next) (λ end. refl) (λ end. refl) looked (releases link header o) refl))
+    (releases_law sure o link header kept goes.law) goes
 
 -- A message is given
 

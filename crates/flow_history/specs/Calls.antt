@@ -1,7 +1,7 @@
 -- What a caller who drives a block by hand may call, and what each call does to the block.
 use Rattle.std.specs.Prelude.{◌≡◌, true, List, [], ◌∷◌}
 use Rattle.flow_link.specs.BlockCalls.{BlockCall}
-use Rattle.flow_link.specs.SourceCalls.{SourceCall, MayConsume}
+use Rattle.flow_link.specs.SourceCalls.{SourceCall, MayConsume, MayReserve}
 use Rattle.flow_link.specs.TargetCalls.{TargetCall, Wants, MayNote}
 use Rattle.flow_link.specs.declared.stage.SourceStage.TheVariants as source
 use Rattle.flow_link.specs.declared.stage.TargetStage.TheVariants as target
@@ -31,6 +31,8 @@ abbrev pub MayGive : SourceCall → BlockState → Type 0
 MayGive (SourceCall.offered offer) block = Unit {0}
 MayGive (SourceCall.noted link header status) block = source_at block link ≡ source.Out header
 MayGive (SourceCall.consumed link header value) block = MayConsume header (is_source_busy block) (source_at block link)
+MayGive (SourceCall.reserved link header kept) block = MayReserve header (is_source_busy block) (source_at block link)
+MayGive (SourceCall.released link header) block = source_at block link ≡ source.Reserved header
 
 abbrev pub MayTake : TargetCall → BlockState → Type 0
 MayTake (TargetCall.offered link header may_postpone status) block = target_over block.ports link ≡ target.Free
