@@ -22,12 +22,12 @@ use Rattle.flow_intake.specs.Port.{PortState, stage_at}
 use Rattle.flow_intake.specs.Calls.{first_of, takes_next, gives_room, port_closes, next_place, is_postponed, consumes as port_consumes}
 use Rattle.flow_intake.specs.ByLink.{place_of, with_link_at, closes_link, answered, arrives, arrives_at, drops_at, consumes_at, consumes_next}
 use Rattle.flow_outlet.specs.ByLink.{consumes, consumed}
-use Rattle.flow_spread.specs.ByLink.{place_of as copy_place, answered as copy_answered, gives_home as copy_home}
+use Rattle.flow_spread.specs.ByLink.{place_of as copy_place, answered as copy_answered, gives_home as copy_home, reserves as reserves_copy, releases as releases_copy}
 use Rattle.flow_spread.specs.Spread.{SpreadState, puts as copies_put, prepares, offers}
 use Rattle.flow_block.specs.Block.{BlockState, port_at, held_by, with_port, takes_group, makes_row, makes_tuple, puts_out, copies_next, copies_at_once, copies_where, stops_by, with_copies, keeps_results, yields_all, yields_where, ends_job, with_jobs}
 use Rattle.flow_block.specs.Copies.{copies_weight}
 use Rattle.flow_block.specs.Jobs.{Slot, brings}
-use Rattle.flow_block.specs.Traits.{Acts, Gives, Takes, outcome_of, settles, faults, makes_its_next, may_take, gives_over, may_take_copy, copies_home, shares, offer_next, offered_by, answered_by, given_by, port_into, with_port_of, wishing_port, wishes, notes, holds_at, goes_on_by_unit}
+use Rattle.flow_block.specs.Traits.{Acts, Gives, Takes, outcome_of, settles, faults, makes_its_next, may_take, gives_over, may_take_copy, copies_home, may_keep, keeps_head, may_keep_copy, keeps_copy, shares, offer_next, offered_by, answered_by, given_by, reserved_by, released_by, port_into, with_port_of, wishing_port, wishes, notes, holds_at, goes_on_by_unit}
 use Rattle.flow_block.specs.Peeks.{may_finish}
 use Rattle.flow_block.proofs.PortsChange.{kept_at_one, kept_at_all}
 use Rattle.flow_block.proofs.RoomBack.{length_back, kept_back}
@@ -219,6 +219,17 @@ module _ (old : BlockState) where
       where_given (may_take_copy link header old.copies) (copies_home link header old)
       (with_copies_stays (copy_home (copy_place link old.copies.ends) header old.copies))
 
+  reserved_stays : (one : Bool) (link header : ℕ) → SameShape old (reserved_by one link header old)
+  reserved_stays true link header =
+      where_given (may_keep link header old.exits) (keeps_head link header old) (record { kind = refl; count = refl; same = λ p. refl })
+  reserved_stays false link header =
+      where_given (may_keep_copy link header old.copies) (keeps_copy link header old)
+      (with_copies_stays (reserves_copy link header old.copies))
+
+  released_stays : (one : Bool) (link header : ℕ) → SameShape old (released_by one link header old)
+  released_stays true link header = record { kind = refl; count = refl; same = λ p. refl }
+  released_stays false link header = with_copies_stays (releases_copy link header old.copies)
+
   pub gives_stay : (new : BlockState) (call : SourceCall) → Gives old call new → SameShape old new
   gives_stay new (SourceCall.offered offer) does =
       as_it_is old (offered_by (shares old) (offer_next old) old) new does.1 (offered_stays (shares old) (offer_next old))
@@ -226,6 +237,10 @@ module _ (old : BlockState) where
       as_it_is old (answered_by (shares old) link header how old) new does (answered_stays (shares old) link header how)
   gives_stay new (SourceCall.consumed link header value) does =
       as_it_is old (given_by (shares old) link header old) new does.1 (given_stays (shares old) link header)
+  gives_stay new (SourceCall.reserved link header kept) does =
+      as_it_is old (reserved_by (shares old) link header old) new does.1 (reserved_stays (shares old) link header)
+  gives_stay new (SourceCall.released link header) does =
+      as_it_is old (released_by (shares old) link header old) new does (released_stays (shares old) link header)
 
   -- As a target
 

@@ -68,6 +68,14 @@ impl SourceBlock for BatchedJoin {
         self.join.consume_message(link, header)
     }
 
+    fn reserve_message(&mut self, link: LinkId, header: MessageHeader) -> bool {
+        self.join.reserve_message(link, header)
+    }
+
+    fn release_reservation(&mut self, link: LinkId, header: MessageHeader) {
+        self.join.release_reservation(link, header);
+    }
+
     ghost rests = { λ join nothing. rests_by (shares join.block) join.block nothing };
 }
 

@@ -67,6 +67,14 @@ impl<K: Kind> SourceBlock for TypedBlock<K> {
         self.block.consume_message(link, header)
     }
 
+    fn reserve_message(&mut self, link: LinkId, header: MessageHeader) -> bool {
+        self.block.reserve_message(link, header)
+    }
+
+    fn release_reservation(&mut self, link: LinkId, header: MessageHeader) {
+        self.block.release_reservation(link, header);
+    }
+
     ghost rests = { λ block nothing. rests_by (shares block) block nothing };
 }
 

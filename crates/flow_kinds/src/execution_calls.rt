@@ -70,6 +70,14 @@ impl<K: GivingKind, W> SourceBlock for TypedExecution<K, W> {
         self.execution.consume_message(link, header)
     }
 
+    fn reserve_message(&mut self, link: LinkId, header: MessageHeader) -> bool {
+        self.execution.reserve_message(link, header)
+    }
+
+    fn release_reservation(&mut self, link: LinkId, header: MessageHeader) {
+        self.execution.release_reservation(link, header);
+    }
+
     ghost rests = { λ execution nothing. rests_by (shares execution.block) execution.block nothing };
 }
 
