@@ -9,8 +9,10 @@ use Rattle.flow_value.specs.declared.message.MessageStatus.TheVariants as status
 use Rattle.flow_link.specs.BlockCalls.{BlockCall}
 use Rattle.flow_link.specs.SourceCalls.{SourceCall}
 use Rattle.flow_link.specs.TargetCalls.{TargetCall}
-use Rattle.flow_link.specs.declared.phase.Phase.TheVariants.{Idle, Wanted}
-use Rattle.flow_link.specs.declared.stage.SourceStage.TheVariants.{Out}
+use Rattle.flow_link.specs.declared.phase.Phase.TheVariants.{Idle, Wanted, Asked, Postponed}
+use Rattle.flow_link.specs.declared.phase.Phase.{Phase}
+use Rattle.flow_link.specs.declared.stage.SourceStage.{SourceStage}
+use Rattle.flow_link.specs.declared.stage.SourceStage.TheVariants.{Out, Reserved}
 use Rattle.flow_link.specs.Plan.{is_broadcast, is_write_once}
 use Rattle.flow_link.specs.Stage.{source_looks}
 use Rattle.flow_outlet.specs.End.{is_cut, is_limit, is_free}
@@ -20,16 +22,17 @@ use Rattle.flow_outlet.specs.declared.ends.LinkRule.{LinkRule}
 use Rattle.flow_spread.specs.declared.end.CopyEnd.{CopyEnd}
 use Rattle.flow_spread.specs.ByLink.{place_of, answered, answered_link, still_owes, gives_home, is_there, tests_take, tests_consume}
 use Rattle.flow_spread.specs.End.{end_in, no_end, fresh_end, takes_up, is_answer, is_open, moved}
-use Rattle.flow_spread.specs.Spread.{SpreadState, is_spread_free, end_at, link_at, stage_at, next_place, puts, prepares, offers, looks, gives}
+use Rattle.flow_spread.specs.Spread.{SpreadState, is_spread_free, end_at, link_at, stage_at, next_place, puts, prepares, offers, looks, gives, asked_id, holds}
 use Rattle.flow_spread.proofs.LawKept.{each_set}
 use Rattle.flow_spread.proofs.NextOffer.{Next, next_is}
 use Rattle.flow_spread.proofs.SpreadFits.{set_twice}
 use Rattle.flow_block.specs.Block.{BlockState}
-use Rattle.flow_block.specs.Traits.{carries_copy, copies_over, may_take_copy, copies_home, has_turn, offer_next, offered_by, answered_by}
+use Rattle.flow_block.specs.Traits.{carries_copy, copies_over, may_take_copy, copies_home, copy_over, has_turn, offer_next, offered_by, answered_by, may_keep_copy, keeps_copy, released_by}
+use Rattle.flow_block.proofs.CopyKept.{may_reserve, kept_so, is_reserved}
 use Rattle.flow_block.proofs.CopyStands.{is_asked}
 use Rattle.flow_history.specs.Calls.{Call, MayCall, MayCallInOrder, Does, Fits, Step, AllDone, after_all}
 use Rattle.flow_history.specs.History.{History, came_by, made_by, gave_by, noted}
-use Rattle.flow_once.proofs.OnceByHand.{AllOnce, asked_leaves_copies, acts_leave_copies, takes_leave_copies, offer_is, offered_is, noted_is, out_is, consumed_is, copies_it, never_makes, one_once}
+use Rattle.flow_once.proofs.OnceByHand.{AllOnce, asked_leaves_copies, acts_leave_copies, takes_leave_copies, offer_is, offered_is, noted_is, out_is, consumed_is, copies_it, never_makes, one_once, reserved_is, released_is, kept_is}
 
 -- Why a link asks for the message no more, or that it still does
 
@@ -113,9 +116,51 @@ module _ (value : Value) (id header : ℕ) (once : Bool) (end : CopyEnd) (out : 
   answer_settled status.NotAvailable e = goes_on status.NotAvailable (still_so end.owes once e)
   answer_settled status.DecliningPermanently e = record { cause = Cause.has_refused refl; admitted = λ owes. absurd (cc) }
 
+-- it is kept, or given up: the link goes on asking for it, if it did
+stands_on : (value : Value) (id : ℕ) (end : CopyEnd) (stage : SourceStage) (owes : Bool) → owes ≡ end.owes → is_refused end.link.stage ≡ false
+    → Settled value id end → Settled value id (moved (record end.link { stage = stage }) owes end)
+stands_on value id end stage owes same unrefused so = record {
+  cause = of_cause so.cause;
+  admitted = λ e. so.admitted (sym same ∙ e);
+}
+  where
+    of_cause : Cause value id end → Cause value id (moved (record end.link { stage = stage }) owes end)
+    of_cause (Cause.is_owed e) = Cause.is_owed (same ∙ e)
+    of_cause (Cause.was_given e) = Cause.was_given e
+    of_cause (Cause.has_refused e) = absurd (let never = unrefused in cc)
+    of_cause (Cause.is_rejected e) = Cause.is_rejected e
+    of_cause (Cause.is_full e) = Cause.is_full e
+
 -- Of all ends
 
 module _ (count : ℕ) (s : SpreadState) (so : AllSettled count s) where
+  looks_settle : (k : ℕ) (phase : Phase) → k < length s.ends
+      → ((end_at s k).owes && not (is_answer s.once (source_looks (stage_at s k) phase))) ≡ (end_at s k).owes
+      → is_refused (stage_at s k) ≡ false → AllSettled count (looks k phase s)
+  looks_settle k phase there same unrefused =
+      let stage = source_looks (stage_at s k) phase in
+      let owes = (end_at s k).owes && not (is_answer s.once stage) in
+      let end = moved (record (link_at s k) { stage = stage }) owes (end_at s k) in
+      record {
+        each = λ value some.
+            each_set (Settled value s.id) s.ends k end there
+            (stands_on value s.id (end_at s k) stage owes same unrefused (so.each value some k there)) (so.each value some);
+        begun = so.begun;
+        links = length-set s.ends k end ∙ so.links;
+      }
+
+  holds_settle : (k : ℕ) → k < length s.ends → is_refused (stage_at s k) ≡ false → AllSettled count (holds k s)
+  holds_settle k there unrefused =
+      let stage = Reserved (asked_id (stage_at s k)) in
+      let end = moved (record (link_at s k) { stage = stage }) (end_at s k).owes (end_at s k) in
+      record {
+        each = λ value some.
+            each_set (Settled value s.id) s.ends k end there
+            (stands_on value s.id (end_at s k) stage (end_at s k).owes refl unrefused (so.each value some k there)) (so.each value some);
+        begun = so.begun;
+        links = length-set s.ends k end ∙ so.links;
+      }
+
   pub answers_settle : (link header : ℕ) (how : MessageStatus) → place_of link s.ends < length s.ends
       → stage_at s (place_of link s.ends) ≡ Out header → s.once ≡ true → AllSettled count (answered how header (place_of link s.ends) s)
   answers_settle link header how there out once =
@@ -213,6 +258,40 @@ module _ (count : ℕ) (s : SpreadState) (so : AllSettled count s) where
       links = ap length home_ends ∙ length-set s.ends k home ∙ so.links;
     }
 
+-- a block that takes once goes on waiting for a target that put the message off
+owes_still : (owes once : Bool) → once ≡ true → (owes && not (not once)) ≡ owes
+owes_still true true e = refl
+owes_still false once e = refl
+owes_still true false e = absurd (cc)
+
+module _ (count : ℕ) (s : SpreadState) (so : AllSettled count s) (link header : ℕ) (once : s.once ≡ true) where
+  abbrev at : ℕ
+  at = place_of link s.ends
+
+  pub keeps_settle : may_keep_copy link header s ≡ true → AllSettled count (holds at (looks at (Asked header) s))
+  keeps_settle keep =
+      let may = may_reserve s link header keep in
+      let asked = looks at (Asked header) s in
+      let stage = source_looks (stage_at s at) (Asked header) in
+      let asked_end = moved (record (link_at s at) { stage = stage }) ((end_at s at).owes && not (is_answer s.once stage)) (end_at s at) in
+      let settled : AllSettled count asked =
+      looks_settle count s so at (Asked header) may.known
+      (ap (λ (was : SourceStage). (end_at s at).owes && not (is_answer s.once (source_looks was (Asked header)))) may.waits
+      ∙ owes_still (end_at s at).owes s.once once)
+      (ap is_refused may.waits) in
+      holds_settle count asked settled at
+      (let l = may.known in omega (arith, l, length-set s.ends at asked_end))
+      (ap (λ (end : CopyEnd). is_refused end.link.stage) (get_or-set_same s.ends at asked_end no_end may.known)
+      ∙ ap (λ (was : SourceStage). is_refused (source_looks was (Asked header))) may.waits)
+
+  pub releases_settle : copy_over s link ≡ Reserved header → AllSettled count (looks at (Postponed header) s)
+  releases_settle shown =
+      let kept = is_reserved s link header shown in
+      looks_settle count s so at (Postponed header) kept.known
+      (ap (λ (was : SourceStage). (end_at s at).owes && not (is_answer s.once (source_looks was (Postponed header)))) kept.kept
+      ∙ owes_still (end_at s at).owes s.once once)
+      (ap is_refused kept.kept)
+
 pub same_settled : (count : ℕ) (old new : SpreadState) → new ≡ old → AllSettled count old → AllSettled count new
 same_settled count old new is so = subst (AllSettled count) (sym is) so
 
@@ -245,6 +324,12 @@ module _ (count : ℕ) (old new : BlockState) (once : is_write_once old.kind ≡
       let near = (and_parts (ltb k (length old.copies.ends)) (not (is_there k header old.copies) || tests_take k old.copies) tests).0 in
       gives_settle count old.copies so k header (ltb-true k (length old.copies.ends) near)
 
+  kept_where : (link header : ℕ) (keep : Bool) → may_keep_copy link header old.copies ≡ keep
+      → AllSettled count (cond keep (keeps_copy link header old) old).copies
+  kept_where link header false is = so
+  kept_where link header true is =
+      subst (AllSettled count) (sym (kept_so old.copies link header is)) (keeps_settle count old.copies so link header one is)
+
   as_it_is : (block : BlockState) → new ≡ block → AllSettled count block.copies → AllSettled count new.copies
   as_it_is block is settled = subst (λ (b : BlockState). AllSettled count b.copies) (sym is) settled
 
@@ -258,6 +343,12 @@ module _ (count : ℕ) (old new : BlockState) (once : is_write_once old.kind ≡
   gives_settled (SourceCall.consumed link header value) may does =
       as_it_is (cond (may_take_copy link header old.copies) (copies_home link header old) old)
       (consumed_is old new once link header value does) (given_where link header (may_take_copy link header old.copies) refl)
+  gives_settled (SourceCall.reserved link header kept) may does =
+      as_it_is (cond (may_keep_copy link header old.copies) (keeps_copy link header old) old)
+      (reserved_is old new once link header kept does) (kept_where link header (may_keep_copy link header old.copies) refl)
+  gives_settled (SourceCall.released link header) may does =
+      as_it_is (released_by false link header old) (released_is old new once link header does)
+      (releases_settle count old.copies so link header one (kept_is old new once link header may))
 
 -- Over all
 

@@ -23,12 +23,13 @@ use Rattle.flow_outlet.specs.History.{listed}
 use Rattle.flow_outlet.specs.Outlet.{is_empty}
 use Rattle.flow_spread.specs.declared.end.CopyEnd.{CopyEnd}
 use Rattle.flow_spread.specs.End.{first_open, count_of, owes_it}
-use Rattle.flow_spread.specs.ByLink.{place_of as copy_place, tests_consume, is_there}
+use Rattle.flow_spread.specs.ByLink.{place_of as copy_place, tests_consume, is_there, tests_reserve, reserved}
 use Rattle.flow_spread.specs.Spread.{SpreadState, next_place, puts as copies_put, is_spread_free, end_at}
 use Rattle.flow_block.specs.Block.{BlockState, port_at, held_by, with_port, copies_at_once, copies_where, copies_next, stops_by}
 use Rattle.flow_block.specs.Copies.{copies_weight}
 use Rattle.flow_block.specs.Peeks.{may_finish}
-use Rattle.flow_block.specs.Traits.{settles, outcome_of, faults, makes_alone, has_turn, source_shown, is_copy_ready, copy_over, copies_over, may_take_copy, copies_home, source_by, offer_by, offer_next, offered_by, answered_by, given_by, port_into, with_port_of, wishing_port, wishes, notes}
+use Rattle.flow_block.specs.Traits.{settles, outcome_of, faults, makes_alone, has_turn, source_shown, is_copy_ready, copy_over, copies_over, may_take_copy, copies_home, source_by, offer_by, offer_next, offered_by, answered_by, given_by, port_into, with_port_of, wishing_port, wishes, notes, may_keep_copy, keeps_copy, reserved_by, released_by}
+use Rattle.flow_block.proofs.CopyKept.{is_kept}
 use Rattle.flow_history.specs.Calls.{Call, MayCall, MayCallInOrder, Does, Fits, Step, AllDone, after_all}
 use Rattle.flow_history.specs.History.{History, took_at, came_by, made_by, gave_by, noted, history_of, copied_at_once}
 use Rattle.flow_history.specs.Kept.{hands_on}
@@ -71,9 +72,17 @@ module _ (s : SpreadState) (link header : ℕ) (none : s.element ≡ None) where
   none_asked : copy_over s link ≡ source.Out header → ⊥
   none_asked out = at_place (ltb (copy_place link s.ends) (length s.ends)) out
 
+  none_kept : copy_over s link ≡ source.Reserved header → ⊥
+  none_kept shown = let ready : is_copy_ready s end ≡ true = (is_kept s link header shown).ready_is in cc
+
 none_taken : (s : SpreadState) (link header : ℕ) → s.element ≡ None → may_take_copy link header s ≡ false
 none_taken s link header none =
     ap (λ (e : Option Value). is_some e && tests_consume (copy_place link s.ends) header s && is_there (copy_place link s.ends) header s) none
+
+none_keeps : (s : SpreadState) (link header : ℕ) → s.element ≡ None → may_keep_copy link header s ≡ false
+none_keeps s link header none =
+    ap (λ (e : Option Value). is_some e && tests_reserve (copy_place link s.ends) header s && tests_consume (copy_place link s.ends) header s
+    && reserved header s) none
 
 copying : (kind : BlockKind) → is_write_once kind ≡ true → is_one_taker kind ≡ false
 copying kinds.WriteOnce e = refl
@@ -138,6 +147,18 @@ module _ (old new : BlockState) where
         → new ≡ given_by false link header old
     consumed_is link header value does = does.1 ∙ ap (λ (one : Bool). given_by one link header old) (copying old.kind once)
 
+    pub reserved_is : (link header : ℕ) (kept : Bool) → Does (Call.gives (SourceCall.reserved link header kept)) old new
+        → new ≡ reserved_by false link header old
+    reserved_is link header kept does = does.1 ∙ ap (λ (one : Bool). reserved_by one link header old) (copying old.kind once)
+
+    pub released_is : (link header : ℕ) → Does (Call.gives (SourceCall.released link header)) old new
+        → new ≡ released_by false link header old
+    released_is link header does = does ∙ ap (λ (one : Bool). released_by one link header old) (copying old.kind once)
+
+    pub kept_is : (link header : ℕ) → MayCall (Call.gives (SourceCall.released link header)) old
+        → copy_over old.copies link ≡ source.Reserved header
+    kept_is link header may = sym (ap (λ (one : Bool). source_by one old link) (copying old.kind once)) ∙ may
+
     module _ (none : old.copies.element ≡ None) where
       nothing_next : (stopped : Bool) → cond stopped None (copies_over old.copies (next_place old.copies)) ≡ None
       nothing_next true = refl
@@ -152,6 +173,11 @@ module _ (old new : BlockState) where
       gives_none (SourceCall.consumed link header value) may does =
           so_far old (consumed_is link header value does
           ∙ ap (λ (taken : Bool). cond taken (copies_home link header old) old) (none_taken old.copies link header none)) refl
+      gives_none (SourceCall.reserved link header kept) may does =
+          so_far old (reserved_is link header kept does
+          ∙ ap (λ (keep : Bool). cond keep (keeps_copy link header old) old) (none_keeps old.copies link header none)) refl
+      gives_none (SourceCall.released link header) may does =
+          absurd (none_kept old.copies link header none (kept_is link header may))
 
       pub copies_stay : (call : Call) → IsPlain call → MayCall call old → Does call old new → new.copies ≡ old.copies
       copies_stay (Call.acts call) plain may does = acts_leave_copies call plain does
