@@ -1,2 +1,3 @@
 pub mod Driven
 pub mod Jobs
+pub mod Reserved

@@ -69,9 +69,14 @@ fn batched_join(rt: &impl Abort, alloc: Global) -> BatchedJoin
     join
 }
 
-/// A block of this kind, which copies, with room for so many messages, or for any number. Link 0 leads into it, and
-/// links 7 and 8 lead out of it.
-fn copier(rt: &impl Abort, alloc: Global, kind: BlockKind, capacity: Option<u32>) -> Block
+/// A block of this kind, with room for so many messages, or for any number. Link 0 leads into it, and links 7 and 8 lead
+/// out of it.
+pub(crate) fn with_two_links_out(
+    rt: &impl Abort,
+    alloc: Global,
+    kind: BlockKind,
+    capacity: Option<u32>,
+) -> Block
     ensures { result ≡ fresh_block kind 1 0
         (record (fresh_port capacity) { ends = fresh_end 0 ∷ [] } ∷ []) (link_to 7 ∷ link_to 8 ∷ []) }
 {
@@ -82,14 +87,20 @@ fn copier(rt: &impl Abort, alloc: Global, kind: BlockKind, capacity: Option<u32>
     let Ok(rules) = vec![in alloc; link(7), link(8)] else {
         panic!(rt; "out of memory");
     };
-    let Ok(copier) = Block::new(alloc, kind, 1, 0, ports, rules) else {
+    let Ok(block) = Block::new(alloc, kind, 1, 0, ports, rules) else {
         panic!(rt; "out of memory");
     };
-    copier
+    block
 }
 
 /// The target takes a number over this link.
-fn take<T: TargetBlock>(rt: &impl Abort, alloc: Global, target: &mut T, link: LinkId, number: i64)
+pub(crate) fn take<T: TargetBlock>(
+    rt: &impl Abort,
+    alloc: Global,
+    target: &mut T,
+    link: LinkId,
+    number: i64,
+)
     requires link { link < 2 }
     requires rests { Rests (T.target_stage target.old) }
     ensures { Rests (T.target_stage target.new) }
@@ -103,7 +114,7 @@ fn take<T: TargetBlock>(rt: &impl Abort, alloc: Global, target: &mut T, link: Li
 
 /// The next message that the source offers, which is taken at once: its link, its number among the source's messages, and
 /// its value. None, where it offers nothing.
-fn give<S: SourceBlock>(
+pub(crate) fn give<S: SourceBlock>(
     rt: &impl Abort,
     alloc: Global,
     source: &mut S,
@@ -135,7 +146,12 @@ fn put_off<S: SourceBlock>(
 }
 
 /// Whether a message with this number goes over this link, and is this value.
-fn is_number(given: &Option<(LinkId, u64, Value)>, link: LinkId, id: u64, number: i64) -> bool {
+pub(crate) fn is_number(
+    given: &Option<(LinkId, u64, Value)>,
+    link: LinkId,
+    id: u64,
+    number: i64,
+) -> bool {
     match given {
         Some((over, header, value)) => {
             *over == link && *header == id && value.as_int() == Some(number)
@@ -184,7 +200,7 @@ fn a_batched_join_groups_as_messages_came(rt: HostRuntime) {
 
 #[test]
 fn a_broadcast_copies_to_each_link(rt: HostRuntime) {
-    let mut source = copier(&rt, rt.alloc(), BlockKind::Broadcast, None);
+    let mut source = with_two_links_out(&rt, rt.alloc(), BlockKind::Broadcast, None);
     take(&rt, rt.alloc(), &mut source, 0, 5);
     take(&rt, rt.alloc(), &mut source, 0, 6);
     assert_eq!(rt; source.make(rt.alloc()), Ok(true));
@@ -199,7 +215,7 @@ fn a_broadcast_copies_to_each_link(rt: HostRuntime) {
 
 #[test]
 fn a_write_once_block_copies_one_message(rt: HostRuntime) {
-    let mut source = copier(&rt, rt.alloc(), BlockKind::WriteOnce, Some(1));
+    let mut source = with_two_links_out(&rt, rt.alloc(), BlockKind::WriteOnce, Some(1));
     take(&rt, rt.alloc(), &mut source, 0, 5);
     let two = header(&rt, 2);
     let Ok(MessageStatus::Declined) = source.offer_message(rt.alloc(), 0, two, false) else {

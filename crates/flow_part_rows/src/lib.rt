@@ -16,6 +16,8 @@ mod links;
 #[cfg(test)]
 mod outlet;
 #[cfg(test)]
+mod reserved;
+#[cfg(test)]
 mod shared;
 #[cfg(test)]
 mod spread;
