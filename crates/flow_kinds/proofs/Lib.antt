@@ -1,3 +1,4 @@
 pub mod KindsStay
 pub mod PlannedBlocks
+pub mod PlannedRounds
 pub mod WorkKinds

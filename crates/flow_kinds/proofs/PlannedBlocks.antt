@@ -53,7 +53,7 @@ some_by kinds.BatchedJoin (Some n) within = let low = leb-true 2 n (and_parts (l
 some_by _ ports within = omega arith
 
 module _ {W : Type 0} (block : BlockDef W) (fit : options_fit block ≡ true) where
-  options : (allows (lanes_rule block.kind) (is_some block.lanes) ≡ true) × (allows (size_rule block.kind) (is_some block.size) ≡ true)
+  pub options : (allows (lanes_rule block.kind) (is_some block.lanes) ≡ true) × (allows (size_rule block.kind) (is_some block.size) ≡ true)
   options =
       let both = and_parts (is_name block.name && keys_fit block) (ranges_fit block) fit in
       let keys = (and_parts (is_name block.name) (keys_fit block) both.0).1 in

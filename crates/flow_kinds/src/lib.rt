@@ -2,15 +2,15 @@
 //!
 //! A [`flow_block::Block`] has the code of all kinds, and a field says which kind it is. Here each kind is a type of its
 //! own, thin over such a block: [`Buffer`], [`Broadcast`], [`WriteOnce`], [`Batch`] and [`GreedyJoin`] are a
-//! [`TypedBlock`], [`Action`], [`Transform`] and [`TransformMany`] a [`TypedExecution`], and a [`BatchedJoin`] keeps the
-//! order in which its messages came.
+//! [`TypedBlock`], [`Action`], [`Transform`] and [`TransformMany`] a [`TypedExecution`]. A [`BatchedJoin`] keeps the order
+//! in which its messages came, and a [`ReservingJoin`] how far its round is.
 //!
 //! `new` takes the block of a plan with its ports and links, as a network does. So a caller who drives blocks by hand
 //! writes no ports and no rules of links, and what the plan says of a link holds here too. That the block of the plan is
 //! of the type's kind is the caller's to know, from the plan.
 //!
-//! Contracts see a block as the plain data of what it stands on: a `BlockState`, an `ExecutionState` or a `JoinState`.
-//! So the laws about lists of calls by hand are laws of these types.
+//! Contracts see a block as the plain data of what it stands on: a `BlockState`, an `ExecutionState`, a `JoinState` or a
+//! `ReservingState`. So the laws about lists of calls by hand are laws of these types.
 //!
 //! Microsoft: `BufferBlock`, `BroadcastBlock`, `WriteOnceBlock`, `BatchBlock`, `JoinBlock`, `BatchedJoinBlock`,
 //! `ActionBlock`, `TransformBlock`, `TransformManyBlock`.
@@ -24,7 +24,10 @@ mod execution;
 mod execution_calls;
 pub mod kind;
 mod planned;
+mod reserving_join;
+mod reserving_join_calls;
 
 pub use batched_join::BatchedJoin;
 pub use block::{Batch, Broadcast, Buffer, GreedyJoin, TypedBlock, WriteOnce};
 pub use execution::{Action, Transform, TransformMany, TypedExecution};
+pub use reserving_join::ReservingJoin;

@@ -1,5 +1,5 @@
 //! Small plans: a block between the buffers before it and those behind it.
-ghost use Rattle.std.specs.Prelude.{◌≡◌, ◌<◌, false, length};
+ghost use Rattle.std.specs.Prelude.{◌≡◌, ◌<◌, false, length, true};
 ghost use Rattle.flow_link.specs.Plan.{block_in, is_reserving};
 ghost use Rattle.flow_link.specs.Planned.{layout_of};
 
@@ -70,8 +70,35 @@ pub(crate) fn plan(rt: &impl Abort, alloc: Global, kind: BlockKind) -> Plan<Step
     if plan.block_count() <= MIDDLE || plan.block(MIDDLE).kind != kind {
         panic!(rt; "the block in the middle is another");
     }
-    if kind.unit().reserves(plan.block(MIDDLE).greedy) {
+    if reserves(plan.block(MIDDLE)) {
         panic!(rt; "the block in the middle reserves");
     }
     plan
+}
+
+/// A plan in whose middle is a join that reserves.
+pub(crate) fn reserving_plan(rt: &impl Abort, alloc: Global) -> Plan<Steps>
+    ensures there { MIDDLE < length (layout_of result).blocks }
+    ensures kind { is_reserving (block_in (layout_of result).blocks MIDDLE) ≡ true }
+{
+    let Ok(mut draft) = draft(alloc, BlockKind::Join) else {
+        panic!(rt; "out of memory");
+    };
+    if let Some(middle) = draft.blocks.get_mut(MIDDLE) {
+        middle.greedy = Some(false);
+    }
+    let Ok(plan) = plan_check(alloc, draft) else {
+        panic!(rt; "something is wrong with the draft");
+    };
+    if plan.block_count() <= MIDDLE || !reserves(plan.block(MIDDLE)) {
+        panic!(rt; "the block in the middle takes each message at once");
+    }
+    plan
+}
+
+/// Whether a block reserves its messages before it takes them.
+fn reserves(block: &BlockDef<Steps>) -> bool
+    ensures { result ≡ is_reserving block.now }
+{
+    block.kind.unit().reserves(block.greedy)
 }

@@ -18,6 +18,8 @@ mod outlet;
 #[cfg(test)]
 mod reserved;
 #[cfg(test)]
+mod reserving;
+#[cfg(test)]
 mod shared;
 #[cfg(test)]
 mod spread;

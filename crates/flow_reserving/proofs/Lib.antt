@@ -1,0 +1,9 @@
+pub mod BlockStays
+pub mod FreshRound
+pub mod JoinFits
+pub mod OffersAnswered
+pub mod RoundCalls
+pub mod RoundFrames
+pub mod RoundWishes
+pub mod WishLaws
+pub mod WishesTell

@@ -1,0 +1,5 @@
+pub mod Calls
+pub mod ReservingJoin
+pub mod RoundOrder
+pub mod WishLaws
+pub mod Wishes
