@@ -12,10 +12,8 @@ ghost use Rattle.flow_part_rows.specs.Driven.{link_to};
 use crate::shared::{header, is_row, link, parcel};
 use flow_block::Block;
 use flow_intake::Intake;
-use flow_link::{
-    BlockKind, Completing, DataflowBlock, Outcome, SourceBlock, TargetBlock, Wish, WishAnswer,
-};
-use flow_value::{MessageHeader, MessageStatus};
+use flow_link::{BlockKind, Completing, DataflowBlock, Outcome, TargetBlock, Wish, WishAnswer};
+use flow_value::MessageStatus;
 use std::alloc::Global;
 use std::process::Abort;
 
@@ -34,45 +32,6 @@ fn block(rt: &impl Abort, alloc: Global, kind: BlockKind, size: u32, capacity: O
         panic!(rt; "out of memory");
     };
     block
-}
-
-/// The block takes a message with this header from outside, over a link with the number 0, and makes it ready.
-fn take_in(rt: &impl Abort, alloc: Global, source: &mut Block, header: MessageHeader)
-    requires { target_over source.old.ports 0 ≡ Free }
-{
-    let Ok(MessageStatus::Accepted) = source.offer_message(alloc, 0, header, false) else {
-        panic!(rt; "it is not accepted");
-    };
-    source.hand_over(0, header, parcel(rt, alloc, 5));
-    assert_eq!(rt; source.make(alloc), Ok(true));
-    assert_eq!(rt; source.make(alloc), Ok(false));
-}
-
-/// The block takes a message with this header over link 7, and keeps it, since it has a function.
-fn keep(rt: &impl Abort, alloc: Global, target: &mut Block, header: MessageHeader)
-    requires { target_over target.old.ports 7 ≡ Free }
-{
-    let Ok(MessageStatus::Accepted) = target.offer_message(alloc, 7, header, true) else {
-        panic!(rt; "it is not accepted");
-    };
-    target.hand_over(7, header, parcel(rt, alloc, 5));
-    assert_eq!(rt; target.make(alloc), Ok(false));
-}
-
-#[test]
-fn a_message_is_taken_and_offered(rt: HostRuntime) {
-    let one = header(&rt, 1);
-    let mut source = block(&rt, rt.alloc(), BlockKind::Buffer, 0, None);
-    take_in(&rt, rt.alloc(), &mut source, one);
-    let Ok(Some((link, header))) = SourceBlock::next_offer(&mut source, rt.alloc()) else {
-        panic!(&rt; "nothing is offered");
-    };
-    assert_eq!(rt; link, 7);
-    assert_eq!(rt; header, one);
-    assert_eq!(rt; source.completion(), None);
-
-    let mut target = block(&rt, rt.alloc(), BlockKind::Action, 0, None);
-    keep(&rt, rt.alloc(), &mut target, header);
 }
 
 #[test]
@@ -140,18 +99,6 @@ fn has_row(block: &Block, numbers: &[i64]) -> bool {
         Some(row) => is_row(row, numbers),
         None => false,
     }
-}
-
-#[test]
-fn a_batch_makes_rows(rt: HostRuntime) {
-    let mut batch = block(&rt, rt.alloc(), BlockKind::Batch, 2, None);
-    take(&rt, rt.alloc(), &mut batch, 1, 5);
-    take(&rt, rt.alloc(), &mut batch, 2, 6);
-    take(&rt, rt.alloc(), &mut batch, 3, 7);
-    assert_eq!(rt; batch.make(rt.alloc()), Ok(true));
-    assert!(rt; has_row(&batch, &[5, 6]));
-    assert_eq!(rt; batch.make(rt.alloc()), Ok(false));
-    assert_eq!(rt; batch.left().len(), 1);
 }
 
 #[test]

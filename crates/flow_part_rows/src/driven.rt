@@ -6,11 +6,9 @@ ghost use Rattle.flow_intake.specs.Calls.{port_closes};
 ghost use Rattle.flow_intake.specs.Port.{fresh_port, fresh_end, coming};
 ghost use Rattle.flow_block.specs.Block.{port_at, with_port};
 ghost use Rattle.flow_block.specs.BlockFits.{fresh_block};
-ghost use Rattle.flow_batched.specs.BatchedJoin.{fresh_join};
 ghost use Rattle.flow_part_rows.specs.Driven.{Rests, two_ports, link_to};
 
-use crate::shared::{header, is_row, link, parcel};
-use flow_batched::BatchedJoin;
+use crate::shared::{header, link, parcel};
 use flow_block::Block;
 use flow_intake::Intake;
 use flow_link::{BlockKind, Completing, DataflowBlock, LinkId, Outcome, SourceBlock, TargetBlock};
@@ -50,20 +48,6 @@ fn join(rt: &impl Abort, alloc: Global) -> Block
         panic!(rt; "out of memory");
     };
     let Ok(join) = Block::new(alloc, BlockKind::Join, 1, 0, ports, rules) else {
-        panic!(rt; "out of memory");
-    };
-    join
-}
-
-/// A batched join with groups of two, with two ports, and link 7 out of it.
-fn batched_join(rt: &impl Abort, alloc: Global) -> BatchedJoin
-    ensures { result ≡ fresh_join 2 two_ports (link_to 7 ∷ []) }
-{
-    let ports = ports(rt, alloc);
-    let Ok(rules) = vec![in alloc; link(7)] else {
-        panic!(rt; "out of memory");
-    };
-    let Ok(join) = BatchedJoin::new(alloc, 2, ports, rules) else {
         panic!(rt; "out of memory");
     };
     join
@@ -161,44 +145,6 @@ pub(crate) fn is_number(
 }
 
 #[test]
-fn a_join_makes_tuples(rt: HostRuntime) {
-    let mut join = join(&rt, rt.alloc());
-    take(&rt, rt.alloc(), &mut join, 0, 5);
-    take(&rt, rt.alloc(), &mut join, 0, 6);
-    take(&rt, rt.alloc(), &mut join, 1, 9);
-    assert_eq!(rt; join.make(rt.alloc()), Ok(true));
-    assert_eq!(rt; join.make(rt.alloc()), Ok(false));
-    let Some((7, 1, tuple)) = give(&rt, rt.alloc(), &mut join) else {
-        panic!(&rt; "it has no first tuple");
-    };
-    assert!(rt; is_row(&tuple, &[5, 9]));
-    assert!(rt; join.port_count() == 2);
-    assert_eq!(rt; join.waiting(0).len(), 1);
-}
-
-#[test]
-fn a_batched_join_groups_as_messages_came(rt: HostRuntime) {
-    let mut join = batched_join(&rt, rt.alloc());
-    take(&rt, rt.alloc(), &mut join, 1, 9);
-    take(&rt, rt.alloc(), &mut join, 0, 5);
-    take(&rt, rt.alloc(), &mut join, 0, 6);
-    assert!(rt; join.has_group());
-    assert_eq!(rt; join.make(rt.alloc()), Ok(true));
-    assert_eq!(rt; join.make(rt.alloc()), Ok(false));
-    assert_eq!(rt; join.left().len(), 1);
-    assert_eq!(rt; join.waiting(), 1);
-    let Some((7, 1, group)) = give(&rt, rt.alloc(), &mut join) else {
-        panic!(&rt; "it has no first group");
-    };
-    let Some([left, right]) = group.as_items() else {
-        panic!(&rt; "it is no row of two");
-    };
-    assert!(rt; is_row(left, &[5]));
-    assert!(rt; is_row(right, &[9]));
-    assert_eq!(rt; join.completion(), None);
-}
-
-#[test]
 fn a_broadcast_copies_to_each_link(rt: HostRuntime) {
     let mut source = with_two_links_out(&rt, rt.alloc(), BlockKind::Broadcast, None);
     take(&rt, rt.alloc(), &mut source, 0, 5);
@@ -211,21 +157,6 @@ fn a_broadcast_copies_to_each_link(rt: HostRuntime) {
     assert!(rt; is_number(&give(&rt, rt.alloc(), &mut source), 7, 2, 6));
     assert!(rt; is_number(&give(&rt, rt.alloc(), &mut source), 8, 2, 6));
     assert_eq!(rt; put_off(&rt, rt.alloc(), &mut source), None);
-}
-
-#[test]
-fn a_write_once_block_copies_one_message(rt: HostRuntime) {
-    let mut source = with_two_links_out(&rt, rt.alloc(), BlockKind::WriteOnce, Some(1));
-    take(&rt, rt.alloc(), &mut source, 0, 5);
-    let two = header(&rt, 2);
-    let Ok(MessageStatus::Declined) = source.offer_message(rt.alloc(), 0, two, false) else {
-        panic!(&rt; "it takes a second");
-    };
-    assert_eq!(rt; source.make(rt.alloc()), Ok(false));
-    assert!(rt; is_number(&give(&rt, rt.alloc(), &mut source), 7, 1, 5));
-    assert_eq!(rt; source.completion(), None);
-    assert!(rt; is_number(&give(&rt, rt.alloc(), &mut source), 8, 1, 5));
-    assert_eq!(rt; source.completion(), Some(Outcome::Done));
 }
 
 /// The first port takes nothing more, since no message comes there.

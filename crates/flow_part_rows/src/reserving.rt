@@ -134,22 +134,6 @@ fn it_takes_one_message_of_each_port(rt: HostRuntime) {
 }
 
 #[test]
-fn one_that_is_not_available_gives_up_the_other(rt: HostRuntime) {
-    let (one, two, three) = (header(&rt, 1), header(&rt, 2), header(&rt, 3));
-    let mut join = join(&rt, rt.alloc());
-    offer(&rt, rt.alloc(), &mut join, 0, one);
-    offer(&rt, rt.alloc(), &mut join, 1, two);
-    asks(&rt, &mut join, 1, two);
-    join.note_wish(1, WishAnswer::Held);
-    asks(&rt, &mut join, 0, one);
-    join.note_wish(0, WishAnswer::NotAvailable);
-    gives_up(&rt, &mut join, 1, two);
-    waits(&rt, &mut join);
-    offer(&rt, rt.alloc(), &mut join, 0, three);
-    asks(&rt, &mut join, 1, two);
-}
-
-#[test]
 fn one_that_is_withdrawn_gives_up_the_other(rt: HostRuntime) {
     let (one, two) = (header(&rt, 1), header(&rt, 2));
     let mut join = join(&rt, rt.alloc());
