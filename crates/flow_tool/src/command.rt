@@ -8,6 +8,14 @@ const NETWORK_HELP: &str = "The file with the network";
 
 const REPORT_HELP: &str = "The file with the report of a run, or - for standard input";
 
+const RECORDS_HELP: &str = "The file with records, or - for standard input";
+
+const ALL_RECORDS_HELP: &str = "The file with the records, or - for standard input";
+
+const BLOCKS_HELP: &str = "The actions whose results are printed, all where none is named";
+
+const PARTS_HELP: &str = "The reports of the parts, in the order of the records";
+
 const STATUSES: &str = "\
 status:
   0     all is well
@@ -85,135 +93,107 @@ pub fn command_line<'a>(alloc: Global) -> Result<Command<'a>, AllocError> {
 }
 
 fn check<'a>(alloc: Global) -> Result<Command<'a>, AllocError> {
-    let records = Arg::new(alloc, "records")
-        .value_name("RECORDS")
-        .help("The file with records, or - for standard input");
-    let short = Arg::new(alloc, "short")
-        .long("short")
-        .action(ArgAction::SetTrue)
-        .help("Prints a line for each thing that it tells");
     Command::new(alloc, "check")
         .about("Tells what is wrong with a network and its records, and where")
         .after_help(CHECK_EXAMPLE)
-        .arg(file(alloc, "network", "NET", NETWORK_HELP))?
-        .arg(records)?
-        .arg(short)
+        .arg(needed(alloc, "network", "NET", NETWORK_HELP))?
+        .arg(optional(alloc, "records", "RECORDS", RECORDS_HELP))?
+        .arg(flag(alloc, "short", "Prints a line for each thing that it tells"))
 }
 
 fn draw<'a>(alloc: Global) -> Result<Command<'a>, AllocError> {
-    let report = Arg::new(alloc, "report")
-        .value_name("REPORT")
-        .help(REPORT_HELP);
-    let dot = Arg::new(alloc, "dot")
-        .long("dot")
-        .action(ArgAction::SetTrue)
-        .help("Draws for Graphviz");
     Command::new(alloc, "draw")
         .about("Draws a network, and what became of it")
         .after_help(DRAW_EXAMPLE)
-        .arg(file(alloc, "network", "NET", NETWORK_HELP))?
-        .arg(report)?
-        .arg(dot)
+        .arg(needed(alloc, "network", "NET", NETWORK_HELP))?
+        .arg(optional(alloc, "report", "REPORT", REPORT_HELP))?
+        .arg(flag(alloc, "dot", "Draws for Graphviz"))
 }
 
 fn why<'a>(alloc: Global) -> Result<Command<'a>, AllocError> {
     Command::new(alloc, "why")
         .about("Tells why a run ended with its status")
         .after_help(WHY_EXAMPLE)
-        .arg(file(alloc, "network", "NET", NETWORK_HELP))?
-        .arg(file(alloc, "report", "REPORT", REPORT_HELP))
+        .arg(needed(alloc, "network", "NET", NETWORK_HELP))?
+        .arg(needed(alloc, "report", "REPORT", REPORT_HELP))
 }
 
 fn results<'a>(alloc: Global) -> Result<Command<'a>, AllocError> {
-    let blocks = Arg::new(alloc, "blocks")
-        .value_name("BLOCK")
-        .help("The actions whose results are printed, all where none is named")
-        .action(ArgAction::Append)
-        .num_args(0..);
-    let csv = form(alloc, "csv", "A row for each result, which is the default");
-    let jsonl = form(alloc, "jsonl", "A JSON object for each result");
-    let json = form(alloc, "json", "One JSON object")
-        .conflicts_with("csv")?
-        .conflicts_with("jsonl")?;
     Command::new(alloc, "results")
         .about("Prints what actions recorded")
         .after_help(RESULTS_EXAMPLE)
-        .arg(file(alloc, "report", "REPORT", REPORT_HELP))?
-        .arg(blocks)?
-        .arg(csv)?
-        .arg(jsonl.conflicts_with("csv")?)?
-        .arg(json)
-}
-
-/// A flag for a form of results.
-fn form<'a>(alloc: Global, name: &'a str, help: &'a str) -> Arg<'a> {
-    Arg::new(alloc, name)
-        .long(name)
-        .action(ArgAction::SetTrue)
-        .help(help)
+        .arg(needed(alloc, "report", "REPORT", REPORT_HELP))?
+        .arg(
+            optional(alloc, "blocks", "BLOCK", BLOCKS_HELP)
+                .action(ArgAction::Append)
+                .num_args(0..),
+        )?
+        .arg(flag(alloc, "csv", "A row for each result, which is the default"))?
+        .arg(flag(alloc, "jsonl", "A JSON object for each result").conflicts_with("csv")?)?
+        .arg(
+            flag(alloc, "json", "One JSON object")
+                .conflicts_with("csv")?
+                .conflicts_with("jsonl")?,
+        )
 }
 
 fn trace<'a>(alloc: Global) -> Result<Command<'a>, AllocError> {
     Command::new(alloc, "trace")
         .about("Tells where a value was: the blocks that took it and the links that it crossed")
         .after_help(TRACE_EXAMPLE)
-        .arg(file(alloc, "report", "REPORT", REPORT_HELP))?
-        .arg(file(alloc, "value", "VALUE", "The value"))
+        .arg(needed(alloc, "report", "REPORT", REPORT_HELP))?
+        .arg(needed(alloc, "value", "VALUE", "The value"))
 }
 
 fn sift<'a>(alloc: Global) -> Result<Command<'a>, AllocError> {
     Command::new(alloc, "sift")
         .about("Sets aside the records of standard input that fault")
         .after_help(SIFT_EXAMPLE)
-        .arg(file(alloc, "network", "NET", NETWORK_HELP))
+        .arg(needed(alloc, "network", "NET", NETWORK_HELP))
 }
 
 fn split<'a>(alloc: Global) -> Result<Command<'a>, AllocError> {
-    let parts = Arg::new(alloc, "parts")
-        .value_name("PARTS")
-        .help("How many parts, 1 to 1000")
-        .required(true)
-        .value_parser(value_parser!(u32).range(1..=1000));
-    let name = Arg::new(alloc, "name")
-        .long("name")
-        .value_name("NAME")
-        .help("Writes NAME.1, NAME.2 and so on");
-    let by_key = Arg::new(alloc, "by-key")
-        .long("by-key")
-        .action(ArgAction::SetTrue)
-        .help("Puts records with one key into one part, and takes the key off");
     Command::new(alloc, "split")
         .about("Cuts records into parts of about the same size")
         .after_help(SPLIT_EXAMPLE)
-        .arg(parts)?
-        .arg(file(
-            alloc,
-            "records",
-            "RECORDS",
-            "The file with the records, or - for standard input",
+        .arg(needed(alloc, "parts", "PARTS", "How many parts, 1 to 1000").value_parser(
+            value_parser!(u32).range(1..=1000),
         ))?
-        .arg(name)?
-        .arg(by_key)
+        .arg(needed(alloc, "records", "RECORDS", ALL_RECORDS_HELP))?
+        .arg(optional(alloc, "name", "NAME", "Writes NAME.1, NAME.2 and so on").long("name"))?
+        .arg(flag(
+            alloc,
+            "by-key",
+            "Puts records with one key into one part, and takes the key off",
+        ))
 }
 
 fn merge<'a>(alloc: Global) -> Result<Command<'a>, AllocError> {
-    let parts = Arg::new(alloc, "parts")
-        .value_name("PART")
-        .help("The reports of the parts, in the order of the records")
-        .required(true)
-        .action(ArgAction::Append)
-        .num_args(1..);
     Command::new(alloc, "merge")
         .about("Makes the report of the whole of the reports of its parts")
         .after_help(MERGE_EXAMPLE)
-        .arg(file(alloc, "network", "NET", NETWORK_HELP))?
-        .arg(parts)
+        .arg(needed(alloc, "network", "NET", NETWORK_HELP))?
+        .arg(
+            needed(alloc, "parts", "PART", PARTS_HELP)
+                .action(ArgAction::Append)
+                .num_args(1..),
+        )
 }
 
-/// An argument that names a file.
-fn file<'a>(alloc: Global, id: &'a str, name: &'a str, help: &'a str) -> Arg<'a> {
-    Arg::new(alloc, id)
-        .value_name(name)
+/// An argument that must be there.
+fn needed<'a>(alloc: Global, id: &'a str, name: &'a str, help: &'a str) -> Arg<'a> {
+    optional(alloc, id, name, help).required(true)
+}
+
+/// An argument that may be there.
+fn optional<'a>(alloc: Global, id: &'a str, name: &'a str, help: &'a str) -> Arg<'a> {
+    Arg::new(alloc, id).value_name(name).help(help)
+}
+
+/// A flag, by its name.
+fn flag<'a>(alloc: Global, name: &'a str, help: &'a str) -> Arg<'a> {
+    Arg::new(alloc, name)
+        .long(name)
+        .action(ArgAction::SetTrue)
         .help(help)
-        .required(true)
 }
