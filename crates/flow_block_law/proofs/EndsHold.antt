@@ -38,7 +38,7 @@ use Rattle.flow_block_law.proofs.GoingOn.{open_goes_on, away_goes_on, rest_stays
 use Rattle.flow_block_law.proofs.JournalTells.{goes_on, outcome_more, ended_no_more, ended_by_complete}
 use Rattle.flow_block_law.proofs.KindsBuilt.{makes_by, next_by}
 use Rattle.flow_block_law.proofs.WishesTell.{asks_so, claims_so, releases_so}
-use Rattle.flow_block_law.proofs.PortEnds.{PortEnds, end_moves, port_closed, port_failed, unseen_goes, refuses_so, look_goes, completes_by, completes_tells, unwritten_before, completes_more, fewer_complete, seen_unless}
+use Rattle.flow_block_law.proofs.PortEnds.{PortEnds, end_moves, port_closed, port_failed, unseen_goes, refusal_unseen, refuses_so, look_goes, look_numbered, completes_by, completes_tells, unwritten_before, completes_more, fewer_complete, seen_unless}
 use Rattle.flow_block.proofs.PortsChange.{each_after_one, each_after_all}
 use Rattle.flow_block.proofs.RoomBack.{back_at, each_after_back}
 use Rattle.flow_lists.proofs.TestsTell.{some_last, every_map}
@@ -99,7 +99,7 @@ module _ {W : Type 0} (layout : Layout W) (meaning : ℕ → Value → Result (L
       let nothing : EndsNothing mark = record { complete = λ q. refl; fault = refl; done = refl; goes_on = refl } in
       let none = law.ends.stopped_is ∙ going in
       let goes =
-      unseen_goes block.fault old.refusing (port_stage k old) Free is_hand (λ how. refl) at.stands
+      unseen_goes block.fault old.refusing (port_stage k old) Free is_hand (λ how. refl) at.stands refl
       (λ why is. absurd (cc)) in
       both layout meaning b (record block { ports = set block.ports p port }) (node.journal ++ mark ∷ [])
       (each_after_one (PortEndsBy block.kind block.fault (node.journal ++ mark ∷ [])) block.ports p port
@@ -309,6 +309,7 @@ module _ {W : Type 0} (layout : Layout W) (meaning : ℕ → Value → Result (L
     failed = law.failed;
     own_fault = law.own_fault;
     refused = law.refused;
+    numbered = law.numbered;
     at_rest = law.at_rest;
     done_empty = law.done_empty;
     done_complete = law.done_complete;
@@ -325,27 +326,27 @@ module _ {W : Type 0} (layout : Layout W) (meaning : ℕ → Value → Result (L
       moves_in layout meaning b node.block node.journal law.ends p k (wants k port)
       (record (end_in k port.ends) { stage = Accepted (message_of stage) }) may.0.port refl refl refl
       (unseen_goes node.block.fault port.refusing stage (Accepted (message_of stage)) is_offer (λ how. refl)
-      may.0.stands (λ why is. absurd (cc)))
+      may.0.stands refl (λ why is. absurd (cc)))
   after_each node (NodeCall.turn_down p k) law may =
       let port = port_at p node.block in
       let stage = port_stage k port in
       moves_in layout meaning b node.block node.journal law.ends p k (turns_down k port)
       (record (end_in k port.ends) { stage = Free }) may.port refl refl refl
-      (unseen_goes node.block.fault port.refusing stage Free is_posted (λ how. refl) may.stands (λ why is. absurd (cc)))
+      (unseen_goes node.block.fault port.refusing stage Free is_posted (λ how. refl) may.stands refl (λ why is. absurd (cc)))
   after_each node (NodeCall.postpone p k) law may =
       let port = port_at p node.block in
       let stage = port_stage k port in
       moves_in layout meaning b node.block node.journal law.ends p k (postpones k port)
       (record (end_in k port.ends) { stage = Postponed (message_of stage) }) may.offered.port refl refl refl
       (unseen_goes node.block.fault port.refusing stage (Postponed (message_of stage))
-      is_offered (λ how. refl) may.offered.stands (λ why is. absurd (cc)))
+      is_offered (λ how. refl) may.offered.stands refl (λ why is. absurd (cc)))
   after_each node (NodeCall.refuse p k) law may =
       let port = port_at p node.block in
       let stage = port_stage k port in
       moves_in layout meaning b node.block node.journal law.ends p k (refuses k port)
       (record (end_in k port.ends) { stage = refused_by port.refusing }) may.0.port refl refl refl
       (unseen_goes node.block.fault port.refusing stage (refused_by port.refusing) may_be_refused (λ how. refl)
-      may.0.stands
+      may.0.stands (refusal_unseen port.refusing)
       (λ why is. refuses_so node.block.fault port.refusing why (law.ends.own_fault p may.0.port) is))
   after_each node (NodeCall.consume p k) law may =
       let port = port_at p node.block in
@@ -353,34 +354,34 @@ module _ {W : Type 0} (layout : Layout W) (meaning : ℕ → Value → Result (L
       moves_in layout meaning b node.block node.journal law.ends p k (consumes k port)
       (record (end_in k port.ends) { stage = Consuming (message_of stage) }) may.0.port refl refl refl
       (unseen_goes node.block.fault port.refusing stage (Consuming (message_of stage))
-      is_postponed (λ how. refl) may.0.stands (λ why is. absurd (cc)))
+      is_postponed (λ how. refl) may.0.stands refl (λ why is. absurd (cc)))
   after_each node (NodeCall.ask p k) law may =
       let port = port_at p node.block in
       let stage = port_stage k port in
       moves_in layout meaning b node.block node.journal law.ends p k (asks k port)
       (record (end_in k port.ends) { stage = Asking (message_of stage) }) may.port refl refl refl
       (unseen_goes node.block.fault port.refusing stage (Asking (message_of stage))
-      is_postponed (λ how. refl) (asks_so p k node may).waits (λ why is. absurd (cc)))
+      is_postponed (λ how. refl) (asks_so p k node may).waits refl (λ why is. absurd (cc)))
   after_each node (NodeCall.claim p k) law may =
       let port = port_at p node.block in
       let stage = port_stage k port in
       moves_in layout meaning b node.block node.journal law.ends p k (claims k port)
       (record (end_in k port.ends) { stage = Claiming (message_of stage) }) may.port refl refl refl
       (unseen_goes node.block.fault port.refusing stage (Claiming (message_of stage))
-      is_holding (λ how. refl) (claims_so p k node may).held (λ why is. absurd (cc)))
+      is_holding (λ how. refl) (claims_so p k node may).held refl (λ why is. absurd (cc)))
   after_each node (NodeCall.release p k) law may =
       let port = port_at p node.block in
       let stage = port_stage k port in
       moves_in layout meaning b node.block node.journal law.ends p k (releases k port)
       (record (end_in k port.ends) { stage = Postponed (message_of stage) }) may.port refl refl refl
       (unseen_goes node.block.fault port.refusing stage (Postponed (message_of stage))
-      is_holding (λ how. refl) (releases_so p k node may).held (λ why is. absurd (cc)))
+      is_holding (λ how. refl) (releases_so p k node may).held refl (λ why is. absurd (cc)))
   after_each node (NodeCall.open_with p k value) law may =
       let port = port_at p node.block in
       let stage = port_stage k port in
       moves_in layout meaning b node.block node.journal law.ends p k (opens k value port)
       (record (end_in k port.ends) { stage = Hand (message_of stage); hand = Some value }) may.port refl refl refl
-      (unseen_goes node.block.fault port.refusing stage (Hand (message_of stage)) is_arrived (λ how. refl) may.stands
+      (unseen_goes node.block.fault port.refusing stage (Hand (message_of stage)) is_arrived (λ how. refl) may.stands refl
       (λ why is. absurd (cc)))
   after_each node (NodeCall.close p k) law may =
       let hand = hand_in k (port_at p node.block).ends in
@@ -414,11 +415,12 @@ module _ {W : Type 0} (layout : Layout W) (meaning : ℕ → Value → Result (L
       let goes = look_goes stage phase in
       moves_in layout meaning b node.block node.journal law.ends p k (port_looks k phase port)
       (record (end_in k port.ends) { stage = target_looks stage phase })
-      may.port refl refl refl
+      may.0.port refl refl refl
       (record {
         completion = goes.completion;
         fault_kept = goes.fault_kept;
-        refused = λ why is. law.ends.refused p k may.port may.place why (goes.refused why is);
+        refused = λ why is. law.ends.refused p k may.0.port may.0.place why (goes.refused why is);
+        numbered = λ number. look_numbered stage phase number may.1 (law.ends.numbered p k may.0.port may.0.place);
       })
   after_each node (NodeCall.look_out k phase) law may =
       let end = end_at node.block.exits k in

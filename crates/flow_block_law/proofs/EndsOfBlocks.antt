@@ -175,6 +175,7 @@ module _ {W : Type 0} (layout : Layout W) (meaning : ℕ → Value → Result (L
     failed = λ is. law.failed is p small;
     own_fault = law.own_fault p small;
     refused = λ k there. law.refused p k small there;
+    numbered = λ k there. law.numbered p k small there;
     complete_cause = λ is.
         let tells = completes_tells (has_complete p journal) (has_its_message block.kind journal) is in
         law.complete_cause p small tells.0 tells.1;
@@ -201,6 +202,7 @@ module _ {W : Type 0} (layout : Layout W) (meaning : ℕ → Value → Result (L
     failed = λ is p small. (ports p small).failed is;
     own_fault = λ p small. (ports p small).own_fault;
     refused = λ p k small. (ports p small).refused k;
+    numbered = λ p k small. (ports p small).numbered k;
     at_rest = law.at_rest;
     done_empty = law.done_empty;
     done_complete = law.done_complete;

@@ -16,6 +16,7 @@ use Rattle.flow_link.specs.Trace.{has_ended}
 use Rattle.flow_lists.proofs.ListTests.{length_numbers}
 use Rattle.flow_intake.specs.Port.{EndState, PortState, fresh_end, end_in, stage_at as port_stage, is_coming, coming}
 use Rattle.flow_intake.specs.PortLaw.{InLaw, PortLaw, has_ended as has_port_ended}
+use Rattle.flow_intake.specs.Ended.{fault_seen}
 use Rattle.flow_outlet.specs.declared.ends.LinkRule.{LinkRule}
 use Rattle.flow_outlet.specs.declared.ends.OutEnd.{OutEnd}
 use Rattle.flow_outlet.specs.End.{fresh_end as fresh_out, end_in as out_in}
@@ -226,13 +227,14 @@ fresh_copier layout b copying =
     }
 
 pub fresh_in_order : (W : Type 0) → FreshInOrder W
-fresh_in_order W layout meaning b some lane size group unlimited =
+fresh_in_order W layout meaning b never some lane size group unlimited =
     let block = block_in layout.blocks b in
     let rules = map (rule_of layout) (links_from layout b) in
     let shared = shared_rules block.kind rules in
     let node = fresh_node layout b in
     let none_copied : copies_weight node.block.copies ≡ 0 = weighs_fresh block.kind rules in
     record {
+      by_number = never;
       shape = record {
         kind_is = refl;
         size_is = refl;
@@ -299,6 +301,9 @@ fresh_in_order W layout meaning b some lane size group unlimited =
             (λ p e. absurd (cc));
         refused = λ p k small there why e. absurd (each_port layout b (λ p port. port_stage k port ≡ Refused why → ⊥)
             (λ q. in_ends_fresh (links_to layout b q) (λ (end : EndState). end.stage ≡ Refused why → ⊥) (λ l f. cc) k)
+            p small e);
+        numbered = λ p k small there number e. absurd (each_port layout b (λ p port. fault_seen (port_stage k port) ≡ Some number → ⊥)
+            (λ q. in_ends_fresh (links_to layout b q) (λ (end : EndState). fault_seen end.stage ≡ Some number → ⊥) (λ l f. cc) k)
             p small e);
         at_rest = λ e. absurd (cc);
         done_empty = λ e. absurd (cc);

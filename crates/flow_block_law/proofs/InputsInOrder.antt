@@ -55,6 +55,7 @@ call_keeps input InputCall.offer law may = record {
   speaks = λ i e. let same : i ≡ next_id input = cc in (same, may.there, refl);
   offers = refl;
   none_kept = refl;
+  by_number = law.by_number;
   ended = λ how e. absurd (cc);
 }
 call_keeps input InputCall.give law may = record {
@@ -62,6 +63,7 @@ call_keeps input InputCall.give law may = record {
   speaks = λ i e. absurd (cc);
   offers = refl;
   none_kept = refl;
+  by_number = law.by_number;
   ended = λ how e. absurd (cc);
 }
 call_keeps input (InputCall.end_link how) law may = record {
@@ -69,6 +71,7 @@ call_keeps input (InputCall.end_link how) law may = record {
   speaks = λ i e. absurd (cc);
   offers = refl;
   none_kept = refl;
+  by_number = law.by_number;
   ended = λ other e.
       let same : how ≡ other = cc in
       let within = law.within in
@@ -82,6 +85,7 @@ call_keeps input (InputCall.look phase) law may =
       speaks = λ i e. law.speaks i (tells.same_id i e);
       offers = tells.not_posted law.offers;
       none_kept = none_kept_by_looks input.stage phase law.none_kept;
+      by_number = law.by_number;
       ended = λ how e. law.ended how (tells.ended how e);
     }
 
@@ -141,11 +145,12 @@ stays_posted input (InputCall.look phase) = refl
 
 pub inputs_keep : InputsKeep
 inputs_keep = record {
-  fresh = λ trace. record {
+  fresh = λ trace numbered. record {
     within = omega arith;
     speaks = λ i e. absurd (cc);
     offers = refl;
     none_kept = refl;
+    by_number = numbered;
     ended = λ how e. absurd (cc);
   };
   calls = call_keeps;

@@ -162,6 +162,7 @@ module _ {W : Type 0} (kept : NodesKept W) (layout : Layout W) (meaning : ℕ �
       let change : JobsState → JobsState = λ jobs. record jobs { slots = slots } in
       let new = with_jobs change block in
       record {
+        by_number = law.by_number;
         shape = shape_stays layout meaning b block new refl refl refl refl law.shape;
         ports = law.ports;
         exits = record { law = law.exits.law };

@@ -21,6 +21,7 @@ pub mod EndsReached
 pub mod EndsStay
 pub mod EndsTell
 pub mod ExitsHold
+pub mod FaultsNumbered
 pub mod FaultsSeen
 pub mod FreshGroups
 pub mod FreshNodes

@@ -18,6 +18,7 @@ use Rattle.flow_block_law.proofs.GroupsHold.{groups_kept_so, group_load_kept}
 
 pub nodes_kept : (W : Type 0) → NodesKept W
 nodes_kept W layout meaning b node call law may = record {
+  by_number = law.by_number;
   shape = shape_kept W layout meaning b node call law may;
   ports = ports_kept W layout meaning b node call law may;
   exits = exits_kept W layout meaning b node call law may;

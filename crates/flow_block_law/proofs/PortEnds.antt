@@ -1,20 +1,22 @@
 -- What a port says of its end, as one of its ends of links moves, it closes, or its block's function faults.
-use Rattle.std.proofs.Common.{◌≡◌, ℕ, ◌<◌, Bool, true, false, List, length, set, Option, Some, None, is_some, refl, ap, sym, ◌∙◌, inl, inr, arith, ◌&&◌, ◌++◌, ◌||◌, not, ◌∷◌, []}
+use Rattle.std.proofs.Common.{◌≡◌, ℕ, ◌<◌, ◌≤◌, ltb, ◌⊎◌, Bool, true, false, List, length, set, Option, Some, None, is_some, refl, ap, sym, ◌∙◌, inl, inr, ⊎_elim, arith, ltb-true, subst, ◌&&◌, ◌++◌, ◌||◌, not, ◌∷◌, []}
 use Rattle.std.proofs.lemmas.Bool.{cases_eq, and_from}
 use Rattle.std.proofs.lemmas.List.{length-set, get_or-set_same, get_or-set_other}
 use Rattle.flow_link.specs.declared.phase.Phase.{Phase}
-use Rattle.flow_link.specs.declared.phase.Phase.TheVariants.{Idle}
+use Rattle.flow_link.specs.declared.phase.Phase.TheVariants as phase
 use Rattle.flow_link.specs.declared.stage.Refusal.{Refusal}
 use Rattle.flow_link.specs.declared.stage.Refusal.TheVariants.{PortEnded, OwnFault}
 use Rattle.flow_link.specs.declared.stage.TargetStage.{TargetStage}
-use Rattle.flow_link.specs.declared.stage.TargetStage.TheVariants.{Refused, Ended}
+use Rattle.flow_link.specs.declared.stage.TargetStage.TheVariants.{Free, Postponed, Consuming, Asking, Refused, Ended}
 use Rattle.flow_lawful.specs.Endings.{is_number}
 use Rattle.flow_link.specs.Stage.{target_looks}
 use Rattle.flow_link.specs.declared.phase.LinkEnd.{LinkEnd}
+use Rattle.flow_link.specs.declared.phase.LinkEnd.TheVariants.{Fault}
+use Rattle.flow_link.specs.Phase.{is_numbered}
 use Rattle.flow_intake.specs.Port.{EndState, stage_in, fresh_end}
 use Rattle.flow_intake.specs.PortLaw.{has_ended as has_port_ended}
 use Rattle.flow_intake.specs.Calls.{refused_by, failing_from}
-use Rattle.flow_intake.specs.Ended.{is_completion, fault_seen, has_seen_completion}
+use Rattle.flow_intake.specs.Ended.{is_completion, fault_seen, has_seen_fault, has_seen_completion}
 use Rattle.flow_link.specs.Plan.{is_write_once}
 use Rattle.flow_link.specs.Trace.{took, has_complete, is_complete_mark}
 use Rattle.flow_link.specs.JournalGrows.{taken_by_mark}
@@ -38,14 +40,16 @@ pub record PortEnds (fault : Option ℕ) (ended complete : Bool) (refusing : Opt
   pub own_fault : refusing ≡ Some OwnFault → is_some fault ≡ true
   pub refused : (k : ℕ) → k < length ends → (why : Refusal) → stage_in k ends ≡ Refused why
       → RefusesFor refusing fault why
+  pub numbered : (k : ℕ) → k < length ends → (number : ℕ) → fault_seen (stage_in k ends) ≡ Some number → 1 ≤ number
   pub complete_cause : complete ≡ true → has_seen_completion ends ≡ true
 
--- what an end that moves keeps: what it saw of its link's end, and that it refuses rightly
+-- what an end that moves keeps: what it saw of its link's end, that a fault has a number, and that it refuses rightly
 pub record StageGoes (fault : Option ℕ) (refusing : Option Refusal) (before after : TargetStage) : Type 0 where
   pub completion : is_completion before ≡ true → is_completion after ≡ true
   pub fault_kept : (number : ℕ) → is_number number (fault_seen before) ≡ true
       → is_number number (fault_seen after) ≡ true
   pub refused : (why : Refusal) → after ≡ Refused why → RefusesFor refusing fault why
+  pub numbered : (number : ℕ) → fault_seen after ≡ Some number → 1 ≤ number
 
 pub end_moves : (fault : Option ℕ) (ended complete : Bool) (refusing : Option Refusal) (ends : List EndState) (k : ℕ)
     (end : EndState)
@@ -65,6 +69,17 @@ end_moves fault ended complete refusing ends k end law goes = record {
         | inr other ↦
             let read = ap (λ (e : EndState). e.stage) (get_or-set_other ends k j end (fresh_end 0) other) in
             law.refused j small why (sym read ∙ is)
+      ];
+  numbered = λ j there number is.
+      let small : j < length ends = omega (arith, there, length-set ends k end) in
+      elim (cases_eq j k) [
+        | inl same ↦
+            let here : k < length ends = rw (sym same) small in
+            let read = ap (λ (e : EndState). fault_seen e.stage) (get_or-set_same ends k end (fresh_end 0) here) in
+            goes.numbered number (sym read ∙ ap (λ (i : ℕ). fault_seen (stage_in i (set ends k end))) (sym same) ∙ is)
+        | inr other ↦
+            let read = ap (λ (e : EndState). fault_seen e.stage) (get_or-set_other ends k j end (fresh_end 0) other) in
+            law.numbered j small number (sym read ∙ is)
       ];
   complete_cause = λ is.
       some_set (λ (e : EndState). is_completion e.stage) ends k end (fresh_end 0) goes.completion
@@ -88,6 +103,7 @@ port_closed fault ended complete ended_now complete_now refusing ends law now ca
   failed = λ is. refl;
   own_fault = λ is. absurd (cc);
   refused = λ k small why is. still_refuses refusing fault why (law.refused k small why is);
+  numbered = law.numbered;
   complete_cause = cause;
 }
 
@@ -110,6 +126,7 @@ port_failed fault number ended complete refusing ends law = record {
   failed = λ is. (has_failed refusing).1;
   own_fault = λ is. refl;
   refused = λ k small why is. refuses_failed refusing fault number why (law.refused k small why is);
+  numbered = law.numbered;
   complete_cause = law.complete_cause;
 }
 
@@ -153,6 +170,7 @@ fewer_complete fault ended complete now refusing ends fewer law = record {
   failed = law.failed;
   own_fault = law.own_fault;
   refused = law.refused;
+  numbered = law.numbered;
   complete_cause = λ is. law.complete_cause (fewer is);
 }
 
@@ -163,19 +181,26 @@ seen_unless false written e none = sym none ∙ e
 -- What an end keeps where it moves
 
 goes_unseen : (fault : Option ℕ) (refusing : Option Refusal) (before after : TargetStage) → Unseen before
+    → has_seen_fault after ≡ false
     → ((why : Refusal) → after ≡ Refused why → RefusesFor refusing fault why) → StageGoes fault refusing before after
-goes_unseen fault refusing before after unseen refused = record {
+goes_unseen fault refusing before after unseen none refused = record {
   completion = λ is. let never : false ≡ true = sym unseen.completion ∙ is in absurd (cc);
   fault_kept = λ number is. let never : false ≡ true = ap (is_number number) (sym unseen.fault) ∙ is in absurd (cc);
   refused = refused;
+  numbered = λ number is. let never : false ≡ true = sym none ∙ ap is_some is in absurd (cc);
 }
 
--- where such a test passes, the end has seen nothing
+-- where such a test passes, the end has seen nothing; and it comes to stand where it has seen no fault
 pub unseen_goes : (fault : Option ℕ) (refusing : Option Refusal) (before after : TargetStage)
-    → (test : TargetStage → Bool) → ((how : LinkEnd) → test (Ended how) ≡ false) → test before ≡ true
+    → (test : TargetStage → Bool) → ((how : LinkEnd) → test (Ended how) ≡ false) → test before ≡ true → has_seen_fault after ≡ false
     → ((why : Refusal) → after ≡ Refused why → RefusesFor refusing fault why) → StageGoes fault refusing before after
-unseen_goes fault refusing before after test ended_not passes refused =
-    goes_unseen fault refusing before after (unseen_where test ended_not before passes) refused
+unseen_goes fault refusing before after test ended_not passes none refused =
+    goes_unseen fault refusing before after (unseen_where test ended_not before passes) none refused
+
+-- an end that refuses has seen no fault
+pub refusal_unseen : (refusing : Option Refusal) → has_seen_fault (refused_by refusing) ≡ false
+refusal_unseen None = refl
+refusal_unseen (Some why) = refl
 
 -- an end refuses for what its port refuses for
 pub refuses_so : (fault : Option ℕ) (refusing : Option Refusal) (why : Refusal)
@@ -196,17 +221,49 @@ pub record LookGoes (before after : TargetStage) : Type 0 where
 still : (stage : TargetStage) → LookGoes stage stage
 still stage = record { completion = λ is. is; fault_kept = λ number is. is; refused = λ why is. is }
 
-pub look_goes : (stage : TargetStage) (phase : Phase) → LookGoes stage (target_looks stage phase)
-look_goes (Ended how) phase = still (Ended how)
-look_goes (Refused PortEnded) phase = still (Refused PortEnded)
-look_goes (Refused OwnFault) phase = still (Refused OwnFault)
-look_goes stage Idle = record {
+pub look_goes : (stage : TargetStage) (found : Phase) → LookGoes stage (target_looks stage found)
+look_goes (Ended how) found = still (Ended how)
+look_goes (Refused PortEnded) found = still (Refused PortEnded)
+look_goes (Refused OwnFault) found = still (Refused OwnFault)
+look_goes stage phase.Idle = record {
   completion = λ is. absurd (cc);
   fault_kept = λ number is. absurd (cc);
   refused = λ why is. absurd (cc);
 }
-look_goes stage phase = record {
+look_goes stage found = record {
   completion = λ is. absurd (cc);
   fault_kept = λ number is. absurd (cc);
   refused = λ why is. absurd (cc);
 }
+
+-- the fault with which a link has ended
+abbrev fault_of : Phase → Option ℕ
+fault_of (phase.Ended how) = fault_seen (Ended how)
+fault_of _ = None
+
+-- after a look an end has seen the fault that it saw before, or that of the phase
+sees_either : (stage : TargetStage) (found : Phase)
+    → (fault_seen (target_looks stage found) ≡ fault_seen stage) ⊎ (fault_seen (target_looks stage found) ≡ fault_of found)
+sees_either (Ended how) found = inl refl
+sees_either (Refused PortEnded) found = inl refl
+sees_either (Refused OwnFault) found = inl refl
+sees_either Free (phase.Ended how) = inr refl
+sees_either (Postponed i) (phase.Ended how) = inr refl
+sees_either (Consuming i) (phase.Ended how) = inr refl
+sees_either (Asking i) (phase.Ended how) = inr refl
+sees_either stage phase.Idle = inl refl
+sees_either stage found = inl refl
+
+fault_numbered : (found : Phase) (number : ℕ) → is_numbered found ≡ true → fault_of found ≡ Some number → 1 ≤ number
+fault_numbered (phase.Ended (Fault fault)) number tells is =
+    let same : fault ≡ number = cc in
+    subst (λ (n : ℕ). 1 ≤ n) same (omega (arith, ltb-true 0 fault tells))
+fault_numbered _ number tells is = absurd (cc)
+
+pub look_numbered : (stage : TargetStage) (found : Phase) (number : ℕ) → is_numbered found ≡ true
+    → ((other : ℕ) → fault_seen stage ≡ Some other → 1 ≤ other) → fault_seen (target_looks stage found) ≡ Some number → 1 ≤ number
+look_numbered stage found number tells seen is =
+    ⊎_elim
+    (λ before. seen number (sym before ∙ is))
+    (λ now. fault_numbered found number tells (sym now ∙ is))
+    (sees_either stage found)

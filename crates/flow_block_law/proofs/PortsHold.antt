@@ -323,7 +323,7 @@ module _ {W : Type 0} (layout : Layout W) (meaning : ℕ → Value → Result (L
   call_keeps node (NodeCall.look_in p k phase) law may =
       let port = port_in node.block.ports p in
       one_port node.block.ports node.journal p (looks k phase port) law.ports
-      (λ old. moves_keep.look facts (taken node.journal p) port old k phase may.place)
+      (λ old. moves_keep.look facts (taken node.journal p) port old k phase may.0.place)
   call_keeps node (NodeCall.look_out k phase) law may = law.ports
   call_keeps node (NodeCall.copy call) law may = copy_keeps call node may.place law
   call_keeps node NodeCall.begin law may = law.ports

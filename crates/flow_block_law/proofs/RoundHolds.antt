@@ -322,9 +322,9 @@ module _ {W : Type 0} (layout : Layout W) (meaning : ℕ → Value → Result (L
   after_each (NodeCall.end_link k how) may = kept
   after_each (NodeCall.look_in p k phase) may =
       let port = port_at p node.block in
-      goes (loses_front k phase port) round (set ports p (port_looks k phase port)) node.journal (some p k may.port may.place)
-      (rounds_kept.look round.step ports took kept.law p k may.port may.place phase)
-      (turns_kept.look round.sources round.step ports took kept.law kept.turns p k may.port may.place phase)
+      goes (loses_front k phase port) round (set ports p (port_looks k phase port)) node.journal (some p k may.0.port may.0.place)
+      (rounds_kept.look round.step ports took kept.law p k may.0.port may.0.place phase)
+      (turns_kept.look round.sources round.step ports took kept.law kept.turns p k may.0.port may.0.place phase)
   after_each (NodeCall.look_out k phase) may = kept
   after_each (NodeCall.copy call) may =
       absurd (no_copy_at layout meaning b node whole (kind_tells is_join true is_one_taker true refl node.block.kind is_a_join) (copy_place call) may.place)

@@ -406,7 +406,7 @@ calls_move_views W layout meaning b node (NodeCall.end_link k how) law may =
 calls_move_views W layout meaning b node (NodeCall.look_in p k phase) law may =
     let old = end_in k (port_at p node.block).ends in
     let end : EndState = record old { stage = target_looks old.stage phase } in
-    let one = one_in node p k (port_looks k phase (port_at p node.block)) end may.port may.place refl in
+    let one = one_in node p k (port_looks k phase (port_at p node.block)) end may.0.port may.0.place refl in
     record {
       moved = ap (view_of_in node.journal) one.here
           ∙ ap (λ (stage : TargetStage Value). target_at stage (view_of_in node.journal old))

@@ -9,6 +9,7 @@ use Rattle.flow_link.specs.declared.stage.SourceStage.TheVariants.{Ended}
 use Rattle.flow_lawful.specs.Composes.{Ends, InputKeeps}
 use Rattle.flow_link.specs.Looks.{looking_out}
 use Rattle.flow_link.specs.Moves.{offering, giving, ending}
+use Rattle.flow_link.specs.Posted.{ends_by_number}
 use Rattle.flow_lawful.specs.RestsByParts.{InputIsStill, InputRests}
 use Rattle.flow_link.specs.Trace.{InputTrace, Run, input_of}
 use Rattle.flow_outlet.specs.End.{id_of, is_free}
@@ -23,6 +24,7 @@ pub record InputLaw (input : InputState) : Type 0 where
   pub speaks : ForSome (id_of input.stage) (λ i. (i ≡ next_id input) × (has_next input ≡ true) × (input.parcel ≡ next_value input))
   pub offers : is_posted input.stage ≡ false
   pub none_kept : is_kept input.stage ≡ false
+  pub by_number : ends_by_number (input_trace input) ≡ true
   -- it ends when all is given, and then as it is to end
   pub ended : (how : LinkEnd) → input.stage ≡ Ended how → (end_by input.ending ≡ Some how) × (input.sent ≡ length input.posted)
 
@@ -62,7 +64,7 @@ MayMoveInput input (move.End how) = MayCallInput (InputCall.end_link how) input
 MayMoveInput input _ = ⊥
 
 pub record InputsKeep : Type 0 where
-  pub fresh : (trace : InputTrace) → InputLaw (fresh_input trace)
+  pub fresh : (trace : InputTrace) → ends_by_number trace ≡ true → InputLaw (fresh_input trace)
   pub calls : (input : InputState) (call : InputCall) → InputLaw input → MayCallInput call input → InputLaw (after_input call input)
   pub views : (input : InputState) (call : InputCall) → InputLaw input → MayCallInput call input → MovesInput input (after_input call input) call
   pub next : (input : InputState) (next : Move) → InputLaw input → input_move input ≡ Some next → MayMoveInput input next

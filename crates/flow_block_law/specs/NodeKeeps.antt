@@ -11,6 +11,7 @@ use Rattle.flow_link.specs.declared.stage.TargetStage.{TargetStage}
 use Rattle.flow_link.specs.Facts.{facts_in}
 use Rattle.flow_link.specs.Layout.{Layout}
 use Rattle.flow_link.specs.LinkOk.{MayPutOff}
+use Rattle.flow_link.specs.Phase.{is_numbered}
 use Rattle.flow_lists.specs.Lists.{every}
 use Rattle.flow_link.specs.Stage.{source_looks}
 use Rattle.flow_link.specs.Trace.{took_at}
@@ -140,7 +141,8 @@ module _ {W : Type 0} (layout : Layout W) (meaning : ℕ → Value → Result (L
   MayCall (NodeCall.deny k) node = OutAt is_wish k node
   MayCall (NodeCall.withdraw k) node = MayWithdraw k node
   MayCall (NodeCall.end_link k how) node = MayEndLink k how node
-  MayCall (NodeCall.look_in p k phase) node = InAt any_stage p k node
+  -- a link that has ended with a fault tells its number
+  MayCall (NodeCall.look_in p k phase) node = InAt any_stage p k node × (is_numbered phase ≡ true)
   MayCall (NodeCall.look_out k phase) node = MayLookOut k phase node
   MayCall (NodeCall.copy call) node = MayCopy call node
   MayCall NodeCall.begin node = may_begin node.block ≡ true

@@ -1,5 +1,5 @@
 -- When a node is in order: its own data say so, whatever the other ends of its links do.
-use Rattle.std.specs.Prelude.{◌≡◌, ℕ, ◌+◌, ◌-◌, ◌==◌, ◌<◌, ◌≤◌, ltb, ◌⊎◌, Bool, true, false, cond, not, ◌&&◌, ◌||◌, List, [], ◌∷◌, ◌++◌, length, map, Option, Some, None, is_some, Result, Err}
+use Rattle.std.specs.Prelude.{◌≡◌, ◌≢◌, ℕ, ◌+◌, ◌-◌, ◌==◌, ◌<◌, ◌≤◌, ltb, ◌⊎◌, Bool, true, false, cond, not, ◌&&◌, ◌||◌, List, [], ◌∷◌, ◌++◌, length, map, Option, Some, None, is_some, Result, Err}
 use Rattle.flow_value.specs.When.{admits}
 use Rattle.flow_value.specs.declared.value.Value.{Value}
 use Rattle.flow_link.specs.declared.draft.BlockKind.{BlockKind}
@@ -292,6 +292,9 @@ module _ {W : Type 0} (layout : Layout W) (meaning : ℕ → Value → Result (L
     pub own_fault : (p : ℕ) → p < length block.ports → (port_at p block).refusing ≡ Some OwnFault → is_some block.fault ≡ true
     pub refused : (p k : ℕ) → p < length block.ports → k < length (port_at p block).ends → (why : Refusal)
         → port_stage k (port_at p block) ≡ Refused why → RefusesFor (port_at p block).refusing block.fault why
+    -- a fault that came over a link has a number
+    pub numbered : (p k : ℕ) → p < length block.ports → k < length (port_at p block).ends → (number : ℕ)
+        → fault_seen (port_stage k (port_at p block)) ≡ Some number → 1 ≤ number
     -- a block that has stopped has nothing under way
     pub at_rest : is_some block.stopped ≡ true → is_at_rest block.exits ≡ true
     -- one that is done holds nothing, has nothing left, and its ports have completed
@@ -312,6 +315,8 @@ module _ {W : Type 0} (layout : Layout W) (meaning : ℕ → Value → Result (L
     pub in_round : is_reserving (block_in layout.blocks b) ≡ true → InRound node.round node.block.ports node.journal
 
   pub record NodeLaw (node : NodeState) : Type 0 where
+    -- and so has each fault of its own function
+    pub by_number : (value : Value) → meaning b value ≢ Err 0
     pub shape : ShapeLaw node.block
     pub ports : PortsLaw node.block node.journal
     pub exits : ExitsLaw node.block

@@ -1,5 +1,5 @@
 -- A move of a block's end of a link that leads from it keeps the link in order.
-use Rattle.std.proofs.Common.{◌≡◌, ◌⊎◌, ℕ, ◌<◌, ◌==◌, ◌&&◌, ◌||◌, not, Bool, true, false, cond, List, length, Option, Some, None, is_some, Result, refl, ap, sym, subst, inl, inr, ◌∙◌, arith, eqb-true}
+use Rattle.std.proofs.Common.{◌≡◌, ◌⊎◌, ℕ, ◌<◌, ◌≤◌, ◌==◌, ◌&&◌, ◌||◌, not, Bool, true, false, cond, List, length, Option, Some, None, is_some, Result, refl, ap, sym, subst, inl, inr, ◌∙◌, arith, eqb-true}
 use Rattle.std.proofs.lemmas.Bool.{OnTrue_at, and_parts, or_right}
 use Rattle.std.proofs.lemmas.Bool.Decides.{nat_tests}
 use Rattle.flow_value.specs.declared.value.Value.{Value}
@@ -35,6 +35,7 @@ use Rattle.flow_outlet.proofs.OffersInOrder.{offers_in_order}
 use Rattle.flow_spread.specs.End.{is_open}
 use Rattle.flow_spread.specs.Law.{CopyEndLaw, speaks}
 use Rattle.flow_spread.specs.Spread.{SpreadState, end_at as copy_end, link_at, is_wanted as is_wanted_copy, is_asked_by, asked_id}
+use Rattle.flow_block_law.proofs.FaultsNumbered.{stops_numbered}
 use Rattle.flow_block_law.specs.Copier.{Copier}
 use Rattle.flow_block.specs.Copies.{CopyCall}
 use Rattle.flow_block_law.specs.NextCopies.{MayMoveCopy}
@@ -189,15 +190,19 @@ not_passed true cut spoken declined turned e = cc
 -- a link ends as its block did, or plainly where it is cut
 ends_as_told : (facts : LinkFacts) (count : ℕ) (cut passes : Bool) (stopped : Option Outcome) (how : LinkEnd)
     → facts.propagates ≡ passes → (cut ≡ true → facts.max ≡ Some count) → (cut ≡ false → HasRoom facts.max count)
+    → ((number : ℕ) → stopped ≡ Some (outcome.Faulted number) → 1 ≤ number)
     → cond cut (Some link_end.Plain) (end_by passes stopped) ≡ Some how → MayEnd facts count how
-ends_as_told facts count true passes stopped link_end.Plain is whole room e = λ passed. whole refl
-ends_as_told facts count true passes stopped _ is whole room e = absurd (cc)
-ends_as_told facts count false false (Some how) link_end.Plain is whole room e = λ passed. absurd (cc)
-ends_as_told facts count false true (Some outcome.Done) link_end.Complete is whole room e =
+ends_as_told facts count true passes stopped link_end.Plain is whole room numbered e = λ passed. whole refl
+ends_as_told facts count true passes stopped _ is whole room numbered e = absurd (cc)
+ends_as_told facts count false false (Some how) link_end.Plain is whole room numbered e = λ passed. absurd (cc)
+ends_as_told facts count false true (Some outcome.Done) link_end.Complete is whole room numbered e =
     record { propagates = is; not_cut = room refl }
-ends_as_told facts count false true (Some (outcome.Faulted n)) (link_end.Fault m) is whole room e =
-    record { propagates = is; not_cut = room refl }
-ends_as_told facts count false passes stopped how is whole room e = absurd (cc)
+ends_as_told facts count false true (Some (outcome.Faulted n)) (link_end.Fault m) is whole room numbered e =
+    record {
+      passes = record { propagates = is; not_cut = room refl };
+      numbered = let same : n ≡ m = cc in subst (λ (number : ℕ). 1 ≤ number) same (numbered n refl);
+    }
+ends_as_told facts count false passes stopped how is whole room numbered e = absurd (cc)
 
 module _ {W : Type 0} (layout : Layout W) (meaning : ℕ → Value → Result (List Value) ℕ) (s l k : ℕ) (node : NodeState)
     (law : NodeLaw layout meaning s node) (views : CallsMoveViews W) where
@@ -276,7 +281,7 @@ module _ {W : Type 0} (layout : Layout W) (meaning : ℕ → Value → Result (L
           let known = (views layout meaning s node (NodeCall.end_link k how) law may).moved in
           let passes = sym (ap (λ (rule : LinkRule). rule.passes) rule_is) in
           let told = ends_as_told facts (crossed view) (is_cut end) end.rule.passes node.block.stopped how passes whole
-          room may.is_due in
+          room (stops_numbered layout meaning s node law) may.is_due in
           subst (Moved slot) (sym known)
           (ends_on facts phase new slot target how view ok (is_at_home end.stage may.is_at_home.stands) told allowed)
       moves _ may allowed = absurd may
@@ -376,7 +381,7 @@ module _ {W : Type 0} (layout : Layout W) (meaning : ℕ → Value → Result (L
           let known = (views layout meaning s node (NodeCall.copy (CopyCall.end_link k how)) law may).moved in
           let passes = sym (ap (λ (rule : LinkRule). rule.passes) rule_is) in
           let told = ends_as_told told_of (crossed seen) (is_cut copy) copy.rule.passes node.block.stopped how passes all_there
-          room_there may.stands.1 in
+          room_there (stops_numbered layout meaning s node law) may.stands.1 in
           subst (Goes slot) (sym known)
           (ends_on told_of phase new slot target how seen ok (is_at_home copy.stage may.stands.0) told allowed)
       copy_goes _ may allowed = absurd may

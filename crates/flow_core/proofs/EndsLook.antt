@@ -13,6 +13,7 @@ use Rattle.flow_link.specs.Facts.{facts_in}
 use Rattle.flow_link.specs.Layout.{Layout}
 use Rattle.flow_link.specs.LinkOk.{LinkOk, MayPutOff, source_put_off}
 use Rattle.flow_link.specs.Looks.{looking_in, looking_out, source_finds}
+use Rattle.flow_link.specs.Phase.{is_numbered}
 use Rattle.flow_link.specs.Plan.{link_in, is_one_taker}
 use Rattle.flow_link.specs.Stage.{source_stage_of, source_looks}
 use Rattle.flow_link.specs.Views.{SourceStage as SourceAt, SourceView, TargetView, crossed}
@@ -26,7 +27,7 @@ use Rattle.flow_block.specs.Input.{InputCall}
 use Rattle.flow_block_law.specs.InputKeeps.{InputsKeep}
 use Rattle.flow_block.specs.Copies.{CopyCall}
 use Rattle.flow_block.specs.Node.{NodeCall, out_view, copy_view}
-use Rattle.flow_block_law.specs.NodeKeeps.{NodesKept, MayCall}
+use Rattle.flow_block_law.specs.NodeKeeps.{NodesKept, MayCall, InAt, any_stage}
 use Rattle.flow_block.specs.Planned.{in_place, out_place}
 use Rattle.flow_block_law.specs.ViewsMove.{CallsMoveViews}
 use Rattle.flow_core.specs.Events.{node_after, input_after, source_look, source_sees, target_sees, with_node}
@@ -47,26 +48,27 @@ module _ {W : Type 0} (kept : NodesKept W) (views : CallsMoveViews W) (inputs : 
     (layout : Layout W) (meaning : ℕ → Value → Result (List Value) ℕ) (run : IsRun layout)
     (l : ℕ) (there : l < length layout.links) (phase : Phase)
     (net : NetState) (parts : PartsInOrder layout meaning net) where
-  pub target_looks : (target : LinkTarget) → (link_in layout.links l).target ≡ target
+  pub target_looks : (target : LinkTarget) → (link_in layout.links l).target ≡ target → is_numbered phase ≡ true
       → TargetSteps layout meaning l net (target_sees layout meaning l phase target net)
       (looking_in phase (taken_at layout net l))
-  target_looks (Port t p) to =
+  target_looks (Port t p) to numbered =
       let k = in_place layout t p l in
       let node = node_at net t in
       let law = parts.nodes t (run.leads.to_block l t p there to) in
       let call = NodeCall.look_in p k phase in
-      let may : MayCall layout meaning t call node = record {
+      let here : InAt any_stage p k node = record {
         port = port_there layout meaning t node law run p l there to;
         place = entry_there layout meaning t node law run p l there to;
         stands = refl;
       } in
+      let may : MayCall layout meaning t call node = (here, numbered) in
       let known = taken_as layout net l (Port t p) to in
       let new = target_sees layout meaning l phase (Port t p) net in
       subst (λ (view : TargetView Value). TargetSteps layout meaning l net new view)
       ((views layout meaning t node call law may).moved ∙ ap (looking_in phase) (sym known))
       (block_takes layout meaning l run there net parts t p (node_after layout meaning t (Some call)) to
       (in_by layout meaning kept views t node law p k call may (λ q j about. about) (λ j about. about) (λ j about. about)))
-  target_looks Exit to = absurd (run.inside l there to)
+  target_looks Exit to numbered = absurd (run.inside l there to)
 
   module _ (slot : Option Value) (target : TargetView Value)
       (ok : LinkOk (facts_in layout l) phase slot (given_at layout net l) target) where

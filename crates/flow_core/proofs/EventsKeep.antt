@@ -18,6 +18,7 @@ use Rattle.flow_link.specs.Phase.{phase_after}
 use Rattle.flow_link.specs.Plan.{link_in, has_work, is_broadcast, is_one_taker}
 use Rattle.flow_link.specs.Views.{SourceView, TargetView}
 use Rattle.flow_link.proofs.KindsTell.{kind_tells, copy_is}
+use Rattle.flow_link.proofs.LinksTell.{links_tell}
 use Rattle.flow_link.proofs.LooksKeepOrder.{looks_keep}
 use Rattle.flow_outlet.specs.Outlet.{lacks_ids}
 use Rattle.flow_block.specs.Block.{is_batched_join, puts_by_unit, put_next}
@@ -187,8 +188,10 @@ module _ {W : Type 0} (kept : NodesKept W) (jobs : JobsEndWell W) (views : Calls
         let mid = source_moves layout meaning l next source net in
         let moved = with_line l line mid in
         let parts_then = line_changes layout meaning mid goes.steps.parts l line in
-        let looks = target_looks kept views inputs layout meaning run l there phase moved parts_then target to in
         let taken = taken_at layout net l in
+        let numbered =
+        (links_tell Value).fault_numbered (facts_in layout l) phase line.slot goes.view taken goes.well.in_order in
+        let looks = target_looks kept views inputs layout meaning run l there phase moved parts_then target to numbered in
         let settled = (looks_keep Value).settle phase goes.view taken in
         net_keeps layout meaning net keeps (target_sees layout meaning l phase target moved) looks.parts
         l line goes.view (looking_in phase taken) there

@@ -12,7 +12,7 @@ use Rattle.flow_link.specs.declared.plan.LinkTarget.{LinkTarget}
 use Rattle.flow_link.specs.declared.plan.LinkTarget.TheVariants.{Port, Exit}
 use Rattle.flow_link.specs.Facts.{facts_in}
 use Rattle.flow_link.specs.Layout.{Layout}
-use Rattle.flow_lists.specs.Lists.{below}
+use Rattle.flow_lists.specs.Lists.{below, every}
 use Rattle.flow_link.specs.LooksKeep.{fresh_source, fresh_target}
 use Rattle.flow_link.specs.Plan.{block_in, link_in, port_count, ports_by_kind, is_one_taker, is_write_once}
 use Rattle.flow_link.specs.Views.{SourceView}
@@ -29,6 +29,7 @@ use Rattle.flow_block.specs.Block.{is_batch, is_batched_join}
 use Rattle.flow_block_law.specs.Fresh.{FreshInOrder}
 use Rattle.flow_block.specs.Input.{fresh_input, no_input, input_view}
 use Rattle.flow_block_law.specs.InputKeeps.{InputLaw, InputsKeep}
+use Rattle.flow_link.specs.Posted.{ends_by_number}
 use Rattle.flow_block.specs.Node.{in_view, out_view, copy_view, source_view, view_of_in, view_of_out}
 use Rattle.flow_block_law.specs.NodeLaw.{NodeLaw}
 use Rattle.flow_block.specs.Planned.{fresh_node, port_of_plan, links_from, links_to, rule_of, in_place, out_place, input_place}
@@ -133,6 +134,13 @@ mapped_at f count k none small =
     let inside : k < length (below count) = let many = length_numbers 0 count in omega (arith, many, small) in
     get_or-map f (below count) k 0 none inside ∙ ap f (below_at count k 0 small)
 
+-- what holds of each element that passes holds at each place of a list of such elements, and of the one that stands for none
+holds_passed : {A B : Type 0} (P : B → Type 0) (test : A → Bool) (f : A → B) (xs : List A) (k : ℕ) (d : B) → P d
+    → every test xs ≡ true → ((x : A) → test x ≡ true → P (f x)) → P (get_or (map f xs) k d)
+holds_passed P test f [] k d none all each = none
+holds_passed P test f (x ∷ xs) zero d none all each = each x (and_parts (test x) (every test xs) all).0
+holds_passed P test f (x ∷ xs) (suc k) d none all each = holds_passed P test f xs k d none (and_parts (test x) (every test xs) all).1 each
+
 -- what holds of each element and of the one that stands for none holds at each place
 holds_mapped : {A B : Type 0} (P : B → Type 0) (f : A → B) (xs : List A) (k : ℕ) (d : B) → P d → ((x : A) → P (f x))
     → P (get_or (map f xs) k d)
@@ -199,14 +207,14 @@ module _ {W : Type 0} (layout : Layout W) where
         ((looks_keep Value).fresh.in_order (facts_in layout l), (looks_keep Value).fresh.seen)
 
 pub fresh_keeps : {W : Type 0} → FreshInOrder W → InputsKeep → FreshKeeps W
-fresh_keeps blocks inputs layout meaning runs posted count = record {
+fresh_keeps blocks inputs layout meaning runs never posted count numbered = record {
   node_count = length-map (below (length layout.blocks)) (fresh_node layout) ∙ length_numbers 0 (length layout.blocks);
   input_count = length-map posted fresh_input ∙ count;
   line_count = length-replicate (length layout.links) fresh_line;
   nodes = λ b here.
       subst (NodeLaw layout meaning b)
       (sym (mapped_at (fresh_node layout) (length layout.blocks) b no_node here))
-      (blocks layout meaning b
+      (blocks layout meaning b (never b)
       (some_port (block_in layout.blocks b) (runs.well_formed.options b here))
       (some_lane (block_in layout.blocks b) (runs.well_formed.options b here))
       (λ batch. some_size (block_in layout.blocks b) (runs.well_formed.options b here)
@@ -215,7 +223,7 @@ fresh_keeps blocks inputs layout meaning runs posted count = record {
       (or_right (is_batch (block_in layout.blocks b).kind) (is_batched_join (block_in layout.blocks b).kind) batched))
       (no_capacity (block_in layout.blocks b) (runs.well_formed.options b here)));
   inputs = λ b here is.
-      holds_mapped InputLaw fresh_input posted (input_place layout b) no_input
-      (inputs.fresh nothing_posted) inputs.fresh;
+      holds_passed InputLaw ends_by_number fresh_input posted (input_place layout b) no_input
+      (inputs.fresh nothing_posted refl) numbered inputs.fresh;
   lines = λ l there. line_fresh layout posted l there;
 }

@@ -1,5 +1,5 @@
 -- A move of an input's end of its link keeps the link in order.
-use Rattle.std.proofs.Common.{◌≡◌, ℕ, true, List, Option, Some, None, refl, ap, sym, subst, inl, inr, ◌∙◌, arith}
+use Rattle.std.proofs.Common.{◌≡◌, ℕ, ◌≤◌, true, List, Option, Some, None, refl, ap, sym, subst, inl, inr, ◌∙◌, arith, ltb-true}
 use Rattle.flow_value.specs.declared.value.Value.{Value}
 use Rattle.flow_link.specs.declared.phase.LinkEnd.{LinkEnd}
 use Rattle.flow_link.specs.declared.phase.LinkEnd.TheVariants as link_end
@@ -10,6 +10,7 @@ use Rattle.flow_link.specs.declared.stage.SourceStage.{SourceStage as SourceKept
 use Rattle.flow_link.specs.declared.stage.SourceStage.TheVariants as source
 use Rattle.flow_link.specs.declared.trace.Ending.{Ending}
 use Rattle.flow_link.specs.declared.trace.Ending.TheVariants as ending
+use Rattle.flow_link.specs.Posted.{is_numbered_ending}
 use Rattle.flow_link.specs.Facts.{facts_in}
 use Rattle.flow_link.specs.LinkOk.{LinkOk, HasRoom, MayEnd}
 use Rattle.flow_link.specs.Moves.{giving}
@@ -29,12 +30,15 @@ has_room (Some max) count e = absurd (cc)
 
 -- and an input's end passes on
 ends_as_told : (facts : LinkFacts) (count : ℕ) (told : Ending) (how : LinkEnd) → facts.max ≡ None
-    → facts.propagates ≡ true → end_by told ≡ Some how → MayEnd facts count how
-ends_as_told facts count ending.Complete link_end.Complete unlimited passes e =
+    → facts.propagates ≡ true → is_numbered_ending told ≡ true → end_by told ≡ Some how → MayEnd facts count how
+ends_as_told facts count ending.Complete link_end.Complete unlimited passes numbered e =
     record { propagates = passes; not_cut = has_room facts.max count unlimited }
-ends_as_told facts count (ending.Fault n) (link_end.Fault m) unlimited passes e =
-    record { propagates = passes; not_cut = has_room facts.max count unlimited }
-ends_as_told facts count told how unlimited passes e = absurd (cc)
+ends_as_told facts count (ending.Fault n) (link_end.Fault m) unlimited passes numbered e =
+    record {
+      passes = record { propagates = passes; not_cut = has_room facts.max count unlimited };
+      numbered = let same : n ≡ m = cc in subst (λ (number : ℕ). 1 ≤ number) same (omega (arith, ltb-true 0 n numbered));
+    }
+ends_as_told facts count told how unlimited passes numbered e = absurd (cc)
 
 module _ (facts : LinkFacts) (phase new : Phase) (slot : Option Value) (target : TargetView Value) where
   gives_next : (given : List Value) (last next : ℕ) (value : Value) (stage : SourceKept) → is_wanted stage ≡ true
@@ -78,7 +82,7 @@ module _ (facts : LinkFacts) (phase new : Phase) (slot : Option Value) (target :
         let known = keeps.views input (InputCall.end_link how) law may in
         subst (Moved slot) (sym known)
         (ends_on facts phase new slot target how view ok (is_at_home input.stage may.is_at_home)
-        (ends_as_told facts (crossed view) input.ending how unlimited passes may.as_told) allowed)
+        (ends_as_told facts (crossed view) input.ending how unlimited passes law.by_number may.as_told) allowed)
     moves _ may allowed = absurd may
 
 pub inputs_move : {W : Type 0} → InputsKeep → InputsMoveWell W

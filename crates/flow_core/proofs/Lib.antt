@@ -20,4 +20,3 @@ pub mod StagesShow
 pub mod StillIsQuiet
 pub mod StillRests
 pub mod TargetsMove
-pub mod WalksEnd

@@ -46,4 +46,4 @@ all_schedules_go_well W =
     schedules_go_well (all_events_keep W) (fresh_nets_keep W) (kept_nets_are_lawful W) (kept_nets_hold W) (still_nets_are_quiet W)
 
 pub all_blocks_fault_by_number : (W : Type 0) → BlocksFaultByNumber W
-all_blocks_fault_by_number W = blocks_fault_by_number (all_schedules_go_well W)
+all_blocks_fault_by_number W = blocks_fault_by_number (all_events_keep W) (fresh_nets_keep W)

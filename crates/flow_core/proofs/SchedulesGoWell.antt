@@ -1,5 +1,5 @@
 -- Whatever events are asked for, in whatever order, the run so far is lawful, and quiet where nothing may happen.
-use Rattle.std.proofs.Common.{◌≡◌, ℕ, Bool, true, false, List, [], ◌∷◌, ⊎_elim, map, Option, Some, None, Result, refl, sym, subst, ◌∙◌}
+use Rattle.std.proofs.Common.{◌≡◌, ◌≢◌, ℕ, Bool, true, false, List, [], ◌∷◌, ⊎_elim, length, map, count_by, Option, Some, None, Result, Err, refl, sym, subst, ◌∙◌}
 use Rattle.std.proofs.Math.Seq.{map-set_same}
 use Rattle.flow_value.specs.declared.value.Value.{Value}
 use Rattle.flow_link.specs.declared.phase.Move.{Move}
@@ -12,13 +12,15 @@ use Rattle.flow_link.specs.declared.plan.LinkTarget.TheVariants.{Port, Exit}
 use Rattle.flow_link.specs.Layout.{Layout}
 use Rattle.flow_link.specs.Phase.{phase_after}
 use Rattle.flow_link.specs.Plan.{link_in}
+use Rattle.flow_link.specs.Posted.{ends_by_number}
+use Rattle.flow_lists.specs.Lists.{every}
 use Rattle.flow_link.specs.Trace.{InputTrace}
 use Rattle.flow_block.specs.Input.{InputState, InputCall, no_input, input_trace}
 use Rattle.flow_block.specs.Planned.{input_place}
 use Rattle.flow_core.specs.Events.{NetEvent, after, after_move, moved_by, source_moves, target_moves, source_sees, target_sees, with_line, line_after, with_input, is_of_source, input_after, input_call}
 use Rattle.flow_core.specs.Keeps.{IsRun, NetKeeps}
 use Rattle.flow_core.specs.State.{NetState, line_at, input_at, fresh_net}
-use Rattle.flow_core.specs.Statements.{EventsKeep, FreshKeeps, KeptIsLawful, KeptIsHeld, StillIsQuiet, SchedulesGoWell, Goes, Answers}
+use Rattle.flow_core.specs.Statements.{EventsKeep, FreshKeeps, KeptIsLawful, KeptIsHeld, StillIsQuiet, SchedulesGoWell, OfEachNet, Goes, Answers}
 
 -- what is posted stays
 same_call : (call : Option InputCall) (input : InputState) → input_trace (input_after call input) ≡ input_trace input
@@ -101,10 +103,22 @@ module _ {W : Type 0} (layout : Layout W) (meaning : ℕ → Value → Result (L
         let rest = all_events events goes.0 new first.keeps goes.1.1 in
         record { keeps = rest.keeps; same = rest.same ∙ first.same }
 
+-- a network that came from its start by any list of events is in order
+abbrev pub KeptBySchedule : Type 0 → Type 0
+KeptBySchedule W = OfEachNet W λ layout meaning.
+    ((b : ℕ) (value : Value) → meaning b value ≢ Err 0)
+    → (posted : List InputTrace) (events : List NetEvent) (now : NetState) → length posted ≡ count_by (λ block. block.input) layout.blocks
+    → every ends_by_number posted ≡ true
+    → Goes layout meaning events (fresh_net layout posted) now → NetKeeps layout meaning now
+
+pub kept_by_schedule : {W : Type 0} → EventsKeep W → FreshKeeps W → KeptBySchedule W
+kept_by_schedule keep fresh layout meaning runs never posted events now count numbered goes =
+    (all_events layout meaning keep runs events (fresh_net layout posted) now (fresh layout meaning runs never posted count numbered) goes).keeps
+
 pub schedules_go_well : {W : Type 0} → EventsKeep W → FreshKeeps W → KeptIsLawful W → KeptIsHeld W → StillIsQuiet W → SchedulesGoWell W
-schedules_go_well keep fresh lawful held quiet layout meaning runs posted events now count goes =
+schedules_go_well keep fresh lawful held quiet layout meaning runs never posted events now count numbered goes =
     let start = fresh_net layout posted in
-    let comes = all_events layout meaning keep runs events start now (fresh layout meaning runs posted count) goes in
+    let comes = all_events layout meaning keep runs events start now (fresh layout meaning runs never posted count numbered) goes in
     record {
       lawful = lawful layout meaning runs now comes.keeps;
       links = comes.keeps.lines;

@@ -1,16 +1,12 @@
 -- The numbers of faults: where no work faults by number 0 and no input ends by it, no block does.
-use Rattle.std.specs.Prelude.{◌≡◌, ◌≢◌, ℕ, Bool, true, false, not, List, length, count_by, Err}
+use Rattle.std.specs.Prelude.{◌≡◌, ◌≢◌, ℕ, true, false, List, length, count_by, Err}
 use Rattle.flow_value.specs.declared.value.Value.{Value}
-use Rattle.flow_lawful.specs.Endings.{is_fault_ending}
 use Rattle.flow_lists.specs.Lists.{every}
 use Rattle.flow_link.specs.Trace.{InputTrace, has_fault, marks_of}
+use Rattle.flow_link.specs.Posted.{ends_by_number}
 use Rattle.flow_core.specs.Events.{NetEvent}
 use Rattle.flow_core.specs.State.{NetState, run_of_net, fresh_net}
 use Rattle.flow_core.specs.Statements.{OfEachNet, Goes}
-
--- an input that ends by a fault names it by a number that faults have
-abbrev pub ends_by_number : InputTrace → Bool
-ends_by_number input = not (is_fault_ending 0 input.ending)
 
 module _ (W : Type 0) where
   -- where no work faults by number 0 and no input ends by it, no block ends by it, whatever events are asked for

@@ -1,5 +1,5 @@
 -- What is proved of the states of a network.
-use Rattle.std.specs.Prelude.{◌≡◌, ℕ, ◌<◌, ◌⊎◌, List, [], ◌∷◌, length, count_by, Some, Result, is_some, true}
+use Rattle.std.specs.Prelude.{◌≡◌, ◌≢◌, ℕ, ◌<◌, ◌⊎◌, List, [], ◌∷◌, length, count_by, Some, Result, Err, is_some, true}
 use Rattle.flow_value.specs.declared.value.Value.{Value}
 use Rattle.flow_link.specs.declared.phase.Move.{Move}
 use Rattle.flow_link.specs.declared.phase.Move.TheVariants.{Deny}
@@ -10,6 +10,8 @@ use Rattle.flow_link.specs.Phase.{phase_after}
 use Rattle.flow_link.specs.Plan.{block_in, link_in, is_one_taker}
 use Rattle.flow_lawful.specs.Quiet.{Quiet}
 use Rattle.flow_link.specs.Trace.{InputTrace}
+use Rattle.flow_lists.specs.Lists.{every}
+use Rattle.flow_link.specs.Posted.{ends_by_number}
 use Rattle.flow_link.specs.Views.{SourceStage}
 use Rattle.flow_core.specs.AtRest.{AtRest}
 use Rattle.flow_core.specs.Events.{NetEvent, Enabled, MayHappen, after, peek_by, is_of_source}
@@ -62,10 +64,12 @@ module _ (W : Type 0) where
   abbrev pub OfEachNet : ((layout : Layout W) → (ℕ → Value → Result (List Value) ℕ) → Type 0) → Type 0
   OfEachNet P = (layout : Layout W) (meaning : ℕ → Value → Result (List Value) ℕ) → IsRun layout → P layout meaning
 
-  -- a network in which nothing has happened is in order
+  -- a network in which nothing has happened is in order, where no work faults by number 0 and no input ends by it
   abbrev pub FreshKeeps : Type 0
   FreshKeeps = OfEachNet λ layout meaning.
-      (posted : List InputTrace) → length posted ≡ count_by (λ block. block.input) layout.blocks
+      ((b : ℕ) (value : Value) → meaning b value ≢ Err 0)
+      → (posted : List InputTrace) → length posted ≡ count_by (λ block. block.input) layout.blocks
+      → every ends_by_number posted ≡ true
       → NetKeeps layout meaning (fresh_net layout posted)
 
   -- each event that may happen keeps it so
@@ -104,6 +108,8 @@ module _ (W : Type 0) where
   -- whatever events are asked for, in whatever order, the run so far is lawful
   abbrev pub SchedulesGoWell : Type 0
   SchedulesGoWell = OfEachNet λ layout meaning.
-      (posted : List InputTrace) (events : List NetEvent) (now : NetState) → length posted ≡ count_by (λ block. block.input) layout.blocks
+      ((b : ℕ) (value : Value) → meaning b value ≢ Err 0)
+      → (posted : List InputTrace) (events : List NetEvent) (now : NetState) → length posted ≡ count_by (λ block. block.input) layout.blocks
+      → every ends_by_number posted ≡ true
       → Goes layout meaning events (fresh_net layout posted) now
       → GoesWell layout meaning (fresh_net layout posted) now

@@ -6,7 +6,7 @@ use flow_link::{
 };
 use flow_net::Net;
 use flow_trial::{
-    ENOUGH, add, came_to, do_first, has_lines, in_order, post_all, settles, told_by, wander,
+    ENOUGH, add, came_to, do_first, has_lines, in_order, settles, start, told_by, wander,
 };
 use flow_value::{Steps, Text, Value, When};
 use std::alloc::{AllocError, Global};
@@ -372,11 +372,7 @@ fn network(alloc: Global, case: &Case) -> Result<Net<Steps>, Fail> {
     let Ok(plan) = plan_check(alloc, draft_of(alloc, case)?) else {
         return Err(Fail::new("no plan"));
     };
-    let posted = post_all(alloc, &plan, case.3, case.4)?;
-    match Net::new(alloc, plan, posted) {
-        Ok(net) => Ok(net),
-        Err(_) => Err(Fail::new("out of memory")),
-    }
+    start(alloc, plan, case.3, case.4)
 }
 
 /// A batch whose rows have no message, and one with less room than a row has; and the fault of the draft.

@@ -1,6 +1,7 @@
 //! Two faults that come over links into one block: which of them counts.
+use flow_front::Inputs;
 use flow_link::{BlockDef, BlockKind, Draft, Ending, LinkDef, LinkEnd, Move, plan_check};
-use flow_net::{Net, Posted};
+use flow_net::Net;
 use flow_trial::{Asked, came_to, is_done};
 use flow_value::{Steps, Text};
 use std::alloc::{AllocError, Global};
@@ -22,13 +23,6 @@ fn link(alloc: Global, from: &str, port: u32) -> Result<LinkDef, AllocError> {
     })
 }
 
-fn ends_by(alloc: Global, number: u32) -> Posted {
-    Posted {
-        values: Vec::new(alloc),
-        ending: Ending::Fault(number),
-    }
-}
-
 /// A join with link 0 into its second port, and link 1 into its first; the inputs fault with 5 and with 9.
 fn crossed(alloc: Global) -> Result<Net<Steps>, Fail> {
     let join = BlockDef::new(Text::from_str(alloc, "j")?, BlockKind::Join);
@@ -37,14 +31,10 @@ fn crossed(alloc: Global) -> Result<Net<Steps>, Fail> {
     let Ok(plan) = plan_check(alloc, Draft { blocks, links }) else {
         return Err(Fail::new("no plan"));
     };
-    let posted = vec![in alloc; ends_by(alloc, 5), ends_by(alloc, 9)]?;
-    if posted.len() != plan.input_count() {
-        return Err(Fail::new("another number of inputs"));
-    }
-    match Net::new(alloc, plan, posted) {
-        Ok(net) => Ok(net),
-        Err(_) => Err(Fail::new("out of memory")),
-    }
+    let mut inputs = Inputs::of(alloc, plan)?;
+    inputs.end("a", Ending::Fault(5)).map_err(|_| "no input")?;
+    inputs.end("b", Ending::Fault(9)).map_err(|_| "no input")?;
+    Ok(inputs.start(alloc)?)
 }
 
 #[test]

@@ -1,6 +1,8 @@
 //! The inputs of a plan, with what is posted to them before its network starts.
-ghost use Rattle.std.specs.Prelude.{◌≡◌, length, count_by};
+ghost use Rattle.std.specs.Prelude.{◌≡◌, true, length, map, count_by};
+ghost use Rattle.flow_lists.specs.Lists.{every};
 ghost use Rattle.flow_link.specs.Planned.{layout_of};
+ghost use Rattle.flow_link.specs.Posted.{input_of, ends_by_number};
 
 use flow_link::Plan;
 use flow_net::Posted;
@@ -11,4 +13,5 @@ pub struct Inputs<W> {
     pub(crate) plan: Plan<W>,
     pub(crate) lists: Vec<Posted>,
     ghost one_each: { length lists.items ≡ count_by (λ block. block.input) (layout_of plan).blocks },
+    ghost numbered: { every ends_by_number (map input_of lists.items) ≡ true },
 }

@@ -1,7 +1,7 @@
 //! Posts values to inputs by their names, and starts the network.
-ghost use Rattle.std.specs.Prelude.{◌≡◌, ◌<◌, ◌↔◌, length, map, count_by, replicate, IfOk, IfErr, OnOk, OnErr, IfSome, IsErr, Err, None};
+ghost use Rattle.std.specs.Prelude.{◌≡◌, ◌<◌, ◌↔◌, true, length, map, count_by, replicate, IfOk, IfErr, OnOk, OnErr, IfSome, IsErr, Err, None};
 ghost use Rattle.flow_link.specs.Planned.{layout_of};
-ghost use Rattle.flow_link.specs.Posted.{input_of};
+ghost use Rattle.flow_link.specs.Posted.{input_of, is_numbered_ending};
 ghost use Rattle.flow_front.specs.Inputs.{nothing_posted, with_value};
 ghost use Rattle.flow_front.specs.Named.{input_named, inputs_before};
 ghost use Rattle.flow_front.specs.declared.refused.PostRefused.TheVariants as refused;
@@ -47,10 +47,11 @@ impl<W: Drop> Inputs<W> {
         }
     }
 
-    /// Says how the values of the input with this name end, in place of what was said before.
+    /// Says how the values of the input with this name end, in place of what was said before. Fault 0 is none.
     ///
     /// Microsoft: `Complete` and `Fault` of a block.
     pub fn end(&mut self, name: &str, ending: Ending) -> Result<(), NoInput>
+        requires numbered { is_numbered_ending ending ≡ true }
         ensures same_plan { layout_in self.new ≡ layout_in self.old }
         ensures ended { OnOk result (IfSome (input_named (layout_in self.old) name.now) (λ place.
             posted_in self.new ≡ changed_at place (with_ending ending) (posted_in self.old))) }
@@ -144,6 +145,7 @@ fn push_onto(list: &mut Posted, value: Value) -> Result<(), PostRefused>
     ensures posted { OnOk result (input_of list.new ≡ with_value value (input_of list.old)) }
     ensures kept { OnErr result (input_of list.new ≡ input_of list.old) }
     ensures back { IfErr result (λ why. why ≡ refused.Memory value) }
+    ensures same_ending { list.new.ending ≡ list.old.ending }
 {
     match list.values.push(value) {
         Ok(()) => Ok(()),

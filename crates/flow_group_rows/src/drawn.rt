@@ -3,15 +3,13 @@
 //!
 //! `a* buffer` is a block that is an input, `t transform(int)` one with a function, and `j join ports 3` one with an
 //! option. `a => j port 1` is a link that propagates, `a -> j` one that does not. Commas stand between them.
-ghost use Rattle.std.specs.Prelude.{◌≡◌, ◌+◌, ◌≤◌, OnOk, IfOk, cond, count_by, length};
-ghost use Rattle.flow_link.specs.Planned.{layout_of};
+ghost use Rattle.std.specs.Prelude.{◌≤◌};
 
 use crate::check::check;
 use crate::shares::share;
-use flow_link::{
-    BlockDef, BlockKind, Draft, Ending, LinkDef, Plan, PlanFault, PlanRefusal, plan_check,
-};
-use flow_net::{Net, Posted, Settled};
+use flow_front::Inputs;
+use flow_link::{BlockDef, BlockKind, Draft, LinkDef, PlanFault, PlanRefusal, plan_check};
+use flow_net::{Net, Settled};
 use flow_text::write_report;
 use flow_trial::{ENOUGH, add, do_first, has_lines, in_order, settles, told_with, wander};
 use flow_value::{Steps, Text, Value, When};
@@ -260,47 +258,15 @@ fn records_of(alloc: Global, words: &str) -> Result<Vec<u8>, AllocError> {
     Ok(records)
 }
 
-/// The values that the records have for the input with this name.
-fn values_for(alloc: Global, name: &str, records: &str) -> Result<Vec<Value>, AllocError> {
-    let mut values = Vec::new(alloc);
+/// Posts what the records have for the inputs of a plan.
+fn post_records(alloc: Global, inputs: &mut Inputs<Steps>, records: &str) -> Result<(), Fail> {
     for record in records.split(" ") {
-        let (input, text) = record.split_once(",").unwrap_or(("", ""));
-        if input == name {
-            values.push(Value::Text(Text::from_str(alloc, text)?))?;
+        if let Some((input, text)) = record.split_once(",") {
+            let text = Value::Text(Text::from_str(alloc, text)?);
+            inputs.post(input, text).map_err(|_| "not posted")?;
         }
     }
-    Ok(values)
-}
-
-/// Posts what the records have for a block, if it is an input.
-fn post_to(
-    alloc: Global,
-    posted: &mut Vec<Posted>,
-    block: &BlockDef<Steps>,
-    records: &str,
-) -> Result<(), AllocError>
-    ensures { OnOk result (length posted.new.items ≡ length posted.old.items + cond block.now.input 1 0) }
-{
-    if block.input {
-        let values = values_for(alloc, block.name.as_str(), records)?;
-        posted.push(Posted {
-            values,
-            ending: Ending::Complete,
-        })?;
-    }
     Ok(())
-}
-
-/// What the records post to each input of a plan.
-fn post_records(alloc: Global, plan: &Plan<Steps>, records: &str) -> Result<Vec<Posted>, AllocError>
-    ensures { IfOk result (λ posted. length posted.items ≡ count_by (λ block. block.input)
-        (layout_of plan.now).blocks) }
-{
-    let mut posted = Vec::new(alloc);
-    for number in 0..plan.block_count() {
-        post_to(alloc, &mut posted, plan.block(number), records)?;
-    }
-    Ok(posted)
 }
 
 impl Case<'_> {
@@ -309,11 +275,9 @@ impl Case<'_> {
         let Ok(plan) = plan_check(alloc, draft(alloc, self.drawn)?) else {
             return Err(Fail::new("no plan"));
         };
-        let posted = post_records(alloc, &plan, self.records)?;
-        match Net::new(alloc, plan, posted) {
-            Ok(net) => Ok(net),
-            Err(_) => Err(Fail::new("out of memory")),
-        }
+        let mut inputs = Inputs::of(alloc, plan)?;
+        post_records(alloc, &mut inputs, self.records)?;
+        Ok(inputs.start(alloc)?)
     }
 
     /// Whether what is due stands in the report of a network that is quiet.

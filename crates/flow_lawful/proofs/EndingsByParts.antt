@@ -123,7 +123,7 @@ module _ {W : Type 0} (run : Run W) (ends : ℕ → Ends) (keep : PartsKeep run 
   fault_comes fault l (Block b) small es port e =
       let told = ended_so l (end_fault fault) small e in
       and_from (passes_on run l) (has_fault fault (marks_of run b))
-      (passes_so l b (end_fault fault) small es e told.by_rule)
+      (passes_so l b (end_fault fault) small es e told.by_rule.passes)
       ((source_keeps run ends keep l b small es).after_fault fault told.by_source)
   fault_comes fault l (Input b) small es port e =
       let told = ended_so l (end_fault fault) small e in

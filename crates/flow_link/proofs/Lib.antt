@@ -1,4 +1,5 @@
 pub mod EachLinkOf
+pub mod EndingsNumbered
 pub mod FirstOfEachFault
 pub mod JournalsGrow
 pub mod KindsTell

@@ -1,22 +1,31 @@
 -- What follows for a link in order.
 use Rattle.std.proofs.Common.{◌≡◌, ℕ, ◌⊎◌, inl, inr, Bool, true, false, List, Option, Some, None, refl, ap, sym, subst, arith, ⊎_elim}
+use Rattle.std.proofs.lemmas.Bool.{lt-ltb}
 use Rattle.std.specs.Bool.{OnTrue}
 use Rattle.flow_link.specs.declared.phase.LinkEnd.{LinkEnd}
+use Rattle.flow_link.specs.declared.phase.LinkEnd.TheVariants.{Plain, Complete, Fault}
 use Rattle.flow_link.specs.declared.phase.Phase.{Phase}
 use Rattle.flow_link.specs.declared.phase.Phase.TheVariants.{Idle, Posted, Offered, Postponed, Wanted, Given, Opened, Asked, Held, Refused, Ended}
 use Rattle.flow_link.specs.declared.phase.Move.{Move}
 use Rattle.flow_link.specs.declared.phase.Move.TheVariants.{Offer}
-use Rattle.flow_link.specs.Phase.{phase_after}
+use Rattle.flow_link.specs.Phase.{phase_after, is_numbered}
 use Rattle.flow_link.specs.Views.{SourceStage, TargetStage, Refusal, SourceView, TargetView, LinkFacts, crossed}
-use Rattle.flow_link.specs.LinkOk.{StandAt, CrossedAt, IsHome, LinkOk, MayPutOff, is_put_off, source_put_off}
+use Rattle.flow_link.specs.LinkOk.{StandAt, CrossedAt, IsHome, LinkOk, MayPutOff, EndsWell, is_put_off, source_put_off}
 use Rattle.flow_link.specs.Looks.{source_finds, target_finds, tells_release, tells_withdrawal}
-use Rattle.flow_link.specs.Told.{IsAtRest, IsSettled, IsFilling, HasInHand, RestTold, FreeIsIdle, SlotHasOneHolder, IsTakenOrUnderWay, MayDeny, IsKept, HoldsOn, HasWish, WishStands, HasEnded, LinkLaw, NeverDenied, HeldIsKept, ClaimedIsKept, ReleaseTold, WithdrawalTold, PutOffTold, NeverPutOff, CloseTold, EndTold, RefusalTold, LinksTell}
+use Rattle.flow_link.specs.Told.{IsAtRest, IsSettled, IsFilling, HasInHand, RestTold, FreeIsIdle, SlotHasOneHolder, IsTakenOrUnderWay, MayDeny, IsKept, HoldsOn, HasWish, WishStands, HasEnded, LinkLaw, NeverDenied, HeldIsKept, ClaimedIsKept, ReleaseTold, WithdrawalTold, PutOffTold, NeverPutOff, CloseTold, EndTold, FaultNumbered, RefusalTold, LinksTell}
 use Rattle.flow_link.proofs.LooksKeepOrder.{look_out_keeps}
 
 -- what cannot be is not
 never_where : (b : Bool) {P : Type 0} → (P → ⊥) → OnTrue b P → b ≡ false
 never_where true never h = absurd (never h)
 never_where false never h = refl
+
+-- a link that ended well tells the number of its fault
+pub ends_numbered : (facts : LinkFacts) (count : ℕ) (phase : Phase) → EndsWell facts count phase → is_numbered phase ≡ true
+ends_numbered facts count (Ended (Fault number)) ends = lt-ltb 0 number (omega (arith, ends.numbered))
+ends_numbered facts count (Ended Plain) ends = refl
+ends_numbered facts count (Ended Complete) ends = refl
+ends_numbered facts count _ ends = refl
 
 module _ (V : Type 0) where
   taken_or_under_way : (phase : Phase) (t : TargetStage V) (slot : Option V) (given taken : List V)
@@ -342,6 +351,9 @@ module _ (V : Type 0) where
       (λ stage. ended_at facts phase slot source target ok how (seen_ended V phase source.stage how (rw stage at ok.stages)))
       told
 
+  fault_numbered : FaultNumbered V
+  fault_numbered facts phase slot source target ok = ends_numbered facts (crossed source) phase ok.plan.ends
+
   refusal_told : RefusalTold V
   refusal_told facts phase slot source target ok = record {
     seen = λ stage. seen_refused V phase target.stage (rw stage at ok.stages);
@@ -364,6 +376,7 @@ module _ (V : Type 0) where
     free_is_idle = free_is_idle;
     slot_has_one_holder = slot_has_one_holder;
     end_told = end_told;
+    fault_numbered = fault_numbered;
     refusal_told = refusal_told;
     for_good = record { refused = refused_for_good; ended = ended_for_good };
   }

@@ -197,11 +197,16 @@ pub record PassesOn (facts : LinkFacts) (count : ℕ) : Type 0 where
   pub propagates : facts.propagates ≡ true
   pub not_cut : HasRoom facts.max count
 
+-- a fault is passed on by its number
+pub record PassesFault (facts : LinkFacts) (count number : ℕ) : Type 0 where
+  pub passes : PassesOn facts count
+  pub numbered : 1 ≤ number
+
 -- when a link may end so: it passes its source's end on exactly where it propagates and is not cut
 abbrev pub MayEnd : LinkFacts → ℕ → LinkEnd → Type 0
 MayEnd facts count Plain = facts.propagates ≡ true → facts.max ≡ Some count
 MayEnd facts count Complete = PassesOn facts count
-MayEnd facts count (Fault _) = PassesOn facts count
+MayEnd facts count (Fault number) = PassesFault facts count number
 
 abbrev pub EndsWell : LinkFacts → ℕ → Phase → Type 0
 EndsWell facts count (Ended how) = MayEnd facts count how

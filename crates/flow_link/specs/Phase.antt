@@ -1,5 +1,5 @@
 -- The table of moves: which phase each move leads to, and the word in which a phase is stored.
-use Rattle.std.specs.Prelude.{◌≡◌, ℕ, ◌+◌, ◌*◌, ◌^◌, ◌<◌, ◌≤◌, Option, Some, None}
+use Rattle.std.specs.Prelude.{◌≡◌, ℕ, ◌+◌, ◌*◌, ◌^◌, ◌<◌, ◌≤◌, ltb, Bool, true, Option, Some, None}
 use Rattle.flow_link.specs.declared.phase.LinkEnd.TheVariants.{Plain, Complete, Fault}
 use Rattle.flow_link.specs.declared.phase.Phase.{Phase}
 use Rattle.flow_link.specs.declared.phase.Phase.TheVariants.{Idle, Posted, Offered, Postponed, Wanted, Given, Opened, Asked, Held, Refused, Ended}
@@ -103,6 +103,11 @@ IsPhase Refused = Unit {0}
 IsPhase (Ended Plain) = Unit {0}
 IsPhase (Ended Complete) = Unit {0}
 IsPhase (Ended (Fault number)) = (1 ≤ number) × (number < 2 ^ 32)
+
+-- a link that has ended with a fault tells the fault's number
+abbrev pub is_numbered : Phase → Bool
+is_numbered (Ended (Fault number)) = ltb 0 number
+is_numbered _ = true
 
 -- a word is one phase's word
 abbrev pub WordsTell : Type 0

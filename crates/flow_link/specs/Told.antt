@@ -4,7 +4,7 @@ use Rattle.flow_link.specs.declared.phase.LinkEnd.{LinkEnd}
 use Rattle.flow_link.specs.declared.phase.Phase.{Phase}
 use Rattle.flow_link.specs.declared.phase.Phase.TheVariants.{Idle, Postponed, Wanted, Given, Asked, Held, Refused, Ended}
 use Rattle.flow_link.specs.declared.phase.Move.{Move}
-use Rattle.flow_link.specs.Phase.{phase_after}
+use Rattle.flow_link.specs.Phase.{phase_after, is_numbered}
 use Rattle.flow_link.specs.Views.{SourceStage, TargetStage, Refusal, SourceView, TargetView, LinkFacts, crossed}
 use Rattle.flow_link.specs.LinkOk.{IsHome, MayPutOff, MayEnd, is_put_off, source_put_off}
 use Rattle.flow_link.specs.Looks.{source_finds, target_finds, tells_release, tells_withdrawal}
@@ -166,6 +166,11 @@ module _ (V : Type 0) where
   EndTold = InOrderHas V λ facts phase slot source target.
       (how : LinkEnd) → (phase ≡ Ended how) ⊎ (target.stage ≡ TargetStage.ended how) → HasEnded facts how source target
 
+  -- a fault over a link has a number
+  abbrev pub FaultNumbered : Type 0
+  FaultNumbered = InOrderHas V λ facts phase slot source target.
+      is_numbered phase ≡ true
+
   abbrev pub RefusalTold : Type 0
   RefusalTold = InOrderHas V λ facts phase slot source target.
       RefusalStays phase source target
@@ -190,5 +195,6 @@ pub record LinksTell (V : Type 0) : Type 0 where
   pub free_is_idle : FreeIsIdle V
   pub slot_has_one_holder : SlotHasOneHolder V
   pub end_told : EndTold V
+  pub fault_numbered : FaultNumbered V
   pub refusal_told : RefusalTold V
   pub for_good : StaysForGood

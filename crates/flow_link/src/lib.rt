@@ -33,7 +33,7 @@ pub use kinds::{
 };
 pub use phase::{LinkEnd, Move, Phase, phase_of, step_of, word_of};
 pub use plan::{Link, LinkId, LinkSource, LinkTarget, Place, Plan, PlanFault};
-pub use posted::Posted;
+pub use posted::{Posted, are_numbered};
 pub use stage::{Refusal, SourceStage, TargetStage};
 pub use trace::{Ending, LinkState, Mark, Outcome};
 pub use traits::{

@@ -13,10 +13,10 @@
 //! Refused, Ended   nobody
 //!
 //! At Postponed both ends may move, so there each move is a compare and exchange, and one end wins.
-ghost use Rattle.std.specs.Prelude.{◌≡◌, ◌≤◌, ◌<◌, ◌^◌, Some, IfSome};
+ghost use Rattle.std.specs.Prelude.{◌≡◌, ◌≤◌, ◌<◌, ◌^◌, true, Some, IfSome};
 ghost use Rattle.flow_link.specs.declared.phase.Phase.TheVariants.{Idle, Posted, Offered, Postponed, Wanted, Asked};
 ghost use Rattle.flow_link.specs.declared.phase.Phase.TheVariants.{Held};
-ghost use Rattle.flow_link.specs.Phase.{phase_after, message_id, code_of, id_of, word_of_phase, IsPhase};
+ghost use Rattle.flow_link.specs.Phase.{phase_after, message_id, code_of, id_of, word_of_phase, is_numbered, IsPhase};
 
 use flow_value::{MAX_ID, MessageHeader};
 
@@ -274,6 +274,7 @@ impl Phase {
     fn number(&self) -> u64
         ensures value { result ≡ id_of self.now }
         ensures high { result < 2 ^ 59 }
+        ensures fits { is_numbered self.now ≡ true → IsPhase self.now }
     {
         match self {
             Phase::Posted(header)
@@ -285,7 +286,10 @@ impl Phase {
             | Phase::Asked(header)
             | Phase::Held(header) => header.id(),
             Phase::Ended(LinkEnd::Fault(number)) => u64::from(*number),
-            Phase::Idle | Phase::Refused | Phase::Ended(_) => 0,
+            Phase::Idle
+            | Phase::Refused
+            | Phase::Ended(LinkEnd::Plain)
+            | Phase::Ended(LinkEnd::Complete) => 0,
         }
     }
 }
@@ -295,7 +299,8 @@ const WORDS_OF_A_KIND: u64 = MAX_ID + 1;
 
 /// The word that stores a phase: its kind's number from bit 59 on, and below it the message's id or the fault's number.
 pub fn word_of(phase: Phase) -> u64
-    ensures { result ≡ word_of_phase phase }
+    ensures word { result ≡ word_of_phase phase }
+    ensures fits { is_numbered phase ≡ true → IsPhase phase }
 {
     phase.code() * WORDS_OF_A_KIND + phase.number()
 }

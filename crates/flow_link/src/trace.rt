@@ -1,6 +1,7 @@
 //! What a run leaves behind: the marks of each block, and how its inputs and blocks end.
 ghost use Rattle.std.specs.Prelude.{◌≡◌};
 ghost use Rattle.flow_link.specs.Phase.{message_id};
+ghost use Rattle.flow_link.specs.Posted.{is_numbered_ending};
 
 use crate::phase::Phase;
 use crate::plan::LinkId;
@@ -37,8 +38,20 @@ pub enum Ending {
     Open,
     /// There are no more.
     Complete,
-    /// There are no more, by a fault with this number.
+    /// There are no more, by a fault with this number, which is at least 1.
     Fault(u32),
+}
+
+impl Ending {
+    /// Whether it is no fault, or a fault with a number: 0 is none.
+    pub fn is_numbered(self) -> bool
+        ensures { result ≡ is_numbered_ending self }
+    {
+        match self {
+            Ending::Open | Ending::Complete => true,
+            Ending::Fault(number) => number > 0,
+        }
+    }
 }
 
 /// A link between two moves.

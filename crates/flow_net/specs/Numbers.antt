@@ -7,7 +7,7 @@ use Rattle.flow_lists.specs.Lists.{every}
 use Rattle.flow_link.specs.Trace.{InputTrace, has_fault, marks_of}
 use Rattle.flow_core.specs.Events.{NetEvent}
 use Rattle.flow_core.specs.Keeps.{IsRun}
-use Rattle.flow_core.specs.Numbers.{ends_by_number}
+use Rattle.flow_link.specs.Posted.{ends_by_number}
 use Rattle.flow_core.specs.State.{NetState, fresh_net}
 use Rattle.flow_core.specs.Statements.{Goes}
 use Rattle.flow_exec.specs.Works.{works_of}

@@ -18,7 +18,7 @@ mod settled;
 
 pub use event::{Event, Stepped};
 pub use fault::NetFault;
-pub use flow_link::{Ending, Mark, Posted};
+pub use flow_link::{Ending, Mark, Posted, are_numbered};
 pub use laws::{blocks_fault_by_number, works_fault_by_number};
 pub use net::Net;
 pub use settled::{Settled, State};

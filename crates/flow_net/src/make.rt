@@ -1,14 +1,14 @@
 //! Makes a network in which nothing has happened. All memory is taken first, so that what came in goes back where there
 //! is none.
-ghost use Rattle.std.specs.Prelude.{◌≡◌, ◌+◌, ◌≤◌, length, map, count_by, replicate, IfOk, IfErr, []};
+ghost use Rattle.std.specs.Prelude.{◌≡◌, ◌+◌, ◌≤◌, true, length, map, count_by, replicate, IfOk, IfErr, []};
 ghost use Rattle.std.specs.Prelude.{vec_capacity, vec_len};
-ghost use Rattle.flow_lists.specs.Lists.{below};
+ghost use Rattle.flow_lists.specs.Lists.{below, every};
 ghost use Rattle.flow_link.specs.Planned.{layout_of};
 ghost use Rattle.flow_block.specs.Input.{fresh_input};
 ghost use Rattle.flow_block.specs.Planned.{fresh_node};
 ghost use Rattle.flow_block.specs.Routes.{route_of};
 ghost use Rattle.flow_core.specs.State.{fresh_line, fresh_net};
-ghost use Rattle.flow_link.specs.Posted.{input_of};
+ghost use Rattle.flow_link.specs.Posted.{input_of, ends_by_number};
 
 use crate::agenda::Agenda;
 use crate::engine::Engine;
@@ -33,13 +33,15 @@ impl<W: Runs> Net<W> {
     ghost use Rattle.flow_net.specs.Net.{layout_in, parts_of, run_of};
 
     /// A network in which nothing has happened, with these posted values and endings: one list for each block that is
-    /// an input, in the order of the blocks. Where memory is out, both come back.
+    /// an input, in the order of the blocks. No list ends by fault 0, which is none (`are_numbered`). Where memory is out,
+    /// both come back.
     pub fn new(
         alloc: Global,
         plan: Plan<W>,
         posted: Vec<Posted>,
     ) -> Result<Net<W>, (Plan<W>, Vec<Posted>)>
         requires one_each { length posted.items ≡ count_by (λ block. block.input) (layout_of plan).blocks }
+        requires numbered { every ends_by_number (map input_of posted.items) ≡ true }
         ensures planned { IfOk result (λ net. layout_in net ≡ layout_of plan) }
         ensures made { IfOk result (λ net. (run_of W.meaning net).trace.inputs ≡ map input_of posted.items) }
         ensures fresh { IfOk result (λ net. parts_of net ≡ fresh_net (layout_in net) (map input_of posted.items)) }

@@ -1,8 +1,8 @@
 //! Links of plans, with what no text says of them, and how far a message has come over one.
 use crate::check::check;
 use flow_link::{
-    BlockDef, BlockKind, Draft, LinkDef, LinkEnd, LinkSource, LinkTarget, Move, Phase, Place,
-    PlanFault, PlanRefusal, phase_of, plan_check, step_of, word_of,
+    BlockDef, BlockKind, Draft, Ending, LinkDef, LinkEnd, LinkSource, LinkTarget, Move, Phase,
+    Place, PlanFault, PlanRefusal, Posted, are_numbered, phase_of, plan_check, step_of, word_of,
 };
 use flow_value::{MessageHeader, Steps, Text, When};
 use std::alloc::{AllocError, Global};
@@ -118,6 +118,21 @@ fn links_of_inputs_follow_those_of_the_draft(rt: HostRuntime) -> Result<(), Fail
     assert!(rt; second.source == LinkSource::Input(0) && second.target == LinkTarget::Port(0, 0));
     assert!(rt; first.propagate && first.when == When::Any && first.max.is_none());
     Ok(())
+}
+
+#[test]
+fn no_input_ends_by_fault_0(rt: HostRuntime) {
+    for (ending, numbered) in [
+        (Ending::Open, true),
+        (Ending::Complete, true),
+        (Ending::Fault(0), false),
+        (Ending::Fault(1), true),
+    ] {
+        let values = Vec::new(rt.alloc());
+        let list = [Posted { values, ending }];
+        assert!(rt; ending.is_numbered() == numbered, "{ending:?}");
+        assert!(rt; are_numbered(&list) == numbered, "{ending:?}");
+    }
 }
 
 #[test]

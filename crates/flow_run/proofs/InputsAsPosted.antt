@@ -1,5 +1,6 @@
 -- What the records post is what the inputs of a network are given.
-use Rattle.std.proofs.Common.{◌≡◌, ℕ, ◌+◌, Bool, true, false, cond, List, [], ◌∷◌, ◌++◌, length, map, replicate, IfSome, Option, count_by, Result, Ok, Err, refl, ap, sym, subst, inl, inr, ◌∙◌, arith}
+use Rattle.std.proofs.Common.{◌≡◌, ℕ, zero, suc, ◌+◌, Bool, true, false, cond, List, [], ◌∷◌, ◌++◌, length, map, replicate, IfSome, Option, count_by, Result, Ok, Err, refl, ap, sym, subst, inl, inr, ◌∙◌, arith}
+use Rattle.std.proofs.lemmas.Bool.{and_from}
 use Rattle.std.proofs.lemmas.List.{length-map, length-replicate}
 use Rattle.std.proofs.lemmas.List.Sums.{sum_by-cons}
 use Rattle.flow_value.specs.Function.{meaning_of}
@@ -13,7 +14,8 @@ use Rattle.flow_link.specs.declared.trace.Ending.{Ending}
 use Rattle.flow_core.specs.State.{NetState}
 use Rattle.flow_exec.specs.Works.{works_of}
 use Rattle.flow_net.specs.Net.{run_with}
-use Rattle.flow_link.specs.Posted.{input_of}
+use Rattle.flow_link.specs.Posted.{input_of, is_numbered_ending, ends_by_number}
+use Rattle.flow_lists.specs.Lists.{every}
 use Rattle.flow_net.specs.Settles.{Settles, GoesOn}
 use Rattle.flow_net.specs.declared.fault.NetFault.{NetFault}
 use Rattle.flow_net.specs.declared.fault.NetFault.TheVariants as net_fault
@@ -42,6 +44,16 @@ names_count (block ∷ blocks) =
 
 pub as_many : (posted : List Posted) (n : ℕ) → posted_endings posted ≡ replicate n Complete → length posted ≡ n
 as_many posted n e = sym (length-map posted (λ input. input.ending)) ∙ ap length e ∙ length-replicate n Complete
+
+-- inputs that complete end by no fault
+pub complete_numbered : (posted : List Posted) (n : ℕ) → posted_endings posted ≡ replicate n Complete → every ends_by_number (map input_of posted) ≡ true
+complete_numbered [] n e = refl
+complete_numbered (input ∷ posted) zero e = absurd (cc)
+complete_numbered (input ∷ posted) (suc n) e =
+    let first : input.ending ≡ Complete = cc in
+    let rest : posted_endings posted ≡ replicate n Complete = cc in
+    and_from (is_numbered_ending input.ending) (every ends_by_number (map input_of posted)) (ap is_numbered_ending first)
+    (complete_numbered posted n rest)
 
 pub given_values : (posted : List Posted) → map (λ (input : InputTrace). input.posted) (map input_of posted) ≡ posted_values posted
 given_values [] = refl

@@ -1,7 +1,7 @@
 //! What a record comes to when it is run alone.
 use crate::aside::Aside;
 use crate::copy::copy_plan;
-use crate::post::{post_alone, read_fields};
+use crate::post::{read_fields, start_alone};
 use csv::ByteRecord;
 use flow_link::{LinkSource, LinkTarget, Plan};
 use flow_net::{Net, NetFault, Settled, State};
@@ -15,15 +15,11 @@ pub fn run_alone<'p>(
     row: &ByteRecord,
     limit: u64,
 ) -> Result<Option<Aside<'p>>, AllocError> {
-    let (input, text) = match read_fields(plan, row) {
+    let (name, text) = match read_fields(plan, row) {
         Ok(found) => found,
         Err(aside) => return Ok(Some(aside)),
     };
-    let own = copy_plan(alloc, plan)?;
-    let posted = post_alone(alloc, &own, input, text)?;
-    let Ok(mut net) = Net::new(alloc, own, posted) else {
-        return Err(AllocError);
-    };
+    let mut net = start_alone(alloc, copy_plan(alloc, plan)?, name, text)?;
     match net.settle(alloc, limit) {
         Ok(Settled::Quiet) => Ok(fault_in(plan, &net)),
         Ok(Settled::Stopped) => Ok(Some(Aside::Stopped)),

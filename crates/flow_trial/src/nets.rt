@@ -1,13 +1,11 @@
 //! Networks that are drawn, and what they come to.
-ghost use Rattle.std.specs.Prelude.{◌≡◌, ◌+◌, IfOk, OnOk, cond, count_by, length};
-ghost use Rattle.flow_link.specs.Planned.{layout_of};
-
 use crate::drawn::chain;
 use crate::lines::has_lines;
+use flow_front::Inputs;
 use flow_link::{Ending, Plan};
-use flow_net::{Net, Posted, Settled};
+use flow_net::{Net, Settled};
 use flow_text::{TextRefusal, read_plan, write_report};
-use flow_value::Steps;
+use flow_value::{Steps, Text};
 use flow_words::values_of;
 use std::alloc::{AllocError, Global};
 use std::test::Fail;
@@ -21,38 +19,48 @@ pub const PAIR: &str = "in buffer => out action []";
 /// Three blocks.
 pub const THREE: &str = r#"in buffer => t transform ["int"] => out action []"#;
 
-/// Posts these values and their ending, if there is an input for them.
-fn post_to(
-    alloc: Global,
-    posted: &mut Vec<Posted>,
-    is_input: bool,
-    words: &str,
-    ending: Ending,
-) -> Result<(), AllocError>
-    ensures { OnOk result (length posted.new.items ≡ length posted.old.items + cond is_input 1 0) }
-{
-    if is_input {
-        let values = values_of(alloc, words)?;
-        posted.push(Posted { values, ending })?;
+/// The names of the inputs of a plan.
+pub fn input_names(alloc: Global, plan: &Plan<Steps>) -> Result<Vec<Text>, AllocError> {
+    let mut names = Vec::new(alloc);
+    for number in 0..plan.block_count() {
+        let block = plan.block(number);
+        if block.input {
+            names.push(block.name.copy(alloc)?)?;
+        }
     }
-    Ok(())
+    Ok(names)
 }
 
-/// These values and their ending for each input of a plan.
-pub fn post_all(
+/// Posts these values to an input, and says how they end; fault 0 is none.
+fn post_to(
     alloc: Global,
-    plan: &Plan<Steps>,
+    inputs: &mut Inputs<Steps>,
+    name: &str,
     words: &str,
     ending: Ending,
-) -> Result<Vec<Posted>, AllocError>
-    ensures { IfOk result (λ posted. length posted.items ≡ count_by (λ block. block.input)
-        (layout_of plan.now).blocks) }
-{
-    let mut posted = Vec::new(alloc);
-    for number in 0..plan.block_count() {
-        post_to(alloc, &mut posted, plan.block(number).input, words, ending)?;
+) -> Result<(), Fail> {
+    for value in values_of(alloc, words)? {
+        inputs.post(name, value).map_err(|_| "not posted")?;
     }
-    Ok(posted)
+    if !ending.is_numbered() {
+        return Err(Fail::new("fault 0"));
+    }
+    Ok(inputs.end(name, ending).map_err(|_| "no input")?)
+}
+
+/// A network of this plan, to each of whose inputs these values are posted, which end so.
+pub fn start(
+    alloc: Global,
+    plan: Plan<Steps>,
+    words: &str,
+    ending: Ending,
+) -> Result<Net<Steps>, Fail> {
+    let names = input_names(alloc, &plan)?;
+    let mut inputs = Inputs::of(alloc, plan)?;
+    for name in &names {
+        post_to(alloc, &mut inputs, name.as_str(), words, ending)?;
+    }
+    Ok(inputs.start(alloc)?)
 }
 
 /// The network that is drawn so, to which these values are posted, which end so.
@@ -63,12 +71,7 @@ pub fn network(
     ending: Ending,
 ) -> Result<Net<Steps>, Fail> {
     let text = chain(alloc, drawn)?;
-    let plan = read_plan(alloc, text.as_slice())?;
-    let posted = post_all(alloc, &plan, words, ending)?;
-    match Net::new(alloc, plan, posted) {
-        Ok(net) => Ok(net),
-        Err(_) => Err(Fail::new("out of memory")),
-    }
+    start(alloc, read_plan(alloc, text.as_slice())?, words, ending)
 }
 
 /// Does events until none may happen, and tells whether the network is quiet then.

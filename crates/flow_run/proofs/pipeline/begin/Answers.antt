@@ -7,14 +7,17 @@ use Rattle.flow_core.specs.State.{fresh_net}
 use Rattle.flow_net.specs.Net.{parts_of}
 use Rattle.flow_link.specs.Posted.{input_of}
 use Rattle.flow_record_text.specs.Records.{input_names}
-use Rattle.flow_run.proofs.InputsAsPosted.{names_count, as_many, posts_to_inputs, begins_as, no_plan, no_records}
+use Rattle.flow_run.proofs.InputsAsPosted.{names_count, as_many, complete_numbered, posts_to_inputs, begins_as, no_plan, no_records}
 use Rattle.flow_run.proofs.pipeline.begin.Goals as goal
 
 pub new-requires : goal.new-requires
 new-requires g c =
     let blocks = (layout_of c.in_ok-plan.plan).blocks in
     let posted = c.in_ok-posted in
-    record { one_each = as_many posted.posted.items (length (input_names blocks)) posted.ensures.endings ∙ names_count blocks }
+    record {
+      one_each = as_many posted.posted.items (length (input_names blocks)) posted.ensures.endings ∙ names_count blocks;
+      numbered = complete_numbered posted.posted.items (length (input_names blocks)) posted.ensures.endings;
+    }
 
 pub returns-in-Ok-clause-begins : goal.returns-in-Ok-clause-begins
 returns-in-Ok-clause-begins g c =

@@ -10,6 +10,7 @@ use Rattle.flow_exec.specs.Works.{works_of}
 use Rattle.flow_moves.proofs.PlansRun.{plan_runs}
 use Rattle.flow_link.specs.Posted.{input_of}
 use Rattle.flow_net.proofs.KeptOn.{fresh_posted}
+use Rattle.flow_net.proofs.WorksNumbered.{works_fault_by_number}
 use Rattle.flow_net.proofs.net.Net.new.Goals as goal
 
 pub invariant_of-result-in-Ok : goal.invariant_of-result-in-Ok
@@ -19,7 +20,8 @@ invariant_of-result-in-Ok g c =
     let posted = map input_of c.args.posted.items in
     let count = length-map c.args.posted.items input_of ∙ c.requires.one_each in
     let kept : NetKeeps layout meaning (fresh_net layout posted) =
-    fresh_nets_keep _ layout meaning (plan_runs c.args.plan) posted count in
+    fresh_nets_keep _ layout meaning (plan_runs c.args.plan)
+    (works_fault_by_number _ g.W.Runs.meaning g.met.W.Runs.never_memory layout) posted count c.requires.numbered in
     let is_fresh : c.new-parts.result ≡ fresh_net layout posted =
     c.new-parts.ensures ∙ rw (c.in-Ok.ensures.nodes, c.fill_inputs-inputs.ensures, c.in-Ok.ensures.lines) refl in
     record { kept = merely (subst (λ (net : NetState). NetKeeps layout meaning net) (sym is_fresh) kept) }
