@@ -44,8 +44,8 @@ pub mod JobsEnd
 pub mod JobsHold
 pub mod JobsRest
 pub mod Joins
-pub mod JoinsRest
 pub mod JoinsEnd
+pub mod JoinsRest
 pub mod JournalTells
 pub mod KeptAlone
 pub mod KindsBuilt
@@ -60,6 +60,7 @@ pub mod NodesRest
 pub mod NodesSeen
 pub mod NothingComes
 pub mod NothingToDo
+pub mod NothingWaits
 pub mod OnceHolds
 pub mod OnceMakesNone
 pub mod PlacesCounted

@@ -12,7 +12,7 @@ use Rattle.flow_link.specs.declared.trace.Outcome.TheVariants as outcome
 use Rattle.flow_link.specs.JournalGrows.{taken_by_mark, given_by_mark}
 use Rattle.flow_link.specs.Layout.{Layout}
 use Rattle.flow_link.specs.Making.{row_weight}
-use Rattle.flow_link.specs.Plan.{block_in, is_one_taker, is_write_once}
+use Rattle.flow_link.specs.Plan.{block_in, is_one_taker, is_write_once, is_broadcast}
 use Rattle.flow_link.specs.Trace.{took, gave}
 use Rattle.flow_link.proofs.KindsTell.{kind_tells}
 use Rattle.flow_link.proofs.OneMoreMark.{took_no_more, gave_no_more, took_by_took, gave_by_took, took_by_gave, gave_by_gave}
@@ -23,7 +23,6 @@ use Rattle.flow_outlet.specs.declared.group.Group.{Group}
 use Rattle.flow_outlet.specs.Fits.{weight_of}
 use Rattle.flow_outlet.specs.Outlet.{OutletState, head_of, groups_with, groups_after, gives, prepares, offers, holds, denies, withdraws, ends_link, looks as exit_looks}
 use Rattle.flow_outlet.proofs.OutletFits.{weight_stays}
-use Rattle.flow_link.specs.Plan.{is_broadcast}
 use Rattle.flow_block.specs.Copies.{copy_place, CopyCall, after_copy, copies_weight}
 use Rattle.flow_block_law.proofs.CopiesIdle.{copies_at}
 use Rattle.flow_block.proofs.RoomBack.{back_plain, kept_back, each_after_back}
@@ -119,8 +118,7 @@ module _ {W : Type 0} (layout : Layout W) (meaning : ℕ → Value → Result (L
   held_next : (block : BlockState) (change : PortState → PortState) → length block.ports ≡ 1
       → (change (port_at 0 block)).waiting ≡ drop 1 (held_by block)
       → held_by (with_port 0 change block) ≡ drop 1 (held_by block)
-  held_next block change one changes =
-      ap (λ (port : PortState). port.waiting)
+  held_next block change one changes = ap (λ (port : PortState). port.waiting)
       (get_or-set_same block.ports 0 (change (port_at 0 block)) (fresh_port None) (omega arith))
       ∙ changes
 
@@ -454,8 +452,7 @@ module _ {W : Type 0} (layout : Layout W) (meaning : ℕ → Value → Result (L
       (kind_tells is_write_once true is_one_taker false refl held.block.kind at_once.once) (free_is_given held.block.copies at_once.free) kept)
   call_keeps node (NodeCall.offer k) law grouped may =
       exits_move node (offers k (prepares node.block.exits)) refl refl refl refl (law.load grouped)
-  call_keeps node (NodeCall.give k) law grouped may =
-      give_keeps k (head_of node.block.exits) node grouped refl
+  call_keeps node (NodeCall.give k) law grouped may = give_keeps k (head_of node.block.exits) node grouped refl
       (law.gave (shares_at layout meaning b node.block law.shape k may.place)).next_is (law.load grouped)
   call_keeps node (NodeCall.hold k) law grouped may =
       exits_move node (holds k node.block.exits) refl refl refl refl (law.load grouped)
@@ -471,8 +468,7 @@ module _ {W : Type 0} (layout : Layout W) (meaning : ℕ → Value → Result (L
       exits_move node (exit_looks k phase node.block.exits) refl refl refl refl (law.load grouped)
   call_keeps node (NodeCall.copy call) law grouped may =
       copied_out call node may.place (copies_at layout meaning b node law (copy_place call) may.place) (law.load grouped)
-  call_keeps node NodeCall.begin law grouped may =
-      jobs_change node.block node.journal begins (law.load grouped)
+  call_keeps node NodeCall.begin law grouped may = jobs_change node.block node.journal begins (law.load grouped)
   call_keeps node NodeCall.make law grouped may =
       let block = node.block in
       next_by (λ (new : NodeState). LoadLaw layout meaning b new.block new.journal) (block_makes layout meaning b) node

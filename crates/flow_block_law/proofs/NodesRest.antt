@@ -19,7 +19,6 @@ use Rattle.flow_lawful.specs.Quiet.{has_served_all, has_this_fault, faulted_by_i
 use Rattle.flow_lawful.specs.RestsByParts.{OutletRests, KindRests, NodeRests, is_postponed as is_view_postponed, has_seen_end, has_to_wait, lacks_an_offer}
 use Rattle.flow_link.specs.Stage.{target_stage_of}
 use Rattle.flow_link.specs.Trace.{BlockTrace, Run, took_at, has_complete, has_fault, has_ended, is_faulted, is_done, block_of, link_of, link_numbers, marks_of, held_at, left_at, ports_of}
-use Rattle.flow_link.specs.declared.stage.TargetStage.{TargetStage}
 use Rattle.flow_link.specs.declared.stage.TargetStage.TheVariants as target
 use Rattle.flow_link.specs.Views.{TargetView}
 use Rattle.flow_link.proofs.KindsTell.{kind_tells}
@@ -28,7 +27,7 @@ use Rattle.flow_block.specs.Copies.{copies_left}
 use Rattle.flow_block_law.proofs.OnceHolds.{room_once}
 use Rattle.flow_block_law.proofs.WrittenOnce.{message_is, weighs_written}
 use Rattle.flow_lists.proofs.ListTests.{never_both, passes_below, unless_done}
-use Rattle.flow_intake.specs.Port.{EndState, PortState, fresh_port, fresh_end, hand_in, stage_at as port_stage, coming, has_room, is_below, is_queued}
+use Rattle.flow_intake.specs.Port.{EndState, PortState, fresh_port, fresh_end, hand_in, stage_at as port_stage, coming, has_room, is_below}
 use Rattle.flow_intake.specs.Calls.{is_postponed}
 use Rattle.flow_intake.specs.PortLaw.{has_ended as has_port_ended, is_in}
 use Rattle.flow_intake.specs.Ended.{has_seen_completion, is_completion, fault_seen}
@@ -63,70 +62,12 @@ use Rattle.flow_block_law.proofs.NothingToDo.{not_pending, worked_off, none_seen
 use Rattle.flow_block_law.proofs.WishesTell.{no_own_move}
 use Rattle.flow_block_law.proofs.PlacesOfLinks.{target_there, end_in_of}
 use Rattle.flow_lists.proofs.TestsTell.{every_tells, every_where, some_where}
-use Rattle.flow_block.specs.Groups.{has_group_at, waiting_in_all}
+use Rattle.flow_block.specs.Groups.{has_group_at}
 use Rattle.flow_block_law.specs.GroupsLaw.{are_complete}
 use Rattle.flow_block_law.proofs.GroupsTold.{group_told}
 use Rattle.flow_block_law.proofs.GroupsRest.{groups_rest}
 use Rattle.flow_block_law.proofs.SharersRest.{left_is, outlet_shared}
-
-none_same : (values : List Value) → (is_none_left values && true) ≡ is_empty values
-none_same [] = refl
-none_same (value ∷ values) = refl
-
-and_true : (b : Bool) → (b && true) ≡ b
-and_true true = refl
-and_true false = refl
-
-nothing_in : (values : List Value) → is_empty values ≡ true → values ≡ []
-nothing_in [] e = refl
-nothing_in (value ∷ values) e = absurd (cc)
-
-ended_already : (ended none seen : Bool) → none ≡ true → seen ≡ true → (not ended && none && seen) ≡ false
-    → ended ≡ true
-ended_already true none seen en es e = refl
-ended_already false true true en es e = absurd (cc)
-ended_already false false seen en es e = absurd (cc)
-ended_already false true false en es e = absurd (cc)
-
-nothing_where : (values : List Value) → is_none_left values ≡ true → values ≡ []
-nothing_where [] e = refl
-nothing_where (value ∷ values) e = absurd (cc)
-
--- as many as none
-empty_as : (values others : List Value) → length values ≡ length others → is_empty others ≡ true → is_empty values ≡ true
-empty_as [] others same none = refl
-empty_as (value ∷ values) [] same none = absurd (cc)
-empty_as (value ∷ values) (other ∷ others) same none = absurd (cc)
-
-waits_queued : (stage : TargetStage) → is_postponed stage ≡ true → is_queued stage ≡ true
-waits_queued (target.Postponed i) waits = refl
-waits_queued _ waits = absurd (cc)
-
-none_below : (test : ℕ → Bool) (count : ℕ) → ((k : ℕ) → k < count → test k ≡ true → ⊥) → some test (below count) ≡ false
-none_below test count never =
-    false_from_ne_true (some test (below count)) (λ passes.
-    let found = found_below test count passes in never found.place found.there found.holds)
-
--- where nothing is held, there is no tuple
-no_first : (ports : List PortState) → 0 < length ports → holds_nothing ports ≡ true → not (has_tuple ports) ≡ true
-no_first [] some none = absurd (omega (arith, some))
-no_first (port ∷ ports) some none =
-    let empty = (and_parts (is_empty port.waiting) (holds_nothing ports) none).0 in
-    ap (λ (first : Bool). not (not first && has_tuple ports)) empty
-
--- nor a group
-none_in_all : (ports : List PortState) → holds_nothing ports ≡ true → waiting_in_all ports ≡ 0
-none_in_all [] none = refl
-none_in_all (port ∷ ports) none =
-    let both = and_parts (is_empty port.waiting) (holds_nothing ports) none in
-    let here : length port.waiting ≡ 0 = ap (λ (held : List Value). length held) (nothing_in port.waiting both.0) in
-    let rest = none_in_all ports both.1 in
-    omega (arith, here, rest)
-
-no_group_of_none : (size : ℕ) (ended : Bool) (ports : List PortState) → holds_nothing ports ≡ true
-    → not (has_group_at size ended ports) ≡ true
-no_group_of_none size ended ports none =
-    ap (λ (count : ℕ). not (ltb 0 count && (leb size count || ended))) (none_in_all ports none)
+use Rattle.flow_block_law.proofs.NothingWaits.{none_same, and_true, nothing_in, ended_already, nothing_where, empty_as, waits_queued, none_below, no_first, no_group_of_none}
 
 module _ {W : Type 0} (run : Run W) (ends : ℕ → Ends) (b : ℕ) (node : NodeState)
     (law : NodeLaw run.layout run.meaning b node)

@@ -17,3 +17,5 @@ pub mod RulesKept
 pub mod Still
 pub mod Takes
 pub mod WorkKept
+pub mod WorkSteps
+pub mod WorkTold

@@ -1,6 +1,7 @@
 -- Each call keeps the outlet's law.
 use Rattle.flow_outlet.specs.Keeps.{CallsKeepLaw, GivesInOrder}
-use Rattle.flow_outlet.proofs.EndsKeepLaw.{given_admitted, given_in_order, gives_keep, looks_keep, offers_keep, puts_keep, sets_aside_keep, puts_aside_keep, prepares_keep, room_keeps, fresh_keeps, holds_keep, denies_keep, withdraws_keep, ends_keep, fault_keeps, stop_keeps}
+use Rattle.flow_outlet.proofs.OffersKeepLaw.{looks_keep, offers_keep, puts_keep, sets_aside_keep, puts_aside_keep, prepares_keep, room_keeps}
+use Rattle.flow_outlet.proofs.EndsKeepLaw.{given_admitted, given_in_order, gives_keep, fresh_keeps, holds_keep, denies_keep, withdraws_keep, ends_keep, fault_keeps, stop_keeps}
 
 pub gives_in_order : GivesInOrder
 gives_in_order = record {

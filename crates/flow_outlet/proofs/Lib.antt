@@ -2,14 +2,15 @@ pub mod CursorMoves
 pub mod EndsKeepLaw
 pub mod HeadRenewed
 pub mod LawKept
+pub mod LinkCallsKeep
 pub mod LookTells
 pub mod MovesAllowed
 pub mod NothingLost
 pub mod OffersInOrder
+pub mod OffersKeepLaw
 pub mod OneEndChanges
 pub mod OutletFits
 pub mod SendsOver
 pub mod StagesTell
 pub mod TestsTell
 pub mod WeightsInTime
-pub mod LinkCallsKeep

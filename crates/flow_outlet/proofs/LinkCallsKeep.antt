@@ -15,7 +15,8 @@ use Rattle.flow_outlet.specs.Outlet.{OutletState, head_of, end_at, stage_at, cha
 use Rattle.flow_outlet.specs.ByLink.{answered, place_of, forgets, forgotten, forgotten_stage, forgets_all, forgotten_for, is_head as head_is, reserved}
 use Rattle.flow_outlet.specs.Law.{EndLaw, OutletLaw, is_put_off, is_refused, may_go_past}
 use Rattle.flow_outlet.specs.KeepsByLink.{LinkCallsKeepLaw, settles_it}
-use Rattle.flow_outlet.proofs.EndsKeepLaw.{looks_keep, holds_keep}
+use Rattle.flow_outlet.proofs.OffersKeepLaw.{looks_keep}
+use Rattle.flow_outlet.proofs.EndsKeepLaw.{holds_keep}
 use Rattle.flow_outlet.proofs.LookTells.{LookTells}
 use Rattle.flow_outlet.proofs.OneEndChanges.{one_changes}
 use Rattle.flow_outlet.proofs.StagesTell.{speaks_id, id_speaks, number_same, past_stays}

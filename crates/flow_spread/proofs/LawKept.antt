@@ -24,7 +24,8 @@ use Rattle.flow_spread.specs.Spread.{SpreadState, end_at, link_at, stage_at, cha
 use Rattle.flow_spread.specs.Law.{SpreadLaw, CopyEndLaw, MayPutOff, speaks}
 use Rattle.flow_spread.specs.Keeps.{CallsKeepLaw, IsGivenWell, LawTells}
 use Rattle.flow_spread.proofs.CountsOfEnds.{none_there, count_same}
-use Rattle.flow_spread.proofs.EndsKeepLaw.{puts_each, prepares_each, looks_each, gives_each, holds_each, withdraws_each, ends_each, offers_each, answers_each, faults_each, stops_each, fresh_each}
+use Rattle.flow_spread.proofs.EndsOwe.{puts_each}
+use Rattle.flow_spread.proofs.EndsKeepLaw.{prepares_each, looks_each, gives_each, holds_each, withdraws_each, ends_each, offers_each, answers_each, faults_each, stops_each, fresh_each}
 use Rattle.flow_spread.proofs.StagesTell.{never_so, or_first, or_second, wanted_is, taken_is}
 
 -- here and elsewhere is everywhere
