@@ -1,3 +1,4 @@
 pub mod DueMessages
 pub mod GroupsGoOn
 pub mod OrderTells
+pub mod PlannedGroups

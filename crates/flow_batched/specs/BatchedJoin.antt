@@ -1,12 +1,14 @@
 -- A batched join as plain data: its block, and of each message that is in no group yet the port at which it came in.
 use Rattle.std.specs.Prelude.{◌≡◌, ℕ, ◌≤◌, List, [], length, map, get_or}
 use Rattle.flow_link.specs.declared.draft.BlockKind.TheVariants as kind
+use Rattle.flow_link.specs.Layout.{Layout}
 use Rattle.flow_intake.specs.Port.{PortState}
 use Rattle.flow_outlet.specs.declared.ends.LinkRule.{LinkRule}
 use Rattle.flow_group.specs.Group.{ArrivalsState, came_at}
 use Rattle.flow_block.specs.Block.{BlockState}
 use Rattle.flow_block.specs.BlockFits.{fresh_block}
 use Rattle.flow_block.specs.JournalFits.{ports_due}
+use Rattle.flow_block.specs.Planned.{planned_block}
 
 pub record JoinState : Type 0 where
   pub block : BlockState
@@ -33,3 +35,7 @@ fresh_join size ports rules = record { block = fresh_block kind.BatchedJoin 1 si
 
 abbrev pub with_block : BlockState → JoinState → JoinState
 with_block block join = record join { block = block }
+
+-- a batched join of a plan, to which no message came
+abbrev pub planned_join : {W : Type 0} → Layout W → ℕ → JoinState
+planned_join layout b = record { block = planned_block layout b; order = [] }

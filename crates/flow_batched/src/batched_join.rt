@@ -1,22 +1,27 @@
 //! A batched join: its block, and the order in which its messages came in.
-ghost use Rattle.std.specs.Prelude.{◌≡◌, ◌≤◌, true, false, length, MatchResult};
+ghost use Rattle.std.specs.Prelude.{◌≡◌, ℕ, ◌<◌, ◌≤◌, true, false, length, IfOk, MatchResult};
+ghost use Rattle.flow_link.specs.Plan.{block_in};
+ghost use Rattle.flow_link.specs.Planned.{layout_of};
+ghost use Rattle.flow_link.specs.declared.draft.BlockKind.TheVariants as kind;
+ghost use Rattle.flow_link.specs.declared.stage.TargetStage.TheVariants.{Free};
 ghost use Rattle.flow_group.specs.Tuple.{all_ended};
 ghost use Rattle.flow_block.specs.Groups.{waiting_in_all};
 ghost use Rattle.flow_block.specs.Peeks.{holds_nothing, may_make};
 ghost use Rattle.flow_block.specs.JournalFits.{ports_due};
-ghost use Rattle.flow_batched.specs.BatchedJoin.{fresh_join};
+ghost use Rattle.flow_block.specs.Traits.{target_over};
+ghost use Rattle.flow_batched.specs.BatchedJoin.{fresh_join, planned_join};
 
-use flow_block::Block;
+use flow_block::{Block, ports_of, rules_from};
 use flow_group::Arrivals;
 use flow_intake::Intake;
-use flow_link::BlockKind;
+use flow_link::{BlockKind, Plan};
 use flow_outlet::LinkRule;
 use flow_value::Value;
-use std::alloc::Global;
+use std::alloc::{AllocError, Global};
 use std::collections::VecDeque;
 use std::marker::Model;
 
-/// A batched join that stands by itself. Contracts see a `JoinState`.
+/// Hands on rows of a number of messages, sorted by port. It stands by itself, and contracts see its `JoinState`.
 ///
 /// Microsoft: `BatchedJoinBlock`.
 #[derive(Drop)]
@@ -41,9 +46,27 @@ impl Model for BatchedJoin {
 }
 
 impl BatchedJoin {
+    /// The block of the plan with this number, in which nothing has happened. It fails only where memory is out.
+    ///
+    /// It looks at each link of the plan once for each port, and once more.
+    pub fn new<W>(alloc: Global, plan: &Plan<W>, number: usize) -> Result<BatchedJoin, AllocError>
+        requires there { number < length (layout_of plan.now).blocks }
+        requires kind { (block_in (layout_of plan.now).blocks number).kind ≡ kind.BatchedJoin }
+        ensures fresh { IfOk result (λ made. made ≡ planned_join (layout_of plan.now) number) }
+        ensures rests { IfOk result (λ made. (link : ℕ) → target_over made.block.ports link ≡ Free) }
+    {
+        let ports = ports_of(alloc, plan, number)?;
+        let rules = rules_from(alloc, plan, number)?;
+        let size = plan.block(number).size.unwrap_or(0);
+        match BatchedJoin::of_parts(alloc, size, ports, rules) {
+            Ok(join) => Ok(join),
+            Err(_) => Err(AllocError),
+        }
+    }
+
     /// A batched join with groups of so many messages, with these ports, at which nothing waits and nothing is under way,
     /// and with these links out of it. Where there is no memory for it, its parts come back.
-    pub fn new(
+    pub fn of_parts(
         alloc: Global,
         size: u32,
         ports: Vec<Intake>,
@@ -59,6 +82,13 @@ impl BatchedJoin {
             block,
             order: Arrivals::new(alloc),
         })
+    }
+
+    /// What holds of each: it is of its kind.
+    pub fn is_of_its_kind(&self)
+        ensures { self.now.block.kind ≡ kind.BatchedJoin }
+    {
+        let _left = self.block.left();
     }
 
     /// The groups that it has to give, oldest first: of each a row that has for each port a row of its messages.

@@ -22,6 +22,7 @@ pub mod OutcomesStay
 pub mod PassesFreely
 pub mod PassesOfNodes
 pub mod PlanMade
+pub mod PlannedBlocks
 pub mod PortsChange
 pub mod PromisedStands
 pub mod ResultsKept

@@ -18,6 +18,7 @@ use Rattle.flow_group.specs.declared.round.RoundStep.TheVariants as steps
 use Rattle.flow_group.specs.declared.round.Source.{Source}
 use Rattle.flow_outlet.specs.declared.ends.LinkRule.{LinkRule}
 use Rattle.flow_outlet.specs.Outlet.{fresh_outlet}
+use Rattle.flow_block.specs.Block.{BlockState}
 use Rattle.flow_block.specs.Copies.{shared_rules, fresh_copies}
 use Rattle.flow_block.specs.Jobs.{fresh_jobs}
 use Rattle.flow_block.specs.Node.{NodeState}
@@ -122,6 +123,10 @@ module _ {W : Type 0} (layout : Layout W) where
     grouped = 0;
     round = record { sources = sources_of b; step = steps.Asks };
   }
+
+  -- the block that a node begins with
+  abbrev pub planned_block : ℕ → BlockState
+  planned_block b = (fresh_node b).block
 
   -- what a block makes of one message
   abbrev pub block_makes : (ℕ → Value → Result (List Value) ℕ) → ℕ → Value → Result (List Value) ℕ

@@ -1,4 +1,3 @@
 pub mod KindsStay
 pub mod PlannedBlocks
-pub mod PlannedRounds
 pub mod WorkKinds

@@ -5,7 +5,7 @@ ghost use Rattle.flow_link.specs.Planned.{layout_of};
 ghost use Rattle.flow_link.specs.declared.stage.TargetStage.TheVariants.{Free};
 ghost use Rattle.flow_block.specs.Traits.{target_over};
 ghost use Rattle.flow_kinds.specs.Kinds.{IsOf};
-ghost use Rattle.flow_kinds.specs.Planned.{planned_block};
+ghost use Rattle.flow_block.specs.Planned.{planned_block};
 
 use crate::kind::{self, Kind};
 use crate::planned::planned_block;

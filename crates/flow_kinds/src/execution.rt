@@ -8,7 +8,7 @@ ghost use Rattle.flow_link.specs.declared.stage.TargetStage.TheVariants.{Free};
 ghost use Rattle.flow_block.specs.Peeks.{may_begin};
 ghost use Rattle.flow_block.specs.Traits.{target_over};
 ghost use Rattle.flow_exec.specs.Execution.{SameWork};
-ghost use Rattle.flow_kinds.specs.Planned.{planned_block};
+ghost use Rattle.flow_block.specs.Planned.{planned_block};
 
 use crate::kind::{self, WorkKind};
 use flow_block::{ports_of, rules_from};

@@ -2,8 +2,9 @@
 //!
 //! A [`flow_block::Block`] has the code of all kinds, and a field says which kind it is. Here each kind is a type of its
 //! own, thin over such a block: [`Buffer`], [`Broadcast`], [`WriteOnce`], [`Batch`] and [`GreedyJoin`] are a
-//! [`TypedBlock`], [`Action`], [`Transform`] and [`TransformMany`] a [`TypedExecution`]. A [`BatchedJoin`] keeps the order
-//! in which its messages came, and a [`ReservingJoin`] how far its round is.
+//! [`TypedBlock`], [`Action`], [`Transform`] and [`TransformMany`] a [`TypedExecution`]. [`BatchedJoin`], which keeps the
+//! order in which its messages came, and [`ReservingJoin`], which keeps how far its round is, are of their kinds as they
+//! are.
 //!
 //! `new` takes the block of a plan with its ports and links, as a network does. So a caller who drives blocks by hand
 //! writes no ports and no rules of links, and what the plan says of a link holds here too. That the block of the plan is
@@ -16,18 +17,14 @@
 //! `ActionBlock`, `TransformBlock`, `TransformManyBlock`.
 #![tactic(auto)]
 
-mod batched_join;
-mod batched_join_calls;
 mod block;
 mod block_calls;
 mod execution;
 mod execution_calls;
 pub mod kind;
 mod planned;
-mod reserving_join;
-mod reserving_join_calls;
 
-pub use batched_join::BatchedJoin;
 pub use block::{Batch, Broadcast, Buffer, GreedyJoin, TypedBlock, WriteOnce};
 pub use execution::{Action, Transform, TransformMany, TypedExecution};
-pub use reserving_join::ReservingJoin;
+pub use flow_batched::BatchedJoin;
+pub use flow_reserving::ReservingJoin;

@@ -1,7 +1,7 @@
 //! A block of a plan in which nothing has happened.
 ghost use Rattle.std.specs.Prelude.{◌≡◌, ◌<◌, length, IfOk};
 ghost use Rattle.flow_link.specs.Planned.{layout_of};
-ghost use Rattle.flow_kinds.specs.Planned.{planned_block};
+ghost use Rattle.flow_block.specs.Planned.{planned_block};
 
 use flow_block::{Block, ports_of, rules_from};
 use flow_link::Plan;

@@ -43,7 +43,7 @@ fn a_batched_join_groups_as_messages_came(rt: HostRuntime) {
     take(&rt, rt.alloc(), &mut join, 0, number(&rt, rt.alloc(), 6));
     assert_eq!(rt; join.make(rt.alloc()), Ok(true));
     assert_eq!(rt; join.make(rt.alloc()), Ok(false));
-    assert!(rt; join.join().waiting() == 1);
+    assert!(rt; join.waiting() == 1);
     let Some((2, 1, group)) = give(&rt, rt.alloc(), &mut join) else {
         panic!(&rt; "it has no first group");
     };
@@ -96,5 +96,5 @@ fn a_reserving_join_takes_one_of_each_or_none(rt: HostRuntime) {
     assert!(rt; join.next_wish() == Wish::Release(0));
     assert!(rt; join.next_wish() == Wish::None);
     assert_eq!(rt; join.make(rt.alloc()), Ok(false));
-    assert!(rt; join.join().left().is_empty());
+    assert!(rt; join.left().is_empty());
 }

@@ -31,11 +31,12 @@ use Rattle.flow_history.specs.Kept.{NothingCame, new_port}
 use Rattle.flow_history.proofs.CopiesByRule.{copies_are_given}
 use Rattle.flow_history.proofs.MessagesKept.{fresh_kept}
 use Rattle.flow_history.proofs.NewPorts.{new_ports_took_nothing}
-use Rattle.flow_kinds.specs.Planned.{planned_block}
+use Rattle.flow_block.specs.Planned.{planned_block}
 use Rattle.flow_once.specs.WriteOnce.{MayCallInOrderByRule, WritesOnce, IsServed, IsToCome, CopiesOnce, WriteOnceTakesOne}
 use Rattle.flow_once.proofs.LinksServed.{Cause, Settled, AllSettled, fresh_settled, all_settled}
 use Rattle.flow_once.proofs.OnceByHand.{AllOnce, all_once, took_made, writes_once}
-use Rattle.flow_kinds.proofs.PlannedBlocks.{ports_in, one_port, once_alone, one_room}
+use Rattle.flow_block.proofs.PlannedBlocks.{ports_in, one_port}
+use Rattle.flow_kinds.proofs.PlannedBlocks.{once_alone, one_room}
 
 -- What is a part of one value, or of none
 

@@ -15,7 +15,7 @@ use Rattle.flow_block.specs.Planned.{links_from}
 use Rattle.flow_history.specs.Calls.{Call, MayCallInOrder, Does, Fits, Step, AllDone, after_all}
 use Rattle.flow_history.specs.Copied.{AnswersByRule}
 use Rattle.flow_history.specs.History.{History, nothing_yet, took_at, given_over, came_by, made_by, history_of, gave_by}
-use Rattle.flow_kinds.specs.Planned.{planned_block}
+use Rattle.flow_block.specs.Planned.{planned_block}
 
 pub record WritesOnce (took : List Value) (block : BlockState) : Type 0 where
   -- it takes one message in all, and holds none: it copies the message that it took

@@ -42,7 +42,7 @@ fn join(rt: &impl Abort, alloc: Global) -> ReservingJoin
     let Ok(rules) = vec![in alloc; link(7)] else {
         panic!(rt; "out of memory");
     };
-    let Ok(join) = ReservingJoin::new(alloc, ports, sources, rules) else {
+    let Ok(join) = ReservingJoin::of_parts(alloc, ports, sources, rules) else {
         panic!(rt; "out of memory");
     };
     join

@@ -2,6 +2,7 @@ pub mod BlockStays
 pub mod FreshRound
 pub mod JoinFits
 pub mod OffersAnswered
+pub mod PlannedRounds
 pub mod RoundCalls
 pub mod RoundFrames
 pub mod RoundWishes

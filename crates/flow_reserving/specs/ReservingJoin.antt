@@ -2,6 +2,7 @@
 use Rattle.std.specs.Prelude.{◌≡◌, ℕ, ◌<◌, Bool, true, List, length}
 use Rattle.std.specs.List.{list_all}
 use Rattle.flow_link.specs.declared.draft.BlockKind.TheVariants as kind
+use Rattle.flow_link.specs.Layout.{Layout}
 use Rattle.flow_lists.specs.Lists.{is_empty}
 use Rattle.flow_intake.specs.Port.{PortState}
 use Rattle.flow_outlet.specs.declared.ends.LinkRule.{LinkRule}
@@ -10,6 +11,7 @@ use Rattle.flow_group.specs.declared.round.Source.{Source}
 use Rattle.flow_group.specs.Round.{RoundState, port_in}
 use Rattle.flow_block.specs.Block.{BlockState}
 use Rattle.flow_block.specs.BlockFits.{fresh_block}
+use Rattle.flow_block.specs.Planned.{planned_block, fresh_node}
 use Rattle.flow_reserving.specs.RoundOrder.{RoundFits}
 
 pub record ReservingState : Type 0 where
@@ -38,3 +40,7 @@ fresh_join ports sources rules = record {
   block = fresh_block kind.Join 1 0 ports rules;
   round = record { sources = sources; step = steps.Asks };
 }
+
+-- a join of a plan that reserves, which has asked for nothing
+abbrev pub planned_join : {W : Type 0} → Layout W → ℕ → ReservingState
+planned_join layout b = record { block = planned_block layout b; round = (fresh_node layout b).round }

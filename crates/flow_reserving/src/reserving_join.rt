@@ -1,21 +1,26 @@
 //! A join that reserves: its block, and how far its round is.
-ghost use Rattle.std.specs.Prelude.{◌≡◌, true, MatchResult};
+ghost use Rattle.std.specs.Prelude.{◌≡◌, ℕ, ◌<◌, true, length, IfOk, MatchResult};
+ghost use Rattle.flow_link.specs.Plan.{block_in, is_reserving};
+ghost use Rattle.flow_link.specs.Planned.{layout_of};
+ghost use Rattle.flow_link.specs.declared.stage.TargetStage.TheVariants.{Free};
 ghost use Rattle.flow_block.specs.JournalFits.{ports_due};
 ghost use Rattle.flow_block.specs.Peeks.{holds_nothing};
-ghost use Rattle.flow_reserving.specs.ReservingJoin.{all_reserve, none_queued, fresh_join, ReservingFits};
+ghost use Rattle.flow_block.specs.Traits.{target_over};
+ghost use Rattle.flow_reserving.specs.ReservingJoin.{all_reserve, none_queued, fresh_join, planned_join, ReservingFits};
 ghost use Rattle.flow_reserving.specs.WishLaws.{PortsLevel};
 
-use flow_block::Block;
+use flow_block::{Block, ports_of, rules_from, sources_of};
 use flow_group::{Round, Source};
 use flow_intake::Intake;
-use flow_link::BlockKind;
+use flow_link::{BlockKind, Plan};
 use flow_outlet::LinkRule;
 use flow_value::Value;
-use std::alloc::Global;
+use std::alloc::{AllocError, Global};
 use std::collections::VecDeque;
 use std::marker::Model;
 
-/// A join that reserves, and stands by itself. Contracts see a `ReservingState`.
+/// Hands on tuples of a message of each port, all of which it reserves before it takes one. It stands by itself, and
+/// contracts see its `ReservingState`.
 ///
 /// Microsoft: `JoinBlock`, with `Greedy` false.
 #[derive(Drop)]
@@ -40,10 +45,28 @@ impl Model for ReservingJoin {
 }
 
 impl ReservingJoin {
+    /// The block of the plan with this number, in which nothing has happened. It fails only where memory is out.
+    ///
+    /// It looks at each link of the plan once for each port, and twice more.
+    pub fn new<W>(alloc: Global, plan: &Plan<W>, number: usize) -> Result<ReservingJoin, AllocError>
+        requires there { number < length (layout_of plan.now).blocks }
+        requires kind { is_reserving (block_in (layout_of plan.now).blocks number) ≡ true }
+        ensures fresh { IfOk result (λ made. made ≡ planned_join (layout_of plan.now) number) }
+        ensures rests { IfOk result (λ made. (link : ℕ) → target_over made.block.ports link ≡ Free) }
+    {
+        let ports = ports_of(alloc, plan, number)?;
+        let sources = sources_of(alloc, plan, number)?;
+        let rules = rules_from(alloc, plan, number)?;
+        match ReservingJoin::of_parts(alloc, ports, sources, rules) {
+            Ok(join) => Ok(join),
+            Err(_) => Err(AllocError),
+        }
+    }
+
     /// A join with these ports, at which nothing waits and nothing is under way, into which links lead from these sources,
     /// and with these links out of it. A link that is not among the sources counts as one from the first block, and where
     /// there are no sources it asks for nothing. Where there is no memory for it, its parts come back.
-    pub fn new(
+    pub fn of_parts(
         alloc: Global,
         ports: Vec<Intake>,
         sources: Vec<Source>,

@@ -3,7 +3,7 @@ use Rattle.flow_lists.specs.Lists.{every}
 use Rattle.flow_link.specs.Planned.{layout_of}
 use Rattle.flow_intake.specs.Port.{PortState}
 use Rattle.flow_outlet.specs.Outlet.{is_empty}
-use Rattle.flow_kinds.proofs.PlannedBlocks.{none_waits}
+use Rattle.flow_block.proofs.PlannedBlocks.{none_waits}
 use Rattle.flow_kinds.proofs.planned.planned_block.Goals as goal
 
 pub new-requires : goal.new-requires

@@ -1,12 +1,32 @@
-use Rattle.std.proofs.Common.{sym, subst}
-use Rattle.flow_group.specs.Group.{ArrivalsState}
-use Rattle.flow_block.specs.Block.{BlockState}
-use Rattle.flow_batched.specs.BatchedJoin.{JoinFits}
-use Rattle.flow_batched.proofs.DueMessages.{fresh_fits}
+use Rattle.std.proofs.Common.{◌≡◌, ap, sym, subst, ◌∙◌, rules}
+use Rattle.flow_lists.specs.Lists.{every}
+use Rattle.flow_link.specs.Planned.{layout_of}
+use Rattle.flow_link.specs.declared.stage.TargetStage.TheVariants.{Free}
+use Rattle.flow_intake.specs.Port.{PortState}
+use Rattle.flow_outlet.specs.Outlet.{is_empty}
+use Rattle.flow_block.specs.JournalFits.{ports_due}
+use Rattle.flow_block.specs.Traits.{target_over}
+use Rattle.flow_batched.specs.BatchedJoin.{JoinState}
+use Rattle.flow_block.proofs.PlannedBlocks.{none_waits, none_due, all_free}
+use Rattle.flow_batched.proofs.PlannedGroups.{join_is_planned}
 use Rattle.flow_batched.proofs.batched_join.BatchedJoin.new.Goals as goal
 
-pub invariant_of-result : goal.invariant_of-result
-invariant_of-result c =
-    subst (λ (order : ArrivalsState). JoinFits c.in_ok-block.block order) (sym c.new-2.ensures)
-    (subst (λ (block : BlockState). JoinFits block _) (sym c.in_ok-block.ensures)
-    (fresh_fits c.args.size c.args.ports.items c.args.rules.items c.requires.waits c.requires.due))
+pub of_parts-requires-clause-waits : goal.of_parts-requires-clause-waits
+of_parts-requires-clause-waits g c =
+    ap (every (λ (port : PortState). is_empty port.waiting)) c.in_ok-ports.ensures
+    ∙ none_waits (layout_of c.args.plan.now) c.args.number
+
+pub of_parts-requires-clause-due : goal.of_parts-requires-clause-due
+of_parts-requires-clause-due g c = ap ports_due c.in_ok-ports.ensures ∙ none_due (layout_of c.args.plan.now) c.args.number
+
+pub returns-in-Ok-clause-fresh : goal.returns-in-Ok-clause-fresh
+returns-in-Ok-clause-fresh g c =
+    let fit = c.args.plan.now.well_formed.options c.args.number c.requires.there in
+    join_is_planned (layout_of c.args.plan.now) c.args.number fit c.requires.kind c.unwrap_or-size.result c.in_ok-ports.ports.items
+    c.in_ok-rules.rules.items c.in-Ok.join (search rules) c.in_ok-ports.ensures c.in_ok-rules.ensures c.in-Ok.ensures
+
+pub returns-in-Ok-clause-rests : goal.returns-in-Ok-clause-rests
+returns-in-Ok-clause-rests g c link =
+    let fit = c.args.plan.now.well_formed.options c.args.number c.requires.there in
+    subst (λ (join : JoinState). target_over join.block.ports link ≡ Free) (sym (returns-in-Ok-clause-fresh g c))
+    (all_free (layout_of c.args.plan.now) c.args.number fit link)

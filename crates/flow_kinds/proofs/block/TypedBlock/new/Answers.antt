@@ -4,7 +4,8 @@ use Rattle.flow_link.specs.declared.stage.TargetStage.TheVariants.{Free}
 use Rattle.flow_block.specs.Block.{BlockState}
 use Rattle.flow_block.specs.Traits.{target_over}
 use Rattle.flow_kinds.specs.Kinds.{IsOf}
-use Rattle.flow_kinds.proofs.PlannedBlocks.{planned_is, all_free}
+use Rattle.flow_block.proofs.PlannedBlocks.{all_free}
+use Rattle.flow_kinds.proofs.PlannedBlocks.{planned_is}
 use Rattle.flow_kinds.proofs.block.TypedBlock.new.Goals as goal
 
 pub invariant_of-result : goal.invariant_of-result

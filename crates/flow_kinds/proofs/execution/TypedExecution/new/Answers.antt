@@ -6,7 +6,7 @@ use Rattle.flow_link.specs.declared.stage.TargetStage.TheVariants.{Free}
 use Rattle.flow_block.specs.Block.{BlockState}
 use Rattle.flow_block.specs.Traits.{target_over}
 use Rattle.flow_exec.specs.Execution.{ExecutionState}
-use Rattle.flow_kinds.proofs.PlannedBlocks.{all_free, work_is_planned}
+use Rattle.flow_block.proofs.PlannedBlocks.{all_free, work_is_planned}
 use Rattle.flow_kinds.proofs.execution.TypedExecution.new.Goals as goal
 
 pub returns-in-Ok-clause-block : goal.returns-in-Ok-clause-block

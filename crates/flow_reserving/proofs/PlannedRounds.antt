@@ -13,10 +13,9 @@ use Rattle.flow_group.specs.declared.round.RoundStep.TheVariants as steps
 use Rattle.flow_group.specs.declared.round.Source.{Source}
 use Rattle.flow_block.specs.Block.{BlockState}
 use Rattle.flow_block.specs.BlockFits.{fresh_block}
-use Rattle.flow_block.specs.Planned.{port_of_plan, lanes_of, size_of, sources_of}
-use Rattle.flow_reserving.specs.ReservingJoin.{ReservingState, all_reserve, none_queued, fresh_join}
-use Rattle.flow_kinds.specs.Planned.{planned_block, planned_reserving}
-use Rattle.flow_kinds.proofs.PlannedBlocks.{def, ports_in, rules, options}
+use Rattle.flow_block.specs.Planned.{port_of_plan, lanes_of, size_of, sources_of, planned_block}
+use Rattle.flow_block.proofs.PlannedBlocks.{def, ports_in, rules, options}
+use Rattle.flow_reserving.specs.ReservingJoin.{ReservingState, all_reserve, none_queued, fresh_join, planned_join}
 
 -- only a join reserves
 joins : (kind : BlockKind) (greedy : Option Bool) → reserves_by_kind kind greedy ≡ true → kind ≡ kinds.Join
@@ -66,7 +65,7 @@ module _ {W : Type 0} (layout : Layout W) (b : ℕ) where
     -- what is made of its parts
     pub reserving_is_planned : options_fit (def layout b) ≡ true → (ports : List PortState) (sources : List Source) (given : List LinkRule)
         (join : ReservingState) → ports ≡ ports_in layout b (port_count (def layout b)) → sources ≡ sources_of layout b → given ≡ rules layout b
-        → join ≡ fresh_join ports sources given → join ≡ planned_reserving layout b
+        → join ≡ fresh_join ports sources given → join ≡ planned_join layout b
     reserving_is_planned fit ports sources given join ports_are sources_are given_are is =
         is ∙ ap (λ (ps : List PortState). fresh_join ps sources given) ports_are
         ∙ ap (λ (from : List Source). fresh_join (ports_in layout b (port_count (def layout b))) from given) sources_are

@@ -1,9 +1,0 @@
-use Rattle.std.proofs.Common.{◌∙◌}
-use Rattle.flow_link.specs.SourceCalls.{SourceCall}
-use Rattle.flow_kinds.proofs.KindsStay.{gives_stay}
-use Rattle.flow_kinds.proofs.batched_join_calls.BatchedJoinSourceBlock.release_reservation.Goals as goal
-
-pub invariant_of-self : goal.invariant_of-self
-invariant_of-self c =
-    (gives_stay c.self.inside.join.block c.release_reservation.new.self.block (SourceCall.released c.args.link c.args.header) c.release_reservation.ensures.gives.0).kind
-    ∙ c.self.invariant

@@ -1,9 +1,0 @@
-use Rattle.std.proofs.Common.{◌∙◌}
-use Rattle.flow_link.specs.TargetCalls.{TargetCall}
-use Rattle.flow_kinds.proofs.KindsStay.{takes_stay}
-use Rattle.flow_kinds.proofs.batched_join_calls.BatchedJoinTargetBlock.hand_over.Goals as goal
-
-pub invariant_of-self : goal.invariant_of-self
-invariant_of-self c =
-    (takes_stay c.self.inside.join.block c.hand_over.new.self.block (TargetCall.handed c.args.origin c.args.header c.args.parcel) c.hand_over.ensures.takes.0).kind
-    ∙ c.self.invariant
