@@ -1,1 +1,2 @@
+pub mod NamesDiffer
 pub mod RecordsPost

@@ -2,7 +2,7 @@
 use Rattle.std.proofs.Common.{◌≡◌, ◌≤◌, ◌<◌, ◌+◌, ◌-◌, ◌^◌, min, ℕ, suc, zero, List, [], ◌∷◌, ◌++◌, length, take, get_or, set, map, refl, ap, sym, ◌∙◌, arith, append_assoc, length-append, Option, Some, None, Bool, true, false, cond, subst, nat_eq, Bor, position, replicate}
 use Rattle.std.specs.Prelude.{IfSome, not, option_map}
 use Rattle.std.specs.List.{filter, prefix_len}
-use Rattle.std.specs.Str.{bytes_eq}
+use Rattle.std.specs.Str.{bytes_eq, IsUtf8}
 use Rattle.std.proofs.lemmas.List.{append-nil, map-append, take_more, length-map, get_or-map, map-set}
 use Rattle.std.proofs.Math.Seq.{map-set_same}
 use Rattle.flow_link.specs.declared.posted.Posted.{Posted}
@@ -22,7 +22,7 @@ use Rattle.csv.proofs.ReadFacts.{rows-more, rows-end}
 use Rattle.flow_fault_text.specs.declared.fault.TextFault.{TextFault}
 use Rattle.flow_fault_text.specs.declared.fault.TextFault.TheVariants.{Csv, NotUtf8, UnknownInput, Read}
 use Rattle.flow_fault_text.specs.declared.fault.TextRefusal.TheVariants.{Fault}
-use Rattle.flow_record_text.specs.Records.{HasFault, IsFirstFault, IsOfRecords, Explains, PostAll, told_number, room, Row, texts_of, input_names, input_named, is_this, posts_to, value_of, values_for, records, IsFirstOf, IsFine, AllFine, PostsTo, posted_values, posted_endings}
+use Rattle.flow_record_text.specs.Records.{HasFault, IsFirstFault, IsOfRecords, Explains, PostAll, told_number, room, Row, texts_of, input_names, input_named, is_this, posts_to, value_of, values_for, records, AllDiffer, IsFine, AllFine, PostsTo, posted_values, posted_endings}
 
 -- a place among references is that among what they point to
 prefix-texts : (test : List ℕ → Bool) (names : List (Bor (List ℕ))) → prefix_len (λ name. not (test name.now)) names ≡ prefix_len (λ name. not (test name)) (texts_of names)
@@ -137,11 +137,6 @@ get-numbers f first (suc count) (suc i) d within = get-numbers f (suc first) cou
 pub named-within : (names : List (List ℕ)) (name : List ℕ) (i : ℕ) → input_named names name ≡ Some i → i < length names
 named-within names name i found = (position-Some (λ other. bytes_eq other name) names i [] found).0
 
-pub named-first : (names : List (List ℕ)) (name : List ℕ) (i : ℕ) → input_named names name ≡ Some i → IsFirstOf names i
-named-first names name i found within =
-    let same : get_or names i [] ≡ name = (bytes_eq-Decides _ _).0 (position-Some (λ other. bytes_eq other name) names i [] found).1 in
-    ap (input_named names) same ∙ found
-
 module _ (names : List (List ℕ)) where
   -- a record that posts a text to an input changes what that input gets, and no other
   pub records-more : (rows : List Row) (row : Row) (i : ℕ) (text : List ℕ) → PostsTo names row i text
@@ -182,19 +177,21 @@ nothing-numbers first (suc count) = ap (λ (rest : List (List Value)). [] ∷ re
 pub records-none : (names : List (List ℕ)) → records names [] ≡ replicate (length names) []
 records-none names = nothing-numbers 0 (length names)
 
+-- a record of two fields posts the second to the input that the first names
+pub posts-named : (names : List (List ℕ)) (row : Row) (i : ℕ) (text : List ℕ) → AllDiffer names → length row ≡ 2 → i < length names
+    → get_or names i [] ≡ get_or row 0 [] → IsUtf8 (get_or row 0 []) → text ≡ get_or row 1 [] → IsUtf8 text → PostsTo names row i text
+posts-named names [] i text differ two low named first is second = absurd (omega (arith, two))
+posts-named names (_ ∷ []) i text differ two low named first is second = absurd (omega (arith, two))
+posts-named names (_ ∷ _ ∷ _ ∷ rest) i text differ two low named first is second = absurd (omega (arith, two))
+posts-named names (name ∷ field ∷ []) i text differ two low named first is second =
+    (ap (input_named names) (sym named) ∙ differ i low, sym is, first, subst IsUtf8 is second)
+
 -- an input that gets a text is there
 pub posts-within : (names : List (List ℕ)) (row : Row) (i : ℕ) (text : List ℕ) → PostsTo names row i text → i < length names
 posts-within names [] i text posts = absurd posts
 posts-within names (_ ∷ []) i text posts = absurd posts
 posts-within names (_ ∷ _ ∷ _ ∷ _) i text posts = absurd posts
 posts-within names (first ∷ second ∷ []) i text posts = named-within names first i posts.0
-
--- and is the first with its name
-pub posts-first : (names : List (List ℕ)) (row : Row) (i : ℕ) (text : List ℕ) → PostsTo names row i text → IsFirstOf names i
-posts-first names [] i text posts = absurd posts
-posts-first names (_ ∷ []) i text posts = absurd posts
-posts-first names (_ ∷ _ ∷ _ ∷ _) i text posts = absurd posts
-posts-first names (first ∷ second ∷ []) i text posts = named-first names first i posts.0
 
 -- a fault of the first record that can't be posted is explained
 explained : (names : List (List ℕ)) (bytes : List ℕ) (fault : TextFault) → IsFirstFault names bytes fault → Explains names bytes (Fault fault)

@@ -38,9 +38,9 @@ input_names (block ∷ blocks) = cond block.input (block.name ∷ []) [] ++ inpu
 abbrev pub input_named : List (List ℕ) → List ℕ → Option ℕ
 input_named names name = position (λ other. bytes_eq other name) names
 
--- it is the number of the first input with its name, if it is that of an input
-abbrev pub IsFirstOf : List (List ℕ) → ℕ → Type 0
-IsFirstOf names i = i < length names → input_named names (get_or names i []) ≡ Some i
+-- each input is the first with its name, since no two have the same
+abbrev pub AllDiffer : List (List ℕ) → Type 0
+AllDiffer names = (i : ℕ) → i < length names → input_named names (get_or names i []) ≡ Some i
 
 -- what these references point to
 abbrev pub texts_of : List (Bor (List ℕ)) → List (List ℕ)

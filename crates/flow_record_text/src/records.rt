@@ -6,7 +6,7 @@ ghost use Rattle.csv.specs.Reading.{ReadRecord, reader_state, source_of, strip_b
 ghost use Rattle.csv.specs.Records.{fields_of};
 ghost use Rattle.csv.specs.declared.parser.State.TheVariants as at;
 ghost use Rattle.flow_link.specs.Planned.{layout_of};
-ghost use Rattle.flow_record_text.specs.Records.{texts_of, input_names, input_named, IsFirstOf, HasFault, PostsTo, PostAll};
+ghost use Rattle.flow_record_text.specs.Records.{texts_of, input_names, input_named, AllDiffer, HasFault, PostsTo, PostAll};
 ghost use Rattle.flow_record_text.specs.Records.{IsOfRecords, Explains, TakesAll, room, posted_values, posted_endings};
 
 use csv::{ByteRecord, Error, ErrorKind, Reader, ReaderBuilder};
@@ -67,7 +67,7 @@ fn text_field(row: &ByteRecord, place: usize) -> Option<&str>
     }
 }
 
-// Whether a record names this input, as the one before it did: then that its name is UTF-8 need not be seen again.
+// Whether a record names this input: then that its name is UTF-8 need not be seen again.
 fn has_name(row: &ByteRecord, names: &[&str], input: usize) -> bool
     requires { 0 < length (fields_of row.now) }
     ensures there { result ≡ true → input < length names.now }
@@ -83,14 +83,33 @@ fn has_name(row: &ByteRecord, names: &[&str], input: usize) -> bool
     }
 }
 
-// The input and the text of a record, or why it can't be posted. The input of the last record is tried first.
+// The input that a record names, where it is that of the last record or the one after it.
+fn likely_input(row: &ByteRecord, names: &[&str], last: usize) -> Option<usize>
+    requires { 0 < length (fields_of row.now) }
+    ensures there { IfSome result (λ input. input < length names.now) }
+    ensures named { IfSome result (λ input. get_or (texts_of names.now) input [] ≡ get_or (fields_of row.now) 0 []) }
+    ensures utf8 { IfSome result (λ _. IsUtf8 (get_or (fields_of row.now) 0 [])) }
+{
+    if has_name(row, names, last) {
+        return Some(last);
+    }
+    let after = last.saturating_add(1);
+    let next = if after < names.len() { after } else { 0 };
+    if has_name(row, names, next) {
+        Some(next)
+    } else {
+        None
+    }
+}
+
+// The input and the text of a record, or why it can't be posted. The input of the last record is tried first, then the next.
 fn read_fields<'r>(
     names: &[&str],
     last: usize,
     row: &'r ByteRecord,
     number: u64,
 ) -> Result<(usize, &'r str), TextFault>
-    requires { IsFirstOf (texts_of names.now) last }
+    requires { AllDiffer (texts_of names.now) }
     ensures { MatchResult result (λ found. PostsTo (texts_of names.now) (fields_of row.now) found.0 found.1.now)
         (λ fault. HasFault (texts_of names.now) number (fields_of row.now) fault) }
 {
@@ -100,8 +119,8 @@ fn read_fields<'r>(
     let Some(text) = text_field(row, 1) else {
         return Err(TextFault::NotUtf8(number));
     };
-    if has_name(row, names, last) {
-        return Ok((last, text));
+    if let Some(input) = likely_input(row, names, last) {
+        return Ok((input, text));
     }
     let Some(name) = text_field(row, 0) else {
         return Err(TextFault::NotUtf8(number));
@@ -200,6 +219,7 @@ fn read_named<R: Read + Drop>(
     reader: R,
     names: &[&str],
 ) -> Result<Vec<Posted>, TextRefusal>
+    requires { AllDiffer (texts_of names.now) }
     ensures endings { IfOk result (λ posted. posted_endings posted.items ≡ replicate (length names.now)
         Ending.Complete) }
     ensures values { IfOk result (λ posted. IfSome (R.remaining reader)

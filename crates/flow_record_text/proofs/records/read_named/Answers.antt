@@ -3,7 +3,7 @@ use Rattle.std.proofs.lemmas.List.{length-map, length-replicate}
 use Rattle.csv.specs.Records.{fields_of}
 use Rattle.flow_link.specs.declared.posted.Posted.{Posted}
 use Rattle.flow_record_text.specs.Records.{texts_of, input_named, posted_values}
-use Rattle.flow_record_text.proofs.RecordsPost.{read-start, read-more, read-end, read-fault, fault-of_records, posts-within, posts-first}
+use Rattle.flow_record_text.proofs.RecordsPost.{read-start, read-more, read-end, read-fault, fault-of_records, posts-within}
 use Rattle.flow_record_text.proofs.records.read_named.Goals as goal
 
 pub reading-init : goal.reading-init
@@ -12,7 +12,6 @@ reading-init g c =
     let all : length (texts_of c.args.names.now) ≡ length c.args.names.now = length-map c.args.names.now (λ (name : Bor (List ℕ)). name.now) in
     record {
       takes = made.takes;
-      first = λ within. absurd {A = input_named (texts_of c.args.names.now) (get_or (texts_of c.args.names.now) (length c.args.names.now) []) ≡ Some (length c.args.names.now)} (omega (arith, all, within));
       endings = c.in_ok-posted.ensures.endings;
       so_far = read-start g.R.Read.remaining (texts_of c.args.names.now) (length c.args.names.now) _ c.record_reader-records.result (g.R.Read.remaining c.args.reader)
           (sym all) c.in_ok-posted.ensures.values made.source made.state;
@@ -49,7 +48,6 @@ reading-preserved g c =
     let read = rw c.if-not-found.false at c.in_ok-found.ensures.reads in
     record {
       takes = c.in_ok-found.ensures.takes c.if-not-found.false;
-      first = posts-first (texts_of c.args.names.now) (fields_of c.read_row.new.row) c.in-Ok.input c.in-Ok.text.now c.in-Ok.ensures;
       endings = c.in_ok-post-in-Ok.ensures.endings ∙ kept.endings;
       so_far = read-more g.R.Read.remaining (texts_of c.args.names.now) c.reading.number (posted_values c.reading.posted.items) c.reading.records c.read_row.new.records
           (fields_of c.read_row.new.row) kept.takes.config (g.R.Read.remaining c.args.reader) c.saturating_add-number.result c.in-Ok.input c.in-Ok.text.now (posted_values c.post.new.posted.items)

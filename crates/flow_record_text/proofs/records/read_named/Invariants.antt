@@ -1,7 +1,7 @@
 use Rattle.std.proofs.Common.{◌≡◌, length, replicate}
 use Rattle.std.specs.Prelude.{IfSome}
 use Rattle.flow_link.specs.declared.trace.Ending.TheVariants.{Complete}
-use Rattle.flow_record_text.specs.Records.{TakesAll, texts_of, IsFirstOf, room, posted_values, posted_endings}
+use Rattle.flow_record_text.specs.Records.{TakesAll, texts_of, room, posted_values, posted_endings}
 use Rattle.flow_record_text.proofs.RecordsPost.{SoFar}
 use Rattle.flow_record_text.proofs.records.read_named.Given as goal
 
@@ -11,7 +11,6 @@ decreases-reading g l = room (posted_values l.posted.items)
 abbrev pub invariant-reading : goal.invariant-reading
 invariant-reading g l = record {
   takes : TakesAll l.records;
-  first : IsFirstOf (texts_of l.names) l.last;
   endings : posted_endings l.posted.items ≡ replicate (length l.names) Complete;
   so_far : IfSome (g.R.Read.remaining l.fn.reader) (SoFar g.R.Read.remaining (texts_of l.names) l.number (posted_values l.posted.items) l.records);
 }
