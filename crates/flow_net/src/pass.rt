@@ -1,5 +1,5 @@
-//! Messages that go over a link in one call.
-ghost use Rattle.std.specs.Prelude.{◌≡◌, ◌≢◌, ◌<◌, ◌≤◌, true, false, [], length, IfOk, IfErr, OnErr, Err};
+//! Runs of messages: over one link, each in one call, and through one block.
+ghost use Rattle.std.specs.Prelude.{◌≡◌, ◌≢◌, ◌<◌, ◌≤◌, true, false, [], length, IsTrue, IfOk, IfErr, OnErr, Err};
 ghost use Rattle.flow_link.specs.declared.phase.Move.TheVariants.{Offer};
 ghost use Rattle.flow_link.specs.Planned.{layout_of};
 ghost use Rattle.flow_block.specs.Routes.{route_of};
@@ -14,7 +14,7 @@ use crate::agenda::Spot;
 use crate::due::Due;
 use crate::engine::Engine;
 use crate::fault::NetFault;
-use flow_link::Move;
+use flow_link::{LinkSource, Move};
 use flow_value::Runs;
 use std::alloc::Global;
 
@@ -23,6 +23,9 @@ const PASS: u64 = 5;
 
 /// The events of a message that is worked on at once: the job begins, and its result comes back.
 const WORK: u64 = 2;
+
+/// The most messages of a run.
+const RUN: u64 = 64;
 
 impl<W: Runs> Engine<W> {
     /// Goes on with the message that moved last, where it can. Answers how many events that took, of at most so many.
@@ -45,9 +48,32 @@ impl<W: Runs> Engine<W> {
         }
     }
 
-    /// Has a block work on the message that waits longest, and lists where something may be able to happen after it; or
-    /// lists the block, where none may be worked on.
+    /// Has a block work on the messages that wait longest, as many as may be in a run, and lists where something may be able
+    /// to happen after it; or lists the block, where none may be worked on.
     fn work_on(&mut self, alloc: Global, number: usize, most: u64) -> Result<u64, NetFault>
+        requires kept { InOrder W.meaning self.old }
+        requires known { number < length (layout_of self.old.plan).blocks }
+        requires some { 0 < most }
+        ensures same_plan { self.new.plan ≡ self.old.plan }
+        ensures happened { IfOk result (λ count. HasDone W.meaning count self.old self.new) }
+        ensures within { IfOk result (λ count. count ≤ most) }
+        ensures kept { OnErr result (self.new.parts ≡ self.old.parts) }
+        ensures used_up { result ≡ Err Ids → NeedsIdIn W.meaning self.old }
+        ensures never { result ≢ Err NotEnabled }
+    {
+        let first = self.work_once(alloc, number, most)?;
+        if first == 0 {
+            self.agenda.list(Spot::Block(number));
+            return Ok(0);
+        }
+        let more = self.work_more(alloc, number, (most - first).min(RUN * WORK));
+        self.agenda.list_after_make(&self.parts, number);
+        Ok(first + more)
+    }
+
+    /// Has a block work on the message that waits longest. Answers how many events that took, of at most so many; none where
+    /// no message may be worked on.
+    fn work_once(&mut self, alloc: Global, number: usize, most: u64) -> Result<u64, NetFault>
         requires kept { InOrder W.meaning self.old }
         requires known { number < length (layout_of self.old.plan).blocks }
         requires some { 0 < most }
@@ -61,19 +87,36 @@ impl<W: Runs> Engine<W> {
         let block = self.parts.node(number).block();
         if block.may_make() {
             self.make(alloc, number)?;
-            self.agenda.list_after_make(&self.parts, number);
             return Ok(1);
         }
         let may_work = most >= WORK && block.is_idle() && block.may_begin();
         if may_work && self.work_at_once(alloc, number)? {
             return Ok(WORK);
         }
-        self.agenda.list(Spot::Block(number));
         Ok(0)
     }
 
-    /// Has a block that works on nothing work on the message that waits longest, and lists where something may be able to
-    /// happen after it: two events. Nothing has happened where a message id is wanting for the result.
+    /// Has a block go on working, message after message, until there is none that it may work on, or memory or ids are
+    /// wanting. Answers how many events that took, of at most so many.
+    fn work_more(&mut self, alloc: Global, number: usize, limit: u64) -> u64
+        requires kept { InOrder W.meaning self.old }
+        requires known { number < length (layout_of self.old.plan).blocks }
+        ensures same_plan { self.new.plan ≡ self.old.plan }
+        ensures happened { HasDone W.meaning result self.old self.new }
+        ensures within { result ≤ limit }
+    {
+        let mut rest = limit;
+        while rest > 0 {
+            match self.work_once(alloc, number, rest) {
+                Ok(0) | Err(_) => break,
+                Ok(count) => rest -= count,
+            }
+        }
+        limit - rest
+    }
+
+    /// Has a block that works on nothing work on the message that waits longest: two events. Nothing has happened where a
+    /// message id is wanting for the result.
     fn work_at_once(&mut self, alloc: Global, number: usize) -> Result<bool, NetFault>
         requires kept { InOrder W.meaning self.old }
         requires enabled { EnabledIn self.old (NetEvent.begin number) }
@@ -85,10 +128,7 @@ impl<W: Runs> Engine<W> {
         ensures memory { IfErr result (λ fault. fault ≡ Memory) }
     {
         match self.work(alloc, number) {
-            Ok(()) => {
-                self.agenda.list_after_make(&self.parts, number);
-                Ok(true)
-            }
+            Ok(()) => Ok(true),
             Err(NetFault::Ids) => Ok(false),
             Err(_) => Err(NetFault::Memory),
         }
@@ -128,12 +168,13 @@ impl<W: Runs> Engine<W> {
     {
         if let Due::Link(id, Move::Offer(_)) = *event {
             if most >= PASS && self.may_pass(id) {
-                return self.pass(alloc, id);
+                return self.pass(alloc, id, most);
             }
         }
         if let Due::Begin(number) = *event {
             let may_work = most >= WORK && self.parts.node(number).block().is_idle();
             if may_work && self.work_at_once(alloc, number)? {
+                self.agenda.list_after_make(&self.parts, number);
                 return Ok(WORK);
             }
         }
@@ -150,9 +191,58 @@ impl<W: Runs> Engine<W> {
         self.parts.may_pass(id, self.route(id))
     }
 
+    /// Has the messages that the source of a link would offer go over it, as many as may be in a run. Answers how many events
+    /// those are, of at most so many, and lists where something may be able to happen after them.
+    fn pass(&mut self, alloc: Global, id: usize, most: u64) -> Result<u64, NetFault>
+        requires kept { InOrder W.meaning self.old }
+        requires due { IsDueIn W.meaning self.old
+            (NetEvent.at_link id (Offer (id_next self.old.parts (route_of (layout_of self.old.plan) id).source
+            (route_of (layout_of self.old.plan) id).source_place))) }
+        requires passes { may_pass id (route_of (layout_of self.old.plan) id) self.old.parts ≡ true }
+        requires room { 5 ≤ most }
+        ensures same_plan { self.new.plan ≡ self.old.plan }
+        ensures happened { IfOk result (λ count. HasDone W.meaning count self.old self.new) }
+        ensures some { IfOk result (λ count. 0 < count) }
+        ensures within { IfOk result (λ count. count ≤ most) }
+        ensures kept { OnErr result (self.new.parts ≡ self.old.parts) }
+        ensures memory { IfErr result (λ fault. fault ≡ Memory) }
+    {
+        let first = self.pass_one(alloc, id)?;
+        let rest = self.rest_of_run(id, most - first);
+        let more = self.pass_more(alloc, id, rest);
+        self.list_passed(id);
+        Ok(first + more)
+    }
+
+    /// How many more events a run over a link may have, of at most so many. A source that copies offers an element over all its
+    /// links before the next.
+    fn rest_of_run(&self, id: usize, most: u64) -> u64
+        ensures { result ≤ most }
+    {
+        if self.gives_each_once(id) {
+            most.min((RUN - 1) * PASS)
+        } else {
+            0
+        }
+    }
+
+    /// Whether the source of a link gives each of its messages to one link.
+    fn gives_each_once(&self, id: usize) -> bool {
+        let Some(route) = self.routes.get(id) else {
+            return false;
+        };
+        match route.source {
+            LinkSource::Block(number) => match self.parts.find_node(number) {
+                Some(node) => node.block().kind().unit().shares(),
+                None => false,
+            },
+            LinkSource::Input(_) => true,
+        }
+    }
+
     /// Has the message that the source of a link would offer go over it; where the target has no memory for it, it is
-    /// offered alone. Answers how many events those are, and lists where something may be able to happen after them.
-    fn pass(&mut self, alloc: Global, id: usize) -> Result<u64, NetFault>
+    /// offered alone. Answers how many events those are.
+    fn pass_one(&mut self, alloc: Global, id: usize) -> Result<u64, NetFault>
         requires kept { InOrder W.meaning self.old }
         requires due { IsDueIn W.meaning self.old
             (NetEvent.at_link id (Offer (id_next self.old.parts (route_of (layout_of self.old.plan) id).source
@@ -173,11 +263,64 @@ impl<W: Runs> Engine<W> {
         } = self;
         let route = &routes[id];
         if parts.pass(alloc, id, route)? {
-            agenda.list_after_pass(parts, route, id);
             Ok(PASS)
         } else {
             agenda.list(Spot::Link(id));
             Ok(1)
+        }
+    }
+
+    /// Whether the source of a link would offer a message that may go over it in one call.
+    fn has_next_to_pass(&self, id: usize) -> bool
+        requires known { id < length (layout_of self.now.plan).links }
+        requires kept { InOrder W.meaning self.now }
+        ensures due { IsTrue result → IsDueIn W.meaning self.now
+            (NetEvent.at_link id (Offer (id_next self.now.parts (route_of (layout_of self.now.plan) id).source
+            (route_of (layout_of self.now.plan) id).source_place))) }
+        ensures passes { IsTrue result → may_pass id (route_of (layout_of self.now.plan) id) self.now.parts ≡ true }
+    {
+        let route = self.route(id);
+        if self.parts.lacks_id(route) {
+            return false;
+        }
+        let Some(Move::Offer(_)) = self.parts.next_of_source(route) else {
+            return false;
+        };
+        self.may_pass(id)
+    }
+
+    /// Has messages go over a link, one after another, until there is none that may, or memory is out. Answers how many events
+    /// that took, of at most so many.
+    fn pass_more(&mut self, alloc: Global, id: usize, limit: u64) -> u64
+        requires kept { InOrder W.meaning self.old }
+        requires known { id < length (layout_of self.old.plan).links }
+        ensures same_plan { self.new.plan ≡ self.old.plan }
+        ensures happened { HasDone W.meaning result self.old self.new }
+        ensures within { result ≤ limit }
+    {
+        let mut rest = limit;
+        while rest >= PASS && self.has_next_to_pass(id) {
+            match self.pass_one(alloc, id) {
+                Ok(count) => rest -= count,
+                Err(_) => break,
+            }
+        }
+        limit - rest
+    }
+
+    /// Lists where something may be able to happen after messages went over a link.
+    fn list_passed(&mut self, id: usize)
+        ensures same_plan { self.new.plan ≡ self.old.plan }
+        ensures same_parts { self.new.parts ≡ self.old.parts }
+    {
+        let Engine {
+            parts,
+            routes,
+            agenda,
+            ..
+        } = self;
+        if let Some(route) = routes.get(id) {
+            agenda.list_after_pass(parts, route, id);
         }
     }
 }

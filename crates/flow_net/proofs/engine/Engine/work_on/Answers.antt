@@ -1,15 +1,18 @@
-use Rattle.std.proofs.Common.{rules}
-use Rattle.flow_link.specs.Planned.{layout_of}
-use Rattle.flow_core.specs.Events.{Enabled, NetEvent}
+use Rattle.flow_net.proofs.KeptOn.{kept_by_plan}
+use Rattle.flow_net.proofs.RunsGoOn.{happened_by_plan}
 use Rattle.flow_net.proofs.engine.Engine.work_on.Goals as goal
 
-pub returns-in_err-make-clause-used_up : goal.returns-in_err-make-clause-used_up
-returns-in_err-make-clause-used_up g c is =
-    let old = c.args.self.now in
-    let enabled : Enabled (layout_of old.plan) old.parts (NetEvent.make c.args.number) =
-    record { there = c.requires.known; would = search rules } in
-    record {
-      event = NetEvent.make c.args.number;
-      enabled = enabled;
-      none_left = λ ids. c.make.ensures.used_up (search rules) (record { enabled = enabled; ids = ids });
-    }
+pub work_more-more-requires-clause-kept : goal.work_more-more-requires-clause-kept
+work_more-more-requires-clause-kept g c =
+    let start = c.args.self.now in
+    let mid = c.work_once.new.self in
+    kept_by_plan g.W.Runs.meaning start.plan mid.plan c.in_ok-first.first start.parts mid.parts c.work_once.ensures.same_plan
+    c.in_ok-first.ensures.happened c.requires.kept
+
+pub returns-clause-happened : goal.returns-clause-happened
+returns-clause-happened g c =
+    let start = c.args.self.now in
+    let mid = c.work_once.new.self in
+    happened_by_plan g.W.Runs.meaning start.plan mid.plan c.work_once.ensures.same_plan c.args.most c.in_ok-first.first start.parts
+    mid.parts c.work_more-more.new.self.parts c.in_ok-first.ensures.within c.in_ok-first.ensures.happened
+    c.work_more-more.result c.work_more-more.ensures.happened
