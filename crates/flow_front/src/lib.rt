@@ -17,4 +17,4 @@ mod refused;
 
 pub use inputs::Inputs;
 pub use named::{record_of, state_of};
-pub use refused::{NoInput, PostRefused};
+pub use refused::{EndRefused, PostRefused};

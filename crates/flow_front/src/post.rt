@@ -1,13 +1,14 @@
 //! Posts values to inputs by their names, and starts the network.
-ghost use Rattle.std.specs.Prelude.{◌≡◌, ◌<◌, ◌↔◌, true, length, map, count_by, replicate, IfOk, IfErr, OnOk, OnErr, IfSome, IsErr, Err, None};
+ghost use Rattle.std.specs.Prelude.{◌≡◌, ◌<◌, ◌↔◌, true, false, length, map, count_by, replicate, IfOk, IfErr, OnOk, OnErr, IfSome, Err, None};
 ghost use Rattle.flow_link.specs.Planned.{layout_of};
 ghost use Rattle.flow_link.specs.Posted.{input_of, is_numbered_ending};
 ghost use Rattle.flow_front.specs.Inputs.{nothing_posted, with_value};
 ghost use Rattle.flow_front.specs.Named.{input_named, inputs_before};
+ghost use Rattle.flow_front.specs.declared.refused.EndRefused.TheVariants as end_refused;
 ghost use Rattle.flow_front.specs.declared.refused.PostRefused.TheVariants as refused;
 
 use crate::inputs::Inputs;
-use crate::refused::{NoInput, PostRefused};
+use crate::refused::{EndRefused, PostRefused};
 use flow_link::{Ending, Plan};
 use flow_net::{Net, Posted};
 use flow_value::{Runs, Value};
@@ -47,23 +48,28 @@ impl<W: Drop> Inputs<W> {
         }
     }
 
-    /// Says how the values of the input with this name end, in place of what was said before. Fault 0 is none.
+    /// Says how the values of the input with this name end, in place of what was said before. Fault 0 is none, and is refused.
+    /// After a refusal all is as it was.
     ///
     /// Microsoft: `Complete` and `Fault` of a block.
-    pub fn end(&mut self, name: &str, ending: Ending) -> Result<(), NoInput>
-        requires numbered { is_numbered_ending ending ≡ true }
+    pub fn end(&mut self, name: &str, ending: Ending) -> Result<(), EndRefused>
         ensures same_plan { layout_in self.new ≡ layout_in self.old }
         ensures ended { OnOk result (IfSome (input_named (layout_in self.old) name.now) (λ place.
             posted_in self.new ≡ changed_at place (with_ending ending) (posted_in self.old))) }
-        ensures no_input { IsErr result ↔ (input_named (layout_in self.old) name.now ≡ None) }
+        ensures no_input { (result ≡ Err end_refused.NoInput) ↔ (input_named (layout_in self.old) name.now ≡ None) }
+        ensures numbered { OnOk result (is_numbered_ending ending ≡ true) }
+        ensures zero { result ≡ Err end_refused.FaultZero → is_numbered_ending ending ≡ false }
         ensures kept { OnErr result (posted_in self.new ≡ posted_in self.old) }
     {
         match self.place(name) {
             Some(place) => {
+                if !ending.is_numbered() {
+                    return Err(EndRefused::FaultZero);
+                }
                 self.lists[place].ending = ending;
                 Ok(())
             }
-            None => Err(NoInput),
+            None => Err(EndRefused::NoInput),
         }
     }
 

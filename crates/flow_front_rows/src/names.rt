@@ -1,6 +1,6 @@
 //! What is posted to a name is at the input of that name, and what is asked of a name is told of that block.
 use anyhow::Result;
-use flow_front::{Inputs, NoInput, PostRefused, record_of, state_of};
+use flow_front::{EndRefused, Inputs, PostRefused, record_of, state_of};
 use flow_link::{BlockDef, BlockKind, Draft, Ending, LinkDef};
 use flow_net::{Net, Settled, State};
 use flow_value::{Steps, Value};
@@ -73,7 +73,7 @@ fn a_name_of_no_input_is_refused(rt: HostRuntime) {
     for name in ["out", "middle", "nobody", "lef", ""] {
         let refused = inputs.post(name, Value::Int(7));
         assert!(rt; matches!(refused, Err(PostRefused::NoInput(Value::Int(7)))));
-        assert!(rt; matches!(inputs.end(name, Ending::Open), Err(NoInput)));
+        assert!(rt; matches!(inputs.end(name, Ending::Open), Err(EndRefused::NoInput)));
     }
 }
 
@@ -100,6 +100,12 @@ fn an_input_ends_as_it_is_told(rt: HostRuntime) {
         panic!(rt; "no plan");
     };
     assert!(rt; inputs.end("right", Ending::Fault(9)).is_ok());
+    assert!(rt;
+        matches!(
+            inputs.end("left", Ending::Fault(0)),
+            Err(EndRefused::FaultZero)
+        )
+    );
     let net = settled(&rt, alloc, inputs);
     assert!(rt; matches!(state_of(&net, "left"), Some(State::Done)));
     assert!(rt; matches!(state_of(&net, "right"), Some(State::Faulted(9))));
