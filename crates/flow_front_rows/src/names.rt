@@ -33,7 +33,7 @@ fn filled(rt: &impl Abort, alloc: Global) -> Inputs<Steps> {
 }
 
 /// The network of these inputs, where nothing can move any more.
-fn settled(rt: &impl Abort, alloc: Global, inputs: Inputs<Steps>) -> Net<Steps> {
+pub(crate) fn settled(rt: &impl Abort, alloc: Global, inputs: Inputs<Steps>) -> Net<Steps> {
     let Ok(mut net) = inputs.start(alloc) else {
         panic!(rt; "no memory");
     };
@@ -49,7 +49,8 @@ fn has_posted(rt: &impl Abort, net: &Net<Steps>, name: &str, numbers: &[i64]) {
     are_numbers(rt, net.posted(block), numbers);
 }
 
-fn are_numbers(rt: &impl Abort, values: &[Value], numbers: &[i64]) {
+/// Asserts that these are the numbers.
+pub(crate) fn are_numbers(rt: &impl Abort, values: &[Value], numbers: &[i64]) {
     assert_eq!(rt; values.len(), numbers.len());
     for (value, number) in values.iter().zip(numbers) {
         assert_eq!(rt; value.as_int(), Some(*number));
