@@ -75,7 +75,7 @@ impl Block {
         }
         let weight = unit_weight(&self.ports[0]);
         self.exits.put(values, weight)?;
-        let _value = self.ports[0].take_next();
+        self.ports[0].drop_next();
         self.jobs.work_off();
         Ok(())
     }
@@ -107,7 +107,7 @@ impl Block {
         ensures { self.new ≡ with_port 0 (λ port. gives_room 1 (takes_next port)) self.old }
     {
         let port = &mut self.ports[0];
-        let _value = port.take_next();
+        port.drop_next();
         port.give_room(1);
     }
 

@@ -60,7 +60,7 @@ pub(crate) fn hand_first(
     let value = port.swap_first(Value::Int(0));
     match exits.put_one(value, weight) {
         Ok(()) => {
-            let _zero = port.take_next();
+            port.drop_next();
             Ok(())
         }
         Err((value, fault)) => {
@@ -134,7 +134,7 @@ fn drop_group(port: &mut Intake, size: u32)
     ensures { port.new ≡ takes_group size port.old }
 {
     for _taken in 0..group_count(port, size) {
-        let _value = port.take_next();
+        port.drop_next();
     }
 }
 

@@ -176,7 +176,7 @@ impl Block {
         }
         let weight = unit_weight(&self.ports[0]);
         self.exits.put_aside(values, weight);
-        let _value = self.ports[0].take_next();
+        self.ports[0].drop_next();
         true
     }
 
@@ -210,7 +210,7 @@ fn record_all(recorded: &mut Vec<Value>, jobs: &mut Jobs, port: &mut Intake)
 {
     while let Some(values) = jobs.pop_out() {
         append(recorded, values);
-        let _value = port.take_next();
+        port.drop_next();
         port.give_room(1);
     }
 }

@@ -96,7 +96,7 @@ fn take_first(port: &mut Intake, count: usize)
     ensures { port.new ≡ takes_first count port.old }
 {
     for _taken in 0..count.min(port.waiting().len()) {
-        let _value = port.take_next();
+        port.drop_next();
     }
 }
 

@@ -70,7 +70,7 @@ pub fn take_tuple(ports: &mut [Intake])
     ensures { ports.new ≡ takes_tuple ports.old }
 {
     for place in 0..ports.len() {
-        let _value = ports[place].take_next();
+        ports[place].drop_next();
     }
 }
 

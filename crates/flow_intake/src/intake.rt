@@ -489,6 +489,13 @@ impl Intake {
         self.waiting.pop_front()
     }
 
+    /// Drops the message that waits longest.
+    pub fn drop_next(&mut self)
+        ensures { self.new ≡ takes_next self.old }
+    {
+        let _value = self.waiting.pop_front();
+    }
+
     /// Exchanges the message that waits longest for this value.
     pub fn swap_first(&mut self, value: Value) -> Value
         requires { 0 < length self.old.waiting }

@@ -2,6 +2,7 @@ pub mod Content
 pub mod Fault
 pub mod Function
 pub mod Grammar
+pub mod Head
 pub mod Items
 pub mod Meaning
 pub mod NeverMemory

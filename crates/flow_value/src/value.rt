@@ -5,10 +5,10 @@ ghost use Rattle.std.specs.Prelude.{◌≡◌, ◌<◌, ◌^◌, ◌↔◌, [], 
 ghost use Rattle.std.specs.Option.{option_copied};
 ghost use Rattle.std.specs.Cmp.{decided, partial_equiv_from_equiv};
 ghost use Rattle.std.proofs.lemmas.Slice.Eq.{bytes_eq-Decides};
-ghost use Rattle.flow_value.specs.Content.{bytes_of};
-ghost use Rattle.flow_value.specs.Plain.{is_plain_byte, all_plain};
+ghost use Rattle.flow_value.specs.Plain.{all_plain};
 
-use arrayvec::ArrayString;
+use crate::plain::are_plain;
+use crate::short::Short;
 use std::alloc::{AllocError, Global};
 use std::marker::Model;
 use std::sync::Arc;
@@ -27,21 +27,20 @@ pub enum Value {
 
 /// A text. Contracts see its UTF-8 bytes.
 ///
-/// A text never changes, so its copies share the content with it, on any thread: a copy takes no memory but where their
-/// number can be counted no further.
+/// A short text stands in the value itself. A longer one never changes, so its copies share the content with it, on any
+/// thread: a copy takes no memory but where their number can be counted no further.
 #[derive(Debug, Drop)]
 pub struct Text {
-    content: Arc<Content, Global>,
+    bytes: Bytes,
 }
 
 impl Model for Text {
     ghost use Rattle.std.specs.Prelude.{List, ℕ};
-    ghost use Rattle.std.specs.Arc.{arc_value};
     ghost use Rattle.flow_value.specs.Content.{bytes_of};
 
     ghost Value = { List ℕ };
 
-    ghost view = { λ t. bytes_of (arc_value t.content).bytes };
+    ghost view = { λ t. bytes_of t.bytes };
 }
 
 /// Values in a row. Contracts see the list of them, as `Items`.
@@ -73,62 +72,19 @@ impl Model for Row {
     ghost size_decreases = { λ a h. Prim.omega (arith, most_le-value_count (arc_value a.items).items) };
 }
 
-/// The most bytes of a short text.
-const SHORT: usize = 24;
-
-/// The bytes of a text: short ones stand beside the count of those that share them, long ones in memory of their own.
+/// The bytes of a text: few of them stand here, more of them in memory that its copies share.
 #[derive(Debug, Drop)]
 enum Bytes {
-    Short(ArrayString<SHORT>),
-    Long(String),
+    Short(Short),
+    Long(Arc<Content, Global>),
 }
 
-/// The content of a text. Whether it is plain is found out once, since a text is printed many times.
+/// The content of a longer text. Whether it is plain is found out once, since a text is printed many times.
 #[derive(Debug, Drop)]
 struct Content {
-    bytes: Bytes,
+    bytes: String,
     is_plain: bool,
-    ghost told: { is_plain ≡ all_plain (bytes_of bytes) },
-}
-
-impl Bytes {
-    fn from_str(alloc: Global, content: &str) -> Result<Bytes, AllocError>
-        ensures { IfOk result (λ bytes. bytes_of bytes ≡ content.now) }
-    {
-        match ArrayString::from(content) {
-            Ok(short) => Ok(Bytes::Short(short)),
-            Err(_) => Ok(Bytes::Long(String::from_str(alloc, content)?)),
-        }
-    }
-
-    fn as_str(&self) -> &str
-        ensures { result.now ≡ bytes_of self.now }
-    {
-        match self {
-            Bytes::Short(short) => short.as_str(),
-            Bytes::Long(long) => long.as_str(),
-        }
-    }
-}
-
-/// Whether each of these bytes is plain: no control byte, no double quote and no backslash.
-fn are_plain(bytes: &[u8]) -> bool
-    ensures { result ≡ all_plain bytes.now }
-{
-    let mut plain = true;
-    for byte in bytes {
-        plain &= is_plain_byte(*byte);
-    }
-    plain
-}
-
-/// Whether the byte is plain: no control byte, no double quote and no backslash.
-// It has no branches.
-#[inline]
-pub fn is_plain_byte(byte: u8) -> bool
-    ensures { result ≡ is_plain_byte byte }
-{
-    (byte >= 32) & (byte != b'"') & (byte != b'\\') & (byte != 127)
+    ghost told: { is_plain ≡ all_plain (string_bytes bytes) },
 }
 
 impl Text {
@@ -136,12 +92,24 @@ impl Text {
     pub fn from_str(alloc: Global, content: &str) -> Result<Text, AllocError>
         ensures { IfOk result (λ text. text ≡ content.now) }
     {
+        if content.len() > Short::MOST {
+            return Text::long(alloc, content);
+        }
+        Ok(Text {
+            bytes: Bytes::Short(Short::from_str(content)),
+        })
+    }
+
+    // A text whose content its copies share.
+    fn long(alloc: Global, content: &str) -> Result<Text, AllocError>
+        ensures { IfOk result (λ text. text ≡ content.now) }
+    {
         let content = Content {
-            bytes: Bytes::from_str(alloc, content)?,
+            bytes: String::from_str(alloc, content)?,
             is_plain: are_plain(content.as_bytes()),
         };
         Ok(Text {
-            content: Arc::new(alloc, content)?,
+            bytes: Bytes::Long(Arc::new(alloc, content)?),
         })
     }
 
@@ -159,7 +127,10 @@ impl Text {
     pub fn as_str(&self) -> &str
         ensures { result.now ≡ self.now }
     {
-        self.content.bytes.as_str()
+        match &self.bytes {
+            Bytes::Short(short) => short.as_str(),
+            Bytes::Long(content) => content.bytes.as_str(),
+        }
     }
 
     /// How many bytes its UTF-8 form has.
@@ -181,7 +152,10 @@ impl Text {
     pub fn is_plain(&self) -> bool
         ensures { result ≡ all_plain self.now }
     {
-        self.content.is_plain
+        match &self.bytes {
+            Bytes::Short(short) => short.is_plain(),
+            Bytes::Long(content) => content.is_plain,
+        }
     }
 
     /// A copy of the content in memory of its own; where there is no memory for it, the text comes back.
@@ -194,14 +168,21 @@ impl Text {
         }
     }
 
-    /// A second text with the same content, which it shares. It takes memory only where as many texts share the content
-    /// as can be counted: then it has a content of its own.
+    /// A second text with the same content. A longer one is shared, and takes memory only where as many texts share the
+    /// content as can be counted: then the copy has a content of its own.
     pub fn copy(&self, alloc: Global) -> Result<Text, AllocError>
         ensures { IfOk result (λ text. text ≡ self.now) }
     {
-        match Arc::try_clone(&self.content) {
-            Ok(content) => Ok(Text { content }),
-            Err(_) => self.copy_content(alloc),
+        match &self.bytes {
+            Bytes::Short(short) => Ok(Text {
+                bytes: Bytes::Short(*short),
+            }),
+            Bytes::Long(content) => match Arc::try_clone(content) {
+                Ok(content) => Ok(Text {
+                    bytes: Bytes::Long(content),
+                }),
+                Err(_) => self.copy_content(alloc),
+            },
         }
     }
 

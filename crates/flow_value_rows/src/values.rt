@@ -239,10 +239,10 @@ fn gives_items(rt: &impl Abort, alloc: Global, row: Row) {
     assert!(rt; items[1].as_items().is_none());
 }
 
-/// Runs keep many values, so a row keeps its items behind one pointer.
+/// Runs keep many values, so a row keeps its items behind one pointer, and only a short text stands in the value.
 #[test]
-fn a_value_takes_sixteen_bytes(rt: HostRuntime) {
-    assert!(rt; size_of::<Value>() == 16);
+fn a_value_takes_24_bytes(rt: HostRuntime) {
+    assert!(rt; size_of::<Value>() == 24);
 }
 
 #[test]

@@ -7,6 +7,6 @@ use Rattle.flow_block.proofs.ports.drop_group.Goals as goal
 pub loop-taken-preserved : goal.loop-taken-preserved
 loop-taken-preserved c =
     let port = c.args.port.now in
-    c.take_next-value.ensures.taken
+    c.drop_next.ensures
     ∙ ap takes_next c.loop-taken.invariant
     ∙ ap (λ (waiting : List Value). record port { waiting = waiting }) (drop_next c.loop-taken._taken port.waiting)

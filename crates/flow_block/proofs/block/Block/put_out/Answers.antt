@@ -7,5 +7,5 @@ pub invariant_of-self-2 : goal.invariant_of-self-2
 invariant_of-self-2 c =
     let alone = subst (λ (block : BlockState). length block.ports ≡ 1) (sym c.self-2.view_is) c.requires.alone in
     let waits = subst (λ (block : BlockState). 0 < length (held_by block)) (sym c.self-2.view_is) c.requires.waits in
-    rw (c.take_next-value.ensures.taken, c.in_ok-put.ensures.done, c.unit_weight-weight.ensures.weight)
+    rw (c.drop_next.ensures, c.in_ok-put.ensures.done, c.unit_weight-weight.ensures.weight)
     (fits_put_out c.self-2.invariant c.index.result.now c.index_mut.result.now c.index.ensures c.index_mut.ensures.value alone waits c.unit_weight-weight.ensures.small c.args.values.items)

@@ -1,7 +1,7 @@
 use Rattle.std.proofs.Common.{◌&&◌, take, ap, sym, ◌∙◌}
 use Rattle.flow_value.specs.Plain.{all_plain}
 use Rattle.flow_value.proofs.PlainGrows.{plain-more}
-use Rattle.flow_value.proofs.value.are_plain.Goals as goal
+use Rattle.flow_value.proofs.plain.are_plain.Goals as goal
 
 pub loop-byte-preserved : goal.loop-byte-preserved
 loop-byte-preserved c =
