@@ -2,7 +2,7 @@
 //!
 //! Room for the mark of a message is set aside with the room for the message, so that the calls that move it take no
 //! memory.
-ghost use Rattle.std.specs.Prelude.{◌≡◌, ◌<◌, ◌≤◌, ◌+◌, ◌^◌, [], true, length, is_some, Some, None, Err, OnOk, OnErr};
+ghost use Rattle.std.specs.Prelude.{◌≡◌, ◌<◌, ◌≤◌, ◌+◌, ◌^◌, [], ◌∷◌, true, length, is_some, Some, None, Err, OnOk, OnErr};
 ghost use Rattle.std.specs.Prelude.{ℕ, List, Result, ◌↔◌, false, IfErr, vec_len, vec_capacity};
 ghost use Rattle.flow_value.specs.declared.value.Value.{Value};
 ghost use Rattle.flow_link.specs.LinkOk.{HasRoom};
@@ -418,6 +418,37 @@ impl Node {
         ensures back { IfErr result (λ back. back.items ≡ values.items) }
     {
         self.block.record(values)?;
+        Ok(())
+    }
+
+    /// Has this result of the message that waits longest to give, as [`Node::put_out`] has a list of it, without a list.
+    pub fn put_out_one(&mut self, value: Value) -> Result<(), (Value, OutletFault)>
+        requires alone { length self.old.block.ports ≡ 1 }
+        requires waits { 0 < length (held_by self.old.block) }
+        requires alone_at_work { self.old.block.jobs.slots ≡ [] }
+        requires ticket { has_ticket self.old.block.jobs ≡ true }
+        ensures done { OnOk result
+            (self.new ≡ with_block (with_jobs works_off (puts_out (value ∷ []) self.old.block)) self.old) }
+        ensures kept { OnErr result (self.new ≡ self.old) }
+        ensures back { IfErr result (λ refused. refused.0 ≡ value) }
+        ensures ids { (result ≡ Err (value, Ids)) ↔ (lacks_ids (value ∷ []) self.old.block.exits ≡ true) }
+    {
+        self.block.put_out_one(value)?;
+        Ok(())
+    }
+
+    /// Keeps this result of the message that waits longest, as [`Node::record`] does a list of it, without a list.
+    pub fn record_one(&mut self, value: Value) -> Result<(), Value>
+        requires alone { length self.old.block.ports ≡ 1 }
+        requires waits { 0 < length (held_by self.old.block) }
+        requires alone_at_work { self.old.block.jobs.slots ≡ [] }
+        requires ticket { has_ticket self.old.block.jobs ≡ true }
+        ensures done { OnOk result
+            (self.new ≡ with_block (with_jobs works_off (records (value ∷ []) self.old.block)) self.old) }
+        ensures kept { OnErr result (self.new ≡ self.old) }
+        ensures back { IfErr result (λ back. back ≡ value) }
+    {
+        self.block.record_one(value)?;
         Ok(())
     }
 

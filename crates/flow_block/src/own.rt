@@ -80,6 +80,24 @@ impl Block {
         Ok(())
     }
 
+    /// Has this result of the message to give, as [`Block::put_out`] has a list of it, without a list.
+    pub fn put_out_one(&mut self, value: Value) -> Result<(), (Value, OutletFault)>
+        requires alone { length self.old.ports ≡ 1 }
+        requires waits { 0 < length (held_by self.old) }
+        requires alone_at_work { self.old.jobs.slots ≡ [] }
+        requires ticket { has_ticket self.old.jobs ≡ true }
+        ensures done { OnOk result (self.new ≡ with_jobs works_off (puts_out (value ∷ []) self.old)) }
+        ensures kept { OnErr result (self.new ≡ self.old) }
+        ensures back { IfErr result (λ refused. refused.0 ≡ value) }
+        ensures ids { (result ≡ Err (value, Ids)) ↔ (lacks_ids (value ∷ []) self.old.exits ≡ true) }
+    {
+        let weight = unit_weight(&self.ports[0]);
+        self.exits.put_one(value, weight)?;
+        let _message = self.ports[0].take_next();
+        self.jobs.work_off();
+        Ok(())
+    }
+
     /// Keeps these results of the message, whose room comes back at once. Where there is no memory for them, nothing
     /// has changed, and they come back.
     pub fn record(&mut self, values: Vec<Value>) -> Result<(), Vec<Value>>
@@ -95,6 +113,25 @@ impl Block {
         if self.recorded.append(&mut values).is_err() {
             return Err(values);
         }
+        self.drop_first();
+        self.jobs.work_off();
+        Ok(())
+    }
+
+    /// Keeps this result of the message, as [`Block::record`] does a list of it, without a list.
+    pub fn record_one(&mut self, value: Value) -> Result<(), Value>
+        requires alone { length self.old.ports ≡ 1 }
+        requires waits { 0 < length (held_by self.old) }
+        requires alone_at_work { self.old.jobs.slots ≡ [] }
+        requires ticket { has_ticket self.old.jobs ≡ true }
+        ensures done { OnOk result (self.new ≡ with_jobs works_off (records (value ∷ []) self.old)) }
+        ensures kept { OnErr result (self.new ≡ self.old) }
+        ensures back { IfErr result (λ back. back ≡ value) }
+    {
+        if self.recorded.reserve(1).is_err() {
+            return Err(value);
+        }
+        self.recorded.push_reserved(value);
         self.drop_first();
         self.jobs.work_off();
         Ok(())

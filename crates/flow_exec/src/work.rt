@@ -1,6 +1,6 @@
 //! What a work makes of a message.
-ghost use Rattle.std.specs.Prelude.{◌≡◌, IfOk, option_map};
-ghost use Rattle.flow_exec.specs.Works.{results_by};
+ghost use Rattle.std.specs.Prelude.{◌≡◌, [], ◌∷◌, Ok, IfOk, IfSome, option_map};
+ghost use Rattle.flow_exec.specs.Works.{results_by, worked_by};
 
 use flow_block::Answer;
 use flow_link::BlockKind;
@@ -29,5 +29,23 @@ pub fn answer_of<W: Runs>(
             Some(number) => Ok(Answer::fault(number)),
             None => Err(AllocError),
         },
+    }
+}
+
+/// The one value that a block makes of a message by its work, where that is found without a list. Where this finds none,
+/// [`answer_of`] tells what the block makes of it, be it one value, many or a fault.
+pub fn value_of<W: Runs>(alloc: Global, work: Option<&W>, message: &Value) -> Option<Value>
+    ensures { IfSome result (λ value. worked_by W.meaning (option_map (λ work. work.now) work.entry) message.now ≡
+        Ok (value ∷ [])) }
+{
+    let Some(work) = work else {
+        return match message.copy(alloc) {
+            Ok(value) => Some(value),
+            Err(_) => None,
+        };
+    };
+    match work.run_one_here(alloc, message) {
+        Ok(found) => found,
+        Err(_) => None,
     }
 }

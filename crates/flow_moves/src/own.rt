@@ -1,6 +1,6 @@
 //! What a block does by itself.
 ghost use Rattle.std.specs.Prelude.{◌≡◌, ◌≢◌, ℕ, ◌<◌, true, false, [], List, length, Result, Ok, Err, option_map};
-ghost use Rattle.std.specs.Prelude.{◌≤◌, ◌↔◌, None, OnOk, OnErr, IfErr};
+ghost use Rattle.std.specs.Prelude.{◌≤◌, ◌↔◌, ◌∷◌, None, OnOk, OnErr, IfErr};
 ghost use Rattle.flow_value.specs.declared.value.Value.{Value};
 ghost use Rattle.flow_link.specs.declared.draft.BlockKind.TheVariants.{Buffer};
 ghost use Rattle.flow_link.specs.Plan.{has_work, is_write_once};
@@ -18,7 +18,7 @@ ghost use Rattle.flow_moves.specs.AtOnce.{put_at_once, works_at_once, works_out}
 
 use crate::parts::Parts;
 use flow_block::{Answer, Node};
-use flow_exec::answer_of;
+use flow_exec::{answer_of, value_of};
 use flow_link::BlockKind;
 use flow_outlet::OutletFault;
 use flow_value::{Runs, Value};
@@ -198,6 +198,38 @@ fn work_at_once<W: Runs>(
     if !node.block().has_ticket() {
         return Err(OutletFault::Memory);
     }
+    let found = match node.block().waiting(0).front() {
+        Some(message) => value_of(alloc, work, message),
+        None => return Err(OutletFault::Memory),
+    };
+    match found {
+        Some(value) => yield_one(node, value),
+        None => work_by_list(node, alloc, work),
+    }
+}
+
+/// A block works at once on the message that waits longest, and has its results in a list. Where message ids are used up
+/// or memory is out, nothing has changed.
+#[tactic(auto, using(crate::proofs::WorksAtOnce::worked_is, crate::proofs::WorksAtOnce::put_is))]
+fn work_by_list<W: Runs>(
+    node: &mut Node,
+    alloc: Global,
+    work: Option<&W>,
+) -> Result<(), OutletFault>
+    requires alone { length node.old.block.ports ≡ 1 }
+    requires waits { may_begin node.old.block ≡ true }
+    requires idle { node.old.block.jobs.slots ≡ [] }
+    requires ticket { has_ticket node.old.block.jobs ≡ true }
+    ensures done { OnOk result (node.new ≡ works_at_once
+        (results_by (option_map (λ work. work.now) work.entry) node.old.block.kind W.meaning) node.old) }
+    ensures ids { OnOk result (lacks_ids (put_at_once
+        (results_by (option_map (λ work. work.now) work.entry) node.old.block.kind W.meaning) node.old)
+        node.old.block.exits ≡ false) }
+    ensures kept { OnErr result (node.new ≡ node.old) }
+    ensures used_up { result ≡ Err Ids → lacks_ids (put_at_once
+        (results_by (option_map (λ work. work.now) work.entry) node.old.block.kind W.meaning) node.old)
+        node.old.block.exits ≡ true }
+{
     let kind = node.block().kind();
     let answer = match node.block().waiting(0).front() {
         Some(message) => answer_of(alloc, kind, work, message),
@@ -267,6 +299,33 @@ fn yield_results(node: &mut Node, values: Vec<Value>) -> Result<(), OutletFault>
         };
     }
     match node.put_out(values) {
+        Ok(()) => Ok(()),
+        Err((_, fault)) => Err(fault),
+    }
+}
+
+/// A block has this one result of the message that waits longest: an action keeps it, and any other block has it to
+/// give. Where message ids are used up or memory is out, nothing has changed.
+fn yield_one(node: &mut Node, value: Value) -> Result<(), OutletFault>
+    requires alone { length node.old.block.ports ≡ 1 }
+    requires waits { 0 < length (held_by node.old.block) }
+    requires idle { node.old.block.jobs.slots ≡ [] }
+    requires ticket { has_ticket node.old.block.jobs ≡ true }
+    requires works { node.old.block.kind ≢ Buffer }
+    ensures done { OnOk result (node.new ≡ with_block (works_out (Ok (value ∷ [])) node.old.block) node.old) }
+    ensures ids { OnOk result (lacks_ids (put_by_kind node.old.block.kind (value ∷ []))
+        node.old.block.exits ≡ false) }
+    ensures kept { OnErr result (node.new ≡ node.old) }
+    ensures used_up { result ≡ Err Ids → lacks_ids (put_by_kind node.old.block.kind (value ∷ []))
+        node.old.block.exits ≡ true }
+{
+    if node.block().kind() == BlockKind::Action {
+        return match node.record_one(value) {
+            Ok(()) => Ok(()),
+            Err(_) => Err(OutletFault::Memory),
+        };
+    }
+    match node.put_out_one(value) {
         Ok(()) => Ok(()),
         Err((_, fault)) => Err(fault),
     }

@@ -1,9 +1,11 @@
 -- How the results of a function at many values grow by one more value.
-use Rattle.std.proofs.Common.{◌≡◌, List, [], ◌∷◌, ◌++◌, Ok, Err, refl, sym, ap, ◌∙◌, append_assoc}
-use Rattle.std.proofs.lemmas.List.{append-nil}
+use Rattle.std.proofs.Common.{◌≡◌, ℕ, ◌+◌, ◌<◌, ◌≤◌, drop, length, slice_index_or, List, [], ◌∷◌, ◌++◌, Ok, Err, refl, sym, ap, ◌∙◌, append_assoc}
+use Rattle.std.proofs.lemmas.List.{append-nil, drop_more}
+use Rattle.std.proofs.Math.ListN.{drop_of_length-le}
 use Rattle.flow_value.specs.Function.{joined, each, then_each, meaning_of}
 use Rattle.flow_value.specs.Step.{Given, applied}
 use Rattle.flow_value.specs.declared.step.Step.{Step}
+use Rattle.flow_value.specs.declared.step.Step.TheVariants.{Id}
 use Rattle.flow_value.specs.declared.value.Value.{Value}
 use Rattle.flow_value.specs.declared.work.WorkFault.{WorkFault}
 
@@ -56,3 +58,22 @@ pub meaning_of-many : (steps rest : List Step) (step : Step) (v : Value) (vs : L
     → steps ≡ step ∷ rest → applied step v ≡ Ok vs → meaning_of steps v ≡ each (meaning_of rest) vs
 meaning_of-many steps rest step v vs parts gives =
     ap (λ all. meaning_of all v) parts ∙ ap (λ given. then_each given (meaning_of rest)) gives
+
+module _ (steps : List Step) (k : ℕ) (v : Value) where
+  -- where a step gives one value, the steps behind it are handed that
+  pub one_more_step : (next : Value) → k < length steps → applied (slice_index_or steps k Id) v ≡ Ok (next ∷ [])
+      → meaning_of (drop k steps) v ≡ meaning_of (drop (k + 1) steps) next
+  one_more_step next there gives =
+      meaning_of-many (drop k steps) (drop (k + 1) steps) (slice_index_or steps k Id) v (next ∷ []) (drop_more steps k Id there) gives
+      ∙ each-one (meaning_of (drop (k + 1) steps)) next
+
+  -- a step that faults ends it
+  pub fault_at_step : (fault : WorkFault) → k < length steps → applied (slice_index_or steps k Id) v ≡ Err fault
+      → meaning_of (drop k steps) v ≡ Err fault
+  fault_at_step fault there faults =
+      ap (λ (all : List Step). meaning_of all v) (drop_more steps k Id there)
+      ∙ ap (λ (given : Given). then_each given (meaning_of (drop (k + 1) steps))) faults
+
+  -- behind the last step the value is what comes out
+  pub all_applied : length steps ≤ k → meaning_of (drop k steps) v ≡ Ok (v ∷ [])
+  all_applied none = ap (λ (all : List Step). meaning_of all v) (drop_of_length-le steps none)

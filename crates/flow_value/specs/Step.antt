@@ -1,5 +1,5 @@
 -- What each named step makes of a value: the values that it gives, or its fault.
-use Rattle.std.specs.Prelude.{ℕ, nat_le, List, [], ◌∷◌, length, map, fold, replicate, slice_get, if◌then◌else◌, Option, Some, None, Result, Ok, Err, ℤ, pos, negsuc, ◌+ℤ◌, ◌*ℤ◌}
+use Rattle.std.specs.Prelude.{ℕ, nat_le, Bool, true, false, List, [], ◌∷◌, length, map, fold, replicate, slice_get, if◌then◌else◌, Option, Some, None, Result, Ok, Err, ℤ, pos, negsuc, ◌+ℤ◌, ◌*ℤ◌}
 use Rattle.std.specs.Fmt.{signed_decimal}
 use Rattle.std.specs.List.{range_with_len}
 use Rattle.std.specs.Option.{option_map}
@@ -77,3 +77,18 @@ applied Spread _ = Err NotRow
 applied Upto (Int n) = counted_to n
 applied Upto _ = Err NotInt
 applied (Repeat n) v = Ok (replicate n v)
+
+-- a step that gives a list of values, and not one value
+abbrev pub gives_list : Step → Bool
+gives_list Id = false
+gives_list ToInt = false
+gives_list ToText = false
+gives_list (Add _) = false
+gives_list (Mul _) = false
+gives_list (Field _) = false
+gives_list Len = false
+gives_list Sum = false
+gives_list (Reject _) = false
+gives_list Spread = true
+gives_list Upto = true
+gives_list (Repeat _) = true

@@ -1,7 +1,7 @@
 //! One step of a named function, and what it makes of a value.
 ghost use Rattle.std.specs.Prelude.{◌≡◌, IfOk};
 ghost use Rattle.std.specs.Fmt.{signed_decimal};
-ghost use Rattle.flow_value.specs.Step.{applied, summed, ints_below, numbers_of, one_int};
+ghost use Rattle.flow_value.specs.Step.{applied, gives_list, summed, ints_below, numbers_of, one_int};
 ghost use Rattle.flow_value.specs.Meaning.{RunsAs};
 ghost use Rattle.flow_value.specs.StepRuns.{AppliesAs, GivesOne, int_in, row_in};
 ghost use Rattle.flow_value.specs.declared.step.Step.TheVariants.{ToInt, ToText, Add, Mul, Field, Len, Sum, Reject};
@@ -51,6 +51,24 @@ pub(crate) enum Applied {
 }
 
 impl Step {
+    /// Whether it gives a list of values, and not one value.
+    pub(crate) fn gives_list(&self) -> bool
+        ensures { result ≡ gives_list self.now }
+    {
+        match self {
+            Step::Spread | Step::Upto | Step::Repeat(_) => true,
+            Step::Id
+            | Step::ToInt
+            | Step::ToText
+            | Step::Add(_)
+            | Step::Mul(_)
+            | Step::Field(_)
+            | Step::Len
+            | Step::Sum
+            | Step::Reject(_) => false,
+        }
+    }
+
     /// Applies the step.
     pub(crate) fn apply(self, alloc: Global, value: Value) -> Result<Applied, WorkFault>
         ensures { AppliesAs (applied self value) result }

@@ -1,6 +1,7 @@
 //! Functions that a network names: lists of steps.
 ghost use Rattle.std.specs.Prelude.{◌≡◌, ◌≢◌, map, MatchResult, Ok, Err};
 ghost use Rattle.flow_value.specs.Function.{joined, meaning_of};
+ghost use Rattle.flow_value.specs.Meaning.{RunsOneAs};
 ghost use Rattle.flow_value.specs.declared.work.WorkFault.TheVariants.{Memory};
 
 use crate::step::{Applied, Step};
@@ -126,6 +127,13 @@ impl Work for Steps {
         Ok(results)
     }
 
+    fn run_one(&self, alloc: Global, value: &Value) -> Result<Option<Value>, WorkFault> {
+        if self.as_slice().iter().any(|step| step.gives_list()) {
+            return Ok(None);
+        }
+        run_in_turn(alloc, self.as_slice(), value.copy(alloc)?)
+    }
+
     fn copy(&self, alloc: Global) -> Result<Steps, AllocError> {
         Ok(Steps {
             steps: Vec::from_slice(alloc, self.as_slice())?,
@@ -157,4 +165,18 @@ fn run_onto(
             Ok(())
         }
     }
+}
+
+/// What the steps make of the value, one after another, as long as each gives one value.
+fn run_in_turn(alloc: Global, steps: &[Step], value: Value) -> Result<Option<Value>, WorkFault>
+    ensures { RunsOneAs (meaning_of steps.now value) result }
+{
+    let mut made = value;
+    for step in steps {
+        match step.apply(alloc, made)? {
+            Applied::One(next) => made = next,
+            Applied::Many(_) => return Ok(None),
+        }
+    }
+    Ok(Some(made))
 }

@@ -76,7 +76,7 @@ pub trait Work: Eq + Send + Sync + Drop {
     ghost use Rattle.flow_value.specs.declared.value.Value.{Value};
     ghost use Rattle.flow_value.specs.declared.work.WorkFault.{WorkFault};
     ghost use Rattle.flow_value.specs.declared.work.WorkFault.TheVariants.{Memory};
-    ghost use Rattle.flow_value.specs.Meaning.{RunsAs};
+    ghost use Rattle.flow_value.specs.Meaning.{RunsAs, RunsOneAs};
 
     /// The values that it gives for a value, or its fault. It holds whatever memory there is, so its fault is never
     /// out of memory.
@@ -85,6 +85,17 @@ pub trait Work: Eq + Send + Sync + Drop {
     /// Applies it to a value. Unless memory is out, the answer is its meaning.
     fn run(&self, alloc: Global, value: &Value) -> Result<Vec<Value>, WorkFault>
         ensures { RunsAs (meaning self.now value.now) result };
+
+    /// The value that it gives for a value, where it gives one and finds that one without a list. No value says nothing
+    /// of the meaning, and so does out of memory: what `run` answers stands.
+    ///
+    /// A work of one's own may leave it out. A block asks it first, so that a work which mostly gives one value spares
+    /// the memory of a list.
+    fn run_one(&self, alloc: Global, value: &Value) -> Result<Option<Value>, WorkFault>
+        ensures { RunsOneAs (meaning self.now value.now) result }
+    {
+        Ok(None)
+    }
 
     /// A second work that is equal to this one.
     fn copy(&self, alloc: Global) -> Result<Self, AllocError>
@@ -105,7 +116,7 @@ pub trait Runs: Eq + Drop {
     ghost use Rattle.flow_value.specs.declared.value.Value.{Value};
     ghost use Rattle.flow_value.specs.declared.work.WorkFault.{WorkFault};
     ghost use Rattle.flow_value.specs.declared.work.WorkFault.TheVariants.{Memory};
-    ghost use Rattle.flow_value.specs.Meaning.{RunsAs};
+    ghost use Rattle.flow_value.specs.Meaning.{RunsAs, RunsOneAs};
 
     /// The values that it gives for a value, or its fault. It holds whatever memory there is, so its fault is never
     /// out of memory.
@@ -114,6 +125,14 @@ pub trait Runs: Eq + Drop {
     /// Applies it to a value on this thread. Unless memory is out, the answer is its meaning.
     fn run_here(&self, alloc: Global, value: &Value) -> Result<Vec<Value>, WorkFault>
         ensures { RunsAs (meaning self.now value.now) result };
+
+    /// The value that it gives for a value, where it gives one and finds that one on this thread without a list. No value
+    /// says nothing of the meaning, and so does out of memory.
+    fn run_one_here(&self, alloc: Global, value: &Value) -> Result<Option<Value>, WorkFault>
+        ensures { RunsOneAs (meaning self.now value.now) result }
+    {
+        Ok(None)
+    }
 
     /// A second one that is equal to this one, for this thread.
     fn copy_here(&self, alloc: Global) -> Result<Self, AllocError>
@@ -134,6 +153,10 @@ impl<W: Work> Runs for W {
 
     fn run_here(&self, alloc: Global, value: &Value) -> Result<Vec<Value>, WorkFault> {
         self.run(alloc, value)
+    }
+
+    fn run_one_here(&self, alloc: Global, value: &Value) -> Result<Option<Value>, WorkFault> {
+        self.run_one(alloc, value)
     }
 
     fn copy_here(&self, alloc: Global) -> Result<W, AllocError> {
