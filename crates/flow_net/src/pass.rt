@@ -24,7 +24,8 @@ const PASS: u64 = 5;
 /// The events of a message that is worked on at once: the job begins, and its result comes back.
 const WORK: u64 = 2;
 
-/// The most messages of a run.
+/// The most messages of a run over a link. A run through a block ends after as many events as it takes to work on so many
+/// messages.
 const RUN: u64 = 64;
 
 impl<W: Runs> Engine<W> {
