@@ -8,7 +8,7 @@ use crate::sender::Sender;
 use flow_link::{LinkEnd, LinkState, Phase};
 use flow_wire::{SourceEnd, TargetEnd, Wire};
 use std::alloc::Global;
-use std::thread::{Threads, join, yield_now};
+use std::thread::{Threads, join_mut, yield_now};
 
 /// How many numbers go over a link.
 const COUNT: u64 = 1_000;
@@ -23,35 +23,33 @@ const TURNS_IN_ONE_GO: u64 = 1_000;
 const TURNS: u64 = 2_000_000_000;
 
 // the sender's turns, until it is done or has had them all
-fn send(alloc: Global, wire: &Wire, mut sender: Sender) -> Sender
-    requires { sender.end.table ≡ wire.now }
-    ensures { result.end.table ≡ sender.end.table }
+fn send(alloc: Global, wire: &Wire, sender: &mut Sender)
+    requires { sender.old.end.table ≡ wire.now }
+    ensures { sender.new.end.table ≡ sender.old.end.table }
 {
     for turn in 0..TURNS {
         if sender.is_done() || sender.turn(alloc, wire).is_err() {
-            return sender;
+            return;
         }
         if turn % TURNS_IN_ONE_GO == 0 {
             yield_now();
         }
     }
-    sender
 }
 
-fn receive(wire: &Wire, mut receiver: Receiver) -> Receiver
-    requires { receiver.end.table ≡ wire.now }
-    ensures { result.end.table ≡ receiver.end.table }
+fn receive(wire: &Wire, receiver: &mut Receiver)
+    requires { receiver.old.end.table ≡ wire.now }
+    ensures { receiver.new.end.table ≡ receiver.old.end.table }
 {
     for turn in 0..TURNS {
         if receiver.is_done() {
-            return receiver;
+            return;
         }
         receiver.turn(wire);
         if turn % TURNS_IN_ONE_GO == 0 {
             yield_now();
         }
     }
-    receiver
 }
 
 // a link with nothing under way. The ends know what `start` says, which names the argument that nothing else reads
@@ -87,19 +85,21 @@ fn crosses(rt: &(impl Threads + Sync), alloc: Global, reserves: bool, seed: u64)
     let Ok((wire, source, target)) = new_link(alloc, reserves) else {
         return false
     };
-    let sender = Sender::new(source, COUNT, seed);
-    let receiver = Receiver::new(target, reserves, seed ^ COUNT);
+    let mut sender = Sender::new(source, COUNT, seed);
+    let mut receiver = Receiver::new(target, reserves, seed ^ COUNT);
     let shared = &wire;
-    let (sender, receiver) = join(
+    let sending = &mut sender;
+    let receiving = &mut receiver;
+    join_mut(
         rt,
-        move ||
-            requires { sender.end.table ≡ shared.now }
-            ensures { result.end.table ≡ sender.end.table }
-        { send(alloc, shared, sender) },
-        move ||
-            requires { receiver.end.table ≡ shared.now }
-            ensures { result.end.table ≡ receiver.end.table }
-        { receive(shared, receiver) },
+        &mut ||
+            requires { sending.now.end.table ≡ shared.now }
+            ensures { sending.exit.now.end.table ≡ sending.entry.now.end.table }
+        { send(alloc, shared, sending) },
+        &mut ||
+            requires { receiving.now.end.table ≡ shared.now }
+            ensures { receiving.exit.now.end.table ≡ receiving.entry.now.end.table }
+        { receive(shared, receiving) },
     );
     let all = sender.is_done() && receiver.is_done() && receiver.took_all(COUNT);
     let last = wire.close(sender.into_end(), receiver.into_end());
