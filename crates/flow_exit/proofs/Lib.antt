@@ -1,0 +1,3 @@
+pub mod ExitLooks
+pub mod ExitsInOrder
+pub mod ExitsKeep
