@@ -1,5 +1,5 @@
 -- What a layout says of one of its blocks: its ports, and its ends of the links that lead into it and out of it.
-use Rattle.std.specs.Prelude.{ℕ, Bool, cond, List, [], map, filter, length, take, count_by, unwrap_or, Option, Some, None, Result}
+use Rattle.std.specs.Prelude.{ℕ, Bool, true, false, cond, List, [], map, filter, length, take, count_by, unwrap_or, Option, Some, None, Result}
 use Rattle.flow_value.specs.declared.value.Value.{Value}
 use Rattle.flow_link.specs.declared.draft.BlockDef.{BlockDef}
 use Rattle.flow_link.specs.declared.draft.BlockKind.{BlockKind}
@@ -8,6 +8,8 @@ use Rattle.flow_link.specs.declared.kinds.BlockUnit.TheVariants.{Message, Row, T
 use Rattle.flow_link.specs.declared.plan.Link.{Link}
 use Rattle.flow_link.specs.declared.plan.LinkSource.{LinkSource}
 use Rattle.flow_link.specs.declared.plan.LinkSource.TheVariants.{Block, Input}
+use Rattle.flow_link.specs.declared.plan.LinkTarget.{LinkTarget}
+use Rattle.flow_link.specs.declared.plan.LinkTarget.TheVariants.{Port, Exit}
 use Rattle.flow_link.specs.Kinds.{unit_of}
 use Rattle.flow_link.specs.Layout.{Layout}
 use Rattle.flow_lists.specs.Lists.{below}
@@ -37,6 +39,11 @@ room_by kind capacity = room_by_unit (unit_of kind) capacity
 
 abbrev pub room_of : {W : Type 0} → BlockDef W → Option ℕ
 room_of block = room_by block.kind block.capacity
+
+-- the link leads out of the network
+abbrev pub is_exit : LinkTarget → Bool
+is_exit (Port b p) = false
+is_exit Exit = true
 
 -- the block from which a link comes: that of an input is the block that it feeds
 abbrev pub block_from : LinkSource → ℕ
@@ -79,6 +86,16 @@ module _ {W : Type 0} (layout : Layout W) where
 
   abbrev pub in_place : ℕ → ℕ → ℕ → ℕ
   in_place b p l = length (filter (is_into b p) (below l))
+
+  -- the links that lead out of the network, and the place of one among them: that of its exit among all exits
+  abbrev pub leads_out : ℕ → Bool
+  leads_out l = is_exit (link_in layout.links l).target
+
+  abbrev pub links_out : List ℕ
+  links_out = filter leads_out (below (length layout.links))
+
+  abbrev pub exit_place : ℕ → ℕ
+  exit_place l = length (filter leads_out (below l))
 
   -- the place of a block's input among all inputs
   abbrev pub input_place : ℕ → ℕ

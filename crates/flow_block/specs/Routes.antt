@@ -8,17 +8,17 @@ use Rattle.flow_link.specs.declared.plan.LinkTarget.TheVariants.{Port, Exit}
 use Rattle.flow_link.specs.Layout.{Layout}
 use Rattle.flow_link.specs.Plan.{link_in}
 use Rattle.flow_block.specs.declared.planned.Route.{Route}
-use Rattle.flow_block.specs.Planned.{out_place, in_place, input_place}
+use Rattle.flow_block.specs.Planned.{out_place, in_place, input_place, exit_place}
 
 module _ {W : Type 0} (layout : Layout W) where
-  -- the place of an input is among all inputs, since one link leaves it; the caller of an exit has one end
+  -- the place of an input is among all inputs, since one link leaves it; that of an exit among all exits
   abbrev pub source_place : LinkSource → ℕ → ℕ
   source_place (Block b) l = out_place layout b l
   source_place (Input b) l = input_place layout b
 
   abbrev pub target_place : LinkTarget → ℕ → ℕ
   target_place (Port b p) l = in_place layout b p l
-  target_place Exit l = 0
+  target_place Exit l = exit_place layout l
 
   abbrev pub route_by : ℕ → Link → Route
   route_by l link = record {

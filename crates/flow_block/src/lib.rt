@@ -47,4 +47,4 @@ pub use block::Block;
 pub use input::Input;
 pub use jobs::Answer;
 pub use node::Node;
-pub use planned::{Route, port_of, ports_of, routes_of, rules_from, sources_of};
+pub use planned::{Route, is_exit, port_of, ports_of, routes_of, rules_from, sources_of};

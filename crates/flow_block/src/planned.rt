@@ -7,7 +7,8 @@ ghost use Rattle.flow_link.specs.Plan.{begins_at, block_in, ends_at, ends_at_por
 ghost use Rattle.flow_link.specs.Plan.{links_into, port_count, takes_at_once};
 ghost use Rattle.flow_link.specs.Planned.{layout_of};
 ghost use Rattle.flow_intake.specs.Port.{fresh_port};
-ghost use Rattle.flow_block.specs.Planned.{block_from, enters, source_by, sources_of, in_place, input_place, links_from, out_place, port_of_plan, room_of, rule_of};
+ghost use Rattle.flow_block.specs.Planned.{block_from, enters, exit_place, in_place, input_place, is_exit, links_from, out_place, port_of_plan, room_of};
+ghost use Rattle.flow_block.specs.Planned.{rule_of, source_by, sources_of};
 ghost use Rattle.flow_block.specs.Routes.{route_of};
 
 use flow_group::Source;
@@ -24,7 +25,8 @@ pub struct Route {
     /// among all inputs, in the order of their blocks.
     pub source_place: usize,
     pub target: LinkTarget,
-    /// How many links before it enter the same port. It is 0 at an exit, where the caller receives.
+    /// How many links before it enter the same port. At an exit, which has one link, it is the place of the exit among all
+    /// exits, in the order of their links.
     pub target_place: usize,
 }
 
@@ -192,7 +194,7 @@ fn route_of<W>(plan: &Plan<W>, id: LinkId) -> Route
         target: link.target,
         target_place: match link.target {
             LinkTarget::Port(block, port) => in_place(plan, block, port as usize, id),
-            LinkTarget::Exit => 0,
+            LinkTarget::Exit => exit_place(plan, id),
         },
     }
 }
@@ -219,6 +221,20 @@ fn in_place<W>(plan: &Plan<W>, block: usize, port: usize, id: LinkId) -> usize
     let mut place = 0;
     for earlier in 0..id {
         if enters(plan.link(earlier).target, block, port) {
+            place += 1;
+        }
+    }
+    place
+}
+
+/// How many links before this one lead out of the network: the place of its exit among all exits.
+fn exit_place<W>(plan: &Plan<W>, id: LinkId) -> usize
+    requires { id ≤ length (layout_of plan.now).links }
+    ensures { result ≡ exit_place (layout_of plan.now) id }
+{
+    let mut place = 0;
+    for earlier in 0..id {
+        if is_exit(plan.link(earlier).target) {
             place += 1;
         }
     }
@@ -314,6 +330,16 @@ fn ends_at(target: LinkTarget, block: usize) -> bool
     match target {
         LinkTarget::Port(number, _) => number == block,
         LinkTarget::Exit => false,
+    }
+}
+
+/// Whether a link with this target leads out of the network.
+pub fn is_exit(target: LinkTarget) -> bool
+    ensures { result ≡ is_exit target }
+{
+    match target {
+        LinkTarget::Port(..) => false,
+        LinkTarget::Exit => true,
     }
 }
 

@@ -32,10 +32,12 @@ use Rattle.flow_block.specs.Planned.{in_place, out_place}
 use Rattle.flow_block_law.specs.ViewsMove.{CallsMoveViews}
 use Rattle.flow_core.specs.Events.{node_after, input_after, source_look, source_sees, target_sees, with_node}
 use Rattle.flow_core.specs.Keeps.{IsRun}
-use Rattle.flow_core.specs.State.{NetState, node_at, input_at}
+use Rattle.flow_exit.specs.Exit.{ExitCall, exit_after}
+use Rattle.flow_exit.specs.ExitKeeps.{ExitsKeep}
+use Rattle.flow_core.specs.State.{NetState, node_at, input_at, exit_at}
 use Rattle.flow_core.proofs.PartsChange.{PartsInOrder, given_at, taken_at, given_as, taken_as}
 use Rattle.flow_core.proofs.EndsStep.{SourceSteps, TargetSteps, in_by, look_steps, copied_by, block_gives, block_takes}
-use Rattle.flow_core.proofs.EndsStep.{input_gives}
+use Rattle.flow_core.proofs.EndsStep.{input_gives, exit_takes}
 use Rattle.flow_core.proofs.PlacesOfLinks.{entry_there, exit_there, copy_there, copy_rule_there, port_there, rule_there}
 use Rattle.flow_core.proofs.SourcesByKind.{shared_view, copied_view}
 
@@ -44,7 +46,7 @@ put_off_alike : (stage : SourceStage) → source_put_off (source_stage_of stage)
 put_off_alike source.Free = refl
 put_off_alike _ = refl
 
-module _ {W : Type 0} (kept : NodesKept W) (views : CallsMoveViews W) (inputs : InputsKeep)
+module _ {W : Type 0} (kept : NodesKept W) (views : CallsMoveViews W) (inputs : InputsKeep) (exits : ExitsKeep)
     (layout : Layout W) (meaning : ℕ → Value → Result (List Value) ℕ) (run : IsRun layout)
     (l : ℕ) (there : l < length layout.links) (phase : Phase)
     (net : NetState) (parts : PartsInOrder layout meaning net) where
@@ -68,7 +70,14 @@ module _ {W : Type 0} (kept : NodesKept W) (views : CallsMoveViews W) (inputs : 
       ((views layout meaning t node call law may).moved ∙ ap (looking_in phase) (sym known))
       (block_takes layout meaning l run there net parts t p (node_after layout meaning t (Some call)) to
       (in_by layout meaning kept views t node law p k call may (λ q j about. about) (λ j about. about) (λ j about. about)))
-  target_looks Exit to numbered = absurd (run.inside l there to)
+  target_looks Exit to numbered =
+      let exit = exit_at layout net l in
+      let known = taken_as layout net l Exit to in
+      let new = target_sees layout meaning l phase Exit net in
+      subst (λ (view : TargetView Value). TargetSteps layout meaning l net new view)
+      (exits.looks exit phase ∙ ap (looking_in phase) (sym known))
+      (exit_takes layout meaning l run there net parts (exit_after (Some (ExitCall.look phase))) to
+      (exits.calls exit (ExitCall.look phase) (parts.exits l there to) tt))
 
   module _ (slot : Option Value) (target : TargetView Value)
       (ok : LinkOk (facts_in layout l) phase slot (given_at layout net l) target) where

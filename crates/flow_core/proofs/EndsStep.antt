@@ -5,7 +5,7 @@ use Rattle.flow_link.specs.declared.phase.Phase.{Phase}
 use Rattle.flow_link.specs.declared.phase.Move.{Move}
 use Rattle.flow_link.specs.declared.phase.Move.TheVariants as move
 use Rattle.flow_link.specs.declared.plan.LinkSource.TheVariants.{Block, Input}
-use Rattle.flow_link.specs.declared.plan.LinkTarget.TheVariants.{Port}
+use Rattle.flow_link.specs.declared.plan.LinkTarget.TheVariants.{Port, Exit}
 use Rattle.flow_link.specs.Layout.{Layout}
 use Rattle.flow_link.specs.Plan.{link_in, is_one_taker}
 use Rattle.flow_link.specs.Views.{SourceView, TargetView}
@@ -19,12 +19,15 @@ use Rattle.flow_block_law.specs.NodeKeeps.{NodesKept, MayCall, after_call}
 use Rattle.flow_block_law.specs.NodeLaw.{NodeLaw}
 use Rattle.flow_block.specs.Planned.{is_out_of, is_into, in_place, out_place}
 use Rattle.flow_block_law.specs.ViewsMove.{CallsMoveViews, IsAboutIn, IsAboutOut, IsAboutCopy}
-use Rattle.flow_core.specs.Events.{node_after, out_call, copy_call, source_call, in_call, input_call, input_after, with_node, with_input}
+use Rattle.flow_exit.specs.Exit.{ExitState, ExitCall, exit_view, exit_call, exit_after}
+use Rattle.flow_exit.specs.ExitKeeps.{ExitLaw, ExitsKeep, MayMoveExit}
+use Rattle.flow_core.specs.Events.{node_after, out_call, copy_call, source_call, in_call, input_call, input_after, with_node, with_input, with_exit}
 use Rattle.flow_core.specs.Keeps.{IsRun}
-use Rattle.flow_core.specs.State.{NetState, node_at, input_at}
+use Rattle.flow_core.specs.State.{NetState, node_at, input_at, exit_at}
 use Rattle.flow_core.proofs.PartsChange.{PartsInOrder, NodeSteps, given_at, taken_at, given_as, taken_as}
 use Rattle.flow_core.proofs.PartsChange.{node_changes, given_stays, taken_stays, node_is, input_changes}
 use Rattle.flow_core.proofs.PartsChange.{given_by_others, input_is, taken_as_before}
+use Rattle.flow_core.proofs.PartsChange.{exit_changes, exit_is, taken_by_others, given_as_before}
 use Rattle.flow_lists.proofs.PlacesTell.{places_differ}
 use Rattle.flow_core.proofs.PlacesOfLinks.{begins_here, ends_here}
 
@@ -148,6 +151,18 @@ input_steps keep input law move.Give may = keep.calls input InputCall.give law m
 input_steps keep input law (move.End how) may = keep.calls input (InputCall.end_link how) law may
 input_steps keep input law _ may = absurd may
 
+-- the move of an exit keeps it in order; where nothing lies in the slot, nothing is opened
+pub exit_steps : ExitsKeep → (exit : ExitState) → ExitLaw exit → (slot : Option Value) (next : Move) → MayMoveExit exit next
+    → ExitLaw (exit_after (exit_call slot next) exit)
+exit_steps keep exit law slot move.Want may = keep.calls exit ExitCall.want law may
+exit_steps keep exit law slot move.TurnDown may = keep.calls exit ExitCall.turn_down law may
+exit_steps keep exit law slot move.Postpone may = keep.calls exit ExitCall.postpone law may
+exit_steps keep exit law slot move.Consume may = keep.calls exit ExitCall.consume law may
+exit_steps keep exit law (Some value) move.Open may = keep.calls exit (ExitCall.open_with value) law (may value)
+exit_steps keep exit law None move.Open may = law
+exit_steps keep exit law slot move.Close may = keep.calls exit ExitCall.close law may
+exit_steps keep exit law slot _ may = absurd may
+
 module _ {W : Type 0} (layout : Layout W) (meaning : ℕ → Value → Result (List Value) ℕ) (l : ℕ) where
   -- the source of a link came to know this, and its target that
   pub record SourceSteps (old new : NetState) (view : SourceView Value) : Type 0 where
@@ -223,4 +238,17 @@ module _ {W : Type 0} (layout : Layout W) (meaning : ℕ → Value → Result (L
           others = λ k small apart.
               given_by_others layout meaning run net parts b change law l there from k small apart;
           targets = λ k small. taken_as_before layout meaning run net parts b change law k;
+        }
+
+    pub exit_takes : (change : ExitState → ExitState) → (link_in layout.links l).target ≡ Exit
+        → ExitLaw (change (exit_at layout net l))
+        → TargetSteps net (with_exit layout l change net) (exit_view (change (exit_at layout net l)))
+    exit_takes change to law =
+        let is = exit_is layout meaning net parts l there to change law in
+        record {
+          parts = exit_changes layout meaning net parts l there to change law;
+          lines = refl;
+          taken = taken_as layout (with_exit layout l change net) l Exit to ∙ ap exit_view is;
+          others = λ k small apart. taken_by_others layout meaning net parts l there to change law k apart;
+          sources = λ k small. given_as_before layout meaning net parts l there to change law k;
         }

@@ -39,16 +39,18 @@ use Rattle.flow_core.specs.Events.{input_call, input_after, with_node, with_line
 use Rattle.flow_core.specs.Events.{value_from, slot_after, source_moves, target_moves, source_sees, target_sees}
 use Rattle.flow_core.specs.Events.{line_after, moved_by, after_move, after}
 use Rattle.flow_core.specs.Keeps.{IsRun, NetKeeps}
-use Rattle.flow_core.specs.OneMove.{SourceMoved, TargetMoved, BlocksMoveWell, InputsMoveWell, TargetsMoveWell}
+use Rattle.flow_exit.specs.Exit.{exit_view, exit_call, exit_after}
+use Rattle.flow_exit.specs.ExitKeeps.{ExitsKeep}
+use Rattle.flow_core.specs.OneMove.{SourceMoved, TargetMoved, BlocksMoveWell, InputsMoveWell, TargetsMoveWell, ExitsMoveWell}
 use Rattle.flow_link.specs.declared.trace.LinkState.{LinkState}
 use Rattle.flow_link.specs.declared.kinds.BlockUnit.{BlockUnit}
 use Rattle.flow_link.specs.Kinds.{unit_of}
-use Rattle.flow_core.specs.State.{NetState, node_at, line_at, input_at}
+use Rattle.flow_core.specs.State.{NetState, node_at, line_at, input_at, exit_at}
 use Rattle.flow_core.specs.Statements.{EventsKeep}
 use Rattle.flow_core.proofs.PartsChange.{PartsInOrder, NodeSteps, given_at, taken_at, given_as, taken_as, parts_in_order}
 use Rattle.flow_core.proofs.PartsChange.{node_changes, given_stays, taken_stays, line_changes}
 use Rattle.flow_core.proofs.EndsStep.{SourceSteps, TargetSteps, source_steps, in_steps, call_steps, input_steps}
-use Rattle.flow_core.proofs.EndsStep.{block_gives, block_takes, input_gives}
+use Rattle.flow_core.proofs.EndsStep.{block_gives, block_takes, input_gives, exit_takes, exit_steps}
 use Rattle.flow_core.proofs.LinesKeep.{net_keeps, keeps_with, line_stays}
 use Rattle.flow_core.proofs.EndsLook.{target_looks, source_looks_out}
 use Rattle.flow_core.proofs.PlacesOfLinks.{entry_there, exit_there, copy_there, port_there}
@@ -86,8 +88,8 @@ ids_left layout meaning b node law false shares ids =
       copy_id = λ broadcast. absurd (never_both (is_broadcast block.kind) broadcast shares);
     }
 
-module _ {W : Type 0} (kept : NodesKept W) (jobs : JobsEndWell W) (views : CallsMoveViews W) (next_may : NextMovesMay W) (inputs : InputsKeep)
-    (blocks_move : BlocksMoveWell W) (inputs_move : InputsMoveWell W) (targets_move : TargetsMoveWell W)
+module _ {W : Type 0} (kept : NodesKept W) (jobs : JobsEndWell W) (views : CallsMoveViews W) (next_may : NextMovesMay W) (inputs : InputsKeep) (exits : ExitsKeep)
+    (blocks_move : BlocksMoveWell W) (inputs_move : InputsMoveWell W) (targets_move : TargetsMoveWell W) (exits_move : ExitsMoveWell W)
     (layout : Layout W) (meaning : ℕ → Value → Result (List Value) ℕ) (run : IsRun layout)
     (net : NetState) (keeps : NetKeeps layout meaning net) where
   parts : PartsInOrder layout meaning net
@@ -174,7 +176,20 @@ module _ {W : Type 0} (kept : NodesKept W) (jobs : JobsEndWell W) (views : Calls
           well = targets_move layout meaning run l t p there to node law (line_at net l).phase phase slot
               (value_from layout net (link_in layout.links l).source) (given_at layout net l) next stands peek allowed;
         }
-    target_goes Exit to peek = absurd (run.inside l there to)
+    target_goes Exit to peek =
+        let exit = exit_at layout net l in
+        let slot = (line_at net l).slot in
+        let law = parts.exits l there to in
+        let change = exit_after (exit_call slot next) in
+        let known = taken_as layout net l Exit to in
+        let stands = subst (λ (view : TargetView Value). Stands (given_at layout net l) view) known in_order in
+        record {
+          view = exit_view (change exit);
+          steps = exit_takes layout meaning l run there net parts change to
+              (exit_steps exits exit law slot next (exits.next exit next peek));
+          well = exits_move layout l to exit law (line_at net l).phase phase slot
+              (value_from layout net (link_in layout.links l).source) (given_at layout net l) next stands peek allowed;
+        }
 
     -- then the other end looks
     source_keeps : (source : LinkSource) (target : LinkTarget) → (link_in layout.links l).source ≡ source
@@ -191,7 +206,7 @@ module _ {W : Type 0} (kept : NodesKept W) (jobs : JobsEndWell W) (views : Calls
         let taken = taken_at layout net l in
         let numbered =
         (links_tell Value).fault_numbered (facts_in layout l) phase line.slot goes.view taken goes.well.in_order in
-        let looks = target_looks kept views inputs layout meaning run l there phase moved parts_then target to numbered in
+        let looks = target_looks kept views inputs exits layout meaning run l there phase moved parts_then target to numbered in
         let settled = (looks_keep Value).settle phase goes.view taken in
         net_keeps layout meaning net keeps (target_sees layout meaning l phase target moved) looks.parts
         l line goes.view (looking_in phase taken) there
@@ -220,7 +235,7 @@ module _ {W : Type 0} (kept : NodesKept W) (jobs : JobsEndWell W) (views : Calls
         subst (λ (view : SourceView Value). LinkOk (facts_in layout l) phase line.slot view goes.view)
         (sym (goes.steps.sources l there)) goes.well.in_order in
         let looks =
-        source_looks_out kept views inputs layout meaning run l there phase moved parts_then
+        source_looks_out kept views inputs exits layout meaning run l there phase moved parts_then
         line.slot goes.view stands source from in
         let settled = (looks_keep Value).settle phase given goes.view in
         net_keeps layout meaning net keeps (source_sees layout meaning l phase source moved) looks.parts
@@ -326,7 +341,7 @@ module _ {W : Type 0} (kept : NodesKept W) (jobs : JobsEndWell W) (views : Calls
   event_keeps (NetEvent.finish b) may =
       call_keeps b may.enabled.there NodeCall.finish may.enabled.would (λ q j about. about) (λ j about. about) (λ j about. about)
 
-pub events_keep : {W : Type 0} → NodesKept W → JobsEndWell W → CallsMoveViews W → NextMovesMay W → InputsKeep
-    → BlocksMoveWell W → InputsMoveWell W → TargetsMoveWell W → EventsKeep W
-events_keep kept jobs views next_may inputs blocks_move inputs_move targets_move layout meaning run net event keeps may =
-    event_keeps kept jobs views next_may inputs blocks_move inputs_move targets_move layout meaning run net keeps event may
+pub events_keep : {W : Type 0} → NodesKept W → JobsEndWell W → CallsMoveViews W → NextMovesMay W → InputsKeep → ExitsKeep
+    → BlocksMoveWell W → InputsMoveWell W → TargetsMoveWell W → ExitsMoveWell W → EventsKeep W
+events_keep kept jobs views next_may inputs exits blocks_move inputs_move targets_move exits_move layout meaning run net event keeps may =
+    event_keeps kept jobs views next_may inputs exits blocks_move inputs_move targets_move exits_move layout meaning run net keeps event may

@@ -32,7 +32,9 @@ use Rattle.flow_block_law.specs.InputKeeps.{InputLaw, InputsKeep}
 use Rattle.flow_link.specs.Posted.{ends_by_number}
 use Rattle.flow_block.specs.Node.{in_view, out_view, copy_view, source_view, view_of_in, view_of_out}
 use Rattle.flow_block_law.specs.NodeLaw.{NodeLaw}
-use Rattle.flow_block.specs.Planned.{fresh_node, port_of_plan, links_from, links_to, rule_of, in_place, out_place, input_place}
+use Rattle.flow_block.specs.Planned.{fresh_node, port_of_plan, links_from, links_to, rule_of, in_place, out_place, input_place, exit_place, links_out}
+use Rattle.flow_exit.specs.Exit.{fresh_exit, exit_view}
+use Rattle.flow_exit.specs.ExitKeeps.{ExitLaw, ExitsKeep}
 use Rattle.flow_core.specs.Keeps.{LineKeeps}
 use Rattle.flow_core.specs.State.{NetState, fresh_net, fresh_line, source_from, target_from, no_node}
 use Rattle.flow_core.specs.Statements.{FreshKeeps}
@@ -196,7 +198,9 @@ module _ {W : Type 0} (layout : Layout W) where
     target_fresh l (Port t p) =
         holds_mapped (λ node. in_view p (in_place layout t p l) node ≡ fresh_target) (fresh_node layout)
         (below (length layout.blocks)) t no_node refl (in_fresh p (in_place layout t p l))
-    target_fresh l Exit = refl
+    target_fresh l Exit =
+        holds_mapped (λ exit. exit_view exit ≡ fresh_target) (λ _. fresh_exit) (links_out layout) (exit_place layout l) fresh_exit refl
+        (λ _. refl)
 
     -- a link over which nothing has gone is in order, and both ends have seen it
     line_fresh : (l : ℕ) → l < length layout.links → LineKeeps layout start l
@@ -206,10 +210,11 @@ module _ {W : Type 0} (layout : Layout W) where
         (source_fresh l (link_in layout.links l).source) (target_fresh l (link_in layout.links l).target)
         ((looks_keep Value).fresh.in_order (facts_in layout l), (looks_keep Value).fresh.seen)
 
-pub fresh_keeps : {W : Type 0} → FreshInOrder W → InputsKeep → FreshKeeps W
-fresh_keeps blocks inputs layout meaning runs never posted count numbered = record {
+pub fresh_keeps : {W : Type 0} → FreshInOrder W → InputsKeep → ExitsKeep → FreshKeeps W
+fresh_keeps blocks inputs exits layout meaning runs never posted count numbered = record {
   node_count = length-map (below (length layout.blocks)) (fresh_node layout) ∙ length_numbers 0 (length layout.blocks);
   input_count = length-map posted fresh_input ∙ count;
+  exit_count = length-map (links_out layout) (λ _. fresh_exit);
   line_count = length-replicate (length layout.links) fresh_line;
   nodes = λ b here.
       subst (NodeLaw layout meaning b)
@@ -225,5 +230,6 @@ fresh_keeps blocks inputs layout meaning runs never posted count numbered = reco
   inputs = λ b here is.
       holds_passed InputLaw ends_by_number fresh_input posted (input_place layout b) no_input
       (inputs.fresh nothing_posted refl) numbered inputs.fresh;
+  exits = λ l there to. holds_mapped ExitLaw (λ _. fresh_exit) (links_out layout) (exit_place layout l) fresh_exit exits.fresh (λ _. exits.fresh);
   lines = λ l there. line_fresh layout posted l there;
 }

@@ -1,7 +1,6 @@
 -- What is kept for a target is kept for it alone, and is not denied when it is claimed.
-use Rattle.std.proofs.Common.{◌≡◌, ℕ, ◌<◌, cond, Bool, true, false, length, Option, Some, None, Result, refl, ap, sym, ◌∙◌}
+use Rattle.std.proofs.Common.{◌≡◌, ℕ, cond, Bool, true, false, Option, Some, refl, ap, sym}
 use Rattle.flow_value.specs.declared.value.Value.{Value}
-use Rattle.flow_lawful.specs.Composes.{SpeaksForOne}
 use Rattle.flow_link.specs.declared.phase.Move.{Move}
 use Rattle.flow_link.specs.declared.phase.Move.TheVariants.{Deny}
 use Rattle.flow_link.specs.declared.plan.LinkSource.{LinkSource}
@@ -24,7 +23,7 @@ use Rattle.flow_block_law.specs.NextCopies.{next_copy}
 use Rattle.flow_block_law.specs.NextMoves.{next_out}
 use Rattle.flow_block_law.specs.NodeSeen.{NodesAreLawful}
 use Rattle.flow_core.specs.Events.{source_peek}
-use Rattle.flow_core.specs.State.{NetState, node_at, input_at, ends_of, source_from}
+use Rattle.flow_core.specs.State.{NetState, node_at, input_at, source_from}
 use Rattle.flow_core.specs.Statements.{KeptIsHeld}
 use Rattle.flow_core.proofs.KeptIsLawful.{parts_keep}
 

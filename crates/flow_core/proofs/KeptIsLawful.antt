@@ -1,9 +1,15 @@
 -- The run of a network in order is lawful: each of its parts keeps its own laws.
-use Rattle.std.proofs.Common.{◌≡◌, ℕ, zero, suc, ◌<◌, true, false, List, [], length, Option, Some, None, refl, ap, ◌∙◌, arith, eq-eqb}
+use Rattle.std.proofs.Common.{◌≡◌, ℕ, zero, suc, ◌<◌, true, false, List, [], length, Option, Some, None, refl, ap, sym, ◌∙◌, arith, eq-eqb}
 use Rattle.std.proofs.lemmas.List.{length-map}
 use Rattle.std.proofs.Math.ListN.{get_or-map}
 use Rattle.flow_link.specs.declared.plan.LinkSource.TheVariants.{Input}
+use Rattle.flow_link.specs.declared.plan.LinkTarget.{LinkTarget}
 use Rattle.flow_link.specs.declared.plan.LinkTarget.TheVariants.{Port}
+use Rattle.flow_link.specs.declared.stage.TargetStage.{TargetStage as TargetKept}
+use Rattle.flow_link.specs.declared.stage.TargetStage.TheVariants as target
+use Rattle.flow_link.specs.Stage.{target_stage_of}
+use Rattle.flow_link.specs.Views.{TargetStage, Refusal}
+use Rattle.flow_exit.specs.ExitKeeps.{is_plain}
 use Rattle.flow_lawful.specs.Composes.{PartsKeep}
 use Rattle.flow_link.specs.Layout.{Layout}
 use Rattle.flow_link.specs.Plan.{link_in}
@@ -20,7 +26,7 @@ use Rattle.flow_block.specs.Node.{node_trace}
 use Rattle.flow_block_law.specs.NodeSeen.{NodesAreLawful, IsNodeOf}
 use Rattle.flow_block.specs.Planned.{input_place}
 use Rattle.flow_core.specs.Keeps.{IsRun, NetKeeps}
-use Rattle.flow_core.specs.State.{NetState, no_node, node_at, input_at, ends_of, source_from, target_from, run_of_net}
+use Rattle.flow_core.specs.State.{NetState, no_node, node_at, input_at, exit_at, ends_of, source_from, target_from, run_of_net}
 use Rattle.flow_core.specs.Statements.{KeptIsLawful}
 use Rattle.flow_core.proofs.PlacesOfLinks.{port_there}
 use Rattle.std.specs.Prelude.{Result}
@@ -31,6 +37,12 @@ pub may_carry : (max : Option ℕ) → is_in 1 2147483647 max ≡ true → is_us
 may_carry None e = refl
 may_carry (Some zero) e = absurd (cc)
 may_carry (Some (suc n)) e = ne_eqb 0 (suc n) (λ same. absurd (omega (arith, same)))
+
+-- an exit refuses nothing
+never_refuses : (stage : TargetKept) (hand : Option Value) (why : Refusal) → is_plain stage ≡ true
+    → target_stage_of stage hand ≡ TargetStage.refused why → ⊥
+never_refuses (target.Refused so) hand why plain e = absurd (cc)
+never_refuses _ hand why plain e = absurd (cc)
 
 module _ {W : Type 0} (layout : Layout W) (meaning : ℕ → Value → Result (List Value) ℕ) (runs : IsRun layout)
     (net : NetState) (keeps : NetKeeps layout meaning net) where
@@ -83,7 +95,13 @@ module _ {W : Type 0} (layout : Layout W) (meaning : ℕ → Value → Result (L
     inputs = λ l b there from.
         inputs.keeps (run_of_net layout meaning net) (ends_of layout net) l b (input_at layout net b)
         (input_law l b there from) (is_input l b from);
-    exits = λ l there to. absurd (runs.inside l there to);
+    exits = λ l there to.
+        let exit = exit_at layout net l in
+        record {
+          takes = λ why refused.
+              never_refuses exit.stage exit.hand why (keeps.exits l there to).plain
+              (sym (ap (λ (target : LinkTarget). (target_from layout net l target).stage) to) ∙ refused);
+        };
     links = λ l there. (keeps.lines l there).in_order;
     refused = λ l. refl;
     from_blocks = λ l b there from. runs.leads.from_block l b there from;

@@ -1,7 +1,9 @@
 pub mod BlocksMove
+pub mod CallersKeep
 pub mod EndsLook
 pub mod EndsStep
 pub mod EventsKeep
+pub mod ExitsMove
 pub mod FaultsNumbered
 pub mod FreshNets
 pub mod InputsMove

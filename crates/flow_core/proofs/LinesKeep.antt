@@ -44,9 +44,11 @@ module _ {W : Type 0} (layout : Layout W) where
     keeps_with lines = record {
       node_count = parts.node_count;
       input_count = parts.input_count;
+      exit_count = parts.exit_count;
       line_count = parts.line_count;
       nodes = parts.nodes;
       inputs = parts.inputs;
+      exits = parts.exits;
       lines = lines;
     }
 

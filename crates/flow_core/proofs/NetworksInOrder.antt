@@ -9,10 +9,13 @@ use Rattle.flow_block_law.proofs.NodesAreStill.{nodes_are_still}
 use Rattle.flow_block_law.proofs.NodesKept.{nodes_kept}
 use Rattle.flow_block_law.proofs.NodesRest.{nodes_rest}
 use Rattle.flow_block_law.proofs.ViewsMove.{calls_move_views}
+use Rattle.flow_exit.proofs.ExitsKeep.{exits_keep}
 use Rattle.flow_core.specs.Numbers.{BlocksFaultByNumber}
-use Rattle.flow_core.specs.Statements.{EventsKeep, FreshKeeps, KeptIsLawful, KeptIsHeld, StillIsQuiet, SchedulesGoWell}
+use Rattle.flow_core.specs.Statements.{EventsKeep, ExitCallsKeep, FreshKeeps, KeptIsLawful, KeptIsHeld, StillIsQuiet, SchedulesGoWell}
 use Rattle.flow_core.proofs.BlocksMove.{blocks_move}
+use Rattle.flow_core.proofs.CallersKeep.{exit_calls_keep}
 use Rattle.flow_core.proofs.EventsKeep.{events_keep}
+use Rattle.flow_core.proofs.ExitsMove.{exits_move}
 use Rattle.flow_core.proofs.FaultsNumbered.{blocks_fault_by_number}
 use Rattle.flow_core.proofs.FreshNets.{fresh_keeps}
 use Rattle.flow_core.proofs.InputsMove.{inputs_move}
@@ -23,13 +26,16 @@ use Rattle.flow_core.proofs.StillIsQuiet.{still_is_quiet}
 use Rattle.flow_core.proofs.TargetsMove.{targets_move}
 
 pub fresh_nets_keep : (W : Type 0) → FreshKeeps W
-fresh_nets_keep W = fresh_keeps (fresh_in_order W) inputs_keep
+fresh_nets_keep W = fresh_keeps (fresh_in_order W) inputs_keep exits_keep
 
 pub all_events_keep : (W : Type 0) → EventsKeep W
 all_events_keep W =
-    events_keep (nodes_kept W) (jobs_end_well W) (calls_move_views W) next_moves_may inputs_keep
+    events_keep (nodes_kept W) (jobs_end_well W) (calls_move_views W) next_moves_may inputs_keep exits_keep
     (blocks_move (nodes_kept W) (calls_move_views W) next_moves_may) (inputs_move inputs_keep)
-    (targets_move (calls_move_views W) next_moves_may)
+    (targets_move (calls_move_views W) next_moves_may) (exits_move exits_keep)
+
+pub all_exit_calls_keep : (W : Type 0) → ExitCallsKeep W
+all_exit_calls_keep W = exit_calls_keep exits_keep
 
 pub kept_nets_are_lawful : (W : Type 0) → KeptIsLawful W
 kept_nets_are_lawful W = kept_is_lawful (nodes_are_lawful W) (inputs_are_parts W)

@@ -41,8 +41,9 @@ use Rattle.flow_group.specs.Round.{RoundState, reserves, all_held, asks_for, hel
 use Rattle.flow_block.specs.Node.{or_else, out_view, copy_view}
 use Rattle.flow_block.specs.Peeks.{is_held_up, is_copy_held_up}
 use Rattle.flow_block.specs.Planned.{in_place, out_place}
+use Rattle.flow_exit.specs.Exit.{exit_move_at, wants_one}
 use Rattle.flow_core.specs.Events.{is_of_source, peek_by, source_peek, target_peek}
-use Rattle.flow_core.specs.State.{NetState, node_at, line_at, input_at, ends_of, source_from, target_from}
+use Rattle.flow_core.specs.State.{NetState, node_at, line_at, input_at, exit_at, ends_of, source_from, target_from}
 use Rattle.flow_core.specs.Statements.{NextIsAllowed}
 use Rattle.flow_core.proofs.StagesShow.{source_shows, source_shown, target_shows, target_shown}
 
@@ -155,6 +156,19 @@ in_fits k port (target.Arrived i) hand = refl
 in_fits k port (target.Hand i) hand = refl
 in_fits k port _ hand = refl
 
+-- so does the end of a link out of the network
+exit_fits : (wants : Bool) (stage : TargetKept) (hand : Option Value)
+    → target_fits (target_stage_of stage hand) (exit_move_at wants stage) ≡ true
+exit_fits true (target.Offered i) hand = refl
+exit_fits false (target.Offered i) hand = refl
+exit_fits true (target.Posted i) hand = refl
+exit_fits false (target.Posted i) hand = refl
+exit_fits true (target.Postponed i) hand = refl
+exit_fits false (target.Postponed i) hand = refl
+exit_fits wants (target.Arrived i) hand = refl
+exit_fits wants (target.Hand i) hand = refl
+exit_fits wants _ hand = refl
+
 -- so does the end of a join that reserves, for its round
 held_fits : (i : ℕ) (step : RoundStep) (all : Bool) → target_fits (TargetStage.holding i) (held_move step all) ≡ true
 held_fits i steps.Asks true = refl
@@ -242,7 +256,9 @@ module _ {W : Type 0} (layout : Layout W) (net : NetState) (l : ℕ) where
       else_fits stage (in_move k port) (round_move p k node.round node.block.ports)
       (in_fits k port (port_stage k port) (hand_in k port.ends))
       (front_fits k node.round node.block.ports port (first_of port.queue))
-  target_peek_fits Exit = refl
+  target_peek_fits Exit =
+      let exit = exit_at layout net l in
+      exit_fits (wants_one exit) exit.stage exit.hand
 
   abbrev source_stage : SourceStage
   source_stage = (ends_of layout net l).source.stage

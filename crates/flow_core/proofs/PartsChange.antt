@@ -15,15 +15,17 @@ use Rattle.flow_block.specs.Input.{InputState, input_view, no_input}
 use Rattle.flow_block_law.specs.InputKeeps.{InputLaw}
 use Rattle.flow_block.specs.Node.{NodeState, in_view, out_view, copy_view, source_view}
 use Rattle.flow_block_law.specs.NodeLaw.{NodeLaw}
-use Rattle.flow_block.specs.Planned.{in_place, out_place, input_place}
-use Rattle.flow_core.specs.Events.{with_node, with_input, with_line}
+use Rattle.flow_block.specs.Planned.{in_place, out_place, input_place, exit_place, leads_out, links_out}
+use Rattle.flow_exit.specs.Exit.{ExitState, fresh_exit, exit_view}
+use Rattle.flow_exit.specs.ExitKeeps.{ExitLaw}
+use Rattle.flow_core.specs.Events.{with_node, with_input, with_exit, with_line}
 use Rattle.flow_core.specs.Keeps.{IsRun, NetKeeps}
 use Rattle.flow_link.specs.declared.trace.LinkState.{LinkState}
-use Rattle.flow_core.specs.State.{NetState, node_at, no_node, input_at, source_from}
+use Rattle.flow_core.specs.State.{NetState, node_at, no_node, input_at, exit_at, source_from}
 use Rattle.flow_core.specs.State.{target_from}
-use Rattle.flow_core.proofs.PlacesOfLinks.{exit_there, copy_there, port_there, entry_there}
+use Rattle.flow_core.proofs.PlacesOfLinks.{exit_there, copy_there, port_there, entry_there, leads_there}
 use Rattle.flow_core.proofs.SourcesByKind.{shared_view, copied_view, same_kind}
-use Rattle.flow_lists.proofs.PlacesTell.{count_within, counts_differ, element_set}
+use Rattle.flow_lists.proofs.PlacesTell.{count_within, counts_differ, element_set, place_rises, places_differ}
 
 module _ {W : Type 0} (layout : Layout W) where
   -- what the source and the target of a link know
@@ -46,18 +48,22 @@ module _ {W : Type 0} (layout : Layout W) where
     pub record PartsInOrder (net : NetState) : Type 0 where
       pub node_count : length net.nodes ≡ length layout.blocks
       pub input_count : length net.inputs ≡ count_by (λ block. block.input) layout.blocks
+      pub exit_count : length net.exits ≡ length (links_out layout)
       pub line_count : length net.lines ≡ length layout.links
       pub nodes : (b : ℕ) → b < length layout.blocks → NodeLaw layout meaning b (node_at net b)
       pub inputs : (b : ℕ) → b < length layout.blocks → (block_in layout.blocks b).input ≡ true
           → InputLaw (input_at layout net b)
+      pub exits : (l : ℕ) → l < length layout.links → (link_in layout.links l).target ≡ Exit → ExitLaw (exit_at layout net l)
 
     pub parts_in_order : (net : NetState) → NetKeeps layout meaning net → PartsInOrder net
     parts_in_order net keeps = record {
       node_count = keeps.node_count;
       input_count = keeps.input_count;
+      exit_count = keeps.exit_count;
       line_count = keeps.line_count;
       nodes = keeps.nodes;
       inputs = keeps.inputs;
+      exits = keeps.exits;
     }
 
     -- a node in order becomes another, and only the ends that this is about learn anything
@@ -93,12 +99,14 @@ module _ {W : Type 0} (layout : Layout W) where
       node_changes = record {
         node_count = length-set net.nodes b (change (node_at net b)) ∙ parts.node_count;
         input_count = parts.input_count;
+        exit_count = parts.exit_count;
         line_count = parts.line_count;
         nodes = λ c low.
             element_set (λ i node. NodeLaw layout meaning i node) net.nodes b c (change (node_at net b)) no_node
             (λ same. subst (λ (i : ℕ). NodeLaw layout meaning i (change (node_at net b))) (sym same) steps.law)
             (parts.nodes c low);
         inputs = parts.inputs;
+        exits = parts.exits;
       }
 
       -- what the ends know of which nothing was said
@@ -157,11 +165,13 @@ module _ {W : Type 0} (layout : Layout W) where
       input_changes = record {
         node_count = parts.node_count;
         input_count = length-set net.inputs (input_place layout b) (change (input_at layout net b)) ∙ parts.input_count;
+        exit_count = parts.exit_count;
         line_count = parts.line_count;
         nodes = parts.nodes;
         inputs = λ c low is.
             element_set (λ _ input. InputLaw input) net.inputs (input_place layout b) (input_place layout c)
             (change (input_at layout net b)) no_input (λ _. law) (parts.inputs c low is);
+        exits = parts.exits;
       }
 
       -- no other link leads from this input
@@ -205,13 +215,59 @@ module _ {W : Type 0} (layout : Layout W) where
       pub taken_as_before : (k : ℕ) → taken_at (with_input layout b change net) k ≡ taken_at net k
       taken_as_before k = taken_from k (link_in layout.links k).target
 
+    -- An exit changes
+    module _ (net : NetState) (parts : PartsInOrder net) (l : ℕ) (there : l < length layout.links)
+        (to : (link_in layout.links l).target ≡ Exit) (change : ExitState → ExitState)
+        (law : ExitLaw (change (exit_at layout net l))) where
+      pub exit_changes : PartsInOrder (with_exit layout l change net)
+      exit_changes = record {
+        node_count = parts.node_count;
+        input_count = parts.input_count;
+        exit_count = length-set net.exits (exit_place layout l) (change (exit_at layout net l)) ∙ parts.exit_count;
+        line_count = parts.line_count;
+        nodes = parts.nodes;
+        inputs = parts.inputs;
+        exits = λ k low leads.
+            element_set (λ _ exit. ExitLaw exit) net.exits (exit_place layout l) (exit_place layout k)
+            (change (exit_at layout net l)) fresh_exit (λ _. law) (parts.exits k low leads);
+      }
+
+      -- no other link leads to this exit
+      taken_elsewhere : (k : ℕ) (target : LinkTarget) → (link_in layout.links k).target ≡ target → (k ≡ l → ⊥)
+          → target_from layout (with_exit layout l change net) k target ≡ target_from layout net k target
+      taken_elsewhere k (Port t p) leads apart = refl
+      taken_elsewhere k Exit leads apart =
+          element_set (λ _ exit. exit_view exit ≡ exit_view (exit_at layout net k))
+          net.exits (exit_place layout l) (exit_place layout k) (change (exit_at layout net l)) fresh_exit
+          (λ same. absurd (apart (places_differ (leads_out layout) k l (leads_there layout k leads) (leads_there layout l to) same)))
+          refl
+
+      pub taken_by_others : (k : ℕ) → (k ≡ l → ⊥) → taken_at (with_exit layout l change net) k ≡ taken_at net k
+      taken_by_others k apart = taken_elsewhere k (link_in layout.links k).target refl apart
+
+      pub exit_is : exit_at layout (with_exit layout l change net) l ≡ change (exit_at layout net l)
+      exit_is =
+          let within = place_rises (leads_out layout) l (length layout.links) there (leads_there layout l to) in
+          let low : exit_place layout l < length net.exits = omega (arith, within, parts.exit_count) in
+          get_or-set_same net.exits (exit_place layout l) (change (exit_at layout net l)) fresh_exit low
+
+      given_from : (k : ℕ) (source : LinkSource)
+          → source_from layout (with_exit layout l change net) k source ≡ source_from layout net k source
+      given_from k (Block s) = refl
+      given_from k (Input b) = refl
+
+      pub given_as_before : (k : ℕ) → given_at (with_exit layout l change net) k ≡ given_at net k
+      given_as_before k = given_from k (link_in layout.links k).source
+
     -- A line changes
     module _ (net : NetState) (parts : PartsInOrder net) (l : ℕ) (line : LinkState) where
       pub line_changes : PartsInOrder (with_line l line net)
       line_changes = record {
         node_count = parts.node_count;
         input_count = parts.input_count;
+        exit_count = parts.exit_count;
         line_count = length-set net.lines l line ∙ parts.line_count;
         nodes = parts.nodes;
         inputs = parts.inputs;
+        exits = parts.exits;
       }

@@ -5,7 +5,7 @@ use Rattle.std.proofs.lemmas.List as lists
 use Rattle.std.proofs.Math.ListN.{get_or-map}
 use Rattle.flow_value.specs.declared.value.Value.{Value}
 use Rattle.flow_link.specs.declared.plan.LinkSource.TheVariants.{Block}
-use Rattle.flow_link.specs.declared.plan.LinkTarget.TheVariants.{Port}
+use Rattle.flow_link.specs.declared.plan.LinkTarget.TheVariants.{Port, Exit}
 use Rattle.flow_link.specs.Layout.{Layout}
 use Rattle.flow_link.specs.Plan.{link_in, begins_at, ends_at_port, is_one_taker}
 use Rattle.flow_intake.specs.Port.{EndState, end_in, fresh_end}
@@ -14,7 +14,7 @@ use Rattle.flow_spread.specs.Spread.{link_at}
 use Rattle.flow_block.specs.Block.{port_at}
 use Rattle.flow_block.specs.Node.{NodeState}
 use Rattle.flow_block_law.specs.NodeLaw.{NodeLaw}
-use Rattle.flow_block.specs.Planned.{is_out_of, is_into, links_to, rule_of, out_place, in_place}
+use Rattle.flow_block.specs.Planned.{is_out_of, is_into, is_exit, leads_out, links_to, rule_of, out_place, in_place}
 use Rattle.flow_block_law.proofs.PlacesOfCopies.{copy_out_of}
 use Rattle.flow_block_law.proofs.PlacesOfLinks.{end_out_of}
 use Rattle.flow_core.specs.Keeps.{IsRun}
@@ -27,6 +27,9 @@ module _ {W : Type 0} (layout : Layout W) where
 
   pub ends_here : (b p l : ℕ) → (link_in layout.links l).target ≡ Port b p → is_into layout b p l ≡ true
   ends_here b p l to = ap (ends_at_port b p) to ∙ and_from (b == b) (p == p) (eq-eqb b b refl) (eq-eqb p p refl)
+
+  pub leads_there : (l : ℕ) → (link_in layout.links l).target ≡ Exit → leads_out layout l ≡ true
+  leads_there l to = ap is_exit to
 
   module _ (meaning : ℕ → Value → Result (List Value) ℕ) (b : ℕ) (node : NodeState)
       (law : NodeLaw layout meaning b node) where

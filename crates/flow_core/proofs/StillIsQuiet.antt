@@ -7,6 +7,7 @@ use Rattle.flow_link.specs.declared.plan.Link.{Link}
 use Rattle.flow_link.specs.declared.plan.LinkSource.{LinkSource}
 use Rattle.flow_link.specs.declared.plan.LinkSource.TheVariants.{Input}
 use Rattle.flow_link.specs.declared.plan.LinkTarget.{LinkTarget}
+use Rattle.flow_link.specs.declared.plan.LinkTarget.TheVariants.{Exit}
 use Rattle.flow_link.specs.declared.stage.SourceStage.{SourceStage as SourceKept}
 use Rattle.flow_link.specs.declared.stage.SourceStage.TheVariants as source
 use Rattle.flow_link.specs.declared.stage.TargetStage.{TargetStage as TargetKept}
@@ -18,7 +19,7 @@ use Rattle.flow_link.specs.LinkOk.{source_reserves, target_reserves}
 use Rattle.flow_link.specs.LooksKeep.{SeenAt}
 use Rattle.flow_link.specs.Plan.{link_in}
 use Rattle.flow_lawful.specs.Quiet.{Quiet}
-use Rattle.flow_lawful.specs.RestsByParts.{EndsAreStill, PartsRest, is_at_rest, is_holding}
+use Rattle.flow_lawful.specs.RestsByParts.{EndsAreStill, PartsRest, is_at_rest, is_holding, is_to_receive}
 use Rattle.flow_link.specs.Stage.{source_stage_of, target_stage_of}
 use Rattle.flow_link.specs.Trace.{Run}
 use Rattle.flow_link.specs.Views.{SourceStage, SourceView, TargetStage}
@@ -43,8 +44,10 @@ use Rattle.flow_block_law.proofs.PlacesOfCopies.{copy_out_is}
 use Rattle.flow_block_law.proofs.PlacesOfLinks.{end_in_is, end_out_is, shares_at}
 use Rattle.flow_core.proofs.SourcesByKind.{shared_view, copied_view, shared_next, copied_next}
 use Rattle.flow_core.specs.Events.{NetEvent, is_of_source, peek_by, source_peek, target_peek}
+use Rattle.flow_exit.specs.Exit.{exit_move, exit_move_at, wants_one}
+use Rattle.flow_exit.specs.ExitKeeps.{is_plain}
 use Rattle.flow_core.specs.Keeps.{IsRun, NetKeeps}
-use Rattle.flow_core.specs.State.{NetState, node_at, input_at, ends_of, source_from, target_from, run_of_net}
+use Rattle.flow_core.specs.State.{NetState, node_at, input_at, exit_at, ends_of, source_from, target_from, run_of_net}
 use Rattle.flow_core.specs.Statements.{IsStill, StillIsQuiet}
 use Rattle.flow_core.proofs.KeptIsLawful.{input_law, is_input, is_node, parts_keep, port_of_link, may_carry}
 use Rattle.flow_core.proofs.InputsTakeFreely.{input_takes_freely}
@@ -65,6 +68,20 @@ not_asked _ e = refl
 held_reserves : (stage : TargetStage Value) → is_holding stage ≡ true → target_reserves stage ≡ true
 held_reserves (TargetStage.holding i) e = refl
 held_reserves _ e = absurd (cc)
+
+-- An exit that has no move has answered and taken what came to it, and it keeps nothing for later
+
+has_received : (wants : Bool) (stage : TargetKept) (hand : Option Value) → exit_move_at wants stage ≡ None
+    → is_to_receive (target_stage_of stage hand) ≡ false
+has_received wants (target.Offered i) hand e = absurd (cc)
+has_received wants (target.Posted i) hand e = absurd (cc)
+has_received wants (target.Arrived i) hand e = absurd (cc)
+has_received wants (target.Hand i) hand e = absurd (cc)
+has_received wants _ hand e = refl
+
+never_holds : (stage : TargetKept) (hand : Option Value) → is_plain stage ≡ true → is_holding (target_stage_of stage hand) ≡ false
+never_holds (target.Holding i) hand e = absurd (cc)
+never_holds _ hand e = refl
 
 -- The ends of a link that is at rest are at rest
 
@@ -273,6 +290,9 @@ module _ {W : Type 0} (layout : Layout W) (meaning : ℕ → Value → Result (L
           → input_move (input_at layout net b) ≡ None
       input_done l b there from = sym (ap (source_peek layout net l) from) ∙ source_done l there
 
+      exit_done : (l : ℕ) → l < length layout.links → (link l).target ≡ Exit → exit_move (exit_at layout net l) ≡ None
+      exit_done l there into = sym (ap (target_peek layout net l) into) ∙ target_done l there
+
       input_not_asked : (l b : ℕ) → l < length layout.links → (link l).source ≡ Input b
           → is_asked (input_at layout net b).stage ≡ false
       input_not_asked l b there from =
@@ -294,7 +314,13 @@ module _ {W : Type 0} (layout : Layout W) (meaning : ℕ → Value → Result (L
               (input_law layout meaning runs net keeps l b there from)
               (is_input layout meaning runs net keeps l b from) (input_not_asked l b there from)
               (input_done l b there from);
-          exits = λ l there into. absurd (runs.inside l there into);
+          exits = λ l there into.
+              let exit = exit_at layout net l in
+              let stage = ap (λ (target : LinkTarget). (target_from layout net l target).stage) into in
+              record {
+                receives = ap is_to_receive stage ∙ has_received (wants_one exit) exit.stage exit.hand (exit_done l there into);
+                claims = ap is_holding stage ∙ never_holds exit.stage exit.hand (keeps.exits l there into).plain;
+              };
         }
 
         pub links_are_at_rest : (l : ℕ) → l < length layout.links → is_at_rest (ends l).phase ≡ true

@@ -43,7 +43,7 @@ own_moves : OwnMovesAreSeen Value
 own_moves = (looks_keep Value).own_moves
 
 -- what a target knows that stands at this stage
-abbrev standing : List Value → TargetKept → Option Value → TargetView Value
+abbrev pub standing : List Value → TargetKept → Option Value → TargetView Value
 standing taken stage hand = record { before = 0; taken = taken; stage = target_stage_of stage hand }
 
 -- an offer that is consumed waits
@@ -101,7 +101,7 @@ module _ (facts : LinkFacts) (phase new : Phase) (slot : Option Value) (source :
     abbrev Moved : TargetView Value → Type 0
     Moved view = TargetMoved facts new slot source view
 
-    wants_offer : facts.reserving ≡ false → (stage : TargetKept) → is_offer stage ≡ true → Stands stage
+    pub wants_offer : facts.reserving ≡ false → (stage : TargetKept) → is_offer stage ≡ true → Stands stage
         → IsAllowed move.Want → Moved (wanting (message_of stage) (standing taken stage hand))
     wants_offer free (target.Offered i) e ok allowed =
         let view = standing taken (target.Offered i) hand in
@@ -113,7 +113,7 @@ module _ (facts : LinkFacts) (phase new : Phase) (slot : Option Value) (source :
         (keeps.want facts phase slot source view ok i (inr refl) free) allowed (own_moves.want i view)
     wants_offer free _ e ok allowed = absurd (cc)
 
-    turns_down_posted : (stage : TargetKept) → is_posted stage ≡ true → Stands stage → IsAllowed move.TurnDown
+    pub turns_down_posted : (stage : TargetKept) → is_posted stage ≡ true → Stands stage → IsAllowed move.TurnDown
         → Moved (turning_down (standing taken stage hand))
     turns_down_posted (target.Posted i) e ok allowed =
         let view = standing taken (target.Posted i) hand in
@@ -121,7 +121,7 @@ module _ (facts : LinkFacts) (phase new : Phase) (slot : Option Value) (source :
         (keeps.turn_down facts phase slot source view ok i refl) allowed (own_moves.turn_down view)
     turns_down_posted _ e ok allowed = absurd (cc)
 
-    postpones_offer : facts.steady ≡ false → (facts.sole ≡ true → 1 ≤ 0 + length taken) → (stage : TargetKept)
+    pub postpones_offer : facts.steady ≡ false → (facts.sole ≡ true → 1 ≤ 0 + length taken) → (stage : TargetKept)
         → is_offered stage ≡ true → Stands stage → IsAllowed move.Postpone
         → Moved (postponing (message_of stage) (standing taken stage hand))
     postpones_offer not_steady not_the_first (target.Offered i) e ok allowed =
@@ -150,7 +150,7 @@ module _ (facts : LinkFacts) (phase new : Phase) (slot : Option Value) (source :
         (own_moves.refuse why view)
     refuses_offer why _ e ok allowed = absurd (cc)
 
-    consumes_offer : facts.reserving ≡ false → (stage : TargetKept) → is_postponed stage ≡ true → Stands stage
+    pub consumes_offer : facts.reserving ≡ false → (stage : TargetKept) → is_postponed stage ≡ true → Stands stage
         → IsAllowed move.Consume → Moved (consuming (message_of stage) (standing taken stage hand))
     consumes_offer free (target.Postponed i) e ok allowed =
         let view = standing taken (target.Postponed i) hand in
@@ -186,12 +186,12 @@ module _ (facts : LinkFacts) (phase new : Phase) (slot : Option Value) (source :
     releases_held _ e ok allowed = absurd (cc)
 
     -- what lies in the slot is there, and is opened
-    record OpensSlot (stage : TargetKept) : Type 0 where
-      value : Value
-      in_slot : slot ≡ Some value
-      moved : TargetMoved facts new None source (opening (message_of stage) value (standing taken stage hand))
+    pub record OpensSlot (stage : TargetKept) : Type 0 where
+      pub value : Value
+      pub in_slot : slot ≡ Some value
+      pub moved : TargetMoved facts new None source (opening (message_of stage) value (standing taken stage hand))
 
-    opens_slot : (stage : TargetKept) → is_arrived stage ≡ true → Stands stage → IsAllowed move.Open → OpensSlot stage
+    pub opens_slot : (stage : TargetKept) → is_arrived stage ≡ true → Stands stage → IsAllowed move.Open → OpensSlot stage
     opens_slot (target.Arrived i) e ok allowed =
         let view = standing taken (target.Arrived i) hand in
         let opens = keeps.«open» facts phase slot source view ok i refl in
@@ -203,7 +203,7 @@ module _ (facts : LinkFacts) (phase new : Phase) (slot : Option Value) (source :
         }
     opens_slot _ e ok allowed = absurd (cc)
 
-    closes_hand : (value : Value) → hand ≡ Some value → (stage : TargetKept) → is_hand stage ≡ true → Stands stage
+    pub closes_hand : (value : Value) → hand ≡ Some value → (stage : TargetKept) → is_hand stage ≡ true → Stands stage
         → IsAllowed move.Close → Moved (closing value (standing taken stage hand))
     closes_hand value held (target.Hand i) e ok allowed =
         let view = standing taken (target.Hand i) hand in

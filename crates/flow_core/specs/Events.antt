@@ -22,9 +22,10 @@ use Rattle.flow_block_law.specs.JobsEnd.{after_job, put_at_end}
 use Rattle.flow_block_law.specs.NextMoves.{next_in, next_source}
 use Rattle.flow_block.specs.Node.{NodeState, NodeCall, given_next, after as after_call}
 use Rattle.flow_block.specs.Peeks.{lacks_next, may_make, may_begin, may_end, may_complete, next_fault, may_finish}
-use Rattle.flow_block.specs.Planned.{in_place, out_place, input_place, block_makes}
+use Rattle.flow_block.specs.Planned.{in_place, out_place, input_place, exit_place, block_makes}
 use Rattle.flow_link.specs.declared.trace.LinkState.{LinkState}
-use Rattle.flow_core.specs.State.{NetState, node_at, line_at, input_at}
+use Rattle.flow_exit.specs.Exit.{ExitState, ExitCall, exit_move, exit_call, exit_after}
+use Rattle.flow_core.specs.State.{NetState, node_at, line_at, input_at, exit_at}
 
 pub data NetEvent : Type 0 where
   -- a move at a link
@@ -114,6 +115,9 @@ module _ {W : Type 0} (layout : Layout W) where
   abbrev pub with_input : ℕ → (InputState → InputState) → NetState → NetState
   with_input b change net = record net { inputs = set net.inputs (input_place layout b) (change (input_at layout net b)) }
 
+  abbrev pub with_exit : ℕ → (ExitState → ExitState) → NetState → NetState
+  with_exit l change net = record net { exits = set net.exits (exit_place layout l) (change (exit_at layout net l)) }
+
   -- what the two ends of a link would do next
   abbrev pub source_peek : NetState → ℕ → LinkSource → Option Move
   source_peek net l (Block s) = next_source (out_place layout s l) (node_at net s)
@@ -121,7 +125,7 @@ module _ {W : Type 0} (layout : Layout W) where
 
   abbrev pub target_peek : NetState → ℕ → LinkTarget → Option Move
   target_peek net l (Port t p) = next_in p (in_place layout t p l) (node_at net t)
-  target_peek net l Exit = None
+  target_peek net l Exit = exit_move (exit_at layout net l)
 
   abbrev pub peek_by : Bool → NetState → ℕ → Link → Option Move
   peek_by true net l link = source_peek net l link.source
@@ -172,7 +176,7 @@ module _ {W : Type 0} (layout : Layout W) (meaning : ℕ → Value → Result (L
 
   abbrev pub target_moves : ℕ → Move → LinkTarget → NetState → NetState
   target_moves l next (Port t p) net = with_node t (node_after t (in_call p (in_place layout t p l) (line_at net l).slot next)) net
-  target_moves l next Exit net = net
+  target_moves l next Exit net = with_exit layout l (exit_after (exit_call (line_at net l).slot next)) net
 
   abbrev pub source_sees : ℕ → Phase → LinkSource → NetState → NetState
   source_sees l phase (Block s) net =
@@ -181,7 +185,7 @@ module _ {W : Type 0} (layout : Layout W) (meaning : ℕ → Value → Result (L
 
   abbrev pub target_sees : ℕ → Phase → LinkTarget → NetState → NetState
   target_sees l phase (Port t p) net = with_node t (node_after t (Some (NodeCall.look_in p (in_place layout t p l) phase))) net
-  target_sees l phase Exit net = net
+  target_sees l phase Exit net = with_exit layout l (exit_after (Some (ExitCall.look phase))) net
 
   abbrev pub line_after : ℕ → Move → Phase → LinkSource → NetState → LinkState
   line_after l next phase source net =

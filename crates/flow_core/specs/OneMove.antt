@@ -5,7 +5,7 @@ use Rattle.flow_value.specs.declared.value.Value.{Value}
 use Rattle.flow_link.specs.declared.phase.Move.{Move}
 use Rattle.flow_link.specs.declared.phase.Phase.{Phase}
 use Rattle.flow_link.specs.declared.plan.LinkSource.TheVariants.{Block, Input}
-use Rattle.flow_link.specs.declared.plan.LinkTarget.TheVariants.{Port}
+use Rattle.flow_link.specs.declared.plan.LinkTarget.TheVariants.{Port, Exit}
 use Rattle.flow_link.specs.Facts.{facts_in}
 use Rattle.flow_link.specs.Layout.{Layout}
 use Rattle.flow_link.specs.LinkOk.{LinkOk}
@@ -19,6 +19,8 @@ use Rattle.flow_block_law.specs.NextMoves.{next_in, next_source}
 use Rattle.flow_block.specs.Node.{NodeState, in_view, given_next, source_view}
 use Rattle.flow_block_law.specs.NodeLaw.{NodeLaw}
 use Rattle.flow_block.specs.Planned.{in_place, out_place}
+use Rattle.flow_exit.specs.Exit.{ExitState, exit_view, exit_move, exit_call, exit_after}
+use Rattle.flow_exit.specs.ExitKeeps.{ExitLaw}
 use Rattle.flow_core.specs.Events.{node_after, source_call, in_call, input_call, input_after, slot_after}
 use Rattle.flow_core.specs.Keeps.{IsRun}
 
@@ -61,3 +63,10 @@ module _ (W : Type 0) where
       → next_in p (in_place layout t p l) node ≡ Some next → phase_after phase next ≡ Some new
       → TargetMoved (facts_in layout l) new (slot_after next given slot) source
       (in_view p (in_place layout t p l) (node_after layout meaning t (in_call p (in_place layout t p l) slot next) node))
+
+  abbrev pub ExitsMoveWell : Type 0
+  ExitsMoveWell =
+      (layout : Layout W) (l : ℕ) → (link_in layout.links l).target ≡ Exit → (exit : ExitState) → ExitLaw exit
+      → (phase new : Phase) (slot given : Option Value) (source : SourceView Value) (next : Move)
+      → LinkOk (facts_in layout l) phase slot source (exit_view exit) → exit_move exit ≡ Some next → phase_after phase next ≡ Some new
+      → TargetMoved (facts_in layout l) new (slot_after next given slot) source (exit_view (exit_after (exit_call slot next) exit))

@@ -13,10 +13,12 @@ use Rattle.flow_link.specs.Trace.{InputTrace}
 use Rattle.flow_lists.specs.Lists.{every}
 use Rattle.flow_link.specs.Posted.{ends_by_number}
 use Rattle.flow_link.specs.Views.{SourceStage}
+use Rattle.flow_link.specs.declared.plan.LinkTarget.TheVariants.{Exit}
+use Rattle.flow_exit.specs.Exit.{ExitCall, after_exit, is_callers}
 use Rattle.flow_core.specs.AtRest.{AtRest}
-use Rattle.flow_core.specs.Events.{NetEvent, Enabled, MayHappen, after, peek_by, is_of_source}
+use Rattle.flow_core.specs.Events.{NetEvent, Enabled, MayHappen, after, peek_by, is_of_source, with_exit}
 use Rattle.flow_core.specs.Keeps.{IsRun, NetKeeps, LineKeeps}
-use Rattle.flow_core.specs.State.{NetState, line_at, ends_of, run_of_net, fresh_net}
+use Rattle.flow_core.specs.State.{NetState, line_at, ends_of, callers_in, run_of_net, fresh_net}
 
 module _ {W : Type 0} (layout : Layout W) (meaning : ℕ → Value → Result (List Value) ℕ) where
   -- nothing may happen any more
@@ -55,6 +57,8 @@ module _ {W : Type 0} (layout : Layout W) (meaning : ℕ → Value → Result (L
     -- each link is in order, and each end of it has seen its phase
     pub links : (l : ℕ) → l < length layout.links → LineKeeps layout now l
     pub same_inputs : (run_of_net layout meaning now).trace.inputs ≡ (run_of_net layout meaning start).trace.inputs
+    -- what the callers of exits have received and asked for is theirs to change
+    pub same_callers : callers_in now ≡ callers_in start
     pub kept : HoldsForOne now
     -- and it is quiet where nothing may happen any more
     pub quiet : IsStill now → Quiet (run_of_net layout meaning now)
@@ -77,6 +81,13 @@ module _ (W : Type 0) where
   EventsKeep = OfEachNet λ layout meaning.
       (net : NetState) (event : NetEvent) → NetKeeps layout meaning net → MayHappen layout meaning event net
       → NetKeeps layout meaning (after layout meaning event net)
+
+  -- and so does what the caller of an exit does
+  abbrev pub ExitCallsKeep : Type 0
+  ExitCallsKeep = OfEachNet λ layout meaning.
+      (net : NetState) (l : ℕ) (call : ExitCall) → NetKeeps layout meaning net → l < length layout.links
+      → (link_in layout.links l).target ≡ Exit → is_callers call ≡ true
+      → NetKeeps layout meaning (with_exit layout l (after_exit call) net)
 
   -- and then the run so far is lawful
   abbrev pub KeptIsLawful : Type 0

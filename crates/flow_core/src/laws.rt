@@ -1,6 +1,6 @@
 //! Laws about the states of a network. Each stands on a function that does nothing: whoever calls it has the whole law.
 ghost use Rattle.flow_core.specs.Numbers.{BlocksFaultByNumber};
-ghost use Rattle.flow_core.specs.Statements.{EventsKeep, FreshKeeps, KeptIsHeld, KeptIsLawful, NextIsAllowed};
+ghost use Rattle.flow_core.specs.Statements.{EventsKeep, ExitCallsKeep, FreshKeeps, KeptIsHeld, KeptIsLawful, NextIsAllowed};
 ghost use Rattle.flow_core.specs.Statements.{SchedulesGoWell, StillIsQuiet, StillRests};
 
 /// A network in which nothing has happened is in order.
@@ -11,6 +11,11 @@ pub fn fresh_networks_are_in_order<W>()
 /// Each event that may happen keeps each block, input and link in order, and both ends of each link aware of it.
 pub fn events_keep_networks_in_order<W>()
     ensures { EventsKeep W }
+{}
+
+/// What the caller of an exit does, which is to ask and to receive, keeps the network in order, too.
+pub fn exit_calls_keep_networks_in_order<W>()
+    ensures { ExitCallsKeep W }
 {}
 
 /// The run of a network in order is lawful.

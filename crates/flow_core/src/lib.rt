@@ -5,6 +5,7 @@ mod laws;
 
 pub use laws::{
     blocks_fault_by_number, events_keep_networks_in_order, every_schedule_goes_well,
-    fresh_networks_are_in_order, kept_messages_go_to_one, networks_in_order_are_lawful,
-    next_moves_are_allowed, quiet_networks_are_at_rest, quiet_networks_are_quiet,
+    exit_calls_keep_networks_in_order, fresh_networks_are_in_order, kept_messages_go_to_one,
+    networks_in_order_are_lawful, next_moves_are_allowed, quiet_networks_are_at_rest,
+    quiet_networks_are_quiet,
 };

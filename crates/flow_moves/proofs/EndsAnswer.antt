@@ -15,10 +15,11 @@ use Rattle.flow_link.specs.declared.trace.Outcome.{Outcome}
 use Rattle.flow_lists.specs.Lists.{is_empty}
 use Rattle.flow_link.specs.Stage.{source_stage_of, target_stage_of, source_looks, target_looks}
 use Rattle.flow_link.specs.Views.{SourceStage as SourceSeen, TargetStage as TargetSeen}
-use Rattle.flow_intake.specs.Port.{EndState, PortState, fresh_end, end_in, stage_at, is_coming, coming, is_below, has_room}
-use Rattle.flow_intake.specs.Calls.{answer_to, answer_where, move_of, move_at, in_move, looks, queue_after}
+use Rattle.flow_intake.specs.Port.{EndState, PortState, fresh_end, end_in, stage_at, is_hand, is_coming, coming, is_below, has_room}
+use Rattle.flow_intake.specs.Calls.{is_arrived, answer_to, answer_where, move_of, move_at, in_move, looks, queue_after}
 use Rattle.flow_intake.specs.Receives.{is_accepted, takes_at_once}
 use Rattle.flow_intake.specs.ByLink.{is_free}
+use Rattle.flow_exit.specs.Exit.{exit_move_at}
 use Rattle.flow_intake.proofs.CountsOfEnds.{count_same}
 use Rattle.flow_intake.proofs.ReceivesAtOnce.{takes_tells}
 use Rattle.flow_outlet.specs.Outlet.{OutletState, end_at, stage_at as out_stage_at, out_move, move_at as out_move_at, looks as out_looks}
@@ -98,34 +99,68 @@ copy_accepted k i copies stopped held_up there out =
 
 -- A target opens what has arrived, and takes what it has in hand
 
+-- an end at which a message has arrived, or which has one in hand, is kept so
+seen_arrived : (i : ℕ) (stage : TargetStage) (hand : Option Value) → target_stage_of stage hand ≡ TargetSeen.arrived i
+    → is_arrived stage ≡ true
+seen_arrived i target.Free hand is = absurd (cc)
+seen_arrived i (target.Offered j) hand is = absurd (cc)
+seen_arrived i (target.Posted j) hand is = absurd (cc)
+seen_arrived i (target.Postponed j) hand is = absurd (cc)
+seen_arrived i (target.Accepted j) hand is = absurd (cc)
+seen_arrived i (target.Consuming j) hand is = absurd (cc)
+seen_arrived i (target.Asking j) hand is = absurd (cc)
+seen_arrived i (target.Holding j) hand is = absurd (cc)
+seen_arrived i (target.Claiming j) hand is = absurd (cc)
+seen_arrived i (target.Arrived j) hand is = refl
+seen_arrived i (target.Hand j) hand is = absurd (cc)
+seen_arrived i (target.Refused why) hand is = absurd (cc)
+seen_arrived i (target.Ended how) hand is = absurd (cc)
+
+seen_hand : (i : ℕ) (value : Value) (stage : TargetStage) (hand : Option Value) → target_stage_of stage hand ≡ TargetSeen.hand i value
+    → is_hand stage ≡ true
+seen_hand i value target.Free hand is = absurd (cc)
+seen_hand i value (target.Offered j) hand is = absurd (cc)
+seen_hand i value (target.Posted j) hand is = absurd (cc)
+seen_hand i value (target.Postponed j) hand is = absurd (cc)
+seen_hand i value (target.Accepted j) hand is = absurd (cc)
+seen_hand i value (target.Consuming j) hand is = absurd (cc)
+seen_hand i value (target.Asking j) hand is = absurd (cc)
+seen_hand i value (target.Holding j) hand is = absurd (cc)
+seen_hand i value (target.Claiming j) hand is = absurd (cc)
+seen_hand i value (target.Arrived j) hand is = absurd (cc)
+seen_hand i value (target.Hand j) hand is = refl
+seen_hand i value (target.Refused why) hand is = absurd (cc)
+seen_hand i value (target.Ended how) hand is = absurd (cc)
+
+port_opens : (k : ℕ) (port : PortState) (stage : TargetStage) → is_arrived stage ≡ true → move_at k port stage ≡ Some Open
+port_opens k port (target.Arrived j) e = refl
+port_opens k port _ e = absurd (cc)
+
+port_closes_hand : (k : ℕ) (port : PortState) (stage : TargetStage) → is_hand stage ≡ true → move_at k port stage ≡ Some Close
+port_closes_hand k port (target.Hand j) e = refl
+port_closes_hand k port _ e = absurd (cc)
+
+end_opens : (wants : Bool) (stage : TargetStage) → is_arrived stage ≡ true → exit_move_at wants stage ≡ Some Open
+end_opens wants (target.Arrived j) e = refl
+end_opens wants _ e = absurd (cc)
+
+end_closes : (wants : Bool) (stage : TargetStage) → is_hand stage ≡ true → exit_move_at wants stage ≡ Some Close
+end_closes wants (target.Hand j) e = refl
+end_closes wants _ e = absurd (cc)
+
 pub arrived_opens : (k i : ℕ) (port : PortState) (stage : TargetStage) (hand : Option Value)
     → target_stage_of stage hand ≡ TargetSeen.arrived i → move_at k port stage ≡ Some Open
-arrived_opens k i port (target.Arrived j) hand is = refl
-arrived_opens k i port target.Free hand is = absurd (cc)
-arrived_opens k i port (target.Offered j) hand is = absurd (cc)
-arrived_opens k i port (target.Posted j) hand is = absurd (cc)
-arrived_opens k i port (target.Postponed j) hand is = absurd (cc)
-arrived_opens k i port (target.Accepted j) hand is = absurd (cc)
-arrived_opens k i port (target.Consuming j) hand is = absurd (cc)
-arrived_opens k i port (target.Asking j) hand is = absurd (cc)
-arrived_opens k i port (target.Holding j) hand is = absurd (cc)
-arrived_opens k i port (target.Claiming j) hand is = absurd (cc)
-arrived_opens k i port (target.Hand j) hand is = absurd (cc)
-arrived_opens k i port (target.Refused why) hand is = absurd (cc)
-arrived_opens k i port (target.Ended how) hand is = absurd (cc)
+arrived_opens k i port stage hand is = port_opens k port stage (seen_arrived i stage hand is)
 
 pub hand_closes : (k i : ℕ) (value : Value) (port : PortState) (stage : TargetStage) (hand : Option Value)
     → target_stage_of stage hand ≡ TargetSeen.hand i value → move_at k port stage ≡ Some Close
-hand_closes k i value port (target.Hand j) hand is = refl
-hand_closes k i value port target.Free hand is = absurd (cc)
-hand_closes k i value port (target.Offered j) hand is = absurd (cc)
-hand_closes k i value port (target.Posted j) hand is = absurd (cc)
-hand_closes k i value port (target.Postponed j) hand is = absurd (cc)
-hand_closes k i value port (target.Accepted j) hand is = absurd (cc)
-hand_closes k i value port (target.Consuming j) hand is = absurd (cc)
-hand_closes k i value port (target.Asking j) hand is = absurd (cc)
-hand_closes k i value port (target.Holding j) hand is = absurd (cc)
-hand_closes k i value port (target.Claiming j) hand is = absurd (cc)
-hand_closes k i value port (target.Arrived j) hand is = absurd (cc)
-hand_closes k i value port (target.Refused why) hand is = absurd (cc)
-hand_closes k i value port (target.Ended how) hand is = absurd (cc)
+hand_closes k i value port stage hand is = port_closes_hand k port stage (seen_hand i value stage hand is)
+
+-- and so does the end of a link out of the network
+pub exit_opens : (i : ℕ) (wants : Bool) (stage : TargetStage) (hand : Option Value)
+    → target_stage_of stage hand ≡ TargetSeen.arrived i → exit_move_at wants stage ≡ Some Open
+exit_opens i wants stage hand is = end_opens wants stage (seen_arrived i stage hand is)
+
+pub exit_closes : (i : ℕ) (value : Value) (wants : Bool) (stage : TargetStage) (hand : Option Value)
+    → target_stage_of stage hand ≡ TargetSeen.hand i value → exit_move_at wants stage ≡ Some Close
+exit_closes i value wants stage hand is = end_closes wants stage (seen_hand i value stage hand is)

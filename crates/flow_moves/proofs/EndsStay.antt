@@ -116,7 +116,8 @@ in_stays result p k slot _ node = refl
 module _ (makes : ℕ → Value → Result (List Value) ℕ) (next : Move) where
   pub target_stays : (source : LinkSource) (k : ℕ) (target : LinkTarget) (j : ℕ) (net : NetState)
       → TargetIsThere net target j → TargetIsThere (source_moved makes next source k net) target j
-  target_stays source k Exit j net there = there
+  target_stays (Input b) k Exit j net there = there
+  target_stays (Block s) k Exit j net there = there
   target_stays (Input b) k (Port t p) j net there = there
   target_stays (Block s) k (Port t p) j net there =
       let moved = called (makes s) (source_call (node_at net s).block.kind k next) (node_at net s) in (
@@ -128,7 +129,8 @@ module _ (makes : ℕ → Value → Result (List Value) ℕ) (next : Move) where
 
   pub source_stays : (target : LinkTarget) (j : ℕ) (slot : Option Value) (source : LinkSource) (k : ℕ) (net : NetState)
       → SourceIsThere net source k → SourceIsThere (target_moved makes next slot target j net) source k
-  source_stays Exit j slot source k net there = there
+  source_stays Exit j slot (Input b) k net there = there
+  source_stays Exit j slot (Block s) k net there = there
   source_stays (Port t p) j slot (Input b) k net there = there
   source_stays (Port t p) j slot (Block s) k net there =
       let moved = called (makes t) (in_call p j slot next) (node_at net t) in (

@@ -9,10 +9,10 @@ use Rattle.flow_link.specs.declared.plan.LinkTarget.TheVariants.{Port, Exit}
 use Rattle.flow_link.specs.Layout.{Layout}
 use Rattle.flow_link.specs.Plan.{link_in, no_block, is_one_taker}
 use Rattle.flow_core.specs.Keeps.{IsRun, NetKeeps}
-use Rattle.flow_block.specs.Planned.{out_place, input_place}
+use Rattle.flow_block.specs.Planned.{out_place, input_place, leads_out}
 use Rattle.flow_core.specs.State.{NetState, node_at}
-use Rattle.flow_core.proofs.PlacesOfLinks.{exit_there, copy_there, entry_there, port_there}
-use Rattle.flow_lists.proofs.PlacesTell.{count_within}
+use Rattle.flow_core.proofs.PlacesOfLinks.{exit_there, copy_there, entry_there, port_there, leads_there}
+use Rattle.flow_lists.proofs.PlacesTell.{count_within, place_rises}
 use Rattle.flow_moves.specs.Ready.{IsThere, SourceIsThere, TargetIsThere, exit_count}
 use Rattle.flow_moves.specs.Statements.{LinksAreThere}
 use Rattle.flow_block.specs.Routes.{source_place, target_place, route_of}
@@ -59,7 +59,8 @@ module _ {W : Type 0} (layout : Layout W) (meaning : ℕ → Value → Result (L
           stands = refl;
         },
       )
-  target_there Exit to = tt
+  target_there Exit to =
+      omega (arith, place_rises (leads_out layout) l (length layout.links) there (leads_there layout l to), keeps.exit_count)
 
   link_there : IsThere net l (route_of layout l)
   link_there = record {

@@ -47,13 +47,16 @@ use Rattle.flow_block_law.proofs.InputsInOrder.{inputs_keep}
 use Rattle.flow_block_law.proofs.NextMoves.{next_moves_may}
 use Rattle.flow_core.specs.Events.{NetEvent, HasIds, is_of_source, source_peek, target_peek, peek_by}
 use Rattle.flow_core.specs.Keeps.{IsRun, NetKeeps}
-use Rattle.flow_core.specs.State.{NetState, node_at, line_at, input_at}
+use Rattle.flow_core.specs.State.{NetState, node_at, line_at, input_at, exit_at}
 use Rattle.flow_core.proofs.PartsChange.{given_at, taken_as}
 use Rattle.flow_core.proofs.PlacesOfLinks.{exit_there, copy_there, entry_there, port_there}
 use Rattle.flow_core.proofs.SourcesByKind.{shared_next, copied_next}
 use Rattle.flow_block_law.proofs.WishesTell.{asks_so, claims_so, releases_so}
 use Rattle.flow_moves.specs.Ready.{GiveIsReady, OutIsReady, CopyIsReadyToGive, CopyIsReady, ReadyBy, InIsReady}
-use Rattle.flow_moves.specs.Ready.{InputIsReady, SourceIsReady, TargetIsReady, MoverIsReady}
+use Rattle.flow_exit.specs.Exit.{ExitState, exit_view}
+use Rattle.flow_exit.specs.ExitKeeps.{MayMoveExit}
+use Rattle.flow_exit.proofs.ExitsKeep.{exits_keep}
+use Rattle.flow_moves.specs.Ready.{ExitEndIsReady, InputIsReady, SourceIsReady, TargetIsReady, MoverIsReady}
 use Rattle.flow_moves.specs.Statements.{MovesAreReady}
 use Rattle.flow_block.specs.Routes.{source_place, target_place, route_of}
 
@@ -81,6 +84,20 @@ slot_full : (facts : LinkFacts) (phase : Phase) (slot hand : Option Value) (sour
 slot_full facts phase slot hand source target (Arrived i) e at ok =
     ap is_some ((target_moves_keep Value).«open» facts phase slot source target ok i at).in_slot
 slot_full facts phase slot hand source target _ e at ok = absurd (cc)
+
+-- The end of a link out of the network is ready
+
+exit_end_ready : (exit : ExitState) (facts : LinkFacts) (phase : Phase) (slot : Option Value) (source : SourceView Value)
+    → LinkOk facts phase slot source (exit_view exit) → (next : Move) → MayMoveExit exit next → ExitEndIsReady slot next exit
+exit_end_ready exit facts phase slot source ok move.Want may = (may.there, may.none_kept)
+exit_end_ready exit facts phase slot source ok move.TurnDown may = may
+exit_end_ready exit facts phase slot source ok move.Postpone may = may
+exit_end_ready exit facts phase slot source ok move.Consume may = (may.there, may.none_kept)
+exit_end_ready exit facts phase slot source ok move.Open may =
+    let arrived = may (in_hand None) in
+    (arrived, slot_full facts phase slot exit.hand source (exit_view exit) exit.stage arrived refl ok)
+exit_end_ready exit facts phase slot source ok move.Close may = may
+exit_end_ready exit facts phase slot source ok _ may = absurd may
 
 -- An input is ready
 
@@ -223,7 +240,14 @@ module _ {W : Type 0} (layout : Layout W) (meaning : ℕ → Value → Result (L
       (taken_as layout net l (Port t p) to) (keeps.lines l there).in_order in
       in_ready layout meaning t node law p k (facts_in layout l) phase slot given ok next
       ((next_moves_may layout meaning t node run.well_formed low law).0 p k next port place peek)
-  target_ready Exit to peek = absurd (cc)
+  target_ready Exit to peek =
+      let exit = exit_at layout net l in
+      let phase = (line_at net l).phase in
+      let slot = (line_at net l).slot in
+      let given = given_at layout net l in
+      let ok = subst (λ (view : TargetView Value). LinkOk (facts_in layout l) phase slot given view)
+      (taken_as layout net l Exit to) (keeps.lines l there).in_order in
+      exit_end_ready exit (facts_in layout l) phase slot given ok next (exits_keep.next exit next peek)
 
   mover_ready : (by_source : Bool) → peek_by layout by_source net l (link_in layout.links l) ≡ Some next
       → MoverIsReady net l (route_of layout l) by_source next

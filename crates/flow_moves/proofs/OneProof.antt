@@ -1,9 +1,10 @@
 -- What code is told of a network in order has one proof at most, so it follows where the network merely is in order.
 use Rattle.std.specs.Prelude.{ℕ, Bool, true, false, List, Option, Some, None, Result}
-use Rattle.std.specs.Coded.{le_prop}
+use Rattle.std.specs.Coded.{le_prop, Coded-set, coded_option}
 use Rattle.std.proofs.Math.Bool.{Bool-set}
 use Rattle.std.proofs.Math.Nat.{ℕ_set}
 use mathlib.Core.Sum.{⊎_set}
+use Rattle.flow_value.specs.contracts.value.Value as content
 use Rattle.flow_value.specs.declared.value.Value.{Value}
 use Rattle.flow_link.specs.declared.phase.Move.{Move}
 use Rattle.flow_link.specs.declared.phase.Move.TheVariants as move
@@ -28,9 +29,10 @@ use Rattle.flow_core.specs.State.{NetState, node_at, line_at}
 use Rattle.flow_moves.specs.Passes.{MayPass, after_offer, after_want, after_give, after_open}
 use Rattle.flow_moves.specs.Ready.{SourceIsThere, TargetIsThere, IsThere, GiveIsReady, OutIsReady, CopyIsReadyToGive}
 use Rattle.flow_moves.specs.Ready.{CopyIsReady, ReadyBy, InIsReady}
-use Rattle.flow_moves.specs.Ready.{InputIsReady, SourceIsReady, TargetIsReady, MoverIsReady, IsReady}
+use Rattle.flow_moves.specs.Ready.{ExitEndIsReady, InputIsReady, SourceIsReady, TargetIsReady, MoverIsReady, IsReady}
 use Rattle.flow_moves.specs.Statements.{IsPlanned}
-use Rattle.flow_moves.specs.Ways.{input_in}
+use Rattle.flow_exit.specs.Exit.{ExitState}
+use Rattle.flow_moves.specs.Ways.{input_in, exit_in}
 
 pub lawful_prop : {W : Type 0} (run : Run W) → IsProp (Lawful run)
 lawful_prop run = hlevel (ℕ_set, Bool-set)
@@ -56,7 +58,7 @@ source_there_prop net (Input b) k = le_prop
 
 target_there_prop : (net : NetState) (target : LinkTarget) (k : ℕ) → IsProp (TargetIsThere net target k)
 target_there_prop net (Port t p) k = hlevel (le_prop, Bool-set)
-target_there_prop net Exit k = hlevel
+target_there_prop net Exit k = le_prop
 
 pub there_prop : (net : NetState) (l : ℕ) (route : Route) → IsProp (IsThere net l route)
 there_prop net l route =
@@ -118,6 +120,15 @@ in_ready_prop p k slot move.Open node = hlevel (le_prop, Bool-set)
 in_ready_prop p k slot move.Close node = hlevel (le_prop, Bool-set)
 in_ready_prop p k slot _ node = hlevel
 
+exit_end_ready_prop : (slot : Option Value) (next : Move) (exit : ExitState) → IsProp (ExitEndIsReady slot next exit)
+exit_end_ready_prop slot move.Want exit = hlevel (Bool-set, Coded-set (coded_option content.the_row.coded))
+exit_end_ready_prop slot move.TurnDown exit = Bool-set _ _
+exit_end_ready_prop slot move.Postpone exit = Bool-set _ _
+exit_end_ready_prop slot move.Consume exit = hlevel (Bool-set, Coded-set (coded_option content.the_row.coded))
+exit_end_ready_prop slot move.Open exit = hlevel Bool-set
+exit_end_ready_prop slot move.Close exit = Bool-set _ _
+exit_end_ready_prop slot _ exit = hlevel
+
 input_ready_prop : (next : Move) (input : InputState) → IsProp (InputIsReady next input)
 input_ready_prop (move.Offer id) input = hlevel (le_prop, Bool-set)
 input_ready_prop move.Give input = hlevel Bool-set
@@ -131,7 +142,7 @@ source_ready_prop next net (Input b) k = input_ready_prop next (input_in net k)
 target_ready_prop : (l : ℕ) (next : Move) (net : NetState) (target : LinkTarget) (k : ℕ)
     → IsProp (TargetIsReady l next net target k)
 target_ready_prop l next net (Port t p) k = in_ready_prop p k (line_at net l).slot next (node_at net t)
-target_ready_prop l next net Exit k = hlevel
+target_ready_prop l next net Exit k = exit_end_ready_prop (line_at net l).slot next (exit_in net k)
 
 mover_ready_prop : (net : NetState) (l : ℕ) (route : Route) (by_source : Bool) (next : Move)
     → IsProp (MoverIsReady net l route by_source next)

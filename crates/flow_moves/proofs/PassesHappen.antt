@@ -39,12 +39,13 @@ use Rattle.flow_core.specs.Events.{source_moves, target_moves, source_sees, targ
 use Rattle.flow_core.specs.Events.{source_look}
 use Rattle.flow_core.specs.Keeps.{NetKeeps}
 use Rattle.flow_link.specs.declared.trace.LinkState.{LinkState}
-use Rattle.flow_core.specs.State.{NetState, node_at, line_at, input_at, source_from, target_from, no_node, fresh_line}
+use Rattle.flow_exit.specs.Exit.{wants_one}
+use Rattle.flow_core.specs.State.{NetState, node_at, line_at, input_at, exit_at, source_from, target_from, no_node, fresh_line}
 use Rattle.flow_core.proofs.NetworksInOrder.{all_events_keep}
 use Rattle.flow_core.proofs.SourcesByKind.{shared_view, shared_next, copied_view, copied_next}
 use Rattle.flow_moves.specs.Passes.{PassesHappen, are_apart, takes_now}
 use Rattle.flow_moves.specs.Ready.{SourceIsThere, TargetIsThere, IsThere, exit_count}
-use Rattle.flow_moves.proofs.EndsAnswer.{still_accepts, out_kept, sees_accepted, copy_accepted, arrived_opens, hand_closes}
+use Rattle.flow_moves.proofs.EndsAnswer.{still_accepts, out_kept, sees_accepted, copy_accepted, arrived_opens, hand_closes, exit_opens, exit_closes}
 use Rattle.flow_moves.proofs.LinksThere.{links_are_there}
 use Rattle.flow_moves.proofs.NextMovesHappen.{sources_may}
 use Rattle.flow_moves.proofs.PassesTell.{takes_port, pass_tells, blocks_apart}
@@ -204,7 +205,9 @@ module _ {W : Type 0} (layout : Layout W) (meaning : ℕ → Value → Result (L
     -- a target with a message in the slot, or in hand
     opens_next : (into : LinkTarget) → (target_from layout net l into).stage ≡ TargetSeen.arrived i
         → target_peek layout net l into ≡ Some Open
-    opens_next Exit is = absurd (cc)
+    opens_next Exit is =
+        let exit = exit_at layout net l in
+        exit_opens i (wants_one exit) exit.stage exit.hand is
     opens_next (Port t p) is =
         let k = in_place layout t p l in
         let node = node_at net t in
@@ -214,7 +217,9 @@ module _ {W : Type 0} (layout : Layout W) (meaning : ℕ → Value → Result (L
 
     closes_next : (into : LinkTarget) (value : Value) → (target_from layout net l into).stage ≡ TargetSeen.hand i value
         → target_peek layout net l into ≡ Some Close
-    closes_next Exit value is = absurd (cc)
+    closes_next Exit value is =
+        let exit = exit_at layout net l in
+        exit_closes i value (wants_one exit) exit.stage exit.hand is
     closes_next (Port t p) value is =
         let k = in_place layout t p l in
         let node = node_at net t in

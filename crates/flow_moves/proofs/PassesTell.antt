@@ -186,7 +186,7 @@ module _ (makes : ℕ → Value → Result (List Value) ℕ) (l i : ℕ) (value 
   way_in = record { source = Input from; source_place = k; target = Port t p; target_place = j }
 
   abbrev at_both : InputState → NodeState → LinkState → NetState
-  at_both a b line = record { nodes = set net.nodes t b; inputs = set net.inputs k a; lines = set net.lines l line }
+  at_both a b line = record net { nodes = set net.nodes t b; inputs = set net.inputs k a; lines = set net.lines l line }
 
   k_at : (a : InputState) (b : NodeState) (line : LinkState) → input_in (at_both a b line) k ≡ a
   k_at a b line = get_or-set_same net.inputs k a no_input k_there
@@ -260,7 +260,7 @@ module _ (makes : ℕ → Value → Result (List Value) ℕ) (l i : ℕ) (value 
 
   starts : net ≡ at_both (input_in net k) (node_at net t) (line_at net l)
   starts = sym (
-      ap (λ (nodes : List NodeState). record { nodes = nodes; inputs = set net.inputs k (input_in net k); lines = set net.lines l (line_at net l) })
+      ap (λ (nodes : List NodeState). record net { nodes = nodes; inputs = set net.inputs k (input_in net k); lines = set net.lines l (line_at net l) })
       (set-get_or net.nodes t no_node)
       ∙ ap (λ (inputs : List InputState). record net { inputs = inputs; lines = set net.lines l (line_at net l) })
       (set-get_or net.inputs k no_input)

@@ -1,5 +1,5 @@
 -- What stands ready at the end that makes a move: where it stands, and that what it hands over or takes is there.
-use Rattle.std.specs.Prelude.{◌≡◌, ℕ, ◌<◌, ◌^◌, cond, Bool, true, false, length, Option, Some, is_some}
+use Rattle.std.specs.Prelude.{◌≡◌, ℕ, ◌<◌, ◌^◌, cond, Bool, true, false, length, Option, Some, None, is_some}
 use Rattle.flow_value.specs.declared.value.Value.{Value}
 use Rattle.flow_link.specs.declared.phase.Move.{Move}
 use Rattle.flow_link.specs.declared.phase.Move.TheVariants as move
@@ -23,7 +23,8 @@ use Rattle.flow_block_law.specs.NodeKeeps.{InAt, OutAt, MayHold, any_stage}
 use Rattle.flow_core.specs.Events.{is_of_source}
 use Rattle.flow_core.specs.State.{NetState, node_at, line_at}
 use Rattle.flow_block.specs.declared.planned.Route.{Route}
-use Rattle.flow_moves.specs.Ways.{input_in}
+use Rattle.flow_exit.specs.Exit.{ExitState}
+use Rattle.flow_moves.specs.Ways.{input_in, exit_in}
 
 -- the head is wanted over the link, its parcel is made, and the link may carry it
 pub record GiveIsReady (k : ℕ) (exits : OutletState) : Type 0 where
@@ -86,6 +87,16 @@ InIsReady p k slot move.Open node = InAt is_arrived p k node × (is_some slot �
 InIsReady p k slot move.Close node = InAt is_hand p k node
 InIsReady p k slot _ node = ⊥
 
+-- the same of the end of a link out of the network
+abbrev pub ExitEndIsReady : Option Value → Move → ExitState → Type 0
+ExitEndIsReady slot move.Want exit = (is_offer exit.stage ≡ true) × (exit.kept ≡ None)
+ExitEndIsReady slot move.TurnDown exit = is_posted exit.stage ≡ true
+ExitEndIsReady slot move.Postpone exit = is_offered exit.stage ≡ true
+ExitEndIsReady slot move.Consume exit = (is_postponed exit.stage ≡ true) × (exit.kept ≡ None)
+ExitEndIsReady slot move.Open exit = (is_arrived exit.stage ≡ true) × (is_some slot ≡ true)
+ExitEndIsReady slot move.Close exit = is_hand exit.stage ≡ true
+ExitEndIsReady slot _ exit = ⊥
+
 -- the next value is there, and has an id
 pub record OfferIsReady (input : InputState) : Type 0 where
   pub may : MayOfferNext input
@@ -111,7 +122,7 @@ SourceIsThere net (Input b) k = k < length net.inputs
 
 abbrev pub TargetIsThere : NetState → LinkTarget → ℕ → Type 0
 TargetIsThere net (Port t p) k = (t < length net.nodes) × InAt any_stage p k (node_at net t)
-TargetIsThere net Exit k = Unit {0}
+TargetIsThere net Exit k = k < length net.exits
 
 abbrev pub SourceIsReady : Move → NetState → LinkSource → ℕ → Type 0
 SourceIsReady next net (Block s) k = ExitIsReady k next (node_at net s)
@@ -119,7 +130,7 @@ SourceIsReady next net (Input b) k = InputIsReady next (input_in net k)
 
 abbrev pub TargetIsReady : ℕ → Move → NetState → LinkTarget → ℕ → Type 0
 TargetIsReady l next net (Port t p) k = InIsReady p k (line_at net l).slot next (node_at net t)
-TargetIsReady l next net Exit k = ⊥
+TargetIsReady l next net Exit k = ExitEndIsReady (line_at net l).slot next (exit_in net k)
 
 module _ (net : NetState) (l : ℕ) (route : Route) where
   -- a link and its two ends are there

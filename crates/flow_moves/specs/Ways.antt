@@ -1,5 +1,5 @@
 -- The moves of a network whose links are named by their ways: by the places that they have at their two ends.
-use Rattle.std.specs.Prelude.{ℕ, Bool, true, false, not, ◌&&◌, ltb, ◌^◌, List, get_or, set, Option, Some, None, Result}
+use Rattle.std.specs.Prelude.{ℕ, Bool, true, false, not, ◌&&◌, ltb, ◌^◌, List, get_or, set, Option, Some, Result}
 use Rattle.flow_value.specs.declared.value.Value.{Value}
 use Rattle.flow_link.specs.declared.phase.Move.{Move}
 use Rattle.flow_link.specs.declared.phase.Phase.{Phase}
@@ -12,6 +12,7 @@ use Rattle.flow_block.specs.declared.planned.Route.{Route}
 use Rattle.flow_block.specs.Input.{InputState, InputCall, no_input, input_move, after_input, next_value, next_id, has_next}
 use Rattle.flow_block_law.specs.NextMoves.{next_in, next_source}
 use Rattle.flow_block.specs.Node.{NodeState, NodeCall, given_next}
+use Rattle.flow_exit.specs.Exit.{ExitState, ExitCall, fresh_exit, exit_move, exit_call, exit_after, after_exit}
 use Rattle.flow_core.specs.Events.{source_call, source_look, in_call, input_call, input_after, slot_after, with_node, with_line}
 use Rattle.flow_link.specs.declared.trace.LinkState.{LinkState}
 use Rattle.flow_core.specs.State.{NetState, node_at, line_at}
@@ -24,6 +25,13 @@ input_in net k = get_or net.inputs k no_input
 abbrev pub with_input_in : ℕ → (InputState → InputState) → NetState → NetState
 with_input_in k change net = record net { inputs = set net.inputs k (change (input_in net k)) }
 
+-- the end of a link out of the network, at its place among all exits
+abbrev pub exit_in : NetState → ℕ → ExitState
+exit_in net k = get_or net.exits k fresh_exit
+
+abbrev pub with_exit_in : ℕ → (ExitState → ExitState) → NetState → NetState
+with_exit_in k change net = record net { exits = set net.exits k (change (exit_in net k)) }
+
 -- what the two ends of a link would do next
 abbrev pub source_next : NetState → LinkSource → ℕ → Option Move
 source_next net (Block s) k = next_source k (node_at net s)
@@ -31,7 +39,7 @@ source_next net (Input b) k = input_move (input_in net k)
 
 abbrev pub target_next : NetState → LinkTarget → ℕ → Option Move
 target_next net (Port t p) k = next_in p k (node_at net t)
-target_next net Exit k = None
+target_next net Exit k = exit_move (exit_in net k)
 
 -- an input has a next value, and no id is left for it
 abbrev pub input_lacks_id : InputState → Bool
@@ -55,7 +63,7 @@ module _ (makes : ℕ → Value → Result (List Value) ℕ) where
 
   abbrev pub target_moved : Move → Option Value → LinkTarget → ℕ → NetState → NetState
   target_moved next slot (Port t p) k net = with_node t (called (makes t) (in_call p k slot next)) net
-  target_moved next slot Exit k net = net
+  target_moved next slot Exit k net = with_exit_in k (exit_after (exit_call slot next)) net
 
   abbrev pub source_looked : Phase → LinkSource → ℕ → NetState → NetState
   source_looked phase (Block s) k net =
@@ -64,7 +72,7 @@ module _ (makes : ℕ → Value → Result (List Value) ℕ) where
 
   abbrev pub target_looked : Phase → LinkTarget → ℕ → NetState → NetState
   target_looked phase (Port t p) k net = with_node t (called (makes t) (Some (NodeCall.look_in p k phase))) net
-  target_looked phase Exit k net = net
+  target_looked phase Exit k net = with_exit_in k (after_exit (ExitCall.look phase)) net
 
   -- the line after a move that leads to this phase
   abbrev pub line_moved : ℕ → Move → Phase → Route → NetState → LinkState

@@ -4,12 +4,14 @@ ghost use Rattle.flow_link.specs.Plan.{is_one_taker};
 ghost use Rattle.flow_block.specs.Input.{next_value};
 ghost use Rattle.flow_block_law.specs.NextMoves.{next_source};
 ghost use Rattle.flow_block.specs.Node.{given_next};
+ghost use Rattle.flow_exit.specs.Exit.{exit_after, exit_call};
 ghost use Rattle.flow_core.specs.Events.{out_call, copy_call, source_call, source_look, in_call, input_call, input_after};
 ghost use Rattle.flow_outlet.specs.Outlet.{head_of};
 ghost use Rattle.flow_moves.specs.Calls.{Calls, handed, left_in_slot};
-ghost use Rattle.flow_moves.specs.Ready.{OutIsReady, CopyIsReady, ExitIsReady, InIsReady, InputIsReady, exit_count};
+ghost use Rattle.flow_moves.specs.Ready.{OutIsReady, CopyIsReady, ExitIsReady, ExitEndIsReady, InIsReady, InputIsReady, exit_count};
 
 use flow_block::{Block, Input, Node};
+use flow_exit::ExitEnd;
 use flow_link::{Move, Phase};
 use flow_value::Parcel;
 use std::alloc::{AllocError, Global};
@@ -142,6 +144,27 @@ pub(crate) fn move_input(
         _ => {}
     }
     Ok(None)
+}
+
+/// The end of a link out of the network makes its move; it takes a message that lies in the slot.
+pub(crate) fn move_exit_end(exit: &mut ExitEnd, slot: &mut Option<Parcel>, next: Move)
+    requires { ExitEndIsReady slot.old next exit.old }
+    ensures done { exit.new ≡ exit_after (exit_call slot.old next) exit.old }
+    ensures slot { slot.new ≡ left_in_slot next slot.old }
+{
+    match next {
+        Move::Want => exit.want(),
+        Move::TurnDown => exit.turn_down(),
+        Move::Postpone => exit.postpone(),
+        Move::Consume => exit.consume(),
+        Move::Open => {
+            if let Some(parcel) = slot.take() {
+                exit.open(parcel);
+            }
+        }
+        Move::Close => exit.close(),
+        _ => {}
+    }
 }
 
 /// A block's end of a link into it makes its move; it takes a message that lies in the slot. Where memory is out,

@@ -1,12 +1,14 @@
-//! The blocks and links of a plan in which nothing has happened.
+//! The blocks, exits and links of a plan in which nothing has happened.
 ghost use Rattle.std.specs.Prelude.{◌≡◌, ◌<◌, true, length, map, replicate, IfOk};
 ghost use Rattle.flow_lists.specs.Lists.{below};
 ghost use Rattle.flow_link.specs.Plan.{block_in};
 ghost use Rattle.flow_link.specs.Planned.{layout_of};
-ghost use Rattle.flow_block.specs.Planned.{fresh_node};
+ghost use Rattle.flow_block.specs.Planned.{fresh_node, links_out};
+ghost use Rattle.flow_exit.specs.Exit.{fresh_exit};
 ghost use Rattle.flow_core.specs.State.{fresh_line};
 
-use flow_block::{Block, Node, ports_of, rules_from, sources_of};
+use flow_block::{Block, Node, is_exit, ports_of, rules_from, sources_of};
+use flow_exit::ExitEnd;
 use flow_link::{LinkState, Phase, Plan};
 use std::alloc::{AllocError, Global};
 
@@ -39,6 +41,21 @@ fn node_of<W>(alloc: Global, plan: &Plan<W>, number: usize) -> Result<Node, Allo
         Ok(block) => Ok(Node::new(alloc, block, sources)),
         Err(_) => Err(AllocError),
     }
+}
+
+/// The ends of the links that lead out of the network, in the order of these links. It fails only where memory is out.
+///
+/// It looks at each link once.
+pub fn exits_of<W>(alloc: Global, plan: &Plan<W>) -> Result<Vec<ExitEnd>, AllocError>
+    ensures { IfOk result (λ exits. exits.items ≡ map (λ _. fresh_exit) (links_out (layout_of plan.now))) }
+{
+    let mut exits = Vec::new(alloc);
+    for id in 0..plan.link_count() {
+        if is_exit(plan.link(id).target) {
+            exits.push(ExitEnd::new(alloc))?;
+        }
+    }
+    Ok(exits)
 }
 
 /// So many links that nothing has crossed. It fails only where memory is out.

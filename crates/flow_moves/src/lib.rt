@@ -1,7 +1,7 @@
 //! One event in a network of blocks: what each end of a link and each block would do next, and what becomes of the
 //! network when it does.
 //!
-//! A [`Parts`] is all blocks, inputs and links of a network, by their numbers. Each event is one call, which may be
+//! A [`Parts`] is all blocks, inputs, exits and links of a network, by their numbers. Each event is one call, which may be
 //! refused where memory or message ids are out; then nothing has changed.
 #![tactic(auto)]
 
@@ -14,7 +14,7 @@ mod pass;
 mod sends;
 
 pub use ends::shares_out;
-pub use fresh::{lines_of, nodes_of};
+pub use fresh::{exits_of, lines_of, nodes_of};
 pub use laws::{
     blocks_are_planned, links_are_there, moves_are_ready, moves_go_along_ways,
     next_moves_may_happen, nothing_next_is_still, passes_may_happen,

@@ -1,4 +1,4 @@
-//! All blocks, inputs and links of a network, and what a move of a link makes of them.
+//! All blocks, inputs, exits and links of a network, and what a move of a link makes of them.
 ghost use Rattle.std.specs.Prelude.{◌≡◌, ℕ, ◌<◌, true, false, length, drop, List, Result, OnOk, OnErr, IfOk, option_map, Some};
 ghost use Rattle.flow_value.specs.declared.value.Value.{Value};
 ghost use Rattle.flow_intake.specs.Calls.{first_of};
@@ -10,18 +10,21 @@ ghost use Rattle.flow_moves.specs.Ways.{input_in, source_next, target_next, lack
 ghost use Rattle.flow_moves.specs.Ways.{source_moved, target_moved, source_looked, target_looked, moved_along};
 ghost use Rattle.flow_moves.specs.Ways.{moved_by_source, moved_by_target};
 
-use crate::ends::{look_exit, move_exit, move_in, move_input, next_of_exit};
+use crate::ends::{look_exit, move_exit, move_exit_end, move_in, move_input, next_of_exit};
 use flow_block::{Input, Node, Route};
+use flow_exit::ExitEnd;
 use flow_link::{LinkSource, LinkState, LinkTarget, Move, Phase, SourceStage};
 use flow_value::Parcel;
 use std::alloc::{AllocError, Global};
 use std::marker::Model;
 
-/// All blocks and links by their numbers, and all inputs in the order of their blocks. Contracts see a `NetState`.
+/// All blocks and links by their numbers, all inputs in the order of their blocks, and all exits in the order of their links.
+/// Contracts see a `NetState`.
 #[derive(Drop)]
 pub struct Parts {
     pub(crate) nodes: Vec<Node>,
     pub(crate) inputs: Vec<Input>,
+    pub(crate) exits: Vec<ExitEnd>,
     pub(crate) lines: Vec<LinkState>,
 }
 
@@ -35,17 +38,28 @@ impl Model for Parts {
 
     ghost coded = { Prim.hlevel (codes, mark.the_row.coded, content.the_row.coded) };
 
-    ghost view = { λ p. record { nodes = p.nodes.items; inputs = p.inputs.items; lines = p.lines.items } };
+    ghost view = { λ p. record {
+      nodes = p.nodes.items;
+      inputs = p.inputs.items;
+      exits = p.exits.items;
+      lines = p.lines.items;
+    } };
 }
 
 impl Parts {
-    /// A network of these blocks, inputs and links.
-    pub fn new(nodes: Vec<Node>, inputs: Vec<Input>, lines: Vec<LinkState>) -> Parts
-        ensures { result ≡ record { nodes = nodes.items; inputs = inputs.items; lines = lines.items } }
+    /// A network of these blocks, inputs, exits and links.
+    pub fn new(
+        nodes: Vec<Node>,
+        inputs: Vec<Input>,
+        exits: Vec<ExitEnd>,
+        lines: Vec<LinkState>,
+    ) -> Parts
+        ensures { result ≡ record { nodes = nodes.items; inputs = inputs.items; exits = exits.items; lines = lines.items } }
     {
         Parts {
             nodes,
             inputs,
+            exits,
             lines,
         }
     }
@@ -117,7 +131,7 @@ impl Parts {
             LinkTarget::Port(block, port) => {
                 self.nodes[block].next_in(port as usize, route.target_place)
             }
-            LinkTarget::Exit => None,
+            LinkTarget::Exit => self.exits[route.target_place].next_move(),
         }
     }
 
@@ -245,11 +259,19 @@ impl Parts {
             (target_moved makes next (line_at self.old id).slot route.now.target route.now.target_place self.old)) }
         ensures kept { OnErr result (self.new ≡ self.old) }
     {
-        if let LinkTarget::Port(block, port) = route.target {
-            let node = &mut self.nodes[block];
-            let line = &mut self.lines[id];
-            move_in(node, port, route.target_place, &mut line.slot, next)?;
-            line.phase = *phase;
+        match route.target {
+            LinkTarget::Port(block, port) => {
+                let node = &mut self.nodes[block];
+                let line = &mut self.lines[id];
+                move_in(node, port, route.target_place, &mut line.slot, next)?;
+                line.phase = *phase;
+            }
+            LinkTarget::Exit => {
+                let exit = &mut self.exits[route.target_place];
+                let line = &mut self.lines[id];
+                move_exit_end(exit, &mut line.slot, next);
+                line.phase = *phase;
+            }
         }
         Ok(())
     }
@@ -276,8 +298,11 @@ impl Parts {
         ensures { (makes : ℕ → Value → Result (List Value) ℕ) →
             self.new ≡ target_looked makes phase route.now.target route.now.target_place self.old }
     {
-        if let LinkTarget::Port(block, port) = route.target {
-            self.nodes[block].look_in(port, route.target_place, phase);
+        match route.target {
+            LinkTarget::Port(block, port) => {
+                self.nodes[block].look_in(port, route.target_place, phase);
+            }
+            LinkTarget::Exit => self.exits[route.target_place].look(phase),
         }
     }
 }

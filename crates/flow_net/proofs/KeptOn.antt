@@ -13,7 +13,7 @@ use Rattle.flow_core.specs.AtRest.{AtRest}
 use Rattle.flow_core.specs.Keeps.{IsRun, NetKeeps}
 use Rattle.flow_core.specs.State.{NetState}
 use Rattle.flow_core.specs.Statements.{IsStill}
-use Rattle.flow_core.proofs.SchedulesGoWell.{event_stays}
+use Rattle.flow_core.proofs.SchedulesGoWell.{posted_stays}
 use Rattle.flow_core.proofs.StillRests.{at_rest_merely}
 use Rattle.flow_exec.specs.Works.{works_of}
 use Rattle.flow_moves.proofs.MerelyKept.{kept_after, lawful_merely, quiet_merely}
@@ -38,7 +38,7 @@ module _ {W : Type 0} (layout : Layout W) (meaning : ℕ → Value → Result (L
   posted_on zero old new same = ap (λ (net : NetState). map input_trace net.inputs) same
   posted_on (suc count) old new (mid, (before, last)) =
       ap (λ (net : NetState). map input_trace net.inputs) last.new_is
-      ∙ event_stays layout meaning last.event mid
+      ∙ posted_stays layout meaning last.event mid
       ∙ posted_on count old mid before
 
   -- an answer that it is quiet

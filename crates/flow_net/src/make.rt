@@ -5,8 +5,9 @@ ghost use Rattle.std.specs.Prelude.{vec_capacity, vec_len};
 ghost use Rattle.flow_lists.specs.Lists.{below, every};
 ghost use Rattle.flow_link.specs.Planned.{layout_of};
 ghost use Rattle.flow_block.specs.Input.{fresh_input};
-ghost use Rattle.flow_block.specs.Planned.{fresh_node};
+ghost use Rattle.flow_block.specs.Planned.{fresh_node, links_out};
 ghost use Rattle.flow_block.specs.Routes.{route_of};
+ghost use Rattle.flow_exit.specs.Exit.{fresh_exit};
 ghost use Rattle.flow_core.specs.State.{fresh_line, fresh_net};
 ghost use Rattle.flow_link.specs.Posted.{input_of, ends_by_number};
 
@@ -14,8 +15,9 @@ use crate::agenda::Agenda;
 use crate::engine::Engine;
 use crate::net::Net;
 use flow_block::{Input, Node, Route, routes_of};
+use flow_exit::ExitEnd;
 use flow_link::{LinkState, Plan, Posted};
-use flow_moves::{Parts, lines_of, nodes_of};
+use flow_moves::{Parts, exits_of, lines_of, nodes_of};
 use flow_value::Runs;
 use std::alloc::{AllocError, Global};
 
@@ -24,6 +26,7 @@ use std::alloc::{AllocError, Global};
 struct Frame {
     nodes: Vec<Node>,
     inputs: Vec<Input>,
+    exits: Vec<ExitEnd>,
     lines: Vec<LinkState>,
     routes: Vec<Route>,
     agenda: Agenda,
@@ -51,7 +54,7 @@ impl<W: Runs> Net<W> {
         match fresh_frame(alloc, &plan, posted.len()) {
             Ok(frame) => {
                 let inputs = fill_inputs(posted, frame.inputs);
-                let parts = Parts::new(frame.nodes, inputs, frame.lines);
+                let parts = Parts::new(frame.nodes, inputs, frame.exits, frame.lines);
                 Ok(Net {
                     engine: Engine {
                         plan,
@@ -70,6 +73,7 @@ impl<W: Runs> Net<W> {
 fn fresh_frame<W>(alloc: Global, plan: &Plan<W>, inputs: usize) -> Result<Frame, AllocError>
     ensures nodes { IfOk result (λ frame. frame.nodes.items ≡ map (fresh_node (layout_of plan.now)) (below (length
         (layout_of plan.now).blocks))) }
+    ensures exits { IfOk result (λ frame. frame.exits.items ≡ map (λ _. fresh_exit) (links_out (layout_of plan.now))) }
     ensures lines { IfOk result (λ frame. frame.lines.items ≡ replicate (length (layout_of plan.now).links)
         fresh_line) }
     ensures routes { IfOk result (λ frame. frame.routes.items ≡ map (route_of (layout_of plan.now)) (below (length
@@ -79,12 +83,14 @@ fn fresh_frame<W>(alloc: Global, plan: &Plan<W>, inputs: usize) -> Result<Frame,
 {
     let inputs = Vec::with_capacity(alloc, inputs)?;
     let nodes = nodes_of(alloc, plan)?;
+    let exits = exits_of(alloc, plan)?;
     let lines = lines_of(alloc, plan.link_count())?;
     let routes = routes_of(alloc, plan)?;
     let agenda = Agenda::new(alloc, plan.link_count(), plan.block_count())?;
     Ok(Frame {
         nodes,
         inputs,
+        exits,
         lines,
         routes,
         agenda,

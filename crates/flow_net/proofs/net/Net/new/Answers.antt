@@ -23,7 +23,7 @@ invariant_of-result-in-Ok g c =
     fresh_nets_keep _ layout meaning (plan_runs c.args.plan)
     (works_fault_by_number _ g.W.Runs.meaning g.met.W.Runs.never_memory layout) posted count c.requires.numbered in
     let is_fresh : c.new-parts.result ≡ fresh_net layout posted =
-    c.new-parts.ensures ∙ rw (c.in-Ok.ensures.nodes, c.fill_inputs-inputs.ensures, c.in-Ok.ensures.lines) refl in
+    c.new-parts.ensures ∙ rw (c.in-Ok.ensures.nodes, c.fill_inputs-inputs.ensures, c.in-Ok.ensures.exits, c.in-Ok.ensures.lines) refl in
     record { kept = merely (subst (λ (net : NetState). NetKeeps layout meaning net) (sym is_fresh) kept) }
 
 pub returns-in-Ok-clause-made : goal.returns-in-Ok-clause-made
