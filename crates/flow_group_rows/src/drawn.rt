@@ -128,7 +128,7 @@ fn block_of(alloc: Global, drawn: &Drawn) -> Result<BlockDef<Steps>, Fail> {
         name: Text::from_str(alloc, name)?,
         kind: kind_of(word).ok_or("no kind")?,
         input,
-        output: false,
+        output: drawn.option("output") == Some("true"),
         capacity: drawn.number("capacity"),
         work: work_of(alloc, work)?,
         lanes: drawn.number("lanes"),
@@ -366,6 +366,18 @@ pub(crate) fn check_cases(
         check(rt, case.name, case.runs(rt, alloc, 1)?);
         check(rt, case.name, case.runs(rt, alloc, 2)?);
         check(rt, case.name, case.runs(rt, alloc, 8)?);
+    }
+    check_drafts(rt, alloc, table)
+}
+
+/// Tests each case of a table as a draft alone, as of networks with exits, which no text has.
+pub(crate) fn check_drafts(
+    rt: &(impl Abort + Print),
+    alloc: Global,
+    table: &str,
+) -> Result<(), Fail> {
+    for lines in table.trim().split("\n\n") {
+        let case = read_case(lines)?;
         check(rt, case.name, case.settles(alloc)?);
         check_orders(rt, alloc, case)?;
     }

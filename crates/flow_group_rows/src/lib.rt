@@ -1,4 +1,4 @@
-//! Tests of blocks that make groups of the messages of several ports, whatever happens first, and of copies.
+//! Tests of blocks that make groups of the messages of several ports, whatever happens first, of copies and of exits.
 #![tactic(auto)]
 
 #[cfg(test)]
@@ -9,6 +9,8 @@ mod check;
 mod copies;
 #[cfg(test)]
 mod drawn;
+#[cfg(test)]
+mod exits;
 #[cfg(test)]
 mod joins;
 #[cfg(test)]

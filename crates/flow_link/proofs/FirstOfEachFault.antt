@@ -2,7 +2,6 @@
 use Rattle.std.proofs.Common.{◌≡◌, ℕ, zero, suc, ◌+◌, ◌<◌, Bool, true, false, cond, not, ◌||◌, List, [], ◌∷◌, ◌++◌, length, map, Option, Some, None, get_or, take, is_none, is_some, refl, ap, sym, ◌∙◌, subst, arith}
 use Rattle.std.specs.List.{find, position}
 use Rattle.std.specs.Option.{option_or, option_map}
-use Rattle.std.proofs.lemmas.Bool.{or_left}
 use Rattle.std.proofs.lemmas.List.{get_or-map, get_or_default}
 use Rattle.std.proofs.lemmas.List.Folds.{find-append}
 use Rattle.flow_link.specs.declared.draft.BlockDef.{BlockDef}
@@ -13,10 +12,10 @@ use Rattle.flow_link.specs.declared.plan.PlanFault.TheVariants.{Limit, Duplicate
 use Rattle.flow_link.specs.declared.plan.Place.TheVariants.{Block, Link as at_link}
 use Rattle.flow_lists.specs.Lists.{numbers_from, below}
 use Rattle.flow_link.specs.Plan.{block_named, block_in, link_in, named_link, named_links, planned_links}
-use Rattle.flow_link.specs.PlanFaults.{lacks_port, lacks_output, options_fit, is_in, holds_no_group, shares_among, stands, faults_in_order, first_plan_fault}
-use Rattle.flow_link.specs.NotBuilt.{stands_now, first_at, name_faults, end_faults, option_faults, is_built_block, is_bad_block, first_fault_now, shared_first, fault_of_ways}
+use Rattle.flow_link.specs.PlanFaults.{lacks_port, lacks_output, is_in, holds_no_group, shares_among, stands, first_plan_fault}
+use Rattle.flow_link.specs.FaultOrder.{first_at, name_faults, end_faults, option_faults, is_bad_block, shared_first, fault_of_ways}
 use Rattle.flow_link.specs.Layout.{IsLaidOut}
-use Rattle.flow_link.proofs.LinksLaidOut.{laid_out_of, none_step}
+use Rattle.flow_link.proofs.LinksLaidOut.{laid_out_of}
 use Rattle.flow_lists.proofs.FirstInOrder.{position_is_first}
 
 module _ {W : Type 0} (blocks : List (BlockDef W)) where
@@ -34,39 +33,40 @@ module _ {W : Type 0} (blocks : List (BlockDef W)) where
       → first_at blocks links UnknownBlock (length links)
       ≡ position (λ link. is_none (block_named blocks link.from) || is_none (block_named blocks link.to)) links
   unknown_by_position links = position_is_first (λ link. is_none (block_named blocks link.from) || is_none (block_named blocks link.to))
-      (λ l. stands_now blocks links (UnknownBlock l)) links
+      (λ l. stands blocks links (UnknownBlock l)) links
       (λ l d low. rw (get_or-map (λ link. block_named blocks link.from) links l d (Some 0) low, get_or-map (λ link. block_named blocks link.to) links l d (Some 0) low) refl)
 
   pub port_by_position : (links : List LinkDef)
       → first_at blocks links Port (length links)
       ≡ position (λ link. lacks_port blocks [] (block_named blocks link.to) (named_link blocks link).target) links
   port_by_position links = position_is_first (λ link. lacks_port blocks [] (block_named blocks link.to) (named_link blocks link).target)
-      (λ l. stands_now blocks links (Port l)) links
+      (λ l. stands blocks links (Port l)) links
       (λ l d low. rw (get_or-map (λ link. block_named blocks link.to) links l d None low, named_link_at links l d low) refl)
 
   pub output_by_position : (links : List LinkDef)
       → first_at blocks links NoOutput (length links)
       ≡ position (λ link. lacks_output blocks [] (block_named blocks link.from)) links
   output_by_position links = position_is_first (λ link. lacks_output blocks [] (block_named blocks link.from))
-      (λ l. stands_now blocks links (NoOutput l)) links
+      (λ l. stands blocks links (NoOutput l)) links
       (λ l d low. rw (get_or-map (λ link. block_named blocks link.from) links l d None low) refl)
 
   pub bad_block_by_position : (links : List LinkDef)
       → first_at blocks links (λ b. BadOption (Block b)) (length blocks) ≡ position is_bad_block blocks
+  unfolding is_bad_block
   bad_block_by_position links = position_is_first is_bad_block
-      (λ b. stands_now blocks links (BadOption (Block b))) blocks
+      (λ b. stands blocks links (BadOption (Block b))) blocks
       (λ b d low. ap is_bad_block (get_or_default blocks b _ d low))
 
   pub bad_link_by_position : (links : List LinkDef)
       → first_at blocks links (λ l. BadOption (at_link l)) (length links) ≡ position (λ link. not (is_in 1 2147483647 link.max)) links
   bad_link_by_position links = position_is_first (λ link. not (is_in 1 2147483647 link.max))
-      (λ l. stands_now blocks links (BadOption (at_link l))) links
+      (λ l. stands blocks links (BadOption (at_link l))) links
       (λ l d low. ap (λ x. not (is_in 1 2147483647 x.max)) (named_link_at links l d low))
 
   pub small_batch_by_position : (links : List LinkDef)
       → first_at blocks links CapacityBelowSize (length blocks) ≡ position (λ block. holds_no_group block.kind block.capacity block.size) blocks
   small_batch_by_position links = position_is_first (λ block. holds_no_group block.kind block.capacity block.size)
-      (λ b. stands_now blocks links (CapacityBelowSize b)) blocks
+      (λ b. stands blocks links (CapacityBelowSize b)) blocks
       (λ b d low. ap (λ block. holds_no_group block.kind block.capacity block.size) (get_or_default blocks b _ d low))
 
   -- a block's name is looked for among those before it
@@ -128,31 +128,31 @@ fails_from test first (suc count) k low e =
 -- the first fault of each group, from the first place of each fault
 module _ {W : Type 0} (blocks : List (BlockDef W)) (links : List LinkDef) where
   pub first_name_fault : (limit : Bool) (repeated unknown : Option ℕ)
-      → stands_now blocks links Limit ≡ limit
+      → stands blocks links Limit ≡ limit
       → first_at blocks [] DuplicateName (length blocks) ≡ repeated
       → position (λ link. is_none (block_named blocks link.from) || is_none (block_named blocks link.to)) links ≡ unknown
-      → find (stands_now blocks links) (name_faults blocks links)
+      → find (stands blocks links) (name_faults blocks links)
       ≡ cond limit (Some Limit) (option_or (option_map DuplicateName repeated) (option_map UnknownBlock unknown))
   first_name_fault limit repeated unknown el er eu =
-      cond_of (stands_now blocks links Limit) limit (Some Limit) _ _ el
-      (first_of_two (stands_now blocks links) DuplicateName UnknownBlock (length blocks) (length links) repeated unknown er
+      cond_of (stands blocks links Limit) limit (Some Limit) _ _ el
+      (first_of_two (stands blocks links) DuplicateName UnknownBlock (length blocks) (length links) repeated unknown er
       (unknown_by_position blocks links ∙ eu))
 
   pub first_end_fault : (port output : Option ℕ)
       → position (λ link. lacks_port blocks [] (block_named blocks link.to) (named_link blocks link).target) links ≡ port
       → position (λ link. lacks_output blocks [] (block_named blocks link.from)) links ≡ output
-      → find (stands_now blocks links) (end_faults blocks links) ≡ option_or (option_map Port port) (option_map NoOutput output)
+      → find (stands blocks links) (end_faults blocks links) ≡ option_or (option_map Port port) (option_map NoOutput output)
   first_end_fault port output ep eo =
-      first_of_two (stands_now blocks links) Port NoOutput (length links) (length links) port output
+      first_of_two (stands blocks links) Port NoOutput (length links) (length links) port output
       (port_by_position blocks links ∙ ep) (output_by_position blocks links ∙ eo)
 
   pub first_option_fault : (block link : Option ℕ)
       → position is_bad_block blocks ≡ block
       → position (λ x. not (is_in 1 2147483647 x.max)) links ≡ link
-      → find (stands_now blocks links) (option_faults blocks links)
+      → find (stands blocks links) (option_faults blocks links)
       ≡ option_or (option_map (λ b. BadOption (Block b)) block) (option_map (λ l. BadOption (at_link l)) link)
   first_option_fault block link eb el =
-      first_of_two (stands_now blocks links) (λ b. BadOption (Block b)) (λ l. BadOption (at_link l)) (length blocks) (length links) block link
+      first_of_two (stands blocks links) (λ b. BadOption (Block b)) (λ l. BadOption (at_link l)) (length blocks) (length links) block link
       (bad_block_by_position blocks links ∙ eb) (bad_link_by_position blocks links ∙ el)
 
 pub none_front : {A : Type 0} (x y : Option A) → option_or x y ≡ None → x ≡ None
@@ -180,33 +180,33 @@ ways_first None cycle = refl
 module _ {W : Type 0} (blocks : List (BlockDef W)) (links : List LinkDef) where
   -- the first batch that has no room for a group
   first_small_batch : (small : Option ℕ) → position (λ block. holds_no_group block.kind block.capacity block.size) blocks ≡ small
-      → find (stands_now blocks links) (map CapacityBelowSize (below (length blocks))) ≡ option_map CapacityBelowSize small
+      → find (stands blocks links) (map CapacityBelowSize (below (length blocks))) ≡ option_map CapacityBelowSize small
   first_small_batch small es =
-      find_of_images (stands_now blocks links) CapacityBelowSize (below (length blocks))
+      find_of_images (stands blocks links) CapacityBelowSize (below (length blocks))
       ∙ ap (option_map CapacityBelowSize) (small_batch_by_position blocks links ∙ es)
 
   -- how links lead: a join whose source is shared, or a cycle
-  first_way : find (stands_now blocks links) (map SharedSource (below (length blocks)))
+  first_way : find (stands blocks links) (map SharedSource (below (length blocks)))
       ≡ option_map SharedSource (find (shares_among blocks (named_links blocks links)) (below (length blocks)))
-  first_way = find_of_images (stands_now blocks links) SharedSource (below (length blocks))
+  first_way = find_of_images (stands blocks links) SharedSource (below (length blocks))
 
   -- the first fault, from the first of each group
   pub first_fault_of : (names ends options : Option PlanFault) (small : Option ℕ) (ways : Option PlanFault)
-      → find (stands_now blocks links) (name_faults blocks links) ≡ names
-      → find (stands_now blocks links) (end_faults blocks links) ≡ ends
-      → find (stands_now blocks links) (option_faults blocks links) ≡ options
+      → find (stands blocks links) (name_faults blocks links) ≡ names
+      → find (stands blocks links) (end_faults blocks links) ≡ ends
+      → find (stands blocks links) (option_faults blocks links) ≡ options
       → position (λ block. holds_no_group block.kind block.capacity block.size) blocks ≡ small
       → fault_of_ways blocks (named_links blocks links) ≡ ways
-      → first_fault_now blocks links ≡ option_or names (option_or ends (option_or options (option_or (option_map CapacityBelowSize small) ways)))
+      → first_plan_fault blocks links ≡ option_or names (option_or ends (option_or options (option_or (option_map CapacityBelowSize small) ways)))
   first_fault_of names ends options small ways en ee eo es ew =
-      let test = stands_now blocks links in
+      let test = stands blocks links in
       let b = below (length blocks) in
       let l = below (length links) in
       let c = find test (map CapacityBelowSize b) in
       let s = find test (map SharedSource b) in
       let y = find test (Cycle ∷ []) in
       let found = find (shares_among blocks (named_links blocks links)) b in
-      let groups : first_fault_now blocks links ≡ option_or (find test (name_faults blocks links)) (option_or (find test (end_faults blocks links)) (option_or (find test (option_faults blocks links)) (option_or c (option_or s y)))) =
+      let groups : first_plan_fault blocks links ≡ option_or (find test (name_faults blocks links)) (option_or (find test (end_faults blocks links)) (option_or (find test (option_faults blocks links)) (option_or c (option_or s y)))) =
       first_of_groups test (name_faults blocks links) (map Port l) (map NoOutput l) (map (λ k. BadOption (Block k)) b) (map (λ k. BadOption (at_link k)) l)
       (map CapacityBelowSize b) (map SharedSource b) (Cycle ∷ []) in
       let last : option_or s y ≡ ways =
@@ -224,10 +224,10 @@ module _ {W : Type 0} (blocks : List (BlockDef W)) (links : List LinkDef) where
   ways_told named found en ef = ap (fault_of_ways blocks) (sym en) ∙ sym ef
 
   -- where no fault is first, all names are known
-  pub known_where_none : first_fault_now blocks links ≡ None
+  pub known_where_none : first_plan_fault blocks links ≡ None
       → position (λ link. is_none (block_named blocks link.from) || is_none (block_named blocks link.to)) links ≡ None
   known_where_none e =
-      let test = stands_now blocks links in
+      let test = stands blocks links in
       let names : find test (name_faults blocks links) ≡ None =
       none_front _ _ (sym (first_fault_of _ _ _ _ _ refl refl refl refl refl) ∙ e) in
       let rest : find test (map DuplicateName (below (length blocks)) ++ map UnknownBlock (below (length links))) ≡ None =
@@ -239,8 +239,8 @@ module _ {W : Type 0} (blocks : List (BlockDef W)) (links : List LinkDef) where
 
   -- the first fault of the same blocks and links
   pub first_fault_along : (bs : List (BlockDef W)) (ls : List LinkDef) → bs ≡ blocks → ls ≡ links
-      → first_fault_now bs ls ≡ first_fault_now blocks links
-  first_fault_along bs ls eb el = ap (λ x. first_fault_now x ls) eb ∙ ap (λ x. first_fault_now blocks x) el
+      → first_plan_fault bs ls ≡ first_plan_fault blocks links
+  first_fault_along bs ls eb el = ap (λ x. first_plan_fault x ls) eb ∙ ap (λ x. first_plan_fault blocks x) el
 
   -- the links of a plan of the same blocks and links
   pub planned_along : (bs : List (BlockDef W)) (ls : List LinkDef) (planned : List Link) → bs ≡ blocks → ls ≡ links
@@ -248,37 +248,6 @@ module _ {W : Type 0} (blocks : List (BlockDef W)) (links : List LinkDef) where
   planned_along bs ls planned eb el ep = ep ∙ ap (λ x. planned_links x ls) eb ∙ ap (λ x. planned_links blocks x) el
 
   -- a plan is laid out where its draft has no fault
-  pub laid_out_where_none : (planned : List Link) → planned ≡ planned_links blocks links → first_fault_now blocks links ≡ None
+  pub laid_out_where_none : (planned : List Link) → planned ≡ planned_links blocks links → first_plan_fault blocks links ≡ None
       → IsLaidOut blocks planned
   laid_out_where_none planned ep e = subst (λ (all : List Link). IsLaidOut blocks all) (sym ep) (laid_out_of blocks links (known_where_none e))
-
-contrary : (a b : Bool) → (a ≡ true → b ≡ true) → b ≡ false → a ≡ false
-contrary true b implies e = let h = implies refl in cc
-contrary false b implies e = refl
-
--- where the weaker test passes nothing, the stronger passes nothing
-none_of_stronger : {A : Type 0} (strong weak : A → Bool) (xs : List A) → ((x : A) → strong x ≡ true → weak x ≡ true)
-    → find weak xs ≡ None → find strong xs ≡ None
-none_of_stronger strong weak [] implies e = refl
-none_of_stronger strong weak (x ∷ xs) implies e =
-    let step = none_step (weak x) x (find weak xs) e in
-    rw (contrary (strong x) (weak x) (implies x) step.0) (none_of_stronger strong weak xs implies step.1)
-
-module _ {W : Type 0} (blocks : List (BlockDef W)) (links : List LinkDef) where
-  -- what stands by the format stands now
-  pub stands_then_now : (fault : PlanFault) → stands blocks links fault ≡ true → stands_now blocks links fault ≡ true
-  unfolding is_bad_block
-  stands_then_now (BadOption (Block b)) e = or_left (not (options_fit (block_in blocks b))) (not (is_built_block (block_in blocks b))) e
-  stands_then_now (BadOption (at_link l)) e = e
-  stands_then_now Limit e = e
-  stands_then_now (DuplicateName b) e = e
-  stands_then_now (UnknownBlock l) e = e
-  stands_then_now (Port l) e = e
-  stands_then_now (NoOutput l) e = e
-  stands_then_now (CapacityBelowSize b) e = e
-  stands_then_now (SharedSource b) e = e
-  stands_then_now Cycle e = e
-
-  -- a draft without a fault now has none by the format
-  pub none_by_the_format : first_fault_now blocks links ≡ None → first_plan_fault blocks links ≡ None
-  none_by_the_format e = none_of_stronger (stands blocks links) (stands_now blocks links) (faults_in_order blocks links) stands_then_now e

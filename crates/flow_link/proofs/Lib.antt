@@ -10,7 +10,6 @@ pub mod LongWalks
 pub mod LooksKeepOrder
 pub mod OneMoreMark
 pub mod OneMoreWorked
-pub mod PlansAreBuilt
 pub mod PlansAreWellFormed
 pub mod RoundsOfWalks
 pub mod SourceMoves

@@ -1,9 +1,9 @@
 pub mod BlockCalls
-pub mod Built
 pub mod Copies
 pub mod Drafts
 pub mod Facts
 pub mod Fault
+pub mod FaultOrder
 pub mod JournalGrows
 pub mod Kinds
 pub mod Layout
@@ -14,7 +14,6 @@ pub mod LooksKeep
 pub mod Making
 pub mod Moves
 pub mod MovesKeep
-pub mod NotBuilt
 pub mod Phase
 pub mod Plan
 pub mod PlanFaults

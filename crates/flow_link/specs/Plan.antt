@@ -1,5 +1,5 @@
 -- What a plan says of its blocks and links.
-use Rattle.std.specs.Prelude.{ℕ, ◌+◌, ◌==◌, Bool, true, false, cond, not, ◌&&◌, List, [], ◌∷◌, ◌++◌, get_or, unwrap_or, is_none, position, Option, None}
+use Rattle.std.specs.Prelude.{ℕ, ◌+◌, ◌==◌, Bool, false, cond, not, ◌&&◌, List, [], ◌∷◌, ◌++◌, get_or, unwrap_or, is_none, position, Option, None}
 use Rattle.std.specs.Str.{bytes_eq}
 use Rattle.flow_value.specs.declared.when.When.TheVariants.{Any}
 pub use Rattle.flow_link.specs.Kinds.{has_work, is_broadcast, is_write_once, is_one_taker, ports_by_kind, reserves_by_kind}

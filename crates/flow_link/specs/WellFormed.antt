@@ -1,5 +1,5 @@
--- What holds of each plan by the format, whatever of it is built: that nothing which is looked for in a draft is wrong,
--- said of the plan's own blocks and links.
+-- What holds of each plan by the format: that nothing which is looked for in a draft is wrong, said of the plan's own
+-- blocks and links.
 use Rattle.std.specs.Prelude.{◌≡◌, ℕ, ◌<◌, ◌≤◌, true, false, List, length, Some}
 use Rattle.flow_link.specs.declared.draft.BlockDef.{BlockDef}
 use Rattle.flow_link.specs.declared.draft.BlockKind.TheVariants.{Action, Batch}

@@ -11,7 +11,6 @@
 //! An option that is set twice has what was set last. What is out of an option's range is found by the check.
 ghost use Rattle.std.specs.Prelude.{◌≡◌, ◌++◌, ◌∷◌, [], IfOk, IfErr, OnOk, None, Some, true};
 ghost use Rattle.flow_link.specs.Drafts.{block_alone, link_alone};
-ghost use Rattle.flow_link.specs.NotBuilt.{first_fault_now};
 ghost use Rattle.flow_link.specs.Plan.{planned_links};
 ghost use Rattle.flow_link.specs.PlanFaults.{first_plan_fault};
 ghost use Rattle.flow_link.specs.Planned.{layout_of};
@@ -232,12 +231,11 @@ impl<W: Drop> Draft<W> {
 
     /// The plan of the draft, as `plan_check` makes it; the error keeps the draft.
     pub fn check(self, alloc: Global) -> Result<Plan<W>, DraftRefused<W>>
-        ensures no_fault { OnOk result (first_fault_now self.blocks.items self.links.items ≡ None) }
-        ensures none_by_the_format { OnOk result (first_plan_fault self.blocks.items self.links.items ≡ None) }
+        ensures no_fault { OnOk result (first_plan_fault self.blocks.items self.links.items ≡ None) }
         ensures same_blocks { IfOk result (λ plan. (layout_of plan).blocks ≡ self.blocks.items) }
         ensures its_links { IfOk result
             (λ plan. (layout_of plan).links ≡ planned_links self.blocks.items self.links.items) }
-        ensures why { IfErr result (λ refused. IsWhy (first_fault_now self.blocks.items self.links.items) refused.why) }
+        ensures why { IfErr result (λ refused. IsWhy (first_plan_fault self.blocks.items self.links.items) refused.why) }
         ensures handed_back { IfErr result (λ refused. refused.draft ≡ self) }
     {
         plan_check(alloc, self).map_err(|(draft, why)| DraftRefused { draft, why })

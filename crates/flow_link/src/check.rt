@@ -5,17 +5,16 @@ ghost use Rattle.flow_link.specs.declared.plan.PlanFault.TheVariants.{Limit, Dup
 ghost use Rattle.flow_link.specs.Plan.{begins_at, ends_at, ends_at_port, block_named, named_link, planned_links};
 ghost use Rattle.flow_link.specs.Planned.{layout_of};
 ghost use Rattle.flow_link.specs.Refusal.{IsWhy};
-ghost use Rattle.flow_link.specs.PlanFaults.{holds_no_group, lacks_port, lacks_output, is_in, first_plan_fault};
+ghost use Rattle.flow_link.specs.PlanFaults.{holds_no_group, lacks_port, lacks_output, is_in, stands, first_plan_fault};
 ghost use Rattle.flow_link.specs.PlanFaults.{shares_with, enters_another, leads_beside, leads_twice, shares_among};
 ghost use Rattle.std.specs.List.{list_any};
 ghost use Rattle.flow_lists.specs.Lists.{some, below};
-ghost use Rattle.flow_link.specs.NotBuilt.{first_fault_now, stands_now, first_at, name_faults, end_faults};
-ghost use Rattle.flow_link.specs.NotBuilt.{option_faults, is_bad_block, fault_of_ways};
+ghost use Rattle.flow_link.specs.FaultOrder.{first_at, name_faults, end_faults, option_faults, is_bad_block, fault_of_ways};
 
 use crate::cycle::{MOST_BLOCKS, has_cycle};
 use crate::draft::{BlockDef, Draft, LinkDef};
 use crate::layout::{NO_LINK, name_links, planned_links};
-use crate::options::{holds_no_group, is_built_block, max_fits, options_fit};
+use crate::options::{holds_no_group, max_fits, options_fit};
 use crate::plan::{Link, LinkSource, LinkTarget, Place, Plan, PlanFault};
 use std::alloc::Global;
 use thiserror::Error;
@@ -36,12 +35,11 @@ pub enum PlanRefusal {
 
 /// The plan of a draft, or the draft again with its first fault. Out of memory comes last: where no fault stands.
 pub fn plan_check<W>(alloc: Global, draft: Draft<W>) -> Result<Plan<W>, (Draft<W>, PlanRefusal)>
-    ensures no_fault { OnOk result (first_fault_now draft.blocks.items draft.links.items ≡ None) }
-    ensures none_by_the_format { OnOk result (first_plan_fault draft.blocks.items draft.links.items ≡ None) }
+    ensures no_fault { OnOk result (first_plan_fault draft.blocks.items draft.links.items ≡ None) }
     ensures same_blocks { IfOk result (λ plan. (layout_of plan).blocks ≡ draft.blocks.items) }
     ensures its_links { IfOk result
         (λ plan. (layout_of plan).links ≡ planned_links draft.blocks.items draft.links.items) }
-    ensures why { IfErr result (λ refused. IsWhy (first_fault_now draft.blocks.items draft.links.items) refused.1) }
+    ensures why { IfErr result (λ refused. IsWhy (first_plan_fault draft.blocks.items draft.links.items) refused.1) }
     ensures handed_back { IfErr result (λ refused. refused.0 ≡ draft) }
 {
     if let Some(fault) = first_fault(&draft.blocks, &draft.links) {
@@ -58,7 +56,7 @@ pub fn plan_check<W>(alloc: Global, draft: Draft<W>) -> Result<Plan<W>, (Draft<W
 
 /// The first fault of a draft with these blocks and links. It takes no memory.
 fn first_fault<W>(blocks: &[BlockDef<W>], links: &[LinkDef]) -> Option<PlanFault>
-    ensures { result ≡ first_fault_now blocks.now links.now }
+    ensures { result ≡ first_plan_fault blocks.now links.now }
 {
     if let Some(fault) = fault_of_names(blocks, links) {
         return Some(fault);
@@ -194,7 +192,7 @@ fn begins_at(block: usize, source: LinkSource) -> bool
 
 /// The first fault among those of numbers and names.
 fn fault_of_names<W>(blocks: &[BlockDef<W>], links: &[LinkDef]) -> Option<PlanFault>
-    ensures { result ≡ find (stands_now blocks.now links.now) (name_faults blocks.now links.now) }
+    ensures { result ≡ find (stands blocks.now links.now) (name_faults blocks.now links.now) }
 {
     if is_over_limit(blocks, links) {
         return Some(PlanFault::Limit);
@@ -210,7 +208,7 @@ fn fault_of_names<W>(blocks: &[BlockDef<W>], links: &[LinkDef]) -> Option<PlanFa
 
 /// The first fault among those of what links lead from and to.
 fn fault_of_ends<W>(blocks: &[BlockDef<W>], links: &[LinkDef]) -> Option<PlanFault>
-    ensures { result ≡ find (stands_now blocks.now links.now) (end_faults blocks.now links.now) }
+    ensures { result ≡ find (stands blocks.now links.now) (end_faults blocks.now links.now) }
 {
     if let Some(link) = first_missing_port(blocks, links) {
         return Some(PlanFault::Port(link));
@@ -223,7 +221,7 @@ fn fault_of_ends<W>(blocks: &[BlockDef<W>], links: &[LinkDef]) -> Option<PlanFau
 
 /// The first fault among those of options.
 fn fault_of_options<W>(blocks: &[BlockDef<W>], links: &[LinkDef]) -> Option<PlanFault>
-    ensures { result ≡ find (stands_now blocks.now links.now) (option_faults blocks.now links.now) }
+    ensures { result ≡ find (stands blocks.now links.now) (option_faults blocks.now links.now) }
 {
     if let Some(block) = first_bad_block(blocks) {
         return Some(PlanFault::BadOption(Place::Block(block)));
@@ -235,7 +233,7 @@ fn fault_of_options<W>(blocks: &[BlockDef<W>], links: &[LinkDef]) -> Option<Plan
 }
 
 fn is_over_limit<W>(blocks: &[BlockDef<W>], links: &[LinkDef]) -> bool
-    ensures { result ≡ stands_now blocks.now links.now Limit }
+    ensures { result ≡ stands blocks.now links.now Limit }
 {
     blocks.len() > MOST_BLOCKS || links.len() > MOST_LINKS
 }
@@ -328,9 +326,9 @@ fn lacks_output<W>(blocks: &[BlockDef<W>], link: &LinkDef) -> bool
     }
 }
 
-#[tactic(auto, unfolding(crate::specs::NotBuilt::is_bad_block))]
+#[tactic(auto, unfolding(crate::specs::FaultOrder::is_bad_block))]
 fn is_bad_block<W>(block: &BlockDef<W>) -> bool
     ensures { result ≡ is_bad_block block.now }
 {
-    !options_fit(block) || !is_built_block(block)
+    !options_fit(block)
 }

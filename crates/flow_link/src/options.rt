@@ -3,7 +3,6 @@ ghost use Rattle.std.specs.Prelude.{◌≡◌};
 ghost use Rattle.std.specs.List.{list_all};
 ghost use Rattle.flow_link.specs.PlanFaults.{is_between, is_name, is_name_byte, is_in, keys_fit, ranges_fit};
 ghost use Rattle.flow_link.specs.PlanFaults.{options_fit, holds_no_group, is_less};
-ghost use Rattle.flow_link.specs.NotBuilt.{is_built_block};
 
 use crate::draft::{BlockDef, BlockKind};
 use crate::kinds::{BlockUnit, FEWEST_PORTS, LARGEST_GROUP, MOST_LANES, MOST_MESSAGES, MOST_PORTS};
@@ -16,13 +15,6 @@ pub fn options_fit<W>(block: &BlockDef<W>) -> bool
     ensures { result ≡ options_fit block.now }
 {
     is_name(block.name.as_str()) && keys_fit(block) && ranges_fit(block)
-}
-
-/// Whether the block uses only what is built.
-pub fn is_built_block<W>(block: &BlockDef<W>) -> bool
-    ensures { result ≡ is_built_block block.now }
-{
-    !block.output
 }
 
 /// Whether the link's number of messages is in its range.

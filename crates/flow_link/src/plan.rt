@@ -1,7 +1,6 @@
 //! A network that was checked: its blocks and links by their numbers, and what can be wrong with a draft.
 ghost use Rattle.std.specs.Prelude.{◌≡◌, ◌<◌, count_by, length, HoldsAt, position};
 ghost use Rattle.std.specs.Str.{bytes_eq};
-ghost use Rattle.flow_link.specs.Built.{IsBuilt};
 ghost use Rattle.flow_link.specs.Fault.{fault_number};
 ghost use Rattle.flow_link.specs.Layout.{IsLaidOut};
 ghost use Rattle.flow_link.specs.WellFormed.{IsWellFormed};
@@ -119,15 +118,13 @@ impl PlanFault {
 /// A network that was checked.
 ///
 /// Blocks have the numbers of their places in the draft. So have links; after them comes a link for each input, and
-/// then one for each exit, both in the order of their blocks. Contracts see the plan as its layout. It is well-formed,
-/// and uses only what is built.
+/// then one for each exit, both in the order of their blocks. Contracts see the plan as its layout. It is well-formed.
 #[derive(Drop)]
 pub struct Plan<W> {
     blocks: Vec<BlockDef<W>>,
     links: Vec<Link>,
     ghost well_formed: { IsWellFormed blocks.items links.items } by { Prim.hlevel (codes, link.the_row.coded) },
     ghost laid_out: { IsLaidOut blocks.items links.items } by { Prim.hlevel (codes, link.the_row.coded) },
-    ghost built: { IsBuilt blocks.items links.items } by { Prim.hlevel (codes, link.the_row.coded) },
 }
 
 impl<W> Plan<W> {
@@ -137,7 +134,6 @@ impl<W> Plan<W> {
     pub(crate) fn new(blocks: Vec<BlockDef<W>>, links: Vec<Link>) -> Plan<W>
         requires well_formed { IsWellFormed blocks.items links.items }
         requires laid_out { IsLaidOut blocks.items links.items }
-        requires built { IsBuilt blocks.items links.items }
         ensures blocks { (layout_of result).blocks ≡ blocks.items }
         ensures links { (layout_of result).links ≡ links.items }
     {

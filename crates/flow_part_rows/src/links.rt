@@ -121,6 +121,24 @@ fn links_of_inputs_follow_those_of_the_draft(rt: HostRuntime) -> Result<(), Fail
 }
 
 #[test]
+fn links_of_exits_follow_those_of_inputs(rt: HostRuntime) -> Result<(), Fail> {
+    let mut draft = draft(rt.alloc(), &(BlockKind::Buffer, None, None, None))?;
+    for block in &mut draft.blocks {
+        block.output = true;
+    }
+    let Ok(plan) = plan_check(rt.alloc(), draft) else {
+        panic!(&rt; "nothing is wrong with the draft");
+    };
+    assert!(rt; plan.link_count() == 4 && plan.input_count() == 1);
+    assert!(rt; plan.link(1).target == LinkTarget::Port(0, 0));
+    for (place, exit) in [(0, plan.link(2)), (1, plan.link(3))] {
+        assert!(rt; exit.source == LinkSource::Block(place) && exit.target == LinkTarget::Exit);
+        assert!(rt; exit.propagate && exit.when == When::Any && exit.max.is_none());
+    }
+    Ok(())
+}
+
+#[test]
 fn no_input_ends_by_fault_0(rt: HostRuntime) {
     for (ending, numbered) in [
         (Ending::Open, true),

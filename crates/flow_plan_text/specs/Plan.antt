@@ -6,7 +6,7 @@ use Rattle.flow_link.specs.declared.plan.PlanFault.{PlanFault}
 use Rattle.flow_link.specs.declared.check.PlanRefusal.{PlanRefusal}
 use Rattle.flow_link.specs.declared.check.PlanRefusal.TheVariants as unplanned
 use Rattle.flow_link.specs.Layout.{Layout}
-use Rattle.flow_link.specs.NotBuilt.{first_fault_now}
+use Rattle.flow_link.specs.PlanFaults.{first_plan_fault}
 use Rattle.flow_link.specs.Plan.{planned_links}
 use Rattle.flow_plan_text.specs.Read.{IsReadAs, IsRefusedFor}
 use Rattle.flow_fault_text.specs.declared.fault.TextFault.TheVariants.{Plan}
@@ -17,7 +17,7 @@ use Rattle.flow_fault_text.specs.declared.fault.TextRefusal.TheVariants.{Fault, 
 pub record IsPlannedAs (text : List ℕ) (layout : Layout Steps) : Type 0 where
   pub draft : Draft Steps
   pub read : IsReadAs text draft
-  pub faultless : first_fault_now draft.blocks.items draft.links.items ≡ None
+  pub faultless : first_plan_fault draft.blocks.items draft.links.items ≡ None
   pub blocks : layout.blocks ≡ draft.blocks.items
   pub links : layout.links ≡ planned_links draft.blocks.items draft.links.items
 
@@ -25,7 +25,7 @@ pub record IsPlannedAs (text : List ℕ) (layout : Layout Steps) : Type 0 where
 pub record HasPlanFault (text : List ℕ) (fault : PlanFault) : Type 0 where
   pub draft : Draft Steps
   pub read : IsReadAs text draft
-  pub first : first_fault_now draft.blocks.items draft.links.items ≡ Some fault
+  pub first : first_plan_fault draft.blocks.items draft.links.items ≡ Some fault
 
 -- the text is read as a draft that is refused so; of when memory is out nothing is said
 abbrev pub IsNoPlanFor : List ℕ → TextRefusal → Type 0

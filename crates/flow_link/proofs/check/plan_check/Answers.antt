@@ -1,7 +1,6 @@
 use Rattle.std.proofs.Common.{◌≡◌, ◌∙◌, None, sym}
-use Rattle.flow_link.specs.NotBuilt.{first_fault_now}
-use Rattle.flow_link.proofs.PlansAreBuilt.{built_along}
-use Rattle.flow_link.proofs.FirstOfEachFault.{first_fault_along, none_by_the_format, planned_along, laid_out_where_none}
+use Rattle.flow_link.specs.PlanFaults.{first_plan_fault}
+use Rattle.flow_link.proofs.FirstOfEachFault.{first_fault_along, planned_along, laid_out_where_none}
 use Rattle.flow_link.proofs.PlansAreWellFormed.{well_formed_along}
 use Rattle.flow_link.proofs.check.plan_check.Goals as goal
 
@@ -14,43 +13,27 @@ pub new-requires-clause-well_formed : goal.new-requires-clause-well_formed
 new-requires-clause-well_formed g c =
     let blocks = c.args.draft.blocks.items in
     let links = c.args.draft.links.items in
-    let fine : first_fault_now blocks links ≡ None =
+    let fine : first_plan_fault blocks links ≡ None =
     sym (first_fault_along blocks links c.deref.result.now c.deref-2.result.now c.deref.ensures.value c.deref-2.ensures.value)
     ∙ sym c.first_fault.ensures ∙ c.in_default.is in
     well_formed_along blocks links c.in-Ok.links.items
     (planned_along blocks links c.deref-3.result.now c.deref-4.result.now c.in-Ok.links.items c.deref-3.ensures.value c.deref-4.ensures.value c.in-Ok.ensures)
-    (none_by_the_format blocks links fine)
+    fine
 
 pub new-requires-clause-laid_out : goal.new-requires-clause-laid_out
 new-requires-clause-laid_out g c =
     let blocks = c.args.draft.blocks.items in
     let links = c.args.draft.links.items in
-    let fine : first_fault_now blocks links ≡ None =
+    let fine : first_plan_fault blocks links ≡ None =
     sym (first_fault_along blocks links c.deref.result.now c.deref-2.result.now c.deref.ensures.value c.deref-2.ensures.value)
     ∙ sym c.first_fault.ensures ∙ c.in_default.is in
     laid_out_where_none blocks links c.in-Ok.links.items
     (planned_along blocks links c.deref-3.result.now c.deref-4.result.now c.in-Ok.links.items c.deref-3.ensures.value c.deref-4.ensures.value c.in-Ok.ensures) fine
 
-pub new-requires-clause-built : goal.new-requires-clause-built
-new-requires-clause-built g c =
-    let blocks = c.args.draft.blocks.items in
-    let links = c.args.draft.links.items in
-    let fine : first_fault_now blocks links ≡ None =
-    sym (first_fault_along blocks links c.deref.result.now c.deref-2.result.now c.deref.ensures.value c.deref-2.ensures.value)
-    ∙ sym c.first_fault.ensures ∙ c.in_default.is in
-    built_along blocks links fine c.in-Ok.links.items
-    (planned_along blocks links c.deref-3.result.now c.deref-4.result.now c.in-Ok.links.items c.deref-3.ensures.value c.deref-4.ensures.value c.in-Ok.ensures)
-
 pub returns-in-Ok-clause-no_fault : goal.returns-in-Ok-clause-no_fault
 returns-in-Ok-clause-no_fault g c =
     sym (first_fault_along c.args.draft.blocks.items c.args.draft.links.items c.deref.result.now c.deref-2.result.now c.deref.ensures.value c.deref-2.ensures.value)
     ∙ sym c.first_fault.ensures ∙ c.in_default.is
-
-pub returns-in-Ok-clause-none_by_the_format : goal.returns-in-Ok-clause-none_by_the_format
-returns-in-Ok-clause-none_by_the_format g c =
-    none_by_the_format c.args.draft.blocks.items c.args.draft.links.items
-    (sym (first_fault_along c.args.draft.blocks.items c.args.draft.links.items c.deref.result.now c.deref-2.result.now c.deref.ensures.value c.deref-2.ensures.value)
-    ∙ sym c.first_fault.ensures ∙ c.in_default.is)
 
 pub returns-in-Err-clause-why : goal.returns-in-Err-clause-why
 returns-in-Err-clause-why g c =

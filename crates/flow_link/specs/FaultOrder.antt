@@ -1,5 +1,5 @@
--- What of the format is not built yet: a draft that uses it is refused with BadOption, at its place in the order of faults.
-use Rattle.std.specs.Prelude.{ℕ, Bool, cond, not, ◌||◌, List, [], ◌∷◌, ◌++◌, length, map, find, Option, Some, None}
+-- In which order the faults of a draft are looked for: in groups, and in each group from the first block or link on.
+use Rattle.std.specs.Prelude.{ℕ, Bool, cond, not, List, [], ◌∷◌, ◌++◌, length, map, find, Option, Some, None}
 use Rattle.flow_link.specs.declared.draft.BlockDef.{BlockDef}
 use Rattle.flow_link.specs.declared.draft.LinkDef.{LinkDef}
 use Rattle.flow_link.specs.declared.plan.Place.TheVariants.{Block, Link as at_link}
@@ -7,16 +7,11 @@ use Rattle.flow_link.specs.declared.plan.PlanFault.{PlanFault}
 use Rattle.flow_link.specs.declared.plan.PlanFault.TheVariants.{Limit, DuplicateName, UnknownBlock, Port, NoOutput, BadOption, SharedSource, Cycle}
 use Rattle.flow_link.specs.declared.plan.Link.{Link}
 use Rattle.flow_lists.specs.Lists.{some, below}
-use Rattle.flow_link.specs.Plan.{block_in}
-use Rattle.flow_link.specs.PlanFaults.{stands, options_fit, faults_in_order, shares_among, walks}
+use Rattle.flow_link.specs.PlanFaults.{stands, options_fit, shares_among, walks}
 
--- the block gives nothing to the caller; each kind is built, in all its forms
-abbrev pub is_built_block : {W : Type 0} → BlockDef W → Bool
-is_built_block block = not block.output
-
--- the block has a name or an option that its kind does not have, or one that is not built
+-- the block has a name or an option that its kind does not have
 unfoldable pub is_bad_block : {W : Type 0} → BlockDef W → Bool
-is_bad_block block = not (options_fit block) || not (is_built_block block)
+is_bad_block block = not (options_fit block)
 
 -- the first of the last two faults, where links lead so
 abbrev pub shared_first : Option ℕ → Bool → Option PlanFault
@@ -29,17 +24,9 @@ fault_of_ways blocks links =
     (some (λ b. walks links (length blocks) (length blocks) b b) (below (length blocks)))
 
 module _ {W : Type 0} (blocks : List (BlockDef W)) (links : List LinkDef) where
-  -- this fault stands, or the block there uses what is not built; nothing that the format says of a link is left to build
-  abbrev pub stands_now : PlanFault → Bool
-  stands_now (BadOption (Block b)) = is_bad_block (block_in blocks b)
-  stands_now fault = stands blocks links fault
-
-  abbrev pub first_fault_now : Option PlanFault
-  first_fault_now = find stands_now (faults_in_order blocks links)
-
   -- the first place below this number at which a fault of this kind stands
   abbrev pub first_at : (ℕ → PlanFault) → ℕ → Option ℕ
-  first_at fault count = find (λ place. stands_now (fault place)) (below count)
+  first_at fault count = find (λ place. stands blocks links (fault place)) (below count)
 
   -- the faults in three groups, which are looked for one after another
   abbrev pub name_faults : List PlanFault
