@@ -3,6 +3,7 @@ pub mod CallersKeep
 pub mod EndsLook
 pub mod EndsStep
 pub mod EventsKeep
+pub mod ExitsEnded
 pub mod ExitsMove
 pub mod FaultsNumbered
 pub mod FreshNets
@@ -15,6 +16,7 @@ pub mod NetworksInOrder
 pub mod NextIsAllowed
 pub mod PartsChange
 pub mod PlacesOfLinks
+pub mod ReceivedGiven
 pub mod SchedulesGoWell
 pub mod SoleLinks
 pub mod SourcesByKind

@@ -11,7 +11,7 @@ use Rattle.flow_block_law.proofs.NodesRest.{nodes_rest}
 use Rattle.flow_block_law.proofs.ViewsMove.{calls_move_views}
 use Rattle.flow_exit.proofs.ExitsKeep.{exits_keep}
 use Rattle.flow_core.specs.Numbers.{BlocksFaultByNumber}
-use Rattle.flow_core.specs.Statements.{EventsKeep, ExitCallsKeep, FreshKeeps, KeptIsLawful, KeptIsHeld, StillIsQuiet, SchedulesGoWell}
+use Rattle.flow_core.specs.Statements.{EventsKeep, ExitCallsKeep, ReceivedWasGiven, FreshKeeps, KeptIsLawful, KeptIsHeld, StillIsQuiet, SchedulesGoWell}
 use Rattle.flow_core.proofs.BlocksMove.{blocks_move}
 use Rattle.flow_core.proofs.CallersKeep.{exit_calls_keep}
 use Rattle.flow_core.proofs.EventsKeep.{events_keep}
@@ -21,6 +21,7 @@ use Rattle.flow_core.proofs.FreshNets.{fresh_keeps}
 use Rattle.flow_core.proofs.InputsMove.{inputs_move}
 use Rattle.flow_core.proofs.KeptForOne.{kept_is_held}
 use Rattle.flow_core.proofs.KeptIsLawful.{kept_is_lawful}
+use Rattle.flow_core.proofs.ReceivedGiven.{received_was_given}
 use Rattle.flow_core.proofs.SchedulesGoWell.{schedules_go_well}
 use Rattle.flow_core.proofs.StillIsQuiet.{still_is_quiet}
 use Rattle.flow_core.proofs.TargetsMove.{targets_move}
@@ -36,6 +37,9 @@ all_events_keep W =
 
 pub all_exit_calls_keep : (W : Type 0) → ExitCallsKeep W
 all_exit_calls_keep W = exit_calls_keep exits_keep
+
+pub all_received_was_given : (W : Type 0) → ReceivedWasGiven W
+all_received_was_given W = received_was_given (nodes_are_lawful W) (inputs_are_parts W)
 
 pub kept_nets_are_lawful : (W : Type 0) → KeptIsLawful W
 kept_nets_are_lawful W = kept_is_lawful (nodes_are_lawful W) (inputs_are_parts W)

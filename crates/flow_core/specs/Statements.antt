@@ -9,16 +9,19 @@ use Rattle.flow_lawful.specs.Lawful.{Lawful}
 use Rattle.flow_link.specs.Phase.{phase_after}
 use Rattle.flow_link.specs.Plan.{block_in, link_in, is_one_taker}
 use Rattle.flow_lawful.specs.Quiet.{Quiet}
-use Rattle.flow_link.specs.Trace.{InputTrace}
-use Rattle.flow_lists.specs.Lists.{every}
+use Rattle.flow_link.specs.Trace.{InputTrace, gave_over, marks_of}
+use Rattle.flow_lists.specs.Lists.{every, is_front}
 use Rattle.flow_link.specs.Posted.{ends_by_number}
 use Rattle.flow_link.specs.Views.{SourceStage}
+use Rattle.flow_link.specs.declared.phase.LinkEnd.{LinkEnd}
+use Rattle.flow_link.specs.declared.plan.LinkSource.TheVariants.{Block}
 use Rattle.flow_link.specs.declared.plan.LinkTarget.TheVariants.{Exit}
+use Rattle.flow_link.specs.declared.stage.TargetStage.TheVariants.{Ended}
 use Rattle.flow_exit.specs.Exit.{ExitCall, after_exit, is_callers}
 use Rattle.flow_core.specs.AtRest.{AtRest}
 use Rattle.flow_core.specs.Events.{NetEvent, Enabled, MayHappen, after, peek_by, is_of_source, with_exit}
 use Rattle.flow_core.specs.Keeps.{IsRun, NetKeeps, LineKeeps}
-use Rattle.flow_core.specs.State.{NetState, line_at, ends_of, callers_in, run_of_net, fresh_net}
+use Rattle.flow_core.specs.State.{NetState, line_at, exit_at, ends_of, callers_in, run_of_net, fresh_net}
 
 module _ {W : Type 0} (layout : Layout W) (meaning : ℕ → Value → Result (List Value) ℕ) where
   -- nothing may happen any more
@@ -88,6 +91,20 @@ module _ (W : Type 0) where
       (net : NetState) (l : ℕ) (call : ExitCall) → NetKeeps layout meaning net → l < length layout.links
       → (link_in layout.links l).target ≡ Exit → is_callers call ≡ true
       → NetKeeps layout meaning (with_exit layout l (after_exit call) net)
+
+  -- what was received at an exit is what its block gave over its link, in order, as far as it went
+  abbrev pub ReceivedWasGiven : Type 0
+  ReceivedWasGiven = OfEachNet λ layout meaning.
+      (net : NetState) (l b : ℕ) → NetKeeps layout meaning net → l < length layout.links
+      → (link_in layout.links l).source ≡ Block b → (link_in layout.links l).target ≡ Exit
+      → is_front (exit_at layout net l).received (gave_over l (marks_of (run_of_net layout meaning net) b)) ≡ true
+
+  -- where the link of an exit has ended, no event changes the exit any more
+  abbrev pub EndedExitsStay : Type 0
+  EndedExitsStay = OfEachNet λ layout meaning.
+      (net : NetState) (event : NetEvent) (l : ℕ) (how : LinkEnd) → NetKeeps layout meaning net → Enabled layout net event
+      → l < length layout.links → (link_in layout.links l).target ≡ Exit → (exit_at layout net l).stage ≡ Ended how
+      → exit_at layout (after layout meaning event net) l ≡ exit_at layout net l
 
   -- and then the run so far is lawful
   abbrev pub KeptIsLawful : Type 0

@@ -1,6 +1,7 @@
 //! Laws about the states of a network. Each stands on a function that does nothing: whoever calls it has the whole law.
 ghost use Rattle.flow_core.specs.Numbers.{BlocksFaultByNumber};
-ghost use Rattle.flow_core.specs.Statements.{EventsKeep, ExitCallsKeep, FreshKeeps, KeptIsHeld, KeptIsLawful, NextIsAllowed};
+ghost use Rattle.flow_core.specs.Statements.{EndedExitsStay, EventsKeep, ExitCallsKeep, FreshKeeps, KeptIsHeld, KeptIsLawful};
+ghost use Rattle.flow_core.specs.Statements.{NextIsAllowed, ReceivedWasGiven};
 ghost use Rattle.flow_core.specs.Statements.{SchedulesGoWell, StillIsQuiet, StillRests};
 
 /// A network in which nothing has happened is in order.
@@ -16,6 +17,16 @@ pub fn events_keep_networks_in_order<W>()
 /// What the caller of an exit does, which is to ask and to receive, keeps the network in order, too.
 pub fn exit_calls_keep_networks_in_order<W>()
     ensures { ExitCallsKeep W }
+{}
+
+/// What was received at an exit is what its block gave over its link, each once and in order, as far as it went.
+pub fn received_was_given<W>()
+    ensures { ReceivedWasGiven W }
+{}
+
+/// Where the link of an exit has ended, no event changes the exit any more.
+pub fn ended_exits_stay<W>()
+    ensures { EndedExitsStay W }
 {}
 
 /// The run of a network in order is lawful.

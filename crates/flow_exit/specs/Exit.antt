@@ -113,3 +113,7 @@ outcome_at _ = None
 
 abbrev pub exit_outcome : ExitState → Option Outcome
 exit_outcome exit = outcome_at exit.stage
+
+-- how it ended, where nothing is kept for a receive any more
+abbrev pub over_by : ExitState → Option Outcome
+over_by exit = cond (is_none exit.kept) (exit_outcome exit) None

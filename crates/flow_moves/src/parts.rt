@@ -6,7 +6,8 @@ ghost use Rattle.flow_core.specs.Events.{is_of_source, with_line};
 ghost use Rattle.flow_core.specs.State.{node_at, line_at};
 ghost use Rattle.flow_moves.specs.Calls.{handed, left_in_slot, slot_after_source};
 ghost use Rattle.flow_moves.specs.Ready.{SourceIsThere, TargetIsThere, SourceIsReady, TargetIsReady, IsThere, IsReady};
-ghost use Rattle.flow_moves.specs.Ways.{input_in, source_next, target_next, lacks_id, value_next};
+ghost use Rattle.flow_exit.specs.Exit.{ExitCall, after_exit};
+ghost use Rattle.flow_moves.specs.Ways.{exit_in, input_in, with_exit_in, source_next, target_next, lacks_id, value_next};
 ghost use Rattle.flow_moves.specs.Ways.{source_moved, target_moved, source_looked, target_looked, moved_along};
 ghost use Rattle.flow_moves.specs.Ways.{moved_by_source, moved_by_target};
 
@@ -14,7 +15,7 @@ use crate::ends::{look_exit, move_exit, move_exit_end, move_in, move_input, next
 use flow_block::{Input, Node, Route};
 use flow_exit::ExitEnd;
 use flow_link::{LinkSource, LinkState, LinkTarget, Move, Phase, SourceStage};
-use flow_value::Parcel;
+use flow_value::{Parcel, Value};
 use std::alloc::{AllocError, Global};
 use std::marker::Model;
 
@@ -85,6 +86,44 @@ impl Parts {
         ensures { result.now ≡ input_in self.now place }
     {
         &self.inputs[place]
+    }
+
+    /// The exit at this place among all exits.
+    pub fn exit(&self, place: usize) -> &ExitEnd
+        requires { place < length self.now.exits }
+        ensures { result.now ≡ exit_in self.now place }
+    {
+        &self.exits[place]
+    }
+
+    /// The exit at this place among all exits, if there is one.
+    pub fn find_exit(&self, place: usize) -> Option<&ExitEnd>
+        ensures { option_map (λ exit. exit.now) result ≡ first_of (drop place self.now.exits) }
+    {
+        self.exits.get(place)
+    }
+
+    /// A receive waits at the exit at this place, or none does any more.
+    pub fn ask(&mut self, place: usize, waits: bool)
+        requires { place < length self.old.exits }
+        ensures { self.new ≡ with_exit_in place (after_exit (ExitCall.ask waits)) self.old }
+    {
+        let exit = &mut self.exits[place];
+        if waits {
+            exit.ask();
+        } else {
+            exit.ask_no_more();
+        }
+    }
+
+    /// Hands out the message that is kept at the exit at this place, if any.
+    pub fn receive_at(&mut self, place: usize) -> Result<Option<Value>, AllocError>
+        requires { place < length self.old.exits }
+        ensures gives { IfOk result (λ value. value ≡ (exit_in self.old place).kept) }
+        ensures done { OnOk result (self.new ≡ with_exit_in place (after_exit ExitCall.receive) self.old) }
+        ensures kept { OnErr result (self.new ≡ self.old) }
+    {
+        self.exits[place].receive()
     }
 
     /// How far the message over this link has come.

@@ -2,6 +2,7 @@ pub mod EventsAnswer
 pub mod EventsCount
 pub mod EventsDone
 pub mod EventsRefused
+pub mod ExitsGoOn
 pub mod FindersTell
 pub mod IdsLeft
 pub mod JobsBegin

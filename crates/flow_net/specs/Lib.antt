@@ -1,12 +1,15 @@
 pub mod Dues
 pub mod Engine
 pub mod Events
+pub mod Exits
 pub mod Happened
 pub mod Net
 pub mod Numbers
 pub mod Opens
 pub mod OwnJobs
+pub mod Serves
 pub mod Settles
+pub mod Sights
 pub mod States
 pub mod There
 pub mod Told

@@ -7,6 +7,7 @@ mod drive;
 mod due;
 mod engine;
 mod event;
+mod exit;
 mod fault;
 mod find;
 mod job;
@@ -17,6 +18,7 @@ mod pass;
 mod settled;
 
 pub use event::{Event, Stepped};
+pub use exit::NetExit;
 pub use fault::NetFault;
 pub use flow_link::{Ending, Mark, Posted, are_numbered};
 pub use laws::{blocks_fault_by_number, works_fault_by_number};

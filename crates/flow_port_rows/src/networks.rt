@@ -1,0 +1,74 @@
+//! The networks of these tests.
+
+use anyhow::Result;
+use flow_front::Inputs;
+use flow_link::{BlockDef, BlockKind, Draft, LinkDef};
+use flow_net::{Net, NetExit};
+use flow_value::{Steps, Text, Value};
+use std::alloc::Global;
+use std::process::Abort;
+
+/// The most events of a look.
+pub(crate) const STEPS: u64 = 100;
+
+/// A buffer with room for one message, which leads to a block that doubles numbers, and that one out of the network.
+fn doubled(alloc: Global, values: Vec<Value>) -> Result<Inputs<Steps>> {
+    let double = Steps::read(alloc, &["mul 2"])?;
+    let plan = Draft::new(alloc)
+        .block(
+            BlockDef::named(alloc, "in", BlockKind::Buffer)?
+                .input()
+                .capacity(1),
+        )?
+        .block(
+            BlockDef::named(alloc, "double", BlockKind::Transform)?
+                .work(double)
+                .output(),
+        )?
+        .link(LinkDef::between(alloc, "in", "double")?.propagate())?
+        .check(alloc)?;
+    let mut inputs = Inputs::of(alloc, plan)?;
+    for value in values {
+        inputs.post("in", value)?;
+    }
+    Ok(inputs)
+}
+
+/// The network with these numbers, and behind them a text if one is wanted.
+fn values(alloc: Global, numbers: &[i64], with_text: bool) -> Result<Vec<Value>> {
+    let mut values = Vec::new(alloc);
+    for number in numbers {
+        values.push(Value::Int(*number))?;
+    }
+    if with_text {
+        values.push(Value::Text(Text::from_str(alloc, "three")?))?;
+    }
+    Ok(values)
+}
+
+/// The network that doubles these numbers, and faults by a text behind them if one is wanted.
+pub(crate) fn network(
+    rt: &impl Abort,
+    alloc: Global,
+    numbers: &[i64],
+    with_text: bool,
+) -> Net<Steps> {
+    let Ok(values) = values(alloc, numbers, with_text) else {
+        panic!(rt; "out of memory");
+    };
+    let Ok(inputs) = doubled(alloc, values) else {
+        panic!(rt; "no plan");
+    };
+    let Ok(net) = inputs.start(alloc) else {
+        panic!(rt; "out of memory");
+    };
+    net
+}
+
+/// The exit of the block that doubles.
+pub(crate) fn exit(rt: &impl Abort, net: Net<Steps>) -> NetExit<Steps> {
+    let Ok(exit) = net.exit(1, STEPS) else {
+        panic!(rt; "no exit");
+    };
+    exit
+}
