@@ -7,7 +7,7 @@ use crate::batched_join::BatchedJoin;
 use flow_block::Block;
 use flow_group::Arrivals;
 use flow_link::{
-    Completing, DataflowBlock, LinkId, MakeFault, Outcome, SourceBlock, TargetBlock, Wish,
+    Completing, DataflowBlock, LinkId, MakeFault, Outcome, PortId, SourceBlock, TargetBlock, Wish,
     WishAnswer,
 };
 use flow_outlet::OutletFault;
@@ -39,7 +39,7 @@ impl DataflowBlock for BatchedJoin {
 
     ghost acts = { Acts };
 
-    fn complete(&mut self, port: u32) {
+    fn complete(&mut self, port: PortId) {
         DataflowBlock::complete(&mut self.block, port);
     }
 

@@ -32,7 +32,7 @@ use crate::block::Block;
 use crate::jobs::Answer;
 use flow_group::{Round, Source};
 use flow_intake::Intake;
-use flow_link::{LinkEnd, Mark, Move, Outcome, Phase};
+use flow_link::{LinkEnd, Mark, Move, Outcome, Phase, PortId};
 use flow_outlet::OutletFault;
 use flow_value::{MessageHeader, Parcel, Value};
 use std::alloc::{AllocError, Global};
@@ -132,7 +132,7 @@ impl Node {
     /// Sets memory aside for one more message at a port, and for its mark, from the answer to its offer until it is
     /// taken.
     #[inline(always)]
-    pub fn prepare_answer(&mut self, port: u32) -> Result<(), AllocError>
+    pub fn prepare_answer(&mut self, port: PortId) -> Result<(), AllocError>
         requires { port < length self.old.block.ports }
         ensures done { OnOk result (self.new ≡ with_block (with_port port prepared self.old.block) self.old) }
         ensures kept { OnErr result (self.new ≡ self.old) }
@@ -143,7 +143,7 @@ impl Node {
     }
 
     /// Accepts the offer over the link at this place.
-    pub fn want(&mut self, port: u32, place: usize)
+    pub fn want(&mut self, port: PortId, place: usize)
         requires port { port < length self.old.block.ports }
         requires place { place < length (port_at port self.old.block).ends }
         requires offer { is_offer (port_stage place (port_at port self.old.block)) ≡ true }
@@ -155,7 +155,7 @@ impl Node {
     }
 
     /// Does not take the message that was posted over the link at this place.
-    pub fn turn_down(&mut self, port: u32, place: usize)
+    pub fn turn_down(&mut self, port: PortId, place: usize)
         requires port { port < length self.old.block.ports }
         requires place { place < length (port_at port self.old.block).ends }
         requires posted { is_posted (port_stage place (port_at port self.old.block)) ≡ true }
@@ -165,7 +165,7 @@ impl Node {
     }
 
     /// Postpones the offer over the link at this place.
-    pub fn postpone(&mut self, port: u32, place: usize)
+    pub fn postpone(&mut self, port: PortId, place: usize)
         requires port { port < length self.old.block.ports }
         requires place { place < length (port_at port self.old.block).ends }
         requires offered { is_offered (port_stage place (port_at port self.old.block)) ≡ true }
@@ -176,7 +176,7 @@ impl Node {
     }
 
     /// Refuses the offer over the link at this place for good, which it may have postponed before.
-    pub fn refuse(&mut self, port: u32, place: usize)
+    pub fn refuse(&mut self, port: PortId, place: usize)
         requires port { port < length self.old.block.ports }
         requires place { place < length (port_at port self.old.block).ends }
         requires refusing { is_some (port_at port self.old.block).refusing ≡ true }
@@ -190,7 +190,7 @@ impl Node {
     }
 
     /// Consumes the offer over the link at this place, which it postponed.
-    pub fn consume(&mut self, port: u32, place: usize)
+    pub fn consume(&mut self, port: PortId, place: usize)
         requires port { port < length self.old.block.ports }
         requires place { place < length (port_at port self.old.block).ends }
         requires postponed { is_postponed (port_stage place (port_at port self.old.block)) ≡ true }
@@ -201,7 +201,7 @@ impl Node {
     }
 
     /// Asks to reserve the offer over the link at this place, which it postponed.
-    pub fn ask(&mut self, port: u32, place: usize)
+    pub fn ask(&mut self, port: PortId, place: usize)
         requires port { port < length self.old.block.ports }
         requires place { place < length (port_at port self.old.block).ends }
         requires postponed { is_postponed (port_stage place (port_at port self.old.block)) ≡ true }
@@ -212,7 +212,7 @@ impl Node {
     }
 
     /// Claims the message over the link at this place, which is kept for it.
-    pub fn claim(&mut self, port: u32, place: usize)
+    pub fn claim(&mut self, port: PortId, place: usize)
         requires port { port < length self.old.block.ports }
         requires place { place < length (port_at port self.old.block).ends }
         requires holding { is_holding (port_stage place (port_at port self.old.block)) ≡ true }
@@ -225,7 +225,7 @@ impl Node {
     }
 
     /// Gives up the message over the link at this place, which is kept for it.
-    pub fn release(&mut self, port: u32, place: usize)
+    pub fn release(&mut self, port: PortId, place: usize)
         requires port { port < length self.old.block.ports }
         requires place { place < length (port_at port self.old.block).ends }
         requires holding { is_holding (port_stage place (port_at port self.old.block)) ≡ true }
@@ -236,7 +236,7 @@ impl Node {
     }
 
     /// Takes the message out of the slot of the link at this place: this is its parcel.
-    pub fn open(&mut self, port: u32, place: usize, parcel: Parcel)
+    pub fn open(&mut self, port: PortId, place: usize, parcel: Parcel)
         requires port { port < length self.old.block.ports }
         requires place { place < length (port_at port self.old.block).ends }
         requires arrived { is_arrived (port_stage place (port_at port self.old.block)) ≡ true }
@@ -247,7 +247,7 @@ impl Node {
 
     /// Makes the message the block's own that it has in hand from the link at this place, and marks that it took it. A
     /// block that takes one message in all copies it from then on.
-    pub fn close(&mut self, port: u32, place: usize)
+    pub fn close(&mut self, port: PortId, place: usize)
         requires port { port < length self.old.block.ports }
         requires place { place < length (port_at port self.old.block).ends }
         requires hand { is_hand (port_stage place (port_at port self.old.block)) ≡ true }
@@ -261,7 +261,7 @@ impl Node {
     }
 
     /// Looks at the phase of the link into it at this place.
-    pub fn look_in(&mut self, port: u32, place: usize, phase: Phase)
+    pub fn look_in(&mut self, port: PortId, place: usize, phase: Phase)
         requires port { port < length self.old.block.ports }
         requires place { place < length (port_at port self.old.block).ends }
         ensures { self.new ≡ goes_round (loses_front place phase (port_at port self.old.block))
@@ -503,7 +503,7 @@ impl Node {
     /// changed.
     ///
     /// Microsoft: `IDataflowBlock.Complete`.
-    pub fn complete(&mut self, port: u32) -> Result<(), AllocError>
+    pub fn complete(&mut self, port: PortId) -> Result<(), AllocError>
         requires { port < length self.old.block.ports }
         ensures done { OnOk result
             (self.new ≡ marks (Complete port) (with_block (with_port port port_closes self.old.block) self.old)) }

@@ -18,7 +18,7 @@ use crate::block::Block;
 use crate::input::Input;
 use crate::node::Node;
 use crate::ports::bring_back;
-use flow_link::Mark;
+use flow_link::{Mark, PortId};
 use flow_value::{Parcel, Value};
 
 impl Block {
@@ -126,7 +126,7 @@ impl Node {
 
     /// Takes a message that comes over the link at this place, and that the port takes at once, and marks that. This is
     /// its parcel.
-    pub fn receive(&mut self, port: u32, place: usize, parcel: Parcel)
+    pub fn receive(&mut self, port: PortId, place: usize, parcel: Parcel)
         requires port { port < length self.old.block.ports }
         requires place { place < length (port_at port self.old.block).ends }
         requires takes { takes_at_once place (port_at port self.old.block) ≡ true }

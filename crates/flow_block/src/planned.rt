@@ -156,7 +156,7 @@ pub fn routes_of<W>(alloc: Global, plan: &Plan<W>) -> Result<Vec<Route>, AllocEr
     ensures each { IfOk result (λ routes. (l : ℕ) → l < length (layout_of plan.now).links → HoldsAt (λ route. route ≡
         route_of (layout_of plan.now) l) routes.items l) }
 {
-    let mut routes = Vec::with_capacity(alloc, plan.link_count())?;
+    let mut routes = Vec::with_capacity(alloc, plan.link_count() as usize)?;
     for id in 0..plan.link_count() {
         routes.push(route_of(plan, id))?;
     }

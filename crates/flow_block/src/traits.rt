@@ -14,8 +14,8 @@ ghost use Rattle.flow_block.specs.Traits.{makes_alone, makes_itself, makes_its_n
 use crate::block::Block;
 use crate::by_link::{hold, port_into, wishing_port};
 use flow_link::{
-    BlockUnit, Completing, DataflowBlock, LinkId, MakeFault, Outcome, SourceBlock, TargetBlock,
-    Wish, WishAnswer,
+    BlockUnit, Completing, DataflowBlock, LinkId, MakeFault, Outcome, PortId, SourceBlock,
+    TargetBlock, Wish, WishAnswer,
 };
 use flow_outlet::OutletFault;
 use flow_value::{MessageHeader, MessageStatus, Parcel};
@@ -50,7 +50,7 @@ impl DataflowBlock for Block {
 
     ghost acts = { Acts };
 
-    fn complete(&mut self, port: u32) {
+    fn complete(&mut self, port: PortId) {
         self.close_port(port as usize);
     }
 

@@ -9,7 +9,7 @@
 //! `settle`            all that may happen
 //! `change`            from here on the steps are those of an equal network, or of the first one again
 //! `shows LINES`       nothing: the report has these lines
-use flow_link::{Ending, LinkEnd, Move};
+use flow_link::{Ending, LinkEnd, LinkId, Move, PortId};
 use flow_net::Net;
 use flow_trial::{Asked, PAIR, Results, THREE, came_to, is_done, network, settles};
 use flow_value::{MessageHeader, Runs, Steps};
@@ -119,14 +119,14 @@ fn move_of(words: &str, id: u64) -> Option<Move> {
 /// The event that these words ask for.
 fn asked_by(words: &str, id: u64) -> Option<Asked> {
     let (word, others) = split_word(words);
-    let (number, others) = split_word(others);
-    let number = number.parse::<usize>().ok()?;
+    let (digits, others) = split_word(others);
+    let number = digits.parse::<usize>().ok()?;
     match word {
-        "link" => Some(Asked::Link(number, move_of(others, id)?)),
+        "link" => Some(Asked::Link(digits.parse::<LinkId>().ok()?, move_of(others, id)?)),
         "make" => Some(Asked::Make(number)),
         "begin" => Some(Asked::Begin(number)),
         "end" => Some(Asked::End(number, Some(others.parse::<u64>().ok()?))),
-        "complete" => Some(Asked::Complete(number, others.parse::<u32>().ok()?)),
+        "complete" => Some(Asked::Complete(number, others.parse::<PortId>().ok()?)),
         "fault" => Some(Asked::Fault(number)),
         "done" => Some(Asked::Done(number)),
         _ => None,

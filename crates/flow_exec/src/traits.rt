@@ -2,7 +2,7 @@
 //! is. It makes nothing by itself, since it has a function.
 use crate::execution::Execution;
 use flow_link::{
-    Completing, DataflowBlock, LinkId, MakeFault, Outcome, SourceBlock, TargetBlock, Wish,
+    Completing, DataflowBlock, LinkId, MakeFault, Outcome, PortId, SourceBlock, TargetBlock, Wish,
     WishAnswer,
 };
 use flow_value::{MessageHeader, MessageStatus, Parcel};
@@ -33,7 +33,7 @@ impl<W> DataflowBlock for Execution<W> {
 
     ghost acts = { Acts };
 
-    fn complete(&mut self, port: u32) {
+    fn complete(&mut self, port: PortId) {
         DataflowBlock::complete(&mut self.block, port);
     }
 

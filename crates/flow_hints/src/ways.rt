@@ -36,10 +36,10 @@ pub(crate) fn ways_of<'p>(alloc: Global, plan: &'p Plan<Steps>) -> Result<Ways<'
             found.target,
         ) {
             ways.push(Way {
-                link,
+                link: link as usize,
                 source,
                 target,
-                port,
+                port: u32::from(port),
                 when: found.when,
                 max: found.max,
                 propagate: found.propagate,

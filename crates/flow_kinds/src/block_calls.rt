@@ -2,7 +2,7 @@
 use crate::block::TypedBlock;
 use crate::kind::Kind;
 use flow_link::{
-    Completing, DataflowBlock, LinkId, MakeFault, Outcome, SourceBlock, TargetBlock, Wish,
+    Completing, DataflowBlock, LinkId, MakeFault, Outcome, PortId, SourceBlock, TargetBlock, Wish,
     WishAnswer,
 };
 use flow_value::{MessageHeader, MessageStatus, Parcel};
@@ -32,7 +32,7 @@ impl<K: Kind> DataflowBlock for TypedBlock<K> {
 
     ghost acts = { Acts };
 
-    fn complete(&mut self, port: u32) {
+    fn complete(&mut self, port: PortId) {
         DataflowBlock::complete(&mut self.block, port);
     }
 

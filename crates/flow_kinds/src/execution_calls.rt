@@ -3,7 +3,7 @@
 use crate::execution::TypedExecution;
 use crate::kind::{GivingKind, WorkKind};
 use flow_link::{
-    Completing, DataflowBlock, LinkId, MakeFault, Outcome, SourceBlock, TargetBlock, Wish,
+    Completing, DataflowBlock, LinkId, MakeFault, Outcome, PortId, SourceBlock, TargetBlock, Wish,
     WishAnswer,
 };
 use flow_value::{MessageHeader, MessageStatus, Parcel};
@@ -34,7 +34,7 @@ impl<K: WorkKind, W> DataflowBlock for TypedExecution<K, W> {
 
     ghost acts = { Acts };
 
-    fn complete(&mut self, port: u32) {
+    fn complete(&mut self, port: PortId) {
         self.execution.complete(port);
     }
 

@@ -11,6 +11,7 @@ pub mod LooksKeepOrder
 pub mod OneMoreMark
 pub mod OneMoreWorked
 pub mod PlansAreWellFormed
+pub mod PortsAreFew
 pub mod RoundsOfWalks
 pub mod SourceMoves
 pub mod StagesKept

@@ -59,10 +59,10 @@ none_in_list test xs i d e low =
     ap place zeroth
     ∙ fails_from place 0 (length xs) i low (position_is_first test place xs (λ k other small. ap test (get_or_default xs k d other small)) ∙ e)
 
-front_of : {A : Type 0} (test : A → Bool) (a b : List A) → find test (a ++ b) ≡ None → find test a ≡ None
+pub front_of : {A : Type 0} (test : A → Bool) (a b : List A) → find test (a ++ b) ≡ None → find test a ≡ None
 front_of test a b e = none_front _ _ (sym (find-append test a b) ∙ e)
 
-back_of : {A : Type 0} (test : A → Bool) (a b : List A) → find test (a ++ b) ≡ None → find test b ≡ None
+pub back_of : {A : Type 0} (test : A → Bool) (a b : List A) → find test (a ++ b) ≡ None → find test b ≡ None
 back_of test a b e = none_back _ _ (sym (find-append test a b) ∙ e)
 
 first_two : (a b c d e f g h : Bool) → (a && b && c && d && e && f && g && h) ≡ true → (a ≡ true) × (b ≡ true)
@@ -233,6 +233,37 @@ module _ {W : Type 0} (blocks : List (BlockDef W)) (links : List LinkDef) where
         cycle = stands_first (test Cycle) Cycle (back_of test shared (Cycle ∷ []) fine);
       }
 
+-- a link of the draft at which no fault of its names, and none of its port, stands
+module _ {W : Type 0} (blocks : List (BlockDef W)) (links : List LinkDef) (l : ℕ) (link : LinkDef) (low : l < length links) (is : link ≡ get_or links l link) where
+  named_at : link_in (named_links blocks links) l ≡ named_link blocks link
+  named_at = named_link_at blocks links l link low ∙ ap (named_link blocks) (sym is)
+
+  -- both its names are known
+  pub known_at : stands blocks links (UnknownBlock l) ≡ false
+      → (is_none (block_named blocks link.from) ≡ false) × (is_none (block_named blocks link.to) ≡ false)
+  known_at none =
+      let from : get_or (map (λ x. block_named blocks x.from) links) l (Some 0) ≡ block_named blocks link.from =
+      get_or-map (λ x. block_named blocks x.from) links l link (Some 0) low ∙ ap (λ x. block_named blocks x.from) (sym is) in
+      let to : get_or (map (λ x. block_named blocks x.to) links) l (Some 0) ≡ block_named blocks link.to =
+      get_or-map (λ x. block_named blocks x.to) links l link (Some 0) low ∙ ap (λ x. block_named blocks x.to) (sym is) in
+      let both = or_parts (is_none (get_or (sources blocks links) l (Some 0))) (is_none (get_or (targets blocks links) l (Some 0))) none in
+      (ap is_none (sym from) ∙ both.0, ap is_none (sym to) ∙ both.1)
+
+  -- its target is there, and has its port
+  pub target_there : stands blocks links (UnknownBlock l) ≡ false → unwrap_or (block_named blocks link.to) 0 < length blocks
+  target_there unknown = named_low blocks link.to (known_at unknown).1
+
+  pub port_has : stands blocks links (UnknownBlock l) ≡ false → stands blocks links (Port l) ≡ false
+      → unwrap_or link.port 0 < port_count (block_in blocks (unwrap_or (block_named blocks link.to) 0))
+  port_has unknown port =
+      let found = block_named blocks link.to in
+      let place : get_or (targets blocks links) l None ≡ found =
+      get_or-map (λ x. block_named blocks x.to) links l link None low ∙ ap (λ x. block_named blocks x.to) (sym is) in
+      let has : lacks_port blocks links found (named_link blocks link).target ≡ false =
+      ap (λ x. lacks_port blocks links x (named_link blocks link).target) (sym place)
+      ∙ ap (λ x. lacks_port blocks links (get_or (targets blocks links) l None) x.target) (sym named_at) ∙ port in
+      port_there blocks found links (unwrap_or found 0) (unwrap_or link.port 0) (known_at unknown).1 has refl
+
 module _ {W : Type 0} (blocks : List (BlockDef W)) (links : List LinkDef) (none : NoneStands blocks links) where
   options : (b : ℕ) → b < length blocks → options_fit (block_in blocks b) ≡ true
   options b low = not-false (options_fit (block_in blocks b)) (none.block b low)
@@ -246,32 +277,16 @@ module _ {W : Type 0} (blocks : List (BlockDef W)) (links : List LinkDef) (none 
       let at : get_or (take b blocks) a no_block ≡ block_in blocks a = get_or-take b blocks a no_block first in
       never_both (bytes_eq (block_in blocks a).name name) ((bytes_eq-Decides (block_in blocks a).name name).1 same) (ap (λ x. bytes_eq x.name name) (sym at) ∙ fails)
 
-  -- both names of a link are known
   known : (l : ℕ) (link : LinkDef) → l < length links → link ≡ get_or links l link
       → (is_none (block_named blocks link.from) ≡ false) × (is_none (block_named blocks link.to) ≡ false)
-  known l link low is =
-      let from : get_or (map (λ x. block_named blocks x.from) links) l (Some 0) ≡ block_named blocks link.from =
-      get_or-map (λ x. block_named blocks x.from) links l link (Some 0) low ∙ ap (λ x. block_named blocks x.from) (sym is) in
-      let to : get_or (map (λ x. block_named blocks x.to) links) l (Some 0) ≡ block_named blocks link.to =
-      get_or-map (λ x. block_named blocks x.to) links l link (Some 0) low ∙ ap (λ x. block_named blocks x.to) (sym is) in
-      let both = or_parts (is_none (get_or (sources blocks links) l (Some 0))) (is_none (get_or (targets blocks links) l (Some 0))) (none.unknown l low) in
-      (ap is_none (sym from) ∙ both.0, ap is_none (sym to) ∙ both.1)
-
-  named_at : (l : ℕ) (link : LinkDef) → l < length links → link ≡ get_or links l link → link_in (named_links blocks links) l ≡ named_link blocks link
-  named_at l link low is = named_link_at blocks links l link low ∙ ap (named_link blocks) (sym is)
+  known l link low is = known_at blocks links l link low is (none.unknown l low)
 
   enters_named : (l : ℕ) (link : LinkDef) → l < length links → link ≡ get_or links l link → Enters blocks (named_link blocks link)
   enters_named l link low is = λ b port e.
-      let found = block_named blocks link.to in
-      let place : get_or (targets blocks links) l None ≡ found =
-      get_or-map (λ x. block_named blocks x.to) links l link None low ∙ ap (λ x. block_named blocks x.to) (sym is) in
-      let has : lacks_port blocks links found (named_link blocks link).target ≡ false =
-      ap (λ x. lacks_port blocks links x (named_link blocks link).target) (sym place)
-      ∙ ap (λ x. lacks_port blocks links (get_or (targets blocks links) l None) x.target) (sym (named_at l link low is)) ∙ none.port l low in
-      let here : unwrap_or found 0 ≡ b = ap target_of e in
+      let here : unwrap_or (block_named blocks link.to) 0 ≡ b = ap target_of e in
       let there : unwrap_or link.port 0 ≡ port = ap port_of e in
-      let few = named_low blocks link.to (known l link low is).1 in
-      let some_port = port_there blocks found links (unwrap_or found 0) (unwrap_or link.port 0) (known l link low is).1 has refl in (
+      let few = target_there blocks links l link low is (none.unknown l low) in
+      let some_port = port_has blocks links l link low is (none.unknown l low) (none.port l low) in (
         subst (λ (n : ℕ). n < length blocks) here few,
         subst (λ (n : ℕ). n < port_count (block_in blocks b)) there (subst (λ (n : ℕ). unwrap_or link.port 0 < port_count (block_in blocks n)) here some_port),
       )
@@ -288,7 +303,7 @@ module _ {W : Type 0} (blocks : List (BlockDef W)) (links : List LinkDef) (none 
 
   carries_named : (l : ℕ) (link : LinkDef) → l < length links → link ≡ get_or links l link → Carries blocks (named_link blocks link)
   carries_named l link low is =
-      ap (λ x. is_in 1 2147483647 x.max) (sym (named_at l link low is)) ∙ not-false _ (none.link l low)
+      ap (λ x. is_in 1 2147483647 x.max) (sym (named_at blocks links l link low is)) ∙ not-false _ (none.link l low)
 
   enters_input : (b : ℕ) → b < length blocks → (block_in blocks b).input ≡ true → Enters blocks (input_link (0 + b))
   enters_input b low on = λ t port e.

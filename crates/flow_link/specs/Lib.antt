@@ -18,6 +18,7 @@ pub mod Phase
 pub mod Plan
 pub mod PlanFaults
 pub mod Planned
+pub mod PortsFit
 pub mod Posted
 pub mod Refusal
 pub mod Rounds

@@ -15,7 +15,7 @@ use crate::cycle::{MOST_BLOCKS, has_cycle};
 use crate::draft::{BlockDef, Draft, LinkDef};
 use crate::layout::{NO_LINK, name_links, planned_links};
 use crate::options::{holds_no_group, max_fits, options_fit};
-use crate::plan::{Link, LinkSource, LinkTarget, Place, Plan, PlanFault};
+use crate::plan::{Link, LinkSource, LinkTarget, Place, Plan, PlanFault, PortId};
 use std::alloc::Global;
 use thiserror::Error;
 
@@ -146,7 +146,7 @@ fn shares_with(links: &[Link], source: usize, block: usize, target: LinkTarget) 
     }
 }
 
-fn has_another(links: &[Link], source: usize, block: usize, port: u32) -> bool
+fn has_another(links: &[Link], source: usize, block: usize, port: PortId) -> bool
     ensures { result ≡ list_any (enters_another source block port) links.now }
 {
     links
@@ -155,7 +155,7 @@ fn has_another(links: &[Link], source: usize, block: usize, port: u32) -> bool
 }
 
 /// Whether this link leads from the source into another port of the block than this one.
-fn enters_another(source: usize, block: usize, port: u32, link: &Link) -> bool
+fn enters_another(source: usize, block: usize, port: PortId, link: &Link) -> bool
     ensures { result ≡ enters_another source block port link.now }
 {
     begins_at(source, link.source)
@@ -172,7 +172,7 @@ fn ends_at(block: usize, target: LinkTarget) -> bool
     }
 }
 
-fn ends_at_port(block: usize, port: u32, target: LinkTarget) -> bool
+fn ends_at_port(block: usize, port: PortId, target: LinkTarget) -> bool
     ensures { result ≡ ends_at_port block port target }
 {
     match target {

@@ -2,10 +2,11 @@
 ghost use Rattle.std.specs.Prelude.{◌≡◌, ◌≤◌, [], ◌∷◌, ◌++◌, cond, length, take, IfOk, OnOk, unwrap_or};
 ghost use Rattle.flow_link.specs.Layout.{input_link, exit_link, input_links, exit_links, outer_links};
 ghost use Rattle.flow_link.specs.Plan.{block_named, named_link, named_links, planned_links};
+ghost use Rattle.flow_link.specs.PortsFit.{PortFits, PortsFit};
 
 use crate::check::block_named;
 use crate::draft::{BlockDef, LinkDef};
-use crate::plan::{Link, LinkSource, LinkTarget};
+use crate::plan::{Link, LinkSource, LinkTarget, PortId};
 use flow_value::When;
 use std::alloc::{AllocError, Global};
 
@@ -20,7 +21,8 @@ pub const NO_LINK: Link = Link {
 
 /// Writes the links of the draft to the front of this room; a name that no block has counts as that of the first.
 pub fn name_links<W>(blocks: &[BlockDef<W>], links: &[LinkDef], room: &mut [Link])
-    requires { length links.now ≤ length room.old }
+    requires room { length links.now ≤ length room.old }
+    requires fit { PortsFit links.now }
     ensures named { take (length links.now) room.new ≡ named_links blocks.now links.now }
     ensures same_length { length room.new ≡ length room.old }
 {
@@ -35,6 +37,7 @@ pub fn planned_links<W>(
     blocks: &[BlockDef<W>],
     links: &[LinkDef],
 ) -> Result<Vec<Link>, AllocError>
+    requires { PortsFit links.now }
     ensures { IfOk result (λ planned. planned.items ≡ planned_links blocks.now links.now) }
 {
     let mut planned = named_links(alloc, blocks, links)?;
@@ -48,6 +51,7 @@ fn named_links<W>(
     blocks: &[BlockDef<W>],
     links: &[LinkDef],
 ) -> Result<Vec<Link>, AllocError>
+    requires { PortsFit links.now }
     ensures { IfOk result (λ named. named.items ≡ named_links blocks.now links.now) }
 {
     let mut named = Vec::new(alloc);
@@ -94,13 +98,14 @@ fn push_where(links: &mut Vec<Link>, is_there: bool, link: Link) -> Result<(), A
 }
 
 fn named_link<W>(blocks: &[BlockDef<W>], link: &LinkDef) -> Link
+    requires { PortFits link.now }
     ensures { result ≡ named_link blocks.now link.now }
 {
     let source = block_named(blocks, link.from.as_str()).unwrap_or(0);
     let target = block_named(blocks, link.to.as_str()).unwrap_or(0);
     Link {
         source: LinkSource::Block(source),
-        target: LinkTarget::Port(target, link.port.unwrap_or(0)),
+        target: LinkTarget::Port(target, link.port.unwrap_or(0) as PortId),
         when: link.when.unwrap_or(When::Any),
         max: link.max,
         propagate: link.propagate,

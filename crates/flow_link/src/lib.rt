@@ -32,7 +32,7 @@ pub use kinds::{
     OptionRule,
 };
 pub use phase::{LinkEnd, Move, Phase, phase_of, step_of, word_of};
-pub use plan::{Link, LinkId, LinkSource, LinkTarget, Place, Plan, PlanFault};
+pub use plan::{Link, LinkId, LinkSource, LinkTarget, Place, Plan, PlanFault, PortId};
 pub use posted::{Posted, are_numbered};
 pub use stage::{Refusal, SourceStage, TargetStage};
 pub use trace::{Ending, LinkState, Mark, Outcome};

@@ -13,7 +13,10 @@ use std::fmt;
 use thiserror::Error;
 
 /// Names a link of a plan: the plan's own links in their order, then one for each input, then one for each exit.
-pub type LinkId = usize;
+pub type LinkId = u32;
+
+/// Names a port of a block; the first is 0.
+pub type PortId = u16;
 
 /// Where the messages of a link come from.
 #[derive(Clone, Copy, Debug, PartialEq, Eq)]
@@ -28,7 +31,7 @@ pub enum LinkSource {
 #[derive(Clone, Copy, Debug, PartialEq, Eq)]
 pub enum LinkTarget {
     /// A port of a block, by their numbers.
-    Port(usize, u32),
+    Port(usize, PortId),
     /// The caller, who receives from a block.
     Exit,
 }
@@ -156,10 +159,10 @@ impl<W> Plan<W> {
     }
 
     /// How many links there are, those of inputs and exits among them.
-    pub fn link_count(&self) -> usize
+    pub fn link_count(&self) -> LinkId
         ensures { result ≡ length (layout_of self.now).links }
     {
-        self.links.len()
+        self.links.len() as LinkId
     }
 
     /// The link with this id.
@@ -169,7 +172,7 @@ impl<W> Plan<W> {
         ensures well_formed { IsWellFormed (layout_of self.now).blocks (layout_of self.now).links }
         ensures laid_out { IsLaidOut (layout_of self.now).blocks (layout_of self.now).links }
     {
-        self.links[id]
+        self.links[id as usize]
     }
 
     /// How many inputs there are: of so many blocks values are posted.

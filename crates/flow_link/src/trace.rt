@@ -4,18 +4,18 @@ ghost use Rattle.flow_link.specs.Phase.{message_id};
 ghost use Rattle.flow_link.specs.Posted.{is_numbered_ending};
 
 use crate::phase::Phase;
-use crate::plan::LinkId;
+use crate::plan::{LinkId, PortId};
 use flow_value::{MessageHeader, Parcel, Value};
 
 /// One thing that happened to a block; its journal has them in order.
 #[derive(Debug, Drop)]
 pub enum Mark {
     /// At this port it took this value, which came over this link.
-    Took(u32, LinkId, Value),
+    Took(PortId, LinkId, Value),
     /// Over this link it gave this value.
     Gave(LinkId, Value),
     /// This port takes nothing any more.
-    Complete(u32),
+    Complete(PortId),
     /// The block ended by a fault with this number.
     Fault(u32),
     /// The block ended, and has nothing left.

@@ -16,7 +16,7 @@
 ghost use Rattle.std.specs.Prelude.{◌≡◌};
 ghost use Rattle.flow_link.specs.Fault.{make_fault_number};
 
-use crate::plan::LinkId;
+use crate::plan::{LinkId, PortId};
 use crate::trace::Outcome;
 use flow_value::{MessageHeader, MessageStatus, Parcel};
 use std::alloc::{AllocError, Global};
@@ -124,7 +124,7 @@ pub trait DataflowBlock: Completing {
     /// worked on.
     ///
     /// Microsoft: `IDataflowBlock.Complete`, for one port.
-    fn complete(&mut self, port: u32)
+    fn complete(&mut self, port: PortId)
         requires { may_complete self.old port }
         ensures acts { acts self.old (BlockCall.completed port) self.new }
         ensures stays { Stays (Self.outcome self.old) (Self.outcome self.new) };

@@ -12,7 +12,7 @@ ghost use Rattle.flow_moves.specs.Ready.{OutIsReady, CopyIsReady, ExitIsReady, E
 
 use flow_block::{Block, Input, Node};
 use flow_exit::ExitEnd;
-use flow_link::{Move, Phase};
+use flow_link::{Move, Phase, PortId};
 use flow_value::Parcel;
 use std::alloc::{AllocError, Global};
 
@@ -171,7 +171,7 @@ pub(crate) fn move_exit_end(exit: &mut ExitEnd, slot: &mut Option<Parcel>, next:
 /// nothing has changed.
 pub(crate) fn move_in(
     node: &mut Node,
-    port: u32,
+    port: PortId,
     place: usize,
     slot: &mut Option<Parcel>,
     next: Move,

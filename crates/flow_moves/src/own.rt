@@ -19,7 +19,7 @@ ghost use Rattle.flow_moves.specs.AtOnce.{put_at_once, works_at_once, works_out}
 use crate::parts::Parts;
 use flow_block::{Answer, Node};
 use flow_exec::{answer_of, value_of};
-use flow_link::BlockKind;
+use flow_link::{BlockKind, PortId};
 use flow_outlet::OutletFault;
 use flow_value::{Runs, Value};
 use std::alloc::{AllocError, Global};
@@ -143,7 +143,7 @@ impl Parts {
     }
 
     /// A port of a block takes no message any more. Where memory is out, nothing has changed.
-    pub fn complete(&mut self, block: usize, port: u32) -> Result<(), AllocError>
+    pub fn complete(&mut self, block: usize, port: PortId) -> Result<(), AllocError>
         requires there { block < length self.old.nodes }
         requires port { port < length (node_at self.old block).block.ports }
         ensures done { OnOk result ((result : Value → Result (List Value) ℕ) →

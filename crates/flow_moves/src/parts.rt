@@ -14,7 +14,7 @@ ghost use Rattle.flow_moves.specs.Ways.{moved_by_source, moved_by_target};
 use crate::ends::{look_exit, move_exit, move_exit_end, move_in, move_input, next_of_exit};
 use flow_block::{Input, Node, Route};
 use flow_exit::ExitEnd;
-use flow_link::{LinkSource, LinkState, LinkTarget, Move, Phase, SourceStage};
+use flow_link::{LinkId, LinkSource, LinkState, LinkTarget, Move, Phase, SourceStage};
 use flow_value::{Parcel, Value};
 use std::alloc::{AllocError, Global};
 use std::marker::Model;
@@ -127,11 +127,11 @@ impl Parts {
     }
 
     /// How far the message over this link has come.
-    pub fn phase(&self, id: usize) -> Phase
+    pub fn phase(&self, id: LinkId) -> Phase
         requires { id < length self.now.lines }
         ensures { result ≡ (line_at self.now id).phase }
     {
-        self.lines[id].phase
+        self.lines[id as usize].phase
     }
 
     /// What the source's end of a link would do next; an input that has no id left for its next value does nothing.
@@ -179,7 +179,7 @@ impl Parts {
     pub fn move_along(
         &mut self,
         alloc: Global,
-        id: usize,
+        id: LinkId,
         route: &Route,
         next: Move,
         phase: Phase,
@@ -201,7 +201,7 @@ impl Parts {
     fn move_by_source(
         &mut self,
         alloc: Global,
-        id: usize,
+        id: LinkId,
         route: &Route,
         next: Move,
         phase: Phase,
@@ -222,7 +222,7 @@ impl Parts {
     /// The target's end of a link makes its move, which leads to this phase, and the source looks.
     fn move_by_target(
         &mut self,
-        id: usize,
+        id: LinkId,
         route: &Route,
         next: Move,
         phase: Phase,
@@ -240,7 +240,13 @@ impl Parts {
     }
 
     /// The source of a link moves, which leads to this phase; this is the parcel that it hands over, if it does.
-    pub(crate) fn pass_line(&mut self, id: usize, next: &Move, phase: &Phase, given: Option<Parcel>)
+    pub(crate) fn pass_line(
+        &mut self,
+        id: LinkId,
+        next: &Move,
+        phase: &Phase,
+        given: Option<Parcel>,
+    )
         requires { id < length self.old.lines }
         ensures { self.new ≡ with_line id (record {
           phase = phase.now;
@@ -248,7 +254,7 @@ impl Parts {
               (line_at self.old id).slot;
         }) self.old }
     {
-        let line = &mut self.lines[id];
+        let line = &mut self.lines[id as usize];
         line.phase = *phase;
         if *next == Move::Give {
             line.slot = given;
@@ -285,7 +291,7 @@ impl Parts {
     /// opens it.
     fn move_target(
         &mut self,
-        id: usize,
+        id: LinkId,
         route: &Route,
         next: Move,
         phase: &Phase,
@@ -301,13 +307,13 @@ impl Parts {
         match route.target {
             LinkTarget::Port(block, port) => {
                 let node = &mut self.nodes[block];
-                let line = &mut self.lines[id];
+                let line = &mut self.lines[id as usize];
                 move_in(node, port, route.target_place, &mut line.slot, next)?;
                 line.phase = *phase;
             }
             LinkTarget::Exit => {
                 let exit = &mut self.exits[route.target_place];
-                let line = &mut self.lines[id];
+                let line = &mut self.lines[id as usize];
                 move_exit_end(exit, &mut line.slot, next);
                 line.phase = *phase;
             }

@@ -16,14 +16,14 @@ ghost use Rattle.flow_moves.specs.Ways.{value_next, target_looked};
 use crate::parts::Parts;
 use crate::sends::{exit_may_carry, offer_exit, prepare_exit, send_exit};
 use flow_block::Route;
-use flow_link::{LinkSource, LinkTarget, Move, Phase};
+use flow_link::{LinkId, LinkSource, LinkTarget, Move, Phase};
 use flow_value::{MessageHeader, Parcel};
 use std::alloc::{AllocError, Global};
 
 impl Parts {
     /// Whether what the source offers over a link may go over it in one call: nothing is under way over the link, its
     /// two ends are not of one block, the target takes at once what it is offered, and the link may carry it.
-    pub fn may_pass(&self, id: usize, route: &Route) -> bool
+    pub fn may_pass(&self, id: LinkId, route: &Route) -> bool
         requires { IsThere self.now id route.now }
         ensures { result ≡ may_pass id route.now self.now }
     {
@@ -31,11 +31,11 @@ impl Parts {
     }
 
     /// Whether nothing is under way over a link.
-    fn is_idle(&self, id: usize) -> bool
+    fn is_idle(&self, id: LinkId) -> bool
         requires { id < length self.now.lines }
         ensures { result ≡ is_idle_line (line_at self.now id) }
     {
-        let line = &self.lines[id];
+        let line = &self.lines[id as usize];
         line.phase == Phase::Idle && line.slot.is_none()
     }
 
@@ -66,7 +66,7 @@ impl Parts {
     /// The source's end of a link sends the message that it would offer, and the target receives it: what five events
     /// come to. Answers false where the target has no memory for it: then it is only offered. Where the source has no
     /// memory, nothing has changed.
-    pub fn pass(&mut self, alloc: Global, id: usize, route: &Route) -> Result<bool, AllocError>
+    pub fn pass(&mut self, alloc: Global, id: LinkId, route: &Route) -> Result<bool, AllocError>
         requires there { IsThere self.old id route.now }
         requires ready { SourceIsReady (Offer (id_next self.old route.now.source route.now.source_place)) self.old
             route.now.source route.now.source_place }
@@ -119,7 +119,7 @@ impl Parts {
     }
 
     /// The source of a link offers what it has ready, and the target looks.
-    fn offer_ready(&mut self, id: usize, route: &Route)
+    fn offer_ready(&mut self, id: LinkId, route: &Route)
         requires line { id < length self.old.lines }
         requires may { MaySend self.old route.now.source route.now.source_place }
         requires target { TargetIsThere self.old route.now.target route.now.target_place }

@@ -1,24 +1,20 @@
 -- What the finders of events tell: that an end of a link is where its way says, that what it would do is due, and when a block
 -- would do nothing.
-use Rattle.std.proofs.Common.{◌≡◌, ℕ, ◌+◌, ◌<◌, ◌≤◌, leb, ◌&&◌, Bool, true, false, List, length, get_or, map, Option, Some, None}
+use Rattle.std.proofs.Common.{◌≡◌, ℕ, ◌+◌, ◌<◌, ◌≤◌, Bool, true, false, List, length, get_or, map, Option, Some, None}
 use Rattle.std.proofs.Common.{IsTrue, ◌↔◌, Result, ap, sym, ◌∙◌, subst, arith, ⊎_elim}
 use Rattle.std.proofs.Math.Bridge.{le_prop}
 use Rattle.std.proofs.Math.Logic.{∥∥₁_elim}
 use Rattle.std.proofs.Math.Nat.{eq-or-lt_of_le}
-use Rattle.std.proofs.lemmas.Bool.{and_parts, leb-true}
 use Rattle.std.proofs.lemmas.List.{length-map}
 use Rattle.flow_value.specs.declared.value.Value.{Value}
 use Rattle.flow_value.specs.declared.work.WorkFault.{WorkFault}
-use Rattle.flow_link.specs.declared.draft.BlockDef.{BlockDef}
-use Rattle.flow_link.specs.declared.draft.BlockKind.{BlockKind}
-use Rattle.flow_link.specs.declared.draft.BlockKind.TheVariants.{Join, BatchedJoin}
 use Rattle.flow_link.specs.declared.phase.Move.{Move}
 use Rattle.flow_link.specs.declared.phase.Move.TheVariants.{Offer}
 use Rattle.flow_link.specs.declared.plan.Plan.{Plan}
 use Rattle.flow_link.specs.Layout.{Layout}
-use Rattle.flow_link.specs.Plan.{block_in, port_count, ports_by_kind}
-use Rattle.flow_link.specs.PlanFaults.{is_name, is_in, keys_fit, ranges_fit, options_fit}
+use Rattle.flow_link.specs.Plan.{block_in}
 use Rattle.flow_link.specs.Planned.{layout_of}
+use Rattle.flow_link.proofs.PortsAreFew.{at_most_three}
 use Rattle.flow_lists.specs.Lists.{below}
 use Rattle.flow_lists.proofs.ListTests.{length_numbers}
 use Rattle.flow_block.specs.declared.planned.Route.{Route}
@@ -155,19 +151,6 @@ found_same same found next told is itself e = is ∙ ap (λ (o : Option Move). o
 -- A block
 
 -- a plan gives no block more than three ports
-ports_within : (kind : BlockKind) (ports : Option ℕ) → is_in 2 3 ports ≡ true → ports_by_kind kind ports ≤ 3
-ports_within Join None within = omega arith
-ports_within Join (Some n) within = leb-true n 3 (and_parts (leb 2 n) (leb n 3) within).1
-ports_within BatchedJoin None within = omega arith
-ports_within BatchedJoin (Some n) within = leb-true n 3 (and_parts (leb 2 n) (leb n 3) within).1
-ports_within _ ports within = omega arith
-
-at_most_three : {W : Type 0} (block : BlockDef W) → options_fit block ≡ true → port_count block ≤ 3
-at_most_three block fit =
-    let ranges = (and_parts (is_name block.name && keys_fit block) (ranges_fit block) fit).1 in
-    let front = is_in 1 2147483647 block.capacity && is_in 1 16 block.lanes && is_in 1 4096 block.size in
-    ports_within block.kind block.ports (and_parts front (is_in 2 3 block.ports) ranges).1
-
 pub few_ports : {W : Type 0} (plan : Plan W) (meaning : ℕ → Value → Result (List Value) ℕ) (net : NetState)
     → ∥ NetKeeps (layout_of plan) meaning net ∥₁ → (b : ℕ) → b < length (layout_of plan).blocks
     → length (node_at net b).block.ports ≤ 3

@@ -12,7 +12,7 @@ use std::alloc::{AllocError, Global};
 /// A link or a block.
 #[derive(Clone, Copy)]
 pub(crate) enum Spot {
-    Link(usize),
+    Link(LinkId),
     Block(usize),
 }
 
@@ -27,7 +27,7 @@ pub(crate) struct Agenda {
 
 impl Agenda {
     /// An agenda with all of so many links and blocks.
-    pub(crate) fn new(alloc: Global, links: usize, blocks: usize) -> Result<Agenda, AllocError> {
+    pub(crate) fn new(alloc: Global, links: LinkId, blocks: usize) -> Result<Agenda, AllocError> {
         let mut agenda = Agenda {
             next: None,
             spots: Vec::new(alloc),
@@ -40,20 +40,20 @@ impl Agenda {
         for _ in 0..blocks {
             agenda.has_block.push(false)?;
         }
-        agenda.spots.reserve(links.saturating_add(blocks))?;
+        agenda.spots.reserve(blocks.saturating_add(links as usize))?;
         agenda.list_all(links, blocks);
         Ok(agenda)
     }
 
     /// Lists all of so many links and blocks.
-    fn list_all(&mut self, links: usize, blocks: usize) {
+    fn list_all(&mut self, links: LinkId, blocks: usize) {
         for number in 0..blocks {
             self.list(Spot::Block(number));
         }
         self.list_links(links);
     }
 
-    fn list_links(&mut self, links: usize) {
+    fn list_links(&mut self, links: LinkId) {
         for id in 0..links {
             self.list(Spot::Link(id));
         }
@@ -71,7 +71,7 @@ impl Agenda {
         ensures same_spots { self.new.spots ≡ self.old.spots }
     {
         match spot {
-            Spot::Link(id) => set_mark(&mut self.has_link, id, listed),
+            Spot::Link(id) => set_mark(&mut self.has_link, id as usize, listed),
             Spot::Block(number) => set_mark(&mut self.has_block, number, listed),
         }
     }
@@ -117,7 +117,7 @@ impl Agenda {
     pub(crate) fn list_after(&mut self, parts: &Parts, routes: &[Route], event: &Due) {
         match *event {
             Due::Link(id, next) => {
-                if let Some(route) = routes.get(id) {
+                if let Some(route) = routes.get(id as usize) {
                     self.list_after_move(parts, route, &next);
                 }
                 self.list(Spot::Link(id));

@@ -13,7 +13,7 @@ use crate::due::Due;
 use crate::fault::NetFault;
 use crate::settled::Settled;
 use flow_block::Route;
-use flow_link::{Move, Plan, step_of};
+use flow_link::{LinkId, Move, Plan, step_of};
 use flow_moves::Parts;
 use flow_value::Runs;
 use std::alloc::Global;
@@ -34,7 +34,7 @@ impl<W: Runs> Engine<W> {
     ghost use Rattle.flow_net.specs.Engine.{NeedsIdIn, SettlesIn, parts_after};
 
     /// Does an event that is due: a link's move.
-    fn move_link(&mut self, alloc: Global, id: usize, next: &Move) -> Result<(), NetFault>
+    fn move_link(&mut self, alloc: Global, id: LinkId, next: &Move) -> Result<(), NetFault>
         requires kept { InOrder W.meaning self.old }
         requires due { IsDueIn W.meaning self.old (NetEvent.at_link id next.now) }
         ensures same_plan { self.new.plan ≡ self.old.plan }
@@ -46,7 +46,7 @@ impl<W: Runs> Engine<W> {
             return Ok(());
         };
         let Engine { parts, routes, .. } = self;
-        parts.move_along(alloc, id, &routes[id], *next, phase)?;
+        parts.move_along(alloc, id, &routes[id as usize], *next, phase)?;
         Ok(())
     }
 

@@ -20,17 +20,17 @@ use crate::due::Due;
 use crate::engine::Engine;
 use crate::fault::NetFault;
 use flow_block::{Block, Input, Route};
-use flow_link::{LinkId, Move};
+use flow_link::{LinkId, Move, PortId};
 use flow_moves::is_of_source;
 use flow_value::{MAX_ID, Runs};
 
 impl<W: Runs> Engine<W> {
     /// The way of a link.
-    pub(crate) fn route(&self, id: usize) -> &Route
+    pub(crate) fn route(&self, id: LinkId) -> &Route
         requires { id < length (layout_of self.now.plan).links }
         ensures { result.now ≡ route_of (layout_of self.now.plan) id }
     {
-        &self.routes[id]
+        &self.routes[id as usize]
     }
 
     /// The input of a block, if it is one. It counts the inputs before it.
@@ -55,7 +55,7 @@ impl<W: Runs> Engine<W> {
 
     /// Whether this move is what its end of the link would do next. A message for which no id is left has no header, so
     /// nobody can name its offer.
-    fn is_next(&self, id: usize, next: Move) -> bool
+    fn is_next(&self, id: LinkId, next: Move) -> bool
         requires known { id < length (layout_of self.now.plan).links }
         requires kept { InOrder W.meaning self.now }
         ensures told { IsTrue result ↔ EnabledIn self.now (NetEvent.at_link id next) }
@@ -104,7 +104,7 @@ impl<W: Runs> Engine<W> {
     }
 
     /// Whether a port of a block would complete.
-    fn may_complete(&self, number: usize, port: u32) -> bool
+    fn may_complete(&self, number: usize, port: PortId) -> bool
         requires known { number < length (layout_of self.now.plan).blocks }
         requires kept { InOrder W.meaning self.now }
         ensures { IsTrue result ↔ EnabledIn self.now (NetEvent.complete number port) }
@@ -127,7 +127,7 @@ impl<W: Runs> Engine<W> {
 
     /// The event that would happen next at a link: a move of its source, or else of its target.
     #[inline(always)]
-    pub(crate) fn event_at_link(&self, id: usize) -> Result<Option<Due>, NetFault>
+    pub(crate) fn event_at_link(&self, id: LinkId) -> Result<Option<Due>, NetFault>
         requires known { id < length (layout_of self.now.plan).links }
         requires kept { InOrder W.meaning self.now }
         ensures due { IfOk result (λ next. IfSome next (λ event. IsDueIn W.meaning self.now (event_of event))) }
@@ -168,7 +168,7 @@ impl<W: Runs> Engine<W> {
     }
 
     /// The first port of a block that would complete.
-    fn port_to_complete(&self, number: usize) -> Option<u32>
+    fn port_to_complete(&self, number: usize) -> Option<PortId>
         requires known { number < length (layout_of self.now.plan).blocks }
         requires kept { InOrder W.meaning self.now }
         ensures there { IfSome result (λ port. port < length (node_at self.now.parts number).block.ports) }
@@ -179,7 +179,7 @@ impl<W: Runs> Engine<W> {
         let block = self.parts.node(number).block();
         for port in 0..block.port_count() {
             if block.may_complete(port) {
-                return Some(port as u32);
+                return Some(port as PortId);
             }
         }
         None

@@ -84,7 +84,7 @@ fn fresh_frame<W>(alloc: Global, plan: &Plan<W>, inputs: usize) -> Result<Frame,
     let inputs = Vec::with_capacity(alloc, inputs)?;
     let nodes = nodes_of(alloc, plan)?;
     let exits = exits_of(alloc, plan)?;
-    let lines = lines_of(alloc, plan.link_count())?;
+    let lines = lines_of(alloc, plan.link_count() as usize)?;
     let routes = routes_of(alloc, plan)?;
     let agenda = Agenda::new(alloc, plan.link_count(), plan.block_count())?;
     Ok(Frame {

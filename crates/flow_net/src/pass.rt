@@ -14,7 +14,7 @@ use crate::agenda::Spot;
 use crate::due::Due;
 use crate::engine::Engine;
 use crate::fault::NetFault;
-use flow_link::{LinkSource, Move};
+use flow_link::{LinkId, LinkSource, Move};
 use flow_value::Runs;
 use std::alloc::Global;
 
@@ -136,7 +136,7 @@ impl<W: Runs> Engine<W> {
     }
 
     /// Does what would happen next at a link, as far as so many events.
-    fn move_on(&mut self, alloc: Global, id: usize, most: u64) -> Result<u64, NetFault>
+    fn move_on(&mut self, alloc: Global, id: LinkId, most: u64) -> Result<u64, NetFault>
         requires kept { InOrder W.meaning self.old }
         requires known { id < length (layout_of self.old.plan).links }
         requires some { 0 < most }
@@ -184,7 +184,7 @@ impl<W: Runs> Engine<W> {
     }
 
     /// Whether what the source of a link would offer may go over it in one call.
-    fn may_pass(&self, id: usize) -> bool
+    fn may_pass(&self, id: LinkId) -> bool
         requires known { id < length (layout_of self.now.plan).links }
         requires kept { InOrder W.meaning self.now }
         ensures { result ≡ may_pass id (route_of (layout_of self.now.plan) id) self.now.parts }
@@ -194,7 +194,7 @@ impl<W: Runs> Engine<W> {
 
     /// Has the messages that the source of a link would offer go over it, as many as may be in a run. Answers how many events
     /// those are, of at most so many, and lists where something may be able to happen after them.
-    fn pass(&mut self, alloc: Global, id: usize, most: u64) -> Result<u64, NetFault>
+    fn pass(&mut self, alloc: Global, id: LinkId, most: u64) -> Result<u64, NetFault>
         requires kept { InOrder W.meaning self.old }
         requires due { IsDueIn W.meaning self.old
             (NetEvent.at_link id (Offer (id_next self.old.parts (route_of (layout_of self.old.plan) id).source
@@ -217,7 +217,7 @@ impl<W: Runs> Engine<W> {
 
     /// How many more events a run over a link may have, of at most so many. A source that copies offers an element over all its
     /// links before the next.
-    fn rest_of_run(&self, id: usize, most: u64) -> u64
+    fn rest_of_run(&self, id: LinkId, most: u64) -> u64
         ensures { result ≤ most }
     {
         if self.gives_each_once(id) {
@@ -228,8 +228,8 @@ impl<W: Runs> Engine<W> {
     }
 
     /// Whether the source of a link gives each of its messages to one link.
-    fn gives_each_once(&self, id: usize) -> bool {
-        let Some(route) = self.routes.get(id) else {
+    fn gives_each_once(&self, id: LinkId) -> bool {
+        let Some(route) = self.routes.get(id as usize) else {
             return false;
         };
         match route.source {
@@ -243,7 +243,7 @@ impl<W: Runs> Engine<W> {
 
     /// Has the message that the source of a link would offer go over it; where the target has no memory for it, it is
     /// offered alone. Answers how many events those are.
-    fn pass_one(&mut self, alloc: Global, id: usize) -> Result<u64, NetFault>
+    fn pass_one(&mut self, alloc: Global, id: LinkId) -> Result<u64, NetFault>
         requires kept { InOrder W.meaning self.old }
         requires due { IsDueIn W.meaning self.old
             (NetEvent.at_link id (Offer (id_next self.old.parts (route_of (layout_of self.old.plan) id).source
@@ -262,7 +262,7 @@ impl<W: Runs> Engine<W> {
             agenda,
             ..
         } = self;
-        let route = &routes[id];
+        let route = &routes[id as usize];
         if parts.pass(alloc, id, route)? {
             Ok(PASS)
         } else {
@@ -272,7 +272,7 @@ impl<W: Runs> Engine<W> {
     }
 
     /// Whether the source of a link would offer a message that may go over it in one call.
-    fn has_next_to_pass(&self, id: usize) -> bool
+    fn has_next_to_pass(&self, id: LinkId) -> bool
         requires known { id < length (layout_of self.now.plan).links }
         requires kept { InOrder W.meaning self.now }
         ensures due { IsTrue result → IsDueIn W.meaning self.now
@@ -292,7 +292,7 @@ impl<W: Runs> Engine<W> {
 
     /// Has messages go over a link, one after another, until there is none that may, or memory is out. Answers how many events
     /// that took, of at most so many.
-    fn pass_more(&mut self, alloc: Global, id: usize, limit: u64) -> u64
+    fn pass_more(&mut self, alloc: Global, id: LinkId, limit: u64) -> u64
         requires kept { InOrder W.meaning self.old }
         requires known { id < length (layout_of self.old.plan).links }
         ensures same_plan { self.new.plan ≡ self.old.plan }
@@ -310,7 +310,7 @@ impl<W: Runs> Engine<W> {
     }
 
     /// Lists where something may be able to happen after messages went over a link.
-    fn list_passed(&mut self, id: usize)
+    fn list_passed(&mut self, id: LinkId)
         ensures same_plan { self.new.plan ≡ self.old.plan }
         ensures same_parts { self.new.parts ≡ self.old.parts }
     {
@@ -320,7 +320,7 @@ impl<W: Runs> Engine<W> {
             agenda,
             ..
         } = self;
-        if let Some(route) = routes.get(id) {
+        if let Some(route) = routes.get(id as usize) {
             agenda.list_after_pass(parts, route, id);
         }
     }

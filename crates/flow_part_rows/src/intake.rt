@@ -1,5 +1,6 @@
 //! A port by itself, where the test plays the far ends of its links.
 use flow_intake::Intake;
+use flow_link::LinkId;
 use flow_value::{MessageHeader, MessageStatus, Parcel, Text, Value};
 use std::alloc::{AllocError, Global};
 use std::process::Abort;
@@ -9,7 +10,7 @@ use std::test::Fail;
 fn answer(
     rt: &impl Abort,
     port: &mut Intake,
-    link: usize,
+    link: LinkId,
     header: MessageHeader,
     may_postpone: bool,
 ) -> Result<MessageStatus, AllocError> {
@@ -22,7 +23,7 @@ fn arrive(
     rt: &impl Abort,
     alloc: Global,
     port: &mut Intake,
-    link: usize,
+    link: LinkId,
     text: &str,
 ) -> Result<(), AllocError> {
     let value = Value::Text(Text::from_str(alloc, text)?);
@@ -42,7 +43,7 @@ fn swap_first(rt: &impl Abort, port: &mut Intake, value: Value) -> Value {
 }
 
 /// An offer over a link is withdrawn.
-fn withdraw(rt: &impl Abort, port: &mut Intake, link: usize) {
+fn withdraw(rt: &impl Abort, port: &mut Intake, link: LinkId) {
     assert!(rt; port.may_drop(link), "no offer waits over link {link}");
     port.drop_postponed(link);
 }

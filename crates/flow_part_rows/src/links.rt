@@ -1,11 +1,13 @@
 //! Links of plans, with what no text says of them, and how far a message has come over one.
 use crate::check::check;
 use flow_link::{
-    BlockDef, BlockKind, Draft, Ending, LinkDef, LinkEnd, LinkSource, LinkTarget, Move, Phase,
-    Place, PlanFault, PlanRefusal, Posted, are_numbered, phase_of, plan_check, step_of, word_of,
+    BlockDef, BlockKind, Draft, Ending, LinkDef, LinkEnd, LinkSource, LinkTarget, Mark, Move,
+    Phase, Place, PlanFault, PlanRefusal, Posted, are_numbered, phase_of, plan_check, step_of,
+    word_of,
 };
 use flow_value::{MessageHeader, Steps, Text, When};
 use std::alloc::{AllocError, Global};
+use std::mem::size_of;
 use std::process::Abort;
 use std::test::Fail;
 
@@ -136,6 +138,11 @@ fn links_of_exits_follow_those_of_inputs(rt: HostRuntime) -> Result<(), Fail> {
         assert!(rt; exit.propagate && exit.when == When::Any && exit.max.is_none());
     }
     Ok(())
+}
+
+#[test]
+fn a_mark_takes_32_bytes(rt: HostRuntime) {
+    assert!(rt; size_of::<Mark>() == 32);
 }
 
 #[test]

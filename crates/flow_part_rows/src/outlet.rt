@@ -1,5 +1,6 @@
 //! An outlet by itself, with the test in the place of its targets.
 use crate::shared::link;
+use flow_link::LinkId;
 use flow_outlet::{Outlet, OutletFault};
 use flow_value::{MAX_ID, MessageHeader, MessageStatus, Value};
 use std::alloc::{AllocError, Global};
@@ -16,13 +17,13 @@ enum Call {
     /// It is asked for its next offer.
     Next,
     /// The offer that is out over the link is answered so.
-    Answer(usize, MessageStatus),
+    Answer(LinkId, MessageStatus),
     /// The link's target takes the message that was offered to it last.
-    Consume(usize),
+    Consume(LinkId),
     /// The link's target asks to reserve the message that was offered to it last.
-    Reserve(usize),
+    Reserve(LinkId),
     /// The link's target gives that message up.
-    Release(usize),
+    Release(LinkId),
     /// It is asked which room came back.
     Room,
     /// It is asked whether these numbers are what is left.
@@ -34,7 +35,7 @@ enum Call {
 enum Done {
     Taken,
     NoIds,
-    Offered(usize, u64),
+    Offered(LinkId, u64),
     NoOffer,
     Noted,
     Gave(i64),
@@ -160,12 +161,12 @@ impl Case {
         let Some((link, header)) = self.outlet.next_offer(alloc)? else {
             return Ok(Done::NoOffer);
         };
-        *self.offered.get_mut(link).ok_or("no such link")? = header;
+        *self.offered.get_mut(link as usize).ok_or("no such link")? = header;
         Ok(Done::Offered(link, header.id()))
     }
 
-    fn answer(&mut self, link: usize, status: MessageStatus) -> Result<Done, Fail> {
-        let header = *self.offered.get(link).ok_or("no such link")?;
+    fn answer(&mut self, link: LinkId, status: MessageStatus) -> Result<Done, Fail> {
+        let header = *self.offered.get(link as usize).ok_or("no such link")?;
         if !self.outlet.is_asked(link, header) {
             return Err(Fail::from("not asked"));
         }
@@ -173,8 +174,8 @@ impl Case {
         Ok(Done::Noted)
     }
 
-    fn consume(&mut self, link: usize) -> Result<Done, Fail> {
-        let header = *self.offered.get(link).ok_or("no such link")?;
+    fn consume(&mut self, link: LinkId) -> Result<Done, Fail> {
+        let header = *self.offered.get(link as usize).ok_or("no such link")?;
         if !self.outlet.may_consume(link, header) {
             return Err(Fail::from("not to be consumed"));
         }
@@ -184,8 +185,8 @@ impl Case {
         }
     }
 
-    fn reserve(&mut self, link: usize) -> Result<Done, Fail> {
-        let header = *self.offered.get(link).ok_or("no such link")?;
+    fn reserve(&mut self, link: LinkId) -> Result<Done, Fail> {
+        let header = *self.offered.get(link as usize).ok_or("no such link")?;
         if !self.outlet.may_reserve(link, header) {
             return Err(Fail::from("not to be reserved"));
         }
@@ -196,8 +197,8 @@ impl Case {
         }
     }
 
-    fn release(&mut self, link: usize) -> Result<Done, Fail> {
-        let header = *self.offered.get(link).ok_or("no such link")?;
+    fn release(&mut self, link: LinkId) -> Result<Done, Fail> {
+        let header = *self.offered.get(link as usize).ok_or("no such link")?;
         if !self.outlet.is_reserved(link, header) {
             return Err(Fail::from("not kept"));
         }

@@ -1,5 +1,6 @@
 //! A spread by itself, with the test in the place of its targets.
 use crate::shared::link;
+use flow_link::LinkId;
 use flow_spread::Spread;
 use flow_value::{MessageHeader, MessageStatus, Value};
 use std::alloc::Global;
@@ -22,7 +23,7 @@ fn put(spread: &mut Spread, number: i64) -> Result<(), Fail> {
 }
 
 /// It offers its element, over this link, and the target accepts it.
-fn offer(spread: &mut Spread, alloc: Global, link: usize) -> Result<MessageHeader, Fail> {
+fn offer(spread: &mut Spread, alloc: Global, link: LinkId) -> Result<MessageHeader, Fail> {
     let Some((over, header)) = spread.next_offer(alloc)? else {
         return Err(Fail::from("nothing is offered"));
     };
@@ -34,7 +35,7 @@ fn offer(spread: &mut Spread, alloc: Global, link: usize) -> Result<MessageHeade
 }
 
 /// The number that the link's target is given for this message.
-fn consume(spread: &mut Spread, link: usize, header: MessageHeader) -> Result<i64, Fail> {
+fn consume(spread: &mut Spread, link: LinkId, header: MessageHeader) -> Result<i64, Fail> {
     if !spread.may_consume(link, header) {
         return Err(Fail::from("it is not to be consumed"));
     }

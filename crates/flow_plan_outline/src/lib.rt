@@ -66,7 +66,7 @@ fn link_of(link: Link) -> Option<LinkOutline> {
         (LinkSource::Block(from), LinkTarget::Port(to, port)) => Some(LinkOutline {
             from,
             to,
-            port,
+            port: u32::from(port),
             when: admits_of(link.when),
             max: link.max,
             propagate: link.propagate,

@@ -3,7 +3,7 @@ ghost use Rattle.std.specs.Prelude.{◌≡◌, ◌∷◌, ◌++◌, [], List, le
 ghost use Rattle.flow_link.specs.declared.trace.Mark.{Mark};
 ghost use Rattle.flow_report.specs.Given.{lists_of, given_lists};
 
-use flow_link::Mark;
+use flow_link::{LinkId, Mark};
 use flow_value::Value;
 use std::alloc::{AllocError, Global};
 
@@ -27,8 +27,9 @@ fn sort_mark<'a>(lists: &mut Vec<Vec<&'a Value>>, mark: &'a Mark) -> Result<(), 
         ) }
 {
     if let Mark::Gave(link, value) = mark {
-        if *link < lists.len() {
-            lists[*link].push(value)?;
+        let link = *link as usize;
+        if link < lists.len() {
+            lists[link].push(value)?;
         }
     }
     Ok(())

@@ -14,7 +14,7 @@ ghost use Rattle.flow_report.specs.Written.{StaysInFront};
 use crate::page::{Page, gather_bytes, write_page};
 use crate::piece::write_bytes;
 use crate::value_text::gather_item;
-use flow_link::Mark;
+use flow_link::{LinkId, Mark};
 use flow_value::Value;
 use itoa::Buffer;
 use std::io;
@@ -26,14 +26,14 @@ fn taken_at(mark: &Mark, port: u32) -> Option<&Value>
     ensures { option_to_list (option_copied result) ≡ took_at port (mark.now ∷ []) }
 {
     match mark {
-        Mark::Took(at, _, value) if *at == port => Some(value),
+        Mark::Took(at, _, value) if u32::from(*at) == port => Some(value),
         _ => None,
     }
 }
 
 // The value that this mark gave over this link.
 #[inline]
-fn given_over(mark: &Mark, link: usize) -> Option<&Value>
+fn given_over(mark: &Mark, link: LinkId) -> Option<&Value>
     ensures { option_to_list (option_copied result) ≡ gave_over link (mark.now ∷ []) }
 {
     match mark {
@@ -132,7 +132,7 @@ pub(crate) fn write_given_line<W: Write>(
     label: &[u8],
     number: Option<u64>,
     journal: &[Mark],
-    link: usize,
+    link: LinkId,
 ) -> io::Result<()>
     ensures written { OnOk result (Appends (W.contents writer.old) (W.contents writer.new)
         (labelled (label_text label.now number) (gave_over link journal.now))) }

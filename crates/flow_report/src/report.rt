@@ -19,7 +19,7 @@ use crate::list_line::{
 use crate::piece::write_bytes;
 use crate::seen::{block_at, block_count, held_at, left_at, link_at, link_count};
 use flow_fault_text::{TextFault, TextRefusal};
-use flow_link::{BlockDef, BlockKind, Link, LinkSource, Mark};
+use flow_link::{BlockDef, BlockKind, Link, LinkId, LinkSource, Mark};
 use flow_net::{Net, Settled, State};
 use flow_value::{Steps, Value};
 use std::alloc::Global;
@@ -31,7 +31,7 @@ use std::io::Write;
 const FEW_LINKS: usize = 8;
 
 // How many values the journal took over this link.
-fn count_taken(journal: &[Mark], link: usize) -> usize
+fn count_taken(journal: &[Mark], link: LinkId) -> usize
     ensures { result ≡ length (took_over link journal.now) }
 {
     let mut count = 0;
@@ -43,7 +43,7 @@ fn count_taken(journal: &[Mark], link: usize) -> usize
     count
 }
 
-fn is_taken_over(mark: &Mark, link: usize) -> bool
+fn is_taken_over(mark: &Mark, link: LinkId) -> bool
     ensures { length (took_over link (mark.now ∷ [])) ≡ (if result then 1 else 0) }
 {
     match mark {
@@ -121,7 +121,7 @@ fn write_held_line<W: Write>(
 /// Writes the line of what was given over a link: that of its list, where the journal is sorted that far.
 fn write_link_line<W: Write>(
     writer: &mut W,
-    link: usize,
+    link: LinkId,
     journal: &[Mark],
     lists: &[Vec<&Value>],
 ) -> io::Result<()>
@@ -130,14 +130,20 @@ fn write_link_line<W: Write>(
         (link_line link journal.now)) }
     ensures kept { StaysInFront (W.contents writer.old) (W.contents writer.new) }
 {
-    if link < lists.len() {
-        return write_sorted_line(writer, b"link ", Some(link as u64), lists[link].as_slice());
+    let place = link as usize;
+    if place < lists.len() {
+        return write_sorted_line(
+            writer,
+            b"link ",
+            Some(u64::from(link)),
+            lists[place].as_slice(),
+        );
     }
-    write_given_line(writer, b"link ", Some(link as u64), journal, link)
+    write_given_line(writer, b"link ", Some(u64::from(link)), journal, link)
 }
 
 /// Writes the line of what was given over an exit.
-fn write_exit_line<W: Write>(writer: &mut W, link: usize, journal: &[Mark]) -> io::Result<()>
+fn write_exit_line<W: Write>(writer: &mut W, link: LinkId, journal: &[Mark]) -> io::Result<()>
     ensures written { OnOk result (Appends (W.contents writer.old) (W.contents writer.new)
         (exit_line link journal.now)) }
     ensures kept { StaysInFront (W.contents writer.old) (W.contents writer.new) }
@@ -203,36 +209,38 @@ fn exits_before(net: &Net<Steps>, block: usize) -> usize
 }
 
 // How many of so many links lead from one block to another.
-fn links_between(net: &Net<Steps>, links: usize) -> usize
+fn links_between(net: &Net<Steps>, links: LinkId) -> usize
     requires { links ≡ length (run_in net.now).layout.links }
     ensures { result ≡ between_count (run_in net.now) }
 {
     let blocks = block_count(net);
-    let inner = links.saturating_sub(inputs_before(net, blocks));
+    let inner = (links as usize).saturating_sub(inputs_before(net, blocks));
     inner.saturating_sub(exits_before(net, blocks))
 }
 
 // The number of the link of a block that is an input.
-fn input_link_of(net: &Net<Steps>, block: usize) -> usize
+fn input_link_of(net: &Net<Steps>, block: usize) -> LinkId
     requires { block < length (run_in net.now).layout.blocks }
     ensures number { result ≡ input_link_number (run_in net.now) block }
     ensures leads { (block_of (run_in net.now) block).input ≡ true → link_of (run_in net.now) result ≡ input_link
         block }
 {
     let links = link_count(net);
-    links_between(net, links) + inputs_before(net, block)
+    let place = links_between(net, links) + inputs_before(net, block);
+    place as LinkId
 }
 
 // The number of the link of a block with an exit.
-fn exit_link_of(net: &Net<Steps>, block: usize) -> usize
+fn exit_link_of(net: &Net<Steps>, block: usize) -> LinkId
     requires { block < length (run_in net.now).layout.blocks }
     ensures { result ≡ exit_link_number (run_in net.now) block }
 {
     let links = link_count(net);
     let inputs = inputs_before(net, block_count(net));
-    let inner = links.saturating_sub(inputs);
+    let inner = (links as usize).saturating_sub(inputs);
     let between = inner.saturating_sub(exits_before(net, block_count(net)));
-    between + inputs + exits_before(net, block)
+    let place = between + inputs + exits_before(net, block);
+    place as LinkId
 }
 
 fn ports_of(block: &BlockDef<Steps>) -> u32
@@ -300,9 +308,10 @@ fn write_links<W: Write>(
 {
     let journal = net.journal(block);
     let links = links_between(net, link_count(net));
+    let count = links as LinkId;
     let mut lists = Vec::new(alloc);
     let mut lines: usize = 0;
-    for id in 0..links {
+    for id in 0..count {
         if is_from(link_at(net, id), block) {
             sort_for_many(alloc, &mut lists, lines, journal, links);
             write_link_line(writer, id, journal, lists.as_slice())?;

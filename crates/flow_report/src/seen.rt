@@ -5,7 +5,7 @@ ghost use Rattle.flow_link.specs.Plan.{port_count};
 ghost use Rattle.flow_link.specs.Trace.{block_of, held_at, left_at};
 ghost use Rattle.flow_report.specs.Report.{run_in};
 
-use flow_link::{BlockDef, Link};
+use flow_link::{BlockDef, Link, LinkId};
 use flow_net::Net;
 use flow_value::{Steps, Value};
 
@@ -23,14 +23,14 @@ pub(crate) fn block_at(net: &Net<Steps>, number: usize) -> &BlockDef<Steps>
 }
 
 /// How many links there are; those of inputs and exits come last.
-pub(crate) fn link_count(net: &Net<Steps>) -> usize
+pub(crate) fn link_count(net: &Net<Steps>) -> LinkId
     ensures count { result ≡ length (run_in net.now).layout.links }
     ensures laid_out { IsLaidOut (run_in net.now).layout.blocks (run_in net.now).layout.links }
 {
     net.plan().link_count()
 }
 
-pub(crate) fn link_at(net: &Net<Steps>, id: usize) -> Link
+pub(crate) fn link_at(net: &Net<Steps>, id: LinkId) -> Link
     requires { id < length (run_in net.now).layout.links }
     ensures { HoldsAt (λ link. result ≡ link) (run_in net.now).layout.links id }
 {

@@ -3,7 +3,7 @@
 use crate::reserving_join::ReservingJoin;
 use crate::wishes::{loses_front, make_wish};
 use flow_link::{
-    Completing, DataflowBlock, LinkId, MakeFault, Outcome, SourceBlock, TargetBlock, Wish,
+    Completing, DataflowBlock, LinkId, MakeFault, Outcome, PortId, SourceBlock, TargetBlock, Wish,
     WishAnswer,
 };
 use flow_value::{MessageHeader, MessageStatus, Parcel};
@@ -34,7 +34,7 @@ impl DataflowBlock for ReservingJoin {
 
     ghost acts = { Acts };
 
-    fn complete(&mut self, port: u32) {
+    fn complete(&mut self, port: PortId) {
         DataflowBlock::complete(&mut self.block, port);
     }
 

@@ -3,7 +3,7 @@ use crate::aside::Aside;
 use crate::copy::copy_plan;
 use crate::post::{read_fields, start_alone};
 use csv::ByteRecord;
-use flow_link::{LinkSource, LinkTarget, Plan};
+use flow_link::{LinkId, LinkSource, LinkTarget, Plan};
 use flow_net::{Net, NetFault, Settled, State};
 use flow_value::Steps;
 use std::alloc::{AllocError, Global};
@@ -61,7 +61,7 @@ fn was_handed_on(net: &Net<Steps>, block: usize) -> bool {
     false
 }
 
-fn hands_fault_to(net: &Net<Steps>, id: usize, block: usize) -> bool {
+fn hands_fault_to(net: &Net<Steps>, id: LinkId, block: usize) -> bool {
     if id >= net.plan().link_count() {
         return false;
     }

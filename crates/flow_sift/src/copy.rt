@@ -58,7 +58,7 @@ fn copy_link(alloc: Global, plan: &Plan<Steps>, link: Link) -> Result<Option<Lin
         (LinkSource::Block(source), LinkTarget::Port(target, port)) => Ok(Some(LinkDef {
             from: name_of(alloc, plan, source)?,
             to: name_of(alloc, plan, target)?,
-            port: Some(port),
+            port: Some(u32::from(port)),
             when: Some(link.when),
             max: link.max,
             propagate: link.propagate,

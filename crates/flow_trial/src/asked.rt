@@ -1,6 +1,6 @@
 //! Events that are asked of a network.
 use flow_exec::{Job, JobResult};
-use flow_link::Move;
+use flow_link::{LinkId, Move, PortId};
 use flow_net::{Event, Net, NetFault, Stepped};
 use flow_value::Steps;
 use std::alloc::Global;
@@ -9,12 +9,12 @@ use std::test::Fail;
 /// Something that may be asked of a network: a move of a link, or what a block does by itself.
 #[derive(Clone, Copy)]
 pub enum Asked {
-    Link(usize, Move),
+    Link(LinkId, Move),
     Make(usize),
     Begin(usize),
     /// That a result of the block comes back: the one with this ticket, or the first.
     End(usize, Option<u64>),
-    Complete(usize, u32),
+    Complete(usize, PortId),
     Fault(usize),
     Done(usize),
 }

@@ -1,5 +1,6 @@
 use Rattle.std.proofs.Common.{◌∙◌, Some, None, refl, sym, length, take}
 use Rattle.flow_link.proofs.FirstOfEachFault.{first_fault_of, ways_told}
+use Rattle.flow_link.proofs.PortsAreFew.{ports_fit}
 use Rattle.flow_link.proofs.check.first_fault.Goals as goal
 
 pub returns-in-Some : goal.returns-in-Some
@@ -21,6 +22,11 @@ returns-in-Some-first_small_batch g c =
     sym (first_fault_of c.args.blocks.now c.args.links.now None None None (Some c.in-Some-first_small_batch.block) _ (sym c.fault_of_names.ensures ∙ c.in_default.is)
     (sym c.fault_of_ends.ensures ∙ c.in_default-fault_of_ends.is) (sym c.fault_of_options.ensures ∙ c.in_default-fault_of_options.is)
     (sym c.first_small_batch.ensures ∙ c.in-Some-first_small_batch.is) refl)
+
+pub name_links-requires-clause-fit : goal.name_links-requires-clause-fit
+name_links-requires-clause-fit g c =
+    ports_fit c.args.blocks.now c.args.links.now (sym c.fault_of_names.ensures ∙ c.in_default.is)
+    (sym c.fault_of_ends.ensures ∙ c.in_default-fault_of_ends.is) (sym c.fault_of_options.ensures ∙ c.in_default-fault_of_options.is)
 
 pub returns : goal.returns
 returns g c =

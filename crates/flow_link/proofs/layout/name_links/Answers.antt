@@ -3,6 +3,9 @@ use Rattle.std.proofs.lemmas.List.{take_more_set, length-set}
 use Rattle.flow_link.proofs.LinksLaidOut.{pushes_named}
 use Rattle.flow_link.proofs.layout.name_links.Goals as goal
 
+pub named_link-requires : goal.named_link-requires
+named_link-requires g c = c.requires.fit c.loop-place.place c.index-links-place.result (omega arith) c.index-links-place.is
+
 pub loop-place-preserved : goal.loop-place-preserved
 loop-place-preserved g c =
     let room = c.loop-place.room in

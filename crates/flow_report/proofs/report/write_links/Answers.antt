@@ -1,4 +1,4 @@
-use Rattle.std.proofs.Common.{◌≡◌, ◌∙◌, ap, sym, ℕ, Bool}
+use Rattle.std.proofs.Common.{◌≡◌, ◌∙◌, ap, sym, ℕ, Bool, arith}
 use Rattle.flow_link.specs.declared.plan.Link.{Link}
 use Rattle.flow_link.specs.Plan.{begins_at, no_link}
 use Rattle.flow_link.specs.Trace.{link_of, marks_of}
@@ -6,6 +6,9 @@ use Rattle.flow_report.specs.Report.{link_line, run_in}
 use Rattle.flow_report.proofs.ReportGrows.{lines-more_if, lines-same}
 use Rattle.flow_report.proofs.report.write_links.Goals as goal
 use Rattle.flow_report.proofs.report.write_links.Goals.{then-is_from+in_ok-write_link_line, else-is_from}
+
+pub overflow_cast-count : goal.overflow_cast-count
+overflow_cast-count g c = omega (arith, c.links_between-links.ensures, c.link_count.ensures.count, c.link_count.type_inv)
 
 pub loop-id-preserved : goal.loop-id-preserved
 loop-id-preserved g c =
