@@ -2,7 +2,6 @@ pub mod Block
 pub mod BlockFits
 pub mod Copies
 pub mod Groups
-pub mod Input
 pub mod Jobs
 pub mod JobsOut
 pub mod JournalFits

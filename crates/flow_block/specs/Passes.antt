@@ -11,7 +11,6 @@ use Rattle.flow_outlet.specs.Outlet.{head_of, prepares, offers, looks as exit_lo
 use Rattle.flow_group.specs.Round.{reserves}
 use Rattle.flow_block.specs.Block.{BlockState, port_at, with_port, gives_out}
 use Rattle.flow_block.specs.Copies.{CopyCall}
-use Rattle.flow_block.specs.Input.{InputState, InputCall, after_input}
 use Rattle.flow_block.specs.Node.{NodeState, with_block, with_exits, gives_from, takes_in, hand_at, copies_by}
 
 -- the source's block, where the head's parcel is made
@@ -57,9 +56,3 @@ receives_on p k i value node =
 -- a port takes at once what is offered to it, and no round stands in its way
 abbrev pub takes_freely : ℕ → ℕ → NodeState → Bool
 takes_freely p k node = takes_at_once k (port_at p node.block) && not (reserves node.round)
-
--- an input
-abbrev pub input_sends : ℕ → InputState → InputState
-input_sends i input =
-    after_input (InputCall.look Idle) (after_input (InputCall.look (Opened i)) (after_input InputCall.give
-    (after_input (InputCall.look (Wanted i)) (after_input InputCall.offer input))))

@@ -16,10 +16,10 @@
 //! `end_job`     all with work    its results come out in its turn, or its fault stands
 //!
 //! Room at the ports comes back when what was made of a message is wholly given. A [`Node`] is a block with its
-//! journal, and an [`Input`] is the values that are posted to a block from outside.
+//! journal.
 //!
-//! Contracts see plain data (`specs/Block.antt`, `specs/Node.antt`, `specs/Input.antt`), and each call as a function on
-//! them. A call that takes memory may be refused, and then nothing has changed; all other calls take none.
+//! Contracts see plain data (`specs/Block.antt`, `specs/Node.antt`), and each call as a function on them. A call that
+//! takes memory may be refused, and then nothing has changed; all other calls take none.
 //!
 //! What follows from these functions alone, as that each call keeps a block in order, stands in `flow_block_law`.
 #![tactic(auto)]
@@ -30,7 +30,6 @@ mod by_link;
 mod copies;
 mod copying;
 mod groups;
-mod input;
 mod jobs;
 mod moves;
 mod node;
@@ -44,7 +43,6 @@ mod tuples;
 mod work;
 
 pub use block::Block;
-pub use input::Input;
 pub use jobs::Answer;
 pub use node::Node;
 pub use planned::{Route, is_exit, port_of, ports_of, routes_of, rules_from, sources_of};

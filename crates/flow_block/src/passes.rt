@@ -2,20 +2,17 @@
 //!
 //! It comes to what the five moves of the link come to, with the looks at its phases. A caller that has both ends uses
 //! these where the target takes the message at once.
-ghost use Rattle.std.specs.Prelude.{◌≡◌, ℕ, ◌<◌, ◌^◌, ◌∷◌, true, length, is_some, Some};
+ghost use Rattle.std.specs.Prelude.{◌≡◌, ℕ, ◌<◌, ◌∷◌, true, length, is_some, Some};
 ghost use Rattle.flow_link.specs.LinkOk.{HasRoom};
 ghost use Rattle.flow_link.specs.declared.stage.SourceStage.TheVariants.{Out};
 ghost use Rattle.flow_intake.specs.Receives.{takes_at_once, receives};
 ghost use Rattle.flow_outlet.specs.ByLink.{has_room as has_room_out};
-ghost use Rattle.flow_outlet.specs.End.{is_free};
 ghost use Rattle.flow_outlet.specs.Outlet.{end_at, may_offer, head_of};
 ghost use Rattle.flow_spread.specs.Spread.{end_at as copy_end_at, link_at, stage_at};
 ghost use Rattle.flow_block.specs.Block.{port_at, with_port};
-ghost use Rattle.flow_block.specs.Input.{next_id, next_value};
-ghost use Rattle.flow_block.specs.Passes.{block_sends, sends_ready, sends_copy, receives_on, takes_freely, input_sends};
+ghost use Rattle.flow_block.specs.Passes.{block_sends, sends_ready, sends_copy, receives_on, takes_freely};
 
 use crate::block::Block;
-use crate::input::Input;
 use crate::node::Node;
 use crate::ports::bring_back;
 use flow_link::{Mark, PortId};
@@ -137,22 +134,5 @@ impl Node {
         let value = self.block.receive(port as usize, place, parcel);
         self.journal.push_reserved(Mark::Took(port, link, value));
         self.block.copy_taken();
-    }
-}
-
-impl Input {
-    /// Sends the next value to a target that takes it at once: this is its parcel.
-    pub fn send(&mut self) -> Parcel
-        requires free { is_free self.old.stage ≡ true }
-        requires ready { is_some self.old.parcel ≡ true }
-        requires id { next_id self.old < 2 ^ 59 }
-        ensures value { next_value self.old ≡ Some result }
-        ensures sent { self.new ≡ input_sends (next_id self.old) self.old }
-    {
-        let Some(parcel) = self.parcel.take() else {
-            unreachable!()
-        };
-        self.sent += 1;
-        parcel
     }
 }

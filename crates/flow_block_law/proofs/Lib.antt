@@ -38,8 +38,6 @@ pub mod GroupsSeen
 pub mod GroupsStand
 pub mod GroupsTold
 pub mod HoldersMove
-pub mod InputsAreParts
-pub mod InputsInOrder
 pub mod JobsEnd
 pub mod JobsHold
 pub mod JobsRest

@@ -10,7 +10,6 @@ pub mod GroupsOrdered
 pub mod GroupsPeek
 pub mod GroupsRest
 pub mod GroupsSeen
-pub mod InputKeeps
 pub mod JobsEnd
 pub mod LinkFaults
 pub mod NextCopies

@@ -1,7 +1,6 @@
-//! Laws about blocks and inputs. Each stands on a function that does nothing: whoever calls it has the whole law.
+//! Laws about blocks. Each stands on a function that does nothing: whoever calls it has the whole law.
 ghost use Rattle.flow_block_law.specs.Causes.{NextMovesHaveCauses};
 ghost use Rattle.flow_block_law.specs.Fresh.{FreshInOrder};
-ghost use Rattle.flow_block_law.specs.InputKeeps.{InputsKeep, InputsAreParts};
 ghost use Rattle.flow_block_law.specs.JobsEnd.{JobsEndWell};
 ghost use Rattle.flow_block_law.specs.LinkFaults.{LowestLinkCounts};
 ghost use Rattle.flow_block_law.specs.NextMoves.{NextMovesMay};
@@ -61,16 +60,6 @@ pub fn blocks_with_nothing_to_do_rest<W>()
 /// counts.
 pub fn fault_of_the_lowest_link_counts()
     ensures { LowestLinkCounts }
-{}
-
-/// Each call keeps an input in order, and changes what its end of the link knows as the laws of one link have it.
-pub fn calls_keep_inputs_in_order()
-    ensures { InputsKeep }
-{}
-
-/// An input in order keeps what each input of a lawful run keeps, and rests where its link does.
-pub fn inputs_are_parts<W>()
-    ensures { InputsAreParts W }
 {}
 
 /// A block whose exits are in order stands at each link out of it as its end does, but that nobody waits for a message

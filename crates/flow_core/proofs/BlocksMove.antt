@@ -8,7 +8,7 @@ use Rattle.flow_link.specs.declared.phase.LinkEnd.TheVariants as link_end
 use Rattle.flow_link.specs.declared.phase.Move.{Move}
 use Rattle.flow_link.specs.declared.phase.Move.TheVariants as move
 use Rattle.flow_link.specs.declared.phase.Phase.{Phase}
-use Rattle.flow_link.specs.declared.phase.Phase.TheVariants.{Idle, Postponed, Given, Held, Offered, Ended}
+use Rattle.flow_link.specs.declared.phase.Phase.TheVariants.{Idle, Postponed, Posted, Given, Held, Offered, Ended}
 use Rattle.flow_link.specs.declared.stage.SourceStage.{SourceStage as SourceKept}
 use Rattle.flow_link.specs.declared.stage.SourceStage.TheVariants as source
 use Rattle.flow_link.specs.declared.trace.Outcome.{Outcome}
@@ -19,7 +19,7 @@ use Rattle.flow_link.specs.Plan.{link_in, is_one_taker}
 use Rattle.flow_link.specs.declared.plan.LinkSource.TheVariants.{Block}
 use Rattle.flow_link.specs.LinkOk.{LinkOk, StandAt, IsWithin, HasRoom, MayEnd}
 use Rattle.flow_link.specs.Looks.{SourceHasSeen}
-use Rattle.flow_link.specs.Moves.{offering, ending, giving, denying, holding, withdrawing}
+use Rattle.flow_link.specs.Moves.{offering, posting, ending, giving, denying, holding, withdrawing}
 use Rattle.flow_link.specs.LooksKeep.{OwnMovesAreSeen}
 use Rattle.flow_link.specs.MovesKeep.{Keeps, SourceMovesKeep}
 use Rattle.flow_link.specs.Phase.{phase_after}
@@ -93,6 +93,15 @@ module _ (facts : LinkFacts) (phase new : Phase) (slot : Option Value) (target :
       leads_on (move.Offer i) (Offered i) slot (offering i view)
       (keeps.offer facts phase slot view target ok i at_home rises room) allowed
       (own_moves.offer i view)
+
+  pub posts_on : (i : ℕ) (view : SourceView Value) → LinkOk facts phase slot view target
+      → view.stage ≡ SourceStage.free → view.last < i → HasRoom facts.max (crossed view)
+      → phase_after phase (move.Post i) ≡ Some new
+      → SourceMoved facts new slot (posting i view) target
+  posts_on i view ok at_home rises room allowed =
+      leads_on (move.Post i) (Posted i) slot (posting i view)
+      (keeps.post facts phase slot view target ok i at_home rises room) allowed
+      (own_moves.post i view)
 
   pub ends_on : (how : LinkEnd) (view : SourceView Value) → LinkOk facts phase slot view target
       → view.stage ≡ SourceStage.free → MayEnd facts (crossed view) how → phase_after phase (move.End how) ≡ Some new

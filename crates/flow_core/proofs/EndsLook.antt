@@ -23,8 +23,8 @@ use Rattle.flow_outlet.specs.Law.{is_put_off}
 use Rattle.flow_outlet.specs.Outlet.{stage_at}
 use Rattle.flow_spread.specs.Spread.{stage_at as copy_stage}
 use Rattle.flow_outlet.specs.declared.ends.LinkRule.{LinkRule}
-use Rattle.flow_block.specs.Input.{InputCall}
-use Rattle.flow_block_law.specs.InputKeeps.{InputsKeep}
+use Rattle.flow_input.specs.Input.{InputCall}
+use Rattle.flow_input.specs.InputKeeps.{InputsKeep}
 use Rattle.flow_block.specs.Copies.{CopyCall}
 use Rattle.flow_block.specs.Node.{NodeCall, out_view, copy_view}
 use Rattle.flow_block_law.specs.NodeKeeps.{NodesKept, MayCall, InAt, any_stage}

@@ -9,8 +9,8 @@ use Rattle.flow_link.specs.declared.plan.LinkTarget.TheVariants.{Port, Exit}
 use Rattle.flow_link.specs.Layout.{Layout}
 use Rattle.flow_link.specs.Plan.{link_in, is_one_taker}
 use Rattle.flow_link.specs.Views.{SourceView, TargetView}
-use Rattle.flow_block.specs.Input.{InputState, InputCall, input_view}
-use Rattle.flow_block_law.specs.InputKeeps.{InputLaw, InputsKeep, MayMoveInput}
+use Rattle.flow_input.specs.Input.{InputState, InputCall, input_view}
+use Rattle.flow_input.specs.InputKeeps.{InputLaw, InputsKeep, MayMoveInput}
 use Rattle.flow_block.specs.Copies.{CopyCall, copy_place}
 use Rattle.flow_block_law.specs.NextCopies.{MayMoveCopy}
 use Rattle.flow_block_law.specs.NextMoves.{MayMoveIn, MayMoveOut}

@@ -4,7 +4,9 @@ use Rattle.std.proofs.Common.{option_map, Result, refl, ap, sym, ◌∙◌, subs
 use Rattle.std.proofs.lemmas.Bool.{and_parts, not-true, leb-false}
 use Rattle.flow_value.specs.declared.value.Value.{Value}
 use Rattle.flow_link.specs.declared.phase.Move.{Move}
+use Rattle.flow_link.specs.declared.phase.Move.TheVariants as move
 use Rattle.flow_link.specs.declared.phase.Phase.{Phase}
+use Rattle.flow_link.specs.declared.phase.Phase.TheVariants.{Posted}
 use Rattle.flow_link.specs.declared.plan.LinkSource.{LinkSource}
 use Rattle.flow_link.specs.declared.plan.LinkSource.TheVariants.{Block, Input}
 use Rattle.flow_link.specs.declared.plan.LinkTarget.{LinkTarget}
@@ -20,10 +22,11 @@ use Rattle.flow_link.specs.Views.{SourceView, TargetView}
 use Rattle.flow_link.proofs.KindsTell.{kind_tells, copy_is}
 use Rattle.flow_link.proofs.LinksTell.{links_tell}
 use Rattle.flow_link.proofs.LooksKeepOrder.{looks_keep}
+use Rattle.flow_outlet.specs.End.{is_free}
 use Rattle.flow_outlet.specs.Outlet.{lacks_ids}
 use Rattle.flow_block.specs.Block.{is_batched_join, puts_by_unit, put_next}
-use Rattle.flow_block.specs.Input.{input_view}
-use Rattle.flow_block_law.specs.InputKeeps.{InputsKeep}
+use Rattle.flow_input.specs.Input.{InputCall, after_input, end_by, input_view, next_id}
+use Rattle.flow_input.specs.InputKeeps.{InputsKeep, MayCallInput}
 use Rattle.flow_block.specs.Jobs.{Slot}
 use Rattle.flow_block_law.specs.JobsEnd.{JobsEndWell, after_job}
 use Rattle.flow_block_law.specs.NextMoves.{NextMovesMay}
@@ -37,7 +40,7 @@ use Rattle.flow_lists.proofs.ListTests.{never_both}
 use Rattle.flow_core.specs.Events.{NetEvent, MayHappen, HasIds, LinkMay, is_of_source, node_after, source_call, in_call}
 use Rattle.flow_core.specs.Events.{input_call, input_after, with_node, with_line, source_peek, target_peek, peek_by}
 use Rattle.flow_core.specs.Events.{value_from, slot_after, source_moves, target_moves, source_sees, target_sees}
-use Rattle.flow_core.specs.Events.{line_after, moved_by, after_move, after}
+use Rattle.flow_core.specs.Events.{line_after, moved_by, after_move, after, after_post, with_input}
 use Rattle.flow_core.specs.Keeps.{IsRun, NetKeeps}
 use Rattle.flow_exit.specs.Exit.{exit_view, exit_call, exit_after}
 use Rattle.flow_exit.specs.ExitKeeps.{ExitsKeep}
@@ -46,11 +49,13 @@ use Rattle.flow_link.specs.declared.trace.LinkState.{LinkState}
 use Rattle.flow_link.specs.declared.kinds.BlockUnit.{BlockUnit}
 use Rattle.flow_link.specs.Kinds.{unit_of}
 use Rattle.flow_core.specs.State.{NetState, node_at, line_at, input_at, exit_at}
-use Rattle.flow_core.specs.Statements.{EventsKeep}
+use Rattle.flow_core.specs.Statements.{EventsKeep, PostsKeep}
 use Rattle.flow_core.proofs.PartsChange.{PartsInOrder, NodeSteps, given_at, taken_at, given_as, taken_as, parts_in_order}
 use Rattle.flow_core.proofs.PartsChange.{node_changes, given_stays, taken_stays, line_changes}
 use Rattle.flow_core.proofs.EndsStep.{SourceSteps, TargetSteps, source_steps, in_steps, call_steps, input_steps}
 use Rattle.flow_core.proofs.EndsStep.{block_gives, block_takes, input_gives, exit_takes, exit_steps}
+use Rattle.flow_core.proofs.BlocksMove.{is_at_home}
+use Rattle.flow_core.proofs.InputsMove.{posts}
 use Rattle.flow_core.proofs.LinesKeep.{net_keeps, keeps_with, line_stays}
 use Rattle.flow_core.proofs.EndsLook.{target_looks, source_looks_out}
 use Rattle.flow_core.proofs.PlacesOfLinks.{entry_there, exit_there, copy_there, port_there}
@@ -192,15 +197,12 @@ module _ {W : Type 0} (kept : NodesKept W) (jobs : JobsEndWell W) (views : Calls
         }
 
     -- then the other end looks
-    source_keeps : (source : LinkSource) (target : LinkTarget) → (link_in layout.links l).source ≡ source
-        → (link_in layout.links l).target ≡ target → source_peek layout net l source ≡ Some next
+    source_keeps : (source : LinkSource) (target : LinkTarget) → (link_in layout.links l).target ≡ target
+        → (mid : NetState) → SourceGoes source mid
         → NetKeeps layout meaning (target_sees layout meaning l phase target
-        (with_line l (line_after layout meaning l next phase source net)
-        (source_moves layout meaning l next source net)))
-    source_keeps source target from to peek =
-        let goes = source_goes source from peek in
+        (with_line l (line_after layout meaning l next phase source net) mid))
+    source_keeps source target to mid goes =
         let line = line_after layout meaning l next phase source net in
-        let mid = source_moves layout meaning l next source net in
         let moved = with_line l line mid in
         let parts_then = line_changes layout meaning mid goes.steps.parts l line in
         let taken = taken_at layout net l in
@@ -251,8 +253,34 @@ module _ {W : Type 0} (kept : NodesKept W) (jobs : JobsEndWell W) (views : Calls
 
     mover_keeps : (by_source : Bool) → peek_by layout by_source net l (link_in layout.links l) ≡ Some next
         → NetKeeps layout meaning (moved_by layout meaning by_source l next phase (link_in layout.links l) net)
-    mover_keeps true peek = source_keeps (link_in layout.links l).source (link_in layout.links l).target refl refl peek
+    mover_keeps true peek =
+        let source = (link_in layout.links l).source in
+        source_keeps source (link_in layout.links l).target refl (source_moves layout meaning l next source net) (source_goes source refl peek)
     mover_keeps false peek = target_keeps (link_in layout.links l).source (link_in layout.links l).target refl refl peek
+
+  -- The caller of an input posts a value
+  pub post_keeps : (l b : ℕ) (value : Value) → l < length layout.links → (link_in layout.links l).source ≡ Input b
+      → MayCallInput (InputCall.post value) (input_at layout net b) → NetKeeps layout meaning (after_post layout meaning l b value net)
+  post_keeps l b value there from may =
+      let input = input_at layout net b in
+      let law = parts.inputs b (run.leads.from_input l b there from) (run.leads.from_inputs l b there from) in
+      let change = after_input (InputCall.post value) in
+      let id = next_id input in
+      let known = given_as layout net l (Input b) from in
+      let line = line_at net l in
+      let taken = taken_at layout net l in
+      let free = (and_parts (is_free input.stage) (is_none (end_by input.ending)) may.so).0 in
+      let ok = subst (λ (view : SourceView Value). LinkOk (facts_in layout l) line.phase line.slot view taken) known
+      (keeps.lines l there).in_order in
+      let idle = (links_tell Value).free_is_idle (facts_in layout l) line.phase line.slot (input_view input) taken ok (is_at_home input.stage free) in
+      let allowed : phase_after line.phase (move.Post id) ≡ Some (Posted id) = ap (λ (phase : Phase). phase_after phase (move.Post id)) idle in
+      source_keeps l there (move.Post id) (Posted id) allowed (Input b) (link_in layout.links l).target refl (with_input layout b change net)
+      (record {
+        view = input_view (change input);
+        steps = input_gives layout meaning l run there net parts b change from (inputs.calls input (InputCall.post value) law may);
+        well = posts (facts_in layout l) line.phase (Posted id) line.slot taken input law inputs
+            (run.leads.inputs_unlimited l b there from) (run.leads.inputs_pass l b there from) ok value may free allowed;
+      })
 
   move_keeps : (l : ℕ) (next : Move) → LinkMay layout net l next
       → (found : Option Phase) → phase_after (line_at net l).phase next ≡ found
@@ -345,3 +373,8 @@ pub events_keep : {W : Type 0} → NodesKept W → JobsEndWell W → CallsMoveVi
     → BlocksMoveWell W → InputsMoveWell W → TargetsMoveWell W → ExitsMoveWell W → EventsKeep W
 events_keep kept jobs views next_may inputs exits blocks_move inputs_move targets_move exits_move layout meaning run net event keeps may =
     event_keeps kept jobs views next_may inputs exits blocks_move inputs_move targets_move exits_move layout meaning run net keeps event may
+
+pub posts_keep : {W : Type 0} → NodesKept W → JobsEndWell W → CallsMoveViews W → NextMovesMay W → InputsKeep → ExitsKeep
+    → BlocksMoveWell W → InputsMoveWell W → TargetsMoveWell W → ExitsMoveWell W → PostsKeep W
+posts_keep kept jobs views next_may inputs exits blocks_move inputs_move targets_move exits_move layout meaning run net l b value keeps =
+    post_keeps kept jobs views next_may inputs exits blocks_move inputs_move targets_move exits_move layout meaning run net keeps l b value

@@ -27,8 +27,8 @@ use Rattle.flow_spread.specs.End.{fresh_end as fresh_copy, no_end as no_copy}
 use Rattle.flow_block.specs.Copies.{shared_rules, copied_rules}
 use Rattle.flow_block.specs.Block.{is_batch, is_batched_join}
 use Rattle.flow_block_law.specs.Fresh.{FreshInOrder}
-use Rattle.flow_block.specs.Input.{fresh_input, no_input, input_view}
-use Rattle.flow_block_law.specs.InputKeeps.{InputLaw, InputsKeep}
+use Rattle.flow_input.specs.Input.{fresh_input, no_input, input_view}
+use Rattle.flow_input.specs.InputKeeps.{InputLaw, InputsKeep}
 use Rattle.flow_link.specs.Posted.{ends_by_number}
 use Rattle.flow_block.specs.Node.{in_view, out_view, copy_view, source_view, view_of_in, view_of_out}
 use Rattle.flow_block_law.specs.NodeLaw.{NodeLaw}

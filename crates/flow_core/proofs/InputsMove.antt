@@ -16,12 +16,12 @@ use Rattle.flow_link.specs.LinkOk.{LinkOk, HasRoom, MayEnd}
 use Rattle.flow_link.specs.Moves.{giving}
 use Rattle.flow_link.specs.Phase.{phase_after}
 use Rattle.flow_link.specs.Views.{SourceStage, SourceView, TargetView, LinkFacts, crossed}
-use Rattle.flow_outlet.specs.End.{id_of}
-use Rattle.flow_block.specs.Input.{InputState, InputCall, end_by, input_view, next_id, next_value, is_wanted}
-use Rattle.flow_block_law.specs.InputKeeps.{InputLaw, InputsKeep, MayMoveInput}
+use Rattle.flow_outlet.specs.End.{id_of, is_free}
+use Rattle.flow_input.specs.Input.{InputState, InputCall, after_input, end_by, input_view, next_id, next_value, is_wanted}
+use Rattle.flow_input.specs.InputKeeps.{InputLaw, InputsKeep, MayCallInput, MayMoveInput}
 use Rattle.flow_core.specs.Events.{input_after, input_call, slot_after}
 use Rattle.flow_core.specs.OneMove.{SourceMoved, InputsMoveWell}
-use Rattle.flow_core.proofs.BlocksMove.{standing, is_at_home, offers_on, ends_on, gives_on}
+use Rattle.flow_core.proofs.BlocksMove.{standing, is_at_home, offers_on, posts_on, ends_on, gives_on}
 
 -- any number of values may cross an input's link
 has_room : (max : Option ℕ) (count : ℕ) → max ≡ None → HasRoom max count
@@ -58,6 +58,16 @@ module _ (facts : LinkFacts) (phase new : Phase) (slot : Option Value) (target :
     -- what the link comes to by a call
     abbrev Moved : Option Value → SourceView Value → Type 0
     Moved laid after = SourceMoved facts new laid after target
+
+    -- its caller posts a value
+    pub posts : (value : Value) → MayCallInput (InputCall.post value) input → is_free input.stage ≡ true
+        → phase_after phase (move.Post (next_id input)) ≡ Some new
+        → Moved slot (input_view (after_input (InputCall.post value) input))
+    posts value may free allowed =
+        let view = input_view input in
+        subst (Moved slot) (sym (keeps.views input (InputCall.post value) law may))
+        (posts_on facts phase new slot target (next_id input) view ok (is_at_home input.stage free) (omega arith)
+        (has_room facts.max (crossed view) unlimited) allowed)
 
     moves : (next : Move) → MayMoveInput input next → phase_after phase next ≡ Some new
         → Moved (slot_after next (next_value input) slot) (input_view (input_after (input_call next) input))

@@ -14,11 +14,11 @@ use Rattle.flow_link.specs.Stage.{source_stage_of}
 use Rattle.flow_link.specs.Views.{SourceStage, SourceView}
 use Rattle.flow_outlet.specs.Outlet.{OutletState, stage_at, move_at as out_move_at}
 use Rattle.flow_spread.specs.Spread.{SpreadState, stage_at as copy_stage, move_at as copy_move_at}
-use Rattle.flow_block.specs.Input.{InputState, move_from}
+use Rattle.flow_input.specs.Input.{InputState, move_from}
 use Rattle.flow_block.specs.Node.{out_view, copy_view}
 use Rattle.flow_block.specs.Peeks.{is_held_up, is_copy_held_up}
 use Rattle.flow_block.specs.Planned.{out_place}
-use Rattle.flow_block_law.specs.InputKeeps.{InputsAreParts}
+use Rattle.flow_input.specs.InputKeeps.{InputsAreParts}
 use Rattle.flow_block_law.specs.NextCopies.{next_copy}
 use Rattle.flow_block_law.specs.NextMoves.{next_out}
 use Rattle.flow_block_law.specs.NodeSeen.{NodesAreLawful}

@@ -20,8 +20,8 @@ use Rattle.flow_lists.proofs.ListTests.{every_below}
 use Rattle.flow_intake.specs.Port.{PortState}
 use Rattle.flow_link.specs.PlanFaults.{is_in}
 use Rattle.std.proofs.lemmas.Bool.{ne_eqb}
-use Rattle.flow_block.specs.Input.{no_input, input_trace}
-use Rattle.flow_block_law.specs.InputKeeps.{InputLaw, InputsAreParts, IsInputOf}
+use Rattle.flow_input.specs.Input.{no_input, input_trace}
+use Rattle.flow_input.specs.InputKeeps.{InputLaw, InputsAreParts, IsInputOf}
 use Rattle.flow_block.specs.Node.{node_trace}
 use Rattle.flow_block_law.specs.NodeSeen.{NodesAreLawful, IsNodeOf}
 use Rattle.flow_block.specs.Planned.{input_place}

@@ -1,12 +1,15 @@
+pub mod AcceptedTaken
 pub mod BlocksMove
 pub mod CallersKeep
 pub mod EndsLook
 pub mod EndsStep
+pub mod EntriesKeep
 pub mod EventsKeep
 pub mod ExitsEnded
 pub mod ExitsMove
 pub mod FaultsNumbered
 pub mod FreshNets
+pub mod InputsChange
 pub mod InputsMove
 pub mod InputsTakeFreely
 pub mod KeptForOne

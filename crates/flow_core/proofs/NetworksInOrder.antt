@@ -1,7 +1,5 @@
 -- The laws of networks, from those of their blocks and inputs.
 use Rattle.flow_block_law.proofs.FreshNodes.{fresh_in_order}
-use Rattle.flow_block_law.proofs.InputsAreParts.{inputs_are_parts}
-use Rattle.flow_block_law.proofs.InputsInOrder.{inputs_keep}
 use Rattle.flow_block_law.proofs.JobsEnd.{jobs_end_well}
 use Rattle.flow_block_law.proofs.NextMoves.{next_moves_may}
 use Rattle.flow_block_law.proofs.NodesAreLawful.{nodes_are_lawful}
@@ -10,11 +8,15 @@ use Rattle.flow_block_law.proofs.NodesKept.{nodes_kept}
 use Rattle.flow_block_law.proofs.NodesRest.{nodes_rest}
 use Rattle.flow_block_law.proofs.ViewsMove.{calls_move_views}
 use Rattle.flow_exit.proofs.ExitsKeep.{exits_keep}
+use Rattle.flow_input.proofs.InputsAreParts.{inputs_are_parts}
+use Rattle.flow_input.proofs.InputsMove.{inputs_keep}
 use Rattle.flow_core.specs.Numbers.{BlocksFaultByNumber}
-use Rattle.flow_core.specs.Statements.{EventsKeep, ExitCallsKeep, ReceivedWasGiven, FreshKeeps, KeptIsLawful, KeptIsHeld, StillIsQuiet, SchedulesGoWell}
+use Rattle.flow_core.specs.Statements.{AcceptedWasTaken, EntryCallsKeep, EventsKeep, ExitCallsKeep, FreshKeeps, KeptIsHeld, KeptIsLawful, PostsKeep, ReceivedWasGiven, SchedulesGoWell, StillIsQuiet}
+use Rattle.flow_core.proofs.AcceptedTaken.{accepted_was_taken}
 use Rattle.flow_core.proofs.BlocksMove.{blocks_move}
 use Rattle.flow_core.proofs.CallersKeep.{exit_calls_keep}
-use Rattle.flow_core.proofs.EventsKeep.{events_keep}
+use Rattle.flow_core.proofs.EntriesKeep.{entry_calls_keep}
+use Rattle.flow_core.proofs.EventsKeep.{events_keep, posts_keep}
 use Rattle.flow_core.proofs.ExitsMove.{exits_move}
 use Rattle.flow_core.proofs.FaultsNumbered.{blocks_fault_by_number}
 use Rattle.flow_core.proofs.FreshNets.{fresh_keeps}
@@ -34,6 +36,18 @@ all_events_keep W =
     events_keep (nodes_kept W) (jobs_end_well W) (calls_move_views W) next_moves_may inputs_keep exits_keep
     (blocks_move (nodes_kept W) (calls_move_views W) next_moves_may) (inputs_move inputs_keep)
     (targets_move (calls_move_views W) next_moves_may) (exits_move exits_keep)
+
+pub all_posts_keep : (W : Type 0) → PostsKeep W
+all_posts_keep W =
+    posts_keep (nodes_kept W) (jobs_end_well W) (calls_move_views W) next_moves_may inputs_keep exits_keep
+    (blocks_move (nodes_kept W) (calls_move_views W) next_moves_may) (inputs_move inputs_keep)
+    (targets_move (calls_move_views W) next_moves_may) (exits_move exits_keep)
+
+pub all_entry_calls_keep : (W : Type 0) → EntryCallsKeep W
+all_entry_calls_keep W = entry_calls_keep inputs_keep
+
+pub all_accepted_was_taken : (W : Type 0) → AcceptedWasTaken W
+all_accepted_was_taken W = accepted_was_taken (nodes_are_lawful W) (inputs_are_parts W)
 
 pub all_exit_calls_keep : (W : Type 0) → ExitCallsKeep W
 all_exit_calls_keep W = exit_calls_keep exits_keep

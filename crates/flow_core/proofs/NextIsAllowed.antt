@@ -31,7 +31,7 @@ use Rattle.flow_intake.specs.Port.{PortState, stage_at as port_stage, hand_in, h
 use Rattle.flow_intake.specs.Calls.{first_of, in_move, move_of, move_at as in_move_at, is_at as is_queued_at, next_place, answer_where}
 use Rattle.flow_outlet.specs.Outlet.{OutletState, stage_at, end_at, end_of, has_offer_out, answers_wish, free_move, is_at, may_offer, move_at as out_move_at}
 use Rattle.flow_block.specs.Block.{port_at}
-use Rattle.flow_block.specs.Input.{InputState, move_from, end_move, end_by, has_next, next_id}
+use Rattle.flow_input.specs.Input.{InputState, move_from, end_move, end_by, has_next, next_id}
 use Rattle.flow_spread.specs.Spread.{SpreadState, link_at, stage_at as copy_stage, may_offer as may_offer_copy, free_move as free_copy_move, move_at as copy_move_at}
 use Rattle.flow_block_law.specs.NextCopies.{next_copy}
 use Rattle.flow_block_law.specs.NextMoves.{next_out}

@@ -11,8 +11,8 @@ use Rattle.flow_link.specs.Layout.{Layout}
 use Rattle.flow_link.specs.Plan.{block_in, link_in, no_block, is_one_taker}
 use Rattle.flow_link.specs.Views.{SourceView, TargetView}
 use Rattle.flow_block.specs.Block.{port_at}
-use Rattle.flow_block.specs.Input.{InputState, input_view, no_input}
-use Rattle.flow_block_law.specs.InputKeeps.{InputLaw}
+use Rattle.flow_input.specs.Input.{InputState, input_view, no_input}
+use Rattle.flow_input.specs.InputKeeps.{InputLaw}
 use Rattle.flow_block.specs.Node.{NodeState, in_view, out_view, copy_view, source_view}
 use Rattle.flow_block_law.specs.NodeLaw.{NodeLaw}
 use Rattle.flow_block.specs.Planned.{in_place, out_place, input_place, exit_place, leads_out, links_out}

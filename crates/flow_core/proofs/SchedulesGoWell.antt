@@ -1,5 +1,5 @@
 -- Whatever events are asked for, in whatever order, the run so far is lawful, and quiet where nothing may happen.
-use Rattle.std.proofs.Common.{◌≡◌, ◌≢◌, ℕ, Bool, true, false, List, [], ◌∷◌, ⊎_elim, length, map, count_by, Option, Some, None, Result, Err, refl, ap, sym, subst, ◌∙◌}
+use Rattle.std.proofs.Common.{◌≡◌, ◌≢◌, ℕ, Bool, true, false, List, [], ◌∷◌, ⊎_elim, length, count_by, Option, Some, None, Result, Err, refl, sym, subst, ◌∙◌}
 use Rattle.std.proofs.Math.Seq.{map-set_same}
 use Rattle.flow_value.specs.declared.value.Value.{Value}
 use Rattle.flow_link.specs.declared.phase.Move.{Move}
@@ -16,22 +16,15 @@ use Rattle.flow_link.specs.Plan.{link_in}
 use Rattle.flow_link.specs.Posted.{ends_by_number}
 use Rattle.flow_lists.specs.Lists.{every}
 use Rattle.flow_link.specs.Trace.{InputTrace}
-use Rattle.flow_block.specs.Input.{InputState, InputCall, no_input, input_trace}
-use Rattle.flow_block.specs.Planned.{input_place, exit_place}
-use Rattle.flow_exit.specs.Exit.{CallerState, ExitState, ExitCall, caller_of, fresh_exit, exit_call, exit_after}
-use Rattle.flow_core.specs.Events.{NetEvent, after, after_move, moved_by, source_moves, target_moves, source_sees, target_sees, with_line, line_after, with_input, with_exit, is_of_source, input_after, input_call}
+use Rattle.flow_block.specs.Planned.{exit_place}
+use Rattle.flow_exit.specs.Exit.{ExitState, ExitCall, caller_of, fresh_exit, exit_call, exit_after}
+use Rattle.flow_core.specs.Events.{NetEvent, after, after_move, moved_by, source_moves, target_moves, source_sees, target_sees, with_line, line_after, with_exit, is_of_source}
 use Rattle.flow_core.specs.Keeps.{IsRun, NetKeeps}
-use Rattle.flow_core.specs.State.{NetState, line_at, input_at, exit_at, callers_in, fresh_net}
+use Rattle.flow_core.specs.State.{NetState, line_at, exit_at, callers_in, fresh_net}
 use Rattle.flow_core.specs.Statements.{EventsKeep, FreshKeeps, KeptIsLawful, KeptIsHeld, StillIsQuiet, SchedulesGoWell, OfEachNet, Goes, Answers}
+use Rattle.flow_core.proofs.InputsChange.{fresh_none_posted, posted_lists_stay, same_where_none_posted}
 
--- what is posted stays, and what callers of exits have
-same_call : (call : Option InputCall) (input : InputState) → input_trace (input_after call input) ≡ input_trace input
-same_call None input = refl
-same_call (Some InputCall.offer) input = refl
-same_call (Some InputCall.give) input = refl
-same_call (Some (InputCall.end_link how)) input = refl
-same_call (Some (InputCall.look phase)) input = refl
-
+-- what callers of exits have stays
 same_caller : (slot : Option Value) (next : Move) (exit : ExitState) → caller_of (exit_after (exit_call slot next) exit) ≡ caller_of exit
 same_caller slot move.Want exit = refl
 same_caller slot move.TurnDown exit = refl
@@ -42,39 +35,21 @@ same_caller (Some value) move.Open exit = refl
 same_caller slot move.Close exit = refl
 same_caller slot _ exit = refl
 
-abbrev posted_in : NetState → List InputTrace
-posted_in net = map input_trace net.inputs
-
--- what is not the network's to change
-pub record Outside : Type 0 where
-  pub posted : List InputTrace
-  pub callers : List CallerState
-
-abbrev outside : NetState → Outside
-outside net = record { posted = posted_in net; callers = callers_in net }
-
 abbrev pub Stays : (NetState → NetState) → Type 0
-Stays change = (net : NetState) → outside (change net) ≡ outside net
+Stays change = (net : NetState) → callers_in (change net) ≡ callers_in net
 
 module _ {W : Type 0} (layout : Layout W) (meaning : ℕ → Value → Result (List Value) ℕ) where
-  input_stays : (b : ℕ) (call : Option InputCall) → Stays (with_input layout b (input_after call))
-  input_stays b call net =
-      ap (λ (posted : List InputTrace). record { posted = posted; callers = callers_in net })
-      (map-set_same input_trace net.inputs (input_place layout b) _ no_input (same_call call (input_at layout net b)))
-
   exit_stays : (l : ℕ) (change : ExitState → ExitState) → ((exit : ExitState) → caller_of (change exit) ≡ caller_of exit)
       → Stays (with_exit layout l change)
-  exit_stays l change same net =
-      ap (λ (callers : List CallerState). record { posted = posted_in net; callers = callers })
-      (map-set_same caller_of net.exits (exit_place layout l) _ fresh_exit (same (exit_at layout net l)))
+  exit_stays l change same net = map-set_same caller_of net.exits (exit_place layout l) _ fresh_exit (same (exit_at layout net l))
 
   source_stays : (l : ℕ) (next : Move) (source : LinkSource) → Stays (source_moves layout meaning l next source)
   source_stays l next (Block s) net = refl
-  source_stays l next (Input b) net = input_stays b (input_call next) net
+  source_stays l next (Input b) net = refl
 
   look_stays : (l : ℕ) (phase : Phase) (source : LinkSource) → Stays (source_sees layout meaning l phase source)
   look_stays l phase (Block s) net = refl
-  look_stays l phase (Input b) net = input_stays b (Some (InputCall.look phase)) net
+  look_stays l phase (Input b) net = refl
 
   target_stays : (l : ℕ) (next : Move) (target : LinkTarget) → Stays (target_moves layout meaning l next target)
   target_stays l next (Port t p) net = refl
@@ -101,32 +76,26 @@ module _ {W : Type 0} (layout : Layout W) (meaning : ℕ → Value → Result (L
   move_stays l next None net = refl
   move_stays l next (Some phase) net = moved_stays (is_of_source next) l next phase (link_in layout.links l) net
 
-  pub event_stays : (event : NetEvent) → Stays (after layout meaning event)
-  event_stays (NetEvent.at_link l next) net = move_stays l next (phase_after (line_at net l).phase next) net
-  event_stays (NetEvent.make b) net = refl
-  event_stays (NetEvent.begin b) net = refl
-  event_stays (NetEvent.end_job b ticket) net = refl
-  event_stays (NetEvent.complete b p) net = refl
-  event_stays (NetEvent.fault b) net = refl
-  event_stays (NetEvent.finish b) net = refl
-
-  pub posted_stays : (event : NetEvent) (net : NetState) → posted_in (after layout meaning event net) ≡ posted_in net
-  posted_stays event net = ap (λ known. known.posted) (event_stays event net)
-
-  pub callers_stay : (event : NetEvent) (net : NetState) → callers_in (after layout meaning event net) ≡ callers_in net
-  callers_stay event net = ap (λ known. known.callers) (event_stays event net)
+  pub callers_stay : (event : NetEvent) → Stays (after layout meaning event)
+  callers_stay (NetEvent.at_link l next) net = move_stays l next (phase_after (line_at net l).phase next) net
+  callers_stay (NetEvent.make b) net = refl
+  callers_stay (NetEvent.begin b) net = refl
+  callers_stay (NetEvent.end_job b ticket) net = refl
+  callers_stay (NetEvent.complete b p) net = refl
+  callers_stay (NetEvent.fault b) net = refl
+  callers_stay (NetEvent.finish b) net = refl
 
   -- what holds after a list of events
   record Comes (start now : NetState) : Type 0 where
     keeps : NetKeeps layout meaning now
-    same : outside now ≡ outside start
+    same : callers_in now ≡ callers_in start
 
   module _ (events_keep : EventsKeep W) (runs : IsRun layout) where
     one_event : (event : NetEvent) (old new : NetState) → NetKeeps layout meaning old
         → Answers layout meaning event old new → Comes old new
     one_event event old new keeps answer = ⊎_elim
         (λ happens. subst (Comes old) (sym happens.new_is)
-        (record { keeps = events_keep layout meaning runs old event keeps happens.may; same = event_stays event old }))
+        (record { keeps = events_keep layout meaning runs old event keeps happens.may; same = callers_stay event old }))
         (λ passed. subst (Comes old) (sym passed.same) (record { keeps = keeps; same = refl }))
         answer
 
@@ -157,8 +126,8 @@ schedules_go_well keep fresh lawful held quiet layout meaning runs never posted 
     record {
       lawful = lawful layout meaning runs now comes.keeps;
       links = comes.keeps.lines;
-      same_inputs = ap (λ known. known.posted) comes.same;
-      same_callers = ap (λ known. known.callers) comes.same;
+      same_inputs = same_where_none_posted start now (posted_lists_stay layout meaning events start now goes) (fresh_none_posted posted);
+      same_callers = comes.same;
       kept = held layout meaning runs now comes.keeps;
       quiet = λ still. quiet layout meaning runs now comes.keeps still;
     }

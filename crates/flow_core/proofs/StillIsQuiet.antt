@@ -30,8 +30,8 @@ use Rattle.flow_lists.proofs.ListTests.{never_both}
 use Rattle.flow_intake.specs.Port.{end_in}
 use Rattle.flow_outlet.specs.Outlet.{end_at, stage_at}
 use Rattle.flow_block.specs.Block.{port_at}
-use Rattle.flow_block.specs.Input.{input_move}
-use Rattle.flow_block_law.specs.InputKeeps.{InputsAreParts}
+use Rattle.flow_input.specs.Input.{input_move}
+use Rattle.flow_input.specs.InputKeeps.{InputsAreParts}
 use Rattle.flow_block_law.specs.NextCopies.{next_copy}
 use Rattle.flow_block_law.specs.NextMoves.{next_in, next_out, next_source}
 use Rattle.flow_block.specs.Node.{NodeState, in_view, source_view}

@@ -12,7 +12,7 @@ use Rattle.flow_link.specs.Layout.{Layout}
 use Rattle.flow_link.specs.LinkOk.{CrossedAt, IsHome}
 use Rattle.flow_lawful.specs.RestsByParts.{is_at_rest}
 use Rattle.flow_link.specs.Views.{TargetStage}
-use Rattle.flow_block_law.proofs.InputsAreParts.{inputs_are_parts}
+use Rattle.flow_input.proofs.InputsAreParts.{inputs_are_parts}
 use Rattle.flow_block_law.proofs.NodesAreLawful.{nodes_are_lawful}
 use Rattle.flow_block_law.proofs.NodesAreStill.{nodes_are_still}
 use Rattle.flow_block_law.proofs.NodesRest.{nodes_rest}

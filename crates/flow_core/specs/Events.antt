@@ -7,6 +7,7 @@ use Rattle.flow_link.specs.declared.draft.BlockKind.{BlockKind}
 use Rattle.flow_link.specs.declared.phase.Move.{Move}
 use Rattle.flow_link.specs.declared.phase.Move.TheVariants as move
 use Rattle.flow_link.specs.declared.phase.Phase.{Phase}
+use Rattle.flow_link.specs.declared.phase.Phase.TheVariants.{Posted}
 use Rattle.flow_link.specs.declared.plan.Link.{Link}
 use Rattle.flow_link.specs.declared.plan.LinkSource.{LinkSource}
 use Rattle.flow_link.specs.declared.plan.LinkSource.TheVariants.{Block, Input}
@@ -17,7 +18,7 @@ use Rattle.flow_link.specs.Phase.{phase_after}
 use Rattle.flow_link.specs.Plan.{link_in, is_one_taker}
 use Rattle.flow_outlet.specs.Outlet.{lacks_ids}
 use Rattle.flow_block.specs.Copies.{CopyCall}
-use Rattle.flow_block.specs.Input.{InputState, InputCall, input_move, after_input, next_value}
+use Rattle.flow_input.specs.Input.{InputState, InputCall, input_move, after_input, next_id, next_value}
 use Rattle.flow_block_law.specs.JobsEnd.{after_job, put_at_end}
 use Rattle.flow_block_law.specs.NextMoves.{next_in, next_source}
 use Rattle.flow_block.specs.Node.{NodeState, NodeCall, given_next, after as after_call}
@@ -201,6 +202,13 @@ module _ {W : Type 0} (layout : Layout W) (meaning : ℕ → Value → Result (L
   abbrev pub after_move : ℕ → Move → Option Phase → NetState → NetState
   after_move l next None net = net
   after_move l next (Some phase) net = moved_by (is_of_source next) l next phase (link_in layout.links l) net
+
+  -- the caller of the input of block b posts a value over its link l, and the target looks
+  abbrev pub after_post : ℕ → ℕ → Value → NetState → NetState
+  after_post l b value net =
+      let id = next_id (input_at layout net b) in
+      target_sees l (Posted id) (link_in layout.links l).target
+      (with_line l (line_after l (move.Post id) (Posted id) (Input b) net) (with_input layout b (after_input (InputCall.post value)) net))
 
   abbrev pub after : NetEvent → NetState → NetState
   after (NetEvent.at_link l next) net = after_move l next (phase_after (line_at net l).phase next) net

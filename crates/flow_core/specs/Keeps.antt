@@ -10,7 +10,7 @@ use Rattle.flow_link.specs.LinkOk.{LinkOk}
 use Rattle.flow_link.specs.Looks.{Seen}
 use Rattle.flow_link.specs.Plan.{block_in, link_in}
 use Rattle.flow_link.specs.WellFormed.{IsWellFormed}
-use Rattle.flow_block_law.specs.InputKeeps.{InputLaw}
+use Rattle.flow_input.specs.InputKeeps.{InputLaw}
 use Rattle.flow_block_law.specs.NodeLaw.{NodeLaw}
 use Rattle.flow_block.specs.Planned.{links_out}
 use Rattle.flow_exit.specs.ExitKeeps.{ExitLaw}

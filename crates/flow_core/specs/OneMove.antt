@@ -13,8 +13,8 @@ use Rattle.flow_link.specs.Looks.{SourceHasSeen, TargetHasSeen}
 use Rattle.flow_link.specs.Phase.{phase_after}
 use Rattle.flow_link.specs.Plan.{link_in}
 use Rattle.flow_link.specs.Views.{SourceView, TargetView, LinkFacts}
-use Rattle.flow_block.specs.Input.{InputState, input_move, input_view, next_value}
-use Rattle.flow_block_law.specs.InputKeeps.{InputLaw}
+use Rattle.flow_input.specs.Input.{InputState, input_move, input_view, next_value}
+use Rattle.flow_input.specs.InputKeeps.{InputLaw}
 use Rattle.flow_block_law.specs.NextMoves.{next_in, next_source}
 use Rattle.flow_block.specs.Node.{NodeState, in_view, given_next, source_view}
 use Rattle.flow_block_law.specs.NodeLaw.{NodeLaw}

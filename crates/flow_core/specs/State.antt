@@ -15,7 +15,7 @@ use Rattle.flow_link.specs.Trace.{InputTrace, Trace, Run}
 use Rattle.flow_link.specs.Views.{SourceView, TargetView}
 use Rattle.flow_group.specs.Round.{no_round}
 use Rattle.flow_block.specs.BlockFits.{fresh_block}
-use Rattle.flow_block.specs.Input.{InputState, fresh_input, no_input, input_view, input_trace}
+use Rattle.flow_input.specs.Input.{InputState, fresh_input, no_input, input_view, input_trace}
 use Rattle.flow_block.specs.Node.{NodeState, in_view, source_view, node_trace}
 use Rattle.flow_block.specs.Planned.{in_place, out_place, input_place, exit_place, links_out, fresh_node}
 use Rattle.flow_exit.specs.Exit.{CallerState, ExitState, caller_of, fresh_exit, exit_view}

@@ -1,5 +1,5 @@
 -- What is proved of the states of a network.
-use Rattle.std.specs.Prelude.{◌≡◌, ◌≢◌, ℕ, ◌<◌, ◌⊎◌, List, [], ◌∷◌, length, count_by, Some, Result, Err, is_some, true}
+use Rattle.std.specs.Prelude.{◌≡◌, ◌≢◌, ℕ, ◌+◌, ◌<◌, ◌≤◌, ◌⊎◌, List, [], ◌∷◌, length, take, count_by, Some, Result, Err, is_some, true}
 use Rattle.flow_value.specs.declared.value.Value.{Value}
 use Rattle.flow_link.specs.declared.phase.Move.{Move}
 use Rattle.flow_link.specs.declared.phase.Move.TheVariants.{Deny}
@@ -9,19 +9,27 @@ use Rattle.flow_lawful.specs.Lawful.{Lawful}
 use Rattle.flow_link.specs.Phase.{phase_after}
 use Rattle.flow_link.specs.Plan.{block_in, link_in, is_one_taker}
 use Rattle.flow_lawful.specs.Quiet.{Quiet}
-use Rattle.flow_link.specs.Trace.{InputTrace, gave_over, marks_of}
+use Rattle.flow_link.specs.Trace.{InputTrace, gave_over, marks_of, took_over}
 use Rattle.flow_lists.specs.Lists.{every, is_front}
 use Rattle.flow_link.specs.Posted.{ends_by_number}
 use Rattle.flow_link.specs.Views.{SourceStage}
 use Rattle.flow_link.specs.declared.phase.LinkEnd.{LinkEnd}
-use Rattle.flow_link.specs.declared.plan.LinkSource.TheVariants.{Block}
-use Rattle.flow_link.specs.declared.plan.LinkTarget.TheVariants.{Exit}
+use Rattle.flow_link.specs.declared.plan.LinkSource.TheVariants.{Block, Input}
+use Rattle.flow_link.specs.declared.plan.LinkTarget.TheVariants.{Exit, Port}
 use Rattle.flow_link.specs.declared.stage.TargetStage.TheVariants.{Ended}
 use Rattle.flow_exit.specs.Exit.{ExitCall, after_exit, is_callers}
+use Rattle.flow_input.specs.Input.{InputCall, after_input, is_unseen}
+use Rattle.flow_input.specs.InputKeeps.{MayCallInput}
 use Rattle.flow_core.specs.AtRest.{AtRest}
-use Rattle.flow_core.specs.Events.{NetEvent, Enabled, MayHappen, after, peek_by, is_of_source, with_exit}
+use Rattle.flow_core.specs.Events.{NetEvent, Enabled, MayHappen, after, after_post, peek_by, is_of_source, with_exit, with_input}
+use Rattle.flow_core.specs.Inputs.{InputsAreChanged, InputsStay}
 use Rattle.flow_core.specs.Keeps.{IsRun, NetKeeps, LineKeeps}
-use Rattle.flow_core.specs.State.{NetState, line_at, exit_at, ends_of, callers_in, run_of_net, fresh_net}
+use Rattle.flow_core.specs.State.{NetState, line_at, input_at, exit_at, ends_of, callers_in, run_of_net, fresh_net}
+
+-- what was received is what was given, in order, and at most one message more was given
+pub record IsReceivedOf (received given : List Value) : Type 0 where
+  pub front : is_front received given ≡ true
+  pub one_more : length given ≤ length received + 1
 
 module _ {W : Type 0} (layout : Layout W) (meaning : ℕ → Value → Result (List Value) ℕ) where
   -- nothing may happen any more
@@ -92,12 +100,44 @@ module _ (W : Type 0) where
       → (link_in layout.links l).target ≡ Exit → is_callers call ≡ true
       → NetKeeps layout meaning (with_exit layout l (after_exit call) net)
 
-  -- what was received at an exit is what its block gave over its link, in order, as far as it went
+  -- and so does what the caller of an input does that the link knows nothing of
+  abbrev pub EntryCallsKeep : Type 0
+  EntryCallsKeep = OfEachNet λ layout meaning.
+      (net : NetState) (l b : ℕ) (call : InputCall) → NetKeeps layout meaning net → l < length layout.links
+      → (link_in layout.links l).source ≡ Input b → is_unseen call ≡ true → MayCallInput call (input_at layout net b)
+      → NetKeeps layout meaning (with_input layout b (after_input call) net)
+
+  -- and a value that it posts
+  abbrev pub PostsKeep : Type 0
+  PostsKeep = OfEachNet λ layout meaning.
+      (net : NetState) (l b : ℕ) (value : Value) → NetKeeps layout meaning net → l < length layout.links
+      → (link_in layout.links l).source ≡ Input b → MayCallInput (InputCall.post value) (input_at layout net b)
+      → NetKeeps layout meaning (after_post layout meaning l b value net)
+
+  -- an event changes an input by one call of the network at most
+  abbrev pub InputsChange : Type 0
+  InputsChange = (layout : Layout W) (meaning : ℕ → Value → Result (List Value) ℕ) (net : NetState) (event : NetEvent)
+      → InputsAreChanged net (after layout meaning event net)
+
+  -- so what is posted stays, but for a value that was posted to its target and is turned down
+  abbrev pub PostedListsStay : Type 0
+  PostedListsStay = (layout : Layout W) (meaning : ℕ → Value → Result (List Value) ℕ) (events : List NetEvent) (old new : NetState)
+      → Goes layout meaning events old new → InputsStay old new
+
+  -- what was told as accepted was taken over the link, in order, as far as it went
+  abbrev pub AcceptedWasTaken : Type 0
+  AcceptedWasTaken = OfEachNet λ layout meaning.
+      (net : NetState) (l b t p : ℕ) → NetKeeps layout meaning net → l < length layout.links
+      → (link_in layout.links l).source ≡ Input b → (link_in layout.links l).target ≡ Port t p
+      → is_front (take (input_at layout net b).told (input_at layout net b).posted)
+      (took_over l (marks_of (run_of_net layout meaning net) t)) ≡ true
+
+  -- what was received at an exit is what its block gave over its link, in order, and at most one message more was given
   abbrev pub ReceivedWasGiven : Type 0
   ReceivedWasGiven = OfEachNet λ layout meaning.
       (net : NetState) (l b : ℕ) → NetKeeps layout meaning net → l < length layout.links
       → (link_in layout.links l).source ≡ Block b → (link_in layout.links l).target ≡ Exit
-      → is_front (exit_at layout net l).received (gave_over l (marks_of (run_of_net layout meaning net) b)) ≡ true
+      → IsReceivedOf (exit_at layout net l).received (gave_over l (marks_of (run_of_net layout meaning net) b))
 
   -- where the link of an exit has ended, no event changes the exit any more
   abbrev pub EndedExitsStay : Type 0

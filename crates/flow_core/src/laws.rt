@@ -1,7 +1,8 @@
 //! Laws about the states of a network. Each stands on a function that does nothing: whoever calls it has the whole law.
 ghost use Rattle.flow_core.specs.Numbers.{BlocksFaultByNumber};
-ghost use Rattle.flow_core.specs.Statements.{EndedExitsStay, EventsKeep, ExitCallsKeep, FreshKeeps, KeptIsHeld, KeptIsLawful};
-ghost use Rattle.flow_core.specs.Statements.{NextIsAllowed, ReceivedWasGiven};
+ghost use Rattle.flow_core.specs.Statements.{AcceptedWasTaken, EndedExitsStay, EntryCallsKeep, EventsKeep, ExitCallsKeep};
+ghost use Rattle.flow_core.specs.Statements.{FreshKeeps, InputsChange, KeptIsHeld, KeptIsLawful};
+ghost use Rattle.flow_core.specs.Statements.{NextIsAllowed, PostedListsStay, PostsKeep, ReceivedWasGiven};
 ghost use Rattle.flow_core.specs.Statements.{SchedulesGoWell, StillIsQuiet, StillRests};
 
 /// A network in which nothing has happened is in order.
@@ -19,7 +20,30 @@ pub fn exit_calls_keep_networks_in_order<W>()
     ensures { ExitCallsKeep W }
 {}
 
-/// What was received at an exit is what its block gave over its link, each once and in order, as far as it went.
+/// What the caller of an input does that its link knows nothing of keeps the network in order.
+pub fn entry_calls_keep_networks_in_order<W>()
+    ensures { EntryCallsKeep W }
+{}
+
+/// A value that the caller of an input posts keeps the network in order.
+pub fn posts_keep_networks_in_order<W>()
+    ensures { PostsKeep W }
+{}
+
+/// An event changes an input by one call of the network at most, so what is posted stays, but for a value that was posted to
+/// its target and is turned down.
+pub fn events_leave_what_is_posted<W>()
+    ensures calls { InputsChange W }
+    ensures posted { PostedListsStay W }
+{}
+
+/// What the caller of an input was told as accepted was taken over its link, each once and in order, as far as it went.
+pub fn accepted_was_taken<W>()
+    ensures { AcceptedWasTaken W }
+{}
+
+/// What was received at an exit is what its block gave over its link, each once and in order, and it gave at most one message
+/// more.
 pub fn received_was_given<W>()
     ensures { ReceivedWasGiven W }
 {}

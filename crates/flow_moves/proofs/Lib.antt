@@ -11,5 +11,6 @@ pub mod PassesHappen
 pub mod PassesPrepared
 pub mod PassesTell
 pub mod PlansRun
+pub mod PostsGoAlong
 pub mod SendsByKind
 pub mod WorksAtOnce

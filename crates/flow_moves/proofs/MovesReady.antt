@@ -36,14 +36,14 @@ use Rattle.flow_spread.proofs.StagesTell.{or_first, wanted_is}
 use Rattle.flow_block.specs.Block.{port_at}
 use Rattle.flow_block_law.specs.Copier.{Copier}
 use Rattle.flow_block_law.specs.NextCopies.{MayMoveCopy}
-use Rattle.flow_block.specs.Input.{InputState, InputCall}
-use Rattle.flow_block_law.specs.InputKeeps.{InputLaw, MayMoveInput}
+use Rattle.flow_input.specs.Input.{InputState, InputCall}
+use Rattle.flow_input.specs.InputKeeps.{InputLaw, MayMoveInput}
 use Rattle.flow_block_law.specs.NextMoves.{MayMoveIn, MayMoveOut, next_source}
 use Rattle.flow_block.specs.Node.{NodeState, in_view}
 use Rattle.flow_block_law.specs.NodeLaw.{NodeLaw}
 use Rattle.flow_block.specs.Planned.{in_place, out_place}
 use Rattle.flow_block_law.proofs.CopierHolds.{copies_lawful}
-use Rattle.flow_block_law.proofs.InputsInOrder.{inputs_keep}
+use Rattle.flow_input.proofs.InputsMove.{inputs_keep}
 use Rattle.flow_block_law.proofs.NextMoves.{next_moves_may}
 use Rattle.flow_core.specs.Events.{NetEvent, HasIds, is_of_source, source_peek, target_peek, peek_by}
 use Rattle.flow_core.specs.Keeps.{IsRun, NetKeeps}

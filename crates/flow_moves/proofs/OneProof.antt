@@ -21,7 +21,7 @@ use Rattle.flow_link.specs.Trace.{Run}
 use Rattle.flow_outlet.specs.Outlet.{OutletState, end_at}
 use Rattle.flow_spread.specs.Spread.{SpreadState, link_at}
 use Rattle.flow_block.specs.Block.{BlockState}
-use Rattle.flow_block.specs.Input.{InputState}
+use Rattle.flow_input.specs.Input.{InputState}
 use Rattle.flow_block.specs.Node.{NodeState}
 use Rattle.flow_block.specs.declared.planned.Route.{Route}
 use Rattle.flow_core.specs.Events.{NetEvent, LinkMay, HasIds, MayHappen, is_of_source}

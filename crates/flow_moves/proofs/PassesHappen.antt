@@ -27,7 +27,7 @@ use Rattle.flow_outlet.specs.Outlet.{stage_at as out_stage_at}
 use Rattle.flow_spread.specs.Spread.{stage_at as copy_stage_at}
 use Rattle.flow_block.specs.Block.{port_at}
 use Rattle.flow_block.specs.Copies.{CopyCall}
-use Rattle.flow_block.specs.Input.{InputState, InputCall, no_input, input_move, move_from, after_input}
+use Rattle.flow_input.specs.Input.{InputCall, InputState, after_input, input_move, is_turned_down, no_input, stands_at, takes_back}
 use Rattle.flow_block_law.specs.NextMoves.{next_in, next_source}
 use Rattle.flow_group.specs.Round.{round_move}
 use Rattle.flow_block.specs.Node.{NodeState, NodeCall, or_else, source_view}
@@ -200,7 +200,9 @@ module _ {W : Type 0} (layout : Layout W) (meaning : ℕ → Value → Result (L
         subst (λ (inputs : List InputState). place < length inputs) (sym (inputs_beside into line)) there in
         ap input_move (get_or-set_same (wanted into line).inputs place (look (input_at layout (wanted into line) b)) no_input here)
         ∙ ap (λ (inputs : List InputState). input_move (look (get_or inputs place no_input))) (inputs_beside into line)
-        ∙ ap (λ (stage : SourceStage). move_from (look old) (source_looks stage (Wanted i))) (out_kept old.stage i out)
+        ∙ ap (λ (stage : SourceStage). input_move
+        (cond (is_turned_down stage (Wanted i)) (takes_back old) (stands_at (source_looks stage (Wanted i)) old)))
+        (out_kept old.stage i out)
 
     -- a target with a message in the slot, or in hand
     opens_next : (into : LinkTarget) → (target_from layout net l into).stage ≡ TargetSeen.arrived i

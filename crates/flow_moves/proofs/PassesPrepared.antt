@@ -14,10 +14,10 @@ use Rattle.flow_intake.specs.Port.{PortState, fresh_port}
 use Rattle.flow_intake.specs.Calls.{prepared, wants, opens, looks as port_looks}
 use Rattle.flow_intake.specs.Receives.{takes_at_once}
 use Rattle.flow_block.specs.Block.{BlockState, port_at, with_port}
-use Rattle.flow_block.specs.Input.{InputState, no_input, next_id, next_value}
+use Rattle.flow_input.specs.Input.{InputState, no_input, next_id, next_value, input_sends}
 use Rattle.flow_block.specs.Node.{NodeState, given_next, with_block}
 use Rattle.flow_block_law.specs.NodeKeeps.{InAt, any_stage}
-use Rattle.flow_block.specs.Passes.{on_port, takes_hand, receives_on, input_sends}
+use Rattle.flow_block.specs.Passes.{on_port, takes_hand, receives_on}
 use Rattle.flow_block.proofs.PassesOfNodes.{with_twice}
 use Rattle.flow_block.specs.declared.planned.Route.{Route}
 use Rattle.flow_core.specs.Events.{with_node, with_line}

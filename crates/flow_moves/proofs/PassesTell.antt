@@ -12,13 +12,13 @@ use Rattle.flow_link.specs.declared.plan.LinkSource.{LinkSource}
 use Rattle.flow_link.specs.declared.plan.LinkSource.TheVariants.{Block, Input}
 use Rattle.flow_link.specs.declared.plan.LinkTarget.{LinkTarget}
 use Rattle.flow_link.specs.declared.plan.LinkTarget.TheVariants.{Port, Exit}
-use Rattle.flow_block.specs.Input.{InputState, InputCall, no_input, next_value, after_input}
+use Rattle.flow_input.specs.Input.{InputState, InputCall, no_input, next_value, after_input, input_sends}
 use Rattle.flow_block.specs.Node.{NodeState, NodeCall, given_next}
 use Rattle.flow_intake.specs.Receives.{takes_at_once}
 use Rattle.flow_group.specs.Round.{reserves}
 use Rattle.flow_block.specs.Block.{port_at}
 use Rattle.flow_block.proofs.PassesFreely.{by_calls, receives_by_calls}
-use Rattle.flow_block.specs.Passes.{takes_freely, receives_on, input_sends}
+use Rattle.flow_block.specs.Passes.{takes_freely, receives_on}
 use Rattle.flow_block.specs.declared.planned.Route.{Route}
 use Rattle.flow_core.specs.Events.{source_call, source_look, in_call, input_call, input_after}
 use Rattle.flow_core.specs.Events.{slot_after, with_node, with_line}

@@ -14,10 +14,10 @@ use Rattle.flow_outlet.specs.End.{is_free}
 use Rattle.flow_outlet.specs.Outlet.{OutletState, end_at, may_offer, prepares, offers}
 use Rattle.flow_spread.specs.Spread.{SpreadState, end_at as copy_end_at, link_at, stage_at}
 use Rattle.flow_block.specs.Block.{BlockState, port_at, with_port}
-use Rattle.flow_block.specs.Input.{InputState, next_id, next_value}
+use Rattle.flow_input.specs.Input.{InputState, next_id, next_value, input_sends}
 use Rattle.flow_block.specs.Copies.{CopyCall}
 use Rattle.flow_block.specs.Node.{NodeState, with_block, with_exits, copies_by}
-use Rattle.flow_block.specs.Passes.{sends_on, sends_ready, sends_copy, receives_on, input_sends}
+use Rattle.flow_block.specs.Passes.{sends_on, sends_ready, sends_copy, receives_on}
 use Rattle.flow_block.specs.declared.planned.Route.{Route}
 use Rattle.flow_core.specs.Events.{with_node}
 use Rattle.flow_core.specs.State.{NetState, node_at}

@@ -16,7 +16,7 @@ use Rattle.flow_outlet.specs.Outlet.{end_at}
 use Rattle.flow_spread.specs.Spread.{link_at}
 use Rattle.flow_block.specs.Block.{BlockState}
 use Rattle.flow_block.specs.Passes.{takes_freely}
-use Rattle.flow_block.specs.Input.{next_id}
+use Rattle.flow_input.specs.Input.{next_id}
 use Rattle.flow_block.specs.Routes.{route_of}
 use Rattle.flow_block.specs.declared.planned.Route.{Route}
 use Rattle.flow_core.specs.Events.{NetEvent, MayHappen, after}

@@ -16,8 +16,8 @@ use Rattle.flow_outlet.specs.Outlet.{OutletState, end_at, may_offer, may_give, i
 use Rattle.flow_spread.specs.Spread.{SpreadState, may_offer as may_offer_copy, may_give as may_give_copy, is_asked_by}
 use Rattle.flow_spread.specs.Spread as spread
 use Rattle.flow_block.specs.Block.{port_at}
-use Rattle.flow_block.specs.Input.{InputState, next_id, is_wanted}
-use Rattle.flow_block_law.specs.InputKeeps.{MayOfferNext}
+use Rattle.flow_input.specs.Input.{InputState, next_id, is_wanted}
+use Rattle.flow_input.specs.InputKeeps.{MayOfferNext}
 use Rattle.flow_block.specs.Node.{NodeState}
 use Rattle.flow_block_law.specs.NodeKeeps.{InAt, OutAt, MayHold, any_stage}
 use Rattle.flow_core.specs.Events.{is_of_source}

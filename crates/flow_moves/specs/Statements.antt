@@ -4,6 +4,7 @@ use Rattle.std.specs.Prelude.{◌≡◌, ℕ, ◌<◌, ◌≤◌, true, false, l
 use Rattle.flow_value.specs.declared.value.Value.{Value}
 use Rattle.flow_link.specs.declared.phase.Move.{Move}
 use Rattle.flow_link.specs.declared.phase.Phase.{Phase}
+use Rattle.flow_link.specs.declared.plan.LinkSource.TheVariants.{Input}
 use Rattle.flow_link.specs.Layout.{Layout}
 use Rattle.flow_link.specs.Phase.{phase_after}
 use Rattle.flow_link.specs.Plan.{block_in, link_in, has_work, is_write_once}
@@ -12,12 +13,12 @@ use Rattle.flow_block.specs.Jobs.{is_front_back, is_out}
 use Rattle.flow_block.specs.Peeks.{may_work, may_make, may_begin, may_end, may_complete, next_fault, may_finish}
 use Rattle.flow_block.specs.Planned.{block_makes}
 use Rattle.flow_block.specs.Routes.{source_place, target_place, route_of}
-use Rattle.flow_core.specs.Events.{NetEvent, LinkMay, HasIds, is_of_source, after}
+use Rattle.flow_core.specs.Events.{NetEvent, LinkMay, HasIds, is_of_source, after, after_post}
 use Rattle.flow_core.specs.Keeps.{NetKeeps}
 use Rattle.flow_core.specs.State.{NetState, node_at, line_at}
 use Rattle.flow_core.specs.Statements.{OfEachNet, IsStill}
 use Rattle.flow_moves.specs.Ready.{IsThere, IsReady}
-use Rattle.flow_moves.specs.Ways.{source_next, target_next, moved_along}
+use Rattle.flow_moves.specs.Ways.{source_next, target_next, moved_along, posted_along}
 
 -- a block would do nothing by itself
 pub record HasNothingToDo (block : BlockState) : Type 0 where
@@ -91,6 +92,13 @@ module _ (W : Type 0) where
       → phase_after (line_at net l).phase next ≡ Some phase
       → after layout meaning (NetEvent.at_link l next) net
       ≡ moved_along (block_makes layout meaning) (is_of_source next) l next phase (route_of layout l) net
+
+  -- and so does a value that the caller of an input posts
+  abbrev pub PostsGoAlong : Type 0
+  PostsGoAlong =
+      (layout : Layout W) (meaning : ℕ → Value → Result (List Value) ℕ) (net : NetState) (l b : ℕ) (value : Value)
+      → (link_in layout.links l).source ≡ Input b
+      → after_post layout meaning l b value net ≡ posted_along (block_makes layout meaning) l value (route_of layout l) net
 
   -- where nobody would do anything, nothing may happen
   abbrev pub NothingIsStill : Type 0

@@ -3,13 +3,14 @@ use Rattle.std.specs.Prelude.{ℕ, Bool, true, false, not, ◌&&◌, ltb, ◌^�
 use Rattle.flow_value.specs.declared.value.Value.{Value}
 use Rattle.flow_link.specs.declared.phase.Move.{Move}
 use Rattle.flow_link.specs.declared.phase.Phase.{Phase}
+use Rattle.flow_link.specs.declared.phase.Phase.TheVariants.{Posted}
 use Rattle.flow_link.specs.declared.plan.LinkSource.{LinkSource}
 use Rattle.flow_link.specs.declared.plan.LinkSource.TheVariants.{Block, Input}
 use Rattle.flow_link.specs.declared.plan.LinkTarget.{LinkTarget}
 use Rattle.flow_link.specs.declared.plan.LinkTarget.TheVariants.{Port, Exit}
 use Rattle.flow_outlet.specs.End.{is_free}
 use Rattle.flow_block.specs.declared.planned.Route.{Route}
-use Rattle.flow_block.specs.Input.{InputState, InputCall, no_input, input_move, after_input, next_value, next_id, has_next}
+use Rattle.flow_input.specs.Input.{InputState, InputCall, no_input, input_move, after_input, next_value, next_id, has_next}
 use Rattle.flow_block_law.specs.NextMoves.{next_in, next_source}
 use Rattle.flow_block.specs.Node.{NodeState, NodeCall, given_next}
 use Rattle.flow_exit.specs.Exit.{ExitState, ExitCall, fresh_exit, exit_move, exit_call, exit_after, after_exit}
@@ -91,6 +92,14 @@ module _ (makes : ℕ → Value → Result (List Value) ℕ) where
       source_looked phase route.source route.source_place
       (with_line l (line_moved l next phase route net)
       (target_moved next (line_at net l).slot route.target route.target_place net))
+
+  -- a value that the caller of an input posts over its link
+  abbrev pub posted_along : ℕ → Value → Route → NetState → NetState
+  posted_along l value route net =
+      let id = next_id (input_in net route.source_place) in
+      target_looked (Posted id) route.target route.target_place
+      (with_line l (record { phase = Posted id; slot = (line_at net l).slot })
+      (with_input_in route.source_place (after_input (InputCall.post value)) net))
 
   abbrev pub moved_along : Bool → ℕ → Move → Phase → Route → NetState → NetState
   moved_along true l next phase route net = moved_by_source l next phase route net

@@ -1,7 +1,7 @@
 //! A move of one end of a link, with all that stands ready for it.
 ghost use Rattle.std.specs.Prelude.{◌≡◌, ◌<◌, None, OnOk, OnErr, IfOk, Some};
 ghost use Rattle.flow_link.specs.Plan.{is_one_taker};
-ghost use Rattle.flow_block.specs.Input.{next_value};
+ghost use Rattle.flow_input.specs.Input.{next_value};
 ghost use Rattle.flow_block_law.specs.NextMoves.{next_source};
 ghost use Rattle.flow_block.specs.Node.{given_next};
 ghost use Rattle.flow_exit.specs.Exit.{exit_after, exit_call};
@@ -10,8 +10,9 @@ ghost use Rattle.flow_outlet.specs.Outlet.{head_of};
 ghost use Rattle.flow_moves.specs.Calls.{Calls, handed, left_in_slot};
 ghost use Rattle.flow_moves.specs.Ready.{OutIsReady, CopyIsReady, ExitIsReady, ExitEndIsReady, InIsReady, InputIsReady, exit_count};
 
-use flow_block::{Block, Input, Node};
+use flow_block::{Block, Node};
 use flow_exit::ExitEnd;
+use flow_input::Input;
 use flow_link::{Move, Phase, PortId};
 use flow_value::Parcel;
 use std::alloc::{AllocError, Global};

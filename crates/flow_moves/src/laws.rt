@@ -2,7 +2,7 @@
 //! it has the whole law.
 ghost use Rattle.flow_moves.specs.Passes.{PassesHappen};
 ghost use Rattle.flow_moves.specs.Statements.{BlocksArePlanned, LinksAreThere, MovesAreReady, MovesGoAlong};
-ghost use Rattle.flow_moves.specs.Statements.{NothingIsStill, SourcesMay, TargetsMay};
+ghost use Rattle.flow_moves.specs.Statements.{NothingIsStill, PostsGoAlong, SourcesMay, TargetsMay};
 
 /// Each link has its two ends at the places that its way names.
 pub fn links_are_there<W>()
@@ -28,6 +28,11 @@ pub fn moves_are_ready<W>()
 /// What a move changes is told by the link's way.
 pub fn moves_go_along_ways<W>()
     ensures { MovesGoAlong W }
+{}
+
+/// What a value that the caller of an input posts changes is told by the link's way.
+pub fn posts_go_along_ways<W>()
+    ensures { PostsGoAlong W }
 {}
 
 /// Where a message may go over a link in one call, each of its five events may happen in its turn.

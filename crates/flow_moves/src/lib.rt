@@ -6,6 +6,7 @@
 #![tactic(auto)]
 
 mod ends;
+mod entries;
 mod fresh;
 mod laws;
 mod own;
@@ -17,6 +18,6 @@ pub use ends::shares_out;
 pub use fresh::{exits_of, lines_of, nodes_of};
 pub use laws::{
     blocks_are_planned, links_are_there, moves_are_ready, moves_go_along_ways,
-    next_moves_may_happen, nothing_next_is_still, passes_may_happen,
+    next_moves_may_happen, nothing_next_is_still, passes_may_happen, posts_go_along_ways,
 };
 pub use parts::{Parts, is_of_source};

@@ -12,8 +12,9 @@ ghost use Rattle.flow_moves.specs.Ways.{source_moved, target_moved, source_looke
 ghost use Rattle.flow_moves.specs.Ways.{moved_by_source, moved_by_target};
 
 use crate::ends::{look_exit, move_exit, move_exit_end, move_in, move_input, next_of_exit};
-use flow_block::{Input, Node, Route};
+use flow_block::{Node, Route};
 use flow_exit::ExitEnd;
+use flow_input::Input;
 use flow_link::{LinkId, LinkSource, LinkState, LinkTarget, Move, Phase, SourceStage};
 use flow_value::{Parcel, Value};
 use std::alloc::{AllocError, Global};
@@ -86,6 +87,13 @@ impl Parts {
         ensures { result.now ≡ input_in self.now place }
     {
         &self.inputs[place]
+    }
+
+    /// The input at this place among all inputs, if there is one.
+    pub fn find_input(&self, place: usize) -> Option<&Input>
+        ensures { option_map (λ input. input.now) result ≡ first_of (drop place self.now.inputs) }
+    {
+        self.inputs.get(place)
     }
 
     /// The exit at this place among all exits.

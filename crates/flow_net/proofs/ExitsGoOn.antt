@@ -24,12 +24,12 @@ use Rattle.flow_link.specs.Layout.{Layout}
 use Rattle.flow_link.specs.Plan.{link_in, begins_at}
 use Rattle.flow_link.specs.Planned.{layout_of}
 use Rattle.flow_link.specs.Trace.{gave_over, marks_of}
-use Rattle.flow_lists.specs.Lists.{is_front}
 use Rattle.flow_block.specs.Planned.{exit_place, is_exit, leads_out}
 use Rattle.flow_exit.specs.Exit.{CallerState, ExitCall, ExitState, after_exit, caller_of, fresh_exit, is_callers, outcome_at, over_by}
 use Rattle.flow_core.specs.Events.{NetEvent, Enabled, after}
 use Rattle.flow_core.specs.Keeps.{IsRun, NetKeeps}
 use Rattle.flow_core.specs.State.{NetState, callers_in, exit_at, run_of_net}
+use Rattle.flow_core.specs.Statements.{IsReceivedOf}
 use Rattle.flow_core.proofs.ExitsEnded.{ended_exits_stay}
 use Rattle.flow_core.proofs.NetworksInOrder.{all_exit_calls_keep, all_received_was_given}
 use Rattle.flow_core.proofs.PlacesOfLinks.{leads_there}
@@ -41,6 +41,9 @@ use Rattle.flow_moves.specs.Ways.{with_exit_in}
 use Rattle.flow_net.specs.Happened.{Happened}
 use Rattle.flow_net.specs.Sights.{is_exit_of}
 use Rattle.flow_net.proofs.KeptOn.{kept_on}
+
+received_prop : (received given : List Value) → IsProp (IsReceivedOf received given)
+received_prop received given = hlevel (Bool-set, le_prop)
 
 -- outcomes are told apart
 Outcomes-set : IsSet (Option Outcome)
@@ -116,9 +119,9 @@ module _ {W : Type 0} (layout : Layout W) (meaning : ℕ → Value → Result (L
 
       -- what was received was given
       pub received_given : (b : ℕ) → (link_in layout.links l).source ≡ Block b
-          → is_front (mine net).received (gave_over l (marks_of (run_of_net layout meaning net) b)) ≡ true
+          → IsReceivedOf (mine net).received (gave_over l (marks_of (run_of_net layout meaning net) b))
       received_given b from =
-          ∥∥₁_elim kept (Bool-set _ _) (λ keeps. all_received_was_given W layout meaning runs net l b keeps there from to)
+          ∥∥₁_elim kept (received_prop (mine net).received (gave_over l (marks_of (run_of_net layout meaning net) b))) (λ keeps. all_received_was_given W layout meaning runs net l b keeps there from to)
 
 -- the ends of an exit's link
 module _ {W : Type 0} (layout : Layout W) (b l : ℕ) (own : is_exit_of b (link_in layout.links l) ≡ true) where
@@ -162,7 +165,7 @@ module _ {W : Type 0} (works : W → Value → Result (List Value) WorkFault) (p
 
   -- what was received there was given
   pub was_given : (net : NetState) → ∥ NetKeeps layout meaning net ∥₁
-      → is_front (exit_then net).received (gave_over l (marks_of (run_of_net layout meaning net) b)) ≡ true
+      → IsReceivedOf (exit_then net).received (gave_over l (marks_of (run_of_net layout meaning net) b))
   was_given net kept = received_given layout meaning runs l there to net kept b (from_block layout b l own)
 
   -- a call of its caller

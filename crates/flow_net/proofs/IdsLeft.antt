@@ -20,8 +20,8 @@ use Rattle.flow_outlet.specs.End.{is_free}
 use Rattle.flow_outlet.specs.Outlet.{is_empty}
 use Rattle.flow_outlet.proofs.OffersInOrder.{offers_in_order}
 use Rattle.flow_block_law.specs.Copier.{Copier}
-use Rattle.flow_block.specs.Input.{InputState, has_next, next_id, input_move, move_from}
-use Rattle.flow_block_law.specs.InputKeeps.{MayMoveInput}
+use Rattle.flow_input.specs.Input.{InputState, has_next, next_id, input_move, move_from}
+use Rattle.flow_input.specs.InputKeeps.{MayMoveInput}
 use Rattle.flow_block_law.specs.NextCopies.{MayMoveCopy}
 use Rattle.flow_block_law.specs.NextMoves.{MayMoveOut, next_source}
 use Rattle.flow_block.specs.Node.{NodeState}
@@ -29,7 +29,7 @@ use Rattle.flow_block_law.specs.NodeLaw.{NodeLaw}
 use Rattle.flow_block.specs.Planned.{out_place}
 use Rattle.flow_block.specs.Routes.{source_place, target_place}
 use Rattle.flow_block_law.proofs.CopierHolds.{copies_lawful}
-use Rattle.flow_block_law.proofs.InputsInOrder.{inputs_keep}
+use Rattle.flow_input.proofs.InputsMove.{inputs_keep}
 use Rattle.flow_block_law.proofs.NextMoves.{next_moves_may}
 use Rattle.flow_core.specs.Events.{NetEvent, LinkMay, HasIds, is_of_source, source_peek, target_peek, peek_by}
 use Rattle.flow_core.specs.Keeps.{IsRun, NetKeeps}

@@ -1,5 +1,5 @@
 -- A network that merely is in order goes on being so by any number of events, and what is posted to it stays.
-use Rattle.std.proofs.Common.{◌≡◌, ℕ, zero, suc, List, [], ◌∷◌, map, Result, Ok, Err, IfOk, refl, ap, sym, subst, ◌∙◌}
+use Rattle.std.proofs.Common.{◌≡◌, ℕ, zero, suc, true, List, [], ◌∷◌, map, Result, Ok, Err, IfOk, refl, ap, sym, subst}
 use Rattle.flow_value.specs.declared.value.Value.{Value}
 use Rattle.flow_value.specs.declared.work.WorkFault.{WorkFault}
 use Rattle.flow_link.specs.declared.plan.Plan.{Plan}
@@ -8,12 +8,13 @@ use Rattle.flow_link.specs.Layout.{Layout}
 use Rattle.flow_link.specs.Planned.{layout_of}
 use Rattle.flow_lawful.specs.Quiet.{Quiet as IsQuiet}
 use Rattle.flow_link.specs.Trace.{InputTrace}
-use Rattle.flow_block.specs.Input.{fresh_input, input_trace}
+use Rattle.flow_input.specs.Input.{fresh_input, input_trace}
 use Rattle.flow_core.specs.AtRest.{AtRest}
+use Rattle.flow_core.specs.Inputs.{InputsStay, none_posted}
 use Rattle.flow_core.specs.Keeps.{IsRun, NetKeeps}
 use Rattle.flow_core.specs.State.{NetState}
 use Rattle.flow_core.specs.Statements.{IsStill}
-use Rattle.flow_core.proofs.SchedulesGoWell.{posted_stays}
+use Rattle.flow_core.proofs.InputsChange.{all_further, all_same, event_stays, same_where_none_posted}
 use Rattle.flow_core.proofs.StillRests.{at_rest_merely}
 use Rattle.flow_exec.specs.Works.{works_of}
 use Rattle.flow_moves.proofs.MerelyKept.{kept_after, lawful_merely, quiet_merely}
@@ -33,13 +34,15 @@ module _ {W : Type 0} (layout : Layout W) (meaning : ℕ → Value → Result (L
       subst (λ (net : NetState). ∥ NetKeeps layout meaning net ∥₁) (sym last.new_is)
       (kept_after layout meaning mid (kept_on count old mid before kept) runs last.event last.may)
 
-  pub posted_on : (count : ℕ) (old new : NetState) → Happened layout meaning count old new
+  pub inputs_on : (count : ℕ) (old new : NetState) → Happened layout meaning count old new → InputsStay old new
+  inputs_on zero old new same = subst (InputsStay old) (sym same) (all_same old)
+  inputs_on (suc count) old new (mid, (before, last)) =
+      all_further old mid new (inputs_on count old mid before)
+      (subst (InputsStay mid) (sym last.new_is) (event_stays layout meaning mid last.event))
+
+  pub posted_on : (count : ℕ) (old new : NetState) → Happened layout meaning count old new → none_posted old ≡ true
       → map input_trace new.inputs ≡ map input_trace old.inputs
-  posted_on zero old new same = ap (λ (net : NetState). map input_trace net.inputs) same
-  posted_on (suc count) old new (mid, (before, last)) =
-      ap (λ (net : NetState). map input_trace net.inputs) last.new_is
-      ∙ posted_stays layout meaning last.event mid
-      ∙ posted_on count old mid before
+  posted_on count old new happened none = same_where_none_posted old new (inputs_on count old new happened) none
 
   -- an answer that it is quiet
   pub still_if_settled : (limit : ℕ) (old new : NetState) (result : Result Settled NetFault)

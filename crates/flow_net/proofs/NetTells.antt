@@ -20,7 +20,7 @@ use Rattle.flow_link.specs.Trace.{Run, BlockTrace, InputTrace, is_done}
 use Rattle.flow_link.specs.Trace.{trace_of, marks_of, left_at, held_at, input_of}
 use Rattle.flow_intake.specs.Port.{PortState, fresh_port}
 use Rattle.flow_block.specs.Block.{port_at}
-use Rattle.flow_block.specs.Input.{no_input, input_trace}
+use Rattle.flow_input.specs.Input.{no_input, input_trace}
 use Rattle.flow_block.specs.Node.{left_in, node_trace}
 use Rattle.flow_block_law.specs.NodeLaw.{outcome_in, NodeLaw}
 use Rattle.flow_block.specs.Planned.{input_place}

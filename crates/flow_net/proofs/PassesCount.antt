@@ -16,7 +16,7 @@ use Rattle.flow_link.specs.Phase.{phase_after}
 use Rattle.flow_link.specs.Plan.{link_in, is_one_taker}
 use Rattle.flow_outlet.specs.Outlet.{OutletState, end_at, end_of, free_move, move_at, stage_at}
 use Rattle.flow_spread.specs.Spread.{SpreadState, link_at, stage_at as copy_stage_at, move_at as copy_move_at, free_move as free_copy_move}
-use Rattle.flow_block.specs.Input.{InputState, move_from, end_move, end_by, has_next, next_id}
+use Rattle.flow_input.specs.Input.{InputState, move_from, end_move, end_by, has_next, next_id}
 use Rattle.flow_block_law.specs.NextMoves.{next_source}
 use Rattle.flow_block.specs.Node.{NodeState}
 use Rattle.flow_block.specs.Peeks.{is_held_up, is_copy_held_up}

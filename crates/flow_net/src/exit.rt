@@ -211,14 +211,15 @@ impl<W: Runs> NetExit<W> {
 
 impl<W: Runs> NetExit<W> {
     ghost use Rattle.flow_link.specs.Trace.{gave_over, marks_of};
-    ghost use Rattle.flow_lists.specs.Lists.{is_front};
+    ghost use Rattle.flow_core.specs.Statements.{IsReceivedOf};
     ghost use Rattle.flow_net.specs.Exits.{exit_block, exit_link, exit_of, exit_run};
 
-    /// The values that were received there, in order: what the block gave over the exit, each once, as far as it went.
+    /// The values that were received there, in order: what the block gave over the exit, each once, as far as it went. It gave at
+    /// most one message more.
     pub fn received(&self) -> &[Value]
         ensures received { result.now ≡ (exit_of self.now).received }
-        ensures given { is_front result.now (gave_over (exit_link self.now) (marks_of (exit_run W.meaning self.now)
-            (exit_block self.now))) ≡ true }
+        ensures given { IsReceivedOf result.now (gave_over (exit_link self.now) (marks_of (exit_run W.meaning self.now)
+            (exit_block self.now))) }
     {
         self.engine.parts.exit(self.place).received()
     }

@@ -38,6 +38,7 @@ impl<W: Runs> Net<W> {
     ghost use Rattle.flow_link.specs.Trace.{block_of, input_of, marks_of, held_at, left_at, trace_of};
     ghost use Rattle.flow_link.specs.Plan.{port_count};
     ghost use Rattle.flow_core.specs.AtRest.{AtRest};
+    ghost use Rattle.flow_core.specs.Inputs.{InputsStay, none_posted};
     ghost use Rattle.flow_net.specs.Events.{Answers, IsOfOwnJob};
     ghost use Rattle.flow_net.specs.Net.{NetGoesOn, NetIsStill, NetMayHappen, NetNeedsId, NetRefuses, NetSettles, NetWhyNot};
     ghost use Rattle.flow_net.specs.Net.{layout_in, net_after, parts_of, run_of};
@@ -56,7 +57,9 @@ impl<W: Runs> Net<W> {
         ensures at_rest { result ≡ Ok Settled.Quiet → AtRest (layout_in self.new) (parts_of self.new) }
         ensures used_up { result ≡ Err Ids → NetNeedsId W.meaning self.new }
         ensures never { result ≢ Err NotEnabled }
-        ensures same_inputs { (run_of W.meaning self.new).trace.inputs ≡ (run_of W.meaning self.old).trace.inputs }
+        ensures inputs_stay { InputsStay (parts_of self.old) (parts_of self.new) }
+        ensures same_inputs { none_posted (parts_of self.old) ≡ true → (run_of W.meaning self.new).trace.inputs ≡
+            (run_of W.meaning self.old).trace.inputs }
     {
         self.engine.settle(alloc, limit)
     }
@@ -78,7 +81,9 @@ impl<W: Runs> Net<W> {
         ensures why { IfErr result (λ refused. NetRefuses W.eq W.meaning self.old event refused.1) }
         ensures back { IfErr result (λ refused. refused.0 ≡ event) }
         ensures lawful { Lawful (run_of W.meaning self.new) }
-        ensures same_inputs { (run_of W.meaning self.new).trace.inputs ≡ (run_of W.meaning self.old).trace.inputs }
+        ensures inputs_stay { InputsStay (parts_of self.old) (parts_of self.new) }
+        ensures same_inputs { none_posted (parts_of self.old) ≡ true → (run_of W.meaning self.new).trace.inputs ≡
+            (run_of W.meaning self.old).trace.inputs }
     {
         match due_of(&event) {
             Some(due) => self.step(alloc, due, event),
@@ -102,7 +107,9 @@ impl<W: Runs> Net<W> {
         ensures why { IfErr result (λ refused. NetRefuses W.eq W.meaning self.old event refused.1) }
         ensures back { IfErr result (λ refused. refused.0 ≡ event) }
         ensures lawful { Lawful (run_of W.meaning self.new) }
-        ensures same_inputs { (run_of W.meaning self.new).trace.inputs ≡ (run_of W.meaning self.old).trace.inputs }
+        ensures inputs_stay { InputsStay (parts_of self.old) (parts_of self.new) }
+        ensures same_inputs { none_posted (parts_of self.old) ≡ true → (run_of W.meaning self.new).trace.inputs ≡
+            (run_of W.meaning self.old).trace.inputs }
     {
         match event {
             Event::Begin(number) => match self.engine.begin_job(alloc, number) {
@@ -134,7 +141,9 @@ impl<W: Runs> Net<W> {
         ensures why { IfErr result (λ refused. NetWhyNot W.meaning self.old (event_of due) refused.1) }
         ensures back { IfErr result (λ refused. refused.0 ≡ event) }
         ensures lawful { Lawful (run_of W.meaning self.new) }
-        ensures same_inputs { (run_of W.meaning self.new).trace.inputs ≡ (run_of W.meaning self.old).trace.inputs }
+        ensures inputs_stay { InputsStay (parts_of self.old) (parts_of self.new) }
+        ensures same_inputs { none_posted (parts_of self.old) ≡ true → (run_of W.meaning self.new).trace.inputs ≡
+            (run_of W.meaning self.old).trace.inputs }
     {
         match self.engine.event(alloc, &due) {
             Ok(()) => Ok(Stepped::Moved),
@@ -216,10 +225,11 @@ impl<W: Runs> Net<W> {
 
 // What sends works to other threads.
 impl<W: Work> Net<W> {
-    ghost use Rattle.std.specs.Prelude.{◌≡◌, ◌≢◌, IfOk, Ok, Err};
+    ghost use Rattle.std.specs.Prelude.{◌≡◌, ◌≢◌, true, IfOk, Ok, Err};
     ghost use Rattle.flow_lawful.specs.Lawful.{Lawful};
     ghost use Rattle.flow_lawful.specs.Quiet.{Quiet};
     ghost use Rattle.flow_core.specs.AtRest.{AtRest};
+    ghost use Rattle.flow_core.specs.Inputs.{InputsStay, none_posted};
     ghost use Rattle.flow_net.specs.Net.{NetGoesOn, NetNeedsId, NetSettles, layout_in, parts_of, run_of};
     ghost use Rattle.flow_net.specs.declared.fault.NetFault.TheVariants.{NotEnabled, Ids};
     ghost use Rattle.flow_net.specs.declared.settled.Settled.TheVariants as Settled;
@@ -252,7 +262,9 @@ impl<W: Work> Net<W> {
         ensures at_rest { result ≡ Ok Settled.Quiet → AtRest (layout_in self.new) (parts_of self.new) }
         ensures used_up { result ≡ Err Ids → NetNeedsId W.meaning self.new }
         ensures never { result ≢ Err NotEnabled }
-        ensures same_inputs { (run_of W.meaning self.new).trace.inputs ≡ (run_of W.meaning self.old).trace.inputs }
+        ensures inputs_stay { InputsStay (parts_of self.old) (parts_of self.new) }
+        ensures same_inputs { none_posted (parts_of self.old) ≡ true → (run_of W.meaning self.new).trace.inputs ≡
+            (run_of W.meaning self.old).trace.inputs }
     {
         self.engine.settle_with(rt, alloc, workers, limit)
     }

@@ -11,7 +11,9 @@ use Rattle.flow_link.specs.declared.trace.Ending.TheVariants.{Complete}
 use Rattle.flow_link.specs.Layout.{Layout}
 use Rattle.flow_link.specs.Trace.{InputTrace}
 use Rattle.flow_link.specs.declared.trace.Ending.{Ending}
-use Rattle.flow_core.specs.State.{NetState}
+use Rattle.flow_core.specs.Inputs.{none_posted}
+use Rattle.flow_core.specs.State.{NetState, fresh_net}
+use Rattle.flow_core.proofs.InputsChange.{fresh_none_posted}
 use Rattle.flow_exec.specs.Works.{works_of}
 use Rattle.flow_net.specs.Net.{run_with}
 use Rattle.flow_link.specs.Posted.{input_of, is_numbered_ending, ends_by_number}
@@ -74,6 +76,12 @@ posts_to_inputs records layout start posted made values endings =
       values = subst (λ (v : List (List Value)). IfSome records (λ bytes. PostAll (input_names layout.blocks) bytes v)) (sym given) values;
       endings = ap (map (λ (input : InputTrace). input.ending)) made ∙ given_endings posted ∙ endings;
     }
+
+-- in a network that begins, no value is posted to a target that has not answered
+pub none_at_first : {text : List ℕ} {records : Option (List ℕ)} {layout : Layout Steps} {start : NetState} → Begins text records layout start
+    → none_posted start ≡ true
+none_at_first {layout = layout} {start = start} begins = subst (λ (net : NetState). none_posted net ≡ true) (sym begins.fresh)
+    (fresh_none_posted (run_with meaning_of layout start).trace.inputs)
 
 -- as long as no input changes, they are given the same
 pub posted_as : (records : Option (List ℕ)) (layout : Layout Steps) (start now : NetState) → (run_with meaning_of layout now).trace.inputs ≡ (run_with meaning_of layout start).trace.inputs

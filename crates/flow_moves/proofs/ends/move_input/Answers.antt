@@ -1,6 +1,6 @@
 use Rattle.std.proofs.Common.{ap, subst, ◌∙◌, is_some}
 use Rattle.flow_link.specs.declared.phase.Move.{Move}
-use Rattle.flow_block.specs.Input.{InputState}
+use Rattle.flow_input.specs.Input.{InputState}
 use Rattle.flow_moves.specs.Ready.{InputIsReady}
 use Rattle.flow_moves.proofs.MovesPrepared.{next_is_there}
 use Rattle.flow_moves.proofs.ends.move_input.Goals as goal

@@ -1,6 +1,6 @@
 use Rattle.std.proofs.Common.{◌≡◌, ◌≤◌, ◌++◌, length, map, vec_len, vec_capacity}
 use Rattle.std.specs.Vec.Iter.{into_iter_items}
-use Rattle.flow_block.specs.Input.{fresh_input}
+use Rattle.flow_input.specs.Input.{fresh_input}
 use Rattle.flow_link.specs.Posted.{input_of}
 use Rattle.flow_net.proofs.make.fill_inputs.Given as goal
 

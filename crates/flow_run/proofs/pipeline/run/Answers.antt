@@ -1,7 +1,7 @@
 use Rattle.std.proofs.Common.{ap, refl}
 use Rattle.std.proofs.lemmas.Result.{err_from_is_err_and}
 use Rattle.flow_net.specs.Net.{layout_in, parts_of}
-use Rattle.flow_run.proofs.InputsAsPosted.{answered, failing, begins_as, posted_as, settles_as, goes_on_as, no_end, no_report}
+use Rattle.flow_run.proofs.InputsAsPosted.{answered, failing, begins_as, posted_as, settles_as, goes_on_as, no_end, no_report, none_at_first}
 use Rattle.flow_run.proofs.pipeline.run.Goals as goal
 
 pub returns-clause-reported : goal.returns-clause-reported
@@ -15,7 +15,8 @@ returns-clause-reported g c =
       now = parts_of net;
       begins = begins;
       settles = settles_as same_plan c.in-Ok.ensures.settled;
-      posted = posted_as (g.R.Read.remaining c.args.reader) (layout_in net) (parts_of c.in_ok-net.net) (parts_of net) c.in-Ok.ensures.same_inputs begins.posted;
+      posted = posted_as (g.R.Read.remaining c.args.reader) (layout_in net) (parts_of c.in_ok-net.net) (parts_of net)
+          (c.in-Ok.ensures.same_inputs (none_at_first begins)) begins.posted;
       written = c.in_ok-write_report.ensures.written;
       lawful = c.in-Ok.ensures.lawful;
       quiet = λ is_quiet. c.in-Ok.ensures.quiet (ap answered is_quiet);

@@ -1,7 +1,7 @@
 use Rattle.std.proofs.Common.{◌≡◌, true, List, ap, subst, sym, ◌∙◌}
 use Rattle.flow_value.specs.declared.value.Value.{Value}
 use Rattle.flow_link.specs.Trace.{gave_over, marks_of}
-use Rattle.flow_lists.specs.Lists.{is_front}
+use Rattle.flow_core.specs.Statements.{IsReceivedOf}
 use Rattle.flow_exit.specs.Exit.{ExitState}
 use Rattle.flow_moves.specs.Ways.{exit_in}
 use Rattle.flow_net.specs.Exits.{exit_run}
@@ -21,5 +21,5 @@ returns-clause-given g c =
     port.engine.parts port.kept in
     let same = c.received.ensures ∙ ap (λ (exit : ExitState). exit.received)
     (c.exit.ensures ∙ ap (exit_in port.engine.parts) port.placed) in
-    subst (λ (received : List Value). is_front received
-    (gave_over port.link (marks_of (exit_run g.W.Runs.meaning port) port.block)) ≡ true) (sym same) given
+    subst (λ (received : List Value). IsReceivedOf received
+    (gave_over port.link (marks_of (exit_run g.W.Runs.meaning port) port.block))) (sym same) given

@@ -2,7 +2,7 @@ use Rattle.std.proofs.Common.{◌≡◌, map, refl, ap, sym, subst, ◌∙◌}
 use Rattle.std.proofs.lemmas.List.{length-map}
 use Rattle.std.proofs.lemmas.Grind.{merely}
 use Rattle.flow_link.specs.Planned.{layout_of}
-use Rattle.flow_block.specs.Input.{input_trace}
+use Rattle.flow_input.specs.Input.{input_trace}
 use Rattle.flow_core.specs.Keeps.{NetKeeps}
 use Rattle.flow_core.specs.State.{NetState, fresh_net}
 use Rattle.flow_core.proofs.NetworksInOrder.{fresh_nets_keep}

@@ -1,7 +1,7 @@
 use Rattle.flow_link.specs.Planned.{layout_of}
 use Rattle.flow_exec.specs.Works.{works_of}
 use Rattle.flow_moves.proofs.PlansRun.{plan_runs}
-use Rattle.flow_net.proofs.KeptOn.{kept_by_plan, lawful_by_plan, quiet_by_plan, rests_by_plan, posted_on, still_if_settled}
+use Rattle.flow_net.proofs.KeptOn.{kept_by_plan, lawful_by_plan, quiet_by_plan, rests_by_plan, inputs_on, posted_on, still_if_settled}
 use Rattle.flow_net.proofs.net.Net.settle_with.Goals as goal
 
 pub invariant_of-self : goal.invariant_of-self
@@ -38,4 +38,10 @@ pub returns-clause-same_inputs : goal.returns-clause-same_inputs
 returns-clause-same_inputs g c =
     let start = c.args.self.now.engine in
     posted_on (layout_of start.plan) (works_of g.W.Work.meaning (layout_of start.plan)) (plan_runs start.plan)
+    c.settle_with.ensures.goes_on.count start.parts c.settle_with.new.self.parts c.settle_with.ensures.goes_on.happened
+
+pub returns-clause-inputs_stay : goal.returns-clause-inputs_stay
+returns-clause-inputs_stay g c =
+    let start = c.args.self.now.engine in
+    inputs_on (layout_of start.plan) (works_of g.W.Work.meaning (layout_of start.plan)) (plan_runs start.plan)
     c.settle_with.ensures.goes_on.count start.parts c.settle_with.new.self.parts c.settle_with.ensures.goes_on.happened

@@ -10,7 +10,7 @@ use Rattle.flow_net.specs.declared.event.Stepped.TheVariants.{Began}
 use Rattle.flow_net.proofs.EventsCount.{one_event_at_most}
 use Rattle.flow_net.proofs.EventsRefused.{result_refused}
 use Rattle.flow_moves.proofs.PlansRun.{plan_runs}
-use Rattle.flow_net.proofs.KeptOn.{kept_by_plan, lawful_by_plan, posted_on}
+use Rattle.flow_net.proofs.KeptOn.{kept_by_plan, lawful_by_plan, inputs_on, posted_on}
 use Rattle.flow_net.proofs.net.Net.step_job.Goals as goal
 
 pub invariant_of-self : goal.invariant_of-self
@@ -131,3 +131,39 @@ returns-in-Ok-end_job-clause-own g c =
     let start = c.args.self.now.engine in
     subst (λ (event : Event _ _ _). IsOfOwnJob g.W.PartialEq.eq (layout_of start.plan) start.parts event)
     (sym c.in-End.is) c.in-Ok-end_job.ensures.own
+
+pub returns-in-Ok-clause-inputs_stay : goal.returns-in-Ok-clause-inputs_stay
+returns-in-Ok-clause-inputs_stay g c =
+    let start = c.args.self.now.engine in
+    let layout = layout_of start.plan in
+    let meaning = works_of g.W.Runs.meaning layout in
+    let on = one_event_at_most layout meaning c.begin_job.result (NetEvent.begin c.in-Begin.number)
+    start.parts c.begin_job.new.self.parts c.begin_job.ensures.may c.begin_job.ensures.done c.begin_job.ensures.kept in
+    inputs_on layout meaning (plan_runs start.plan) on.count start.parts c.begin_job.new.self.parts on.happened
+
+pub returns-in-Err-clause-inputs_stay : goal.returns-in-Err-clause-inputs_stay
+returns-in-Err-clause-inputs_stay g c =
+    let start = c.args.self.now.engine in
+    let layout = layout_of start.plan in
+    let meaning = works_of g.W.Runs.meaning layout in
+    let on = one_event_at_most layout meaning c.begin_job.result (NetEvent.begin c.in-Begin.number)
+    start.parts c.begin_job.new.self.parts c.begin_job.ensures.may c.begin_job.ensures.done c.begin_job.ensures.kept in
+    inputs_on layout meaning (plan_runs start.plan) on.count start.parts c.begin_job.new.self.parts on.happened
+
+pub returns-in-Ok-end_job-clause-inputs_stay : goal.returns-in-Ok-end_job-clause-inputs_stay
+returns-in-Ok-end_job-clause-inputs_stay g c =
+    let start = c.args.self.now.engine in
+    let layout = layout_of start.plan in
+    let meaning = works_of g.W.Runs.meaning layout in
+    let on = one_event_at_most layout meaning c.end_job.result (NetEvent.end_job c.in-End.number (ticket_in (job_in c.in-End.done)))
+    start.parts c.end_job.new.self.parts c.end_job.ensures.may c.end_job.ensures.done c.end_job.ensures.kept in
+    inputs_on layout meaning (plan_runs start.plan) on.count start.parts c.end_job.new.self.parts on.happened
+
+pub returns-in-Err-end_job-clause-inputs_stay : goal.returns-in-Err-end_job-clause-inputs_stay
+returns-in-Err-end_job-clause-inputs_stay g c =
+    let start = c.args.self.now.engine in
+    let layout = layout_of start.plan in
+    let meaning = works_of g.W.Runs.meaning layout in
+    let on = one_event_at_most layout meaning c.end_job.result (NetEvent.end_job c.in-End.number (ticket_in (job_in c.in-End.done)))
+    start.parts c.end_job.new.self.parts c.end_job.ensures.may c.end_job.ensures.done c.end_job.ensures.kept in
+    inputs_on layout meaning (plan_runs start.plan) on.count start.parts c.end_job.new.self.parts on.happened

@@ -18,8 +18,8 @@ use Rattle.flow_link.specs.Trace.{InputTrace, Run, input_of}
 use Rattle.flow_link.specs.Views as views
 use Rattle.flow_lists.proofs.ListTests.{front_append}
 use Rattle.flow_outlet.specs.End.{id_of}
-use Rattle.flow_block.specs.Input.{InputState, has_next, end_by, end_move, move_from, input_move}
-use Rattle.flow_block_law.specs.InputKeeps.{InputLaw, IsInputOf, InputsAreParts}
+use Rattle.flow_input.specs.Input.{InputState, has_next, end_by, end_move, move_from, input_move}
+use Rattle.flow_input.specs.InputKeeps.{InputLaw, IsInputOf, InputsAreParts}
 use Rattle.flow_block_law.specs.NodeLaw.{is_kept}
 use Rattle.flow_block_law.specs.NodeRests.{rests_out, is_asked}
 use Rattle.flow_block_law.proofs.EndsTell.{ended_stage, free_back}

@@ -1,11 +1,10 @@
-//! The values that are posted to a block from outside, given in order over one link.
-ghost use Rattle.std.specs.Prelude.{◌≡◌, ◌<◌, ◌^◌, ◌&&◌, true, not, ltb, cond, drop, is_some, Some, None};
+//! The values that are posted to a block from outside, given in order over one link: the link's side.
+ghost use Rattle.std.specs.Prelude.{◌≡◌, ◌<◌, ◌^◌, ◌&&◌, not, ltb, cond, drop, is_some, true, Some, None};
 ghost use Rattle.std.specs.Prelude.{OnOk, OnErr};
 ghost use Rattle.std.specs.Option.{option_copied};
-ghost use Rattle.flow_link.specs.declared.stage.SourceStage.TheVariants.{Free};
 ghost use Rattle.flow_intake.specs.Calls.{first_of};
 ghost use Rattle.flow_outlet.specs.End.{is_free};
-ghost use Rattle.flow_block.specs.Input.{InputCall, after_input, input_move, next_value, next_id, has_next, end_by, is_wanted};
+ghost use Rattle.flow_input.specs.Input.{InputCall, after_input, end_by, fresh_input, has_next, input_move, input_sends, is_wanted, next_id, next_value, takes_back};
 
 use flow_link::{Ending, LinkEnd, Move, Phase, SourceStage};
 use flow_value::{MAX_ID, MessageHeader, Parcel, Value};
@@ -17,13 +16,20 @@ use std::marker::Model;
 /// Contracts see an `InputState`.
 #[derive(Drop)]
 pub struct Input {
-    posted: Vec<Value>,
+    pub(crate) posted: Vec<Value>,
     /// How many of them it gave.
     pub(crate) sent: usize,
-    ending: Ending,
-    stage: SourceStage,
+    pub(crate) ending: Ending,
+    pub(crate) stage: SourceStage,
     /// The parcel of the next one.
     pub(crate) parcel: Option<Parcel>,
+    // What its caller is to be told.
+    /// How many of those that were taken were told as accepted.
+    pub(crate) told: usize,
+    /// A value that goes back to the caller.
+    pub(crate) back: Option<Value>,
+    /// What is begun is to be taken at once.
+    pub(crate) at_once: bool,
 }
 
 impl Model for Input {
@@ -32,7 +38,7 @@ impl Model for Input {
     ghost use Rattle.std.specs.Option.{ForSome};
     ghost use Rattle.flow_value.specs.contracts.value.Value as content;
     ghost use Rattle.flow_intake.specs.Calls.{first_of};
-    ghost use Rattle.flow_block.specs.Input.{InputState};
+    ghost use Rattle.flow_input.specs.Input.{InputState};
 
     ghost Value = { InputState };
 
@@ -44,6 +50,9 @@ impl Model for Input {
       ending = i.ending;
       stage = i.stage;
       parcel = i.parcel;
+      told = i.told;
+      back = i.back;
+      at_once = i.at_once;
     } };
 
     ghost invariant = { λ i. (i.sent ≤ length i.posted.items) ×
@@ -53,7 +62,7 @@ impl Model for Input {
 impl Input {
     /// An input with these values, which ends so when they are all given.
     pub fn new(posted: Vec<Value>, ending: Ending) -> Input
-        ensures { result ≡ record { posted = posted.items; sent = 0; ending = ending; stage = Free; parcel = None } }
+        ensures { result ≡ fresh_input (record { posted = posted.items; ending = ending }) }
     {
         Input {
             posted,
@@ -61,6 +70,9 @@ impl Input {
             ending,
             stage: SourceStage::Free,
             parcel: None,
+            told: 0,
+            back: None,
+            at_once: false,
         }
     }
 
@@ -93,7 +105,7 @@ impl Input {
     }
 
     /// Whether there is a next value.
-    fn has_next(&self) -> bool
+    pub(crate) fn has_next(&self) -> bool
         ensures { result ≡ has_next self.now }
     {
         self.sent < self.posted.len()
@@ -173,6 +185,22 @@ impl Input {
         parcel
     }
 
+    /// Sends the next value to a target that takes it at once: this is its parcel. It comes to what an offer, a gift and
+    /// the looks between them come to.
+    pub fn send(&mut self) -> Parcel
+        requires free { is_free self.old.stage ≡ true }
+        requires ready { is_some self.old.parcel ≡ true }
+        requires id { next_id self.old < 2 ^ 59 }
+        ensures value { next_value self.old ≡ Some result }
+        ensures sent { self.new ≡ input_sends (next_id self.old) self.old }
+    {
+        let Some(parcel) = self.parcel.take() else {
+            unreachable!()
+        };
+        self.sent += 1;
+        parcel
+    }
+
     /// Ends its link.
     pub fn end(&mut self, how: LinkEnd)
         requires { is_free self.old.stage ≡ true }
@@ -181,11 +209,28 @@ impl Input {
         self.stage = SourceStage::Ended(how);
     }
 
-    /// Looks at the phase of its link.
+    /// Looks at the phase of its link. A value that was posted and that the target turned down goes back.
     pub fn look(&mut self, phase: Phase)
         ensures { self.new ≡ after_input (InputCall.look phase) self.old }
     {
-        self.stage = self.stage.look(phase);
+        match (self.stage(), phase) {
+            (SourceStage::Posted(_), Phase::Idle) => self.take_back(),
+            (stage, phase) => self.stage = stage.look(phase),
+        }
+    }
+
+    /// Takes back the value that was posted and not taken.
+    fn take_back(&mut self)
+        ensures { self.new ≡ takes_back self.old }
+    {
+        self.stage = SourceStage::Free;
+        self.parcel = None;
+        self.back = if self.has_next() {
+            Some(self.posted.remove(self.sent))
+        } else {
+            None
+        };
+        self.posted.truncate(self.sent);
     }
 }
 

@@ -1,0 +1,9 @@
+pub mod InputLists
+pub mod InputLooks
+pub mod InputsAreParts
+pub mod InputsInOrder
+pub mod InputsMove
+pub mod InputsTell
+pub mod OneProof
+pub mod PostedKept
+pub mod TellsMay

@@ -1,0 +1,3 @@
+pub mod Input
+pub mod InputKeeps
+pub mod Sends
