@@ -1,3 +1,4 @@
+pub mod EntriesGoOn
 pub mod EventsAnswer
 pub mod EventsCount
 pub mod EventsDone

@@ -1,5 +1,5 @@
 -- The words of a network's state, said of an engine: of the layout of its plan, by what the works of its blocks mean.
-use Rattle.std.specs.Prelude.{ℕ, Bool, List, Result}
+use Rattle.std.specs.Prelude.{ℕ, List, Result}
 use Rattle.flow_value.specs.declared.value.Value.{Value}
 use Rattle.flow_value.specs.declared.work.WorkFault.{WorkFault}
 use Rattle.flow_link.specs.Planned.{layout_of}
@@ -14,6 +14,7 @@ use Rattle.flow_net.specs.Settles.{Settles, GoesOn}
 use Rattle.flow_net.specs.There.{LinkHasId, IsDue, NeedsId, IsWhyNot}
 use Rattle.flow_net.specs.declared.engine.Engine.{Engine}
 use Rattle.flow_net.specs.declared.fault.NetFault.{NetFault}
+use Rattle.flow_net.specs.declared.serve.Caller.{Caller}
 use Rattle.flow_net.specs.declared.settled.Settled.{Settled}
 
 -- the event is enabled
@@ -70,7 +71,7 @@ module _ {W : Type 0} (meaning : W → Value → Result (List Value) WorkFault) 
   abbrev pub SettlesIn : ℕ → Engine W → Engine W → Settled → Type 0
   SettlesIn limit old new how = Settles (layout_of old.plan) (works_of meaning (layout_of old.plan)) limit old.parts new.parts how
 
-  -- the same, until the exit at a place has enough for its caller, nothing may happen any more or as many are done as the limit
-  abbrev pub ServesIn : Bool → ℕ → ℕ → Engine W → Engine W → Type 0
-  ServesIn waits place limit old new =
-      Serves (layout_of old.plan) (works_of meaning (layout_of old.plan)) waits place limit old.parts new.parts
+  -- the same, until it has enough for this caller, nothing may happen any more or as many are done as the limit
+  abbrev pub ServesIn : Caller → ℕ → Engine W → Engine W → Type 0
+  ServesIn caller limit old new =
+      Serves (layout_of old.plan) (works_of meaning (layout_of old.plan)) caller limit old.parts new.parts

@@ -1,5 +1,6 @@
 pub mod Dues
 pub mod Engine
+pub mod Entries
 pub mod Events
 pub mod Exits
 pub mod Happened

@@ -1,6 +1,8 @@
 -- What is in sight at the end of a link out of a network, and of which block such a link is the exit.
-use Rattle.std.specs.Prelude.{ℕ, Bool, true, false, ◌&&◌, ◌||◌, Option, Some, None, is_some}
+use Rattle.std.specs.Prelude.{ℕ, ◌==◌, Bool, true, false, ◌&&◌, ◌||◌, Option, Some, None, is_some}
 use Rattle.flow_link.specs.declared.plan.Link.{Link}
+use Rattle.flow_link.specs.declared.plan.LinkSource.{LinkSource}
+use Rattle.flow_link.specs.declared.plan.LinkSource.TheVariants.{Block, Input}
 use Rattle.flow_link.specs.declared.stage.TargetStage.{TargetStage}
 use Rattle.flow_link.specs.declared.stage.TargetStage.TheVariants.{Offered, Posted, Postponed, Accepted, Consuming, Arrived, Hand}
 use Rattle.flow_link.specs.declared.trace.Outcome.{Outcome}
@@ -12,6 +14,14 @@ use Rattle.flow_exit.specs.Exit.{ExitState, over_by}
 -- the link leads from this block out of the network
 abbrev pub is_exit_of : ℕ → Link → Bool
 is_exit_of b link = begins_at b link.source && is_exit link.target
+
+-- the link leads from the input of this block
+abbrev pub comes_from : ℕ → LinkSource → Bool
+comes_from b (Input n) = n == b
+comes_from b (Block n) = false
+
+abbrev pub is_entry_of : ℕ → Link → Bool
+is_entry_of b link = comes_from b link.source
 
 -- a message is offered there, or comes
 abbrev pub comes_near : TargetStage → Bool

@@ -6,15 +6,13 @@ ghost use Rattle.flow_block.specs.Planned.{exit_place};
 ghost use Rattle.flow_exit.specs.Exit.{ExitCall, after_exit, exit_outcome, over_by};
 ghost use Rattle.flow_net.specs.Engine.{InOrder};
 ghost use Rattle.flow_poll.specs.Receives.{is_in_sight};
-ghost use Rattle.flow_net.specs.Serves.{has_enough};
-ghost use Rattle.flow_net.specs.Sights.{comes_near, is_exit_of, sight_of};
+ghost use Rattle.flow_net.specs.Sights.{is_exit_of, sight_of};
 
 use crate::agenda::Spot;
 use crate::engine::Engine;
-use crate::fault::NetFault;
 use crate::net::Net;
-use flow_exit::ExitEnd;
-use flow_link::{Link, LinkId, LinkSource, LinkTarget, Outcome, TargetStage};
+use crate::serve::{Caller, comes_near, memory_of};
+use flow_link::{Link, LinkId, LinkSource, LinkTarget, Outcome};
 use flow_poll::{ReceivePort, Received};
 use flow_value::{Runs, Value};
 use std::alloc::{AllocError, Global};
@@ -41,85 +39,6 @@ fn is_exit_of(block: usize, link: Link) -> bool
     ensures { result ≡ is_exit_of block link }
 {
     link.source == LinkSource::Block(block) && link.target == LinkTarget::Exit
-}
-
-/// Whether a message is offered to an end that stands so, or comes.
-fn comes_near(stage: TargetStage) -> bool
-    ensures { result ≡ comes_near stage }
-{
-    match stage {
-        TargetStage::Offered(_)
-        | TargetStage::Posted(_)
-        | TargetStage::Postponed(_)
-        | TargetStage::Accepted(_)
-        | TargetStage::Consuming(_)
-        | TargetStage::Arrived(_)
-        | TargetStage::Hand(_) => true,
-        TargetStage::Free
-        | TargetStage::Asking(_)
-        | TargetStage::Holding(_)
-        | TargetStage::Claiming(_)
-        | TargetStage::Refused(_)
-        | TargetStage::Ended(_) => false,
-    }
-}
-
-/// Whether the end of an exit has what its caller waits for: a message that is kept, how its block ended, or, where no receive
-/// waits, a message that is offered or comes.
-fn has_enough(exit: &ExitEnd, waits: bool) -> bool
-    ensures { result ≡ has_enough waits exit.now }
-{
-    exit.kept().is_some() || exit.outcome().is_some() || (!waits && comes_near(exit.stage()))
-}
-
-/// Whether memory was out. That ids are used up ends a look, and is no refusal of it.
-fn memory_of(served: &Result<(), NetFault>) -> Result<(), AllocError> {
-    match served {
-        Err(NetFault::Memory) => Err(AllocError),
-        Err(NetFault::Ids | NetFault::NotEnabled) | Ok(()) => Ok(()),
-    }
-}
-
-impl<W: Runs> Engine<W> {
-    ghost use Rattle.flow_net.specs.Engine.{GoesOnIn, ServesIn};
-    ghost use Rattle.flow_moves.specs.Ways.{exit_in};
-
-    /// Does events, at most so many, until the exit at this place has enough for its caller. Looks at all links only where
-    /// nothing that is listed may happen.
-    fn serve(
-        &mut self,
-        alloc: Global,
-        place: usize,
-        waits: bool,
-        limit: u64,
-    ) -> Result<(), NetFault>
-        requires kept { InOrder W.meaning self.old }
-        ensures same_plan { self.new.plan ≡ self.old.plan }
-        ensures served { OnOk result (ServesIn W.meaning waits place limit self.old self.new) }
-        ensures goes_on { GoesOnIn W.meaning limit self.old self.new }
-    {
-        let mut rest = limit;
-        while rest > 0 && !self.exit_has_enough(place, waits) {
-            match self.carry_on(alloc, rest)? {
-                0 => match self.next_event()? {
-                    Some(event) => rest -= self.advance(alloc, &event, rest)?,
-                    None => return Ok(()),
-                },
-                count => rest -= count,
-            }
-        }
-        Ok(())
-    }
-
-    /// Whether the exit at this place has what its caller waits for.
-    fn exit_has_enough(&self, place: usize, waits: bool) -> bool
-        ensures { result ≡ has_enough waits (exit_in self.now.parts place) }
-    {
-        match self.parts.find_exit(place) {
-            Some(exit) => has_enough(exit, waits),
-            None => false,
-        }
-    }
 }
 
 impl<W: Runs> Net<W> {
@@ -191,7 +110,8 @@ impl<W: Runs> NetExit<W> {
     {
         self.engine.agenda.list(Spot::Link(self.link));
         self.engine.parts.ask(self.place, waits);
-        let served = self.engine.serve(alloc, self.place, waits, self.steps);
+        let caller = Caller::Exit(self.place, waits);
+        let served = self.engine.serve(alloc, caller, self.steps);
         self.engine.parts.ask(self.place, false);
         memory_of(&served)
     }

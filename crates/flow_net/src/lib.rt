@@ -6,6 +6,7 @@ mod crew;
 mod drive;
 mod due;
 mod engine;
+mod entry;
 mod event;
 mod exit;
 mod fault;
@@ -15,8 +16,10 @@ mod laws;
 mod make;
 mod net;
 mod pass;
+mod serve;
 mod settled;
 
+pub use entry::NetEntry;
 pub use event::{Event, Stepped};
 pub use exit::NetExit;
 pub use fault::NetFault;

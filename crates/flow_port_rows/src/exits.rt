@@ -1,7 +1,7 @@
 //! Exits of networks: by their calls, and by futures.
 
 use crate::networks::{STEPS, exit, network};
-use flow_link::Outcome;
+use flow_link::{Ending, Outcome};
 use flow_net::{NetExit, Settled};
 use flow_poll::{OutputAvailable, Receipt, Receive, ReceivePort, Received};
 use flow_value::{Steps, Value};
@@ -39,7 +39,10 @@ fn available(rt: &impl Abort, alloc: Global, port: &mut NetExit<Steps>) -> Optio
 #[test]
 fn messages_come_out_in_order_and_then_the_end(rt: HostRuntime) {
     let alloc = rt.alloc();
-    let mut port = exit(&rt, network(&rt, alloc, &[1, 2, 3], false));
+    let mut port = exit(
+        &rt,
+        network(&rt, alloc, &[1, 2, 3], false, Ending::Complete),
+    );
     for number in [2, 4, 6] {
         assert!(rt; available(&rt, alloc, &mut port) == Some(true));
         assert!(rt; receive(&rt, alloc, &mut port) == Told::Number(number));
@@ -51,7 +54,7 @@ fn messages_come_out_in_order_and_then_the_end(rt: HostRuntime) {
 #[test]
 fn an_exit_tells_a_fault(rt: HostRuntime) {
     let alloc = rt.alloc();
-    let mut port = exit(&rt, network(&rt, alloc, &[1], true));
+    let mut port = exit(&rt, network(&rt, alloc, &[1], true, Ending::Complete));
     assert!(rt; receive(&rt, alloc, &mut port) == Told::Number(2));
     assert!(rt; receive(&rt, alloc, &mut port) == Told::Ended(Outcome::Faulted(1)));
 }
@@ -59,7 +62,7 @@ fn an_exit_tells_a_fault(rt: HostRuntime) {
 #[test]
 fn a_network_comes_back_as_it_is(rt: HostRuntime) {
     let alloc = rt.alloc();
-    let mut port = exit(&rt, network(&rt, alloc, &[1, 2], false));
+    let mut port = exit(&rt, network(&rt, alloc, &[1, 2], false, Ending::Complete));
     assert!(rt; receive(&rt, alloc, &mut port) == Told::Number(2));
     let mut net = port.into_net();
     assert!(rt; matches!(net.settle(alloc, STEPS), Ok(Settled::Quiet)));
@@ -71,14 +74,22 @@ fn a_network_comes_back_as_it_is(rt: HostRuntime) {
 #[test]
 fn a_block_without_an_exit_gives_the_network_back(rt: HostRuntime) {
     let alloc = rt.alloc();
-    assert!(rt; network(&rt, alloc, &[1], false).exit(0, STEPS).is_err());
-    assert!(rt; network(&rt, alloc, &[1], false).exit(2, STEPS).is_err());
+    assert!(rt;
+        network(&rt, alloc, &[1], false, Ending::Complete)
+            .exit(0, STEPS)
+            .is_err()
+    );
+    assert!(rt;
+        network(&rt, alloc, &[1], false, Ending::Complete)
+            .exit(2, STEPS)
+            .is_err()
+    );
 }
 
 #[test]
 fn a_look_does_no_more_events_than_it_may(rt: HostRuntime) {
     let alloc = rt.alloc();
-    let Ok(mut port) = network(&rt, alloc, &[1], false).exit(1, 1) else {
+    let Ok(mut port) = network(&rt, alloc, &[1], false, Ending::Complete).exit(1, 1) else {
         panic!(rt; "no exit");
     };
     assert!(rt; available(&rt, alloc, &mut port).is_none());
@@ -88,7 +99,7 @@ fn a_look_does_no_more_events_than_it_may(rt: HostRuntime) {
 #[test]
 fn futures_over_an_exit_are_ready(rt: HostRuntime) {
     let alloc = rt.alloc();
-    let port = exit(&rt, network(&rt, alloc, &[1], false));
+    let port = exit(&rt, network(&rt, alloc, &[1], false, Ending::Complete));
     let Ok(mut task) = MockTask::new(&rt) else {
         panic!(rt; "out of memory");
     };

@@ -2,7 +2,7 @@
 
 use anyhow::Result;
 use flow_front::Inputs;
-use flow_link::{BlockDef, BlockKind, Draft, LinkDef};
+use flow_link::{BlockDef, BlockKind, Draft, Ending, LinkDef};
 use flow_net::{Net, NetExit};
 use flow_value::{Steps, Text, Value};
 use std::alloc::Global;
@@ -12,7 +12,7 @@ use std::process::Abort;
 pub(crate) const STEPS: u64 = 100;
 
 /// A buffer with room for one message, which leads to a block that doubles numbers, and that one out of the network.
-fn doubled(alloc: Global, values: Vec<Value>) -> Result<Inputs<Steps>> {
+fn doubled(alloc: Global, values: Vec<Value>, ending: Ending) -> Result<Inputs<Steps>> {
     let double = Steps::read(alloc, &["mul 2"])?;
     let plan = Draft::new(alloc)
         .block(
@@ -31,7 +31,34 @@ fn doubled(alloc: Global, values: Vec<Value>) -> Result<Inputs<Steps>> {
     for value in values {
         inputs.post("in", value)?;
     }
+    inputs.end("in", ending)?;
     Ok(inputs)
+}
+
+/// A buffer with room for one message, which leads out of the network.
+pub(crate) fn bounded(alloc: Global, ending: Ending) -> Result<Inputs<Steps>> {
+    let plan = Draft::new(alloc)
+        .block(
+            BlockDef::named(alloc, "b", BlockKind::Buffer)?
+                .input()
+                .capacity(1)
+                .output(),
+        )?
+        .check(alloc)?;
+    let mut inputs = Inputs::of(alloc, plan)?;
+    inputs.end("b", ending)?;
+    Ok(inputs)
+}
+
+/// The network of this buffer, to which nothing is posted.
+pub(crate) fn buffer(rt: &impl Abort, alloc: Global, ending: Ending) -> Net<Steps> {
+    let Ok(inputs) = bounded(alloc, ending) else {
+        panic!(rt; "no plan");
+    };
+    let Ok(net) = inputs.start(alloc) else {
+        panic!(rt; "out of memory");
+    };
+    net
 }
 
 /// The network with these numbers, and behind them a text if one is wanted.
@@ -46,17 +73,18 @@ fn values(alloc: Global, numbers: &[i64], with_text: bool) -> Result<Vec<Value>>
     Ok(values)
 }
 
-/// The network that doubles these numbers, and faults by a text behind them if one is wanted.
+/// The network that doubles these numbers, and faults by a text behind them if one is wanted; its input ends so.
 pub(crate) fn network(
     rt: &impl Abort,
     alloc: Global,
     numbers: &[i64],
     with_text: bool,
+    ending: Ending,
 ) -> Net<Steps> {
     let Ok(values) = values(alloc, numbers, with_text) else {
         panic!(rt; "out of memory");
     };
-    let Ok(inputs) = doubled(alloc, values) else {
+    let Ok(inputs) = doubled(alloc, values, ending) else {
         panic!(rt; "no plan");
     };
     let Ok(net) = inputs.start(alloc) else {
