@@ -1,4 +1,8 @@
 pub mod AllGoneThrough
+pub mod KeptFits
+pub mod LinksAgree
+pub mod LinksFound
+pub mod ListsAgree
 pub mod ListsGrow
 pub mod PickedYields
 pub mod PlainText

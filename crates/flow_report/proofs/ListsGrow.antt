@@ -7,7 +7,7 @@ use Rattle.flow_link.specs.declared.trace.Mark.{Mark}
 use Rattle.flow_lists.specs.Lists.{is_empty}
 use Rattle.flow_link.specs.declared.trace.Mark.TheVariants.{Took, Gave, Complete, Fault, Done}
 use Rattle.flow_link.specs.Trace.{took_where, gave_where}
-use Rattle.flow_link.proofs.JournalsGrow.{took_more}
+use Rattle.flow_link.proofs.JournalsGrow.{took_more, gave_more}
 use Rattle.flow_report.specs.Printed.{value_text, comma_unless, opened, list_text}
 use Rattle.flow_report.proofs.PrintedGrows.{appends-both, opened-more}
 
@@ -62,3 +62,8 @@ given-first test Done marks = refl
 pub taken-next : (journal : List Mark) (at : ℕ) (mark : Mark) → at < length journal → mark ≡ get_or journal at mark
     → (test : ℕ → ℕ → Bool) → took_where test (take (at + 1) journal) ≡ took_where test (take at journal) ++ took_where test (mark ∷ [])
 taken-next journal at mark within is test = ap (took_where test) (take-next journal at mark within is) ∙ took_more test (take at journal) mark
+
+-- and what it gave
+pub given-next : (journal : List Mark) (at : ℕ) (mark : Mark) → at < length journal → mark ≡ get_or journal at mark
+    → (test : ℕ → Bool) → gave_where test (take (at + 1) journal) ≡ gave_where test (take at journal) ++ gave_where test (mark ∷ [])
+given-next journal at mark within is test = ap (gave_where test) (take-next journal at mark within is) ∙ gave_more test (take at journal) mark

@@ -19,6 +19,11 @@ front-of-keeps None new kept front begins = absurd (let none = begins.is in cc)
 front-of-keeps (Some xs) None kept front begins = absurd kept
 front-of-keeps (Some xs) (Some ys) kept front begins = record { rest = begins.rest; is = ap Some kept ∙ begins.is }
 
+-- nothing is appended
+pub appends-none : (old : Option (List ℕ)) → Appends old old []
+appends-none None = tt
+appends-none (Some xs) = sym (append-nil xs)
+
 -- of these bytes all but the rest is written
 pub record WroteUpTo (old new : Option (List ℕ)) (bytes rest : List ℕ) : Type 0 where
   pub done : List ℕ

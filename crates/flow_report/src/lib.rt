@@ -3,10 +3,12 @@
 
 mod complete;
 mod given;
+mod kept_list;
 mod list_line;
 mod page;
 mod piece;
 mod report;
+mod same;
 mod seen;
 mod value_text;
 

@@ -87,6 +87,15 @@ fn write_label<W: Write>(writer: &mut W, label: &[u8], number: Option<u64>) -> i
     }
 }
 
+fn begin_line<W: Write>(writer: &mut W, label: &[u8], number: Option<u64>) -> io::Result<()>
+    ensures written { OnOk result (Appends (W.contents writer.old) (W.contents writer.new)
+        (label_text label.now number ++ (32 ∷ []))) }
+    ensures kept { StaysInFront (W.contents writer.old) (W.contents writer.new) }
+{
+    write_label(writer, label, number)?;
+    write_bytes(writer, b" ")
+}
+
 // Writes a line that ends with the list of the values to which an iterator comes.
 fn write_line<'a, W: Write, I: Iterator<Item = &'a Value> + Drop>(
     writer: &mut W,
@@ -100,10 +109,37 @@ fn write_line<'a, W: Write, I: Iterator<Item = &'a Value> + Drop>(
         (Appends (W.contents writer.old) (W.contents writer.new) (labelled (label_text label.now number) all)) }
     ensures kept { StaysInFront (W.contents writer.old) (W.contents writer.new) }
 {
-    write_label(writer, label, number)?;
-    write_bytes(writer, b" ")?;
+    begin_line(writer, label, number)?;
     write_list(writer, values)?;
     write_bytes(writer, b"\n")
+}
+
+/// Writes the line of a list that is printed already.
+pub(crate) fn write_printed_line<W: Write>(
+    writer: &mut W,
+    label: &[u8],
+    number: Option<u64>,
+    text: &[u8],
+) -> io::Result<()>
+    ensures written { (values : List Value) → text.now ≡ list_text values → OnOk result
+        (Appends (W.contents writer.old) (W.contents writer.new) (labelled (label_text label.now number) values)) }
+    ensures kept { StaysInFront (W.contents writer.old) (W.contents writer.new) }
+{
+    begin_line(writer, label, number)?;
+    write_bytes(writer, text)?;
+    write_bytes(writer, b"\n")
+}
+
+/// Writes the list of what a journal took at a port.
+pub(crate) fn write_taken<W: Write>(writer: &mut W, journal: &[Mark], port: u32) -> io::Result<()>
+    ensures written { OnOk result (Appends (W.contents writer.old) (W.contents writer.new)
+        (list_text (took_at port journal.now))) }
+    ensures kept { StaysInFront (W.contents writer.old) (W.contents writer.new) }
+{
+    write_list(
+        writer,
+        journal.iter().filter_map(|mark| taken_at(mark, port)),
+    )
 }
 
 /// Writes the line of what a journal took at a port.
@@ -118,11 +154,24 @@ pub(crate) fn write_taken_line<W: Write>(
         (labelled (label_text label.now number) (took_at port journal.now))) }
     ensures kept { StaysInFront (W.contents writer.old) (W.contents writer.new) }
 {
-    write_line(
+    begin_line(writer, label, number)?;
+    write_taken(writer, journal, port)?;
+    write_bytes(writer, b"\n")
+}
+
+/// Writes the list of what a journal gave over a link.
+pub(crate) fn write_given<W: Write>(
+    writer: &mut W,
+    journal: &[Mark],
+    link: LinkId,
+) -> io::Result<()>
+    ensures written { OnOk result (Appends (W.contents writer.old) (W.contents writer.new)
+        (list_text (gave_over link journal.now))) }
+    ensures kept { StaysInFront (W.contents writer.old) (W.contents writer.new) }
+{
+    write_list(
         writer,
-        label,
-        number,
-        journal.iter().filter_map(|mark| taken_at(mark, port)),
+        journal.iter().filter_map(|mark| given_over(mark, link)),
     )
 }
 
@@ -138,12 +187,9 @@ pub(crate) fn write_given_line<W: Write>(
         (labelled (label_text label.now number) (gave_over link journal.now))) }
     ensures kept { StaysInFront (W.contents writer.old) (W.contents writer.new) }
 {
-    write_line(
-        writer,
-        label,
-        number,
-        journal.iter().filter_map(|mark| given_over(mark, link)),
-    )
+    begin_line(writer, label, number)?;
+    write_given(writer, journal, link)?;
+    write_bytes(writer, b"\n")
 }
 
 /// Writes the line of values that were sorted out.

@@ -5,18 +5,24 @@ ghost use Rattle.std.specs.Io.KnownBytes.{Appends};
 ghost use Rattle.flow_report.specs.Written.{StaysInFront};
 ghost use Rattle.flow_link.specs.Layout.{input_link};
 ghost use Rattle.flow_link.specs.Plan.{begins_at, port_count};
-ghost use Rattle.flow_link.specs.Trace.{took_over, block_of, link_of, waits_over};
+ghost use Rattle.flow_link.specs.declared.draft.BlockKind.TheVariants.{Action};
+ghost use Rattle.flow_link.specs.Trace.{took_at, took_over, gave_over, block_of, link_of, marks_of, trace_of, waits_over};
 ghost use Rattle.flow_report.specs.Report.{state_word, block_line, input_line, port_line, held_line, link_line};
 ghost use Rattle.flow_report.specs.Report.{exit_line, settled_line, last_line, is_input, is_output, between_count};
 ghost use Rattle.flow_report.specs.Report.{input_link_number, exit_link_number, input_part, exit_part, last_part};
 ghost use Rattle.flow_report.specs.Report.{all_ports, all_links, block_report, report, run_in};
 ghost use Rattle.flow_report.specs.Given.{lists_of, given_lists};
+ghost use Rattle.flow_report.specs.KeptList.{Fits};
+ghost use Rattle.flow_report.specs.Printed.{list_text};
 
 use crate::given::sort_given;
+use crate::kept_list::KeptList;
 use crate::list_line::{
-    write_given_line, write_number, write_parts_line, write_sorted_line, write_taken_line,
+    write_given_line, write_number, write_parts_line, write_printed_line, write_sorted_line,
+    write_taken_line,
 };
 use crate::piece::write_bytes;
+use crate::same::{hands_all_on, hands_on, leads_alone, link_of_port, may_show_again, records_all};
 use crate::seen::{block_at, block_count, held_at, left_at, link_at, link_count};
 use flow_fault_text::{TextFault, TextRefusal};
 use flow_link::{BlockDef, BlockKind, Link, LinkId, LinkSource, Mark};
@@ -252,14 +258,67 @@ fn ports_of(block: &BlockDef<Steps>) -> u32
     }
 }
 
-fn write_ports<W: Write>(writer: &mut W, net: &Net<Steps>, block: usize) -> io::Result<()>
-    requires { block < length (run_in net.now).layout.blocks }
+// Whether the list of what a port took is the one that is kept.
+fn is_kept_of_port(net: &Net<Steps>, kept: &KeptList, block: usize, port: u32) -> bool
+    requires known { block < length (run_in net.now).layout.blocks }
+    requires fits { Fits (run_in net.now) kept.now }
+    ensures { result ≡ true → kept.now.text.items ≡ list_text (took_at port (marks_of (run_in net.now) block)) }
+{
+    match link_of_port(net, kept.all_taken(), block, port) {
+        Some(link) => kept.is_of_link(link),
+        None => false,
+    }
+}
+
+// Whether the list of what a port took is kept now. Another list is kept in its place only where other lines may have it.
+fn keep_port(net: &Net<Steps>, kept: &mut KeptList, block: usize, port: u32) -> bool
+    requires known { block < length (run_in net.now).layout.blocks }
+    requires fits { Fits (run_in net.now) kept.old }
+    ensures fits { Fits (run_in net.now) kept.new }
+    ensures text { result ≡ true → kept.new.text.items ≡ list_text (took_at port (marks_of (run_in net.now) block)) }
+{
+    if is_kept_of_port(net, kept, block, port) {
+        kept.add_port(block, port);
+        return true;
+    }
+    may_show_again(block_at(net, block)) && kept.keep_taken(net.journal(block), block, port)
+}
+
+fn write_port<W: Write>(
+    writer: &mut W,
+    net: &Net<Steps>,
+    kept: &mut KeptList,
+    block: usize,
+    port: u32,
+) -> io::Result<()>
+    requires known { block < length (run_in net.now).layout.blocks }
+    requires fits { Fits (run_in net.now) kept.old }
+    ensures fits { Fits (run_in net.now) kept.new }
+    ensures written { OnOk result (Appends (W.contents writer.old) (W.contents writer.new)
+        (port_line port (marks_of (run_in net.now) block))) }
+    ensures kept { StaysInFront (W.contents writer.old) (W.contents writer.new) }
+{
+    if keep_port(net, kept, block, port) {
+        return write_printed_line(writer, b"port ", Some(u64::from(port)), kept.text());
+    }
+    write_port_line(writer, port, net.journal(block))
+}
+
+fn write_ports<W: Write>(
+    writer: &mut W,
+    net: &Net<Steps>,
+    kept: &mut KeptList,
+    block: usize,
+) -> io::Result<()>
+    requires known { block < length (run_in net.now).layout.blocks }
+    requires fits { Fits (run_in net.now) kept.old }
+    ensures fits { Fits (run_in net.now) kept.new }
     ensures written { OnOk result (Appends (W.contents writer.old) (W.contents writer.new)
         (all_ports (run_in net.now) block)) }
     ensures kept { StaysInFront (W.contents writer.old) (W.contents writer.new) }
 {
     for port in 0..ports_of(block_at(net, block)) {
-        write_port_line(writer, port, net.journal(block))?;
+        write_port(writer, net, kept, block, port)?;
         let (front, back) = held_at(net, block, port);
         write_held_line(writer, port, front, back)?;
     }
@@ -295,13 +354,60 @@ fn sort_for_many<'a>(
     }
 }
 
+// Whether the list of what was given over a link is kept now. Another list is kept in its place only where other lines may
+// have it, and none of the block has that one.
+fn keep_link(net: &Net<Steps>, kept: &mut KeptList, block: usize, link: LinkId) -> bool
+    requires known { block < length (run_in net.now).layout.blocks }
+    requires link { link < length (run_in net.now).layout.links }
+    requires from { begins_at block (link_of (run_in net.now) link).source ≡ true }
+    requires fits { Fits (run_in net.now) kept.old }
+    ensures fits { Fits (run_in net.now) kept.new }
+    ensures text { result ≡ true → kept.new.text.items ≡ list_text (gave_over link (marks_of (run_in net.now) block)) }
+{
+    if kept.is_of_port(block, 0) && hands_all_on(net, block, link) {
+        kept.add_link(link);
+        return true;
+    }
+    !hands_on(block_at(net, block).kind)
+        && leads_alone(net, link)
+        && kept.keep_given(net.journal(block), link)
+}
+
+// Writes the line of a link. What the block gave may be sorted by link.
+fn write_link<W: Write>(
+    writer: &mut W,
+    net: &Net<Steps>,
+    kept: &mut KeptList,
+    block: usize,
+    link: LinkId,
+    lists: &[Vec<&Value>],
+) -> io::Result<()>
+    requires known { block < length (run_in net.now).layout.blocks }
+    requires link { link < length (run_in net.now).layout.links }
+    requires from { begins_at block (link_of (run_in net.now) link).source ≡ true }
+    requires sorted { lists_of lists.now ≡ given_lists (length lists.now) (marks_of (run_in net.now) block) }
+    requires fits { Fits (run_in net.now) kept.old }
+    ensures fits { Fits (run_in net.now) kept.new }
+    ensures written { OnOk result (Appends (W.contents writer.old) (W.contents writer.new)
+        (link_line link (marks_of (run_in net.now) block))) }
+    ensures kept { StaysInFront (W.contents writer.old) (W.contents writer.new) }
+{
+    if lists.is_empty() && keep_link(net, kept, block, link) {
+        return write_printed_line(writer, b"link ", Some(u64::from(link)), kept.text());
+    }
+    write_link_line(writer, link, net.journal(block), lists)
+}
+
 fn write_links<W: Write>(
     alloc: Global,
     writer: &mut W,
     net: &Net<Steps>,
+    kept: &mut KeptList,
     block: usize,
 ) -> io::Result<()>
-    requires { block < length (run_in net.now).layout.blocks }
+    requires known { block < length (run_in net.now).layout.blocks }
+    requires fits { Fits (run_in net.now) kept.old }
+    ensures fits { Fits (run_in net.now) kept.new }
     ensures written { OnOk result (Appends (W.contents writer.old) (W.contents writer.new)
         (all_links (run_in net.now) block)) }
     ensures kept { StaysInFront (W.contents writer.old) (W.contents writer.new) }
@@ -314,7 +420,7 @@ fn write_links<W: Write>(
     for id in 0..count {
         if is_from(link_at(net, id), block) {
             sort_for_many(alloc, &mut lists, lines, journal, links);
-            write_link_line(writer, id, journal, lists.as_slice())?;
+            write_link(writer, net, kept, block, id, lists.as_slice())?;
             lines = lines.saturating_add(1);
         }
     }
@@ -355,14 +461,40 @@ fn write_exit<W: Write>(writer: &mut W, net: &Net<Steps>, block: usize) -> io::R
     Ok(())
 }
 
-fn write_last<W: Write>(writer: &mut W, net: &Net<Steps>, block: usize) -> io::Result<()>
-    requires { block < length (run_in net.now).layout.blocks }
+// Writes the line of the results that an action keeps.
+fn write_record<W: Write>(
+    writer: &mut W,
+    net: &Net<Steps>,
+    kept: &KeptList,
+    block: usize,
+) -> io::Result<()>
+    requires known { block < length (run_in net.now).layout.blocks }
+    requires action { (block_of (run_in net.now) block).kind ≡ Action }
+    requires fits { Fits (run_in net.now) kept.now }
+    ensures written { OnOk result (Appends (W.contents writer.old) (W.contents writer.new)
+        (last_line true (trace_of (run_in net.now) block).recorded [])) }
+    ensures kept { StaysInFront (W.contents writer.old) (W.contents writer.new) }
+{
+    if kept.is_of_port(block, 0) && records_all(net, block) {
+        return write_printed_line(writer, b"record", None, kept.text());
+    }
+    write_record_line(writer, net.record(block))
+}
+
+fn write_last<W: Write>(
+    writer: &mut W,
+    net: &Net<Steps>,
+    kept: &KeptList,
+    block: usize,
+) -> io::Result<()>
+    requires known { block < length (run_in net.now).layout.blocks }
+    requires fits { Fits (run_in net.now) kept.now }
     ensures written { OnOk result (Appends (W.contents writer.old) (W.contents writer.new)
         (last_part (run_in net.now) block)) }
     ensures kept { StaysInFront (W.contents writer.old) (W.contents writer.new) }
 {
     match block_at(net, block).kind {
-        BlockKind::Action => write_record_line(writer, net.record(block)),
+        BlockKind::Action => write_record(writer, net, kept, block),
         _ => {
             let (front, back) = left_at(net, block);
             write_left_line(writer, front, back)
@@ -374,19 +506,22 @@ fn write_block<W: Write>(
     alloc: Global,
     writer: &mut W,
     net: &Net<Steps>,
+    kept: &mut KeptList,
     block: usize,
 ) -> io::Result<()>
-    requires { block < length (run_in net.now).layout.blocks }
+    requires known { block < length (run_in net.now).layout.blocks }
+    requires fits { Fits (run_in net.now) kept.old }
+    ensures fits { Fits (run_in net.now) kept.new }
     ensures written { OnOk result (Appends (W.contents writer.old) (W.contents writer.new)
         (block_report (run_in net.now) block)) }
     ensures kept { StaysInFront (W.contents writer.old) (W.contents writer.new) }
 {
     write_block_line(writer, block_at(net, block).name.as_str(), net.state(block))?;
     write_input(writer, net, block)?;
-    write_ports(writer, net, block)?;
-    write_links(alloc, writer, net, block)?;
+    write_ports(writer, net, kept, block)?;
+    write_links(alloc, writer, net, kept, block)?;
     write_exit(writer, net, block)?;
-    write_last(writer, net, block)
+    write_last(writer, net, kept, block)
 }
 
 /// Writes the report of a network that stopped so.
@@ -400,16 +535,17 @@ fn write_lines<W: Write>(
         (report (run_in net.now) settled)) }
     ensures kept { StaysInFront (W.contents writer.old) (W.contents writer.new) }
 {
+    let mut kept = KeptList::new(alloc, net.is_quiet());
     for block in 0..block_count(net) {
-        write_block(alloc, writer, net, block)?;
+        write_block(alloc, writer, net, &mut kept, block)?;
     }
     write_settled_line(writer, settled)
 }
 
 /// Writes the report of a network that stopped so, in many small pieces: the writer should gather them.
 ///
-/// The memory is for what a block with many links gave, sorted by link. Where there is none, the report is the same, and
-/// takes longer.
+/// The memory is for the text of one list, which may stand in several lines, and for what a block with many links gave,
+/// sorted by link. Where there is none, the report is the same, and takes longer.
 pub fn write_report<W: Write>(
     alloc: Global,
     net: &Net<Steps>,

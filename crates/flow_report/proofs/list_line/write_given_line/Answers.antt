@@ -1,16 +1,11 @@
-use Rattle.std.proofs.Common.{◌≡◌, rules, refl, sym, ap, ◌∙◌, of_calls, ◌==◌, ◌∷◌, ◌++◌, []}
-use Rattle.std.proofs.lemmas.Iterator.{YieldsList-from_slice}
-use Rattle.std.specs.Iterator.Adapters.{filter_map_source}
-use Rattle.std.specs.Option.{option_copied, option_to_list}
-use Rattle.flow_link.specs.Trace.{gave_over}
-use Rattle.flow_report.proofs.ListsGrow.{given-first}
-use Rattle.flow_report.proofs.PickedYields.{picked_yields}
+use Rattle.std.proofs.Common.{[], ◌∷◌, ◌++◌}
+use Rattle.std.proofs.lemmas.Result.{on_ok_weaker}
+use Rattle.flow_report.specs.Report.{label_text}
+use Rattle.flow_report.proofs.PrintedGrows.{appends-both}
 use Rattle.flow_report.proofs.list_line.write_given_line.Goals as goal
 
 pub returns-clause-written : goal.returns-clause-written
 returns-clause-written g c =
-    let from = YieldsList-from_slice {s = filter_map_source c.filter_map.result} c.args.journal.now (search rules) in
-    c.write_line.ensures.written (gave_over c.args.link c.args.journal.now)
-    (picked_yields (λ value. value.now) _ (gave_over c.args.link) from c.filter_map.ensures.closure refl (λ x r q called.
-    let one : option_to_list (option_copied r) ≡ gave_over c.args.link (x.now ∷ []) = search of_calls in
-    (search of_calls, λ more. given-first (λ link. link == c.args.link) x.now more ∙ ap (λ front. front ++ gave_over c.args.link more) (sym one)))).runs
+    let label = label_text c.args.label.now c.args.number in
+    let listed = appends-both _ _ _ (label ++ (32 ∷ [])) _ c.in_ok-begin_line.ensures.written c.in_ok-write_given.ensures.written in
+    on_ok_weaker c.write_bytes.result (λ end. appends-both _ _ _ _ (10 ∷ []) listed end) c.write_bytes.ensures.written

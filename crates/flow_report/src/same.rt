@@ -1,0 +1,168 @@
+//! Which lists of a report have the same values, as far as the laws of a network tell.
+ghost use Rattle.std.specs.Prelude.{◌≡◌, ◌<◌, ◌≤◌, ◌↔◌, ◌∷◌, [], length, true, IsTrue, IfSome, Ok};
+ghost use Rattle.flow_value.specs.declared.value.Value.{Value};
+ghost use Rattle.flow_value.specs.Function.{meaning_of};
+ghost use Rattle.flow_link.specs.declared.draft.BlockKind.TheVariants.{Action};
+ghost use Rattle.flow_link.specs.Plan.{begins_at, ends_at_port, port_count};
+ghost use Rattle.flow_link.specs.Trace.{took, took_at, gave_over, given_over, block_of, link_of, held_at, marks_of, trace_of};
+ghost use Rattle.flow_exec.specs.Works.{worked_by};
+ghost use Rattle.flow_report.specs.Report.{run_in};
+ghost use Rattle.flow_report.specs.SameLists.{AllTaken, LeadsAlone, hands_on};
+
+use crate::seen::{block_at, held_at, link_at, link_count};
+use flow_link::{BlockDef, BlockKind, Link, LinkId, LinkSource, LinkTarget, Mark};
+use flow_net::Net;
+use flow_value::Steps;
+
+fn is_into(link: Link, block: usize, port: u32) -> bool
+    ensures { result ≡ ends_at_port block port link.target }
+{
+    match link.target {
+        LinkTarget::Port(target, at) => target == block && u32::from(at) == port,
+        LinkTarget::Exit => false,
+    }
+}
+
+// The link into this port, if there is one, and no other.
+fn link_into(net: &Net<Steps>, block: usize, port: u32) -> Option<LinkId>
+    ensures { IfSome result (LeadsAlone (run_in net.now) block port) }
+{
+    let mut found = None;
+    for id in 0..link_count(net) {
+        if is_into(link_at(net, id), block, port) {
+            if found.is_some() {
+                return None;
+            }
+            found = Some(id);
+        }
+    }
+    found
+}
+
+/// A link over which just the values were given that this port took, in their order, if one is known.
+pub(crate) fn link_of_port(
+    net: &Net<Steps>,
+    all_taken: bool,
+    block: usize,
+    port: u32,
+) -> Option<LinkId>
+    requires known { block < length (run_in net.now).layout.blocks }
+    requires taken { all_taken ≡ true → AllTaken (run_in net.now) }
+    ensures { IfSome result (λ link. given_over (run_in net.now) link ≡ took_at port (marks_of (run_in net.now) block)) }
+{
+    if !all_taken {
+        return None;
+    }
+    let link = link_into(net, block, port)?;
+    match link_at(net, link).source {
+        LinkSource::Block(_) => Some(link),
+        LinkSource::Input(_) => None,
+    }
+}
+
+/// Whether this link leads to a port that may have taken just the values that were given over it.
+pub(crate) fn leads_alone(net: &Net<Steps>, link: LinkId) -> bool
+    requires { link < length (run_in net.now).layout.links }
+{
+    match link_at(net, link).target {
+        LinkTarget::Port(block, port) => link_into(net, block, u32::from(port)) == Some(link),
+        LinkTarget::Exit => false,
+    }
+}
+
+// How many values a mark took.
+fn taken_by(mark: &Mark) -> usize
+    ensures count { result ≡ length (took (mark.now ∷ [])) }
+    ensures few { result ≤ 1 }
+{
+    match mark {
+        Mark::Took(_, _, _) => 1,
+        Mark::Gave(_, _) | Mark::Complete(_) | Mark::Fault(_) | Mark::Done => 0,
+    }
+}
+
+// How many values a mark gave over this link.
+fn given_by(mark: &Mark, link: LinkId) -> usize
+    ensures count { result ≡ length (gave_over link (mark.now ∷ [])) }
+    ensures few { result ≤ 1 }
+{
+    match mark {
+        Mark::Gave(over, _) => usize::from(*over == link),
+        Mark::Took(_, _, _) | Mark::Complete(_) | Mark::Fault(_) | Mark::Done => 0,
+    }
+}
+
+// Whether a journal gave over this link as many values as it took.
+fn gave_as_many(journal: &[Mark], link: LinkId) -> bool
+    ensures { IsTrue result ↔ (length (gave_over link journal.now) ≡ length (took journal.now)) }
+{
+    let mut taken: usize = 0;
+    let mut given: usize = 0;
+    for mark in journal {
+        taken += taken_by(mark);
+        given += given_by(mark, link);
+    }
+    given == taken
+}
+
+/// Whether a block of this kind hands its messages on as they are.
+pub(crate) fn hands_on(kind: BlockKind) -> bool
+    ensures { result ≡ hands_on kind }
+{
+    match kind {
+        BlockKind::Buffer | BlockKind::Broadcast => true,
+        BlockKind::WriteOnce
+        | BlockKind::Action
+        | BlockKind::Transform
+        | BlockKind::TransformMany
+        | BlockKind::Batch
+        | BlockKind::Join
+        | BlockKind::BatchedJoin => false,
+    }
+}
+
+/// Whether it is known that this block gave over this link just the values that it took, in their order.
+pub(crate) fn hands_all_on(net: &Net<Steps>, block: usize, link: LinkId) -> bool
+    requires known { block < length (run_in net.now).layout.blocks }
+    requires link { link < length (run_in net.now).layout.links }
+    requires from { begins_at block (link_of (run_in net.now) link).source ≡ true }
+    ensures { result ≡ true → gave_over link (marks_of (run_in net.now) block) ≡ took_at 0
+        (marks_of (run_in net.now) block) }
+{
+    hands_on(block_at(net, block).kind) && gave_as_many(net.journal(block), link)
+}
+
+// Whether a work gives each value back.
+fn gives_back(work: &Option<Steps>) -> bool
+    ensures { result ≡ true → (value : Value) → worked_by meaning_of work.now value ≡ Ok (value ∷ []) }
+{
+    match work {
+        Some(steps) => steps.as_slice().is_empty(),
+        None => true,
+    }
+}
+
+// Whether a port holds nothing.
+fn holds_nothing(net: &Net<Steps>, block: usize, port: u32) -> bool
+    requires block { block < length (run_in net.now).layout.blocks }
+    requires port { port < port_count (block_of (run_in net.now) block) }
+    ensures { result ≡ true → held_at (run_in net.now) block port ≡ [] }
+{
+    let (front, back) = held_at(net, block, port);
+    front.is_empty() && back.is_empty()
+}
+
+/// Whether it is known that this action recorded just the values that it took, in their order.
+pub(crate) fn records_all(net: &Net<Steps>, block: usize) -> bool
+    requires known { block < length (run_in net.now).layout.blocks }
+    requires action { (block_of (run_in net.now) block).kind ≡ Action }
+    ensures { result ≡ true → (trace_of (run_in net.now) block).recorded ≡ took_at 0
+        (marks_of (run_in net.now) block) }
+{
+    gives_back(&block_at(net, block).work) && holds_nothing(net, block, 0)
+}
+
+/// Whether other lines of this block may have just the values that it took.
+pub(crate) fn may_show_again(block: &BlockDef<Steps>) -> bool {
+    hands_on(block.kind) || (matches!(block.kind, BlockKind::Action) && gives_back(&block.work))
+}
