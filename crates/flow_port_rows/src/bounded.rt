@@ -50,17 +50,27 @@ fn exit(rt: &impl Abort, net: Net<Steps>) -> NetExit<Steps> {
     exit
 }
 
-/// Posts a number in one poll.
+/// Posts a number in one poll, at an entry that is made for it.
 fn post(
     rt: &(impl Abort + RandomSource + AllocGlobal),
     alloc: Global,
     net: Net<Steps>,
     number: i64,
 ) -> (Net<Steps>, Became) {
+    post_at(rt, alloc, entry(rt, net), number)
+}
+
+/// Posts a number at this entry, in one poll.
+fn post_at(
+    rt: &(impl Abort + RandomSource + AllocGlobal),
+    alloc: Global,
+    port: NetEntry<Steps>,
+    number: i64,
+) -> (Net<Steps>, Became) {
     let Ok(task) = MockTask::new(rt) else {
         panic!(rt; "out of memory");
     };
-    let mut posting = Post::new(alloc, entry(rt, net), Value::Int(number));
+    let mut posting = Post::new(alloc, port, Value::Int(number));
     let Poll::Ready((port, answer)) = task.poll(&mut posting) else {
         panic!(rt; "a post waits");
     };
@@ -157,27 +167,10 @@ fn a_bounded_buffer_takes_what_it_has_room_for(rt: HostRuntime) {
     assert!(rt; received == Ok(2));
     let mut port = entry(&rt, net);
     assert!(rt; port.finish(Ending::Complete) == Ok(()));
-    let (net, last) = post_after(&rt, alloc, port, 3);
+    let (net, last) = post_at(&rt, alloc, port, 3);
     assert!(rt; last == Became::Permanently(3));
     let (_net, received) = receive(&rt, alloc, net);
     assert!(rt; received == Err(Outcome::Done));
-}
-
-/// Posts a number by an entry that has finished, in one poll.
-fn post_after(
-    rt: &(impl Abort + RandomSource + AllocGlobal),
-    alloc: Global,
-    port: NetEntry<Steps>,
-    number: i64,
-) -> (Net<Steps>, Became) {
-    let Ok(task) = MockTask::new(rt) else {
-        panic!(rt; "out of memory");
-    };
-    let mut posting = Post::new(alloc, port, Value::Int(number));
-    let Poll::Ready((port, answer)) = task.poll(&mut posting) else {
-        panic!(rt; "a post waits");
-    };
-    (port.into_net(), outcome_of(answer))
 }
 
 #[test]
