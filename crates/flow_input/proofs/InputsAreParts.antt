@@ -1,7 +1,7 @@
 -- An input in order keeps what each input of a lawful run keeps, and rests where its link does.
-use Rattle.std.proofs.Common.{◌≡◌, ℕ, zero, suc, ◌<◌, ◌≤◌, Bool, true, false, List, [], ◌∷◌, length, take, drop, Some, None, refl, ap, sym, ◌∙◌, subst, arith}
+use Rattle.std.proofs.Common.{◌≡◌, ℕ, zero, suc, ◌<◌, ◌≤◌, Bool, true, false, List, [], ◌∷◌, length, take, drop, Some, None, refl, ap, sym, ◌∙◌, arith}
 use Rattle.std.proofs.lemmas.Bool.{ltb-true, ltb-false}
-use Rattle.std.proofs.lemmas.List.{take_all, take-append-drop}
+use Rattle.std.proofs.lemmas.List.{take_all}
 use Rattle.flow_value.specs.declared.value.Value.{Value}
 use Rattle.flow_link.specs.declared.phase.LinkEnd.{LinkEnd}
 use Rattle.flow_link.specs.declared.phase.LinkEnd.TheVariants as link_end
@@ -16,19 +16,13 @@ use Rattle.flow_lawful.specs.RestsByParts.{InputIsStill, InputRests, is_over, is
 use Rattle.flow_link.specs.Stage.{source_stage_of}
 use Rattle.flow_link.specs.Trace.{InputTrace, Run, input_of}
 use Rattle.flow_link.specs.Views as views
-use Rattle.flow_lists.proofs.ListTests.{front_append}
 use Rattle.flow_outlet.specs.End.{id_of}
 use Rattle.flow_input.specs.Input.{InputState, has_next, end_by, end_move, move_from, input_move}
 use Rattle.flow_input.specs.InputKeeps.{InputLaw, IsInputOf, InputsAreParts}
 use Rattle.flow_block_law.specs.NodeLaw.{is_kept}
 use Rattle.flow_block_law.specs.NodeRests.{rests_out, is_asked}
 use Rattle.flow_block_law.proofs.EndsTell.{ended_stage, free_back}
-
--- a first part of a list begins it
-front_taken : (values : List Value) (n : ℕ) → is_front (take n values) values ≡ true
-front_taken values n =
-    let P : List Value → Type 0 = λ all. is_front (take n values) all ≡ true in
-    subst P (take-append-drop n values) (front_append (take n values) (drop n values))
+use Rattle.flow_input.proofs.InputLists.{front_taken}
 
 -- what is left behind a first part
 none_left : (values : List Value) (n : ℕ) → length values ≤ n → is_empty (drop (length (take n values)) values) ≡ true

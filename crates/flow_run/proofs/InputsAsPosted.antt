@@ -12,7 +12,7 @@ use Rattle.flow_link.specs.Layout.{Layout}
 use Rattle.flow_link.specs.Trace.{InputTrace}
 use Rattle.flow_link.specs.declared.trace.Ending.{Ending}
 use Rattle.flow_core.specs.Inputs.{none_posted}
-use Rattle.flow_core.specs.State.{NetState, fresh_net}
+use Rattle.flow_core.specs.State.{NetState}
 use Rattle.flow_core.proofs.InputsChange.{fresh_none_posted}
 use Rattle.flow_exec.specs.Works.{works_of}
 use Rattle.flow_net.specs.Net.{run_with}
