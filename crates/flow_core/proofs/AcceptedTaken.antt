@@ -22,7 +22,7 @@ use Rattle.flow_input.proofs.InputLists.{front_taken, take_less}
 use Rattle.flow_input.proofs.InputsInOrder.{told_within}
 use Rattle.flow_core.specs.State.{input_at, ends_of, run_of_net, source_from}
 use Rattle.flow_core.specs.Statements.{AcceptedWasTaken}
-use Rattle.flow_core.proofs.KeptIsLawful.{parts_keep}
+use Rattle.flow_core.proofs.KeptIsLawful.{kept_in_order, parts_keep}
 
 -- where the source has not given a message that it has not seen taken, all that was given was taken
 module _ (slot : Option Value) (given taken : List Value) where
@@ -51,7 +51,7 @@ accepted_was_taken nodes inputs layout meaning runs net l b t p keeps there from
     let input = input_at layout net b in
     let law = keeps.inputs b (runs.leads.from_input l b there from) (runs.leads.from_inputs l b there from) in
     let low = runs.leads.to_block l t p there to in
-    let parts = parts_keep layout meaning runs net keeps nodes inputs in
+    let parts = parts_keep layout meaning runs net (kept_in_order keeps) nodes inputs in
     let taken : ends.target.taken ≡ took_over l (marks_of run t) = ((parts.nodes t low).targets l p there to).taken in
     let given : ends.source.given ≡ take input.sent input.posted = ap (λ (begins : LinkSource). (source_from layout net l begins).given) from in
     let stage : ends.source.stage ≡ source_stage_of input.stage = ap (λ (begins : LinkSource). (source_from layout net l begins).stage) from in

@@ -75,7 +75,7 @@ module _ {W : Type 0} (layout : Layout W) (meaning : ℕ → Value → Result (L
   source_changes l next (Block s) old new same = none_changed old new same
   source_changes l next (Input b) old new same = one_changed b (input_call next) old new (call_of_net next) same
 
-  look_changes : (l : ℕ) (phase : Phase) (source : LinkSource) (old mid new : NetState) → mid.inputs ≡ old.inputs
+  pub look_changes : (l : ℕ) (phase : Phase) (source : LinkSource) (old mid new : NetState) → mid.inputs ≡ old.inputs
       → new.inputs ≡ (source_sees layout meaning l phase source mid).inputs → InputsAreChanged old new
   look_changes l phase (Block s) old mid new before same = none_changed old new (same ∙ before)
   look_changes l phase (Input b) old mid new before same =
@@ -121,7 +121,7 @@ call_stays : (call : Option InputCall) (input : InputState) → ForSome call (λ
 call_stays None input of_net = posted_is_kept.same input
 call_stays (Some call) input of_net = posted_is_kept.stays input call (of_net call refl)
 
-changed_stays : (old new : NetState) → InputsAreChanged old new → InputsStay old new
+pub changed_stays : (old new : NetState) → InputsAreChanged old new → InputsStay old new
 changed_stays old new changed = record {
   count = changed.count;
   each = λ k. let at = changed.each k in

@@ -25,7 +25,7 @@ use Rattle.flow_block_law.specs.NodeSeen.{NodesAreLawful}
 use Rattle.flow_core.specs.Events.{source_peek}
 use Rattle.flow_core.specs.State.{NetState, node_at, input_at, source_from}
 use Rattle.flow_core.specs.Statements.{KeptIsHeld}
-use Rattle.flow_core.proofs.KeptIsLawful.{parts_keep}
+use Rattle.flow_core.proofs.KeptIsLawful.{kept_in_order, parts_keep}
 
 abbrev is_claimed : SourceStage → Bool
 is_claimed (SourceStage.claimed i) = true
@@ -69,7 +69,7 @@ source_gives layout net l (Input b) e = input_gives (input_at layout net b) (inp
 
 pub kept_is_held : {W : Type 0} → NodesAreLawful W → InputsAreParts W → KeptIsHeld W
 kept_is_held nodes inputs layout meaning runs net keeps =
-    let parts = parts_keep layout meaning runs net keeps nodes inputs in
+    let parts = parts_keep layout meaning runs net (kept_in_order keeps) nodes inputs in
     record {
       alone = λ b there shares. (parts.nodes b there).one_at_a_time shares;
       granted = λ l i there claimed may.

@@ -27,7 +27,8 @@ use Rattle.flow_block_law.specs.NodeSeen.{NodesAreLawful, IsNodeOf}
 use Rattle.flow_block.specs.Planned.{input_place}
 use Rattle.flow_core.specs.Keeps.{IsRun, NetKeeps}
 use Rattle.flow_core.specs.State.{NetState, no_node, node_at, input_at, exit_at, ends_of, source_from, target_from, run_of_net}
-use Rattle.flow_core.specs.Statements.{KeptIsLawful}
+use Rattle.flow_core.specs.InOrder.{NetInOrder}
+use Rattle.flow_core.specs.Statements.{InOrderIsLawful, KeptIsLawful}
 use Rattle.flow_core.proofs.PlacesOfLinks.{port_there}
 use Rattle.std.specs.Prelude.{Result}
 use Rattle.flow_value.specs.declared.value.Value.{Value}
@@ -45,7 +46,7 @@ never_refuses (target.Refused so) hand why plain e = absurd (cc)
 never_refuses _ hand why plain e = absurd (cc)
 
 module _ {W : Type 0} (layout : Layout W) (meaning : ℕ → Value → Result (List Value) ℕ) (runs : IsRun layout)
-    (net : NetState) (keeps : NetKeeps layout meaning net) where
+    (net : NetState) (ok : NetInOrder layout meaning net) where
   -- the blocks and inputs are parts of the run
   pub is_node : (b : ℕ) → IsNodeOf (run_of_net layout meaning net) (ends_of layout net) b (node_at net b)
   is_node b = record {
@@ -64,23 +65,23 @@ module _ {W : Type 0} (layout : Layout W) (meaning : ℕ → Value → Result (L
   pub input_law : (l b : ℕ) → l < length layout.links → (link_in layout.links l).source ≡ Input b
       → InputLaw (input_at layout net b)
   input_law l b there from =
-      keeps.inputs b (runs.leads.from_input l b there from) (runs.leads.from_inputs l b there from)
+      ok.inputs b (runs.leads.from_input l b there from) (runs.leads.from_inputs l b there from)
 
   -- a link into a block enters a port that is there
   pub port_of_link : (b l p : ℕ) → b < length layout.blocks → l < length layout.links
       → (link_in layout.links l).target ≡ Port b p
       → p < length (node_at net b).block.ports
-  port_of_link b l p low there to = port_there layout meaning b (node_at net b) (keeps.nodes b low) runs p l there to
+  port_of_link b l p low there to = port_there layout meaning b (node_at net b) (ok.nodes b low) runs p l there to
 
   shape_is : Shape (run_of_net layout meaning net)
   shape_is = record {
-    blocks = length-map net.nodes node_trace ∙ keeps.node_count;
-    inputs = length-map net.inputs input_trace ∙ keeps.input_count;
+    blocks = length-map net.nodes node_trace ∙ ok.node_count;
+    inputs = length-map net.inputs input_trace ∙ ok.input_count;
     ports = every_below _ (length layout.blocks) (λ b low.
         eq-eqb _ _ (
         ap (λ (trace : BlockTrace). length trace.held) (is_node b).trace
         ∙ length-map (node_at net b).block.ports (λ (port : PortState). port.waiting)
-        ∙ (keeps.nodes b low).shape.port_count_is
+        ∙ (ok.nodes b low).shape.port_count_is
         ));
   }
 
@@ -89,7 +90,7 @@ module _ {W : Type 0} (layout : Layout W) (meaning : ℕ → Value → Result (L
   parts_keep nodes inputs = record {
     shape = shape_is;
     nodes = λ b low.
-        nodes (run_of_net layout meaning net) (ends_of layout net) b (node_at net b) low (keeps.nodes b low) (is_node b)
+        nodes (run_of_net layout meaning net) (ends_of layout net) b (node_at net b) low (ok.nodes b low) (is_node b)
         (λ l p there to. port_of_link b l p low there to)
         (λ once l there from. may_carry (link_in layout.links l).max (runs.well_formed.max l there));
     inputs = λ l b there from.
@@ -99,16 +100,32 @@ module _ {W : Type 0} (layout : Layout W) (meaning : ℕ → Value → Result (L
         let exit = exit_at layout net l in
         record {
           takes = λ why refused.
-              never_refuses exit.stage exit.hand why (keeps.exits l there to).plain
+              never_refuses exit.stage exit.hand why (ok.exits l there to).plain
               (sym (ap (λ (target : LinkTarget). (target_from layout net l target).stage) to) ∙ refused);
         };
-    links = λ l there. (keeps.lines l there).in_order;
+    links = ok.links;
     refused = λ l. refl;
     from_blocks = λ l b there from. runs.leads.from_block l b there from;
     to_blocks = λ l b p there to. runs.leads.to_block l b p there to;
   }
 
-pub kept_is_lawful : {W : Type 0} → NodesAreLawful W → InputsAreParts W → KeptIsLawful W
-kept_is_lawful {W} nodes inputs layout meaning runs net keeps =
+pub kept_in_order : {W : Type 0} {layout : Layout W} {meaning : ℕ → Value → Result (List Value) ℕ} {net : NetState}
+    → NetKeeps layout meaning net → NetInOrder layout meaning net
+kept_in_order keeps = record {
+  node_count = keeps.node_count;
+  input_count = keeps.input_count;
+  exit_count = keeps.exit_count;
+  line_count = keeps.line_count;
+  nodes = keeps.nodes;
+  inputs = keeps.inputs;
+  exits = keeps.exits;
+  links = λ l low. (keeps.lines l low).in_order;
+}
+
+pub in_order_is_lawful : {W : Type 0} → NodesAreLawful W → InputsAreParts W → InOrderIsLawful W
+in_order_is_lawful {W} nodes inputs layout meaning runs net ok =
     composes W (run_of_net layout meaning net) (ends_of layout net)
-    (parts_keep layout meaning runs net keeps nodes inputs)
+    (parts_keep layout meaning runs net ok nodes inputs)
+
+pub kept_is_lawful : {W : Type 0} → NodesAreLawful W → InputsAreParts W → KeptIsLawful W
+kept_is_lawful nodes inputs layout meaning runs net keeps = in_order_is_lawful nodes inputs layout meaning runs net (kept_in_order keeps)

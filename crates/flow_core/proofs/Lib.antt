@@ -1,4 +1,5 @@
 pub mod AcceptedTaken
+pub mod AllLook
 pub mod BlocksMove
 pub mod CallersKeep
 pub mod EndsLook

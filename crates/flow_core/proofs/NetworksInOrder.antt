@@ -11,7 +11,7 @@ use Rattle.flow_exit.proofs.ExitsKeep.{exits_keep}
 use Rattle.flow_input.proofs.InputsAreParts.{inputs_are_parts}
 use Rattle.flow_input.proofs.InputsMove.{inputs_keep}
 use Rattle.flow_core.specs.Numbers.{BlocksFaultByNumber}
-use Rattle.flow_core.specs.Statements.{AcceptedWasTaken, EntryCallsKeep, EventsKeep, ExitCallsKeep, FreshKeeps, KeptIsHeld, KeptIsLawful, PostsKeep, ReceivedWasGiven, SchedulesGoWell, StillIsQuiet}
+use Rattle.flow_core.specs.Statements.{AcceptedWasTaken, EntryCallsKeep, EventsKeep, ExitCallsKeep, FreshKeeps, InOrderIsLawful, KeptIsHeld, KeptIsLawful, PostsKeep, ReceivedWasGiven, SchedulesGoWell, StillIsQuiet}
 use Rattle.flow_core.proofs.AcceptedTaken.{accepted_was_taken}
 use Rattle.flow_core.proofs.BlocksMove.{blocks_move}
 use Rattle.flow_core.proofs.CallersKeep.{exit_calls_keep}
@@ -22,7 +22,7 @@ use Rattle.flow_core.proofs.FaultsNumbered.{blocks_fault_by_number}
 use Rattle.flow_core.proofs.FreshNets.{fresh_keeps}
 use Rattle.flow_core.proofs.InputsMove.{inputs_move}
 use Rattle.flow_core.proofs.KeptForOne.{kept_is_held}
-use Rattle.flow_core.proofs.KeptIsLawful.{kept_is_lawful}
+use Rattle.flow_core.proofs.KeptIsLawful.{in_order_is_lawful, kept_is_lawful}
 use Rattle.flow_core.proofs.ReceivedGiven.{received_was_given}
 use Rattle.flow_core.proofs.SchedulesGoWell.{schedules_go_well}
 use Rattle.flow_core.proofs.StillIsQuiet.{still_is_quiet}
@@ -54,6 +54,9 @@ all_exit_calls_keep W = exit_calls_keep exits_keep
 
 pub all_received_was_given : (W : Type 0) → ReceivedWasGiven W
 all_received_was_given W = received_was_given (nodes_are_lawful W) (inputs_are_parts W)
+
+pub nets_in_order_are_lawful : (W : Type 0) → InOrderIsLawful W
+nets_in_order_are_lawful W = in_order_is_lawful (nodes_are_lawful W) (inputs_are_parts W)
 
 pub kept_nets_are_lawful : (W : Type 0) → KeptIsLawful W
 kept_nets_are_lawful W = kept_is_lawful (nodes_are_lawful W) (inputs_are_parts W)

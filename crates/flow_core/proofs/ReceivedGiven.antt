@@ -23,7 +23,7 @@ use Rattle.flow_input.specs.InputKeeps.{InputsAreParts}
 use Rattle.flow_block_law.specs.NodeSeen.{NodesAreLawful}
 use Rattle.flow_core.specs.State.{exit_at, ends_of, run_of_net, target_from}
 use Rattle.flow_core.specs.Statements.{ReceivedWasGiven}
-use Rattle.flow_core.proofs.KeptIsLawful.{parts_keep}
+use Rattle.flow_core.proofs.KeptIsLawful.{kept_in_order, parts_keep}
 
 -- where a message was given and not taken, it comes
 module _ (slot : Option Value) (given taken : List Value) where
@@ -76,7 +76,7 @@ received_was_given nodes inputs layout meaning runs net l b keeps there from to 
     let ends = ends_of layout net l in
     let exit = exit_at layout net l in
     let low = runs.leads.from_block l b there from in
-    let parts = parts_keep layout meaning runs net keeps nodes inputs in
+    let parts = parts_keep layout meaning runs net (kept_in_order keeps) nodes inputs in
     let given : ends.source.given ≡ gave_over l (marks_of run b) = ((parts.nodes b low).sources l there from).given in
     let taken : ends.target.taken ≡ exit.received ++ option_to_list exit.kept =
     ap (λ (into : LinkTarget). (target_from layout net l into).taken) to in

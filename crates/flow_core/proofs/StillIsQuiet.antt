@@ -49,7 +49,7 @@ use Rattle.flow_exit.specs.ExitKeeps.{is_plain}
 use Rattle.flow_core.specs.Keeps.{IsRun, NetKeeps}
 use Rattle.flow_core.specs.State.{NetState, node_at, input_at, exit_at, ends_of, source_from, target_from, run_of_net}
 use Rattle.flow_core.specs.Statements.{IsStill, StillIsQuiet}
-use Rattle.flow_core.proofs.KeptIsLawful.{input_law, is_input, is_node, parts_keep, port_of_link, may_carry}
+use Rattle.flow_core.proofs.KeptIsLawful.{input_law, is_input, is_node, kept_in_order, may_carry, parts_keep, port_of_link}
 use Rattle.flow_core.proofs.InputsTakeFreely.{input_takes_freely}
 use Rattle.flow_core.proofs.NextIsAllowed.{of_source, of_target, next_is_allowed}
 use Rattle.flow_core.proofs.StagesShow.{source_shows, source_shown, target_shows, target_shown}
@@ -306,13 +306,13 @@ module _ {W : Type 0} (layout : Layout W) (meaning : ℕ → Value → Result (L
         ends_are_still = record {
           seen = λ l there. (keeps.lines l there).seen;
           nodes = λ b low.
-              nodes_are_still run ends b (node b) low (keeps.nodes b low) (is_node layout meaning runs net keeps b)
-              (λ l p there into. port_of_link layout meaning runs net keeps b l p low there into)
+              nodes_are_still run ends b (node b) low (keeps.nodes b low) (is_node layout meaning runs net (kept_in_order keeps) b)
+              (λ l p there into. port_of_link layout meaning runs net (kept_in_order keeps) b l p low there into)
               (nothing_to_do b low) (holds_by_plan b);
           inputs = λ l b there from.
               inputs_are_parts.still run ends l b (input_at layout net b)
-              (input_law layout meaning runs net keeps l b there from)
-              (is_input layout meaning runs net keeps l b from) (input_not_asked l b there from)
+              (input_law layout meaning runs net (kept_in_order keeps) l b there from)
+              (is_input layout meaning runs net (kept_in_order keeps) l b from) (input_not_asked l b there from)
               (input_done l b there from);
           exits = λ l there into.
               let exit = exit_at layout net l in
@@ -331,13 +331,13 @@ module _ {W : Type 0} (layout : Layout W) (meaning : ℕ → Value → Result (L
           seen = λ l there. (keeps.lines l there).seen;
           links = links_are_at_rest;
           nodes = λ b low.
-              nodes_rest run ends b (node b) low (keeps.nodes b low) (is_node layout meaning runs net keeps b)
-              (λ l p there into. port_of_link layout meaning runs net keeps b l p low there into) (nothing_to_do b low)
+              nodes_rest run ends b (node b) low (keeps.nodes b low) (is_node layout meaning runs net (kept_in_order keeps) b)
+              (λ l p there into. port_of_link layout meaning runs net (kept_in_order keeps) b l p low there into) (nothing_to_do b low)
               (ends_rest links_are_at_rest b low) (λ l there from. may_carry (link l).max (runs.well_formed.max l there));
           inputs = λ l b there from.
               inputs_are_parts.rests run ends l b (input_at layout net b)
-              (input_law layout meaning runs net keeps l b there from)
-              (is_input layout meaning runs net keeps l b from) (input_end_rests links_are_at_rest l b there from)
+              (input_law layout meaning runs net (kept_in_order keeps) l b there from)
+              (is_input layout meaning runs net (kept_in_order keeps) l b from) (input_end_rests links_are_at_rest l b there from)
               (input_done l b there from);
         }
 
@@ -347,4 +347,4 @@ module _ {W : Type 0} (layout : Layout W) (meaning : ℕ → Value → Result (L
 pub still_is_quiet : {W : Type 0} → NodesAreStill W → NodesRest W → NodesAreLawful W → InputsAreParts W → StillIsQuiet W
 still_is_quiet nodes_are_still nodes_rest nodes inputs layout meaning runs net keeps still =
     is_quiet layout meaning net runs keeps still nodes_are_still nodes_rest inputs
-    (parts_keep layout meaning runs net keeps nodes inputs)
+    (parts_keep layout meaning runs net (kept_in_order keeps) nodes inputs)

@@ -20,7 +20,7 @@ use Rattle.flow_core.specs.AtRest.{AtRest, LinkRests}
 use Rattle.flow_core.specs.Keeps.{IsRun, NetKeeps}
 use Rattle.flow_core.specs.State.{NetState, ends_of}
 use Rattle.flow_core.specs.Statements.{IsStill, StillRests}
-use Rattle.flow_core.proofs.KeptIsLawful.{parts_keep}
+use Rattle.flow_core.proofs.KeptIsLawful.{kept_in_order, parts_keep}
 use Rattle.flow_core.proofs.StillIsQuiet.{links_are_at_rest}
 
 -- and what is known of the values then: the slot is empty, and all that was given was taken
@@ -38,7 +38,7 @@ module _ {W : Type 0} (layout : Layout W) (meaning : ℕ → Value → Result (L
   link_rests l there =
       let ends = ends_of layout net l in
       let rest = links_are_at_rest layout meaning net runs keeps still (nodes_are_still W) (nodes_rest W) (inputs_are_parts W)
-      (parts_keep layout meaning runs net keeps (nodes_are_lawful W) (inputs_are_parts W)) l there in
+      (parts_keep layout meaning runs net (kept_in_order keeps) (nodes_are_lawful W) (inputs_are_parts W)) l there in
       let home = home_at ends.phase ends.target.stage ends.slot ends.source.given ends.target.taken rest
       (keeps.lines l there).in_order.values in
       record { rest = rest; empty = home.empty; all_taken = home.all }

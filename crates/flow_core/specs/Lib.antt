@@ -1,5 +1,6 @@
 pub mod AtRest
 pub mod Events
+pub mod InOrder
 pub mod Inputs
 pub mod Keeps
 pub mod Numbers

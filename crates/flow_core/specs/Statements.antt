@@ -22,6 +22,7 @@ use Rattle.flow_input.specs.Input.{InputCall, after_input, is_unseen}
 use Rattle.flow_input.specs.InputKeeps.{MayCallInput}
 use Rattle.flow_core.specs.AtRest.{AtRest}
 use Rattle.flow_core.specs.Events.{NetEvent, Enabled, MayHappen, after, after_post, peek_by, is_of_source, with_exit, with_input}
+use Rattle.flow_core.specs.InOrder.{NetInOrder, all_looked, journals_of}
 use Rattle.flow_core.specs.Inputs.{InputsAreChanged, InputsStay}
 use Rattle.flow_core.specs.Keeps.{IsRun, NetKeeps, LineKeeps}
 use Rattle.flow_core.specs.State.{NetState, line_at, input_at, exit_at, ends_of, callers_in, run_of_net, fresh_net}
@@ -145,6 +146,25 @@ module _ (W : Type 0) where
       (net : NetState) (event : NetEvent) (l : ℕ) (how : LinkEnd) → NetKeeps layout meaning net → Enabled layout net event
       → l < length layout.links → (link_in layout.links l).target ≡ Exit → (exit_at layout net l).stage ≡ Ended how
       → exit_at layout (after layout meaning event net) l ≡ exit_at layout net l
+
+  -- a network of which all is in order, whenever its ends looked, is kept in order by a look of all of them, which writes no mark
+  abbrev pub AllLooksKeep : Type 0
+  AllLooksKeep = OfEachNet λ layout meaning.
+      (net : NetState) → NetInOrder layout meaning net → NetKeeps layout meaning (all_looked layout meaning (length layout.links) net)
+
+  abbrev pub LooksWriteNoMark : Type 0
+  LooksWriteNoMark = (layout : Layout W) (meaning : ℕ → Value → Result (List Value) ℕ) (n : ℕ) (net : NetState)
+      → journals_of (all_looked layout meaning n net) ≡ journals_of net
+
+  -- and leaves what is posted, but for what its target has turned down
+  abbrev pub LooksLeavePosted : Type 0
+  LooksLeavePosted = (layout : Layout W) (meaning : ℕ → Value → Result (List Value) ℕ) (n : ℕ) (net : NetState)
+      → InputsStay net (all_looked layout meaning n net)
+
+  -- and its run so far is lawful
+  abbrev pub InOrderIsLawful : Type 0
+  InOrderIsLawful = OfEachNet λ layout meaning.
+      (net : NetState) → NetInOrder layout meaning net → Lawful (run_of_net layout meaning net)
 
   -- and then the run so far is lawful
   abbrev pub KeptIsLawful : Type 0

@@ -1,7 +1,8 @@
 //! Laws about the states of a network. Each stands on a function that does nothing: whoever calls it has the whole law.
 ghost use Rattle.flow_core.specs.Numbers.{BlocksFaultByNumber};
-ghost use Rattle.flow_core.specs.Statements.{AcceptedWasTaken, EndedExitsStay, EntryCallsKeep, EventsKeep, ExitCallsKeep};
-ghost use Rattle.flow_core.specs.Statements.{FreshKeeps, InputsChange, KeptIsHeld, KeptIsLawful};
+ghost use Rattle.flow_core.specs.Statements.{AcceptedWasTaken, AllLooksKeep, EndedExitsStay, EntryCallsKeep, EventsKeep, ExitCallsKeep};
+ghost use Rattle.flow_core.specs.Statements.{FreshKeeps, InOrderIsLawful, InputsChange, KeptIsHeld, KeptIsLawful};
+ghost use Rattle.flow_core.specs.Statements.{LooksLeavePosted, LooksWriteNoMark};
 ghost use Rattle.flow_core.specs.Statements.{NextIsAllowed, PostedListsStay, PostsKeep, ReceivedWasGiven};
 ghost use Rattle.flow_core.specs.Statements.{SchedulesGoWell, StillIsQuiet, StillRests};
 
@@ -51,6 +52,15 @@ pub fn received_was_given<W>()
 /// Where the link of an exit has ended, no event changes the exit any more.
 pub fn ended_exits_stay<W>()
     ensures { EndedExitsStay W }
+{}
+
+/// Where all of a network is in order, whenever the ends of its links looked last: its run is lawful, and a look of all of them leaves
+/// it in order, both ends of each link aware of it, writes no mark, and leaves what is posted, but for what its target turned down.
+pub fn looks_make_ends_aware<W>()
+    ensures lawful { InOrderIsLawful W }
+    ensures keeps { AllLooksKeep W }
+    ensures marks { LooksWriteNoMark W }
+    ensures posted { LooksLeavePosted W }
 {}
 
 /// The run of a network in order is lawful.

@@ -4,6 +4,7 @@ use Rattle.std.proofs.lemmas.List.{length-set, length-map}
 use Rattle.flow_value.specs.declared.value.Value.{Value}
 use Rattle.flow_link.specs.declared.phase.Move.{Move}
 use Rattle.flow_link.specs.declared.phase.Move.TheVariants as move
+use Rattle.flow_link.specs.declared.phase.Phase.{Phase}
 use Rattle.flow_link.specs.declared.plan.LinkSource.{LinkSource}
 use Rattle.flow_link.specs.declared.plan.LinkSource.TheVariants.{Block, Input}
 use Rattle.flow_link.specs.declared.plan.LinkTarget.{LinkTarget}
@@ -13,7 +14,7 @@ use Rattle.flow_intake.specs.Port.{PortState}
 use Rattle.flow_outlet.specs.Outlet.{head_of, gives}
 use Rattle.flow_link.specs.Plan.{is_one_taker}
 use Rattle.flow_block.specs.Copies.{CopyCall, copies_weight, after_copy}
-use Rattle.flow_block.specs.Node.{NodeState, with_block, hand_at, gives_from, takes_in, copies_by, holds_in}
+use Rattle.flow_block.specs.Node.{NodeState, NodeCall, with_block, hand_at, gives_from, takes_in, copies_by, holds_in}
 use Rattle.flow_spread.specs.End.{takes_up}
 use Rattle.flow_intake.specs.Calls.{first_of}
 use Rattle.flow_block.proofs.CopiesTaken.{taken_keeps}
@@ -27,7 +28,7 @@ use Rattle.flow_core.specs.State.{NetState, node_at, no_node}
 use Rattle.flow_lists.proofs.PlacesTell.{element_set}
 use Rattle.flow_moves.specs.Calls.{called}
 use Rattle.flow_moves.specs.Ready.{SourceIsThere, TargetIsThere, exit_count}
-use Rattle.flow_moves.specs.Ways.{source_moved, target_moved}
+use Rattle.flow_moves.specs.Ways.{source_moved, target_moved, target_looked}
 
 -- an end of a link into a node stays when the node gives its head
 gives_stay : (k : ℕ) (head : Option Value) (node : NodeState) (p j : ℕ) → InAt any_stage p j node
@@ -143,6 +144,24 @@ module _ (makes : ℕ → Value → Result (List Value) ℕ) (next : Move) where
   pub source_lines : (source : LinkSource) (k : ℕ) (net : NetState) → (source_moved makes next source k net).lines ≡ net.lines
   source_lines (Block s) k net = refl
   source_lines (Input b) k net = refl
+
+-- and so does a look of a target
+pub source_there_still : (makes : ℕ → Value → Result (List Value) ℕ) (phase : Phase) (target : LinkTarget) (j : ℕ) (source : LinkSource) (k : ℕ)
+    (net : NetState) → SourceIsThere net source k → SourceIsThere (target_looked makes phase target j net) source k
+source_there_still makes phase Exit j (Input b) k net there = there
+source_there_still makes phase Exit j (Block s) k net there = there
+source_there_still makes phase (Port t p) j (Input b) k net there = there
+source_there_still makes phase (Port t p) j (Block s) k net there =
+    let looked = called (makes t) (Some (NodeCall.look_in p j phase)) (node_at net t) in (
+      subst (λ (count : ℕ). s < count) (sym (length-set net.nodes t looked)) there.0,
+      element_set (λ _ (node : NodeState). k < exit_count node) net.nodes t s looked no_node
+          (λ same. subst (λ (n : ℕ). k < exit_count (node_at net n)) same there.1) there.1,
+    )
+
+pub lines_still : (makes : ℕ → Value → Result (List Value) ℕ) (phase : Phase) (target : LinkTarget) (j : ℕ) (net : NetState)
+    → (target_looked makes phase target j net).lines ≡ net.lines
+lines_still makes phase Exit j net = refl
+lines_still makes phase (Port t p) j net = refl
 
 -- a change of a line leaves all ends
 pub source_beside : (l : ℕ) (line : LinkState) (source : LinkSource) (k : ℕ) (net : NetState) → SourceIsThere net source k

@@ -2,6 +2,7 @@ pub mod EndsAnswer
 pub mod EndsStay
 pub mod FreshBlocks
 pub mod LinksThere
+pub mod LooksGoAlong
 pub mod MerelyKept
 pub mod MovesPrepared
 pub mod MovesReady

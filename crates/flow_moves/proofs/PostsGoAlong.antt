@@ -17,7 +17,7 @@ use Rattle.flow_core.specs.State.{NetState, input_at, line_at}
 use Rattle.flow_moves.specs.Statements.{PostsGoAlong}
 use Rattle.flow_moves.specs.Ways.{input_in, target_looked, with_input_in}
 
-sees_along : {W : Type 0} (layout : Layout W) (meaning : ℕ → Value → Result (List Value) ℕ) (l : ℕ) (phase : Phase) (target : LinkTarget) (net : NetState)
+pub sees_along : {W : Type 0} (layout : Layout W) (meaning : ℕ → Value → Result (List Value) ℕ) (l : ℕ) (phase : Phase) (target : LinkTarget) (net : NetState)
     → target_sees layout meaning l phase target net ≡ target_looked (block_makes layout meaning) phase target (target_place layout target l) net
 sees_along layout meaning l phase (Port t p) net = refl
 sees_along layout meaning l phase Exit net = refl

@@ -93,6 +93,12 @@ module _ (makes : ℕ → Value → Result (List Value) ℕ) where
       (with_line l (line_moved l next phase route net)
       (target_moved next (line_at net l).slot route.target route.target_place net))
 
+  -- both ends of a link look at its phase
+  abbrev pub looked_along : ℕ → Route → NetState → NetState
+  looked_along l route net =
+      source_looked (line_at net l).phase route.source route.source_place
+      (target_looked (line_at net l).phase route.target route.target_place net)
+
   -- a value that the caller of an input posts over its link
   abbrev pub posted_along : ℕ → Value → Route → NetState → NetState
   posted_along l value route net =

@@ -8,7 +8,7 @@ ghost use Rattle.flow_moves.specs.Calls.{handed, left_in_slot, slot_after_source
 ghost use Rattle.flow_moves.specs.Ready.{SourceIsThere, TargetIsThere, SourceIsReady, TargetIsReady, IsThere, IsReady};
 ghost use Rattle.flow_exit.specs.Exit.{ExitCall, after_exit};
 ghost use Rattle.flow_moves.specs.Ways.{exit_in, input_in, with_exit_in, source_next, target_next, lacks_id, value_next};
-ghost use Rattle.flow_moves.specs.Ways.{source_moved, target_moved, source_looked, target_looked, moved_along};
+ghost use Rattle.flow_moves.specs.Ways.{source_moved, target_moved, source_looked, target_looked, looked_along, moved_along};
 ghost use Rattle.flow_moves.specs.Ways.{moved_by_source, moved_by_target};
 
 use crate::ends::{look_exit, move_exit, move_exit_end, move_in, move_input, next_of_exit};
@@ -327,6 +327,33 @@ impl Parts {
             }
         }
         Ok(())
+    }
+
+    /// Both ends of a link look at its phase.
+    pub fn look_along(&mut self, id: LinkId, route: &Route)
+        requires { IsThere self.old id route.now }
+        ensures { (makes : ℕ → Value → Result (List Value) ℕ) → self.new ≡ looked_along makes id route.now self.old }
+    {
+        let phase = self.phase(id);
+        self.target_looks(route, phase);
+        let same = self.phase(id);
+        self.source_looks(route, same);
+    }
+
+    /// All blocks, inputs, exits and links, apart.
+    pub fn into_lists(self) -> (Vec<Node>, Vec<Input>, Vec<ExitEnd>, Vec<LinkState>)
+        ensures nodes { result.0.items ≡ self.nodes }
+        ensures inputs { result.1.items ≡ self.inputs }
+        ensures exits { result.2.items ≡ self.exits }
+        ensures lines { result.3.items ≡ self.lines }
+    {
+        let Parts {
+            nodes,
+            inputs,
+            exits,
+            lines,
+        } = self;
+        (nodes, inputs, exits, lines)
     }
 
     /// The source's end of a link looks at its phase.

@@ -9,6 +9,7 @@ pub mod IdsLeft
 pub mod JobsBegin
 pub mod JobsReturn
 pub mod KeptOn
+pub mod LooksAll
 pub mod NetTells
 pub mod PassesCount
 pub mod RunsGoOn

@@ -11,7 +11,7 @@ use Rattle.flow_input.proofs.InputsAreParts.{inputs_are_parts}
 use Rattle.flow_core.specs.AtRest.{AtRest}
 use Rattle.flow_core.specs.Keeps.{IsRun, NetKeeps}
 use Rattle.flow_core.specs.State.{NetState, ends_of, run_of_net}
-use Rattle.flow_core.proofs.KeptIsLawful.{parts_keep}
+use Rattle.flow_core.proofs.KeptIsLawful.{kept_in_order, parts_keep}
 use Rattle.flow_report.specs.SameLists.{AllTaken}
 
 module _ {W : Type 0} (layout : Layout W) (meaning : ℕ → Value → Result (List Value) ℕ) (runs : IsRun layout) (net : NetState)
@@ -19,7 +19,7 @@ module _ {W : Type 0} (layout : Layout W) (meaning : ℕ → Value → Result (L
   link_agrees : NetKeeps layout meaning net → AllTaken (run_of_net layout meaning net)
   link_agrees keeps l s b p there from to =
       let run = run_of_net layout meaning net in
-      let parts = parts_keep layout meaning runs net keeps (nodes_are_lawful W) (inputs_are_parts W) in
+      let parts = parts_keep layout meaning runs net (kept_in_order keeps) (nodes_are_lawful W) (inputs_are_parts W) in
       let given : (ends_of layout net l).source.given ≡ gave_over l (marks_of run s) =
       ((parts.nodes s (runs.leads.from_block l s there from)).sources l there from).given in
       let taken : (ends_of layout net l).target.taken ≡ took_over l (marks_of run b) =
