@@ -52,19 +52,19 @@ use Rattle.flow_core.specs.State.{NetState, node_at, line_at, input_at, exit_at}
 use Rattle.flow_core.specs.Statements.{EventsKeep, PostsKeep}
 use Rattle.flow_core.proofs.PartsChange.{PartsInOrder, NodeSteps, given_at, taken_at, given_as, taken_as, parts_in_order}
 use Rattle.flow_core.proofs.PartsChange.{node_changes, given_stays, taken_stays, line_changes}
-use Rattle.flow_core.proofs.EndsStep.{SourceSteps, TargetSteps, source_steps, in_steps, call_steps, input_steps}
+use Rattle.flow_core.proofs.EndsStep.{SourceSteps, TargetSteps, call_steps, input_steps}
 use Rattle.flow_core.proofs.EndsStep.{block_gives, block_takes, input_gives, exit_takes, exit_steps}
-use Rattle.flow_core.proofs.BlocksMove.{is_at_home}
 use Rattle.flow_core.proofs.InputsMove.{posts}
+use Rattle.flow_core.proofs.NodesStep.{out_moves, in_moves}
 use Rattle.flow_core.proofs.LinesKeep.{net_keeps, keeps_with, line_stays}
 use Rattle.flow_core.proofs.EndsLook.{target_looks, source_looks_out}
-use Rattle.flow_core.proofs.PlacesOfLinks.{entry_there, exit_there, copy_there, port_there}
-use Rattle.flow_core.proofs.SourcesByKind.{shared_next, copied_next}
+use Rattle.flow_core.proofs.StagesFit.{is_at_home}
+use Rattle.flow_core.proofs.PlacesOfLinks.{entry_there, out_there, port_there}
 
 -- there is an id left for what a block makes, over its exits or for its element
-record IdsLeft (result : Value → Result (List Value) ℕ) (node : NodeState) : Type 0 where
-  ids : lacks_ids (puts_next result node) node.block.exits ≡ false
-  copy_id : is_broadcast node.block.kind ≡ true → node.block.copies.id + 1 < 2 ^ 59
+pub record IdsLeft (result : Value → Result (List Value) ℕ) (node : NodeState) : Type 0 where
+  pub ids : lacks_ids (puts_next result node) node.block.exits ≡ false
+  pub copy_id : is_broadcast node.block.kind ≡ true → node.block.copies.id + 1 < 2 ^ 59
 
 -- a broadcast puts nothing into its exits
 none_put : (result : Value → Result (List Value) ℕ) (node : NodeState) → is_broadcast node.block.kind ≡ true → puts_next result node ≡ []
@@ -73,7 +73,7 @@ none_put result node copies =
     (kind_tells is_broadcast true is_batched_join false refl node.block.kind copies)
     ∙ ap (λ (u : BlockUnit). puts_by_unit u result node.block) (copy_is (unit_of node.block.kind) copies)
 
-ids_left : {W : Type 0} (layout : Layout W) (meaning : ℕ → Value → Result (List Value) ℕ) (b : ℕ) (node : NodeState)
+pub ids_left : {W : Type 0} (layout : Layout W) (meaning : ℕ → Value → Result (List Value) ℕ) (b : ℕ) (node : NodeState)
     → NodeLaw layout meaning b node → (broadcast : Bool) → is_broadcast node.block.kind ≡ broadcast
     → lacks_next (block_makes layout meaning b) node ≡ false → IdsLeft (block_makes layout meaning b) node
 ids_left layout meaning b node law true copies ids =
@@ -131,17 +131,14 @@ module _ {W : Type 0} (kept : NodesKept W) (jobs : JobsEndWell W) (views : Calls
         let node = node_at net s in
         let low = run.leads.from_block l s there from in
         let law = parts.nodes s low in
-        let may = next_may layout meaning s node run.well_formed low law in
         let change = node_after layout meaning s (source_call node.block.kind k next) in
         let known = given_as layout net l (Block s) from in
         let stands = subst (λ (view : SourceView Value). Stands view (taken_at layout net l)) known in_order in
         record {
           view = source_view k (change node);
           steps = block_gives layout meaning l run there net parts s change from
-              (source_steps layout meaning kept views s node law k next (is_one_taker node.block.kind) refl
-              (λ shares. may.1 k next (exit_there layout meaning s node law l there from shares) (sym (shared_next k node shares) ∙ peek))
-              (λ copying. may.2 k next (copy_there layout meaning s node law l there from copying)
-              (sym (copied_next k node copying) ∙ peek)));
+              (out_moves kept views layout meaning s node law next_may run.well_formed low k
+              (out_there layout meaning s node law l there from) next peek);
           well = blocks_move layout meaning run l s there from node law (line_at net l).phase phase (line_at net l).slot
               (taken_at layout net l) next stands peek allowed;
         }
@@ -170,14 +167,13 @@ module _ {W : Type 0} (kept : NodesKept W) (jobs : JobsEndWell W) (views : Calls
         let law = parts.nodes t low in
         let port = port_there layout meaning t node law run p l there to in
         let place = entry_there layout meaning t node law run p l there to in
-        let may = (next_may layout meaning t node run.well_formed low law).0 p k next port place peek in
         let change = node_after layout meaning t (in_call p k slot next) in
         let known = taken_as layout net l (Port t p) to in
         let stands = subst (λ (view : TargetView Value). Stands (given_at layout net l) view) known in_order in
         record {
           view = in_view p k (change node);
           steps = block_takes layout meaning l run there net parts t p change to
-              (in_steps layout meaning kept views t node law p k slot next may);
+              (in_moves kept views layout meaning t node law next_may run.well_formed low p k port place slot next peek);
           well = targets_move layout meaning run l t p there to node law (line_at net l).phase phase slot
               (value_from layout net (link_in layout.links l).source) (given_at layout net l) next stands peek allowed;
         }
@@ -279,7 +275,7 @@ module _ {W : Type 0} (kept : NodesKept W) (jobs : JobsEndWell W) (views : Calls
         view = input_view (change input);
         steps = input_gives layout meaning l run there net parts b change from (inputs.calls input (InputCall.post value) law may);
         well = posts (facts_in layout l) line.phase (Posted id) line.slot taken input law inputs
-            (run.leads.inputs_unlimited l b there from) (run.leads.inputs_pass l b there from) ok value may free allowed;
+            (run.leads.inputs_unlimited l b there from) ok value may free allowed;
       })
 
   move_keeps : (l : ℕ) (next : Move) → LinkMay layout net l next

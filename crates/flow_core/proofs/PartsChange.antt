@@ -1,5 +1,5 @@
 -- One part of a network changes: the other parts stay in order, and no other end of a link learns anything by that.
-use Rattle.std.proofs.Common.{◌≡◌, ℕ, ◌<◌, Bool, true, false, List, length, Result, refl, ap, sym, ◌∙◌, subst, arith}
+use Rattle.std.proofs.Common.{◌≡◌, ℕ, ◌<◌, Bool, true, false, cond, List, length, Result, refl, ap, sym, ◌∙◌, subst, arith}
 use Rattle.std.specs.List.{count_by}
 use Rattle.std.proofs.lemmas.List.{length-set, get_or-set_same}
 use Rattle.flow_value.specs.declared.value.Value.{Value}
@@ -20,10 +20,11 @@ use Rattle.flow_exit.specs.Exit.{ExitState, fresh_exit, exit_view}
 use Rattle.flow_exit.specs.ExitKeeps.{ExitLaw}
 use Rattle.flow_core.specs.Events.{with_node, with_input, with_exit, with_line}
 use Rattle.flow_core.specs.Keeps.{IsRun, NetKeeps}
+use Rattle.flow_core.specs.MovesFit.{out_count}
 use Rattle.flow_link.specs.declared.trace.LinkState.{LinkState}
 use Rattle.flow_core.specs.State.{NetState, node_at, no_node, input_at, exit_at, source_from}
 use Rattle.flow_core.specs.State.{target_from}
-use Rattle.flow_core.proofs.PlacesOfLinks.{exit_there, copy_there, port_there, entry_there, leads_there}
+use Rattle.flow_core.proofs.PlacesOfLinks.{out_there, port_there, entry_there, leads_there}
 use Rattle.flow_core.proofs.SourcesByKind.{shared_view, copied_view, same_kind}
 use Rattle.flow_lists.proofs.PlacesTell.{count_within, counts_differ, element_set, place_rises, places_differ}
 
@@ -75,21 +76,20 @@ module _ {W : Type 0} (layout : Layout W) where
       pub outs : (k : ℕ) → k < length node.block.exits.ends → ¬ AboutOut k → out_view k new ≡ out_view k node
       pub copies : (k : ℕ) → k < length node.block.copies.ends → ¬ AboutOut k → copy_view k new ≡ copy_view k node
 
-    -- of a link out of it, whether it shares its messages out or copies them
-    view_by : (b : ℕ) (AboutIn : ℕ → ℕ → Type 0) (AboutOut : ℕ → Type 0) (node new : NodeState) → NodeLaw layout meaning b node
-        → NodeSteps b AboutIn AboutOut node new → (l : ℕ) → l < length layout.links → (link_in layout.links l).source ≡ Block b
-        → ¬ AboutOut (out_place layout b l) → (sharing : Bool) → is_one_taker node.block.kind ≡ sharing
-        → source_view (out_place layout b l) new ≡ source_view (out_place layout b l) node
-    view_by b AboutIn AboutOut node new law steps l low from apart true shares =
-        let k = out_place layout b l in
-        shared_view k new (same_kind layout meaning b node new law steps.law true shares)
-        ∙ steps.outs k (exit_there layout meaning b node law l low from shares) apart
-        ∙ sym (shared_view k node shares)
-    view_by b AboutIn AboutOut node new law steps l low from apart false copying =
-        let k = out_place layout b l in
-        copied_view k new (same_kind layout meaning b node new law steps.law false copying)
-        ∙ steps.copies k (copy_there layout meaning b node law l low from copying) apart
-        ∙ sym (copied_view k node copying)
+    -- what an end out of it knows of which nothing was said, whether it shares its messages out or copies them
+    module _ (b : ℕ) (AboutIn : ℕ → ℕ → Type 0) (AboutOut : ℕ → Type 0) (node new : NodeState) (law : NodeLaw layout meaning b node)
+        (steps : NodeSteps b AboutIn AboutOut node new) (k : ℕ) where
+      view_by : ¬ AboutOut k → (sharing : Bool) → is_one_taker node.block.kind ≡ sharing
+          → k < cond sharing (length node.block.exits.ends) (length node.block.copies.ends) → source_view k new ≡ source_view k node
+      view_by apart true shares there =
+          shared_view k new (same_kind layout meaning b node new law steps.law true shares)
+          ∙ steps.outs k there apart ∙ sym (shared_view k node shares)
+      view_by apart false copying there =
+          copied_view k new (same_kind layout meaning b node new law steps.law false copying)
+          ∙ steps.copies k there apart ∙ sym (copied_view k node copying)
+
+      pub out_stays : k < out_count node → ¬ AboutOut k → source_view k new ≡ source_view k node
+      out_stays there apart = view_by apart (is_one_taker node.block.kind) refl there
 
     -- A node changes
     module _ (run : IsRun layout) (net : NetState) (parts : PartsInOrder net) (b : ℕ) (there : b < length layout.blocks)
@@ -124,8 +124,8 @@ module _ {W : Type 0} (layout : Layout W) where
           (λ same.
           let here = ap (λ (i : ℕ). Block i) same in
           subst (λ (i : ℕ). GivesAlike k i (change (node_at net b))) (sym same)
-          (view_by b AboutIn AboutOut (node_at net b) (change (node_at net b)) (parts.nodes b there) steps k low (from ∙ here)
-          (apart here) (is_one_taker (node_at net b).block.kind) refl))
+          (out_stays b AboutIn AboutOut (node_at net b) (change (node_at net b)) (parts.nodes b there) steps (out_place layout b k)
+          (out_there layout meaning b (node_at net b) (parts.nodes b there) k low (from ∙ here)) (apart here)))
           refl
       source_stays k (Input c) low from apart = refl
 

@@ -1,5 +1,5 @@
 -- The end that a block has of a link is there, at the link's place, and is the link's.
-use Rattle.std.proofs.Common.{◌≡◌, ℕ, ◌<◌, ◌==◌, true, false, List, length, get_or, map, Result, refl, ap, sym, ◌∙◌, arith, eq-eqb}
+use Rattle.std.proofs.Common.{◌≡◌, ℕ, ◌<◌, ◌==◌, Bool, true, false, cond, List, length, get_or, map, Result, refl, ap, sym, ◌∙◌, arith, eq-eqb}
 use Rattle.std.proofs.lemmas.Bool.{and_from}
 use Rattle.std.proofs.lemmas.List as lists
 use Rattle.std.proofs.Math.ListN.{get_or-map}
@@ -18,6 +18,7 @@ use Rattle.flow_block.specs.Planned.{is_out_of, is_into, is_exit, leads_out, lin
 use Rattle.flow_block_law.proofs.PlacesOfCopies.{copy_out_of}
 use Rattle.flow_block_law.proofs.PlacesOfLinks.{end_out_of}
 use Rattle.flow_core.specs.Keeps.{IsRun}
+use Rattle.flow_core.specs.MovesFit.{out_count, out_rule}
 use Rattle.flow_lists.proofs.PlacesTell.{place_rises, place_finds}
 
 module _ {W : Type 0} (layout : Layout W) where
@@ -39,15 +40,33 @@ module _ {W : Type 0} (layout : Layout W) where
         pub exit_there : out_place layout b l < length node.block.exits.ends
         exit_there = (end_out_of layout meaning b node.block law.shape shares l there from).there
 
-        pub rule_there : (end_at node.block.exits (out_place layout b l)).rule ≡ rule_of layout l
+        rule_there : (end_at node.block.exits (out_place layout b l)).rule ≡ rule_of layout l
         rule_there = (end_out_of layout meaning b node.block law.shape shares l there from).rule_is
 
       module _ (copying : is_one_taker node.block.kind ≡ false) where
         pub copy_there : out_place layout b l < length node.block.copies.ends
         copy_there = (copy_out_of layout b node.block.copies (law.copies.copier copying).rules l there from).there
 
-        pub copy_rule_there : (link_at node.block.copies (out_place layout b l)).rule ≡ rule_of layout l
+        copy_rule_there : (link_at node.block.copies (out_place layout b l)).rule ≡ rule_of layout l
         copy_rule_there = (copy_out_of layout b node.block.copies (law.copies.copier copying).rules l there from).rule_is
+
+      -- either
+      there_by : (sharing : Bool) → is_one_taker node.block.kind ≡ sharing
+          → out_place layout b l < cond sharing (length node.block.exits.ends) (length node.block.copies.ends)
+      there_by true shares = exit_there shares
+      there_by false copying = copy_there copying
+
+      rule_by : (sharing : Bool) → is_one_taker node.block.kind ≡ sharing
+          → cond sharing (end_at node.block.exits (out_place layout b l)).rule (link_at node.block.copies (out_place layout b l)).rule
+          ≡ rule_of layout l
+      rule_by true shares = rule_there shares
+      rule_by false copying = copy_rule_there copying
+
+      pub out_there : out_place layout b l < out_count node
+      out_there = there_by (is_one_taker node.block.kind) refl
+
+      pub out_rule_there : out_rule (out_place layout b l) node ≡ rule_of layout l
+      out_rule_there = rule_by (is_one_taker node.block.kind) refl
 
     -- the end of a link into a port of the block
     module _ (run : IsRun layout) (p l : ℕ) (there : l < length layout.links)

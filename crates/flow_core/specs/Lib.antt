@@ -3,6 +3,7 @@ pub mod Events
 pub mod InOrder
 pub mod Inputs
 pub mod Keeps
+pub mod MovesFit
 pub mod Numbers
 pub mod OneMove
 pub mod State
