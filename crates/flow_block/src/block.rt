@@ -3,7 +3,7 @@ ghost use Rattle.std.specs.Prelude.{◌≡◌, ◌<◌, ◌^◌, true, length, M
 ghost use Rattle.flow_intake.specs.Calls.{first_of, in_move, next_place};
 ghost use Rattle.flow_intake.specs.Port.{link_in};
 ghost use Rattle.flow_outlet.specs.End.{count_at, is_away};
-ghost use Rattle.flow_outlet.specs.Outlet.{out_move, end_at, may_offer};
+ghost use Rattle.flow_outlet.specs.Outlet.{out_move, end_at, stage_at, may_offer};
 ghost use Rattle.flow_block.specs.Block.{port_at};
 ghost use Rattle.flow_block.specs.BlockFits.{fresh_block};
 ghost use Rattle.flow_block.specs.JournalFits.{copies_due, marks_due};
@@ -13,7 +13,7 @@ use crate::copies::exits_of;
 use crate::jobs::Jobs;
 use crate::ports::ports_due;
 use flow_intake::Intake;
-use flow_link::{BlockKind, LinkId, Move, Outcome};
+use flow_link::{BlockKind, LinkId, Move, Outcome, SourceStage};
 use flow_outlet::{LinkRule, Outlet};
 use flow_spread::Spread;
 use flow_value::Value;
@@ -151,6 +151,14 @@ impl Block {
         ensures { result ≡ (end_at self.now.exits place).rule.id }
     {
         self.exits.ends()[place].rule.id
+    }
+
+    /// Where the end of the link out of it at this place stands.
+    pub fn out_stage(&self, place: usize) -> SourceStage
+        requires { place < length self.now.exits.ends }
+        ensures { result ≡ stage_at self.now.exits place }
+    {
+        self.exits.ends()[place].stage
     }
 
     /// What it took at a port and has not worked on, oldest first.

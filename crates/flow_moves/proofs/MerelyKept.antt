@@ -14,7 +14,9 @@ use Rattle.flow_link.proofs.KindsTell.{kind_tells}
 use Rattle.flow_block.specs.Routes.{route_of}
 use Rattle.flow_block.specs.Block.{held_by, has_ports}
 use Rattle.flow_block.specs.Jobs.{JobsState, is_out}
+use Rattle.flow_block.specs.Node.{NodeState}
 use Rattle.flow_block.specs.Planned.{block_makes}
+use Rattle.flow_block_law.specs.NodeLaw.{NodeLaw}
 use Rattle.flow_block_law.proofs.OnceMakesNone.{makes_many}
 use Rattle.flow_block_law.proofs.JobsEnd.{none_out}
 use Rattle.flow_block_law.proofs.JobsHold.{begun_held}
@@ -40,23 +42,26 @@ works_where jobs ticket true none out = refl
 works_where jobs ticket false none out = absurd (none_out ticket jobs (none refl) out)
 
 -- a block is of the kind that the plan has there, and has one port, if it is no join of either kind
+pub block_planned : {W : Type 0} (layout : Layout W) (meaning : ℕ → Value → Result (List Value) ℕ) (b : ℕ) (node : NodeState)
+    → NodeLaw layout meaning b node → IsPlanned layout b node.block
+block_planned layout meaning b node law =
+    let block = node.block in
+    record {
+      kind_is = law.shape.kind_is;
+      alone = has_one_port layout meaning b block law.shape;
+      some_port = law.shape.some_port;
+      alone_at_work = λ works.
+          has_one_port layout meaning b block law.shape (kind_tells has_work true has_ports false refl block.kind works);
+      many = makes_many layout meaning b node law;
+      begun = begun_held (block_makes layout meaning b) (held_by block) block.jobs.slots law.jobs.results;
+      drained = law.jobs.drained;
+      works = λ ticket out.
+          works_where block.jobs ticket (has_work block.kind) (λ idle. law.jobs.only_works idle) out;
+    }
+
 planned_by : {W : Type 0} (layout : Layout W) (meaning : ℕ → Value → Result (List Value) ℕ) (net : NetState)
     → NetKeeps layout meaning net → (b : ℕ) → b < length layout.blocks → IsPlanned layout b (node_at net b).block
-planned_by layout meaning net keeps b low =
-    let block = (node_at net b).block in
-    let shape = (keeps.nodes b low).shape in
-    let jobs = (keeps.nodes b low).jobs in
-    record {
-      kind_is = shape.kind_is;
-      alone = has_one_port layout meaning b block shape;
-      some_port = shape.some_port;
-      alone_at_work = λ works. has_one_port layout meaning b block shape (kind_tells has_work true has_ports false refl block.kind works);
-      many = makes_many layout meaning b (node_at net b) (keeps.nodes b low);
-      begun = begun_held (block_makes layout meaning b) (held_by block) block.jobs.slots jobs.results;
-      drained = jobs.drained;
-      works = λ ticket out.
-          works_where block.jobs ticket (has_work block.kind) (λ idle. jobs.only_works idle) out;
-    }
+planned_by layout meaning net keeps b low = block_planned layout meaning b (node_at net b) (keeps.nodes b low)
 
 pub blocks_are_planned : (W : Type 0) → BlocksArePlanned W
 blocks_are_planned W layout meaning runs net keeps b low = planned_by layout meaning net keeps b low

@@ -1,5 +1,5 @@
 -- For a move that may happen all stands ready at the end that makes it.
-use Rattle.std.proofs.Common.{◌≡◌, ℕ, ◌<◌, ◌^◌, ◌==◌, not, Bool, true, false, List, length, Option, Some, None, is_some}
+use Rattle.std.proofs.Common.{◌≡◌, ℕ, ◌<◌, ◌^◌, ◌==◌, not, cond, Bool, true, false, List, length, Option, Some, None, is_some}
 use Rattle.std.proofs.Common.{Result, refl, ap, sym, ◌∙◌, subst}
 use Rattle.flow_value.specs.declared.value.Value.{Value}
 use Rattle.flow_value.specs.declared.when.When.{When}
@@ -20,6 +20,7 @@ use Rattle.flow_link.specs.LinkOk.{LinkOk}
 use Rattle.flow_link.specs.Plan.{link_in, is_one_taker}
 use Rattle.flow_link.specs.Stage.{target_stage_of, in_hand}
 use Rattle.flow_link.specs.Views.{SourceView, TargetView, LinkFacts}
+use Rattle.flow_link.specs.WellFormed.{IsWellFormed}
 use Rattle.std.proofs.lemmas.Bool.{and_parts, OnTrue_at}
 use Rattle.flow_link.proofs.TargetMoves.{target_moves_keep}
 use Rattle.flow_intake.specs.Calls.{is_arrived}
@@ -102,15 +103,14 @@ exit_end_ready exit facts phase slot source ok _ may = absurd may
 -- An input is ready
 
 -- its parcel is made for what it gives, and there is an id for what it offers
-input_ready : {W : Type 0} (layout : Layout W) (meaning : ℕ → Value → Result (List Value) ℕ) (net : NetState) (l : ℕ)
-    (input : InputState) → InputLaw input → (next : Move) → MayMoveInput input next
-    → HasIds layout meaning (NetEvent.at_link l next) net → InputIsReady next input
-input_ready layout meaning net l input law (move.Offer id) may ids =
-    record { may = may.1; id = subst (λ (i : ℕ). i < 2 ^ 59) may.0 ids }
-input_ready layout meaning net l input law move.Give may ids =
+pub input_ready : (input : InputState) → InputLaw input → (next : Move) → MayMoveInput input next
+    → ((id : ℕ) → next ≡ move.Offer id → id < 2 ^ 59) → InputIsReady next input
+input_ready input law (move.Offer id) may ids =
+    record { may = may.1; id = subst (λ (i : ℕ). i < 2 ^ 59) may.0 (ids id refl) }
+input_ready input law move.Give may ids =
     record { wanted = may; parcel = ap is_some (inputs_keep.views input InputCall.give law may).ready }
-input_ready layout meaning net l input law (move.End how) may ids = may.is_at_home
-input_ready layout meaning net l input law _ may ids = absurd may
+input_ready input law (move.End how) may ids = may.is_at_home
+input_ready input law _ may ids = absurd may
 
 module _ {W : Type 0} (layout : Layout W) (meaning : ℕ → Value → Result (List Value) ℕ) (b : ℕ) (node : NodeState)
     (law : NodeLaw layout meaning b node) where
@@ -165,29 +165,36 @@ module _ {W : Type 0} (layout : Layout W) (meaning : ℕ → Value → Result (L
   copy_ready copier k (move.End how) may = record { there = may.place; stands = may.stands.0 }
   copy_ready copier k _ may = absurd may
 
+  -- and of either, by whether it shares its messages out or copies them
+  pub end_ready : IsWellFormed layout.blocks layout.links → b < length layout.blocks → (k : ℕ) (next : Move) → next_source k node ≡ Some next
+      → (sharing : Bool) → is_one_taker node.block.kind ≡ sharing
+      → k < cond sharing (length node.block.exits.ends) (length node.block.copies.ends) → ReadyBy sharing k next node
+  end_ready well there k next peek true shares place =
+      out_ready k next ((next_moves_may layout meaning b node well there law).1 k next place (sym (shared_next k node shares) ∙ peek))
+  end_ready well there k next peek false copying place =
+      copy_ready (law.copies.copier copying) k next
+      ((next_moves_may layout meaning b node well there law).2 k next place (sym (copied_next k node copying) ∙ peek))
+
   -- A block's end of a link into it
 
-  in_ready : (p k : ℕ) (facts : LinkFacts) (phase : Phase) (slot : Option Value) (source : SourceView Value)
-      → LinkOk facts phase slot source (in_view p k node)
-      → (next : Move) → MayMoveIn layout meaning b node p k next → InIsReady p k slot next node
-  in_ready p k facts phase slot source ok move.Want may = (may.0, may.1.room)
-  in_ready p k facts phase slot source ok move.TurnDown may = may
-  in_ready p k facts phase slot source ok move.Postpone may = may.offered
-  in_ready p k facts phase slot source ok move.Refuse may = may
-  in_ready p k facts phase slot source ok move.Consume may = (may.0, may.1.room)
-  in_ready p k facts phase slot source ok move.Ask may =
+  -- what it opens lies in the slot
+  pub in_ready : (p k : ℕ) (slot : Option Value) (next : Move) → MayMoveIn layout meaning b node p k next
+      → (next ≡ move.Open → is_some slot ≡ true) → InIsReady p k slot next node
+  in_ready p k slot move.Want may full = (may.0, may.1.room)
+  in_ready p k slot move.TurnDown may full = may
+  in_ready p k slot move.Postpone may full = may.offered
+  in_ready p k slot move.Refuse may full = may
+  in_ready p k slot move.Consume may full = (may.0, may.1.room)
+  in_ready p k slot move.Ask may full =
       let now = asks_so p k node may in
       (record { port = may.port; place = may.place; stands = now.waits }, now.room)
-  in_ready p k facts phase slot source ok move.Claim may =
+  in_ready p k slot move.Claim may full =
       record { port = may.port; place = may.place; stands = (claims_so p k node may).held }
-  in_ready p k facts phase slot source ok move.Release may =
+  in_ready p k slot move.Release may full =
       record { port = may.port; place = may.place; stands = (releases_so p k node may).held }
-  in_ready p k facts phase slot source ok move.Open may =
-      let arrived = may (in_hand None) in
-      let end = end_in k (port_at p node.block).ends in
-      (arrived, slot_full facts phase slot end.hand source (in_view p k node) end.stage arrived.stands refl ok)
-  in_ready p k facts phase slot source ok move.Close may = may
-  in_ready p k facts phase slot source ok _ may = absurd may
+  in_ready p k slot move.Open may full = (may (in_hand None), full refl)
+  in_ready p k slot move.Close may full = may
+  in_ready p k slot _ may full = absurd may
 
 -- The two ends of a link
 
@@ -195,25 +202,20 @@ module _ {W : Type 0} (layout : Layout W) (meaning : ℕ → Value → Result (L
     (net : NetState) (keeps : NetKeeps layout meaning net) (l : ℕ) (there : l < length layout.links) (next : Move)
     (ids : HasIds layout meaning (NetEvent.at_link l next) net) where
   -- the end of a link out of a block, whether the block shares its messages out or copies them
+  end_there : (s : ℕ) → NodeLaw layout meaning s (node_at net s) → (link_in layout.links l).source ≡ Block s
+      → (sharing : Bool) → is_one_taker (node_at net s).block.kind ≡ sharing
+      → out_place layout s l < cond sharing (length (node_at net s).block.exits.ends) (length (node_at net s).block.copies.ends)
+  end_there s law from true shares = exit_there layout meaning s (node_at net s) law l there from shares
+  end_there s law from false copying = copy_there layout meaning s (node_at net s) law l there from copying
+
   exit_ready : (s : ℕ) → (link_in layout.links l).source ≡ Block s → next_source (out_place layout s l) (node_at net s) ≡ Some next
       → (sharing : Bool) → is_one_taker (node_at net s).block.kind ≡ sharing
       → ReadyBy sharing (out_place layout s l) next (node_at net s)
-  exit_ready s from peek true shares =
-      let k = out_place layout s l in
-      let node = node_at net s in
+  exit_ready s from peek sharing is =
       let low = run.leads.from_block l s there from in
       let law = keeps.nodes s low in
-      let place = exit_there layout meaning s node law l there from shares in
-      out_ready layout meaning s node law k next
-      ((next_moves_may layout meaning s node run.well_formed low law).1 k next place (sym (shared_next k node shares) ∙ peek))
-  exit_ready s from peek false copying =
-      let k = out_place layout s l in
-      let node = node_at net s in
-      let low = run.leads.from_block l s there from in
-      let law = keeps.nodes s low in
-      let place = copy_there layout meaning s node law l there from copying in
-      copy_ready layout meaning s node law (law.copies.copier copying) k next
-      ((next_moves_may layout meaning s node run.well_formed low law).2 k next place (sym (copied_next k node copying) ∙ peek))
+      end_ready layout meaning s (node_at net s) law run.well_formed low (out_place layout s l) next peek sharing is
+      (end_there s law from sharing is)
 
   source_ready : (source : LinkSource) → (link_in layout.links l).source ≡ source
       → source_peek layout net l source ≡ Some next → SourceIsReady next net source (source_place layout source l)
@@ -222,7 +224,8 @@ module _ {W : Type 0} (layout : Layout W) (meaning : ℕ → Value → Result (L
   source_ready (Input b) from peek =
       let input = input_at layout net b in
       let law = keeps.inputs b (run.leads.from_input l b there from) (run.leads.from_inputs l b there from) in
-      input_ready layout meaning net l input law next (inputs_keep.next input next law peek) ids
+      input_ready input law next (inputs_keep.next input next law peek)
+      (λ id is. subst (λ (step : Move). HasIds layout meaning (NetEvent.at_link l step) net) is ids)
 
   target_ready : (target : LinkTarget) → (link_in layout.links l).target ≡ target
       → target_peek layout net l target ≡ Some next → TargetIsReady l next net target (target_place layout target l)
@@ -238,8 +241,11 @@ module _ {W : Type 0} (layout : Layout W) (meaning : ℕ → Value → Result (L
       let given = given_at layout net l in
       let ok = subst (λ (view : TargetView Value). LinkOk (facts_in layout l) phase slot given view)
       (taken_as layout net l (Port t p) to) (keeps.lines l there).in_order in
-      in_ready layout meaning t node law p k (facts_in layout l) phase slot given ok next
-      ((next_moves_may layout meaning t node run.well_formed low law).0 p k next port place peek)
+      let end = end_in k (port_at p node.block).ends in
+      let may = (next_moves_may layout meaning t node run.well_formed low law).0 p k next port place peek in
+      in_ready layout meaning t node law p k slot next may (λ is.
+      let arrived = (subst (MayMoveIn layout meaning t node p k) is may (in_hand None)).stands in
+      slot_full (facts_in layout l) phase slot end.hand given (in_view p k node) end.stage arrived refl ok)
   target_ready Exit to peek =
       let exit = exit_at layout net l in
       let phase = (line_at net l).phase in

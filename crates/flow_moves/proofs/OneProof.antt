@@ -103,11 +103,11 @@ copy_ready_prop k move.Withdraw copies = hlevel (le_prop, Bool-set)
 copy_ready_prop k (move.End how) copies = hlevel (le_prop, Bool-set)
 copy_ready_prop k _ copies = hlevel
 
-exit_ready_prop : (sharing : Bool) (k : ℕ) (next : Move) (node : NodeState) → IsProp (ReadyBy sharing k next node)
+pub exit_ready_prop : (sharing : Bool) (k : ℕ) (next : Move) (node : NodeState) → IsProp (ReadyBy sharing k next node)
 exit_ready_prop true k next node = out_ready_prop k next node
 exit_ready_prop false k next node = copy_ready_prop k next node.block.copies
 
-in_ready_prop : (p k : ℕ) (slot : Option Value) (next : Move) (node : NodeState) → IsProp (InIsReady p k slot next node)
+pub in_ready_prop : (p k : ℕ) (slot : Option Value) (next : Move) (node : NodeState) → IsProp (InIsReady p k slot next node)
 in_ready_prop p k slot move.Want node = hlevel (le_prop, Bool-set)
 in_ready_prop p k slot move.TurnDown node = hlevel (le_prop, Bool-set)
 in_ready_prop p k slot move.Postpone node = hlevel (le_prop, Bool-set)
@@ -129,7 +129,7 @@ exit_end_ready_prop slot move.Open exit = hlevel Bool-set
 exit_end_ready_prop slot move.Close exit = Bool-set _ _
 exit_end_ready_prop slot _ exit = hlevel
 
-input_ready_prop : (next : Move) (input : InputState) → IsProp (InputIsReady next input)
+pub input_ready_prop : (next : Move) (input : InputState) → IsProp (InputIsReady next input)
 input_ready_prop (move.Offer id) input = hlevel (le_prop, Bool-set)
 input_ready_prop move.Give input = hlevel Bool-set
 input_ready_prop (move.End how) input = Bool-set _ _

@@ -1,5 +1,5 @@
 -- What a call leaves of a node, whatever the node makes of its messages; and what a move takes out of its end.
-use Rattle.std.specs.Prelude.{◌≡◌, ℕ, List, Option, Some, None, Result}
+use Rattle.std.specs.Prelude.{◌≡◌, ℕ, Bool, true, false, List, Option, Some, None, Result}
 use Rattle.flow_value.specs.declared.value.Value.{Value}
 use Rattle.flow_link.specs.declared.phase.Move.{Move}
 use Rattle.flow_link.specs.declared.phase.Move.TheVariants as move
@@ -27,3 +27,9 @@ slot_after_source _ given slot = slot
 abbrev pub left_in_slot : Move → Option Value → Option Value
 left_in_slot move.Open slot = None
 left_in_slot _ slot = slot
+
+-- the first answer to an offer, for which a block needs room
+abbrev pub answers_first : Move → Bool
+answers_first move.Want = true
+answers_first move.Postpone = true
+answers_first _ = false

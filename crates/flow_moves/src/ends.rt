@@ -1,5 +1,5 @@
 //! A move of one end of a link, with all that stands ready for it.
-ghost use Rattle.std.specs.Prelude.{◌≡◌, ◌<◌, None, OnOk, OnErr, IfOk, Some};
+ghost use Rattle.std.specs.Prelude.{◌≡◌, ◌<◌, None, true, OnOk, OnErr, IfOk, Some};
 ghost use Rattle.flow_link.specs.Plan.{is_one_taker};
 ghost use Rattle.flow_input.specs.Input.{next_value};
 ghost use Rattle.flow_block_law.specs.NextMoves.{next_source};
@@ -7,7 +7,7 @@ ghost use Rattle.flow_block.specs.Node.{given_next};
 ghost use Rattle.flow_exit.specs.Exit.{exit_after, exit_call};
 ghost use Rattle.flow_core.specs.Events.{out_call, copy_call, source_call, source_look, in_call, input_call, input_after};
 ghost use Rattle.flow_outlet.specs.Outlet.{head_of};
-ghost use Rattle.flow_moves.specs.Calls.{Calls, handed, left_in_slot};
+ghost use Rattle.flow_moves.specs.Calls.{Calls, answers_first, handed, left_in_slot};
 ghost use Rattle.flow_moves.specs.Ready.{OutIsReady, CopyIsReady, ExitIsReady, ExitEndIsReady, InIsReady, InputIsReady, exit_count};
 
 use flow_block::{Block, Node};
@@ -26,7 +26,7 @@ pub fn shares_out(block: &Block) -> bool
 
 /// What a block's end of a link out of it would do next.
 #[inline(always)]
-pub(crate) fn next_of_exit(node: &Node, place: usize) -> Option<Move>
+pub fn next_of_exit(node: &Node, place: usize) -> Option<Move>
     requires { place < exit_count node.now }
     ensures { result ≡ next_source place node.now }
 {
@@ -38,7 +38,7 @@ pub(crate) fn next_of_exit(node: &Node, place: usize) -> Option<Move>
 }
 
 /// A block's end of a link out of it looks at the link's phase.
-pub(crate) fn look_exit(node: &mut Node, place: usize, phase: Phase)
+pub fn look_exit(node: &mut Node, place: usize, phase: Phase)
     requires { place < exit_count node.old }
     ensures { Calls (Some (source_look node.old.block.kind place phase)) node.old node.new }
 {
@@ -51,7 +51,7 @@ pub(crate) fn look_exit(node: &mut Node, place: usize, phase: Phase)
 
 /// A block's end of a link out of it makes its move, whether the block shares its messages out or copies them: the
 /// parcel that it hands over, if it does. Where memory is out, nothing has changed.
-pub(crate) fn move_exit(
+pub fn move_exit(
     node: &mut Node,
     alloc: Global,
     place: usize,
@@ -125,7 +125,7 @@ fn move_copy(
 
 /// An input's end of its link makes its move: the parcel that it hands over, if it does. Where memory is out, nothing
 /// has changed.
-pub(crate) fn move_input(
+pub fn move_input(
     input: &mut Input,
     alloc: Global,
     next: Move,
@@ -168,9 +168,9 @@ pub(crate) fn move_exit_end(exit: &mut ExitEnd, slot: &mut Option<Parcel>, next:
     }
 }
 
-/// A block's end of a link into it makes its move; it takes a message that lies in the slot. Where memory is out,
-/// nothing has changed.
-pub(crate) fn move_in(
+/// A block's end of a link into it makes its move; it takes a message that lies in the slot. Only the first answer to an offer
+/// takes memory; where it is out, nothing has changed.
+pub fn move_in(
     node: &mut Node,
     port: PortId,
     place: usize,
@@ -180,6 +180,7 @@ pub(crate) fn move_in(
     requires { InIsReady port place slot.old next node.old }
     ensures done { OnOk result (Calls (in_call port place slot.old next) node.old node.new) }
     ensures slot { OnOk result (slot.new ≡ left_in_slot next slot.old) }
+    ensures memory { OnErr result (answers_first next ≡ true) }
     ensures kept { OnErr result (node.new ≡ node.old) }
     ensures slot_kept { OnErr result (slot.new ≡ slot.old) }
 {

@@ -14,10 +14,11 @@ mod parts;
 mod pass;
 mod sends;
 
-pub use ends::shares_out;
+pub use ends::{look_exit, move_exit, move_in, move_input, next_of_exit, shares_out};
 pub use fresh::{exits_of, lines_of, nodes_of};
 pub use laws::{
     blocks_are_planned, links_are_there, moves_are_ready, moves_go_along_ways,
     next_moves_may_happen, nothing_next_is_still, passes_may_happen, posts_go_along_ways,
 };
+pub use own::finish_job;
 pub use parts::{Parts, is_of_source};

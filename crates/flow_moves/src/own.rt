@@ -246,7 +246,7 @@ fn work_by_list<W: Runs>(
 
 /// The message of a job is worked on by this work, and the result comes back.
 #[tactic(auto, using(crate::proofs::WorksAtOnce::result_is))]
-fn finish_job<W: Runs>(
+pub fn finish_job<W: Runs>(
     node: &mut Node,
     alloc: Global,
     ticket: u64,
