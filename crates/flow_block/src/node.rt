@@ -551,5 +551,21 @@ pub(crate) fn reserve_mark(journal: &mut Vec<Mark>, block: &Block) -> Result<(),
     ensures room { OnOk result (vec_len journal.new + marks_due block.now + 1 ≤ vec_capacity journal.new) }
     ensures capacity { vec_capacity journal.old ≤ vec_capacity journal.new }
 {
-    journal.reserve(block.marks_due() + 1)
+    let count = block.marks_due() + 1;
+    if count <= journal.capacity() - journal.len() {
+        return Ok(());
+    }
+    grow(journal, count)
+}
+
+// Cold, since memory for as many marks again is taken each time.
+#[cold]
+#[inline(never)]
+fn grow(journal: &mut Vec<Mark>, count: usize) -> Result<(), AllocError>
+    ensures items { journal.new.items ≡ journal.old.items }
+    ensures len { vec_len journal.new ≡ vec_len journal.old }
+    ensures room { OnOk result (vec_len journal.new + count ≤ vec_capacity journal.new) }
+    ensures capacity { vec_capacity journal.old ≤ vec_capacity journal.new }
+{
+    journal.reserve(count)
 }

@@ -4,6 +4,7 @@
 //! does not fail, from the answer until the message is taken.
 ghost use Rattle.std.specs.Prelude.{◌≡◌, ◌<◌, ◌≤◌, ◌+◌, ◌-◌, true, false, ◌++◌, ◌∷◌, [], ◌^◌, length, OnOk, OnErr, is_none};
 ghost use Rattle.std.specs.Prelude.{ℕ, IfOk, Some, is_some, cond, drop, unwrap_or};
+ghost use Rattle.std.specs.VecDeque.{deque_len, deque_capacity};
 ghost use Rattle.flow_intake.specs.Port.{PortState, fresh_end, fresh_port, stage_at, hand_in, is_offer};
 ghost use Rattle.flow_intake.specs.Port.{is_owed, is_hand, is_wanted, coming, has_room, count_at, is_coming};
 ghost use Rattle.flow_intake.specs.Ended.{has_seen_completion, fault_at_ends};
@@ -278,7 +279,7 @@ impl Intake {
         ensures done { OnOk result (self.new ≡ prepared self.old) }
         ensures kept { OnErr result (self.new ≡ self.old) }
     {
-        self.waiting.reserve(self.ends.owed() + 1)?;
+        reserve(&mut self.waiting, self.ends.owed() + 1)?;
         self.queue.prepare()?;
         self.ready = true;
         Ok(())
@@ -698,6 +699,32 @@ fn move_of(status: MessageStatus) -> Option<Move>
         MessageStatus::NotAvailable => None,
         MessageStatus::DecliningPermanently => Some(Move::Refuse),
     }
+}
+
+/// Sets memory aside for so many messages more.
+#[inline]
+fn reserve(waiting: &mut VecDeque<Value>, count: usize) -> Result<(), AllocError>
+    ensures items { waiting.new.items ≡ waiting.old.items }
+    ensures len { deque_len waiting.new ≡ deque_len waiting.old }
+    ensures capacity { deque_capacity waiting.old ≤ deque_capacity waiting.new }
+    ensures room { OnOk result (deque_len waiting.new + count ≤ deque_capacity waiting.new) }
+{
+    if count <= waiting.capacity() - waiting.len() {
+        return Ok(());
+    }
+    grow(waiting, count)
+}
+
+// Cold, since memory for as many messages again is taken each time.
+#[cold]
+#[inline(never)]
+fn grow(waiting: &mut VecDeque<Value>, count: usize) -> Result<(), AllocError>
+    ensures items { waiting.new.items ≡ waiting.old.items }
+    ensures len { deque_len waiting.new ≡ deque_len waiting.old }
+    ensures capacity { deque_capacity waiting.old ≤ deque_capacity waiting.new }
+    ensures room { OnOk result (deque_len waiting.new + count ≤ deque_capacity waiting.new) }
+{
+    waiting.reserve(count)
 }
 
 /// The load when one more message was taken: it counts only where there is a capacity.

@@ -90,6 +90,17 @@ impl Queue {
         ensures ready { OnOk result (self.new ≡ record self.old { has_room = true }) }
         ensures kept { OnErr result (self.new ≡ self.old) }
     {
+        if self.ready {
+            return Ok(());
+        }
+        self.make_ready()
+    }
+
+    #[inline(never)]
+    fn make_ready(&mut self) -> Result<(), AllocError>
+        ensures ready { OnOk result (self.new ≡ record self.old { has_room = true }) }
+        ensures kept { OnErr result (self.new ≡ self.old) }
+    {
         if self.last == u64::MAX {
             return Err(AllocError);
         }

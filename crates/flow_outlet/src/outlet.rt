@@ -623,6 +623,28 @@ fn make_room(
     ensures no_less { deque_capacity left.old ≤ deque_capacity left.new }
     ensures no_fewer { deque_capacity groups.old ≤ deque_capacity groups.new }
 {
+    if space <= left.capacity() - left.len() && slots <= groups.capacity() - groups.len() {
+        return Ok(());
+    }
+    grow(left, groups, space, slots)
+}
+
+// Cold, since memory for as many values again is taken each time.
+#[cold]
+#[inline(never)]
+fn grow(
+    left: &mut VecDeque<Value>,
+    groups: &mut VecDeque<Group>,
+    space: usize,
+    slots: usize,
+) -> Result<(), AllocError>
+    ensures left { left.new.items ≡ left.old.items }
+    ensures groups { groups.new.items ≡ groups.old.items }
+    ensures space { OnOk result (length left.old.items + space ≤ deque_capacity left.new) }
+    ensures slots { OnOk result (length groups.old.items + slots ≤ deque_capacity groups.new) }
+    ensures no_less { deque_capacity left.old ≤ deque_capacity left.new }
+    ensures no_fewer { deque_capacity groups.old ≤ deque_capacity groups.new }
+{
     left.reserve(space)?;
     groups.reserve(slots)
 }

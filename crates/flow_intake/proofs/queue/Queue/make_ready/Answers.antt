@@ -1,5 +1,5 @@
 use Rattle.std.proofs.Common.{arith}
-use Rattle.flow_intake.proofs.queue.Queue.prepare.Goals as goal
+use Rattle.flow_intake.proofs.queue.Queue.make_ready.Goals as goal
 
 pub invariant_of-self : goal.invariant_of-self
 invariant_of-self c =
