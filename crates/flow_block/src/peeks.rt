@@ -8,7 +8,7 @@ ghost use Rattle.flow_outlet.specs.End.{is_waiting};
 ghost use Rattle.flow_outlet.specs.Outlet.{out_move, stage_at, is_empty};
 ghost use Rattle.flow_block.specs.Block.{port_at, port_in};
 ghost use Rattle.flow_block.specs.Peeks.{may_work, may_make, may_begin, may_end, may_complete, next_fault, is_held_up, may_finish, could_stop};
-ghost use Rattle.flow_spread.specs.Spread.{out_move as copy_move};
+ghost use Rattle.flow_spread.specs.Spread.{out_move as copy_move, stage_at as copy_stage_at};
 ghost use Rattle.flow_block.specs.Peeks.{may_copy, is_written, is_copy_held_up, would_copy, has_all_given};
 ghost use Rattle.flow_block.specs.Peeks.{is_copied_out, is_out_at_rest};
 ghost use Rattle.flow_block.specs.Peeks.{fault_cause, link_fault, fault_at_ports, is_pending, has_group, has_next, is_worked_off, is_complete};
@@ -231,12 +231,22 @@ impl Block {
     }
 
     /// What the end of a link out of it over which copies go would do next.
+    #[tactic(auto, using(crate::proofs::MovesOut::copies_held_up_where_one_waits))]
+    #[inline(always)]
     pub fn next_copy(&self, place: usize) -> Option<Move>
         requires { place < length self.now.copies.ends }
         ensures { result ≡ copy_move place self.now.stopped (is_copy_held_up self.now) self.now.copies }
     {
-        self.copies
-            .out_move(place, self.stopped, self.is_copy_held_up())
+        let held_up = self.copy_waits_at(place) && self.is_copy_held_up();
+        self.copies.out_move(place, self.stopped, held_up)
+    }
+
+    /// Whether a copy is offered over the link at this place, and waits there.
+    fn copy_waits_at(&self, place: usize) -> bool
+        requires { place < length self.now.copies.ends }
+        ensures { result ≡ is_waiting (copy_stage_at self.now.copies place) }
+    {
+        self.copies.ends()[place].link.is_waiting()
     }
 
     /// What the end of a link out of it would do next.
