@@ -205,6 +205,7 @@ impl Block {
     }
 
     /// How many marks may follow from what memory is set aside for: a message that is taken, and a head that is given.
+    #[inline(always)]
     pub(crate) fn marks_due(&self) -> usize
         requires { marks_due self.now < 2 ^ 64 }
         ensures { result ≡ marks_due self.now }
@@ -261,6 +262,7 @@ impl Block {
 
     /// What the end of a link out of it would do next. The caller tells whether the block would fault but for offers
     /// that wait.
+    #[inline(always)]
     pub(crate) fn out_move(&self, place: usize, held_up: bool) -> Option<Move>
         requires { place < length self.now.exits.ends }
         ensures { result ≡ out_move place self.now.stopped held_up self.now.exits }

@@ -62,6 +62,7 @@ pub(crate) fn exits_of(
 }
 
 /// What the element counts: nothing, where no link owes it.
+#[inline(always)]
 pub(crate) fn copies_left(copies: &Spread) -> u32
     ensures { result ≡ copies_left copies.now }
 {
@@ -69,6 +70,7 @@ pub(crate) fn copies_left(copies: &Spread) -> u32
 }
 
 /// What the element takes of the block's room: at a block that takes one message in all, it does for good.
+#[inline(always)]
 pub(crate) fn copies_weight(copies: &Spread) -> u32
     ensures { result ≡ copies_weight copies.now }
 {
@@ -80,6 +82,7 @@ pub(crate) fn copies_weight(copies: &Spread) -> u32
 }
 
 /// The room of the element comes back to the ports, where it counted and does no more.
+#[inline(always)]
 pub(crate) fn give_back(ports: &mut Vec<Intake>, counted: u32, copies: &Spread)
     requires { AllGaveOut (counted - copies_weight copies.now) ports.old.items }
     ensures { ports.new.items ≡ map (gives_room (counted - copies_weight copies.now)) ports.old.items }
@@ -148,6 +151,7 @@ impl Block {
 // The source's side of each move, and the looks, at a link over which copies go.
 impl Block {
     /// Offers the element over the link at this place, and tells its header. What the link is to have is made first.
+    #[inline(always)]
     pub fn offer_copy(&mut self, alloc: Global, place: usize) -> Result<MessageHeader, AllocError>
         requires there { place < length self.old.copies.ends }
         requires may { may_offer place self.old.copies ≡ true }
@@ -190,6 +194,7 @@ impl Block {
 
     /// Sends the element over the link at this place, where it is offered, to a target that takes it at once: a copy for a
     /// journal, and a parcel.
+    #[inline(always)]
     pub fn send_copy(&mut self, place: usize) -> (Value, Parcel)
         requires there { place < length self.old.copies.ends }
         requires offered { stage_at self.old.copies place ≡ Out self.old.copies.id }

@@ -14,6 +14,7 @@ use std::alloc::{AllocError, Global};
 impl Node {
     /// Offers the element over the link at this place, and tells its header. Memory for what the link is to have, and
     /// for the mark that it is given, is set aside first.
+    #[inline(always)]
     pub fn offer_copy(&mut self, alloc: Global, place: usize) -> Result<MessageHeader, AllocError>
         requires there { place < length self.old.block.copies.ends }
         requires may { may_offer place self.old.block.copies ≡ true }

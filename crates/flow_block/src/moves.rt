@@ -22,6 +22,7 @@ use std::alloc::{AllocError, Global};
 // The target's side.
 impl Block {
     /// Sets memory aside for one more message at a port, from the answer to its offer until it is taken.
+    #[inline(always)]
     pub fn prepare_answer(&mut self, port: usize) -> Result<(), AllocError>
         requires { port < length self.old.ports }
         ensures done { OnOk result (self.new ≡ with_port port prepared self.old) }
@@ -151,6 +152,7 @@ impl Block {
 // The source's side.
 impl Block {
     /// Makes the parcel of the head, unless it is made.
+    #[inline(always)]
     pub fn prepare_offer(&mut self, alloc: Global) -> Result<(), AllocError>
         ensures done { OnOk result (self.new ≡ record self.old { exits = prepares self.old.exits }) }
         ensures kept { OnErr result (self.new ≡ self.old) }

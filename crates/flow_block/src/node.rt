@@ -369,6 +369,7 @@ impl Node {
     /// A block without a function makes its next outputs: it hands on or copies the message that waits longest, or makes a
     /// row, a tuple or a group of those that wait. Where message ids are used up or memory is out, nothing has changed;
     /// where both are wanting, ids are told.
+    #[inline(always)]
     pub fn make_next(&mut self, alloc: Global) -> Result<(), OutletFault>
         requires alone { has_ports self.old.block.kind ≡ false → length self.old.block.ports ≡ 1 }
         requires ports { 0 < length self.old.block.ports }
@@ -422,6 +423,7 @@ impl Node {
     }
 
     /// Has this result of the message that waits longest to give, as [`Node::put_out`] has a list of it, without a list.
+    #[inline(always)]
     pub fn put_out_one(&mut self, value: Value) -> Result<(), (Value, OutletFault)>
         requires alone { length self.old.block.ports ≡ 1 }
         requires waits { 0 < length (held_by self.old.block) }
@@ -438,6 +440,7 @@ impl Node {
     }
 
     /// Keeps this result of the message that waits longest, as [`Node::record`] does a list of it, without a list.
+    #[inline(always)]
     pub fn record_one(&mut self, value: Value) -> Result<(), Value>
         requires alone { length self.old.block.ports ≡ 1 }
         requires waits { 0 < length (held_by self.old.block) }
@@ -544,6 +547,7 @@ impl Node {
 }
 
 /// Sets room aside in the journal for one more mark than those that may follow anyway.
+#[inline(always)]
 pub(crate) fn reserve_mark(journal: &mut Vec<Mark>, block: &Block) -> Result<(), AllocError>
     requires { vec_len journal.old + marks_due block.now ≤ vec_capacity journal.old }
     ensures items { journal.new.items ≡ journal.old.items }

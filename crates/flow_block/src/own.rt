@@ -19,6 +19,7 @@ use std::alloc::{AllocError, Global};
 // What it makes of the message that waits longest.
 impl Block {
     /// Hands the message on as it is. Where message ids are used up or there is no memory for it, nothing has changed.
+    #[inline(always)]
     pub fn hand_on(&mut self) -> Result<(), OutletFault>
         requires alone { length self.old.ports ≡ 1 }
         requires waits { 0 < length (held_by self.old) }
@@ -81,6 +82,7 @@ impl Block {
     }
 
     /// Has this result of the message to give, as [`Block::put_out`] has a list of it, without a list.
+    #[inline(always)]
     pub fn put_out_one(&mut self, value: Value) -> Result<(), (Value, OutletFault)>
         requires alone { length self.old.ports ≡ 1 }
         requires waits { 0 < length (held_by self.old) }
@@ -119,6 +121,7 @@ impl Block {
     }
 
     /// Keeps this result of the message, as [`Block::record`] does a list of it, without a list.
+    #[inline(always)]
     pub fn record_one(&mut self, value: Value) -> Result<(), Value>
         requires alone { length self.old.ports ≡ 1 }
         requires waits { 0 < length (held_by self.old) }
@@ -138,6 +141,7 @@ impl Block {
     }
 
     /// The message is done with, and its room comes back.
+    #[inline(always)]
     pub(crate) fn drop_first(&mut self)
         requires alone { length self.old.ports ≡ 1 }
         requires waits { 0 < length (held_by self.old) }

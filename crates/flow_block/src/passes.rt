@@ -20,6 +20,7 @@ use flow_value::{Parcel, Value};
 
 impl Block {
     /// Whether a port takes at once what is offered over the link at this place, over which nothing is under way.
+    #[inline(always)]
     pub fn takes_at_once(&self, port: usize, place: usize) -> bool
         requires port { port < length self.now.ports }
         requires place { place < length (port_at port self.now).ends }
@@ -29,6 +30,7 @@ impl Block {
     }
 
     /// Whether one more message may cross the link out of it at this place.
+    #[inline(always)]
     pub fn may_carry(&self, place: usize) -> bool
         requires { place < length self.now.exits.ends }
         ensures { result ≡ has_room_out (end_at self.now.exits place).rule.max (end_at self.now.exits place).given }
@@ -37,6 +39,7 @@ impl Block {
     }
 
     /// Whether one more copy may cross the link at this place.
+    #[inline(always)]
     pub fn may_carry_copy(&self, place: usize) -> bool
         requires { place < length self.now.copies.ends }
         ensures { result ≡ has_room_out (link_at self.now.copies place).rule.max (link_at self.now.copies place).given }
@@ -46,6 +49,7 @@ impl Block {
 
     /// Sends the head over the link at the place where it may be offered, to a target that takes it at once: the
     /// message for a journal, and its parcel. Room that comes back with it goes to the ports.
+    #[inline(always)]
     pub fn send(&mut self, place: usize) -> (Value, Parcel)
         requires may { may_offer self.old.exits ≡ Some place }
         requires ready { is_some self.old.exits.parcel ≡ true }
@@ -67,6 +71,7 @@ impl Block {
 
     /// Takes a message that comes over the link at this place, and that the port takes at once. This is its parcel; a
     /// copy of it is for a journal.
+    #[inline(always)]
     pub fn receive(&mut self, port: usize, place: usize, parcel: Parcel) -> Value
         requires port { port < length self.old.ports }
         requires place { place < length (port_at port self.old).ends }
@@ -82,6 +87,7 @@ impl Block {
 impl Node {
     /// Sends the head over the link at the place where it may be offered, to a target that takes it at once, and marks
     /// that; this is its parcel.
+    #[inline(always)]
     pub fn send(&mut self, place: usize) -> Parcel
         requires may { may_offer self.old.block.exits ≡ Some place }
         requires ready { is_some self.old.block.exits.parcel ≡ true }
@@ -97,6 +103,7 @@ impl Node {
 
     /// Sends the element over the link at this place, where it is offered, to a target that takes it at once, and marks
     /// that; this is its parcel.
+    #[inline(always)]
     pub fn send_copy(&mut self, place: usize) -> Parcel
         requires there { place < length self.old.block.copies.ends }
         requires offered { stage_at self.old.block.copies place ≡ Out self.old.block.copies.id }
@@ -113,6 +120,7 @@ impl Node {
 
     /// Whether a port takes at once what is offered over the link at this place, over which nothing is under way. A join
     /// that reserves does not: it takes by rounds.
+    #[inline(always)]
     pub fn takes_at_once(&self, port: usize, place: usize) -> bool
         requires port { port < length self.now.block.ports }
         requires place { place < length (port_at port self.now.block).ends }
@@ -123,6 +131,7 @@ impl Node {
 
     /// Takes a message that comes over the link at this place, and that the port takes at once, and marks that. This is
     /// its parcel.
+    #[inline(always)]
     pub fn receive(&mut self, port: PortId, place: usize, parcel: Parcel)
         requires port { port < length self.old.block.ports }
         requires place { place < length (port_at port self.old.block).ends }

@@ -21,6 +21,7 @@ use flow_link::{BlockUnit, LinkId, Move};
 
 impl Block {
     /// Whether it goes on, and holds what it could make something of.
+    #[inline(always)]
     fn may_work(&self) -> bool
         ensures { result ≡ may_work self.now }
     {
@@ -28,6 +29,7 @@ impl Block {
     }
 
     /// Whether it holds what it could make something of.
+    #[inline(always)]
     fn has_next(&self) -> bool
         ensures { result ≡ has_next self.now }
     {
@@ -42,6 +44,7 @@ impl Block {
     }
 
     /// Whether it may make something of another message: a broadcast may when its links are done with the last one.
+    #[inline(always)]
     fn may_copy(&self) -> bool
         ensures { result ≡ may_copy self.now }
     {
@@ -77,6 +80,7 @@ impl Block {
 
     /// Whether it would make its next outputs: it has no function, and hands on the message that it holds first, or makes
     /// a row, a tuple or a group of those that it holds.
+    #[inline(always)]
     pub fn may_make(&self) -> bool
         ensures { result ≡ may_make self.now }
     {
@@ -84,6 +88,7 @@ impl Block {
     }
 
     /// Whether it may work on one more of the messages that it holds: a lane is free, and not all of them are begun.
+    #[inline(always)]
     pub fn may_begin(&self) -> bool
         requires { 0 < length self.now.ports }
         ensures { result ≡ may_begin self.now }
@@ -251,6 +256,7 @@ impl Block {
 
     /// What the end of a link out of it would do next.
     #[tactic(auto, using(crate::proofs::MovesOut::held_up_where_it_waits))]
+    #[inline(always)]
     pub fn next_out(&self, place: usize) -> Option<Move>
         requires { place < length self.now.exits.ends }
         ensures { result ≡ out_move place self.now.stopped (is_held_up self.now) self.now.exits }
@@ -289,6 +295,7 @@ impl Block {
 }
 
 /// Whether a message waits at the first port.
+#[inline(always)]
 pub(crate) fn holds_first(ports: &[Intake]) -> bool
     ensures { result ≡ not (is_empty (port_in ports.now 0).waiting) }
 {

@@ -32,6 +32,7 @@ pub(crate) fn unit_weight(port: &Intake) -> u32
 }
 
 /// How many messages may be taken at the ports without more memory.
+#[inline]
 pub(crate) fn ports_due(ports: &[Intake]) -> usize
     requires { ports_due ports.now < 2 ^ 64 }
     ensures { result ≡ ports_due ports.now }
@@ -47,6 +48,7 @@ pub(crate) fn ports_due(ports: &[Intake]) -> usize
 }
 
 /// Hands the message that waits longest on to the exits; it stays where they do not take it.
+#[inline(always)]
 pub(crate) fn hand_first(
     port: &mut Intake,
     exits: &mut Outlet,
@@ -176,6 +178,7 @@ fn message_count(row: &Value) -> usize
 
 /// So much room comes back at each port, and that of the messages of a group which came in there, but no more than the port
 /// has out besides this weight.
+#[inline(never)]
 fn give_rows(ports: &mut Vec<Intake>, room: u32, weight: u64, group: &Value)
     requires { AllGaveOut (room + weight) ports.old.items }
     ensures { ports.new.items ≡ gives_each room weight (row_count BatchedJoin (Some group.now)) 0 ports.old.items }
@@ -191,6 +194,7 @@ fn give_rows(ports: &mut Vec<Intake>, room: u32, weight: u64, group: &Value)
 }
 
 /// The room comes back to the ports that comes with a head which was given.
+#[inline(always)]
 pub(crate) fn bring_back(
     ports: &mut Vec<Intake>,
     exits: &mut Outlet,

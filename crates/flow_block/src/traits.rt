@@ -223,6 +223,7 @@ impl Block {
 
     /// A buffer hands on what waits longest, a batch makes its next row, a join its next tuple, and a broadcast copies what
     /// waits longest from now on. Where message ids are used up or memory is out, nothing has changed.
+    #[inline(always)]
     pub(crate) fn make_next(&mut self, alloc: Global) -> Result<(), OutletFault>
         requires { makes_itself self.old ≡ true }
         ensures done { OnOk result (self.new ≡ makes_its_next self.old) }

@@ -119,6 +119,7 @@ impl Input {
     }
 
     /// What it does next by itself, if anything. Past the last id it makes no offer.
+    #[inline(always)]
     pub fn next_move(&self) -> Option<Move>
         ensures { result ≡ cond (is_free self.now.stage && has_next self.now && not (ltb (next_id self.now) (2 ^ 59)))
             None (input_move self.now) }
@@ -142,6 +143,7 @@ impl Input {
     }
 
     /// Makes the parcel of the next value, unless it is made.
+    #[inline(always)]
     pub fn prepare(&mut self, alloc: Global) -> Result<(), AllocError>
         ensures done { OnOk result (self.new ≡ record self.old { parcel = next_value self.old }) }
         ensures kept { OnErr result (self.new ≡ self.old) }
@@ -187,6 +189,7 @@ impl Input {
 
     /// Sends the next value to a target that takes it at once: this is its parcel. It comes to what an offer, a gift and
     /// the looks between them come to.
+    #[inline(always)]
     pub fn send(&mut self) -> Parcel
         requires free { is_free self.old.stage ≡ true }
         requires ready { is_some self.old.parcel ≡ true }

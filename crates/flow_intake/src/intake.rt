@@ -232,7 +232,7 @@ impl Intake {
     }
 
     /// Whether the link at this place is free, and a message that is offered over it would be accepted.
-    #[inline]
+    #[inline(always)]
     pub fn takes_at_once(&self, place: usize) -> bool
         requires { place < length self.now.ends }
         ensures { result ≡ takes_at_once place self.now }
@@ -275,6 +275,7 @@ impl Intake {
     }
 
     /// Sets memory aside for one more message, from the answer to its offer until it is taken.
+    #[inline(always)]
     pub fn prepare_answer(&mut self) -> Result<(), AllocError>
         ensures done { OnOk result (self.new ≡ prepared self.old) }
         ensures kept { OnErr result (self.new ≡ self.old) }
@@ -454,7 +455,7 @@ impl Intake {
     /// gives a copy for a journal.
     ///
     /// This is the whole way of a message over a free link: nothing of it stays at the link's end.
-    #[inline]
+    #[inline(always)]
     pub fn receive(&mut self, place: usize, parcel: Parcel) -> Value
         requires place { place < length self.old.ends }
         requires takes { takes_at_once place self.old ≡ true }
@@ -491,6 +492,7 @@ impl Intake {
     }
 
     /// Drops the message that waits longest.
+    #[inline(always)]
     pub fn drop_next(&mut self)
         ensures { self.new ≡ takes_next self.old }
     {
@@ -498,6 +500,7 @@ impl Intake {
     }
 
     /// Exchanges the message that waits longest for this value.
+    #[inline(always)]
     pub fn swap_first(&mut self, value: Value) -> Value
         requires { 0 < length self.old.waiting }
         ensures first { first_of self.old.waiting ≡ Some result }

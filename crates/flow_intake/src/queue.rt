@@ -86,6 +86,7 @@ impl Queue {
     }
 
     /// Sets aside room for one more to join. It is refused for good once 2^64 - 1 have joined, where no number is left.
+    #[inline]
     pub(crate) fn prepare(&mut self) -> Result<(), AllocError>
         ensures ready { OnOk result (self.new ≡ record self.old { has_room = true }) }
         ensures kept { OnErr result (self.new ≡ self.old) }

@@ -28,6 +28,7 @@ impl Parts {
     /// A block without a function makes its next outputs: it hands on or copies the message that waits longest, or makes a
     /// row, a tuple or a group of those that wait. Where message ids are used up or memory is out, nothing has changed;
     /// where both are wanting, ids are told.
+    #[inline(always)]
     pub fn make(&mut self, alloc: Global, block: usize) -> Result<(), OutletFault>
         requires there { block < length self.old.nodes }
         requires alone { has_ports (node_at self.old block).block.kind ≡ false →
@@ -61,6 +62,7 @@ impl Parts {
 
     /// A block works at once on the message that waits longest, by this work: the job begins, and its result comes back.
     /// Where message ids are used up or memory is out, nothing has changed.
+    #[inline(always)]
     pub fn work<W: Runs>(
         &mut self,
         alloc: Global,
@@ -177,6 +179,7 @@ impl Parts {
 /// A block works at once on the message that waits longest. Where message ids are used up or memory is out, nothing has
 /// changed.
 #[tactic(auto, using(crate::proofs::WorksAtOnce::worked_is, crate::proofs::WorksAtOnce::put_is))]
+#[inline(always)]
 fn work_at_once<W: Runs>(
     node: &mut Node,
     alloc: Global,
@@ -306,6 +309,7 @@ fn yield_results(node: &mut Node, values: Vec<Value>) -> Result<(), OutletFault>
 
 /// A block has this one result of the message that waits longest: an action keeps it, and any other block has it to
 /// give. Where message ids are used up or memory is out, nothing has changed.
+#[inline(always)]
 fn yield_one(node: &mut Node, value: Value) -> Result<(), OutletFault>
     requires alone { length node.old.block.ports ≡ 1 }
     requires waits { 0 < length (held_by node.old.block) }

@@ -156,6 +156,7 @@ impl Parts {
     }
 
     /// Whether the source of a link is an input with a next value for which no id is left.
+    #[inline(always)]
     pub fn lacks_id(&self, route: &Route) -> bool
         requires { SourceIsThere self.now route.now.source route.now.source_place }
         ensures { result ≡ lacks_id self.now route.now.source route.now.source_place }

@@ -23,6 +23,7 @@ use std::alloc::{AllocError, Global};
 impl Parts {
     /// Whether what the source offers over a link may go over it in one call: nothing is under way over the link, its
     /// two ends are not of one block, the target takes at once what it is offered, and the link may carry it.
+    #[inline(always)]
     pub fn may_pass(&self, id: LinkId, route: &Route) -> bool
         requires { IsThere self.now id route.now }
         ensures { result ≡ may_pass id route.now self.now }
@@ -31,6 +32,7 @@ impl Parts {
     }
 
     /// Whether nothing is under way over a link.
+    #[inline(always)]
     fn is_idle(&self, id: LinkId) -> bool
         requires { id < length self.now.lines }
         ensures { result ≡ is_idle_line (line_at self.now id) }
@@ -40,6 +42,7 @@ impl Parts {
     }
 
     /// Whether the target of a link takes at once what is offered to it.
+    #[inline(always)]
     fn takes_now(&self, route: &Route) -> bool
         requires { TargetIsThere self.now route.now.target route.now.target_place }
         ensures { result ≡ takes_now self.now route.now.target route.now.target_place }
@@ -53,6 +56,7 @@ impl Parts {
     }
 
     /// Whether one more message may cross a link.
+    #[inline(always)]
     fn may_carry(&self, route: &Route) -> bool
         requires { SourceIsThere self.now route.now.source route.now.source_place }
         ensures { result ≡ may_carry self.now route.now.source route.now.source_place }
@@ -66,6 +70,7 @@ impl Parts {
     /// The source's end of a link sends the message that it would offer, and the target receives it: what five events
     /// come to. Answers false where the target has no memory for it: then it is only offered. Where the source has no
     /// memory, nothing has changed.
+    #[inline(always)]
     pub fn pass(&mut self, alloc: Global, id: LinkId, route: &Route) -> Result<bool, AllocError>
         requires there { IsThere self.old id route.now }
         requires ready { SourceIsReady (Offer (id_next self.old route.now.source route.now.source_place)) self.old
@@ -91,6 +96,7 @@ impl Parts {
 
     /// Has the source of a link make ready to send what it would offer: its parcel is made, or where it copies, the
     /// element is offered.
+    #[inline(always)]
     fn prepare_source(&mut self, alloc: Global, route: &Route) -> Result<(), AllocError>
         requires there { SourceIsThere self.old route.now.source route.now.source_place }
         requires ready { SourceIsReady (Offer (id_next self.old route.now.source route.now.source_place)) self.old
@@ -107,6 +113,7 @@ impl Parts {
     }
 
     /// Reserves what the target of a link needs to take a message.
+    #[inline(always)]
     fn prepare_target(&mut self, route: &Route) -> Result<(), AllocError>
         requires { TargetIsThere self.old route.now.target route.now.target_place }
         ensures done { OnOk result (self.new ≡ target_prepared route.now.target self.old) }
@@ -149,6 +156,7 @@ impl Parts {
     }
 
     /// The source of a link sends what it has ready: this is the parcel.
+    #[inline(always)]
     fn send(&mut self, route: &Route) -> Parcel
         requires { MaySend self.old route.now.source route.now.source_place }
         ensures value { value_next self.old route.now.source route.now.source_place ≡ Some result }
@@ -162,6 +170,7 @@ impl Parts {
     }
 
     /// The target of a link, which takes it at once, receives a message: this is its parcel.
+    #[inline(always)]
     fn receive(&mut self, route: &Route, parcel: Parcel)
         requires { MayReceive self.old route.now.target route.now.target_place }
         ensures { (i : ℕ) → self.new ≡ received_by route.now.target route.now.target_place i parcel self.old }

@@ -15,6 +15,7 @@ use flow_value::{MessageHeader, Parcel};
 use std::alloc::{AllocError, Global};
 
 /// Whether one more message may cross the link at this place.
+#[inline(always)]
 pub(crate) fn exit_may_carry(node: &Node, place: usize) -> bool
     requires { place < exit_count node.now }
     ensures { result ≡ carries place node.now.block }
@@ -29,6 +30,7 @@ pub(crate) fn exit_may_carry(node: &Node, place: usize) -> bool
 
 /// Makes the parcel of the head, or offers the element over the link at this place. Where memory is out, nothing has
 /// changed.
+#[inline(always)]
 pub(crate) fn prepare_exit(node: &mut Node, alloc: Global, place: usize) -> Result<(), AllocError>
     requires { ExitIsReady place (Offer (id_in node.old.block)) node.old }
     ensures done { OnOk result (node.new ≡ node_prepared place node.old) }
@@ -58,6 +60,7 @@ pub(crate) fn offer_exit(node: &mut Node, place: usize) -> MessageHeader
 }
 
 /// Sends what is ready over the link at this place, to a target that takes it at once: this is its parcel.
+#[inline(always)]
 pub(crate) fn send_exit(node: &mut Node, place: usize) -> Parcel
     requires { BlockMaySend node.old.block place }
     ensures value { given_next node.old ≡ Some result }

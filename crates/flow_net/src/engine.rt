@@ -51,6 +51,7 @@ impl<W: Runs> Engine<W> {
     }
 
     /// Does an event that is due: a block without a function makes its next outputs.
+    #[inline(always)]
     pub(crate) fn make(&mut self, alloc: Global, number: usize) -> Result<(), NetFault>
         requires kept { InOrder W.meaning self.old }
         requires enabled { EnabledIn self.old (NetEvent.make number) }
@@ -97,6 +98,7 @@ impl<W: Runs> Engine<W> {
 
     /// Does two events, of which the first is due: a block that works on nothing begins to work on the message that
     /// waits longest, and the result comes back.
+    #[inline(always)]
     pub(crate) fn work(&mut self, alloc: Global, number: usize) -> Result<(), NetFault>
         requires kept { InOrder W.meaning self.old }
         requires enabled { EnabledIn self.old (NetEvent.begin number) }

@@ -74,6 +74,7 @@ impl<W: Runs> Engine<W> {
 
     /// Has a block work on the message that waits longest. Answers how many events that took, of at most so many; none where
     /// no message may be worked on.
+    #[inline(always)]
     fn work_once(&mut self, alloc: Global, number: usize, most: u64) -> Result<u64, NetFault>
         requires kept { InOrder W.meaning self.old }
         requires known { number < length (layout_of self.old.plan).blocks }
@@ -118,6 +119,7 @@ impl<W: Runs> Engine<W> {
 
     /// Has a block that works on nothing work on the message that waits longest: two events. Nothing has happened where a
     /// message id is wanting for the result.
+    #[inline(always)]
     fn work_at_once(&mut self, alloc: Global, number: usize) -> Result<bool, NetFault>
         requires kept { InOrder W.meaning self.old }
         requires enabled { EnabledIn self.old (NetEvent.begin number) }
@@ -184,6 +186,7 @@ impl<W: Runs> Engine<W> {
     }
 
     /// Whether what the source of a link would offer may go over it in one call.
+    #[inline(always)]
     fn may_pass(&self, id: LinkId) -> bool
         requires known { id < length (layout_of self.now.plan).links }
         requires kept { InOrder W.meaning self.now }
@@ -243,6 +246,7 @@ impl<W: Runs> Engine<W> {
 
     /// Has the message that the source of a link would offer go over it; where the target has no memory for it, it is
     /// offered alone. Answers how many events those are.
+    #[inline(always)]
     fn pass_one(&mut self, alloc: Global, id: LinkId) -> Result<u64, NetFault>
         requires kept { InOrder W.meaning self.old }
         requires due { IsDueIn W.meaning self.old
@@ -272,6 +276,7 @@ impl<W: Runs> Engine<W> {
     }
 
     /// Whether the source of a link would offer a message that may go over it in one call.
+    #[inline(always)]
     fn has_next_to_pass(&self, id: LinkId) -> bool
         requires known { id < length (layout_of self.now.plan).links }
         requires kept { InOrder W.meaning self.now }

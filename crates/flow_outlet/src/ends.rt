@@ -233,6 +233,7 @@ impl OutEnd {
     }
 
     /// The end after it gave the message with this id.
+    #[inline(always)]
     pub fn gave(self, id: u64) -> OutEnd
         requires { HasRoom self.rule.max self.given }
         ensures { result ≡ given_end id self }
@@ -325,7 +326,7 @@ impl OutEnd {
 
     /// Whether a message goes past it: no message is offered over it any more, this one was offered over it before, or
     /// its predicate turns this one away.
-    #[inline]
+    #[inline(always)]
     pub fn is_passed(&self, next: u64, head: Option<&Value>) -> bool
         ensures { result ≡ is_passed next (option_copied head.entry) self.now }
     {
@@ -340,7 +341,7 @@ impl OutEnd {
 }
 
 /// The first place, from one on, that the message does not go past.
-#[inline]
+#[inline(always)]
 pub(crate) fn first_from(ends: &[OutEnd], from: usize, next: u64, head: Option<&Value>) -> usize
     requires { from ≤ length ends.now }
     ensures { result ≡ from + place_in next (option_copied head.entry) (drop from ends.now) }

@@ -191,6 +191,7 @@ impl Outlet {
     }
 
     /// Takes one value, as [`Outlet::put`] does, without a list of it.
+    #[inline(always)]
     pub fn put_one(&mut self, value: Value, weight: u32) -> Result<(), (Value, OutletFault)>
         requires { self.old.room + weight_of self.old.groups + weight < 2 ^ 32 }
         ensures done { OnOk result (self.new ≡ puts (value ∷ []) weight self.old) }
@@ -270,6 +271,7 @@ impl Outlet {
     }
 
     /// The place of the end over which the head is offered next, if it may be offered now.
+    #[inline(always)]
     pub fn may_offer(&self) -> Option<usize>
         ensures { result ≡ may_offer self.now }
     {
@@ -283,6 +285,7 @@ impl Outlet {
     }
 
     /// Whether the head was released, and still waits somewhere.
+    #[inline(always)]
     fn is_renewing(&self) -> bool
         ensures { result ≡ is_renewing self.now }
     {
@@ -301,6 +304,7 @@ impl Outlet {
 
     /// What the end at a place does next by itself, if anything. The block tells whether it has stopped, and whether it
     /// could stop or begin anew but for what waits over its links.
+    #[inline(always)]
     pub fn out_move(&self, place: usize, stopped: Option<Outcome>, held_up: bool) -> Option<Move>
         requires { place < length self.now.ends }
         ensures { result ≡ out_move place stopped held_up self.now }
@@ -327,6 +331,7 @@ impl Outlet {
     }
 
     // offers the head, where it may be offered over the link at a place
+    #[inline(always)]
     fn next_move(&self, place: usize) -> Option<Move>
         ensures { result ≡ free_move self.now place None }
     {
@@ -351,6 +356,7 @@ impl Outlet {
     }
 
     /// Makes the parcel of the head, unless it is made.
+    #[inline(always)]
     pub fn prepare_offer(&mut self, alloc: Global) -> Result<(), AllocError>
         ensures done { OnOk result (self.new ≡ prepares self.old) }
         ensures kept { OnErr result (self.new ≡ self.old) }
@@ -427,6 +433,7 @@ impl Outlet {
 
     /// Sends the head over the link at the place where it may be offered, to a target that takes it at once: the
     /// message for the block's own account, and its parcel.
+    #[inline(always)]
     pub fn send(&mut self, place: usize) -> (Value, Parcel)
         requires may { may_offer self.old ≡ Some place }
         requires ready { is_some self.old.parcel ≡ true }
@@ -546,7 +553,7 @@ fn some_waits(ends: &[OutEnd], id: u64) -> bool
 }
 
 // the head, and its parcel
-#[inline]
+#[inline(always)]
 fn taken(left: &mut VecDeque<Value>, parcel: &mut Option<Parcel>) -> (Value, Parcel)
     requires ready { is_some parcel.old ≡ true }
     requires made { ForSome parcel.old (λ value. first_of left.old.items ≡ Some value) }
@@ -609,7 +616,7 @@ pub(crate) fn is_empty(left: &VecDeque<Value>) -> bool
 }
 
 // memory for so many values more, and so many groups more
-#[inline]
+#[inline(always)]
 fn make_room(
     left: &mut VecDeque<Value>,
     groups: &mut VecDeque<Group>,
@@ -679,7 +686,7 @@ fn weight_at_once(count: usize, weight: u32) -> u32
 }
 
 // the first place that the head does not go past: where nothing was left, there is a new head
-#[inline]
+#[inline(always)]
 fn cursor_with(
     was_empty: bool,
     cursor: usize,

@@ -31,7 +31,7 @@ impl CopyEnd {
     }
 
     /// Whether the element with this id may be offered over the link now.
-    #[inline]
+    #[inline(always)]
     pub fn is_open(&self, id: u64) -> bool
         ensures { result ≡ is_open id self.now }
     {
@@ -39,6 +39,7 @@ impl CopyEnd {
     }
 
     // its link stands elsewhere from now on; what was made for a message goes with it
+    #[inline(always)]
     pub(crate) fn go_to(&mut self, link: OutEnd, owes: bool)
         ensures { self.new ≡ moved link owes self.old }
     {
@@ -50,6 +51,7 @@ impl CopyEnd {
     }
 
     // what the link is to have is made
+    #[inline(always)]
     pub(crate) fn put_share(&mut self, share: Share)
         ensures { self.new ≡ record self.old { share = Some share } }
     {

@@ -108,6 +108,7 @@ impl Ends {
     }
 
     /// The link of the end at this place stands elsewhere from now on.
+    #[inline(always)]
     pub(crate) fn go_to(&mut self, place: usize, link: OutEnd, owes: bool)
         requires { place < length self.old }
         ensures { self.new ≡ set self.old place (moved link owes (end_in self.old place)) }
@@ -122,6 +123,7 @@ impl Ends {
     }
 
     /// Makes what the link of the end at this place is to have of the element.
+    #[inline(always)]
     pub(crate) fn prepare(
         &mut self,
         alloc: Global,
@@ -138,6 +140,7 @@ impl Ends {
     }
 
     /// What the link of the end at this place is to have. Nothing of it stays.
+    #[inline(always)]
     pub(crate) fn take_share(&mut self, place: usize) -> Option<Share>
         requires { place < length self.old }
         ensures share { result ≡ (end_in self.old place).share }

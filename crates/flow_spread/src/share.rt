@@ -31,6 +31,7 @@ impl Model for Share {
 
 impl Share {
     /// A share with copies of this value.
+    #[inline(always)]
     pub fn of(alloc: Global, value: &Value) -> Result<Share, AllocError>
         ensures { IfOk result (λ share. share ≡ value.now) }
     {
@@ -41,6 +42,7 @@ impl Share {
     }
 
     /// The value for the block's own account, and its parcel.
+    #[inline(always)]
     pub fn into_parts(self) -> (Value, Parcel)
         ensures own { result.0 ≡ self }
         ensures parcel { result.1 ≡ self }

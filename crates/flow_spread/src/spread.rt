@@ -205,6 +205,7 @@ impl Spread {
     }
 
     /// Whether the element may be offered over the link at a place now.
+    #[inline(always)]
     pub fn may_offer(&self, place: usize) -> bool
         requires { place < length self.now.ends }
         ensures { result ≡ may_offer place self.now }
@@ -214,6 +215,7 @@ impl Spread {
 
     /// What the end at a place does next by itself, if anything. The block tells whether it has stopped, and whether it
     /// could go on but for what waits over its links.
+    #[inline(always)]
     pub fn out_move(&self, place: usize, stopped: Option<Outcome>, held_up: bool) -> Option<Move>
         requires { place < length self.now.ends }
         ensures { result ≡ out_move place stopped held_up self.now }
@@ -240,6 +242,7 @@ impl Spread {
     }
 
     // offers the element, where it may be offered over the link at a place
+    #[inline(always)]
     fn next_move(&self, place: usize) -> Option<Move>
         requires { place < length self.now.ends }
         ensures { result ≡ free_move self.now place None }
@@ -252,6 +255,7 @@ impl Spread {
     }
 
     /// Makes what the link at a place is to have of the element, unless it is made.
+    #[inline(always)]
     pub fn prepare_offer(&mut self, alloc: Global, place: usize) -> Result<(), AllocError>
         requires { place < length self.old.ends }
         ensures done { OnOk result (self.new ≡ prepares place self.old) }
@@ -275,6 +279,7 @@ impl Spread {
     }
 
     /// Offers the element over the link at a place, and tells its header.
+    #[inline(always)]
     pub fn offer(&mut self, place: usize) -> MessageHeader
         requires there { place < length self.old.ends }
         requires may { may_offer place self.old ≡ true }
@@ -318,6 +323,7 @@ impl Spread {
 
     /// Sends the element over the link at a place, where it is offered, to a target that takes it at once: a copy for the
     /// block's own account, and a parcel.
+    #[inline(always)]
     pub fn send(&mut self, place: usize) -> (Value, Parcel)
         requires there { place < length self.old.ends }
         requires offered { stage_at self.old place ≡ Out self.old.id }
@@ -336,6 +342,7 @@ impl Spread {
     }
 
     // what the link at a place is to have goes over it. The link stands elsewhere then, and owes nothing
+    #[inline(always)]
     fn hand_over(&mut self, place: usize, link: OutEnd) -> (Value, Parcel)
         requires there { place < length self.old.ends }
         requires ready { is_some (end_at self.old place).share ≡ true }
@@ -554,6 +561,7 @@ impl Spread {
     }
 
     // puts the end at a place to a stage
+    #[inline(always)]
     fn restage(&mut self, place: usize, stage: SourceStage, owes: bool)
         requires { place < length self.old.ends }
         ensures { self.new ≡ restages place stage owes self.old }
@@ -566,6 +574,7 @@ impl Spread {
     }
 
     // the link at a place stands elsewhere. The search for the next offer goes back to it where it is open
+    #[inline(always)]
     fn go_to(&mut self, place: usize, link: OutEnd, owes: bool)
         requires { place < length self.old.ends }
         ensures { self.new ≡ moves place link owes self.old }

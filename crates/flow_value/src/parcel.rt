@@ -41,7 +41,7 @@ impl Parcel {
     }
 
     /// A parcel with a copy of this value.
-    #[inline]
+    #[inline(always)]
     pub fn of(alloc: Global, value: &Value) -> Result<Parcel, AllocError>
         ensures { IfOk result (λ parcel. parcel ≡ value.now) }
     {
