@@ -14,7 +14,7 @@ use crate::event::{Event, Stepped};
 use crate::fault::NetFault;
 use crate::settled::{Settled, State};
 use flow_block::Block;
-use flow_link::{Mark, Outcome, Plan};
+use flow_link::{LinkId, Mark, Outcome, Phase, Plan};
 use flow_moves::shares_out;
 use flow_value::{Runs, Value, Work};
 use std::alloc::Global;
@@ -39,6 +39,7 @@ impl<W: Runs> Net<W> {
     ghost use Rattle.flow_link.specs.Plan.{port_count};
     ghost use Rattle.flow_core.specs.AtRest.{AtRest};
     ghost use Rattle.flow_core.specs.Inputs.{InputsStay, none_posted};
+    ghost use Rattle.flow_core.specs.State.{line_at};
     ghost use Rattle.flow_net.specs.Events.{Answers, IsOfOwnJob};
     ghost use Rattle.flow_net.specs.Net.{NetGoesOn, NetIsStill, NetMayHappen, NetNeedsId, NetRefuses, NetSettles, NetWhyNot};
     ghost use Rattle.flow_net.specs.Net.{layout_in, net_after, parts_of, run_of};
@@ -165,6 +166,14 @@ impl<W: Runs> Net<W> {
         ensures { layout_of result.now ≡ (run_of W.meaning self.now).layout }
     {
         &self.engine.plan
+    }
+
+    /// How far the message over this link has come.
+    pub fn phase(&self, link: LinkId) -> Phase
+        requires { link < length (layout_in self.now).links }
+        ensures { result ≡ (line_at (parts_of self.now) link).phase }
+    {
+        self.engine.parts.phase(link)
     }
 
     /// The marks of this block, in order.
