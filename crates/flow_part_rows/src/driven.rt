@@ -8,10 +8,11 @@ ghost use Rattle.flow_block.specs.Block.{port_at, with_port};
 ghost use Rattle.flow_block.specs.BlockFits.{fresh_block};
 ghost use Rattle.flow_part_rows.specs.Driven.{Rests, two_ports, link_to};
 
-use crate::shared::{header, link, parcel};
+use crate::reserved::put_off;
+use crate::shared::{header, link, makes, parcel, tells};
 use flow_block::Block;
 use flow_intake::Intake;
-use flow_link::{BlockKind, Completing, DataflowBlock, LinkId, Outcome, SourceBlock, TargetBlock};
+use flow_link::{BlockKind, DataflowBlock, LinkId, Outcome, SourceBlock, TargetBlock};
 use flow_value::{MessageStatus, Value};
 use std::alloc::Global;
 use std::process::Abort;
@@ -53,15 +54,16 @@ fn join(rt: &impl Abort, alloc: Global) -> Block
     join
 }
 
-/// A block of this kind, with room for so many messages, or for any number. Link 0 leads into it, and links 7 and 8 lead
-/// out of it.
-pub(crate) fn with_two_links_out(
+/// A block of this kind, with so many messages in a row, and with room for so many messages, or for any number. Link 0 leads
+/// into it, and links 7 and 8 lead out of it.
+pub(crate) fn block(
     rt: &impl Abort,
     alloc: Global,
     kind: BlockKind,
+    size: u32,
     capacity: Option<u32>,
 ) -> Block
-    ensures { result ≡ fresh_block kind 1 0
+    ensures { result ≡ fresh_block kind 1 size
         (record (fresh_port capacity) { ends = fresh_end 0 ∷ [] } ∷ []) (link_to 7 ∷ link_to 8 ∷ []) }
 {
     let port = port(rt, alloc, capacity, 0);
@@ -71,7 +73,7 @@ pub(crate) fn with_two_links_out(
     let Ok(rules) = vec![in alloc; link(7), link(8)] else {
         panic!(rt; "out of memory");
     };
-    let Ok(block) = Block::new(alloc, kind, 1, 0, ports, rules) else {
+    let Ok(block) = Block::new(alloc, kind, 1, size, ports, rules) else {
         panic!(rt; "out of memory");
     };
     block
@@ -115,48 +117,49 @@ pub(crate) fn give<S: SourceBlock>(
     Some((link, header.id(), value))
 }
 
-/// The next message that the source offers, which is put off: its link, and its number.
-fn put_off<S: SourceBlock>(
+/// The source gives this number next, as the message with this id, over this link.
+pub(crate) fn gives<S: SourceBlock>(
     rt: &impl Abort,
     alloc: Global,
     source: &mut S,
-) -> Option<(LinkId, u64)> {
-    let Ok(offer) = source.next_offer(alloc) else {
-        panic!(rt; "out of memory");
-    };
-    let (link, header) = offer?;
-    source.note_answer(link, header, MessageStatus::Postponed);
-    Some((link, header.id()))
-}
-
-/// Whether a message with this number goes over this link, and is this value.
-pub(crate) fn is_number(
-    given: &Option<(LinkId, u64, Value)>,
     link: LinkId,
     id: u64,
     number: i64,
-) -> bool {
-    match given {
-        Some((over, header, value)) => {
-            *over == link && *header == id && value.as_int() == Some(number)
-        }
-        None => false,
+) {
+    match give(rt, alloc, source) {
+        Some((over, header, value))
+            if over == link && header == id && value.as_int() == Some(number) => {}
+        _ => panic!(rt; "it does not give {number} over link {link}"),
+    }
+}
+
+/// The source offers the message with this id over this link, which puts it off; or nothing.
+pub(crate) fn offers<S: SourceBlock>(
+    rt: &impl Abort,
+    alloc: Global,
+    source: &mut S,
+    offer: Option<(LinkId, u64)>,
+) {
+    let offered = put_off(rt, alloc, source).map(|(link, header)| (link, header.id()));
+    if offered != offer {
+        panic!(rt; "it offers something else");
     }
 }
 
 #[test]
 fn a_broadcast_copies_to_each_link(rt: HostRuntime) {
-    let mut source = with_two_links_out(&rt, rt.alloc(), BlockKind::Broadcast, None);
-    take(&rt, rt.alloc(), &mut source, 0, 5);
-    take(&rt, rt.alloc(), &mut source, 0, 6);
-    assert_eq!(rt; source.make(rt.alloc()), Ok(true));
-    assert!(rt; is_number(&give(&rt, rt.alloc(), &mut source), 7, 1, 5));
-    assert_eq!(rt; source.make(rt.alloc()), Ok(false));
-    assert_eq!(rt; put_off(&rt, rt.alloc(), &mut source), Some((8, 1)));
-    assert_eq!(rt; source.make(rt.alloc()), Ok(true));
-    assert!(rt; is_number(&give(&rt, rt.alloc(), &mut source), 7, 2, 6));
-    assert!(rt; is_number(&give(&rt, rt.alloc(), &mut source), 8, 2, 6));
-    assert_eq!(rt; put_off(&rt, rt.alloc(), &mut source), None);
+    let alloc = rt.alloc();
+    let mut source = block(&rt, alloc, BlockKind::Broadcast, 0, None);
+    take(&rt, alloc, &mut source, 0, 5);
+    take(&rt, alloc, &mut source, 0, 6);
+    makes(&rt, alloc, &mut source, true);
+    gives(&rt, alloc, &mut source, 7, 1, 5);
+    makes(&rt, alloc, &mut source, false);
+    offers(&rt, alloc, &mut source, Some((8, 1)));
+    makes(&rt, alloc, &mut source, true);
+    gives(&rt, alloc, &mut source, 7, 2, 6);
+    gives(&rt, alloc, &mut source, 8, 2, 6);
+    offers(&rt, alloc, &mut source, None);
 }
 
 /// The first port takes nothing more, since no message comes there.
@@ -171,13 +174,13 @@ fn close_first(block: &mut Block)
 
 #[test]
 fn a_join_that_has_told_its_end_takes_nothing_more(rt: HostRuntime) {
-    let mut join = join(&rt, rt.alloc());
+    let alloc = rt.alloc();
+    let mut join = join(&rt, alloc);
     close_first(&mut join);
-    assert_eq!(rt; join.completion(), Some(Outcome::Done));
+    tells(&rt, &mut join, Some(Outcome::Done));
     let one = header(&rt, 1);
-    let Ok(MessageStatus::DecliningPermanently) = join.offer_message(rt.alloc(), 1, one, true)
-    else {
+    let Ok(MessageStatus::DecliningPermanently) = join.offer_message(alloc, 1, one, true) else {
         panic!(&rt; "it takes one more");
     };
-    assert_eq!(rt; join.completion(), Some(Outcome::Done));
+    tells(&rt, &mut join, Some(Outcome::Done));
 }

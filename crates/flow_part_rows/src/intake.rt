@@ -1,45 +1,46 @@
 //! A port by itself, where the test plays the far ends of its links.
+use crate::check::check;
+use crate::shared::header;
 use flow_intake::Intake;
 use flow_link::LinkId;
 use flow_value::{MessageHeader, MessageStatus, Parcel, Text, Value};
-use std::alloc::{AllocError, Global};
+use std::alloc::Global;
 use std::process::Abort;
-use std::test::Fail;
 
-/// The answer to an offer over a link that is free.
-fn answer(
+/// The port answers so to the first message, offered over a link that is free.
+fn answers(
     rt: &impl Abort,
     port: &mut Intake,
     link: LinkId,
-    header: MessageHeader,
     may_postpone: bool,
-) -> Result<MessageStatus, AllocError> {
+    status: MessageStatus,
+) {
     assert!(rt; port.is_free_over(link), "link {link} is not free");
-    port.answer(link, header, may_postpone)
+    let Ok(answer) = port.answer(link, header(rt, 1), may_postpone) else {
+        panic!(rt; "out of memory");
+    };
+    assert!(rt; answer == status, "another answer over link {link}");
 }
 
 /// The text arrives over a link that it is wanted from.
-fn arrive(
-    rt: &impl Abort,
-    alloc: Global,
-    port: &mut Intake,
-    link: LinkId,
-    text: &str,
-) -> Result<(), AllocError> {
-    let value = Value::Text(Text::from_str(alloc, text)?);
-    let parcel = Parcel::new(alloc, value).map_err(|_| AllocError)?;
-    assert!(rt;
-        port.is_wanted_over(link),
-        "nothing is wanted over link {link}"
-    );
+fn arrives(rt: &impl Abort, alloc: Global, port: &mut Intake, link: LinkId, text: &str) {
+    let Ok(text) = Text::from_str(alloc, text) else {
+        panic!(rt; "out of memory");
+    };
+    let Ok(parcel) = Parcel::new(alloc, Value::Text(text)) else {
+        panic!(rt; "out of memory");
+    };
+    if !port.is_wanted_over(link) {
+        panic!(rt; "nothing is wanted over link {link}");
+    }
     port.arrive(link, parcel);
-    Ok(())
 }
 
-/// The message that waits longest is exchanged for the value.
-fn swap_first(rt: &impl Abort, port: &mut Intake, value: Value) -> Value {
+/// The text that waits longest is exchanged for the number.
+fn swaps(rt: &impl Abort, port: &mut Intake, text: &str, number: i64) {
     assert!(rt; !port.waiting().is_empty(), "nothing waits");
-    port.swap_first(value)
+    let value = port.swap_first(Value::Int(number));
+    assert!(rt; value.as_str() == Some(text), "something else waits");
 }
 
 /// An offer over a link is withdrawn.
@@ -54,46 +55,33 @@ fn give_room(rt: &impl Abort, port: &mut Intake, count: usize) {
     port.give_room(count);
 }
 
+/// Whether the port would come back next for this message.
+fn comes_back(port: &mut Intake, offer: Option<(LinkId, MessageHeader)>) -> bool {
+    port.next_postponed() == offer
+}
+
 #[test]
-fn intake_answers(rt: HostRuntime) -> Result<(), Fail> {
-    let one = MessageHeader::new(1).ok_or("no id")?;
-    let mut port = Intake::new(rt.alloc(), Some(1));
+fn intake_answers(rt: HostRuntime) {
+    let alloc = rt.alloc();
+    let one = header(&rt, 1);
+    let mut port = Intake::new(alloc, Some(1));
 
     // There is room for one message. The next offer waits, and one that may not wait is declined.
-    assert_eq!(rt;
-        answer(&rt, &mut port, 0, one, true)?,
-        MessageStatus::Accepted
-    );
-    assert_eq!(rt;
-        answer(&rt, &mut port, 1, one, true)?,
-        MessageStatus::Postponed
-    );
-    assert_eq!(rt;
-        answer(&rt, &mut port, 2, one, false)?,
-        MessageStatus::Declined
-    );
+    answers(&rt, &mut port, 0, true, MessageStatus::Accepted);
+    answers(&rt, &mut port, 1, true, MessageStatus::Postponed);
+    answers(&rt, &mut port, 2, false, MessageStatus::Declined);
 
     // The message has its room until that comes back.
-    arrive(&rt, rt.alloc(), &mut port, 0, "a")?;
-    let Value::Text(taken) = swap_first(&rt, &mut port, Value::Int(1)) else {
-        panic!(&rt; "another value waits");
-    };
-    assert_eq!(rt; taken.as_str(), "a");
-    assert_eq!(rt; port.take_next(), Some(Value::Int(1)));
-    assert_eq!(rt; port.next_postponed(), None);
+    arrives(&rt, alloc, &mut port, 0, "a");
+    swaps(&rt, &mut port, "a", 1);
+    check(&rt, "it is taken", port.take_next() == Some(Value::Int(1)));
+    check(&rt, "it has its room", comes_back(&mut port, None));
     give_room(&rt, &mut port, 1);
-    assert_eq!(rt; port.next_postponed(), Some((1, one)));
+    check(&rt, "there is room", comes_back(&mut port, Some((1, one))));
 
     // The offer is withdrawn, so there is room for another.
     withdraw(&rt, &mut port, 1);
-    assert_eq!(rt;
-        answer(&rt, &mut port, 2, one, true)?,
-        MessageStatus::Accepted
-    );
+    answers(&rt, &mut port, 2, true, MessageStatus::Accepted);
     port.close_port();
-    assert_eq!(rt;
-        answer(&rt, &mut port, 0, one, true)?,
-        MessageStatus::DecliningPermanently
-    );
-    Ok(())
+    answers(&rt, &mut port, 0, true, MessageStatus::DecliningPermanently);
 }

@@ -2,13 +2,13 @@
 //! back.
 ghost use Rattle.flow_part_rows.specs.Jobs.{Rests};
 
+use crate::check::check;
 use crate::shared::{header, link};
 use flow_exec::{EndFault, Execution, JobResult};
 use flow_link::{BlockKind, TargetBlock};
 use flow_outlet::LinkRule;
 use flow_value::{MessageStatus, Parcel, Steps, Text, Value};
 use std::alloc::Global;
-use std::collections::VecDeque;
 use std::process::Abort;
 use std::sync::Arc;
 
@@ -40,6 +40,28 @@ fn transform(rt: &impl Abort, alloc: Global) -> Execution<Steps>
         panic!(rt; "out of memory");
     };
     transform
+}
+
+/// An action that reads integers, with room for one message.
+fn action(rt: &impl Abort, alloc: Global) -> Execution<Steps>
+    ensures { Rests result }
+{
+    let work = function(rt, alloc, "int");
+    let Ok(action) = Execution::action(alloc, 1, Some(1), work, Vec::new(alloc)) else {
+        panic!(rt; "out of memory");
+    };
+    action
+}
+
+/// A transform_many block without a function.
+fn transform_many(rt: &impl Abort, alloc: Global) -> Execution<Steps>
+    ensures { Rests result }
+{
+    let rules = link_out(rt, alloc);
+    let Ok(many) = Execution::transform_many(alloc, 1, None, None, rules) else {
+        panic!(rt; "out of memory");
+    };
+    many
 }
 
 /// The block takes a text over link 0.
@@ -86,6 +108,22 @@ fn bring_back(rt: &impl Abort, block: &mut Execution<Steps>, done: JobResult<Ste
     };
 }
 
+/// The block takes a text and works on it, as its first job.
+fn work_on(rt: &impl Abort, alloc: Global, block: &mut Execution<Steps>, content: &str)
+    requires { Rests block.old }
+{
+    take(rt, alloc, block, content);
+    let done = run_next(rt, alloc, block, 0);
+    bring_back(rt, block, done);
+}
+
+/// No other job begins.
+fn begins_none(rt: &impl Abort, alloc: Global, block: &mut Execution<Steps>) {
+    let Ok(None) = block.begin(alloc) else {
+        panic!(rt; "one more job begins");
+    };
+}
+
 /// The result of the second job of a block that is equal to the transform.
 fn second_result(rt: &impl Abort, alloc: Global) -> JobResult<Steps> {
     let mut equal = transform(rt, alloc);
@@ -100,80 +138,79 @@ fn is_strange(block: &mut Execution<Steps>, done: JobResult<Steps>) -> bool {
     matches!(block.end(done), Err((_, EndFault::Strange)))
 }
 
-/// Whether these values are the numbers.
-fn are(values: &VecDeque<Value>, numbers: &[i64]) -> bool {
-    values
-        .iter()
-        .map(Value::as_int)
-        .eq(numbers.iter().copied().map(Some))
+/// The numbers are left to be given.
+fn leaves(rt: &impl Abort, block: &Execution<Steps>, numbers: &[i64]) {
+    let left = block.left().iter().map(Value::as_int);
+    if !left.eq(numbers.iter().copied().map(Some)) {
+        panic!(rt; "something else is left");
+    }
 }
 
 #[test]
 fn tickets_return_out_of_order(rt: HostRuntime) {
-    let mut block = transform(&rt, rt.alloc());
-    take(&rt, rt.alloc(), &mut block, "1");
-    take(&rt, rt.alloc(), &mut block, "2");
-    take(&rt, rt.alloc(), &mut block, "3");
-    let first = run_next(&rt, rt.alloc(), &mut block, 0);
-    let second = run_next(&rt, rt.alloc(), &mut block, 1);
-    let Ok(None) = block.begin(rt.alloc()) else {
-        panic!(&rt; "a third job begins");
-    };
+    let alloc = rt.alloc();
+    let mut block = transform(&rt, alloc);
+    take(&rt, alloc, &mut block, "1");
+    take(&rt, alloc, &mut block, "2");
+    take(&rt, alloc, &mut block, "3");
+    let first = run_next(&rt, alloc, &mut block, 0);
+    let second = run_next(&rt, alloc, &mut block, 1);
+    begins_none(&rt, alloc, &mut block);
     bring_back(&rt, &mut block, second);
-    assert!(rt; are(block.left(), &[]));
+    leaves(&rt, &block, &[]);
     bring_back(&rt, &mut block, first);
-    assert!(rt; are(block.left(), &[1, 2]));
-    let again = second_result(&rt, rt.alloc());
-    assert!(rt; is_strange(&mut block, again));
+    leaves(&rt, &block, &[1, 2]);
+    let again = second_result(&rt, alloc);
+    check(&rt, "it is of another", is_strange(&mut block, again));
 }
 
 #[test]
 fn a_result_that_waits_keeps_no_lane_busy(rt: HostRuntime) {
-    let mut block = transform(&rt, rt.alloc());
-    take(&rt, rt.alloc(), &mut block, "1");
-    take(&rt, rt.alloc(), &mut block, "2");
-    take(&rt, rt.alloc(), &mut block, "3");
-    take(&rt, rt.alloc(), &mut block, "4");
-    let first = run_next(&rt, rt.alloc(), &mut block, 0);
-    let second = run_next(&rt, rt.alloc(), &mut block, 1);
+    let alloc = rt.alloc();
+    let mut block = transform(&rt, alloc);
+    take(&rt, alloc, &mut block, "1");
+    take(&rt, alloc, &mut block, "2");
+    take(&rt, alloc, &mut block, "3");
+    take(&rt, alloc, &mut block, "4");
+    let first = run_next(&rt, alloc, &mut block, 0);
+    let second = run_next(&rt, alloc, &mut block, 1);
     bring_back(&rt, &mut block, second);
-    let third = run_next(&rt, rt.alloc(), &mut block, 2);
-    let Ok(None) = block.begin(rt.alloc()) else {
-        panic!(&rt; "three jobs are out");
-    };
+    let third = run_next(&rt, alloc, &mut block, 2);
+    begins_none(&rt, alloc, &mut block);
     bring_back(&rt, &mut block, third);
-    assert!(rt; are(block.left(), &[]));
+    leaves(&rt, &block, &[]);
     bring_back(&rt, &mut block, first);
-    assert!(rt; are(block.left(), &[1, 2, 3]));
+    leaves(&rt, &block, &[1, 2, 3]);
 }
 
 #[test]
 fn an_action_records(rt: HostRuntime) {
-    let work = function(&rt, rt.alloc(), "int");
-    let Ok(mut block) = Execution::action(rt.alloc(), 1, Some(1), work, Vec::new(rt.alloc())) else {
-        panic!(&rt; "out of memory");
-    };
-    take(&rt, rt.alloc(), &mut block, "5");
-    let done = run_next(&rt, rt.alloc(), &mut block, 0);
-    bring_back(&rt, &mut block, done);
-    let [value] = block.recorded() else {
-        panic!(&rt; "it records another number of results");
-    };
-    assert!(rt; value.as_int() == Some(5));
-    assert!(rt; block.work().is_some() && block.block().kind() == BlockKind::Action);
+    let mut block = action(&rt, rt.alloc());
+    work_on(&rt, rt.alloc(), &mut block, "5");
+    check(&rt, "its record", has_recorded(&block, 5));
+    check(&rt, "its work", block.work().is_some());
+    check(&rt, "its kind", block.block().kind() == BlockKind::Action);
+}
+
+/// Whether the block has recorded this number alone.
+fn has_recorded(block: &Execution<Steps>, number: i64) -> bool {
+    match block.recorded() {
+        [value] => value.as_int() == Some(number),
+        _ => false,
+    }
 }
 
 #[test]
 fn a_transform_many_without_a_function_gives_its_messages(rt: HostRuntime) {
-    let rules = link_out(&rt, rt.alloc());
-    let Ok(mut block) = Execution::transform_many(rt.alloc(), 1, None, None, rules) else {
-        panic!(&rt; "out of memory");
-    };
-    take(&rt, rt.alloc(), &mut block, "5");
-    let done = run_next(&rt, rt.alloc(), &mut block, 0);
-    bring_back(&rt, &mut block, done);
-    let Some(value) = block.left().front() else {
-        panic!(&rt; "it gives nothing");
-    };
-    assert!(rt; value.as_str() == Some("5"));
+    let mut block = transform_many(&rt, rt.alloc());
+    work_on(&rt, rt.alloc(), &mut block, "5");
+    check(&rt, "its message", gives_text(&block, "5"));
+}
+
+/// Whether the block gives this text first.
+fn gives_text(block: &Execution<Steps>, content: &str) -> bool {
+    match block.left().front() {
+        Some(value) => value.as_str() == Some(content),
+        None => false,
+    }
 }

@@ -1,15 +1,15 @@
 //! Links of plans, with what no text says of them, and how far a message has come over one.
 use crate::check::check;
+use crate::shared::header;
 use flow_link::{
-    BlockDef, BlockKind, Draft, Ending, LinkDef, LinkEnd, LinkSource, LinkTarget, Mark, Move,
-    Phase, Place, PlanFault, PlanRefusal, Posted, are_numbered, phase_of, plan_check, step_of,
-    word_of,
+    BlockDef, BlockKind, Draft, Ending, Link, LinkDef, LinkEnd, LinkSource, LinkTarget, Mark, Move,
+    Phase, Place, Plan, PlanFault, PlanRefusal, Posted, are_numbered, phase_of, plan_check,
+    step_of, word_of,
 };
-use flow_value::{MessageHeader, Steps, Text, When};
+use flow_value::{Steps, Text, When};
 use std::alloc::{AllocError, Global};
 use std::mem::size_of;
 use std::process::Abort;
-use std::test::Fail;
 
 /// The kind of the source, a port, a capacity and a predicate.
 type Options = (BlockKind, Option<u32>, Option<u32>, Option<When>);
@@ -44,45 +44,62 @@ const WRONG: &[(&str, Options, PlanFault)] = &[
 ];
 
 /// A block and a buffer, of which the first is an input and linked to the second.
-fn draft(alloc: Global, options: &Options) -> Result<Draft<Steps>, AllocError> {
+fn draft(rt: &impl Abort, alloc: Global, options: &Options) -> Draft<Steps> {
+    let Ok(draft) = try_draft(alloc, options) else {
+        panic!(rt; "out of memory");
+    };
+    draft
+}
+
+fn try_draft(alloc: Global, options: &Options) -> Result<Draft<Steps>, AllocError> {
     let (source, port, capacity, when) = *options;
-    let mut blocks = Vec::new(alloc);
-    for (name, kind, input) in [("a", source, true), ("b", BlockKind::Buffer, false)] {
-        blocks.push(BlockDef {
-            name: Text::from_str(alloc, name)?,
-            kind,
-            input,
-            output: false,
-            capacity,
-            work: None,
-            lanes: None,
-            size: None,
-            ports: None,
-            greedy: None,
-        })?;
-    }
-    let mut links = Vec::new(alloc);
-    links.push(LinkDef {
-        from: Text::from_str(alloc, "a")?,
-        to: Text::from_str(alloc, "b")?,
-        port,
-        when,
-        max: None,
-        propagate: true,
-    })?;
+    let blocks = vec![in alloc;
+        block(alloc, "a", source, true, capacity)?,
+        block(alloc, "b", BlockKind::Buffer, false, capacity)?,
+    ]?;
+    let links = vec![in alloc; link(alloc, port, when)?]?;
     Ok(Draft { blocks, links })
 }
 
+fn block(
+    alloc: Global,
+    name: &str,
+    kind: BlockKind,
+    input: bool,
+    capacity: Option<u32>,
+) -> Result<BlockDef<Steps>, AllocError> {
+    let mut block = BlockDef::new(Text::from_str(alloc, name)?, kind);
+    block.input = input;
+    block.capacity = capacity;
+    Ok(block)
+}
+
+fn link(alloc: Global, port: Option<u32>, when: Option<When>) -> Result<LinkDef, AllocError> {
+    let mut link = LinkDef::between(alloc, "a", "b")?;
+    link.port = port;
+    link.when = when;
+    link.propagate = true;
+    Ok(link)
+}
+
+/// The plan of a draft with which nothing is wrong.
+fn plan(rt: &impl Abort, alloc: Global, draft: Draft<Steps>) -> Plan<Steps> {
+    let Ok(plan) = plan_check(alloc, draft) else {
+        panic!(rt; "something is wrong with the draft");
+    };
+    plan
+}
+
 #[test]
-fn a_refused_draft_comes_back(rt: HostRuntime) -> Result<(), Fail> {
+fn a_refused_draft_comes_back(rt: HostRuntime) {
+    let alloc = rt.alloc();
     for (name, options, fault) in WRONG {
-        let Err((back, refusal)) = plan_check(rt.alloc(), draft(rt.alloc(), options)?) else {
+        let Err((back, refusal)) = plan_check(alloc, draft(&rt, alloc, options)) else {
             panic!(&rt; "{name}");
         };
         check(&rt, name, refusal == PlanRefusal::Fault(*fault));
         check(&rt, name, back.blocks.len() == 2 && back.links.len() == 1);
     }
-    Ok(())
 }
 
 /// So many buffers that all have one name.
@@ -95,74 +112,113 @@ fn namesakes(alloc: Global, count: u32) -> Result<Draft<Steps>, AllocError> {
     Ok(Draft { blocks, links })
 }
 
-#[test]
-fn too_many_blocks_come_before_their_names(rt: HostRuntime) -> Result<(), Fail> {
-    for (count, fault) in [(257, PlanFault::Limit), (256, PlanFault::DuplicateName(1))] {
-        let Err((_back, refusal)) = plan_check(rt.alloc(), namesakes(rt.alloc(), count)?) else {
-            panic!(&rt; "{count}");
-        };
-        assert!(rt; refusal == PlanRefusal::Fault(fault), "{count}");
-    }
-    Ok(())
-}
-
-#[test]
-fn links_of_inputs_follow_those_of_the_draft(rt: HostRuntime) -> Result<(), Fail> {
-    let draft = draft(rt.alloc(), &(BlockKind::Buffer, Some(0), None, None))?;
-    let Ok(plan) = plan_check(rt.alloc(), draft) else {
-        panic!(&rt; "nothing is wrong with the draft");
+/// So many buffers that all have one name make no plan, for this.
+fn are_refused(rt: &impl Abort, alloc: Global, count: u32, fault: PlanFault) {
+    let Ok(draft) = namesakes(alloc, count) else {
+        panic!(rt; "out of memory");
     };
-    assert!(rt; plan.block_count() == 2 && plan.link_count() == 2);
-    assert!(rt; plan.find("b") == Some(1) && plan.find("c").is_none());
-    assert!(rt; plan.block(0).input && !plan.block(1).input);
-    let (first, second) = (plan.link(0), plan.link(1));
-    assert!(rt; first.source == LinkSource::Block(0) && first.target == LinkTarget::Port(1, 0));
-    assert!(rt; second.source == LinkSource::Input(0) && second.target == LinkTarget::Port(0, 0));
-    assert!(rt; first.propagate && first.when == When::Any && first.max.is_none());
-    Ok(())
+    let Err((_back, refusal)) = plan_check(alloc, draft) else {
+        panic!(rt; "{count} make a plan");
+    };
+    if refusal != PlanRefusal::Fault(fault) {
+        panic!(rt; "{count} are refused for something else");
+    }
 }
 
 #[test]
-fn links_of_exits_follow_those_of_inputs(rt: HostRuntime) -> Result<(), Fail> {
-    let mut draft = draft(rt.alloc(), &(BlockKind::Buffer, None, None, None))?;
+fn too_many_blocks_come_before_their_names(rt: HostRuntime) {
+    are_refused(&rt, rt.alloc(), 257, PlanFault::Limit);
+    are_refused(&rt, rt.alloc(), 256, PlanFault::DuplicateName(1));
+}
+
+/// Whether a link leads from there to there, and says nothing of its messages.
+fn leads(link: Link, source: LinkSource, target: LinkTarget) -> bool {
+    link.source == source
+        && link.target == target
+        && link.propagate
+        && link.when == When::Any
+        && link.max.is_none()
+}
+
+#[test]
+fn links_of_inputs_follow_those_of_the_draft(rt: HostRuntime) {
+    let alloc = rt.alloc();
+    let draft = draft(&rt, alloc, &(BlockKind::Buffer, Some(0), None, None));
+    let plan = plan(&rt, alloc, draft);
+    assert!(rt; plan.block_count() == 2 && plan.link_count() == 2);
+    check(
+        &rt,
+        "names",
+        plan.find("b") == Some(1) && plan.find("c").is_none(),
+    );
+    check(&rt, "inputs", plan.block(0).input && !plan.block(1).input);
+    let (first, second) = (plan.link(0), plan.link(1));
+    check(
+        &rt,
+        "between",
+        leads(first, LinkSource::Block(0), LinkTarget::Port(1, 0)),
+    );
+    check(&rt, "its source", second.source == LinkSource::Input(0));
+    check(&rt, "its target", second.target == LinkTarget::Port(0, 0));
+}
+
+#[test]
+fn links_of_exits_follow_those_of_inputs(rt: HostRuntime) {
+    let alloc = rt.alloc();
+    let mut draft = draft(&rt, alloc, &(BlockKind::Buffer, None, None, None));
     for block in &mut draft.blocks {
         block.output = true;
     }
-    let Ok(plan) = plan_check(rt.alloc(), draft) else {
-        panic!(&rt; "nothing is wrong with the draft");
-    };
+    let plan = plan(&rt, alloc, draft);
     assert!(rt; plan.link_count() == 4 && plan.input_count() == 1);
-    assert!(rt; plan.link(1).target == LinkTarget::Port(0, 0));
-    for (place, exit) in [(0, plan.link(2)), (1, plan.link(3))] {
-        assert!(rt; exit.source == LinkSource::Block(place) && exit.target == LinkTarget::Exit);
-        assert!(rt; exit.propagate && exit.when == When::Any && exit.max.is_none());
-    }
-    Ok(())
+    check(&rt, "in", plan.link(1).target == LinkTarget::Port(0, 0));
+    check(
+        &rt,
+        "out of a",
+        leads(plan.link(2), LinkSource::Block(0), LinkTarget::Exit),
+    );
+    check(
+        &rt,
+        "out of b",
+        leads(plan.link(3), LinkSource::Block(1), LinkTarget::Exit),
+    );
 }
 
 #[test]
 fn a_mark_takes_32_bytes(rt: HostRuntime) {
-    assert!(rt; size_of::<Mark>() == 32);
+    check(&rt, "a mark", size_of::<Mark>() == 32);
 }
+
+/// How an input may end, and whether it has the number of a fault if it needs one.
+const ENDINGS: &[(Ending, bool)] = &[
+    (Ending::Open, true),
+    (Ending::Complete, true),
+    (Ending::Fault(0), false),
+    (Ending::Fault(1), true),
+];
 
 #[test]
 fn no_input_ends_by_fault_0(rt: HostRuntime) {
-    for (ending, numbered) in [
-        (Ending::Open, true),
-        (Ending::Complete, true),
-        (Ending::Fault(0), false),
-        (Ending::Fault(1), true),
-    ] {
-        let values = Vec::new(rt.alloc());
-        let list = [Posted { values, ending }];
-        assert!(rt; ending.is_numbered() == numbered, "{ending:?}");
-        assert!(rt; are_numbered(&list) == numbered, "{ending:?}");
+    let alloc = rt.alloc();
+    for (ending, numbered) in ENDINGS {
+        check(&rt, "one", ending.is_numbered() == *numbered);
+        check(
+            &rt,
+            "a list",
+            are_numbered(&[posted(alloc, *ending)]) == *numbered,
+        );
     }
 }
 
+/// An input to which nothing is posted, and which ends so.
+fn posted(alloc: Global, ending: Ending) -> Posted {
+    let values = Vec::new(alloc);
+    Posted { values, ending }
+}
+
 #[test]
-fn phases_have_their_words(rt: HostRuntime) -> Result<(), Fail> {
-    let one = MessageHeader::new(1).ok_or("no id")?;
+fn phases_have_their_words(rt: HostRuntime) {
+    let one = header(&rt, 1);
     for (phase, word) in [
         (Phase::Idle, 0),
         (Phase::Wanted(one), 2_305_843_009_213_693_953),
@@ -175,19 +231,22 @@ fn phases_have_their_words(rt: HostRuntime) -> Result<(), Fail> {
         );
     }
     // A message needs an id, a fault has a number that is not too great, and there are thirteen kinds of phase.
-    for word in [
-        2_305_843_009_213_693_952,
-        6_917_529_031_936_049_152,
-        7_493_989_779_944_505_344,
-    ] {
-        assert!(rt; phase_of(word).is_none(), "{word}");
-    }
-    Ok(())
+    check(&rt, "no id", phase_of(2_305_843_009_213_693_952).is_none());
+    check(
+        &rt,
+        "too great",
+        phase_of(6_917_529_031_936_049_152).is_none(),
+    );
+    check(
+        &rt,
+        "no kind",
+        phase_of(7_493_989_779_944_505_344).is_none(),
+    );
 }
 
 #[test]
-fn a_message_crosses(rt: HostRuntime) -> Result<(), Fail> {
-    let one = MessageHeader::new(1).ok_or("no id")?;
+fn a_message_crosses(rt: HostRuntime) {
+    let one = header(&rt, 1);
     let mut phase = Phase::Idle;
     for step in [
         Move::Offer(one),
@@ -200,9 +259,11 @@ fn a_message_crosses(rt: HostRuntime) -> Result<(), Fail> {
         Move::Close,
     ] {
         assert!(rt; step_of(Phase::Refused, step).is_none());
-        phase = step_of(phase, step).ok_or("not allowed")?;
+        let Some(next) = step_of(phase, step) else {
+            panic!(&rt; "it is not allowed");
+        };
+        phase = next;
         assert!(rt; phase == Phase::Idle || phase.id() == Some(one));
     }
     assert!(rt; phase == Phase::Idle);
-    Ok(())
 }

@@ -1,14 +1,12 @@
 //! An outlet by itself, with the test in the place of its targets.
-use crate::shared::link;
+use crate::shared::{header, link};
 use flow_link::LinkId;
 use flow_outlet::{Outlet, OutletFault};
-use flow_value::{MAX_ID, MessageHeader, MessageStatus, Value};
+use flow_value::{MAX_ID, MessageHeader, MessageStatus, Parcel, Value};
 use std::alloc::{AllocError, Global};
 use std::process::Abort;
-use std::test::Fail;
 
 /// What is done with the outlet.
-#[derive(Debug)]
 enum Call {
     /// These numbers are put, with this weight.
     Put(&'static [i64], u32),
@@ -31,7 +29,7 @@ enum Call {
 }
 
 /// What comes of it.
-#[derive(Debug, Drop, PartialEq)]
+#[derive(Clone, Copy, PartialEq)]
 enum Done {
     Taken,
     NoIds,
@@ -45,6 +43,8 @@ enum Done {
     Released,
     Room(u32),
     Left(bool),
+    /// Something that no call is to come to.
+    Strange,
 }
 
 /// The calls with two links, where two ids are behind the first.
@@ -108,134 +108,160 @@ struct Case {
 }
 
 impl Case {
-    fn new(alloc: Global, first: u64) -> Result<Case, Fail> {
-        let first = MessageHeader::new(first).ok_or("no header")?;
-        let mut rules = Vec::new(alloc);
-        rules.push(link(0))?;
-        rules.push(link(1))?;
-        let outlet = Outlet::new(alloc, rules, first).map_err(|_| "out of memory")?;
-        Ok(Case {
+    fn new(rt: &impl Abort, alloc: Global, first: u64) -> Case {
+        let first = header(rt, first);
+        let Ok(rules) = vec![in alloc; link(0), link(1)] else {
+            panic!(rt; "out of memory");
+        };
+        let Ok(outlet) = Outlet::new(alloc, rules, first) else {
+            panic!(rt; "out of memory");
+        };
+        Case {
             outlet,
             offered: [first; 2],
+        }
+    }
+
+    /// The message that was offered last over this link.
+    fn offered(&self, link: LinkId) -> MessageHeader {
+        let [first, second] = self.offered;
+        if link == 0 { first } else { second }
+    }
+
+    fn act(&mut self, alloc: Global, call: &Call) -> Result<Done, AllocError> {
+        match *call {
+            Call::Put(numbers, weight) => self.put(alloc, numbers, weight),
+            Call::PutOne(number, weight) => Ok(self.put_one(number, weight)),
+            Call::Next => self.next(alloc),
+            Call::Answer(link, status) => Ok(self.answer(link, status)),
+            Call::Consume(link) => Ok(self.consume(link)),
+            Call::Reserve(link) => Ok(self.reserve(link)),
+            Call::Release(link) => Ok(self.release(link)),
+            Call::Room => Ok(Done::Room(self.outlet.room_back())),
+            Call::Left(numbers) => Ok(Done::Left(has_left(&self.outlet, numbers))),
+        }
+    }
+
+    fn put(&mut self, alloc: Global, numbers: &[i64], weight: u32) -> Result<Done, AllocError> {
+        let values = values_of(alloc, numbers)?;
+        if weight > u32::MAX - self.outlet.weight() {
+            return Ok(Done::Strange);
+        }
+        Ok(match self.outlet.put(values, weight) {
+            Ok(()) => Done::Taken,
+            Err((back, OutletFault::Ids)) if are(back.as_slice(), numbers) => Done::NoIds,
+            Err(_) => Done::Strange,
         })
     }
 
-    fn act(&mut self, alloc: Global, call: &Call) -> Result<Done, Fail> {
-        match call {
-            Call::Put(numbers, weight) => self.put(alloc, numbers, *weight),
-            Call::PutOne(number, weight) => self.put_one(*number, *weight),
-            Call::Next => self.next(alloc),
-            Call::Answer(link, status) => self.answer(*link, *status),
-            Call::Consume(link) => self.consume(*link),
-            Call::Reserve(link) => self.reserve(*link),
-            Call::Release(link) => self.release(*link),
-            Call::Room => Ok(Done::Room(self.outlet.room_back())),
-            Call::Left(numbers) => Ok(Done::Left(self.has_left(numbers))),
-        }
-    }
-
-    fn put(&mut self, alloc: Global, numbers: &[i64], weight: u32) -> Result<Done, Fail> {
-        let values = values_of(alloc, numbers)?;
+    fn put_one(&mut self, number: i64, weight: u32) -> Done {
         if weight > u32::MAX - self.outlet.weight() {
-            return Err(Fail::from("too much weight"));
-        }
-        match self.outlet.put(values, weight) {
-            Ok(()) => Ok(Done::Taken),
-            Err((back, OutletFault::Ids)) if back == values_of(alloc, numbers)? => Ok(Done::NoIds),
-            Err(_) => Err(Fail::from("refused otherwise")),
-        }
-    }
-
-    fn put_one(&mut self, number: i64, weight: u32) -> Result<Done, Fail> {
-        if weight > u32::MAX - self.outlet.weight() {
-            return Err(Fail::from("too much weight"));
+            return Done::Strange;
         }
         match self.outlet.put_one(Value::Int(number), weight) {
-            Ok(()) => Ok(Done::Taken),
-            Err((back, OutletFault::Ids)) if back == Value::Int(number) => Ok(Done::NoIds),
-            Err(_) => Err(Fail::from("refused otherwise")),
+            Ok(()) => Done::Taken,
+            Err((back, OutletFault::Ids)) if back.as_int() == Some(number) => Done::NoIds,
+            Err(_) => Done::Strange,
         }
     }
 
-    fn next(&mut self, alloc: Global) -> Result<Done, Fail> {
+    fn next(&mut self, alloc: Global) -> Result<Done, AllocError> {
         let Some((link, header)) = self.outlet.next_offer(alloc)? else {
             return Ok(Done::NoOffer);
         };
-        *self.offered.get_mut(link as usize).ok_or("no such link")? = header;
+        let [first, second] = self.offered;
+        self.offered = if link == 0 {
+            [header, second]
+        } else {
+            [first, header]
+        };
         Ok(Done::Offered(link, header.id()))
     }
 
-    fn answer(&mut self, link: LinkId, status: MessageStatus) -> Result<Done, Fail> {
-        let header = *self.offered.get(link as usize).ok_or("no such link")?;
+    fn answer(&mut self, link: LinkId, status: MessageStatus) -> Done {
+        let header = self.offered(link);
         if !self.outlet.is_asked(link, header) {
-            return Err(Fail::from("not asked"));
+            return Done::Strange;
         }
         self.outlet.note_answer(link, header, status);
-        Ok(Done::Noted)
+        Done::Noted
     }
 
-    fn consume(&mut self, link: LinkId) -> Result<Done, Fail> {
-        let header = *self.offered.get(link as usize).ok_or("no such link")?;
+    fn consume(&mut self, link: LinkId) -> Done {
+        let header = self.offered(link);
         if !self.outlet.may_consume(link, header) {
-            return Err(Fail::from("not to be consumed"));
+            return Done::Strange;
         }
         match self.outlet.consume_message(link, header) {
-            Some(parcel) => Ok(Done::Gave(parcel.value().as_int().ok_or("no number")?)),
-            None => Ok(Done::Gone),
+            Some(parcel) => number_in(&parcel),
+            None => Done::Gone,
         }
     }
 
-    fn reserve(&mut self, link: LinkId) -> Result<Done, Fail> {
-        let header = *self.offered.get(link as usize).ok_or("no such link")?;
+    fn reserve(&mut self, link: LinkId) -> Done {
+        let header = self.offered(link);
         if !self.outlet.may_reserve(link, header) {
-            return Err(Fail::from("not to be reserved"));
+            return Done::Strange;
         }
         if self.outlet.reserve_message(link, header) {
-            Ok(Done::Kept)
+            Done::Kept
         } else {
-            Ok(Done::NotKept)
+            Done::NotKept
         }
     }
 
-    fn release(&mut self, link: LinkId) -> Result<Done, Fail> {
-        let header = *self.offered.get(link as usize).ok_or("no such link")?;
+    fn release(&mut self, link: LinkId) -> Done {
+        let header = self.offered(link);
         if !self.outlet.is_reserved(link, header) {
-            return Err(Fail::from("not kept"));
+            return Done::Strange;
         }
         self.outlet.release_reservation(link, header);
-        Ok(Done::Released)
+        Done::Released
     }
+}
 
-    fn has_left(&self, numbers: &[i64]) -> bool {
-        self.outlet
-            .left()
-            .iter()
-            .map(Value::as_int)
-            .eq(numbers.iter().copied().map(Some))
+/// The number that is given.
+fn number_in(parcel: &Parcel) -> Done {
+    match parcel.value().as_int() {
+        Some(number) => Done::Gave(number),
+        None => Done::Strange,
     }
+}
+
+/// Whether the numbers are what is left in an outlet.
+fn has_left(outlet: &Outlet, numbers: &[i64]) -> bool {
+    outlet
+        .left()
+        .iter()
+        .map(Value::as_int)
+        .eq(numbers.iter().copied().map(Some))
+}
+
+/// Whether the values are these numbers.
+fn are(values: &[Value], numbers: &[i64]) -> bool {
+    values
+        .iter()
+        .map(Value::as_int)
+        .eq(numbers.iter().copied().map(Some))
 }
 
 /// Does these calls with an outlet whose first message has this id.
-fn does_all(
-    rt: &impl Abort,
-    alloc: Global,
-    first: u64,
-    calls: &[(Call, Done)],
-) -> Result<(), Fail> {
-    let mut case = Case::new(alloc, first)?;
-    for (call, due) in calls {
-        let done = case.act(alloc, call)?;
-        assert!(rt; done == *due, "{call:?} came to {done:?}");
+fn does_all(rt: &impl Abort, alloc: Global, first: u64, calls: &[(Call, Done)]) {
+    let mut case = Case::new(rt, alloc, first);
+    for (number, (call, due)) in calls.iter().enumerate() {
+        let Ok(done) = case.act(alloc, call) else {
+            panic!(rt; "out of memory");
+        };
+        assert!(rt; done == *due, "call {number} comes to something else");
     }
-    Ok(())
 }
 
 #[test]
-fn outlet_ids_run_out(rt: HostRuntime) -> Result<(), Fail> {
-    does_all(&rt, rt.alloc(), MAX_ID - 2, LAST_IDS)
+fn outlet_ids_run_out(rt: HostRuntime) {
+    does_all(&rt, rt.alloc(), MAX_ID - 2, LAST_IDS);
 }
 
 #[test]
-fn outlet_reservations(rt: HostRuntime) -> Result<(), Fail> {
-    does_all(&rt, rt.alloc(), MAX_ID - 1, RESERVATIONS)
+fn outlet_reservations(rt: HostRuntime) {
+    does_all(&rt, rt.alloc(), MAX_ID - 1, RESERVATIONS);
 }

@@ -5,12 +5,15 @@ ghost use Rattle.flow_link.specs.SourceCalls.{NothingOut};
 ghost use Rattle.flow_link.specs.StagesMove.{MovesTo};
 ghost use Rattle.flow_link.specs.declared.stage.SourceStage.TheVariants.{Waiting, Reserved};
 ghost use Rattle.flow_block.specs.Traits.{source_at};
+ghost use Rattle.flow_part_rows.specs.Driven.{Rests};
 ghost use Rattle.flow_part_rows.specs.Reserved.{BothWait, FirstKept};
 
-use crate::driven::{give, is_number, take, with_two_links_out};
+use crate::check::check;
+use crate::driven::{block, gives, offers, take};
+use crate::shared::makes;
 use flow_block::Block;
-use flow_link::{BlockKind, DataflowBlock, LinkId, SourceBlock};
-use flow_value::{MessageHeader, MessageStatus, Value};
+use flow_link::{BlockKind, LinkId, SourceBlock, TargetBlock};
+use flow_value::{MessageHeader, MessageStatus};
 use std::alloc::Global;
 use std::process::Abort;
 
@@ -22,7 +25,7 @@ fn is_at_rest(block: &Block) -> bool
 }
 
 /// The next message that the source offers, which is put off: its link, and its header.
-fn put_off<S: SourceBlock>(
+pub(crate) fn put_off<S: SourceBlock>(
     rt: &impl Abort,
     alloc: Global,
     source: &mut S,
@@ -105,7 +108,7 @@ fn keep_for_second<S: SourceBlock>(
 
 /// The message that is kept for a link is this number, and the link takes it.
 fn take_kept<S: SourceBlock>(
-    rt: &impl Abort,
+    rt: &(impl Abort + Print),
     source: &mut S,
     link: LinkId,
     header: MessageHeader,
@@ -117,66 +120,74 @@ fn take_kept<S: SourceBlock>(
         panic!(rt; "it is not there");
     };
     let (value, _copy) = parcel.into_parts();
-    assert_eq!(rt; value.as_int(), Some(number));
+    check(
+        rt,
+        "the message that is kept",
+        value.as_int() == Some(number),
+    );
+}
+
+/// A block of this kind that has taken these numbers and keeps the first of them for link 7, after both links put it off with
+/// these headers.
+fn keeping(
+    rt: &impl Abort,
+    alloc: Global,
+    kind: BlockKind,
+    numbers: &[i64],
+) -> (Block, MessageHeader, MessageHeader)
+    ensures { FirstKept result.1 result.2 (source_at result.0) }
+{
+    let mut source = block(rt, alloc, kind, 0, None);
+    take_all(rt, alloc, &mut source, numbers);
+    for _number in numbers {
+        makes(rt, alloc, &mut source, true);
+    }
+    if !is_at_rest(&source) {
+        panic!(rt; "something is under way");
+    }
+    let (first, second) = put_off_by_both(rt, alloc, &mut source);
+    keep_for_first(rt, &mut source, first, second);
+    (source, first, second)
+}
+
+/// The target takes these numbers over link 0.
+fn take_all<T: TargetBlock>(rt: &impl Abort, alloc: Global, target: &mut T, numbers: &[i64])
+    requires { Rests (T.target_stage target.old) }
+{
+    for number in numbers {
+        take(rt, alloc, target, 0, *number);
+    }
 }
 
 #[test]
 fn a_buffer_keeps_its_first_message_for_one_link(rt: HostRuntime) {
-    let mut source = with_two_links_out(&rt, rt.alloc(), BlockKind::Buffer, None);
-    take(&rt, rt.alloc(), &mut source, 0, 5);
-    take(&rt, rt.alloc(), &mut source, 0, 6);
-    assert_eq!(rt; source.make(rt.alloc()), Ok(true));
-    assert_eq!(rt; source.make(rt.alloc()), Ok(true));
-    if !is_at_rest(&source) {
-        panic!(&rt; "something is under way");
-    }
-    let (first, second) = put_off_by_both(&rt, rt.alloc(), &mut source);
-    keep_for_first(&rt, &mut source, first, second);
+    let alloc = rt.alloc();
+    let (mut source, first, second) = keeping(&rt, alloc, BlockKind::Buffer, &[5, 6]);
     deny_second(&rt, &mut source, first, second);
     source.release_reservation(7, first);
-    assert_eq!(rt; source.left().len(), 2);
-    assert!(rt; is_number(&give(&rt, rt.alloc(), &mut source), 7, 1, 5));
-    assert_eq!(rt; source.left().len(), 1);
+    check(&rt, "both are left", source.left().len() == 2);
+    gives(&rt, alloc, &mut source, 7, 1, 5);
+    check(&rt, "one is left", source.left().len() == 1);
 }
 
 #[test]
 fn a_buffer_gives_what_it_keeps(rt: HostRuntime) {
-    let mut source = with_two_links_out(&rt, rt.alloc(), BlockKind::Buffer, None);
-    take(&rt, rt.alloc(), &mut source, 0, 5);
-    assert_eq!(rt; source.make(rt.alloc()), Ok(true));
-    if !is_at_rest(&source) {
-        panic!(&rt; "something is under way");
-    }
-    let (first, second) = put_off_by_both(&rt, rt.alloc(), &mut source);
-    keep_for_first(&rt, &mut source, first, second);
+    let (mut source, first, _) = keeping(&rt, rt.alloc(), BlockKind::Buffer, &[5]);
     take_kept(&rt, &mut source, 7, first, 5);
-    assert_eq!(rt; source.left().len(), 0);
+    check(&rt, "none is left", source.left().len() == 0);
 }
 
 #[test]
 fn a_broadcast_keeps_a_copy_for_each_link(rt: HostRuntime) {
-    let mut source = with_two_links_out(&rt, rt.alloc(), BlockKind::Broadcast, None);
-    take(&rt, rt.alloc(), &mut source, 0, 4);
-    assert_eq!(rt; source.make(rt.alloc()), Ok(true));
-    if !is_at_rest(&source) {
-        panic!(&rt; "something is under way");
-    }
-    let (first, second) = put_off_by_both(&rt, rt.alloc(), &mut source);
-    keep_for_first(&rt, &mut source, first, second);
+    let (mut source, first, second) = keeping(&rt, rt.alloc(), BlockKind::Broadcast, &[4]);
     keep_for_second(&rt, &mut source, first, second);
     take_kept(&rt, &mut source, 8, second, 4);
 }
 
 #[test]
 fn a_broadcast_offers_nothing_anew(rt: HostRuntime) {
-    let mut source = with_two_links_out(&rt, rt.alloc(), BlockKind::Broadcast, None);
-    take(&rt, rt.alloc(), &mut source, 0, 4);
-    assert_eq!(rt; source.make(rt.alloc()), Ok(true));
-    if !is_at_rest(&source) {
-        panic!(&rt; "something is under way");
-    }
-    let (first, second) = put_off_by_both(&rt, rt.alloc(), &mut source);
-    keep_for_first(&rt, &mut source, first, second);
+    let alloc = rt.alloc();
+    let (mut source, first, _) = keeping(&rt, alloc, BlockKind::Broadcast, &[4]);
     source.release_reservation(7, first);
-    assert_eq!(rt; put_off(&rt, rt.alloc(), &mut source), None);
+    offers(&rt, alloc, &mut source, None);
 }

@@ -6,10 +6,11 @@ ghost use Rattle.flow_intake.specs.Port.{fresh_port, fresh_end};
 ghost use Rattle.flow_reserving.specs.ReservingJoin.{fresh_join};
 ghost use Rattle.flow_part_rows.specs.Driven.{reserving_ports, two_sources, link_to};
 
-use crate::shared::{header, is_row, link, parcel};
+use crate::check::check;
+use crate::shared::{header, is_row, link, makes, parcel};
 use flow_group::Source;
 use flow_intake::Intake;
-use flow_link::{DataflowBlock, LinkId, TargetBlock, Wish, WishAnswer};
+use flow_link::{LinkId, TargetBlock, Wish, WishAnswer};
 use flow_reserving::ReservingJoin;
 use flow_value::{MessageHeader, MessageStatus};
 use std::alloc::Global;
@@ -49,7 +50,7 @@ fn join(rt: &impl Abort, alloc: Global) -> ReservingJoin
 }
 
 /// The target puts off the offer over this link.
-fn offer<T: TargetBlock>(
+pub(crate) fn offer<T: TargetBlock>(
     rt: &impl Abort,
     alloc: Global,
     target: &mut T,
@@ -103,7 +104,7 @@ fn gives_up<T: TargetBlock>(rt: &impl Abort, target: &mut T, link: LinkId, heade
 }
 
 /// The target waits for others.
-fn waits<T: TargetBlock>(rt: &impl Abort, target: &mut T)
+pub(crate) fn waits<T: TargetBlock>(rt: &impl Abort, target: &mut T)
     ensures { target.new ≡ target.old }
 {
     if target.next_wish() != Wish::None {
@@ -113,32 +114,39 @@ fn waits<T: TargetBlock>(rt: &impl Abort, target: &mut T)
 
 #[test]
 fn it_takes_one_message_of_each_port(rt: HostRuntime) {
+    let alloc = rt.alloc();
     let (one, two) = (header(&rt, 1), header(&rt, 2));
-    let mut join = join(&rt, rt.alloc());
-    offer(&rt, rt.alloc(), &mut join, 0, one);
+    let mut join = join(&rt, alloc);
+    offer(&rt, alloc, &mut join, 0, one);
     waits(&rt, &mut join);
-    offer(&rt, rt.alloc(), &mut join, 1, two);
+    offer(&rt, alloc, &mut join, 1, two);
     asks(&rt, &mut join, 1, two);
     waits(&rt, &mut join);
     join.note_wish(1, WishAnswer::Held);
     asks(&rt, &mut join, 0, one);
     join.note_wish(0, WishAnswer::Held);
-    claims(&rt, rt.alloc(), &mut join, 0, one, 5);
-    assert_eq!(rt; join.make(rt.alloc()), Ok(false));
-    claims(&rt, rt.alloc(), &mut join, 1, two, 9);
-    assert_eq!(rt; join.make(rt.alloc()), Ok(true));
-    let Some(tuple) = join.left().get(0) else {
-        panic!(&rt; "it has no tuple");
-    };
-    assert!(rt; is_row(tuple, &[5, 9]));
+    claims(&rt, alloc, &mut join, 0, one, 5);
+    makes(&rt, alloc, &mut join, false);
+    claims(&rt, alloc, &mut join, 1, two, 9);
+    makes(&rt, alloc, &mut join, true);
+    check(&rt, "it has a tuple", has_tuple(&join, &[5, 9]));
+}
+
+/// Whether the join has a tuple of these numbers to give first.
+fn has_tuple(join: &ReservingJoin, numbers: &[i64]) -> bool {
+    match join.left().front() {
+        Some(tuple) => is_row(tuple, numbers),
+        None => false,
+    }
 }
 
 #[test]
 fn one_that_is_withdrawn_gives_up_the_other(rt: HostRuntime) {
+    let alloc = rt.alloc();
     let (one, two) = (header(&rt, 1), header(&rt, 2));
-    let mut join = join(&rt, rt.alloc());
-    offer(&rt, rt.alloc(), &mut join, 0, one);
-    offer(&rt, rt.alloc(), &mut join, 1, two);
+    let mut join = join(&rt, alloc);
+    offer(&rt, alloc, &mut join, 0, one);
+    offer(&rt, alloc, &mut join, 1, two);
     asks(&rt, &mut join, 1, two);
     join.note_wish(1, WishAnswer::Held);
     join.note_wish(0, WishAnswer::Withdrawn);
@@ -148,13 +156,14 @@ fn one_that_is_withdrawn_gives_up_the_other(rt: HostRuntime) {
 
 #[test]
 fn two_joins_never_tear_a_pair(rt: HostRuntime) {
+    let alloc = rt.alloc();
     let (one, two) = (header(&rt, 1), header(&rt, 2));
-    let mut first = join(&rt, rt.alloc());
-    let mut second = join(&rt, rt.alloc());
-    offer(&rt, rt.alloc(), &mut first, 0, one);
-    offer(&rt, rt.alloc(), &mut first, 1, two);
-    offer(&rt, rt.alloc(), &mut second, 0, one);
-    offer(&rt, rt.alloc(), &mut second, 1, two);
+    let mut first = join(&rt, alloc);
+    let mut second = join(&rt, alloc);
+    offer(&rt, alloc, &mut first, 0, one);
+    offer(&rt, alloc, &mut first, 1, two);
+    offer(&rt, alloc, &mut second, 0, one);
+    offer(&rt, alloc, &mut second, 1, two);
     asks(&rt, &mut first, 1, two);
     asks(&rt, &mut second, 1, two);
     first.note_wish(1, WishAnswer::Held);
@@ -162,10 +171,10 @@ fn two_joins_never_tear_a_pair(rt: HostRuntime) {
     waits(&rt, &mut second);
     asks(&rt, &mut first, 0, one);
     first.note_wish(0, WishAnswer::Held);
-    claims(&rt, rt.alloc(), &mut first, 0, one, 5);
+    claims(&rt, alloc, &mut first, 0, one, 5);
     second.note_wish(0, WishAnswer::Withdrawn);
-    claims(&rt, rt.alloc(), &mut first, 1, two, 9);
+    claims(&rt, alloc, &mut first, 1, two, 9);
     waits(&rt, &mut second);
-    assert_eq!(rt; first.make(rt.alloc()), Ok(true));
-    assert_eq!(rt; second.make(rt.alloc()), Ok(false));
+    makes(&rt, alloc, &mut first, true);
+    makes(&rt, alloc, &mut second, false);
 }

@@ -1,8 +1,8 @@
-//! What the tests of parts share: links and messages, and what a row is.
-ghost use Rattle.std.specs.Prelude.{◌≡◌};
+//! What the tests of parts share: links and messages, what a row is, and what blocks make and how they end.
+ghost use Rattle.std.specs.Prelude.{◌≡◌, false};
 ghost use Rattle.flow_part_rows.specs.Driven.{link_to};
 
-use flow_link::LinkId;
+use flow_link::{Completing, DataflowBlock, LinkId, Outcome};
 use flow_outlet::LinkRule;
 use flow_value::{MessageHeader, Parcel, Value, When};
 use std::alloc::Global;
@@ -47,4 +47,30 @@ pub(crate) fn header(rt: &impl Abort, id: u64) -> MessageHeader {
         panic!(rt; "no id");
     };
     header
+}
+
+/// The block makes something, or it has nothing to make.
+pub(crate) fn makes<B: DataflowBlock>(
+    rt: &impl Abort,
+    alloc: Global,
+    block: &mut B,
+    something: bool,
+)
+    ensures { (something ≡ false) → block.new ≡ block.old }
+{
+    let Ok(made) = block.make(alloc) else {
+        panic!(rt; "out of memory or of ids");
+    };
+    if made != something {
+        panic!(rt; "it makes something: {made}");
+    }
+}
+
+/// The block has ended so, or it goes on.
+pub(crate) fn tells<B: Completing>(rt: &impl Abort, block: &mut B, outcome: Option<Outcome>)
+    ensures { B.learns block.old block.new }
+{
+    if block.completion() != outcome {
+        panic!(rt; "it has ended otherwise");
+    }
 }
