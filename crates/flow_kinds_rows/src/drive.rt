@@ -1,12 +1,17 @@
 //! Blocks by the calls that all of them have in common.
-ghost use Rattle.std.specs.Prelude.{◌≡◌};
+ghost use Rattle.std.specs.Prelude.{◌≡◌, false};
 ghost use Rattle.flow_kinds_rows.specs.Rests.{Rests};
 
-use flow_link::{DataflowBlock, LinkId, SourceBlock, TargetBlock};
+use flow_link::{Completing, DataflowBlock, LinkId, Outcome, SourceBlock, TargetBlock};
 use flow_value::{MessageHeader, MessageStatus, Parcel, Text, Value};
 use flow_words::values_of;
 use std::alloc::Global;
 use std::process::Abort;
+
+/// Tests that the case with this name comes out as it should.
+pub(crate) fn check(rt: &(impl Abort + Print), name: &str, holds: bool) {
+    assert!(rt; holds, "{name}");
+}
 
 /// The header with this id.
 pub(crate) fn header(rt: &impl Abort, id: u64) -> MessageHeader {
@@ -16,36 +21,50 @@ pub(crate) fn header(rt: &impl Abort, id: u64) -> MessageHeader {
     header
 }
 
-/// A number as a message.
-pub(crate) fn number(rt: &impl Abort, alloc: Global, number: i64) -> Parcel {
-    let Ok(parcel) = Parcel::new(alloc, Value::Int(number)) else {
-        panic!(rt; "out of memory");
-    };
-    parcel
-}
-
-/// A text as a message.
-pub(crate) fn text(rt: &impl Abort, alloc: Global, content: &str) -> Parcel {
-    let Ok(text) = Text::from_str(alloc, content) else {
-        panic!(rt; "out of memory");
-    };
-    let Ok(parcel) = Parcel::new(alloc, Value::Text(text)) else {
-        panic!(rt; "out of memory");
-    };
-    parcel
-}
-
-/// The target takes a message over this link.
+/// The target takes a number over this link.
 pub(crate) fn take<T: TargetBlock>(
     rt: &impl Abort,
     alloc: Global,
     target: &mut T,
     link: LinkId,
-    parcel: Parcel,
+    number: i64,
 )
     requires { Rests (T.target_stage target.old) }
     ensures { Rests (T.target_stage target.new) }
 {
+    take_value(rt, alloc, target, link, Value::Int(number));
+}
+
+/// The target takes a text over this link.
+pub(crate) fn take_text<T: TargetBlock>(
+    rt: &impl Abort,
+    alloc: Global,
+    target: &mut T,
+    link: LinkId,
+    content: &str,
+)
+    requires { Rests (T.target_stage target.old) }
+    ensures { Rests (T.target_stage target.new) }
+{
+    let Ok(text) = Text::from_str(alloc, content) else {
+        panic!(rt; "out of memory");
+    };
+    take_value(rt, alloc, target, link, Value::Text(text));
+}
+
+fn take_value<T: TargetBlock>(
+    rt: &impl Abort,
+    alloc: Global,
+    target: &mut T,
+    link: LinkId,
+    value: Value,
+)
+    requires { Rests (T.target_stage target.old) }
+    ensures { Rests (T.target_stage target.new) }
+{
+    let Ok(parcel) = Parcel::new(alloc, value) else {
+        panic!(rt; "out of memory");
+    };
     let header = header(rt, 1);
     let Ok(MessageStatus::Accepted) = target.offer_message(alloc, link, header, true) else {
         panic!(rt; "it is not accepted");
@@ -70,6 +89,30 @@ pub(crate) fn give<S: SourceBlock>(
     };
     let (value, _copy) = parcel.into_parts();
     Some((link, header.id(), value))
+}
+
+/// The block makes something, or it has nothing to make.
+pub(crate) fn makes<B: DataflowBlock>(
+    rt: &impl Abort,
+    alloc: Global,
+    block: &mut B,
+    something: bool,
+)
+    ensures { (something ≡ false) → block.new ≡ block.old }
+{
+    let Ok(made) = block.make(alloc) else {
+        panic!(rt; "out of memory or of ids");
+    };
+    if made != something {
+        panic!(rt; "it makes something: {made}");
+    }
+}
+
+/// The block has ended so, or it goes on.
+pub(crate) fn tells<B: Completing>(rt: &impl Abort, block: &mut B, outcome: Option<Outcome>) {
+    if block.completion() != outcome {
+        panic!(rt; "it has ended otherwise");
+    }
 }
 
 /// Whether this value is the one that the words are.

@@ -1,11 +1,11 @@
 //! Blocks with a function: the test begins their jobs, and brings the results back.
-use crate::drive::{gives, take, text};
-use crate::plans::{MIDDLE, plan};
+use crate::drive::{check, gives, makes, take_text, tells};
+use crate::plans::execution;
 use flow_exec::{EndFault, JobResult};
 use flow_kinds::kind::WorkKind;
 use flow_kinds::{Action, Transform, TransformMany, TypedExecution};
-use flow_link::{BlockKind, Completing, DataflowBlock};
-use flow_value::Steps;
+use flow_link::BlockKind;
+use flow_value::{Steps, Value};
 use std::alloc::Global;
 use std::process::Abort;
 
@@ -36,81 +36,72 @@ fn work<K: WorkKind>(
     ticket: u64,
 ) {
     let done = run_next(rt, alloc, block, ticket);
+    bring_back(rt, block, done);
+}
+
+/// Whether these are one number alone.
+fn is_only(values: &[Value], number: i64) -> bool {
+    match values {
+        [only] => only.as_int() == Some(number),
+        _ => false,
+    }
+}
+
+#[test]
+fn an_action_records(rt: HostRuntime) {
+    let alloc = rt.alloc();
+    let mut action: Action<Steps> = execution(&rt, alloc, BlockKind::Action);
+    take_text(&rt, alloc, &mut action, 0, "5");
+    makes(&rt, alloc, &mut action, false);
+    work(&rt, alloc, &mut action, 0);
+    check(&rt, "its record", is_only(action.record(), 5));
+    tells(&rt, &mut action, None);
+}
+
+/// The block takes the result back.
+fn bring_back<K: WorkKind>(
+    rt: &impl Abort,
+    block: &mut TypedExecution<K, Steps>,
+    done: JobResult<Steps>,
+) {
     let Ok(()) = block.end(done) else {
         panic!(rt; "it is not taken back");
     };
 }
 
 #[test]
-fn an_action_records(rt: HostRuntime) {
-    let plan = plan(&rt, rt.alloc(), BlockKind::Action);
-    let Ok(mut action) = Action::new(rt.alloc(), &plan, MIDDLE) else {
-        panic!(&rt; "out of memory");
-    };
-    take(&rt, rt.alloc(), &mut action, 0, text(&rt, rt.alloc(), "5"));
-    assert_eq!(rt; action.make(rt.alloc()), Ok(false));
-    work(&rt, rt.alloc(), &mut action, 0);
-    let [value] = action.record() else {
-        panic!(&rt; "it records another number of results");
-    };
-    assert!(rt; value.as_int() == Some(5));
-    assert_eq!(rt; action.completion(), None);
-}
-
-#[test]
 fn a_transform_gives_results_in_order(rt: HostRuntime) {
-    let plan = plan(&rt, rt.alloc(), BlockKind::Transform);
-    let Ok(mut transform) = Transform::new(rt.alloc(), &plan, MIDDLE) else {
-        panic!(&rt; "out of memory");
-    };
-    take(
-        &rt,
-        rt.alloc(),
-        &mut transform,
-        0,
-        text(&rt, rt.alloc(), "1"),
-    );
-    take(
-        &rt,
-        rt.alloc(),
-        &mut transform,
-        1,
-        text(&rt, rt.alloc(), "2"),
-    );
-    let first = run_next(&rt, rt.alloc(), &mut transform, 0);
-    let second = run_next(&rt, rt.alloc(), &mut transform, 1);
-    let Ok(()) = transform.end(second) else {
-        panic!(&rt; "the second is not taken back");
-    };
-    let Ok(()) = transform.end(first) else {
-        panic!(&rt; "the first is not taken back");
-    };
-    gives(&rt, rt.alloc(), &mut transform, &[(2, 1, "1"), (2, 2, "2")]);
+    let alloc = rt.alloc();
+    let mut transform: Transform<Steps> = execution(&rt, alloc, BlockKind::Transform);
+    take_text(&rt, alloc, &mut transform, 0, "1");
+    take_text(&rt, alloc, &mut transform, 1, "2");
+    let first = run_next(&rt, alloc, &mut transform, 0);
+    let second = run_next(&rt, alloc, &mut transform, 1);
+    bring_back(&rt, &mut transform, second);
+    bring_back(&rt, &mut transform, first);
+    gives(&rt, alloc, &mut transform, &[(2, 1, "1"), (2, 2, "2")]);
 }
 
 #[test]
 fn a_transform_many_gives_all_results(rt: HostRuntime) {
-    let plan = plan(&rt, rt.alloc(), BlockKind::TransformMany);
-    let Ok(mut many) = TransformMany::new(rt.alloc(), &plan, MIDDLE) else {
-        panic!(&rt; "out of memory");
-    };
-    take(&rt, rt.alloc(), &mut many, 0, text(&rt, rt.alloc(), "7"));
-    work(&rt, rt.alloc(), &mut many, 0);
-    gives(&rt, rt.alloc(), &mut many, &[(2, 1, "7")]);
+    let alloc = rt.alloc();
+    let mut many: TransformMany<Steps> = execution(&rt, alloc, BlockKind::TransformMany);
+    take_text(&rt, alloc, &mut many, 0, "7");
+    work(&rt, alloc, &mut many, 0);
+    gives(&rt, alloc, &mut many, &[(2, 1, "7")]);
+}
+
+/// Whether the block hands the result back, since no job of its own is out that it could be of.
+fn is_strange<K: WorkKind>(block: &mut TypedExecution<K, Steps>, done: JobResult<Steps>) -> bool {
+    matches!(block.end(done), Err((_, EndFault::Strange)))
 }
 
 #[test]
 fn a_result_of_another_block_is_strange(rt: HostRuntime) {
-    let plan = plan(&rt, rt.alloc(), BlockKind::Transform);
-    let Ok(mut transform) = Transform::new(rt.alloc(), &plan, MIDDLE) else {
-        panic!(&rt; "out of memory");
-    };
-    let Ok(mut equal) = Transform::new(rt.alloc(), &plan, MIDDLE) else {
-        panic!(&rt; "out of memory");
-    };
-    take(&rt, rt.alloc(), &mut equal, 0, text(&rt, rt.alloc(), "1"));
-    let done = run_next(&rt, rt.alloc(), &mut equal, 0);
-    let Err((_done, EndFault::Strange)) = transform.end(done) else {
-        panic!(&rt; "it takes the result");
-    };
+    let alloc = rt.alloc();
+    let mut transform: Transform<Steps> = execution(&rt, alloc, BlockKind::Transform);
+    let mut equal: Transform<Steps> = execution(&rt, alloc, BlockKind::Transform);
+    take_text(&rt, alloc, &mut equal, 0, "1");
+    let done = run_next(&rt, alloc, &mut equal, 0);
+    check(&rt, "it is of another", is_strange(&mut transform, done));
 }
