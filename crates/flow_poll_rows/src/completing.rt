@@ -2,6 +2,7 @@
 ghost use Rattle.std.specs.Prelude.{⊤, if◌then◌else◌, nat_eq, Some, None};
 ghost use Rattle.flow_link.specs.declared.trace.Outcome.TheVariants.{Done};
 
+use crate::check::check;
 use crate::driven::{ready, wait};
 use flow_link::{Completing, Outcome};
 use flow_poll::Completion;
@@ -35,6 +36,6 @@ fn what_ends_is_waited_for(rt: HostRuntime) {
     let mut completion = Completion::new(alloc, completion.into_block());
     wait(&rt, &mut completion);
     let (block, outcome) = ready(&rt, completion);
-    assert_eq!(rt; outcome, Outcome::Done);
-    assert_eq!(rt; block.asked, 0);
+    check(&rt, "its outcome", outcome == Outcome::Done);
+    check(&rt, "how often it was asked", block.asked == 0);
 }

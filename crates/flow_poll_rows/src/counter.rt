@@ -62,8 +62,12 @@ pub(crate) fn counters(
 
 /// Tests that there are three counters, at these numbers.
 pub(crate) fn stand_at(rt: &impl Abort, all: &[Counter], numbers: [u32; 3]) {
-    assert_eq!(rt; all.len(), 3);
+    if all.len() != 3 {
+        panic!(rt; "another number of counters");
+    }
     for place in 0..3 {
-        assert_eq!(rt; all[place].left, numbers[place]);
+        if all[place].left != numbers[place] {
+            panic!(rt; "counter {place} stands at another number");
+        }
     }
 }

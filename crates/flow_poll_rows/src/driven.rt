@@ -1,4 +1,5 @@
 //! Polls by hand, and futures that are driven to their ends together.
+use crate::check::check;
 use crate::counter::{counters, stand_at};
 use crate::desk::{Desk, House};
 use flow_poll::{Crew, Delivery, SendAsync, TurnState};
@@ -56,8 +57,16 @@ fn a_send_waits_while_a_crew_goes_on(rt: HostRuntime) {
     let Ok(((desk, answer), (all, state))) = block_on(&rt, join(send, crew)) else {
         panic!(rt; "not driven");
     };
-    assert!(rt; matches!(answer, Ok(Delivery::Accepted)));
-    assert!(rt; desk.has_taken(1, 1));
+    check(
+        &rt,
+        "it is accepted",
+        matches!(answer, Ok(Delivery::Accepted)),
+    );
+    check(&rt, "it is taken", desk.has_taken(1, 1));
     stand_at(&rt, &all, [0, 0, 0]);
-    assert!(rt; matches!(state, Ok(TurnState::Ended)));
+    check(
+        &rt,
+        "the crew has ended",
+        matches!(state, Ok(TurnState::Ended)),
+    );
 }

@@ -1,4 +1,5 @@
 //! `Receive` and `OutputAvailable`, poll by poll.
+use crate::check::check;
 use crate::driven::{ready, wait};
 use crate::shelf::Shelf;
 use flow_link::Outcome;
@@ -29,10 +30,14 @@ fn a_message_is_received(rt: HostRuntime) {
     let alloc = rt.alloc();
     let shelf = shelf(&rt, alloc, true, true);
     let (shelf, is_there) = ready(&rt, OutputAvailable::new(alloc, shelf));
-    assert!(rt; matches!(is_there, Ok(true)));
+    check(&rt, "it is there", matches!(is_there, Ok(true)));
     let (shelf, came) = ready(&rt, Receive::new(alloc, shelf));
-    assert!(rt; matches!(came, Ok(Receipt::Message(Value::Int(7)))));
-    assert_eq!(rt; shelf.received.len(), 1);
+    check(
+        &rt,
+        "it came",
+        matches!(came, Ok(Receipt::Message(Value::Int(7)))),
+    );
+    check(&rt, "it is noted", shelf.received.len() == 1);
 }
 
 #[test]
@@ -41,10 +46,11 @@ fn behind_the_messages_comes_the_end(rt: HostRuntime) {
     let mut shelf = shelf(&rt, alloc, true, true);
     shelf.kept = Vec::new(alloc);
     let (shelf, is_there) = ready(&rt, OutputAvailable::new(alloc, shelf));
-    assert!(rt; matches!(is_there, Ok(false)));
+    check(&rt, "none is there", matches!(is_there, Ok(false)));
     let (shelf, came) = ready(&rt, Receive::new(alloc, shelf));
-    assert!(rt; matches!(came, Ok(Receipt::Ended(Outcome::Faulted(3)))));
-    assert!(rt; shelf.received.is_empty());
+    let is_end = matches!(came, Ok(Receipt::Ended(Outcome::Faulted(3))));
+    check(&rt, "the end came", is_end);
+    check(&rt, "none is noted", shelf.received.is_empty());
 }
 
 #[test]
@@ -56,7 +62,8 @@ fn an_empty_shelf_is_waited_at(rt: HostRuntime) {
     wait(&rt, &mut receive);
     let mut available = OutputAvailable::new(alloc, receive.into_port());
     wait(&rt, &mut available);
-    assert!(rt; available.into_port().received.is_empty());
+    let shelf = available.into_port();
+    check(&rt, "none is noted", shelf.received.is_empty());
 }
 
 #[test]
@@ -64,8 +71,8 @@ fn without_memory_nothing_is_received(rt: HostRuntime) {
     let alloc = rt.alloc();
     let shelf = shelf(&rt, alloc, false, false);
     let (shelf, came) = ready(&rt, Receive::new(alloc, shelf));
-    assert!(rt; came.is_err());
+    check(&rt, "none came", came.is_err());
     let (shelf, is_there) = ready(&rt, OutputAvailable::new(alloc, shelf));
-    assert!(rt; is_there.is_err());
-    assert_eq!(rt; shelf.kept.len(), 1);
+    check(&rt, "none is told of", is_there.is_err());
+    check(&rt, "it is kept", shelf.kept.len() == 1);
 }

@@ -1,4 +1,5 @@
 //! `Running` and `Crew` over counters.
+use crate::check::check;
 use crate::counter::{Counter, counters, stand_at};
 use crate::driven::{ready, wait};
 use flow_poll::{Crew, Running, TurnState};
@@ -15,8 +16,8 @@ fn a_counter_falls_until_it_ends(rt: HostRuntime) {
     wait(&rt, &mut running);
     wait(&rt, &mut running);
     let (counter, state) = ready(&rt, running);
-    assert_eq!(rt; counter.left, 0);
-    assert!(rt; matches!(state, Ok(TurnState::Ended)));
+    check(&rt, "where it stands", counter.left == 0);
+    check(&rt, "its state", matches!(state, Ok(TurnState::Ended)));
 }
 
 #[test]
@@ -29,13 +30,13 @@ fn a_counter_stops_where_its_turns_are_used_up(rt: HostRuntime) {
     let mut running = Running::new(alloc, counter, 2, 1);
     wait(&rt, &mut running);
     let (counter, state) = ready(&rt, running);
-    assert_eq!(rt; counter.left, 1);
-    assert!(rt; matches!(state, Ok(TurnState::Moved)));
+    check(&rt, "where it stands", counter.left == 1);
+    check(&rt, "its state", matches!(state, Ok(TurnState::Moved)));
     let mut running = Running::new(alloc, counter, 1, 9);
     wait(&rt, &mut running);
     let (counter, state) = ready(&rt, Running::new(alloc, running.into_actor(), 0, 9));
-    assert_eq!(rt; counter.left, 0);
-    assert!(rt; matches!(state, Ok(TurnState::Ended)));
+    check(&rt, "where it stands", counter.left == 0);
+    check(&rt, "its state", matches!(state, Ok(TurnState::Ended)));
 }
 
 #[test]
@@ -45,8 +46,8 @@ fn a_counter_without_memory_comes_back(rt: HostRuntime) {
         has_memory: false,
     };
     let (counter, state) = ready(&rt, Running::new(rt.alloc(), counter, 1, 8));
-    assert_eq!(rt; counter.left, 3);
-    assert!(rt; state.is_err());
+    check(&rt, "where it stands", counter.left == 3);
+    check(&rt, "its want of memory", state.is_err());
 }
 
 #[test]
@@ -57,7 +58,7 @@ fn a_crew_of_counters(rt: HostRuntime) {
         panic!(rt; "not driven");
     };
     stand_at(&rt, &all, [0, 0, 0]);
-    assert!(rt; matches!(state, Ok(TurnState::Ended)));
+    check(&rt, "its state", matches!(state, Ok(TurnState::Ended)));
 }
 
 #[test]
@@ -68,7 +69,7 @@ fn a_crew_stops_where_its_turns_are_used_up(rt: HostRuntime) {
     wait(&rt, &mut crew);
     let (all, state) = ready(&rt, crew);
     stand_at(&rt, &all, [1, 0, 3]);
-    assert!(rt; matches!(state, Ok(TurnState::Moved)));
+    check(&rt, "its state", matches!(state, Ok(TurnState::Moved)));
 }
 
 #[test]
@@ -78,7 +79,7 @@ fn a_crew_that_is_pending_gives_its_counters_back(rt: HostRuntime) {
     wait(&rt, &mut crew);
     let (all, state) = ready(&rt, Crew::new(alloc, crew.into_actors(), 0, 8));
     stand_at(&rt, &all, [1, 0, 3]);
-    assert!(rt; matches!(state, Ok(TurnState::Idle)));
+    check(&rt, "its state", matches!(state, Ok(TurnState::Idle)));
 }
 
 #[test]
@@ -87,7 +88,7 @@ fn where_one_has_no_memory_those_behind_it_wait(rt: HostRuntime) {
     let all = counters(&rt, alloc, [3, 4, 5], Some(1));
     let (all, state) = ready(&rt, Crew::new(alloc, all, 1, 8));
     stand_at(&rt, &all, [2, 4, 5]);
-    assert!(rt; state.is_err());
+    check(&rt, "its want of memory", state.is_err());
 }
 
 #[test]
@@ -95,10 +96,8 @@ fn the_state_of_two_is_that_of_the_busier(rt: HostRuntime) {
     let states = [TurnState::Ended, TurnState::Idle, TurnState::Moved];
     for first in 0..3 {
         for second in 0..3 {
-            assert_eq!(rt;
-                states[first].joint(states[second]),
-                states[first.max(second)]
-            );
+            let joint = states[first].joint(states[second]);
+            check(&rt, "two states", joint == states[first.max(second)]);
         }
     }
 }
