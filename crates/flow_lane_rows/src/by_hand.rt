@@ -39,7 +39,9 @@ fn open(rt: &impl Abort, lane: &Lane<Steps>, side: &mut LaneSide<Steps>)
     let LanePhase::Job = side.look(lane) else {
         panic!(rt; "no job is there");
     };
-    assert_eq!(rt; side.open(lane).ticket(), u64::from(FIRST));
+    if side.open(lane).ticket() != u64::from(FIRST) {
+        panic!(rt; "it opens another job");
+    }
 }
 
 /// The lane does the job.
@@ -141,7 +143,9 @@ fn takes_none(
     let Err(back) = block.put(lane, job(rt, alloc, SECOND)) else {
         panic!(rt; "it takes a job");
     };
-    assert_eq!(rt; back.ticket(), u64::from(SECOND), "{phase:?}");
+    if back.ticket() != u64::from(SECOND) {
+        panic!(rt; "another job comes back at {phase:?}");
+    }
 }
 
 /// Whether this is what a lane that is closed at this phase has.
@@ -175,9 +179,12 @@ fn closes_at(rt: &impl Abort, alloc: Global, phase: LanePhase) {
     if phase != LanePhase::Free {
         takes_none(rt, alloc, &lane, &mut block, phase);
     }
-    assert_eq!(rt; block.look(&lane), phase);
-    assert_eq!(rt; side.look(&lane), phase);
-    assert!(rt; is_left_at(phase, lane.close(block, side)), "{phase:?}");
+    if block.look(&lane) != phase || side.look(&lane) != phase {
+        panic!(rt; "it is not at {phase:?}");
+    }
+    if !is_left_at(phase, lane.close(block, side)) {
+        panic!(rt; "something else is left at {phase:?}");
+    }
 }
 
 #[test]

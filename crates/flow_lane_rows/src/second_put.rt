@@ -60,35 +60,52 @@ fn closed_after_two(
     let Err(back) = block.put(&lane, second) else {
         panic!(rt; "a lane takes two jobs");
     };
-    assert_eq!(rt; back.ticket(), 1);
+    if back.ticket() != 1 {
+        panic!(rt; "another job comes back");
+    }
     lane.close(block, side)
 }
 
 /// The job that a closed lane has.
 fn job_in(rt: &impl Abort, left: LaneState<Steps>) -> Job<Steps> {
     let LaneState { phase, slot } = left;
-    assert_eq!(rt; phase, LanePhase::Job);
+    if phase != LanePhase::Job {
+        panic!(rt; "the lane is at another phase");
+    }
     match slot {
         Some(LaneItem::Job(job)) => job,
         Some(LaneItem::Result(_)) | None => panic!(rt; "the lane has no job"),
     }
 }
 
+/// The transform takes back what comes of its job.
+fn work_off(rt: &impl Abort, alloc: Global, transform: &mut Execution<Steps>, job: Job<Steps>) {
+    let Ok(done) = job.run(alloc) else {
+        panic!(rt; "out of memory");
+    };
+    let Ok(()) = transform.end(done) else {
+        panic!(rt; "it is not taken back");
+    };
+}
+
+/// Whether this number came out first.
+fn is_first(transform: &Execution<Steps>, number: i64) -> bool {
+    match transform.left().front() {
+        Some(value) => value.as_int() == Some(number),
+        None => false,
+    }
+}
+
 #[test]
 fn a_second_put_gives_the_job_back(rt: HostRuntime) {
-    let mut transform = transform(&rt, rt.alloc());
-    take(&rt, rt.alloc(), &mut transform, 5);
-    take(&rt, rt.alloc(), &mut transform, 6);
-    let first = begin(&rt, rt.alloc(), &mut transform);
-    let second = begin(&rt, rt.alloc(), &mut transform);
-    let job = job_in(&rt, closed_after_two(&rt, rt.alloc(), first, second));
-    assert_eq!(rt; job.ticket(), 0);
-    let Ok(done) = job.run(rt.alloc()) else {
-        panic!(&rt; "out of memory");
-    };
-    assert!(rt; transform.end(done).is_ok());
-    let Some(value) = transform.left().front() else {
-        panic!(&rt; "nothing came out");
-    };
-    assert_eq!(rt; value.as_int(), Some(15));
+    let alloc = rt.alloc();
+    let mut transform = transform(&rt, alloc);
+    take(&rt, alloc, &mut transform, 5);
+    take(&rt, alloc, &mut transform, 6);
+    let first = begin(&rt, alloc, &mut transform);
+    let second = begin(&rt, alloc, &mut transform);
+    let job = job_in(&rt, closed_after_two(&rt, alloc, first, second));
+    assert!(rt; job.ticket() == 0);
+    work_off(&rt, alloc, &mut transform, job);
+    assert!(rt; is_first(&transform, 15));
 }
