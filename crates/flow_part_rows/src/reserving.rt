@@ -3,6 +3,7 @@ ghost use Rattle.std.specs.Prelude.{◌≡◌, true, None, [], ◌∷◌};
 ghost use Rattle.flow_link.specs.StagesMove.{MovesTo};
 ghost use Rattle.flow_link.specs.declared.stage.TargetStage.TheVariants.{Free, Postponed, Asking, Holding};
 ghost use Rattle.flow_intake.specs.Port.{fresh_port, fresh_end};
+ghost use Rattle.flow_block.specs.Traits.{target_over};
 ghost use Rattle.flow_reserving.specs.ReservingJoin.{fresh_join};
 ghost use Rattle.flow_part_rows.specs.Driven.{reserving_ports, two_sources, link_to};
 
@@ -46,6 +47,17 @@ fn join(rt: &impl Abort, alloc: Global) -> ReservingJoin
     let Ok(join) = ReservingJoin::of_parts(alloc, ports, sources, rules) else {
         panic!(rt; "out of memory");
     };
+    join
+}
+
+/// A join that puts off a message over each of its links.
+fn offered(rt: &impl Abort, alloc: Global, one: MessageHeader, two: MessageHeader) -> ReservingJoin
+    ensures first { target_over result.block.ports 0 ≡ Postponed one }
+    ensures second { target_over result.block.ports 1 ≡ Postponed two }
+{
+    let mut join = join(rt, alloc);
+    offer(rt, alloc, &mut join, 0, one);
+    offer(rt, alloc, &mut join, 1, two);
     join
 }
 
@@ -114,22 +126,22 @@ pub(crate) fn waits<T: TargetBlock>(rt: &impl Abort, target: &mut T)
 
 #[test]
 fn it_takes_one_message_of_each_port(rt: HostRuntime) {
-    let alloc = rt.alloc();
-    let (one, two) = (header(&rt, 1), header(&rt, 2));
-    let mut join = join(&rt, alloc);
-    offer(&rt, alloc, &mut join, 0, one);
-    waits(&rt, &mut join);
-    offer(&rt, alloc, &mut join, 1, two);
-    asks(&rt, &mut join, 1, two);
-    waits(&rt, &mut join);
+    let (rt, alloc) = (&rt, rt.alloc());
+    let (one, two) = (header(rt, 1), header(rt, 2));
+    let mut join = join(rt, alloc);
+    offer(rt, alloc, &mut join, 0, one);
+    waits(rt, &mut join);
+    offer(rt, alloc, &mut join, 1, two);
+    asks(rt, &mut join, 1, two);
+    waits(rt, &mut join);
     join.note_wish(1, WishAnswer::Held);
-    asks(&rt, &mut join, 0, one);
+    asks(rt, &mut join, 0, one);
     join.note_wish(0, WishAnswer::Held);
-    claims(&rt, alloc, &mut join, 0, one, 5);
-    makes(&rt, alloc, &mut join, false);
-    claims(&rt, alloc, &mut join, 1, two, 9);
-    makes(&rt, alloc, &mut join, true);
-    check(&rt, "it has a tuple", has_tuple(&join, &[5, 9]));
+    claims(rt, alloc, &mut join, 0, one, 5);
+    makes(rt, alloc, &mut join, false);
+    claims(rt, alloc, &mut join, 1, two, 9);
+    makes(rt, alloc, &mut join, true);
+    check(rt, "it has a tuple", has_tuple(&join, &[5, 9]));
 }
 
 /// Whether the join has a tuple of these numbers to give first.
@@ -142,39 +154,33 @@ fn has_tuple(join: &ReservingJoin, numbers: &[i64]) -> bool {
 
 #[test]
 fn one_that_is_withdrawn_gives_up_the_other(rt: HostRuntime) {
-    let alloc = rt.alloc();
-    let (one, two) = (header(&rt, 1), header(&rt, 2));
-    let mut join = join(&rt, alloc);
-    offer(&rt, alloc, &mut join, 0, one);
-    offer(&rt, alloc, &mut join, 1, two);
-    asks(&rt, &mut join, 1, two);
+    let (rt, alloc) = (&rt, rt.alloc());
+    let (one, two) = (header(rt, 1), header(rt, 2));
+    let mut join = offered(rt, alloc, one, two);
+    asks(rt, &mut join, 1, two);
     join.note_wish(1, WishAnswer::Held);
     join.note_wish(0, WishAnswer::Withdrawn);
-    gives_up(&rt, &mut join, 1, two);
-    waits(&rt, &mut join);
+    gives_up(rt, &mut join, 1, two);
+    waits(rt, &mut join);
 }
 
 #[test]
 fn two_joins_never_tear_a_pair(rt: HostRuntime) {
-    let alloc = rt.alloc();
-    let (one, two) = (header(&rt, 1), header(&rt, 2));
-    let mut first = join(&rt, alloc);
-    let mut second = join(&rt, alloc);
-    offer(&rt, alloc, &mut first, 0, one);
-    offer(&rt, alloc, &mut first, 1, two);
-    offer(&rt, alloc, &mut second, 0, one);
-    offer(&rt, alloc, &mut second, 1, two);
-    asks(&rt, &mut first, 1, two);
-    asks(&rt, &mut second, 1, two);
+    let (rt, alloc) = (&rt, rt.alloc());
+    let (one, two) = (header(rt, 1), header(rt, 2));
+    let mut first = offered(rt, alloc, one, two);
+    let mut second = offered(rt, alloc, one, two);
+    asks(rt, &mut first, 1, two);
+    asks(rt, &mut second, 1, two);
     first.note_wish(1, WishAnswer::Held);
     second.note_wish(1, WishAnswer::NotAvailable);
-    waits(&rt, &mut second);
-    asks(&rt, &mut first, 0, one);
+    waits(rt, &mut second);
+    asks(rt, &mut first, 0, one);
     first.note_wish(0, WishAnswer::Held);
-    claims(&rt, alloc, &mut first, 0, one, 5);
+    claims(rt, alloc, &mut first, 0, one, 5);
     second.note_wish(0, WishAnswer::Withdrawn);
-    claims(&rt, alloc, &mut first, 1, two, 9);
-    waits(&rt, &mut second);
-    makes(&rt, alloc, &mut first, true);
-    makes(&rt, alloc, &mut second, false);
+    claims(rt, alloc, &mut first, 1, two, 9);
+    waits(rt, &mut second);
+    makes(rt, alloc, &mut first, true);
+    makes(rt, alloc, &mut second, false);
 }
