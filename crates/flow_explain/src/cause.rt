@@ -1,8 +1,9 @@
 //! The likely cause for which a record is refused.
-use crate::encoding::{bad_byte, bad_byte_words, is_utf_16};
-use crate::rows::{Rows, opens_quote};
+use crate::encoding::{BadByte, bad_byte, is_utf_16};
+use crate::hint::{Hint, near_or};
+use crate::rows::{Row, Rows, opens_quote};
 use flow_fault_text::TextFault;
-use flow_hints::{did_you_mean, quoted};
+use flow_hints::quoted;
 use flow_link::Plan;
 use flow_places::Span;
 use flow_value::Steps;
@@ -19,41 +20,33 @@ pub(crate) fn cause_of(
         let message = String::from_str(alloc, "the records are UTF-16; store them as UTF-8.")?;
         return Ok((Span::new(0, 0), message));
     }
-    let number = record_of(fault);
+    let Some((number, trouble)) = trouble_of(fault) else {
+        let message = String::from_str(alloc, "the records are not read.")?;
+        return Ok((Span::new(0, 0), message));
+    };
     let mut rows = Rows::new(alloc, text);
-    let span = match rows.read_to(number)? {
-        Some(row) => row.span,
-        None => Span::new(0, 0),
-    };
-    let record = Record {
-        alloc,
-        text,
-        number,
-        span,
-    };
-    match fault {
-        TextFault::Csv(_) => Ok((span, record.fields(plan, &rows)?)),
-        TextFault::NotUtf8(_) => record.encoding(),
-        TextFault::UnknownInput(_) => Ok((span, record.input(plan, &rows)?)),
-        TextFault::Syntax
-        | TextFault::UnknownKey(_)
-        | TextFault::MissingKey(_)
-        | TextFault::WrongType(_)
-        | TextFault::BadWork(_)
-        | TextFault::BadWhen(_)
-        | TextFault::BadFormat
-        | TextFault::Plan(_)
-        | TextFault::Read
-        | TextFault::Write => Ok((span, String::from_str(alloc, "the records are not read.")?)),
-    }
+    let row = rows.read_to(number)?;
+    let record = Record::new(alloc, text, number, row);
+    record.cause(trouble, plan, &rows)
 }
 
-// The record at which a fault stands, from 1.
-fn record_of(fault: TextFault) -> u64 {
+// What is wrong with a record.
+#[derive(Clone, Copy)]
+enum Trouble {
+    /// It has not two fields.
+    Fields,
+    /// It is no UTF-8.
+    Encoding,
+    /// It names no input.
+    Input,
+}
+
+// The record at which a fault stands, from 1, and what is wrong with it.
+fn trouble_of(fault: TextFault) -> Option<(u64, Trouble)> {
     match fault {
-        TextFault::Csv(number) | TextFault::NotUtf8(number) | TextFault::UnknownInput(number) => {
-            number
-        }
+        TextFault::Csv(number) => Some((number, Trouble::Fields)),
+        TextFault::NotUtf8(number) => Some((number, Trouble::Encoding)),
+        TextFault::UnknownInput(number) => Some((number, Trouble::Input)),
         TextFault::Syntax
         | TextFault::UnknownKey(_)
         | TextFault::MissingKey(_)
@@ -63,7 +56,7 @@ fn record_of(fault: TextFault) -> u64 {
         | TextFault::BadFormat
         | TextFault::Plan(_)
         | TextFault::Read
-        | TextFault::Write => 0,
+        | TextFault::Write => None,
     }
 }
 
@@ -77,19 +70,47 @@ struct Record<'t> {
 }
 
 impl<'t> Record<'t> {
+    // The record with this number, which was read from here, if it is there.
+    fn new(alloc: Global, text: &'t [u8], number: u64, row: Option<Row>) -> Record<'t> {
+        let span = match row {
+            Some(row) => row.span,
+            None => Span::new(0, 0),
+        };
+        Record {
+            alloc,
+            text,
+            number,
+            span,
+        }
+    }
+
+    // What is said of it, and where.
+    fn cause(
+        &self,
+        trouble: Trouble,
+        plan: &Plan<Steps>,
+        rows: &Rows<'_>,
+    ) -> Result<(Span, String), AllocError> {
+        let message = match trouble {
+            Trouble::Encoding => return self.encoding(),
+            Trouble::Fields => self.fields(plan, rows)?,
+            Trouble::Input => self.input(plan, rows)?,
+        };
+        Ok((self.span, message))
+    }
+
     fn bytes(&self) -> &'t [u8] {
         let text = self.text;
         text.get(self.span.start..self.span.end).unwrap_or(&[])
     }
 
     fn has(&self, wanted: u8) -> bool {
-        self.bytes().iter().any(|byte| *byte == wanted)
+        self.bytes().contains(&wanted)
     }
 
     // Why it has not two fields.
     fn fields(&self, plan: &Plan<Steps>, rows: &Rows<'_>) -> Result<String, AllocError> {
         let number = self.number;
-        let count = rows.field_count();
         if opens_quote(self.text, self.span) {
             return format!(in self.alloc;
                 "record {number} reaches to the end of the text, since a double quote in it is never closed."
@@ -100,14 +121,14 @@ impl<'t> Record<'t> {
                 "record {number} is a line %%. Such a line parts a network from its records, in one text with both and with no carriage return behind it."
             );
         }
+        let count = rows.field_count();
+        let header = self.header_hint(plan)?;
         if count < 2 {
             let parted = self.other_comma();
-            let header = self.header_hint(plan)?;
             return format!(in self.alloc;
                 "record {number} has one field; the name of an input, a comma and a value are wanted.{parted}{header}"
             );
         }
-        let header = self.header_hint(plan)?;
         format!(in self.alloc;
             "record {number} has {count} fields, and 2 are wanted. A value with a comma in it stands in double quotes.{header}"
         )
@@ -130,14 +151,11 @@ impl<'t> Record<'t> {
             return Ok("");
         }
         let mut rows = Rows::new(self.alloc, self.text);
-        if rows.read_to(2)?.is_none() || rows.field_count() != 2 {
-            return Ok("");
-        }
-        match rows.field(0) {
-            Some(name) if is_input(plan, name) => {
-                Ok(" It may be a header, but the first line is a record too.")
-            }
-            _ => Ok(""),
+        let second = rows.read_to(2)?;
+        if second.is_some() && names_input(plan, &rows) {
+            Ok(" It may be a header, but the first line is a record too.")
+        } else {
+            Ok("")
         }
     }
 
@@ -145,7 +163,7 @@ impl<'t> Record<'t> {
     fn encoding(&self) -> Result<(Span, String), AllocError> {
         let (before, byte) = bad_byte(self.bytes()).unwrap_or((0, 0));
         let number = self.number;
-        let words = bad_byte_words(self.alloc, byte)?;
+        let words = BadByte(byte);
         let message = format!(in self.alloc; "record {number} is {words}.")?;
         let at = self.span.start.saturating_add(before);
         Ok((Span::new(at, at.saturating_add(1)), message))
@@ -156,39 +174,43 @@ impl<'t> Record<'t> {
         let number = self.number;
         let bytes = rows.field(0).unwrap_or(&[]);
         let name = str::from_utf8(bytes).unwrap_or("");
+        let names = input_names(self.alloc, plan)?;
+        let hint = self.input_hint(plan, name, names.as_slice())?;
         let shown = quoted(self.alloc, name)?;
-        let why = if is_input(plan, name.trim().as_bytes()) {
-            String::from_str(self.alloc, " A blank beside a name is part of it.")?
-        } else if plan.find(name).is_some() {
-            String::from_str(
-                self.alloc,
-                " The block has that name, and lacks \"input = true\".",
-            )?
-        } else {
-            self.other_input(plan, name)?
-        };
-        format!(in self.alloc; "record {number} is for {shown}, and no input has that name.{why}")
+        format!(in self.alloc; "record {number} is for {shown}, and no input has that name.{hint}")
     }
 
-    // The input that may have been meant.
-    fn other_input(&self, plan: &Plan<Steps>, name: &str) -> Result<String, AllocError> {
+    // Which of these inputs may have been meant by a name that none of them has.
+    fn input_hint<'n>(
+        &self,
+        plan: &Plan<Steps>,
+        name: &str,
+        names: &'n [&'n str],
+    ) -> Result<Hint<'n>, AllocError> {
+        if is_input(plan, name.trim().as_bytes()) {
+            return Ok(Hint::Words(" A blank beside a name is part of it."));
+        }
+        if plan.find(name).is_some() {
+            return Ok(Hint::Words(" The block has that name, and lacks \"input = true\"."));
+        }
         let header = self.header_hint(plan)?;
         if !header.is_empty() {
-            return String::from_str(self.alloc, header);
+            return Ok(Hint::Words(header));
         }
-        let names = input_names(self.alloc, plan)?;
-        let near = did_you_mean(self.alloc, name, names.as_slice())?;
-        if !near.is_empty() {
-            return Ok(near);
-        }
-        match names.as_slice() {
-            [] => String::from_str(self.alloc, " The network has no input."),
-            [name] => format!(in self.alloc; " The only input is {name:?}."),
-            _ => {
-                let names = names.join(self.alloc, ", ")?;
-                format!(in self.alloc; " The inputs are {names}.")
-            }
-        }
+        let all = match names {
+            [] => Hint::Words(" The network has no input."),
+            [name] => Hint::OnlyInput(name),
+            _ => Hint::OneOf(" The inputs are", names),
+        };
+        near_or(self.alloc, name, names, all)
+    }
+}
+
+// Whether the record that was read last has two fields, of which the first names an input.
+fn names_input(plan: &Plan<Steps>, rows: &Rows<'_>) -> bool {
+    match rows.field(0) {
+        Some(name) => rows.field_count() == 2 && is_input(plan, name),
+        None => false,
     }
 }
 

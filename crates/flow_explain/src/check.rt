@@ -122,13 +122,9 @@ fn write_warnings<W: Write>(
     for warning in warnings {
         write_warning(alloc, source, warning, style, out)?;
     }
-    let name = source.name;
-    let count = warnings.len();
-    match (style, count) {
-        (Style::Short, _) => Ok(()),
-        (Style::Full, 0) => writeln!(out, "{name}: accepted"),
-        (Style::Full, 1) => writeln!(out, "{name}: accepted, with 1 warning"),
-        (Style::Full, _) => writeln!(out, "{name}: accepted, with {count} warnings"),
+    match style {
+        Style::Short => Ok(()),
+        Style::Full => write_end(source.name, "accepted", warnings.len(), "warning", out),
     }
 }
 
@@ -144,11 +140,24 @@ fn write_flaws<W: Write>(
     for flaw in others {
         write_flaw(alloc, source, flaw, style, out)?;
     }
-    let name = source.name;
     let count = others.len().saturating_add(1);
-    match (style, count) {
-        (Style::Short, _) => Ok(()),
-        (Style::Full, 1) => writeln!(out, "{name}: refused, with 1 error"),
-        (Style::Full, _) => writeln!(out, "{name}: refused, with {count} errors"),
+    match style {
+        Style::Short => Ok(()),
+        Style::Full => write_end(source.name, "refused", count, "error", out),
+    }
+}
+
+// Prints what came of a text, and with how much of this sort.
+fn write_end<W: Write>(
+    name: &str,
+    end: &str,
+    count: usize,
+    sort: &str,
+    out: &mut W,
+) -> io::Result<()> {
+    match count {
+        0 => writeln!(out, "{name}: {end}"),
+        1 => writeln!(out, "{name}: {end}, with 1 {sort}"),
+        _ => writeln!(out, "{name}: {end}, with {count} {sort}s"),
     }
 }

@@ -1,5 +1,5 @@
 //! How a text is encoded.
-use std::alloc::{AllocError, Global};
+use std::fmt;
 
 /// A text without the byte order mark at its start, if it has one.
 pub(crate) fn without_mark(text: &[u8]) -> &[u8] {
@@ -22,10 +22,17 @@ pub(crate) fn bad_byte(text: &[u8]) -> Option<(usize, u8)> {
     }
 }
 
-/// What a byte may be that is no UTF-8, and what is to be done.
-pub(crate) fn bad_byte_words(alloc: Global, byte: u8) -> Result<String, AllocError> {
-    let character = char::from(byte);
-    format!(in alloc;
-        "no UTF-8 at the byte {byte:02x}, which is {character:?} in Latin-1; store it as UTF-8"
-    )
+/// A byte that is no UTF-8, what it may be, and what is to be done.
+#[derive(Clone, Copy)]
+pub(crate) struct BadByte(pub(crate) u8);
+
+impl fmt::Display for BadByte {
+    fn fmt<W: fmt::Write>(&self, f: &mut fmt::Formatter<W>) -> fmt::Result {
+        let byte = self.0;
+        let character = char::from(byte);
+        write!(
+            f,
+            "no UTF-8 at the byte {byte:02x}, which is {character:?} in Latin-1; store it as UTF-8"
+        )
+    }
 }

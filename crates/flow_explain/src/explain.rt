@@ -3,7 +3,7 @@ ghost use Rattle.std.specs.Prelude.{◌≡◌, IfOk};
 ghost use Rattle.flow_explain.specs.Answers.{IsAnswerTo};
 ghost use Rattle.flow_fault_text.specs.declared.fault.TextFault.{TextFault};
 
-use crate::encoding::{bad_byte, bad_byte_words, is_utf_16, without_mark};
+use crate::encoding::{BadByte, bad_byte, is_utf_16, without_mark};
 use crate::finding::{Flaw, add_flaw};
 use crate::keys::part_at;
 use crate::network::Network;
@@ -82,8 +82,7 @@ fn all_flaws(alloc: Global, text: &[u8]) -> Result<Vec<Flaw>, AllocError> {
         Err(error) => match error.span() {
             Some(range) => {
                 let span = Span::new(range.start, range.end);
-                let message = syntax_message(alloc, text, span, error.message())?;
-                add_flaw(&mut flaws, TextFault::Syntax, span, message)?;
+                add_syntax_flaw(alloc, text, span, error.message(), &mut flaws)?;
             }
             None => return Err(AllocError),
         },
@@ -91,48 +90,48 @@ fn all_flaws(alloc: Global, text: &[u8]) -> Result<Vec<Flaw>, AllocError> {
     Ok(flaws)
 }
 
-// Why a text is no TOML.
-fn syntax_message(
+// Adds why a text is no TOML.
+fn add_syntax_flaw(
     alloc: Global,
     text: &[u8],
     span: Span,
     message: &str,
-) -> Result<String, AllocError> {
+    flaws: &mut Vec<Flaw>,
+) -> Result<(), AllocError> {
+    let fault = TextFault::Syntax;
     if is_utf_16(text) {
-        return String::from_str(alloc, "the text is UTF-16; store it as UTF-8.");
+        let message = "the text is UTF-16; store it as UTF-8.";
+        return add_flaw(alloc, flaws, fault, span, message);
     }
     if let Some((_, byte)) = bad_byte(text) {
-        let words = bad_byte_words(alloc, byte)?;
-        return format!(in alloc; "the text is {words}.");
+        let words = BadByte(byte);
+        return add_flaw(
+            alloc,
+            flaws,
+            fault,
+            span,
+            format_args!("the text is {words}."),
+        );
     }
     let line = line_span(text, span.start);
     if text.get(line.start..line.end) == Some(b"%%".as_slice()) {
-        return String::from_str(
-            alloc,
-            "a line %% ends a network where its records follow; here the network stands alone.",
-        );
+        let message =
+            "a line %% ends a network where its records follow; here the network stands alone.";
+        return add_flaw(alloc, flaws, fault, span, message);
     }
-    format!(in alloc; "the text is no TOML: {message}.")
+    let message = format_args!("the text is no TOML: {message}.");
+    add_flaw(alloc, flaws, fault, span, message)
 }
 
 // Adds the flaws of a text that is TOML, in the order in which faults are looked for: so the first is among them even
 // where not all are told.
 fn add_flaws(alloc: Global, network: Network<'_>, flaws: &mut Vec<Flaw>) -> Result<(), AllocError> {
     if let Some(format) = other_format(network) {
-        let message = format!(in alloc; "the format is {format}, and format {FORMAT} is read.")?;
         let span = network.value_span(Part::Top, "format");
-        return add_flaw(flaws, TextFault::BadFormat, span, message);
+        let message = format_args!("the format is {format}, and format {FORMAT} is read.");
+        return add_flaw(alloc, flaws, TextFault::BadFormat, span, message);
     }
-    let parts = network.parts(alloc)?;
-    for part in parts.iter() {
-        add_unknown_keys(alloc, network, *part, flaws)?;
-    }
-    for part in parts.iter() {
-        add_missing_keys(alloc, network, *part, flaws)?;
-    }
-    for part in parts.iter() {
-        add_misfits(alloc, network, *part, flaws)?;
-    }
+    add_key_flaws(alloc, network, flaws)?;
     add_word_flaws(alloc, network, flaws)?;
     add_plan_flaws(alloc, network, flaws)
 }
@@ -141,6 +140,24 @@ fn add_flaws(alloc: Global, network: Network<'_>, flaws: &mut Vec<Flaw>) -> Resu
 fn other_format(network: Network<'_>) -> Option<i64> {
     let format = network.value(Part::Top, "format")?.as_integer()?;
     if format == FORMAT { None } else { Some(format) }
+}
+
+// Adds the flaws of all keys and of the types of their values.
+fn add_key_flaws(
+    alloc: Global,
+    network: Network<'_>,
+    flaws: &mut Vec<Flaw>,
+) -> Result<(), AllocError> {
+    for number in 0..network.part_count() {
+        add_unknown_keys(alloc, network, network.part(number), flaws)?;
+    }
+    for number in 0..network.part_count() {
+        add_missing_keys(alloc, network, network.part(number), flaws)?;
+    }
+    for number in 0..network.part_count() {
+        add_misfits(alloc, network, network.part(number), flaws)?;
+    }
+    Ok(())
 }
 
 // Adds the flaws of all functions, and then of all predicates.

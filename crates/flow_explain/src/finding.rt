@@ -1,7 +1,8 @@
 //! Flaws of a text, for which it is refused.
 use flow_fault_text::TextFault;
 use flow_places::Span;
-use std::alloc::AllocError;
+use std::alloc::{AllocError, Global};
+use std::fmt::Display;
 
 /// The most flaws that are told of one text.
 const MOST_FLAWS: usize = 100;
@@ -21,19 +22,22 @@ pub(crate) fn is_full(flaws: &[Flaw]) -> bool {
     flaws.len() >= MOST_FLAWS
 }
 
-/// Adds a flaw, if there are not too many.
-pub(crate) fn add_flaw(
+/// Adds a flaw with this message, if there are not too many.
+pub(crate) fn add_flaw<D: Display + Drop>(
+    alloc: Global,
     flaws: &mut Vec<Flaw>,
     fault: TextFault,
     span: Span,
-    message: String,
+    message: D,
 ) -> Result<(), AllocError> {
-    if !is_full(flaws) {
-        flaws.push(Flaw {
-            fault,
-            span,
-            message,
-        })?;
+    if is_full(flaws) {
+        return Ok(());
     }
+    let message = message.to_string(alloc)?;
+    flaws.push(Flaw {
+        fault,
+        span,
+        message,
+    })?;
     Ok(())
 }

@@ -110,7 +110,7 @@ pub(crate) fn key_names(part: Part) -> &'static [&'static str] {
 
 /// Whether a part may have this key.
 pub(crate) fn knows(part: Part, key: &str) -> bool {
-    key_names(part).iter().any(|name| *name == key)
+    key_names(part).contains(&key)
 }
 
 /// The word for all parts of a sort.

@@ -11,6 +11,7 @@ mod circle;
 mod encoding;
 mod explain;
 mod finding;
+mod hint;
 mod keys;
 mod network;
 mod options;

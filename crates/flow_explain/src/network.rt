@@ -3,6 +3,7 @@ use crate::keys::kind_named;
 use flow_link::BlockKind;
 use flow_places::{Part, Places, Span};
 use std::alloc::{AllocError, Global};
+use std::fmt;
 use toml::{Table, Value};
 
 /// A text that is TOML, its tables, and where they stand.
@@ -24,16 +25,36 @@ fn list<'t>(top: &'t Table, key: &str) -> &'t [Value] {
     }
 }
 
-// The items of an array of tables; none where a value is no such array.
-fn tables_of(value: &Value) -> &[Value] {
+/// The items of an array; none where a value is no array.
+pub(crate) fn items_of(value: &Value) -> &[Value] {
     match value.as_array() {
-        Some(items) if are_tables(items.as_slice()) => items.as_slice(),
-        _ => &[],
+        Some(items) => items.as_slice(),
+        None => &[],
     }
 }
 
-fn are_tables(items: &[Value]) -> bool {
-    items.iter().all(|item| item.is_table())
+// The items of an array of tables; none where a value is no such array.
+fn tables_of(value: &Value) -> &[Value] {
+    let items = items_of(value);
+    match first_other(items, true) {
+        Some(_) => &[],
+        None => items,
+    }
+}
+
+/// The number of the first item that is no table, or no text where texts are wanted.
+pub(crate) fn first_other(items: &[Value], wants_tables: bool) -> Option<usize> {
+    for (number, item) in items.iter().enumerate() {
+        let is_wanted = if wants_tables {
+            item.is_table()
+        } else {
+            item.is_str()
+        };
+        if !is_wanted {
+            return Some(number);
+        }
+    }
+    None
 }
 
 impl<'t> Network<'t> {
@@ -57,17 +78,21 @@ impl<'t> Network<'t> {
         self.links.len()
     }
 
-    /// All parts, in the order in which faults are looked for.
-    pub(crate) fn parts(self, alloc: Global) -> Result<Vec<Part>, AllocError> {
-        let mut parts = Vec::new(alloc);
-        parts.push(Part::Top)?;
-        for block in 0..self.blocks.len() {
-            parts.push(Part::Block(block))?;
+    /// How many parts there are: the network itself, its blocks and its links.
+    pub(crate) fn part_count(self) -> usize {
+        self.blocks
+            .len()
+            .saturating_add(self.links.len())
+            .saturating_add(1)
+    }
+
+    /// The part with this number, in the order in which faults are looked for.
+    pub(crate) fn part(self, number: usize) -> Part {
+        match number.checked_sub(1) {
+            None => Part::Top,
+            Some(block) if block < self.blocks.len() => Part::Block(block),
+            Some(behind) => Part::Link(behind - self.blocks.len()),
         }
-        for link in 0..self.links.len() {
-            parts.push(Part::Link(link))?;
-        }
-        Ok(parts)
     }
 
     /// The table of a part.
@@ -87,6 +112,14 @@ impl<'t> Network<'t> {
     /// The text at a key of a part.
     pub(crate) fn text_at(self, part: Part, key: &str) -> Option<&'t str> {
         self.value(part, key)?.as_str()
+    }
+
+    /// The items of the array at a key of a block; none where there is no array.
+    pub(crate) fn items(self, block: usize, key: &str) -> &'t [Value] {
+        match self.value(Part::Block(block), key) {
+            Some(value) => items_of(value),
+            None => &[],
+        }
     }
 
     /// The count at a key of a part.
@@ -150,14 +183,31 @@ impl<'t> Network<'t> {
     }
 
     /// A part, as it is told.
-    pub(crate) fn title(self, alloc: Global, part: Part) -> Result<String, AllocError> {
-        match part {
-            Part::Top => String::from_str(alloc, "the network"),
-            Part::Block(number) => match self.name_of(number) {
-                Some(name) if name.len() <= 64 => format!(in alloc; "block {number} {name:?}"),
-                _ => format!(in alloc; "block {number}"),
+    pub(crate) fn title(self, part: Part) -> Title<'t> {
+        let name = match part {
+            Part::Block(number) => self.name_of(number),
+            Part::Top | Part::Link(_) => None,
+        };
+        Title { part, name }
+    }
+}
+
+/// A part, as it is told: a block by its name too, unless that is long.
+#[derive(Clone, Copy)]
+pub(crate) struct Title<'t> {
+    part: Part,
+    name: Option<&'t str>,
+}
+
+impl fmt::Display for Title<'_> {
+    fn fmt<W: fmt::Write>(&self, f: &mut fmt::Formatter<W>) -> fmt::Result {
+        match self.part {
+            Part::Top => f.write_str("the network"),
+            Part::Block(number) => match self.name {
+                Some(name) if name.len() <= 64 => write!(f, "block {number} {name:?}"),
+                _ => write!(f, "block {number}"),
             },
-            Part::Link(number) => format!(in alloc; "link {number}"),
+            Part::Link(number) => write!(f, "link {number}"),
         }
     }
 }

@@ -8,20 +8,20 @@ pub(crate) const OPTIONS: &[&str] = &[
 
 /// Whether a block of this kind may have this option.
 pub(crate) fn allows(kind: BlockKind, option: &str) -> bool {
-    match kind {
-        BlockKind::Buffer | BlockKind::Broadcast => is_in(option, &["input", "capacity"]),
-        BlockKind::WriteOnce => is_in(option, &["input"]),
-        BlockKind::Action | BlockKind::Transform | BlockKind::TransformMany => {
-            is_in(option, &["input", "capacity", "lanes", "work"])
-        }
-        BlockKind::Batch => is_in(option, &["input", "capacity", "size"]),
-        BlockKind::Join => is_in(option, &["capacity", "ports", "greedy"]),
-        BlockKind::BatchedJoin => is_in(option, &["ports", "size"]),
-    }
+    options_of(kind).contains(&option)
 }
 
-fn is_in(option: &str, options: &[&str]) -> bool {
-    options.iter().any(|other| *other == option)
+fn options_of(kind: BlockKind) -> &'static [&'static str] {
+    match kind {
+        BlockKind::Buffer | BlockKind::Broadcast => &["input", "capacity"],
+        BlockKind::WriteOnce => &["input"],
+        BlockKind::Action | BlockKind::Transform | BlockKind::TransformMany => {
+            &["input", "capacity", "lanes", "work"]
+        }
+        BlockKind::Batch => &["input", "capacity", "size"],
+        BlockKind::Join => &["capacity", "ports", "greedy"],
+        BlockKind::BatchedJoin => &["ports", "size"],
+    }
 }
 
 /// The option that each block of this kind needs, if there is one.

@@ -1,14 +1,16 @@
 //! Flaws of a network as a whole, which make it no plan.
 use crate::circle::circle;
 use crate::finding::{Flaw, add_flaw, is_full};
-use crate::keys::{kind_word, knows};
+use crate::hint::{Hint, near_or};
+use crate::keys::{kind_word, knows, plural};
 use crate::network::Network;
 use crate::options::{OPTIONS, allows, is_name, needed, port_count, range_of};
 use flow_fault_text::TextFault;
-use flow_hints::{did_you_mean, quoted};
+use flow_hints::quoted;
 use flow_link::{BlockKind, Place, PlanFault};
 use flow_places::Part;
 use std::alloc::{AllocError, Global};
+use std::fmt;
 
 /// The most blocks, and the most links.
 const MOST_BLOCKS: usize = 256;
@@ -32,12 +34,33 @@ pub(crate) fn add_plan_flaws(
         return Ok(());
     }
     let names = all_names(alloc, network)?;
+    add_name_flaws(alloc, network, names.as_slice(), flaws)
+}
+
+// Adds the flaws of a network whose blocks have these names.
+fn add_name_flaws(
+    alloc: Global,
+    network: Network<'_>,
+    names: &[Option<&str>],
+    flaws: &mut Vec<Flaw>,
+) -> Result<(), AllocError> {
     for block in 0..network.block_count() {
-        add_double_name(alloc, network, &names, block, flaws)?;
+        add_double_name(alloc, network, names, block, flaws)?;
     }
-    let ends = all_ends(alloc, network, &names)?;
+    let ends = all_ends(alloc, network, names)?;
+    add_end_flaws(alloc, network, names, ends.as_slice(), flaws)
+}
+
+// Adds the flaws of a network whose links have these ends.
+fn add_end_flaws(
+    alloc: Global,
+    network: Network<'_>,
+    names: &[Option<&str>],
+    ends: &[Ends],
+    flaws: &mut Vec<Flaw>,
+) -> Result<(), AllocError> {
     for (link, ends) in ends.iter().enumerate() {
-        add_unknown_blocks(alloc, network, &names, link, *ends, flaws)?;
+        add_unknown_blocks(alloc, network, names, link, *ends, flaws)?;
     }
     for (link, ends) in ends.iter().enumerate() {
         add_port_flaw(alloc, network, link, ends.target, flaws)?;
@@ -50,9 +73,9 @@ pub(crate) fn add_plan_flaws(
         add_small_capacity(alloc, network, block, flaws)?;
     }
     for block in 0..network.block_count() {
-        add_shared_source(alloc, network, ends.as_slice(), block, flaws)?;
+        add_shared_source(alloc, network, ends, block, flaws)?;
     }
-    add_circle(alloc, network, ends.as_slice(), flaws)
+    add_circle(alloc, network, ends, flaws)
 }
 
 // Adds the names and options of blocks and links that are none, or are out of range.
@@ -77,19 +100,37 @@ fn add_limit_flaws(
     network: Network<'_>,
     flaws: &mut Vec<Flaw>,
 ) -> Result<bool, AllocError> {
-    let blocks = network.block_count();
-    let links = network.link_count();
-    if blocks > MOST_BLOCKS {
-        let message = format!(in alloc; "there are {blocks} blocks, and {MOST_BLOCKS} at most.")?;
-        let span = network.span_of(Part::Block(MOST_BLOCKS));
-        add_flaw(flaws, TextFault::Plan(PlanFault::Limit), span, message)?;
+    let blocks = Part::Block(MOST_BLOCKS);
+    let many_blocks = add_limit_flaw(alloc, network, network.block_count(), blocks, flaws)?;
+    let links = Part::Link(MOST_LINKS);
+    let many_links = add_limit_flaw(alloc, network, network.link_count(), links, flaws)?;
+    Ok(many_blocks || many_links)
+}
+
+// Adds that there are too many parts of a sort, where this is the first beyond the most, and answers whether there are.
+fn add_limit_flaw(
+    alloc: Global,
+    network: Network<'_>,
+    count: usize,
+    beyond: Part,
+    flaws: &mut Vec<Flaw>,
+) -> Result<bool, AllocError> {
+    let most = match beyond {
+        Part::Top => 1,
+        Part::Block(most) | Part::Link(most) => most,
+    };
+    if count <= most {
+        return Ok(false);
     }
-    if links > MOST_LINKS {
-        let message = format!(in alloc; "there are {links} links, and {MOST_LINKS} at most.")?;
-        let span = network.span_of(Part::Link(MOST_LINKS));
-        add_flaw(flaws, TextFault::Plan(PlanFault::Limit), span, message)?;
-    }
-    Ok(blocks > MOST_BLOCKS || links > MOST_LINKS)
+    let parts = plural(beyond);
+    add_flaw(
+        alloc,
+        flaws,
+        TextFault::Plan(PlanFault::Limit),
+        network.span_of(beyond),
+        format_args!("there are {count} {parts}, and {most} at most."),
+    )?;
+    Ok(true)
 }
 
 fn bad_block(block: usize) -> TextFault {
@@ -112,10 +153,13 @@ fn add_double_name(
         return Ok(());
     }
     let shown = quoted(alloc, name)?;
-    let message = format!(in alloc; "block {block} is named {shown}, as block {other} is.")?;
-    let fault = TextFault::Plan(PlanFault::DuplicateName(block));
-    let span = network.value_span(Part::Block(block), "name");
-    add_flaw(flaws, fault, span, message)
+    add_flaw(
+        alloc,
+        flaws,
+        TextFault::Plan(PlanFault::DuplicateName(block)),
+        network.value_span(Part::Block(block), "name"),
+        format_args!("block {block} is named {shown}, as block {other} is."),
+    )
 }
 
 // Adds that a name is none.
@@ -132,11 +176,15 @@ fn add_bad_name(
         return Ok(());
     }
     let shown = quoted(alloc, name)?;
-    let message = format!(in alloc;
-        "{shown} is no name: a name has 1 to 64 letters, digits, \"_\", \"-\" and \".\"."
-    )?;
-    let span = network.value_span(Part::Block(block), "name");
-    add_flaw(flaws, bad_block(block), span, message)
+    add_flaw(
+        alloc,
+        flaws,
+        bad_block(block),
+        network.value_span(Part::Block(block), "name"),
+        format_args!(
+            "{shown} is no name: a name has 1 to 64 letters, digits, \"_\", \"-\" and \".\"."
+        ),
+    )
 }
 
 // The first block that has this name.
@@ -175,14 +223,14 @@ fn add_option_flaw(
     if allows(kind, option) {
         return add_range_flaw(alloc, network, part, option, flaws);
     }
-    let title = network.title(alloc, part)?;
+    let title = network.title(part);
     let kind = kind_word(kind);
-    let message = format!(in alloc; "{title} is {kind}, which has no {option:?}.")?;
     add_flaw(
+        alloc,
         flaws,
         bad_block(block),
         network.key_span(part, option),
-        message,
+        format_args!("{title} is {kind}, which has no {option:?}."),
     )
 }
 
@@ -210,10 +258,15 @@ fn add_needed(
     if has_option(network, part, option) || has_unknown_key(network, part) {
         return Ok(());
     }
-    let title = network.title(alloc, part)?;
+    let title = network.title(part);
     let kind = kind_word(kind);
-    let message = format!(in alloc; "{title} is {kind}, and lacks {option:?}.")?;
-    add_flaw(flaws, bad_block(block), network.span_of(part), message)
+    add_flaw(
+        alloc,
+        flaws,
+        bad_block(block),
+        network.span_of(part),
+        format_args!("{title} is {kind}, and lacks {option:?}."),
+    )
 }
 
 fn has_unknown_key(network: Network<'_>, part: Part) -> bool {
@@ -245,12 +298,14 @@ fn add_range_flaw(
     if low <= number && number <= high {
         return Ok(());
     }
-    let title = network.title(alloc, part)?;
-    let message = format!(in alloc;
-        "{option:?} of {title} is {number}, and is to be {low} to {high}."
-    )?;
-    let fault = TextFault::Plan(PlanFault::BadOption(place));
-    add_flaw(flaws, fault, network.value_span(part, option), message)
+    let title = network.title(part);
+    add_flaw(
+        alloc,
+        flaws,
+        TextFault::Plan(PlanFault::BadOption(place)),
+        network.value_span(part, option),
+        format_args!("{option:?} of {title} is {number}, and is to be {low} to {high}."),
+    )
 }
 
 fn add_small_capacity(
@@ -272,12 +327,14 @@ fn add_small_capacity(
     if capacity >= size {
         return Ok(());
     }
-    let title = network.title(alloc, part)?;
-    let message = format!(in alloc;
-        "{title} has room for {capacity} messages, and its groups have {size}."
-    )?;
-    let fault = TextFault::Plan(PlanFault::CapacityBelowSize(block));
-    add_flaw(flaws, fault, network.value_span(part, "capacity"), message)
+    let title = network.title(part);
+    add_flaw(
+        alloc,
+        flaws,
+        TextFault::Plan(PlanFault::CapacityBelowSize(block)),
+        network.value_span(part, "capacity"),
+        format_args!("{title} has room for {capacity} messages, and its groups have {size}."),
+    )
 }
 
 // Adds that one block leads to two ports of a join that reserves, at the first link that makes it so.
@@ -295,13 +352,17 @@ fn add_shared_source(
         return Ok(());
     };
     let part = Part::Link(second);
-    let title = network.title(alloc, Part::Block(block))?;
+    let title = network.title(Part::Block(block));
     let source = quoted(alloc, network.text_at(part, "from").unwrap_or(""))?;
-    let message = format!(in alloc;
-        "links {first} and {second} lead from {source} to two ports of {title}, which reserves: each port needs sources of its own."
-    )?;
-    let fault = TextFault::Plan(PlanFault::SharedSource(block));
-    add_flaw(flaws, fault, network.value_span(part, "from"), message)
+    add_flaw(
+        alloc,
+        flaws,
+        TextFault::Plan(PlanFault::SharedSource(block)),
+        network.value_span(part, "from"),
+        format_args!(
+            "links {first} and {second} lead from {source} to two ports of {title}, which reserves: each port needs sources of its own."
+        ),
+    )
 }
 
 // Whether a block is a join that is not greedy.
@@ -418,13 +479,14 @@ fn add_no_output(
     let Some(BlockKind::Action) = network.kind_of(source) else {
         return Ok(());
     };
-    let title = network.title(alloc, Part::Block(source))?;
-    let message = format!(in alloc;
-        "link {link} comes from {title}, which is an action and gives nothing."
-    )?;
-    let fault = TextFault::Plan(PlanFault::NoOutput(link));
-    let span = network.value_span(Part::Link(link), "from");
-    add_flaw(flaws, fault, span, message)
+    let title = network.title(Part::Block(source));
+    add_flaw(
+        alloc,
+        flaws,
+        TextFault::Plan(PlanFault::NoOutput(link)),
+        network.value_span(Part::Link(link), "from"),
+        format_args!("link {link} comes from {title}, which is an action and gives nothing."),
+    )
 }
 
 fn add_unknown_block(
@@ -440,29 +502,36 @@ fn add_unknown_block(
         return Ok(());
     };
     // a block without a name may be the one that is meant
-    if is_full(flaws) || names.iter().any(|other| other.is_none()) {
+    if is_full(flaws) || names.contains(&None) {
         return Ok(());
     }
-    let shown = quoted(alloc, name)?;
-    let known = known_names(alloc, names)?;
-    let near = did_you_mean(alloc, name, known.as_slice())?;
-    let message = if end == "from" {
-        format!(in alloc; "link {link} comes from {shown}, and no block has that name.{near}")?
+    let leads = if end == "from" {
+        "comes from"
     } else {
-        format!(in alloc; "link {link} leads to {shown}, and no block has that name.{near}")?
+        "leads to"
     };
-    let fault = TextFault::Plan(PlanFault::UnknownBlock(link));
-    add_flaw(flaws, fault, network.value_span(part, end), message)
+    let hint = known_name(alloc, name, names)?;
+    let shown = quoted(alloc, name)?;
+    add_flaw(
+        alloc,
+        flaws,
+        TextFault::Plan(PlanFault::UnknownBlock(link)),
+        network.value_span(part, end),
+        format_args!("link {link} {leads} {shown}, and no block has that name.{hint}"),
+    )
 }
 
-fn known_names<'t>(alloc: Global, names: &[Option<&'t str>]) -> Result<Vec<&'t str>, AllocError> {
+// Which of these names may have been meant.
+fn known_name<'t>(
+    alloc: Global,
+    name: &str,
+    names: &[Option<&'t str>],
+) -> Result<Hint<'t>, AllocError> {
     let mut known = Vec::new(alloc);
-    for name in names {
-        if let Some(name) = name {
-            known.push(*name)?;
-        }
+    for name in names.iter().flatten() {
+        known.push(*name)?;
     }
-    Ok(known)
+    near_or(alloc, name, known.as_slice(), Hint::Words(""))
 }
 
 fn add_port_flaw(
@@ -484,20 +553,29 @@ fn add_port_flaw(
     if port < count {
         return Ok(());
     }
-    let title = network.title(alloc, Part::Block(target))?;
-    let message = match count.checked_sub(1) {
-        None => format!(in alloc;
-            "link {link} leads to port {port} of {title}, which has no port."
-        )?,
-        Some(0) => format!(in alloc;
-            "link {link} leads to port {port} of {title}, which has port 0 alone."
-        )?,
-        Some(last) => format!(in alloc;
-            "link {link} leads to port {port} of {title}, which has ports 0 to {last}."
-        )?,
-    };
-    let fault = TextFault::Plan(PlanFault::Port(link));
-    add_flaw(flaws, fault, network.value_span(part, "port"), message)
+    let title = network.title(Part::Block(target));
+    let ports = Ports(count);
+    add_flaw(
+        alloc,
+        flaws,
+        TextFault::Plan(PlanFault::Port(link)),
+        network.value_span(part, "port"),
+        format_args!("link {link} leads to port {port} of {title}, which has {ports}."),
+    )
+}
+
+// So many ports, as they are told.
+#[derive(Clone, Copy)]
+struct Ports(u32);
+
+impl fmt::Display for Ports {
+    fn fmt<W: fmt::Write>(&self, f: &mut fmt::Formatter<W>) -> fmt::Result {
+        match self.0.checked_sub(1) {
+            None => f.write_str("no port"),
+            Some(0) => f.write_str("port 0 alone"),
+            Some(last) => write!(f, "ports 0 to {last}"),
+        }
+    }
 }
 
 // Adds that links lead in a circle, at one of them.
@@ -508,19 +586,43 @@ fn add_circle(
     flaws: &mut Vec<Flaw>,
 ) -> Result<(), AllocError> {
     let links = circle(alloc, network.block_count(), ends)?;
-    let Some(first) = links.first() else {
-        return Ok(());
-    };
-    let mut way = String::new(alloc);
-    for link in links.iter() {
-        let from = network.text_at(Part::Link(*link), "from").unwrap_or("");
-        let shown = quoted(alloc, from)?;
-        way.push_str(shown.as_str())?;
-        way.push_str(" to ")?;
+    match links.first() {
+        Some(first) => add_way_round(alloc, network, links.as_slice(), *first, flaws),
+        None => Ok(()),
     }
-    let from = network.text_at(Part::Link(*first), "from").unwrap_or("");
-    let start = quoted(alloc, from)?;
-    let message = format!(in alloc; "messages could go round for ever: {way}{start}.")?;
-    let fault = TextFault::Plan(PlanFault::Cycle);
-    add_flaw(flaws, fault, network.span_of(Part::Link(*first)), message)
+}
+
+// Adds that these links lead in a circle, at the first of them.
+fn add_way_round(
+    alloc: Global,
+    network: Network<'_>,
+    links: &[usize],
+    first: usize,
+    flaws: &mut Vec<Flaw>,
+) -> Result<(), AllocError> {
+    let mut way = String::new(alloc);
+    for link in links {
+        add_step_of_way(alloc, network, *link, " to ", &mut way)?;
+    }
+    add_step_of_way(alloc, network, first, "", &mut way)?;
+    add_flaw(
+        alloc,
+        flaws,
+        TextFault::Plan(PlanFault::Cycle),
+        network.span_of(Part::Link(first)),
+        format_args!("messages could go round for ever: {way}."),
+    )
+}
+
+// Adds the block from which a link comes, and what stands behind it.
+fn add_step_of_way(
+    alloc: Global,
+    network: Network<'_>,
+    link: usize,
+    behind: &str,
+    way: &mut String,
+) -> Result<(), AllocError> {
+    let from = network.text_at(Part::Link(link), "from").unwrap_or("");
+    let shown = quoted(alloc, from)?;
+    write!(way, "{shown}{behind}")
 }

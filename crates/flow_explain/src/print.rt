@@ -4,7 +4,7 @@ ghost use Rattle.std.specs.Prelude.{◌≡◌};
 use crate::finding::Flaw;
 use flow_fault_text::TextFault;
 use flow_hints::Warning;
-use flow_places::{Span, excerpt_of, position_of};
+use flow_places::{Excerpt, Span, excerpt_of, position_of};
 use std::alloc::{AllocError, Global};
 use std::io;
 use std::io::{ErrorKind, Write};
@@ -41,7 +41,11 @@ pub(crate) fn write_flaw<W: Write>(
     write_head(source, "error", flaw.span, flaw.message.as_str(), out)?;
     match style {
         Style::Short => Ok(()),
-        Style::Full => write_excerpt(alloc, source, flaw.span, Some(flaw.fault), out),
+        Style::Full => {
+            let digits = write_excerpt(alloc, source, flaw.span, out)?;
+            let fault = flaw.fault;
+            writeln!(out, "{:digits$}  = {fault}", "")
+        }
     }
 }
 
@@ -62,7 +66,10 @@ pub(crate) fn write_warning<W: Write>(
     )?;
     match style {
         Style::Short => Ok(()),
-        Style::Full => write_excerpt(alloc, source, warning.span, None, out),
+        Style::Full => {
+            write_excerpt(alloc, source, warning.span, out)?;
+            Ok(())
+        }
     }
 }
 
@@ -79,36 +86,38 @@ fn write_head<W: Write>(
     writeln!(out, "{name}:{line}:{column}: {severity}: {message}")
 }
 
-// Prints the line on which a span begins, marks under the span, and the fault.
+// Prints the line on which a span begins and marks under the span, and answers how long the line's number is.
 fn write_excerpt<W: Write>(
     alloc: Global,
     source: Source<'_>,
     span: Span,
-    fault: Option<TextFault>,
     out: &mut W,
-) -> io::Result<()> {
+) -> io::Result<usize> {
     let line = position_of(source.text, span.start).line;
-    let number = format!(in alloc; "{line}").map_err(out_of_memory)?;
+    let digits = length_of(alloc, line).map_err(out_of_memory)?;
     let excerpt = excerpt_of(alloc, source.text, span).map_err(out_of_memory)?;
-    let text = excerpt.line.as_str();
-    if !text.trim().is_empty() {
-        writeln!(out, " {number} | {text}")?;
-        write_many(" ", number.len(), out)?;
-        write!(out, "  | ")?;
-        write_many(" ", excerpt.before, out)?;
-        write_many("^", excerpt.marked, out)?;
-        writeln!(out, "")?;
-    }
-    if let Some(fault) = fault {
-        write_many(" ", number.len(), out)?;
-        writeln!(out, "  = {fault}")?;
-    }
-    Ok(())
+    write_marked(line, digits, &excerpt, out)?;
+    Ok(digits)
 }
 
-fn write_many<W: Write>(text: &str, count: usize, out: &mut W) -> io::Result<()> {
-    for _ in 0..count {
-        write!(out, "{text}")?;
+// How many digits a number has.
+fn length_of(alloc: Global, number: usize) -> Result<usize, AllocError> {
+    let digits = number.to_string(alloc)?;
+    Ok(digits.len())
+}
+
+// Prints a line with its number, and marks under a part of it.
+fn write_marked<W: Write>(
+    number: usize,
+    digits: usize,
+    excerpt: &Excerpt,
+    out: &mut W,
+) -> io::Result<()> {
+    let text = excerpt.line.as_str();
+    if text.trim().is_empty() {
+        return Ok(());
     }
-    Ok(())
+    let (before, marked) = (excerpt.before, excerpt.marked);
+    writeln!(out, " {number} | {text}")?;
+    writeln!(out, "{:digits$}  | {:before$}{:^<marked$}", "", "", "")
 }

@@ -16,6 +16,7 @@ use flow_places::Span;
 use flow_record_text::read_records;
 use flow_value::Steps;
 use std::alloc::{AllocError, Global};
+use std::fmt::Display;
 
 /// What is to be said of the records of a text: a flaw where `read_records` refuses them, and none where it does not.
 ///
@@ -43,10 +44,22 @@ pub fn explain_records(alloc: Global, plan: &Plan<Steps>, text: &[u8]) -> Result
 
 // What was hardly meant in records that are accepted.
 fn record_warnings(alloc: Global, text: &[u8]) -> Result<Vec<Warning>, AllocError> {
-    let mut warnings = Vec::new(alloc);
     let mut rows = Rows::new(alloc, text);
-    let mut last = Span::new(0, 0);
+    let seen = read_all(&mut rows)?;
+    warnings_of(alloc, text, seen)
+}
+
+// What is seen of records: the first whose value begins with a blank, and where the last stands.
+#[derive(Clone, Copy)]
+struct Seen {
+    blank: Option<(u64, Span)>,
+    last: Span,
+}
+
+// Reads all records.
+fn read_all(rows: &mut Rows<'_>) -> Result<Seen, AllocError> {
     let mut blank = None;
+    let mut last = Span::new(0, 0);
     for number in 1..=u64::MAX {
         let Some(row) = rows.next_row()? else {
             break;
@@ -56,21 +69,32 @@ fn record_warnings(alloc: Global, text: &[u8]) -> Result<Vec<Warning>, AllocErro
             blank = Some((number, row.span));
         }
     }
-    if let Some((number, span)) = blank {
-        let message = format!(in alloc;
+    Ok(Seen { blank, last })
+}
+
+// The warnings of records of which this is seen.
+fn warnings_of(alloc: Global, text: &[u8], seen: Seen) -> Result<Vec<Warning>, AllocError> {
+    let mut warnings = Vec::new(alloc);
+    if let Some((number, span)) = seen.blank {
+        let message = format_args!(
             "the value of record {number} begins with a blank, which is part of it."
-        )?;
-        warnings.push(Warning { span, message })?;
+        );
+        add_warning(alloc, &mut warnings, span, message)?;
     }
-    if opens_quote(text, last) {
-        let message = String::from_str(
-            alloc,
-            "the last record begins here, since a double quote in it is never closed.",
-        )?;
-        warnings.push(Warning {
-            span: last,
-            message,
-        })?;
+    if opens_quote(text, seen.last) {
+        let message = "the last record begins here, since a double quote in it is never closed.";
+        add_warning(alloc, &mut warnings, seen.last, message)?;
     }
     Ok(warnings)
+}
+
+fn add_warning<D: Display + Drop>(
+    alloc: Global,
+    warnings: &mut Vec<Warning>,
+    span: Span,
+    message: D,
+) -> Result<(), AllocError> {
+    let message = message.to_string(alloc)?;
+    warnings.push(Warning { span, message })?;
+    Ok(())
 }

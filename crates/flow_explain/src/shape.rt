@@ -1,11 +1,13 @@
 //! Flaws of keys, and of the types of their values.
 use crate::finding::{Flaw, add_flaw, is_full};
+use crate::hint::{Hint, near_or};
 use crate::keys::{Form, KINDS, Key, key_names, keys_of, kind_named, knows, place_of, plural};
-use crate::network::Network;
+use crate::network::{Network, first_other, items_of};
 use flow_fault_text::TextFault;
-use flow_hints::{did_you_mean, nearest, quoted};
+use flow_hints::{nearest, quoted};
 use flow_places::Part;
 use std::alloc::{AllocError, Global};
+use std::fmt;
 use toml::Value;
 
 /// Adds the keys that this part has, and that such parts do not have.
@@ -33,25 +35,30 @@ fn add_unknown_key(
     key: &str,
     flaws: &mut Vec<Flaw>,
 ) -> Result<(), AllocError> {
-    let title = network.title(alloc, part)?;
-    let name = quoted(alloc, key)?;
+    let title = network.title(part);
     let plural = plural(part);
     let hint = key_hint(alloc, part, key)?;
-    let message = format!(in alloc; "{title} has a key {name}, which {plural} do not have.{hint}")?;
-    let fault = TextFault::UnknownKey(place_of(part));
-    add_flaw(flaws, fault, network.key_span(part, key), message)
+    let name = quoted(alloc, key)?;
+    add_flaw(
+        alloc,
+        flaws,
+        TextFault::UnknownKey(place_of(part)),
+        network.key_span(part, key),
+        format_args!("{title} has a key {name}, which {plural} do not have.{hint}"),
+    )
 }
 
 // What may have been meant by a key that a part does not have.
-fn key_hint(alloc: Global, part: Part, key: &str) -> Result<String, AllocError> {
+fn key_hint(alloc: Global, part: Part, key: &str) -> Result<Hint<'static>, AllocError> {
     if key == "ordered" || key == "groups" {
-        return String::from_str(alloc, " It is not built yet.");
+        return Ok(Hint::Words(" It is not built yet."));
     }
-    let near = did_you_mean(alloc, key, key_names(part))?;
-    if !near.is_empty() {
-        return Ok(near);
-    }
-    let home = if knows(Part::Block(0), key) {
+    near_or(alloc, key, key_names(part), Hint::Words(home_of(key)))
+}
+
+// Where a key belongs.
+fn home_of(key: &str) -> &'static str {
+    if knows(Part::Block(0), key) {
         " It is a key of blocks."
     } else if knows(Part::Link(0), key) {
         " It is a key of links."
@@ -59,8 +66,7 @@ fn key_hint(alloc: Global, part: Part, key: &str) -> Result<String, AllocError> 
         " It stands before the first block."
     } else {
         ""
-    };
-    String::from_str(alloc, home)
+    }
 }
 
 // Whether a part has a key that may be this one, and is told as unknown.
@@ -108,12 +114,16 @@ fn add_missing(
     if is_full(flaws) || is_misspelt(alloc, network, part, key.name)? {
         return Ok(());
     }
-    let title = network.title(alloc, part)?;
+    let title = network.title(part);
     let name = key.name;
     let plural = plural(part);
-    let message = format!(in alloc; "{title} has no key {name:?}, which all {plural} have.")?;
-    let fault = TextFault::MissingKey(place_of(part));
-    add_flaw(flaws, fault, network.span_of(part), message)
+    add_flaw(
+        alloc,
+        flaws,
+        TextFault::MissingKey(place_of(part)),
+        network.span_of(part),
+        format_args!("{title} has no key {name:?}, which all {plural} have."),
+    )
 }
 
 /// Adds the values of this part that are not what their keys want.
@@ -142,15 +152,12 @@ fn add_misfit(
     if fits(key.form, value) || is_full(flaws) {
         return Ok(());
     }
-    let message = match value.as_str() {
-        Some(word) if key.form == Form::Kind => unknown_kind(alloc, word)?,
-        _ => misfit(alloc, network, part, key, value)?,
-    };
-    let span = match bad_item(key.form, value) {
-        Some(item) => network.item_span(alloc, part, key.name, item)?,
-        None => network.value_span(part, key.name),
-    };
-    add_flaw(flaws, TextFault::WrongType(place_of(part)), span, message)
+    match value.as_str() {
+        Some(word) if key.form == Form::Kind => {
+            add_unknown_kind(alloc, network, part, word, flaws)
+        }
+        _ => add_wrong_type(alloc, network, part, key, value, flaws),
+    }
 }
 
 // Whether a value is of this form.
@@ -177,39 +184,58 @@ fn is_count(value: &Value) -> bool {
 
 // The number of the first item of an array that is not what items are to be.
 fn bad_item(form: Form, value: &Value) -> Option<usize> {
-    let items = value.as_array()?;
     match form {
-        Form::Texts => items.iter().position(|item| !item.is_str()),
-        Form::Tables => items.iter().position(|item| !item.is_table()),
+        Form::Texts => first_other(items_of(value), false),
+        Form::Tables => first_other(items_of(value), true),
         Form::Boolean | Form::Integer | Form::Count | Form::Text | Form::Kind => None,
     }
 }
 
-fn unknown_kind(alloc: Global, word: &str) -> Result<String, AllocError> {
+fn add_unknown_kind(
+    alloc: Global,
+    network: Network<'_>,
+    part: Part,
+    word: &str,
+    flaws: &mut Vec<Flaw>,
+) -> Result<(), AllocError> {
+    let fault = TextFault::WrongType(place_of(part));
+    let span = network.value_span(part, "kind");
+    let hint = near_or(alloc, word, KINDS, Hint::OneOf(" The kinds are", KINDS))?;
     let name = quoted(alloc, word)?;
-    let near = did_you_mean(alloc, word, KINDS)?;
-    if near.is_empty() {
-        let kinds = KINDS.join(alloc, ", ")?;
-        return format!(in alloc; "{name} is no kind of block. The kinds are {kinds}.");
-    }
-    format!(in alloc; "{name} is no kind of block.{near}")
+    add_flaw(
+        alloc,
+        flaws,
+        fault,
+        span,
+        format_args!("{name} is no kind of block.{hint}"),
+    )
 }
 
-fn misfit(
+fn add_wrong_type(
     alloc: Global,
     network: Network<'_>,
     part: Part,
     key: &Key,
     value: &Value,
-) -> Result<String, AllocError> {
-    let title = network.title(alloc, part)?;
+    flaws: &mut Vec<Flaw>,
+) -> Result<(), AllocError> {
+    let fault = TextFault::WrongType(place_of(part));
+    let title = network.title(part);
     let name = key.name;
     let wanted = wanted(key);
-    let found = match bad_item(key.form, value) {
-        Some(item) => format!(in alloc; "has something else as item {item}")?,
-        None => found(alloc, value)?,
+    let item = bad_item(key.form, value);
+    let span = match item {
+        Some(item) => network.item_span(alloc, part, name, item)?,
+        None => network.value_span(part, name),
     };
-    format!(in alloc; "{name:?} of {title} is to be {wanted}, and {found}.")
+    let found = Found { item, value };
+    add_flaw(
+        alloc,
+        flaws,
+        fault,
+        span,
+        format_args!("{name:?} of {title} is to be {wanted}, and {found}."),
+    )
 }
 
 // What the value at a key is to be, in words.
@@ -225,15 +251,26 @@ fn wanted(key: &Key) -> &'static str {
     }
 }
 
-// What a value is, in words.
-fn found(alloc: Global, value: &Value) -> Result<String, AllocError> {
-    match value {
-        Value::Integer(number) => format!(in alloc; "is {number}"),
-        Value::String(_) => String::from_str(alloc, "is a text"),
-        Value::Float(_) => String::from_str(alloc, "is a number with a fraction"),
-        Value::Boolean(flag) => format!(in alloc; "is {flag}"),
-        Value::Datetime(_) => String::from_str(alloc, "is a date or a time"),
-        Value::Array(_) => String::from_str(alloc, "is an array"),
-        Value::Table(_) => String::from_str(alloc, "is a table"),
+// What a value is, in words, or which item of it is not what items are to be.
+#[derive(Clone, Copy)]
+struct Found<'v> {
+    item: Option<usize>,
+    value: &'v Value,
+}
+
+impl fmt::Display for Found<'_> {
+    fn fmt<W: fmt::Write>(&self, f: &mut fmt::Formatter<W>) -> fmt::Result {
+        if let Some(item) = self.item {
+            return write!(f, "has something else as item {item}");
+        }
+        match self.value {
+            Value::Integer(number) => write!(f, "is {number}"),
+            Value::String(_) => f.write_str("is a text"),
+            Value::Float(_) => f.write_str("is a number with a fraction"),
+            Value::Boolean(flag) => write!(f, "is {flag}"),
+            Value::Datetime(_) => f.write_str("is a date or a time"),
+            Value::Array(_) => f.write_str("is an array"),
+            Value::Table(_) => f.write_str("is a table"),
+        }
     }
 }

@@ -1,11 +1,13 @@
 //! Flaws of functions and predicates: texts that are no step, and no predicate.
 use crate::finding::{Flaw, add_flaw, is_full};
+use crate::hint::{Hint, near_or};
 use crate::network::Network;
 use flow_fault_text::{TextFault, TextPlace};
-use flow_hints::{did_you_mean, quoted};
-use flow_places::Part;
+use flow_hints::quoted;
+use flow_places::{Part, Span};
 use flow_value::{Steps, StepsError, When};
 use std::alloc::{AllocError, Global};
+use std::fmt;
 
 /// The most steps of a function.
 const MOST_STEPS: usize = 16;
@@ -33,6 +35,26 @@ macro_rules! with_number {
         }
     };
 }
+
+/// A sort of words: how one is called, the words, and their names.
+#[derive(Clone, Copy)]
+struct Sort {
+    name: &'static str,
+    words: &'static [Word],
+    names: &'static [&'static str],
+}
+
+const STEP: Sort = Sort {
+    name: "step",
+    words: STEPS,
+    names: STEP_NAMES,
+};
+
+const PREDICATE: Sort = Sort {
+    name: "predicate",
+    words: PREDICATES,
+    names: PREDICATE_NAMES,
+};
 
 const STEPS: &[Word] = &[
     alone!("id"),
@@ -71,38 +93,54 @@ pub(crate) fn add_work_flaws(
     block: usize,
     flaws: &mut Vec<Flaw>,
 ) -> Result<(), AllocError> {
-    let part = Part::Block(block);
-    let Some(value) = network.value(part, "work") else {
-        return Ok(());
-    };
-    let Some(items) = value.as_array() else {
-        return Ok(());
-    };
     if is_full(flaws) {
         return Ok(());
     }
-    let count = items.len();
-    for (number, item) in items.iter().enumerate() {
+    for (number, item) in network.items(block, "work").iter().enumerate() {
         let Some(text) = item.as_str() else {
             return Ok(());
         };
-        let message = if number >= MOST_STEPS {
-            format!(in alloc;
-                "a function has {MOST_STEPS} steps at most, and this one has {count}."
-            )?
-        } else if is_step(alloc, text)? {
-            continue;
-        } else {
-            trouble(alloc, text, "step", STEPS, STEP_NAMES)?
-        };
-        let span = network.item_span(alloc, part, "work", number)?;
-        let fault = TextFault::BadWork(TextPlace::Block(block));
-        add_flaw(flaws, fault, span, message)?;
         if number >= MOST_STEPS {
-            return Ok(());
+            return add_many_steps(alloc, network, block, flaws);
         }
+        add_step_flaw(alloc, network, block, number, text, flaws)?;
     }
     Ok(())
+}
+
+// Adds that a function has too many steps, at the first of them.
+fn add_many_steps(
+    alloc: Global,
+    network: Network<'_>,
+    block: usize,
+    flaws: &mut Vec<Flaw>,
+) -> Result<(), AllocError> {
+    let count = network.items(block, "work").len();
+    let span = network.item_span(alloc, Part::Block(block), "work", MOST_STEPS)?;
+    add_flaw(
+        alloc,
+        flaws,
+        TextFault::BadWork(TextPlace::Block(block)),
+        span,
+        format_args!("a function has {MOST_STEPS} steps at most, and this one has {count}."),
+    )
+}
+
+// Adds that a text is no step, if it is none.
+fn add_step_flaw(
+    alloc: Global,
+    network: Network<'_>,
+    block: usize,
+    number: usize,
+    text: &str,
+    flaws: &mut Vec<Flaw>,
+) -> Result<(), AllocError> {
+    if is_step(alloc, text)? {
+        return Ok(());
+    }
+    let span = network.item_span(alloc, Part::Block(block), "work", number)?;
+    let fault = TextFault::BadWork(TextPlace::Block(block));
+    add_trouble(alloc, text, STEP, fault, span, flaws)
 }
 
 fn is_step(alloc: Global, text: &str) -> Result<bool, AllocError> {
@@ -127,51 +165,89 @@ pub(crate) fn add_when_flaw(
     if When::read(text).is_some() || is_full(flaws) {
         return Ok(());
     }
-    let message = trouble(alloc, text, "predicate", PREDICATES, PREDICATE_NAMES)?;
+    let span = network.value_span(part, "when");
     let fault = TextFault::BadWhen(TextPlace::Link(link));
-    add_flaw(flaws, fault, network.value_span(part, "when"), message)
+    add_trouble(alloc, text, PREDICATE, fault, span, flaws)
 }
 
-// Why a text is none of these words.
-fn trouble(
+// Adds why a text is no word of this sort.
+fn add_trouble(
     alloc: Global,
     text: &str,
-    sort: &str,
-    words: &[Word],
-    names: &[&str],
-) -> Result<String, AllocError> {
-    let shown = quoted(alloc, text)?;
+    sort: Sort,
+    fault: TextFault,
+    span: Span,
+    flaws: &mut Vec<Flaw>,
+) -> Result<(), AllocError> {
     let (name, number) = match text.trim().split_once(" ") {
         Some((name, number)) => (name, Some(number)),
         None => (text.trim(), None),
     };
-    let why = match words.iter().find(|word| word.name == name) {
-        Some(word) if text != text.trim() => blank_round(alloc, word)?,
-        Some(word) => number_trouble(alloc, word, number)?,
-        None => unknown_word(alloc, name, names)?,
+    let why = match sort.words.iter().find(|word| word.name == name) {
+        Some(word) => Why::Known(Trouble { word, text, number }),
+        None => {
+            let names = Hint::OneOf(" There are", sort.names);
+            Why::Unknown(near_or(alloc, name, sort.names, names)?)
+        }
     };
-    format!(in alloc; "{shown} is no {sort}.{why}")
+    let sort = sort.name;
+    let shown = quoted(alloc, text)?;
+    add_flaw(
+        alloc,
+        flaws,
+        fault,
+        span,
+        format_args!("{shown} is no {sort}.{why}"),
+    )
 }
 
-fn blank_round(alloc: Global, word: &Word) -> Result<String, AllocError> {
-    let name = word.name;
-    format!(in alloc; " Write {name:?} without a blank in front of it or behind it.")
+// Why a text is no word of a sort.
+#[derive(Clone, Copy)]
+enum Why<'t> {
+    /// It begins with a word of the sort.
+    Known(Trouble<'t>),
+    /// It begins with no such word.
+    Unknown(Hint<'t>),
 }
 
-// What is wrong with the number of a word, or that it has one or none.
-fn number_trouble(alloc: Global, word: &Word, number: Option<&str>) -> Result<String, AllocError> {
-    let name = word.name;
-    match (word.number, number) {
-        (None, _) => format!(in alloc; " {name:?} stands alone."),
-        (Some(_), None) => format!(in alloc; " {name:?} needs a number, as in \"{name} 1\"."),
-        (Some((low, high)), Some(number)) => {
-            if number.trim() != number {
-                return format!(in alloc; " One blank stands between {name:?} and its number.");
+impl fmt::Display for Why<'_> {
+    fn fmt<W: fmt::Write>(&self, f: &mut fmt::Formatter<W>) -> fmt::Result {
+        match self {
+            Why::Known(trouble) => write!(f, "{trouble}"),
+            Why::Unknown(hint) => write!(f, "{hint}"),
+        }
+    }
+}
+
+// A text that begins with a word and is none: the word, and what stands behind it and a blank.
+#[derive(Clone, Copy)]
+struct Trouble<'t> {
+    word: &'static Word,
+    text: &'t str,
+    number: Option<&'t str>,
+}
+
+impl fmt::Display for Trouble<'_> {
+    fn fmt<W: fmt::Write>(&self, f: &mut fmt::Formatter<W>) -> fmt::Result {
+        let name = self.word.name;
+        if self.text != self.text.trim() {
+            return write!(
+                f,
+                " Write {name:?} without a blank in front of it or behind it."
+            );
+        }
+        let Some((low, high)) = self.word.number else {
+            return write!(f, " {name:?} stands alone.");
+        };
+        match self.number {
+            None => write!(f, " {name:?} needs a number, as in \"{name} 1\"."),
+            Some(number) if number.trim() != number => {
+                write!(f, " One blank stands between {name:?} and its number.")
             }
-            if !is_number(number) {
-                return format!(in alloc; " Its number is a minus sign or none, and digits.");
+            Some(number) if is_number(number) => {
+                write!(f, " The number of {name:?} is from {low} to {high}.")
             }
-            format!(in alloc; " The number of {name:?} is from {low} to {high}.")
+            Some(_) => f.write_str(" Its number is a minus sign or none, and digits."),
         }
     }
 }
@@ -180,13 +256,4 @@ fn number_trouble(alloc: Global, word: &Word, number: Option<&str>) -> Result<St
 fn is_number(text: &str) -> bool {
     let digits = text.strip_prefix("-").unwrap_or(text);
     !digits.is_empty() && digits.bytes().all(|byte| byte.is_ascii_digit())
-}
-
-fn unknown_word(alloc: Global, name: &str, names: &[&str]) -> Result<String, AllocError> {
-    let near = did_you_mean(alloc, name, names)?;
-    if !near.is_empty() {
-        return Ok(near);
-    }
-    let names = names.join(alloc, ", ")?;
-    format!(in alloc; " There are {names}.")
 }
