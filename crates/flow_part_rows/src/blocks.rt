@@ -14,16 +14,16 @@ use flow_value::MessageStatus;
 
 #[test]
 fn a_message_waits_for_room(rt: HostRuntime) {
-    let alloc = rt.alloc();
-    let one = header(&rt, 1);
-    let mut target = block(&rt, alloc, BlockKind::Action, 0, Some(1));
+    let (rt, alloc) = (&rt, rt.alloc());
+    let one = header(rt, 1);
+    let mut target = block(rt, alloc, BlockKind::Action, 0, Some(1));
     let Ok(MessageStatus::Accepted) = target.offer_message(alloc, 0, one, true) else {
-        panic!(&rt; "it is not accepted");
+        panic!(rt; "it is not accepted");
     };
-    offer(&rt, alloc, &mut target, 1, one);
-    waits(&rt, &mut target);
+    offer(rt, alloc, &mut target, 1, one);
+    waits(rt, &mut target);
     target.note_wish(1, WishAnswer::Withdrawn);
-    waits(&rt, &mut target);
+    waits(rt, &mut target);
 }
 
 /// Any target takes nothing more at its first port, where no message is awaited there.
@@ -69,12 +69,12 @@ fn has_row(block: &Block, numbers: &[i64]) -> bool {
 
 #[test]
 fn a_completed_batch_makes_its_remainder(rt: HostRuntime) {
-    let alloc = rt.alloc();
-    let mut batch = block(&rt, alloc, BlockKind::Batch, 2, None);
-    take(&rt, alloc, &mut batch, 0, 5);
+    let (rt, alloc) = (&rt, rt.alloc());
+    let mut batch = block(rt, alloc, BlockKind::Batch, 2, None);
+    take(rt, alloc, &mut batch, 0, 5);
     assert!(rt; batch.port_count() == 1);
     batch.close_port(0);
-    makes(&rt, alloc, &mut batch, true);
-    check(&rt, "its remainder is a row", has_row(&batch, &[5]));
-    tells(&rt, &mut batch, None);
+    makes(rt, alloc, &mut batch, true);
+    check(rt, "its remainder is a row", has_row(&batch, &[5]));
+    tells(rt, &mut batch, None);
 }

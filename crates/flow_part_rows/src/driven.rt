@@ -148,18 +148,18 @@ pub(crate) fn offers<S: SourceBlock>(
 
 #[test]
 fn a_broadcast_copies_to_each_link(rt: HostRuntime) {
-    let alloc = rt.alloc();
-    let mut source = block(&rt, alloc, BlockKind::Broadcast, 0, None);
-    take(&rt, alloc, &mut source, 0, 5);
-    take(&rt, alloc, &mut source, 0, 6);
-    makes(&rt, alloc, &mut source, true);
-    gives(&rt, alloc, &mut source, 7, 1, 5);
-    makes(&rt, alloc, &mut source, false);
-    offers(&rt, alloc, &mut source, Some((8, 1)));
-    makes(&rt, alloc, &mut source, true);
-    gives(&rt, alloc, &mut source, 7, 2, 6);
-    gives(&rt, alloc, &mut source, 8, 2, 6);
-    offers(&rt, alloc, &mut source, None);
+    let (rt, alloc) = (&rt, rt.alloc());
+    let mut source = block(rt, alloc, BlockKind::Broadcast, 0, None);
+    take(rt, alloc, &mut source, 0, 5);
+    take(rt, alloc, &mut source, 0, 6);
+    makes(rt, alloc, &mut source, true);
+    gives(rt, alloc, &mut source, 7, 1, 5);
+    makes(rt, alloc, &mut source, false);
+    offers(rt, alloc, &mut source, Some((8, 1)));
+    makes(rt, alloc, &mut source, true);
+    gives(rt, alloc, &mut source, 7, 2, 6);
+    gives(rt, alloc, &mut source, 8, 2, 6);
+    offers(rt, alloc, &mut source, None);
 }
 
 /// The first port takes nothing more, since no message comes there.
@@ -174,13 +174,13 @@ fn close_first(block: &mut Block)
 
 #[test]
 fn a_join_that_has_told_its_end_takes_nothing_more(rt: HostRuntime) {
-    let alloc = rt.alloc();
-    let mut join = join(&rt, alloc);
+    let (rt, alloc) = (&rt, rt.alloc());
+    let mut join = join(rt, alloc);
     close_first(&mut join);
-    tells(&rt, &mut join, Some(Outcome::Done));
-    let one = header(&rt, 1);
+    tells(rt, &mut join, Some(Outcome::Done));
+    let one = header(rt, 1);
     let Ok(MessageStatus::DecliningPermanently) = join.offer_message(alloc, 1, one, true) else {
-        panic!(&rt; "it takes one more");
+        panic!(rt; "it takes one more");
     };
-    tells(&rt, &mut join, Some(Outcome::Done));
+    tells(rt, &mut join, Some(Outcome::Done));
 }

@@ -62,26 +62,26 @@ fn comes_back(port: &mut Intake, offer: Option<(LinkId, MessageHeader)>) -> bool
 
 #[test]
 fn intake_answers(rt: HostRuntime) {
-    let alloc = rt.alloc();
-    let one = header(&rt, 1);
+    let (rt, alloc) = (&rt, rt.alloc());
+    let one = header(rt, 1);
     let mut port = Intake::new(alloc, Some(1));
 
     // There is room for one message. The next offer waits, and one that may not wait is declined.
-    answers(&rt, &mut port, 0, true, MessageStatus::Accepted);
-    answers(&rt, &mut port, 1, true, MessageStatus::Postponed);
-    answers(&rt, &mut port, 2, false, MessageStatus::Declined);
+    answers(rt, &mut port, 0, true, MessageStatus::Accepted);
+    answers(rt, &mut port, 1, true, MessageStatus::Postponed);
+    answers(rt, &mut port, 2, false, MessageStatus::Declined);
 
     // The message has its room until that comes back.
-    arrives(&rt, alloc, &mut port, 0, "a");
-    swaps(&rt, &mut port, "a", 1);
-    check(&rt, "it is taken", port.take_next() == Some(Value::Int(1)));
-    check(&rt, "it has its room", comes_back(&mut port, None));
-    give_room(&rt, &mut port, 1);
-    check(&rt, "there is room", comes_back(&mut port, Some((1, one))));
+    arrives(rt, alloc, &mut port, 0, "a");
+    swaps(rt, &mut port, "a", 1);
+    check(rt, "it is taken", port.take_next() == Some(Value::Int(1)));
+    check(rt, "it has its room", comes_back(&mut port, None));
+    give_room(rt, &mut port, 1);
+    check(rt, "there is room", comes_back(&mut port, Some((1, one))));
 
     // The offer is withdrawn, so there is room for another.
-    withdraw(&rt, &mut port, 1);
-    answers(&rt, &mut port, 2, true, MessageStatus::Accepted);
+    withdraw(rt, &mut port, 1);
+    answers(rt, &mut port, 2, true, MessageStatus::Accepted);
     port.close_port();
-    answers(&rt, &mut port, 0, true, MessageStatus::DecliningPermanently);
+    answers(rt, &mut port, 0, true, MessageStatus::DecliningPermanently);
 }

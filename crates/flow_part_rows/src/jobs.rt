@@ -148,39 +148,39 @@ fn leaves(rt: &impl Abort, block: &Execution<Steps>, numbers: &[i64]) {
 
 #[test]
 fn tickets_return_out_of_order(rt: HostRuntime) {
-    let alloc = rt.alloc();
-    let mut block = transform(&rt, alloc);
-    take(&rt, alloc, &mut block, "1");
-    take(&rt, alloc, &mut block, "2");
-    take(&rt, alloc, &mut block, "3");
-    let first = run_next(&rt, alloc, &mut block, 0);
-    let second = run_next(&rt, alloc, &mut block, 1);
-    begins_none(&rt, alloc, &mut block);
-    bring_back(&rt, &mut block, second);
-    leaves(&rt, &block, &[]);
-    bring_back(&rt, &mut block, first);
-    leaves(&rt, &block, &[1, 2]);
-    let again = second_result(&rt, alloc);
-    check(&rt, "it is of another", is_strange(&mut block, again));
+    let (rt, alloc) = (&rt, rt.alloc());
+    let mut block = transform(rt, alloc);
+    take(rt, alloc, &mut block, "1");
+    take(rt, alloc, &mut block, "2");
+    take(rt, alloc, &mut block, "3");
+    let first = run_next(rt, alloc, &mut block, 0);
+    let second = run_next(rt, alloc, &mut block, 1);
+    begins_none(rt, alloc, &mut block);
+    bring_back(rt, &mut block, second);
+    leaves(rt, &block, &[]);
+    bring_back(rt, &mut block, first);
+    leaves(rt, &block, &[1, 2]);
+    let again = second_result(rt, alloc);
+    check(rt, "it is of another", is_strange(&mut block, again));
 }
 
 #[test]
 fn a_result_that_waits_keeps_no_lane_busy(rt: HostRuntime) {
-    let alloc = rt.alloc();
-    let mut block = transform(&rt, alloc);
-    take(&rt, alloc, &mut block, "1");
-    take(&rt, alloc, &mut block, "2");
-    take(&rt, alloc, &mut block, "3");
-    take(&rt, alloc, &mut block, "4");
-    let first = run_next(&rt, alloc, &mut block, 0);
-    let second = run_next(&rt, alloc, &mut block, 1);
-    bring_back(&rt, &mut block, second);
-    let third = run_next(&rt, alloc, &mut block, 2);
-    begins_none(&rt, alloc, &mut block);
-    bring_back(&rt, &mut block, third);
-    leaves(&rt, &block, &[]);
-    bring_back(&rt, &mut block, first);
-    leaves(&rt, &block, &[1, 2, 3]);
+    let (rt, alloc) = (&rt, rt.alloc());
+    let mut block = transform(rt, alloc);
+    take(rt, alloc, &mut block, "1");
+    take(rt, alloc, &mut block, "2");
+    take(rt, alloc, &mut block, "3");
+    take(rt, alloc, &mut block, "4");
+    let first = run_next(rt, alloc, &mut block, 0);
+    let second = run_next(rt, alloc, &mut block, 1);
+    bring_back(rt, &mut block, second);
+    let third = run_next(rt, alloc, &mut block, 2);
+    begins_none(rt, alloc, &mut block);
+    bring_back(rt, &mut block, third);
+    leaves(rt, &block, &[]);
+    bring_back(rt, &mut block, first);
+    leaves(rt, &block, &[1, 2, 3]);
 }
 
 #[test]

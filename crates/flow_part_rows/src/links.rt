@@ -92,13 +92,13 @@ fn plan(rt: &impl Abort, alloc: Global, draft: Draft<Steps>) -> Plan<Steps> {
 
 #[test]
 fn a_refused_draft_comes_back(rt: HostRuntime) {
-    let alloc = rt.alloc();
+    let (rt, alloc) = (&rt, rt.alloc());
     for (name, options, fault) in WRONG {
-        let Err((back, refusal)) = plan_check(alloc, draft(&rt, alloc, options)) else {
-            panic!(&rt; "{name}");
+        let Err((back, refusal)) = plan_check(alloc, draft(rt, alloc, options)) else {
+            panic!(rt; "{name}");
         };
-        check(&rt, name, refusal == PlanRefusal::Fault(*fault));
-        check(&rt, name, back.blocks.len() == 2 && back.links.len() == 1);
+        check(rt, name, refusal == PlanRefusal::Fault(*fault));
+        check(rt, name, back.blocks.len() == 2 && back.links.len() == 1);
     }
 }
 
@@ -142,43 +142,43 @@ fn leads(link: Link, source: LinkSource, target: LinkTarget) -> bool {
 
 #[test]
 fn links_of_inputs_follow_those_of_the_draft(rt: HostRuntime) {
-    let alloc = rt.alloc();
-    let draft = draft(&rt, alloc, &(BlockKind::Buffer, Some(0), None, None));
-    let plan = plan(&rt, alloc, draft);
+    let (rt, alloc) = (&rt, rt.alloc());
+    let draft = draft(rt, alloc, &(BlockKind::Buffer, Some(0), None, None));
+    let plan = plan(rt, alloc, draft);
     assert!(rt; plan.block_count() == 2 && plan.link_count() == 2);
     check(
-        &rt,
+        rt,
         "names",
         plan.find("b") == Some(1) && plan.find("c").is_none(),
     );
-    check(&rt, "inputs", plan.block(0).input && !plan.block(1).input);
+    check(rt, "inputs", plan.block(0).input && !plan.block(1).input);
     let (first, second) = (plan.link(0), plan.link(1));
     check(
-        &rt,
+        rt,
         "between",
         leads(first, LinkSource::Block(0), LinkTarget::Port(1, 0)),
     );
-    check(&rt, "its source", second.source == LinkSource::Input(0));
-    check(&rt, "its target", second.target == LinkTarget::Port(0, 0));
+    check(rt, "its source", second.source == LinkSource::Input(0));
+    check(rt, "its target", second.target == LinkTarget::Port(0, 0));
 }
 
 #[test]
 fn links_of_exits_follow_those_of_inputs(rt: HostRuntime) {
-    let alloc = rt.alloc();
-    let mut draft = draft(&rt, alloc, &(BlockKind::Buffer, None, None, None));
+    let (rt, alloc) = (&rt, rt.alloc());
+    let mut draft = draft(rt, alloc, &(BlockKind::Buffer, None, None, None));
     for block in &mut draft.blocks {
         block.output = true;
     }
-    let plan = plan(&rt, alloc, draft);
+    let plan = plan(rt, alloc, draft);
     assert!(rt; plan.link_count() == 4 && plan.input_count() == 1);
-    check(&rt, "in", plan.link(1).target == LinkTarget::Port(0, 0));
+    check(rt, "in", plan.link(1).target == LinkTarget::Port(0, 0));
     check(
-        &rt,
+        rt,
         "out of a",
         leads(plan.link(2), LinkSource::Block(0), LinkTarget::Exit),
     );
     check(
-        &rt,
+        rt,
         "out of b",
         leads(plan.link(3), LinkSource::Block(1), LinkTarget::Exit),
     );

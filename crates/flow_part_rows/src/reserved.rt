@@ -161,13 +161,13 @@ fn take_all<T: TargetBlock>(rt: &impl Abort, alloc: Global, target: &mut T, numb
 
 #[test]
 fn a_buffer_keeps_its_first_message_for_one_link(rt: HostRuntime) {
-    let alloc = rt.alloc();
-    let (mut source, first, second) = keeping(&rt, alloc, BlockKind::Buffer, &[5, 6]);
-    deny_second(&rt, &mut source, first, second);
+    let (rt, alloc) = (&rt, rt.alloc());
+    let (mut source, first, second) = keeping(rt, alloc, BlockKind::Buffer, &[5, 6]);
+    deny_second(rt, &mut source, first, second);
     source.release_reservation(7, first);
-    check(&rt, "both are left", source.left().len() == 2);
-    gives(&rt, alloc, &mut source, 7, 1, 5);
-    check(&rt, "one is left", source.left().len() == 1);
+    check(rt, "both are left", source.left().len() == 2);
+    gives(rt, alloc, &mut source, 7, 1, 5);
+    check(rt, "one is left", source.left().len() == 1);
 }
 
 #[test]

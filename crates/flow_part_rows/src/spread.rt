@@ -51,20 +51,20 @@ fn gives(rt: &impl Abort, spread: &mut Spread, link: LinkId, header: MessageHead
 
 #[test]
 fn each_link_is_given_a_copy(rt: HostRuntime) {
-    let alloc = rt.alloc();
-    let mut spread = spread(&rt, alloc, 4);
-    let first = offer(&rt, alloc, &mut spread, 0);
-    let second = offer(&rt, alloc, &mut spread, 1);
+    let (rt, alloc) = (&rt, rt.alloc());
+    let mut spread = spread(rt, alloc, 4);
+    let first = offer(rt, alloc, &mut spread, 0);
+    let second = offer(rt, alloc, &mut spread, 1);
     check(
-        &rt,
+        rt,
         "no more is offered",
         matches!(spread.next_offer(alloc), Ok(None)),
     );
-    gives(&rt, &mut spread, 0, first, 4);
-    check(&rt, "a copy is left", !spread.is_free());
-    gives(&rt, &mut spread, 1, second, 4);
+    gives(rt, &mut spread, 0, first, 4);
+    check(rt, "a copy is left", !spread.is_free());
+    gives(rt, &mut spread, 1, second, 4);
     check(
-        &rt,
+        rt,
         "no copy is left",
         spread.is_free() && spread.left().is_none(),
     );
