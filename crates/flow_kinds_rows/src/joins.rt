@@ -13,13 +13,13 @@ use std::process::Abort;
 
 #[test]
 fn a_greedy_join_makes_tuples(rt: HostRuntime) {
-    let alloc = rt.alloc();
-    let mut join: GreedyJoin = block(&rt, alloc, BlockKind::Join);
-    take(&rt, alloc, &mut join, 0, 5);
-    take(&rt, alloc, &mut join, 0, 6);
-    take(&rt, alloc, &mut join, 1, 9);
-    gives(&rt, alloc, &mut join, &[(2, 1, "(5,9)")]);
-    check(&rt, "its ports", join.block().port_count() == 2);
+    let (rt, alloc) = (&rt, rt.alloc());
+    let mut join: GreedyJoin = block(rt, alloc, BlockKind::Join);
+    take(rt, alloc, &mut join, 0, 5);
+    take(rt, alloc, &mut join, 0, 6);
+    take(rt, alloc, &mut join, 1, 9);
+    gives(rt, alloc, &mut join, &[(2, 1, "(5,9)")]);
+    check(rt, "its ports", join.block().port_count() == 2);
 }
 
 /// Whether a value is a row of this one number.
@@ -40,19 +40,19 @@ fn is_group(value: &Value, left: i64, right: i64) -> bool {
 
 #[test]
 fn a_batched_join_groups_as_messages_came(rt: HostRuntime) {
-    let alloc = rt.alloc();
-    let mut join = batched_join(&rt, alloc);
-    take(&rt, alloc, &mut join, 1, 9);
-    take(&rt, alloc, &mut join, 0, 5);
-    take(&rt, alloc, &mut join, 0, 6);
-    makes(&rt, alloc, &mut join, true);
-    makes(&rt, alloc, &mut join, false);
-    check(&rt, "one waits", join.waiting() == 1);
-    let Some((2, 1, group)) = give(&rt, alloc, &mut join) else {
-        panic!(&rt; "it has no first group");
+    let (rt, alloc) = (&rt, rt.alloc());
+    let mut join = batched_join(rt, alloc);
+    take(rt, alloc, &mut join, 1, 9);
+    take(rt, alloc, &mut join, 0, 5);
+    take(rt, alloc, &mut join, 0, 6);
+    makes(rt, alloc, &mut join, true);
+    makes(rt, alloc, &mut join, false);
+    check(rt, "one waits", join.waiting() == 1);
+    let Some((2, 1, group)) = give(rt, alloc, &mut join) else {
+        panic!(rt; "it has no first group");
     };
-    check(&rt, "its group", is_group(&group, 5, 9));
-    tells(&rt, &mut join, None);
+    check(rt, "its group", is_group(&group, 5, 9));
+    tells(rt, &mut join, None);
 }
 
 /// The target puts off the offer over this link.
@@ -83,17 +83,17 @@ fn asks<T: TargetBlock>(rt: &impl Abort, target: &mut T, link: LinkId, header: M
 
 #[test]
 fn a_reserving_join_takes_one_of_each_or_none(rt: HostRuntime) {
-    let alloc = rt.alloc();
-    let mut join = reserving_join(&rt, alloc);
-    let (one, two) = (header(&rt, 1), header(&rt, 2));
-    offer(&rt, alloc, &mut join, 1, two);
-    offer(&rt, alloc, &mut join, 0, one);
-    asks(&rt, &mut join, 0, one);
+    let (rt, alloc) = (&rt, rt.alloc());
+    let mut join = reserving_join(rt, alloc);
+    let (one, two) = (header(rt, 1), header(rt, 2));
+    offer(rt, alloc, &mut join, 1, two);
+    offer(rt, alloc, &mut join, 0, one);
+    asks(rt, &mut join, 0, one);
     join.note_wish(0, WishAnswer::Held);
-    asks(&rt, &mut join, 1, two);
+    asks(rt, &mut join, 1, two);
     join.note_wish(1, WishAnswer::NotAvailable);
-    check(&rt, "it gives one up", join.next_wish() == Wish::Release(0));
-    check(&rt, "it waits", join.next_wish() == Wish::None);
-    makes(&rt, alloc, &mut join, false);
-    check(&rt, "it has none", join.left().is_empty());
+    check(rt, "it gives one up", join.next_wish() == Wish::Release(0));
+    check(rt, "it waits", join.next_wish() == Wish::None);
+    makes(rt, alloc, &mut join, false);
+    check(rt, "it has none", join.left().is_empty());
 }

@@ -49,13 +49,13 @@ fn is_only(values: &[Value], number: i64) -> bool {
 
 #[test]
 fn an_action_records(rt: HostRuntime) {
-    let alloc = rt.alloc();
-    let mut action: Action<Steps> = execution(&rt, alloc, BlockKind::Action);
-    take_text(&rt, alloc, &mut action, 0, "5");
-    makes(&rt, alloc, &mut action, false);
-    work(&rt, alloc, &mut action, 0);
-    check(&rt, "its record", is_only(action.record(), 5));
-    tells(&rt, &mut action, None);
+    let (rt, alloc) = (&rt, rt.alloc());
+    let mut action: Action<Steps> = execution(rt, alloc, BlockKind::Action);
+    take_text(rt, alloc, &mut action, 0, "5");
+    makes(rt, alloc, &mut action, false);
+    work(rt, alloc, &mut action, 0);
+    check(rt, "its record", is_only(action.record(), 5));
+    tells(rt, &mut action, None);
 }
 
 /// The block takes the result back.
@@ -71,24 +71,24 @@ fn bring_back<K: WorkKind>(
 
 #[test]
 fn a_transform_gives_results_in_order(rt: HostRuntime) {
-    let alloc = rt.alloc();
-    let mut transform: Transform<Steps> = execution(&rt, alloc, BlockKind::Transform);
-    take_text(&rt, alloc, &mut transform, 0, "1");
-    take_text(&rt, alloc, &mut transform, 1, "2");
-    let first = run_next(&rt, alloc, &mut transform, 0);
-    let second = run_next(&rt, alloc, &mut transform, 1);
-    bring_back(&rt, &mut transform, second);
-    bring_back(&rt, &mut transform, first);
-    gives(&rt, alloc, &mut transform, &[(2, 1, "1"), (2, 2, "2")]);
+    let (rt, alloc) = (&rt, rt.alloc());
+    let mut transform: Transform<Steps> = execution(rt, alloc, BlockKind::Transform);
+    take_text(rt, alloc, &mut transform, 0, "1");
+    take_text(rt, alloc, &mut transform, 1, "2");
+    let first = run_next(rt, alloc, &mut transform, 0);
+    let second = run_next(rt, alloc, &mut transform, 1);
+    bring_back(rt, &mut transform, second);
+    bring_back(rt, &mut transform, first);
+    gives(rt, alloc, &mut transform, &[(2, 1, "1"), (2, 2, "2")]);
 }
 
 #[test]
 fn a_transform_many_gives_all_results(rt: HostRuntime) {
-    let alloc = rt.alloc();
-    let mut many: TransformMany<Steps> = execution(&rt, alloc, BlockKind::TransformMany);
-    take_text(&rt, alloc, &mut many, 0, "7");
-    work(&rt, alloc, &mut many, 0);
-    gives(&rt, alloc, &mut many, &[(2, 1, "7")]);
+    let (rt, alloc) = (&rt, rt.alloc());
+    let mut many: TransformMany<Steps> = execution(rt, alloc, BlockKind::TransformMany);
+    take_text(rt, alloc, &mut many, 0, "7");
+    work(rt, alloc, &mut many, 0);
+    gives(rt, alloc, &mut many, &[(2, 1, "7")]);
 }
 
 /// Whether the block hands the result back, since no job of its own is out that it could be of.
@@ -98,10 +98,10 @@ fn is_strange<K: WorkKind>(block: &mut TypedExecution<K, Steps>, done: JobResult
 
 #[test]
 fn a_result_of_another_block_is_strange(rt: HostRuntime) {
-    let alloc = rt.alloc();
-    let mut transform: Transform<Steps> = execution(&rt, alloc, BlockKind::Transform);
-    let mut equal: Transform<Steps> = execution(&rt, alloc, BlockKind::Transform);
-    take_text(&rt, alloc, &mut equal, 0, "1");
-    let done = run_next(&rt, alloc, &mut equal, 0);
-    check(&rt, "it is of another", is_strange(&mut transform, done));
+    let (rt, alloc) = (&rt, rt.alloc());
+    let mut transform: Transform<Steps> = execution(rt, alloc, BlockKind::Transform);
+    let mut equal: Transform<Steps> = execution(rt, alloc, BlockKind::Transform);
+    take_text(rt, alloc, &mut equal, 0, "1");
+    let done = run_next(rt, alloc, &mut equal, 0);
+    check(rt, "it is of another", is_strange(&mut transform, done));
 }
