@@ -1,4 +1,5 @@
 //! Where values were in a run.
+use crate::check::check;
 use crate::reports;
 use flow_reading::read_report;
 use flow_verdict::write_trace;
@@ -63,7 +64,7 @@ fn trace(alloc: Global, report: &str, value: &str) -> Result<String, Fail> {
 fn values_are_traced(rt: HostRuntime) -> Result<(), Fail> {
     for (report, value, due) in TRACES {
         let trace = trace(rt.alloc(), report, value)?;
-        assert_eq!(rt; trace.as_str(), *due);
+        check(&rt, due, trace.as_str() == *due);
     }
     Ok(())
 }
