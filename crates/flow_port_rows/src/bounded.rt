@@ -1,9 +1,10 @@
 //! A buffer with room for one message, with an entry and an exit: what each call answers, with the network given back between
 //! two uses.
 
-use crate::networks::{STEPS, buffer};
+use crate::entries::{entry_of, has_no_entry};
+use crate::networks::{STEPS, buffer, settles};
 use flow_link::{Ending, Outcome};
-use flow_net::{Net, NetEntry, NetExit, Settled};
+use flow_net::{Net, NetEntry, NetExit};
 use flow_poll::{
     Delivery, OutputAvailable, Post, Receipt, Receive, SendAsync, SendFault, SendPort, SendRefusal,
     Sent,
@@ -17,7 +18,7 @@ use std::process::Abort;
 use std::random::RandomSource;
 
 /// What became of a number that was sent.
-#[derive(Clone, Copy, Debug, PartialEq, Eq)]
+#[derive(Clone, Copy, PartialEq)]
 enum Became {
     Accepted,
     Declined(i64),
@@ -36,13 +37,6 @@ fn outcome_of(answer: Result<Delivery, SendRefusal>) -> Became {
     }
 }
 
-fn entry(rt: &impl Abort, net: Net<Steps>) -> NetEntry<Steps> {
-    let Ok(entry) = net.entry(0, STEPS) else {
-        panic!(rt; "no entry");
-    };
-    entry
-}
-
 fn exit(rt: &impl Abort, net: Net<Steps>) -> NetExit<Steps> {
     let Ok(exit) = net.exit(0, STEPS) else {
         panic!(rt; "no exit");
@@ -50,23 +44,25 @@ fn exit(rt: &impl Abort, net: Net<Steps>) -> NetExit<Steps> {
     exit
 }
 
-/// Posts a number in one poll, at an entry that is made for it.
-fn post(
+/// Posts a number in one poll, at an entry that is made for it, and this becomes of it.
+fn posts(
     rt: &(impl Abort + RandomSource + AllocGlobal),
     alloc: Global,
     net: Net<Steps>,
     number: i64,
-) -> (Net<Steps>, Became) {
-    post_at(rt, alloc, entry(rt, net), number)
+    became: Became,
+) -> Net<Steps> {
+    posts_at(rt, alloc, entry_of(rt, net), number, became)
 }
 
 /// Posts a number at this entry, in one poll.
-fn post_at(
+fn posts_at(
     rt: &(impl Abort + RandomSource + AllocGlobal),
     alloc: Global,
     port: NetEntry<Steps>,
     number: i64,
-) -> (Net<Steps>, Became) {
+    became: Became,
+) -> Net<Steps> {
     let Ok(task) = MockTask::new(rt) else {
         panic!(rt; "out of memory");
     };
@@ -74,15 +70,19 @@ fn post_at(
     let Poll::Ready((port, answer)) = task.poll(&mut posting) else {
         panic!(rt; "a post waits");
     };
-    (port.into_net(), outcome_of(answer))
+    if outcome_of(answer) != became {
+        panic!(rt; "something else becomes of {number}");
+    }
+    port.into_net()
 }
 
-/// Receives in one poll: a number, or how the block ended.
-fn receive(
+/// Receives in one poll: this number, or how the block ended.
+fn receives(
     rt: &(impl Abort + RandomSource + AllocGlobal),
     alloc: Global,
     net: Net<Steps>,
-) -> (Net<Steps>, Result<i64, Outcome>) {
+    what: Result<i64, Outcome>,
+) -> Net<Steps> {
     let Ok(task) = MockTask::new(rt) else {
         panic!(rt; "out of memory");
     };
@@ -95,26 +95,33 @@ fn receive(
         Ok(Receipt::Ended(how)) => Err(how),
         Ok(Receipt::Message(_)) | Err(_) => panic!(rt; "a strange receipt"),
     };
-    (port.into_net(), received)
+    if received != what {
+        panic!(rt; "something else comes");
+    }
+    port.into_net()
 }
 
-/// Whether there is output, in one poll.
-fn available(
+/// There is output, or there will be none, in one poll.
+fn tells(
     rt: &(impl Abort + RandomSource + AllocGlobal),
     alloc: Global,
     net: Net<Steps>,
-) -> (Net<Steps>, bool) {
+    is_there: bool,
+) -> Net<Steps> {
     let Ok(task) = MockTask::new(rt) else {
         panic!(rt; "out of memory");
     };
     let mut watching = OutputAvailable::new(alloc, exit(rt, net));
-    let Poll::Ready((port, there)) = task.poll(&mut watching) else {
+    let Poll::Ready((port, told)) = task.poll(&mut watching) else {
         panic!(rt; "nothing is in sight");
     };
-    let Ok(there) = there else {
+    let Ok(told) = told else {
         panic!(rt; "out of memory");
     };
-    (port.into_net(), there)
+    if told != is_there {
+        panic!(rt; "it tells something else");
+    }
+    port.into_net()
 }
 
 /// Polls a future that is pending then, and has yielded.
@@ -140,62 +147,62 @@ fn send_later(
     net: Net<Steps>,
     number: i64,
 ) -> Net<Steps> {
-    let mut sending = SendAsync::new(alloc, entry(rt, net), Value::Int(number));
+    let mut sending = SendAsync::new(alloc, entry_of(rt, net), Value::Int(number));
     wait(rt, &mut sending);
     sending.into_port().into_net()
+}
+
+/// The entry tells that its value is accepted, as the last of so many.
+fn accepts(rt: &impl Abort, alloc: Global, port: &mut NetEntry<Steps>, count: usize) {
+    let Ok(Sent::Accepted) = port.look(alloc) else {
+        panic!(rt; "it is not accepted");
+    };
+    if port.accepted().len() != count {
+        panic!(rt; "another number of values is accepted");
+    }
 }
 
 #[test]
 fn a_bounded_buffer_takes_what_it_has_room_for(rt: HostRuntime) {
     let alloc = rt.alloc();
     let net = buffer(&rt, alloc, Ending::Open);
-    let (net, first) = post(&rt, alloc, net, 1);
-    assert!(rt; first == Became::Accepted);
-    let (net, second) = post(&rt, alloc, net, 2);
-    assert!(rt; second == Became::Declined(2));
+    let net = posts(&rt, alloc, net, 1, Became::Accepted);
+    let net = posts(&rt, alloc, net, 2, Became::Declined(2));
     let net = send_later(&rt, alloc, net, 2);
-    let (net, busy) = post(&rt, alloc, net, 9);
-    assert!(rt; busy == Became::Busy(9));
-    let (net, received) = receive(&rt, alloc, net);
-    assert!(rt; received == Ok(1));
-    let mut port = entry(&rt, net);
-    assert!(rt; matches!(port.look(alloc), Ok(Sent::Accepted)));
-    assert!(rt; port.accepted().len() == 2);
-    let (net, there) = available(&rt, alloc, port.into_net());
-    assert!(rt; there);
-    let (net, received) = receive(&rt, alloc, net);
-    assert!(rt; received == Ok(2));
-    let mut port = entry(&rt, net);
-    assert!(rt; port.finish(Ending::Complete) == Ok(()));
-    let (net, last) = post_at(&rt, alloc, port, 3);
-    assert!(rt; last == Became::Permanently(3));
-    let (_net, received) = receive(&rt, alloc, net);
-    assert!(rt; received == Err(Outcome::Done));
+    let net = posts(&rt, alloc, net, 9, Became::Busy(9));
+    let net = receives(&rt, alloc, net, Ok(1));
+    let mut port = entry_of(&rt, net);
+    accepts(&rt, alloc, &mut port, 2);
+    let net = tells(&rt, alloc, port.into_net(), true);
+    let net = receives(&rt, alloc, net, Ok(2));
+    let mut port = entry_of(&rt, net);
+    let Ok(()) = port.finish(Ending::Complete) else {
+        panic!(rt; "it is busy");
+    };
+    let net = posts_at(&rt, alloc, port, 3, Became::Permanently(3));
+    let _net = receives(&rt, alloc, net, Err(Outcome::Done));
 }
 
 #[test]
 fn a_declined_value_is_not_posted(rt: HostRuntime) {
     let alloc = rt.alloc();
     let net = buffer(&rt, alloc, Ending::Open);
-    let (net, _) = post(&rt, alloc, net, 1);
-    let (mut net, second) = post(&rt, alloc, net, 2);
-    assert!(rt; second == Became::Declined(2));
+    let net = posts(&rt, alloc, net, 1, Became::Accepted);
+    let mut net = posts(&rt, alloc, net, 2, Became::Declined(2));
     let Some(block) = net.plan().find("b") else {
         panic!(rt; "no block");
     };
     assert!(rt; net.posted(block).len() == 1);
-    assert!(rt; matches!(net.settle(alloc, STEPS), Ok(Settled::Quiet)));
+    settles(&rt, alloc, &mut net);
 }
 
 #[test]
 fn an_exit_of_a_block_that_has_ended_is_over(rt: HostRuntime) {
     let alloc = rt.alloc();
     let net = buffer(&rt, alloc, Ending::Complete);
-    let (net, received) = receive(&rt, alloc, net);
-    assert!(rt; received == Err(Outcome::Done));
-    let (net, there) = available(&rt, alloc, net);
-    assert!(rt; !there);
-    assert!(rt; net.entry(0, STEPS).is_err());
+    let net = receives(&rt, alloc, net, Err(Outcome::Done));
+    let net = tells(&rt, alloc, net, false);
+    has_no_entry(&rt, net, 0);
 }
 
 #[test]

@@ -1,8 +1,10 @@
 //! Entries of networks, by their calls.
+ghost use Rattle.std.specs.Prelude.{◌≡◌, true};
+ghost use Rattle.flow_link.specs.Posted.{is_numbered_ending};
 
-use crate::networks::{STEPS, network};
+use crate::networks::{STEPS, network, settles};
 use flow_link::Ending;
-use flow_net::{Net, NetEntry, Settled};
+use flow_net::{Net, NetEntry};
 use flow_poll::{SendFault, SendPort, Sent};
 use flow_value::{Steps, Value};
 use std::alloc::Global;
@@ -10,12 +12,18 @@ use std::process::Abort;
 
 /// The entry of the buffer in front of the block that doubles, where this is posted before.
 fn entry(rt: &impl Abort, alloc: Global, numbers: &[i64]) -> NetEntry<Steps> {
-    let Ok(entry) = network(rt, alloc, numbers, false, Ending::Open).entry(0, STEPS) else {
+    entry_of(rt, network(rt, alloc, numbers, false, Ending::Open))
+}
+
+/// The entry of the first block of a network.
+pub(crate) fn entry_of(rt: &impl Abort, net: Net<Steps>) -> NetEntry<Steps> {
+    let Ok(entry) = net.entry(0, STEPS) else {
         panic!(rt; "no entry");
     };
     entry
 }
 
+/// A number is begun.
 fn begin(
     rt: &impl Abort,
     alloc: Global,
@@ -23,15 +31,32 @@ fn begin(
     number: i64,
     may_postpone: bool,
 ) {
-    assert!(rt; port.begin(alloc, Value::Int(number), may_postpone).is_ok());
+    let Ok(()) = port.begin(alloc, Value::Int(number), may_postpone) else {
+        panic!(rt; "{number} is not begun");
+    };
 }
 
-fn accepts(alloc: Global, port: &mut NetEntry<Steps>) -> bool {
-    matches!(port.look(alloc), Ok(Sent::Accepted))
+/// The next value is accepted.
+fn accepts(rt: &impl Abort, alloc: Global, port: &mut NetEntry<Steps>) {
+    let Ok(Sent::Accepted) = port.look(alloc) else {
+        panic!(rt; "it is not accepted");
+    };
 }
 
-fn is_idle(alloc: Global, port: &mut NetEntry<Steps>) -> bool {
-    matches!(port.look(alloc), Ok(Sent::Idle))
+/// No value is under way.
+fn is_idle(rt: &impl Abort, alloc: Global, port: &mut NetEntry<Steps>) {
+    let Ok(Sent::Idle) = port.look(alloc) else {
+        panic!(rt; "something is under way");
+    };
+}
+
+/// The input ends so, or is busy.
+fn finishes(rt: &impl Abort, port: &mut NetEntry<Steps>, how: Ending, answer: Result<(), SendFault>)
+    requires { is_numbered_ending how ≡ true }
+{
+    if port.finish(how) != answer {
+        panic!(rt; "another answer to {how:?}");
+    }
 }
 
 #[test]
@@ -41,11 +66,11 @@ fn what_was_posted_before_is_told_first(rt: HostRuntime) {
     let Err((Value::Int(3), SendFault::Busy)) = port.begin(alloc, Value::Int(3), true) else {
         panic!(rt; "a value was begun beside others");
     };
-    assert!(rt; accepts(alloc, &mut port));
-    assert!(rt; accepts(alloc, &mut port));
-    assert!(rt; is_idle(alloc, &mut port));
+    accepts(&rt, alloc, &mut port);
+    accepts(&rt, alloc, &mut port);
+    is_idle(&rt, alloc, &mut port);
     begin(&rt, alloc, &mut port, 3, true);
-    assert!(rt; accepts(alloc, &mut port));
+    accepts(&rt, alloc, &mut port);
     assert!(rt; port.accepted().len() == 3);
 }
 
@@ -54,15 +79,15 @@ fn an_entry_ends_its_input_once(rt: HostRuntime) {
     let alloc = rt.alloc();
     let mut port = entry(&rt, alloc, &[]);
     begin(&rt, alloc, &mut port, 1, false);
-    assert!(rt; port.finish(Ending::Complete) == Err(SendFault::Busy));
-    assert!(rt; accepts(alloc, &mut port));
-    assert!(rt; port.finish(Ending::Fault(7)) == Ok(()));
-    assert!(rt; port.finish(Ending::Complete) == Ok(()));
+    finishes(&rt, &mut port, Ending::Complete, Err(SendFault::Busy));
+    accepts(&rt, alloc, &mut port);
+    finishes(&rt, &mut port, Ending::Fault(7), Ok(()));
+    finishes(&rt, &mut port, Ending::Complete, Ok(()));
     begin(&rt, alloc, &mut port, 2, true);
     let Ok(Sent::Permanently(Value::Int(2))) = port.look(alloc) else {
         panic!(rt; "a value was taken after the end");
     };
-    assert!(rt; is_idle(alloc, &mut port));
+    is_idle(&rt, alloc, &mut port);
 }
 
 #[test]
@@ -70,26 +95,23 @@ fn what_is_under_way_stays_for_the_next_entry(rt: HostRuntime) {
     let alloc = rt.alloc();
     let mut port = entry(&rt, alloc, &[]);
     begin(&rt, alloc, &mut port, 1, false);
-    let mut net: Net<Steps> = port.into_net();
-    assert!(rt; matches!(net.settle(alloc, STEPS), Ok(Settled::Quiet)));
-    let Ok(mut port) = net.entry(0, STEPS) else {
-        panic!(rt; "no entry");
-    };
-    assert!(rt; accepts(alloc, &mut port));
-    assert!(rt; is_idle(alloc, &mut port));
+    let mut net = port.into_net();
+    settles(&rt, alloc, &mut net);
+    let mut port = entry_of(&rt, net);
+    accepts(&rt, alloc, &mut port);
+    is_idle(&rt, alloc, &mut port);
+}
+
+/// There is no entry of this block.
+pub(crate) fn has_no_entry(rt: &impl Abort, net: Net<Steps>, block: usize) {
+    if net.entry(block, STEPS).is_ok() {
+        panic!(rt; "it has an entry");
+    }
 }
 
 #[test]
 fn a_block_that_is_no_input_gives_the_network_back(rt: HostRuntime) {
     let alloc = rt.alloc();
-    assert!(rt;
-        network(&rt, alloc, &[], false, Ending::Open)
-            .entry(1, STEPS)
-            .is_err()
-    );
-    assert!(rt;
-        network(&rt, alloc, &[], false, Ending::Complete)
-            .entry(0, STEPS)
-            .is_err()
-    );
+    has_no_entry(&rt, network(&rt, alloc, &[], false, Ending::Open), 1);
+    has_no_entry(&rt, network(&rt, alloc, &[], false, Ending::Complete), 0);
 }

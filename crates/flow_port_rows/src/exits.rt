@@ -1,8 +1,8 @@
 //! Exits of networks: by their calls, and by futures.
 
-use crate::networks::{STEPS, exit, network};
+use crate::networks::{STEPS, exit, network, settles};
 use flow_link::{Ending, Outcome};
-use flow_net::{NetExit, Settled};
+use flow_net::{Net, NetExit};
 use flow_poll::{OutputAvailable, Receipt, Receive, ReceivePort, Received};
 use flow_value::{Steps, Value};
 use futures::task::Poll;
@@ -11,7 +11,7 @@ use std::alloc::Global;
 use std::process::Abort;
 
 /// What a receive answers: a number, the outcome, or nothing yet.
-#[derive(Clone, Copy, Debug, PartialEq, Eq)]
+#[derive(Clone, Copy, PartialEq)]
 enum Told {
     Number(i64),
     Ended(Outcome),
@@ -19,71 +19,75 @@ enum Told {
     Strange,
 }
 
-fn receive(rt: &impl Abort, alloc: Global, port: &mut NetExit<Steps>) -> Told {
-    match port.try_receive(alloc) {
+/// The exit gives this.
+fn receives(rt: &impl Abort, alloc: Global, port: &mut NetExit<Steps>, what: Told) {
+    let told = match port.try_receive(alloc) {
         Ok(Received::Message(Value::Int(number))) => Told::Number(number),
         Ok(Received::Ended(how)) => Told::Ended(how),
         Ok(Received::Waiting) => Told::Waiting,
         Ok(Received::Message(Value::Text(_) | Value::Row(_))) => Told::Strange,
         Err(_) => panic!(rt; "out of memory"),
+    };
+    if told != what {
+        panic!(rt; "it gives something else");
     }
 }
 
-fn available(rt: &impl Abort, alloc: Global, port: &mut NetExit<Steps>) -> Option<bool> {
+/// Whether a message is there is told so.
+fn tells(rt: &impl Abort, alloc: Global, port: &mut NetExit<Steps>, what: Option<bool>) {
     let Ok(told) = port.available(alloc) else {
         panic!(rt; "out of memory");
     };
-    told
+    if told != what {
+        panic!(rt; "it tells something else");
+    }
 }
 
 #[test]
 fn messages_come_out_in_order_and_then_the_end(rt: HostRuntime) {
     let alloc = rt.alloc();
-    let mut port = exit(
-        &rt,
-        network(&rt, alloc, &[1, 2, 3], false, Ending::Complete),
-    );
+    let net = network(&rt, alloc, &[1, 2, 3], false, Ending::Complete);
+    let mut port = exit(&rt, net);
     for number in [2, 4, 6] {
-        assert!(rt; available(&rt, alloc, &mut port) == Some(true));
-        assert!(rt; receive(&rt, alloc, &mut port) == Told::Number(number));
+        tells(&rt, alloc, &mut port, Some(true));
+        receives(&rt, alloc, &mut port, Told::Number(number));
     }
-    assert!(rt; receive(&rt, alloc, &mut port) == Told::Ended(Outcome::Done));
-    assert!(rt; available(&rt, alloc, &mut port) == Some(false));
+    receives(&rt, alloc, &mut port, Told::Ended(Outcome::Done));
+    tells(&rt, alloc, &mut port, Some(false));
 }
 
 #[test]
 fn an_exit_tells_a_fault(rt: HostRuntime) {
     let alloc = rt.alloc();
     let mut port = exit(&rt, network(&rt, alloc, &[1], true, Ending::Complete));
-    assert!(rt; receive(&rt, alloc, &mut port) == Told::Number(2));
-    assert!(rt; receive(&rt, alloc, &mut port) == Told::Ended(Outcome::Faulted(1)));
+    receives(&rt, alloc, &mut port, Told::Number(2));
+    receives(&rt, alloc, &mut port, Told::Ended(Outcome::Faulted(1)));
 }
 
 #[test]
 fn a_network_comes_back_as_it_is(rt: HostRuntime) {
     let alloc = rt.alloc();
     let mut port = exit(&rt, network(&rt, alloc, &[1, 2], false, Ending::Complete));
-    assert!(rt; receive(&rt, alloc, &mut port) == Told::Number(2));
+    receives(&rt, alloc, &mut port, Told::Number(2));
     let mut net = port.into_net();
-    assert!(rt; matches!(net.settle(alloc, STEPS), Ok(Settled::Quiet)));
+    settles(&rt, alloc, &mut net);
     let mut port = exit(&rt, net);
-    assert!(rt; receive(&rt, alloc, &mut port) == Told::Number(4));
-    assert!(rt; receive(&rt, alloc, &mut port) == Told::Ended(Outcome::Done));
+    receives(&rt, alloc, &mut port, Told::Number(4));
+    receives(&rt, alloc, &mut port, Told::Ended(Outcome::Done));
+}
+
+/// There is no exit of this block.
+fn has_no_exit(rt: &impl Abort, net: Net<Steps>, block: usize) {
+    if net.exit(block, STEPS).is_ok() {
+        panic!(rt; "it has an exit");
+    }
 }
 
 #[test]
 fn a_block_without_an_exit_gives_the_network_back(rt: HostRuntime) {
     let alloc = rt.alloc();
-    assert!(rt;
-        network(&rt, alloc, &[1], false, Ending::Complete)
-            .exit(0, STEPS)
-            .is_err()
-    );
-    assert!(rt;
-        network(&rt, alloc, &[1], false, Ending::Complete)
-            .exit(2, STEPS)
-            .is_err()
-    );
+    has_no_exit(&rt, network(&rt, alloc, &[1], false, Ending::Complete), 0);
+    has_no_exit(&rt, network(&rt, alloc, &[1], false, Ending::Complete), 2);
 }
 
 #[test]
@@ -92,8 +96,8 @@ fn a_look_does_no_more_events_than_it_may(rt: HostRuntime) {
     let Ok(mut port) = network(&rt, alloc, &[1], false, Ending::Complete).exit(1, 1) else {
         panic!(rt; "no exit");
     };
-    assert!(rt; available(&rt, alloc, &mut port).is_none());
-    assert!(rt; receive(&rt, alloc, &mut port) == Told::Waiting);
+    tells(&rt, alloc, &mut port, None);
+    receives(&rt, alloc, &mut port, Told::Waiting);
 }
 
 #[test]

@@ -3,7 +3,7 @@
 use anyhow::Result;
 use flow_front::Inputs;
 use flow_link::{BlockDef, BlockKind, Draft, Ending, LinkDef};
-use flow_net::{Net, NetExit};
+use flow_net::{Net, NetExit, Settled};
 use flow_value::{Steps, Text, Value};
 use std::alloc::Global;
 use std::process::Abort;
@@ -99,4 +99,11 @@ pub(crate) fn exit(rt: &impl Abort, net: Net<Steps>) -> NetExit<Steps> {
         panic!(rt; "no exit");
     };
     exit
+}
+
+/// The network comes to rest.
+pub(crate) fn settles(rt: &impl Abort, alloc: Global, net: &mut Net<Steps>) {
+    let Ok(Settled::Quiet) = net.settle(alloc, STEPS) else {
+        panic!(rt; "it does not come to rest");
+    };
 }
