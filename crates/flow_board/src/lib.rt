@@ -1,8 +1,33 @@
-//! Blocks on threads. So far: that a block with its journal may go to another thread, and each part of it.
+//! Blocks on threads. A network is scattered into tasks, one for each block and each input, over links that they share; each task is
+//! turned on any thread, one turn at a time; and wherever the turns stop, the parts are gathered to a lawful network.
 #![tactic(auto)]
 
+mod apart;
+mod board;
+mod close;
+mod frame;
+mod gathering;
+mod home;
+mod input_task;
 mod laws;
+mod make;
+mod missing;
+mod numbered;
+mod over;
+mod own;
+mod room;
+mod scattering;
+mod sources;
+mod targets;
+mod task;
+mod turn;
+mod wires;
+mod words;
 
+pub use board::Board;
+pub use gathering::{GatherFault, gather};
 pub use laws::{
     intakes_cross, marks_cross, nodes_cross, outlets_cross, spreads_cross, values_cross,
 };
+pub use numbered::{Entry, Exit, Parts, Task};
+pub use scattering::scatter;

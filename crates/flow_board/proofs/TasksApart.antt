@@ -1,0 +1,40 @@
+-- What the next task is, by its number.
+use Rattle.std.proofs.Common.{◌≡◌, ℕ, ◌+◌, ◌≤◌, ◌==◌, true, length, sym, ap, ◌∙◌, subst, arith}
+use Rattle.std.proofs.lemmas.Bool.{and_parts, eqb-true}
+use Rattle.flow_link.specs.Planned.{layout_of}
+use Rattle.flow_board.specs.Numbers.{place_in, is_closed, closed_before, is_input_number}
+use Rattle.flow_board.specs.Kinds.{is_task_number}
+use Rattle.flow_board.specs.Parts.{board_by}
+use Rattle.flow_board.specs.declared.board.Board.{Board}
+use Rattle.flow_board.specs.declared.input_task.InputTask.{InputTask}
+use Rattle.flow_board.specs.declared.numbered.Kind.{Kind}
+use Rattle.flow_board.specs.declared.numbered.Kind.TheVariants as kind
+use Rattle.flow_board.specs.declared.task.BlockTask.{BlockTask}
+
+module _ {W : Type 0} {w : _} {e : _} (of : Board W) (it : Kind W w e) (n : ℕ) (its : board_by it ≡ of)
+    (numbered : is_task_number it n ≡ true) where
+  -- a block has its own number
+  pub block_board : (task : BlockTask W w e) → it ≡ kind.Block task → task.of.value ≡ of
+  block_board task is = sym (ap board_by is) ∙ its
+
+  pub block_number : (task : BlockTask W w e) → it ≡ kind.Block task → task.number ≡ n
+  block_number task is = eqb-true task.number n (sym (ap (λ (k : Kind W w e). is_task_number k n) is) ∙ numbered)
+
+  -- an input's number comes after those of blocks
+  pub input_board : (task : InputTask W w e) → it ≡ kind.Input task → task.of.value ≡ of
+  input_board task is = sym (ap board_by is) ∙ its
+
+  pub input_number : (task : InputTask W w e) → it ≡ kind.Input task
+      → is_input_number (layout_of of.rest.plan) of.opens.items task.link n ≡ true
+  input_number task is =
+      subst (λ (board : Board W). is_input_number (layout_of board.rest.plan) board.opens.items task.link n ≡ true) (input_board task is)
+      (sym (ap (λ (k : Kind W w e). is_task_number k n) is) ∙ numbered)
+
+  pub input_later : (task : InputTask W w e) → it ≡ kind.Input task → length (layout_of of.rest.plan).blocks ≤ n
+  input_later task is =
+      let layout = layout_of of.rest.plan in
+      let before = closed_before layout of.opens.items (place_in layout task.link) in
+      let place = place_in layout task.link in
+      let parts = and_parts (is_closed layout of.opens.items place) ((length layout.blocks + before) == n) (input_number task is) in
+      let same : length layout.blocks + before ≡ n = eqb-true (length layout.blocks + before) n parts.1 in
+      omega (arith, same)

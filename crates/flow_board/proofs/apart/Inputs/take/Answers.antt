@@ -1,0 +1,38 @@
+use Rattle.std.proofs.Common.{◌≡◌, ℕ, ◌≤◌, length, get_or, sym, subst, arith}
+use Rattle.flow_link.specs.Planned.{layout_of}
+use Rattle.flow_input.specs.Input.{no_input}
+use Rattle.flow_board.specs.Inputs.{input_due, links_of_inputs}
+use Rattle.flow_board.specs.Known.{out_known}
+use Rattle.flow_board.specs.declared.board.Board.{Board}
+use Rattle.flow_board.proofs.InputsTaken.{due_at, input_more}
+use Rattle.flow_board.proofs.Places.{count_is}
+use Rattle.flow_board.proofs.TakenApart.{known_there}
+use Rattle.flow_board.proofs.apart.Inputs.take.Goals as goal
+
+pub push_reserved-requires-in-loop-place : goal.push_reserved-requires-in-loop-place
+push_reserved-requires-in-loop-place g c =
+    let i = c.loop-place.invariant in
+    let board = c.args.board.now in
+    let due = λ (k : ℕ). due_at (layout_of board.rest.plan) board.wires.items (get_or c.loop-place.self.inputs.items k no_input) k in
+    let many = count_is out_known due c.loop-place.place c.loop-place.self.ends.items i.0.ends_know in
+    omega (arith, many, c.loop-place.self.ends.ok.0, i.1.1.1, c.loop-place-test.true, c.len-place-end.ensures, board.opens.ok.0)
+
+pub loop-place-preserved : goal.loop-place-preserved
+loop-place-preserved g c =
+    let i = c.loop-place.invariant in
+    let board = c.args.board.now in
+    let part = c.next_input-part.result in
+    let knows = known_there
+    (λ (b : Board _) (l : ℕ). out_known part.out ≡ input_due (layout_of b.rest.plan) b.wires.items l part.input)
+    part.of.value board part.link (get_or (links_of_inputs (layout_of board.rest.plan)) c.loop-place.place 0) c.next_input-part.ensures.of c.next_input-part.ensures.link part.knows in (
+      input_more (layout_of board.rest.plan) board.wires.items c.loop-place.place c.loop-place.self.inputs.items c.loop-place.self.ends.items i.0
+          part.input part.out c.push_reserved.new.self.items c.push_reserved-in-loop-place.new.self.items c.push_reserved.ensures.items
+          c.push_reserved-in-loop-place.ensures.items part.law knows,
+      (
+        c.next_input-part.ensures.left,
+        (
+          subst (λ (cap : ℕ). length board.opens.items ≤ cap) (sym c.push_reserved.ensures.capacity) i.1.1.0,
+          subst (λ (cap : ℕ). length board.opens.items ≤ cap) (sym c.push_reserved-in-loop-place.ensures.capacity) i.1.1.1,
+        ),
+      ),
+    )

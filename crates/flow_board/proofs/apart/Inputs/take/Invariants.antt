@@ -1,0 +1,13 @@
+use Rattle.std.proofs.Common.{◌≤◌, length, vec_capacity}
+use Rattle.flow_link.specs.Planned.{layout_of}
+use Rattle.flow_board.specs.Lefts.{InputsLeft}
+use Rattle.flow_board.proofs.InputsTaken.{InputsTaken}
+use Rattle.flow_board.proofs.apart.Inputs.take.Given as goal
+
+-- the inputs before the place are taken, and there is room for the rest
+abbrev pub invariant-loop-place : goal.invariant-loop-place
+invariant-loop-place g l =
+    InputsTaken (layout_of l.board.rest.plan) l.board.wires.items l.place l.self.inputs.items l.self.ends.items
+    × (InputsLeft l.board l.place l.tasks.items l.entries.items
+    × ((length l.board.opens.items ≤ vec_capacity l.self.inputs)
+    × (length l.board.opens.items ≤ vec_capacity l.self.ends)))

@@ -1,0 +1,86 @@
+use Rattle.std.proofs.Common.{◌≡◌, List, not, true, false, sym, ap, ◌∙◌, subst, arith}
+use Rattle.std.proofs.lemmas.List.{get_or_default}
+use Rattle.flow_link.specs.Planned.{layout_of}
+use Rattle.flow_board.specs.Lefts.{InputsLeft}
+use Rattle.flow_board.specs.Numbers.{is_open}
+use Rattle.flow_board.specs.declared.numbered.Entry.{Entry}
+use Rattle.flow_board.specs.declared.numbered.Task.{Task}
+use Rattle.flow_board.proofs.InputsLeft.{entry_is, entry_taken, entry_there, never_block, task_is, task_taken, task_there}
+use Rattle.flow_board.proofs.apart.next_input.Goals as goal
+
+pub unreachable-requires : goal.unreachable-requires
+unreachable-requires g c =
+    let board = c.args.board.now in
+    let opens = board.opens.items in
+    let place = c.args.place in
+    let opened : is_open (layout_of board.rest.plan) opens place ≡ true =
+    get_or_default opens place false c.index.result.now c.requires.there ∙ sym c.index.ensures ∙ c.if-index.true in
+    let some = entry_there board place c.args.tasks.now.items c.args.entries.now.items opened c.requires.left c.requires.there in
+    omega (arith, some, c.args.entries.now.ok.0, c.in_default.ensures.cases.0)
+
+pub returns-then-index-clause-link : goal.returns-then-index-clause-link
+returns-then-index-clause-link g c =
+    let board = c.args.board.now in
+    let opens = board.opens.items in
+    let place = c.args.place in
+    let tasks = c.args.tasks.now.items in
+    let opened : is_open (layout_of board.rest.plan) opens place ≡ true =
+    get_or_default opens place false c.index.result.now c.requires.there ∙ sym c.index.ensures ∙ c.if-index.true in
+    entry_is board place tasks c.pop_front.new.self.items opened c.in-Some.field-0
+    (subst (λ (entries : List (Entry _ _ _)). InputsLeft board place tasks entries) c.in-Some.ensures.items c.requires.left)
+
+pub returns-then-index-clause-left : goal.returns-then-index-clause-left
+returns-then-index-clause-left g c =
+    let board = c.args.board.now in
+    let opens = board.opens.items in
+    let place = c.args.place in
+    let tasks = c.args.tasks.now.items in
+    let opened : is_open (layout_of board.rest.plan) opens place ≡ true =
+    get_or_default opens place false c.index.result.now c.requires.there ∙ sym c.index.ensures ∙ c.if-index.true in
+    entry_taken board place tasks c.pop_front.new.self.items opened c.in-Some.field-0
+    (subst (λ (entries : List (Entry _ _ _)). InputsLeft board place tasks entries) c.in-Some.ensures.items c.requires.left)
+
+pub unreachable-requires-in_default-pop_front : goal.unreachable-requires-in_default-pop_front
+unreachable-requires-in_default-pop_front g c =
+    let board = c.args.board.now in
+    let opens = board.opens.items in
+    let place = c.args.place in
+    let shut : is_open (layout_of board.rest.plan) opens place ≡ false =
+    get_or_default opens place false c.index.result.now c.requires.there ∙ sym c.index.ensures ∙ c.if-index.false in
+    let some = task_there board place c.args.tasks.now.items c.args.entries.now.items (ap not shut) c.requires.left c.requires.there in
+    omega (arith, some, c.args.tasks.now.ok.0, c.in_default-pop_front.ensures.cases.0)
+
+pub unreachable-requires-in_default-kind : goal.unreachable-requires-in_default-kind
+unreachable-requires-in_default-kind g c =
+    let board = c.args.board.now in
+    let opens = board.opens.items in
+    let place = c.args.place in
+    let entries = c.args.entries.now.items in
+    let shut : is_open (layout_of board.rest.plan) opens place ≡ false =
+    get_or_default opens place false c.index.result.now c.requires.there ∙ sym c.index.ensures ∙ c.if-index.false in
+    never_block board place c.pop_front-2.new.self.items entries (ap not shut) c.in-Some-pop_front.field-0
+    (subst (λ (tasks : List (Task _ _ _)). InputsLeft board place tasks entries) c.in-Some-pop_front.ensures.items c.requires.left)
+    c.in_default-kind.field-0 c.in_default-kind.is
+
+pub returns-clause-link : goal.returns-clause-link
+returns-clause-link g c =
+    let board = c.args.board.now in
+    let opens = board.opens.items in
+    let place = c.args.place in
+    let entries = c.args.entries.now.items in
+    let shut : is_open (layout_of board.rest.plan) opens place ≡ false =
+    get_or_default opens place false c.index.result.now c.requires.there ∙ sym c.index.ensures ∙ c.if-index.false in
+    task_is board place c.pop_front-2.new.self.items entries (ap not shut) c.in-Some-pop_front.field-0
+    (subst (λ (tasks : List (Task _ _ _)). InputsLeft board place tasks entries) c.in-Some-pop_front.ensures.items c.requires.left)
+    c.in-Input.input c.in-Input.is
+
+pub returns-clause-left : goal.returns-clause-left
+returns-clause-left g c =
+    let board = c.args.board.now in
+    let opens = board.opens.items in
+    let place = c.args.place in
+    let entries = c.args.entries.now.items in
+    let shut : is_open (layout_of board.rest.plan) opens place ≡ false =
+    get_or_default opens place false c.index.result.now c.requires.there ∙ sym c.index.ensures ∙ c.if-index.false in
+    task_taken board place c.pop_front-2.new.self.items entries (ap not shut) c.in-Some-pop_front.field-0
+    (subst (λ (tasks : List (Task _ _ _)). InputsLeft board place tasks entries) c.in-Some-pop_front.ensures.items c.requires.left) shut

@@ -1,0 +1,119 @@
+use Rattle.std.proofs.Common.{rules, ◌≡◌, ℕ, ◌<◌, ◌≤◌, ◌++◌, ◌∷◌, [], List, length, get_or, take, sym, ap, ◌∙◌, subst, arith, length-append, append_assoc}
+use Rattle.std.specs.Vec.Iter.{into_iter_items}
+use Rattle.std.proofs.lemmas.List.{get_or_default, take-take}
+use Rattle.flow_lists.proofs.PlacesOfNumbers.{stands_below}
+use Rattle.flow_link.specs.Planned.{layout_of}
+use Rattle.flow_input.specs.Input.{InputState, no_input}
+use Rattle.flow_input.specs.InputKeeps.{InputLaw}
+use Rattle.flow_board.specs.Inputs.{begins_at_input, input_due, links_of_inputs}
+use Rattle.flow_board.specs.Known.{out_known}
+use Rattle.flow_board.proofs.Makes.{dropped, front_long, some_left, next_there}
+use Rattle.flow_board.proofs.Places.{at_place, count_is}
+use Rattle.flow_board.proofs.board.Board.make_inputs.Goals as goal
+
+pub unreachable-requires : goal.unreachable-requires
+unreachable-requires g c =
+    let i = c.loop-input.invariant in
+    let board = c.args.self.now in
+    let links = links_of_inputs (layout_of board.rest.plan) in
+    let all = i.0 ∙ ap (λ (rest : List InputState). c.loop-input.yielded ++ rest) c.in-Some.ensures.steps.0 in
+    let long = ap length all ∙ length-append c.loop-input.yielded (c.in-Some.input ∷ into_iter_items c.next.new.self) in
+    let many = count_is out_known (λ q. input_due (layout_of board.rest.plan) board.wires.items (get_or links q 0) (get_or c.args.inputs.items q no_input)) (length board.opens.items) c.args.ends.items c.requires.ends in
+    let none : c.loop-input.ends.items ≡ [] = search rules in
+    some_left c.loop-input.place c.args.ends.items (omega (arith, many, long, i.1.0, c.requires.count)) (sym i.1.1.0 ∙ none)
+
+pub make_input-part-requires-clause-there : goal.make_input-part-requires-clause-there
+make_input-part-requires-clause-there g c =
+    let i = c.loop-input.invariant in
+    let board = c.args.self.now in
+    let k = c.loop-input.place in
+    let all = i.0 ∙ ap (λ (rest : List InputState). c.loop-input.yielded ++ rest) c.in-Some.ensures.steps.0 in
+    let long = ap length all ∙ length-append c.loop-input.yielded (c.in-Some.input ∷ into_iter_items c.next.new.self) in
+    let told = board.told in
+    let there : k < length board.inputs.items = omega (arith, long, i.1.0, c.requires.count, told) in
+    let small = subst (λ (ls : List ℕ). k < length ls) board.inputs_are there in
+    let at : c.index.result.now ≡ get_or board.inputs.items k c.index.result.now = search rules in
+    let link = at ∙ get_or_default board.inputs.items k c.index.result.now 0 there ∙ ap (λ (ls : List ℕ). get_or ls k 0) board.inputs_are in
+    subst (λ (l : ℕ). l < length board.rest.plan.links.items) (sym link)
+    (stands_below (begins_at_input (layout_of board.rest.plan)) (length board.rest.plan.links.items) k small).there
+
+pub make_input-part-requires-clause-begins : goal.make_input-part-requires-clause-begins
+make_input-part-requires-clause-begins g c =
+    let i = c.loop-input.invariant in
+    let board = c.args.self.now in
+    let k = c.loop-input.place in
+    let all = i.0 ∙ ap (λ (rest : List InputState). c.loop-input.yielded ++ rest) c.in-Some.ensures.steps.0 in
+    let long = ap length all ∙ length-append c.loop-input.yielded (c.in-Some.input ∷ into_iter_items c.next.new.self) in
+    let told = board.told in
+    let there : k < length board.inputs.items = omega (arith, long, i.1.0, c.requires.count, told) in
+    let small = subst (λ (ls : List ℕ). k < length ls) board.inputs_are there in
+    let at : c.index.result.now ≡ get_or board.inputs.items k c.index.result.now = search rules in
+    let link = at ∙ get_or_default board.inputs.items k c.index.result.now 0 there ∙ ap (λ (ls : List ℕ). get_or ls k 0) board.inputs_are in
+    ap (begins_at_input (layout_of board.rest.plan)) link
+    ∙ (stands_below (begins_at_input (layout_of board.rest.plan)) (length board.rest.plan.links.items) k small).passes
+
+pub make_input-part-requires-clause-law : goal.make_input-part-requires-clause-law
+make_input-part-requires-clause-law g c =
+    let i = c.loop-input.invariant in
+    let all = i.0 ∙ ap (λ (rest : List InputState). c.loop-input.yielded ++ rest) c.in-Some.ensures.steps.0 in
+    let long = ap length all ∙ length-append c.loop-input.yielded (c.in-Some.input ∷ into_iter_items c.next.new.self) in
+    let input = ap (λ (n : ℕ). get_or c.args.inputs.items n no_input) i.1.0
+    ∙ next_there c.args.inputs.items c.loop-input.yielded (into_iter_items c.next.new.self) c.in-Some.input no_input all in
+    subst (λ (it : InputState). ∥ InputLaw it ∥₁) input (c.requires.laws c.loop-input.place (omega (arith, long, i.1.0, c.requires.count)))
+
+pub make_input-part-requires-clause-known : goal.make_input-part-requires-clause-known
+make_input-part-requires-clause-known g c =
+    let i = c.loop-input.invariant in
+    let board = c.args.self.now in
+    let wires = board.wires.items in
+    let links = links_of_inputs (layout_of board.rest.plan) in
+    let k = c.loop-input.place in
+    let all = i.0 ∙ ap (λ (rest : List InputState). c.loop-input.yielded ++ rest) c.in-Some.ensures.steps.0 in
+    let long = ap length all ∙ length-append c.loop-input.yielded (c.in-Some.input ∷ into_iter_items c.next.new.self) in
+    let told = board.told in
+    let there : k < length board.inputs.items = omega (arith, long, i.1.0, c.requires.count, told) in
+    let at : c.index.result.now ≡ get_or board.inputs.items k c.index.result.now = search rules in
+    let link = at ∙ get_or_default board.inputs.items k c.index.result.now 0 there ∙ ap (λ (ls : List ℕ). get_or ls k 0) board.inputs_are in
+    let input = ap (λ (n : ℕ). get_or c.args.inputs.items n no_input) i.1.0
+    ∙ next_there c.args.inputs.items c.loop-input.yielded (into_iter_items c.next.new.self) c.in-Some.input no_input all in
+    let end = c.in-Some-pop_front.end in
+    let left = dropped k c.args.ends.items end c.pop_front.new.self.items (sym i.1.1.0 ∙ c.in-Some-pop_front.ensures.items) in
+    ap out_known (sym (left.first end))
+    ∙ at_place out_known (λ q. input_due (layout_of board.rest.plan) wires (get_or links q 0) (get_or c.args.inputs.items q no_input)) (length board.opens.items) c.args.ends.items k end c.requires.ends
+    (omega (arith, long, i.1.0, c.requires.count))
+    ∙ ap (input_due (layout_of board.rest.plan) wires (get_or links k 0)) input
+    ∙ ap (λ (l : ℕ). input_due (layout_of board.rest.plan) wires l c.in-Some.input) (sym link)
+
+pub loop-input-preserved : goal.loop-input-preserved
+loop-input-preserved g c =
+    let i = c.loop-input.invariant in
+    let k = c.loop-input.place in
+    let yielded = c.loop-input.yielded in
+    let input = c.in-Some.input in
+    let all = i.0 ∙ ap (λ (rest : List InputState). yielded ++ rest) c.in-Some.ensures.steps.0 in
+    let left = dropped k c.args.ends.items c.in-Some-pop_front.end c.pop_front.new.self.items (sym i.1.1.0 ∙ c.in-Some-pop_front.ensures.items) in
+    let first = length c.args.tasks.now.items in
+    let tasks = c.loop-input.tasks.items in
+    let new = c.put_input.new.tasks.items in
+    let front = c.put_input.ensures.blocks in
+    let shown : take first new ≡ c.args.tasks.now.items =
+    sym (take-take first (length tasks) new i.1.1.1.1.1.0) ∙ ap (take first) front ∙ i.1.1.1.1.0 in
+    let least : length tasks ≤ length new = front_long tasks new front in (
+      all ∙ sym (append_assoc yielded (input ∷ []) (into_iter_items c.next.new.self)),
+      (
+        omega (arith, i.1.0, length-append yielded (input ∷ [])),
+        (
+          left.others,
+          (
+            c.put_input.ensures.made,
+            (
+              shown,
+              (
+                omega (arith, least, i.1.1.1.1.1.0),
+                search rules,
+              ),
+            ),
+          ),
+        ),
+      ),
+    )

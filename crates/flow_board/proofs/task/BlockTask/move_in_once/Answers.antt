@@ -1,0 +1,31 @@
+use Rattle.std.proofs.Common.{ℕ, ◌≤◌, length, sym, ◌∙◌, subst, below_more, arith}
+use Rattle.flow_link.specs.Planned.{layout_of}
+use Rattle.flow_block.specs.Block.{BlockState}
+use Rattle.flow_block.specs.Node.{NodeState}
+use Rattle.flow_exec.specs.Works.{works_of}
+use Rattle.flow_board.specs.Turns.{PortIsStill}
+use Rattle.flow_board.proofs.Counts.{few_ports}
+use Rattle.flow_board.proofs.TurnsStill.{unmoved}
+use Rattle.flow_board.proofs.task.BlockTask.move_in_once.Goals as goal
+
+pub overflow_cast-port : goal.overflow_cast-port
+overflow_cast-port g c =
+    let s = c.args.self.now in
+    let few : length c.block.result.now.ports ≤ 3 =
+    subst (λ (b : BlockState). length b.ports ≤ 3) (sym c.block.ensures)
+    (few_ports s.of.value.rest.plan (works_of g.W.Runs.meaning (layout_of s.of.value.rest.plan)) s.number s.there s.node s.law) in
+    omega (arith, few, c.loop-port-test.true, c.port_count-port-end.ensures)
+
+pub loop-port-preserved : goal.loop-port-preserved
+loop-port-preserved g c =
+    let i = c.loop-port.invariant in
+    let here = c.loop-port.port in
+    let not = c.if-branch.false in
+    let said = c.in_ok-move_port_once.ensures in
+    record {
+      of = c.move_port_once.ensures.of ∙ i.of;
+      number = c.move_port_once.ensures.number ∙ i.number;
+      node = unmoved c.in_ok-move_port_once.field-0 c.loop-port.self.node c.move_port_once.new.self.node not said.does ∙ i.node;
+      still = below_more (λ (k : ℕ). PortIsStill k c.args.self.now.node) here i.still
+          (subst (λ (node : NodeState). PortIsStill here node) i.node (said.still not));
+    }

@@ -1,0 +1,19 @@
+use Rattle.std.proofs.Common.{◌≡◌, true, sym, ◌∙◌}
+use Rattle.flow_link.specs.declared.phase.Move.{Move}
+use Rattle.flow_block_law.specs.NextMoves.{next_source}
+use Rattle.flow_core.specs.Events.{source_call}
+use Rattle.flow_board.specs.Words.{is_withdrawal}
+use Rattle.flow_board.proofs.TurnsGrow.{moved_does}
+use Rattle.flow_board.proofs.TurnsStill.{missed}
+use Rattle.flow_board.proofs.task.BlockTask.try_out.Goals as goal
+
+pub returns-in-Some-clause-does : goal.returns-in-Some-clause-does
+returns-in-Some-clause-does g c =
+    let node = c.args.self.now.node in
+    moved_does c.move_out.result (source_call node.block.kind c.args.place c.in-Some.next) node c.move_out.new.self.node
+    c.move_out.ensures.moved c.move_out.ensures.missed c.move_out.ensures.kept
+
+pub returns-in-Some-clause-still : goal.returns-in-Some-clause-still
+returns-in-Some-clause-still g c =
+    missed c.move_out.result (next_source c.args.place c.args.self.now.node) c.in-Some.next
+    (λ (next : Move). is_withdrawal next ≡ true) (sym c.next_of_exit.ensures ∙ c.in-Some.is) c.move_out.ensures.late

@@ -1,0 +1,11 @@
+-- Which number a task has, by what it is.
+use Rattle.std.specs.Prelude.{ℕ, Bool, ◌==◌}
+use Rattle.flow_link.specs.Planned.{layout_of}
+use Rattle.flow_board.specs.Numbers.{is_input_number}
+use Rattle.flow_board.specs.declared.numbered.Kind.{Kind}
+use Rattle.flow_board.specs.declared.numbered.Kind.TheVariants as kind
+
+-- a block's number is its own
+abbrev pub is_task_number : {W : Type 0} {w : _} {e : _} → Kind W w e → ℕ → Bool
+is_task_number (kind.Block task) n = task.number == n
+is_task_number (kind.Input task) n = is_input_number (layout_of task.of.value.rest.plan) task.of.value.opens.items task.link n

@@ -1,0 +1,54 @@
+-- What a contract sees of the parts of a scattered network.
+use Rattle.std.specs.Prelude.{◌≡◌, ℕ, List, [], ◌∷◌}
+use Rattle.flow_link.specs.declared.trace.Mark.{Mark}
+use Rattle.flow_link.specs.Layout.{Layout}
+use Rattle.flow_link.specs.Planned.{layout_of}
+use Rattle.flow_board.specs.declared.board.Board.{Board}
+use Rattle.flow_board.specs.declared.numbered.Entry.{Entry}
+use Rattle.flow_board.specs.declared.numbered.Exit.{Exit}
+use Rattle.flow_board.specs.declared.numbered.Kind.{Kind}
+use Rattle.flow_board.specs.declared.numbered.Kind.TheVariants as kind
+use Rattle.flow_board.specs.declared.numbered.Task.{Task}
+
+-- the layout of the network that was scattered
+abbrev pub board_layout : {W : Type 0} → Board W → Layout W
+board_layout board = layout_of board.rest.plan
+
+module _ {W : Type 0} {w : _} {e : _} where
+  -- the board that it is of
+  abbrev pub board_by : Kind W w e → Board W
+  board_by (kind.Block task) = task.of.value
+  board_by (kind.Input task) = task.of.value
+
+  abbrev pub board_of : Task W w e → Board W
+  board_of task = board_by task.kind
+
+  -- the marks of its block; none of an input
+  abbrev pub marks_by : Kind W w e → List Mark
+  marks_by (kind.Block task) = task.node.journal
+  marks_by (kind.Input task) = []
+
+  abbrev pub marks_in : Task W w e → List Mark
+  marks_in task = marks_by task.kind
+
+  abbrev pub task_number : Task W w e → ℕ
+  task_number task = task.number
+
+  abbrev pub entry_number : Entry W w e → ℕ
+  entry_number entry = entry.number
+
+  abbrev pub exit_number : Exit W w e → ℕ
+  exit_number exit = exit.number
+
+  -- each of these is of this board
+  abbrev pub AllTasksOf : Board W → List (Task W w e) → Type 0
+  AllTasksOf board [] = Unit {0}
+  AllTasksOf board (task ∷ tasks) = (board_of task ≡ board) × AllTasksOf board tasks
+
+  abbrev pub AllEntriesOf : Board W → List (Entry W w e) → Type 0
+  AllEntriesOf board [] = Unit {0}
+  AllEntriesOf board (entry ∷ entries) = (entry.input.of.value ≡ board) × AllEntriesOf board entries
+
+  abbrev pub AllExitsOf : Board W → List (Exit W w e) → Type 0
+  AllExitsOf board [] = Unit {0}
+  AllExitsOf board (exit ∷ exits) = (exit.of.value ≡ board) × AllExitsOf board exits

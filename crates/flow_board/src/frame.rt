@@ -1,0 +1,88 @@
+//! Room for the parts of a network, before anything is changed.
+ghost use Rattle.std.specs.Prelude.{◌≡◌, IfOk, map};
+ghost use Rattle.flow_link.specs.Planned.{layout_of};
+ghost use Rattle.flow_block.specs.Planned.{links_out};
+ghost use Rattle.flow_board.specs.Frames.{IsRoomFor, stays_open};
+ghost use Rattle.flow_board.specs.Inputs.{links_of_inputs};
+
+use crate::numbered::{Entry, Exit, Task};
+use crate::sources::Sources;
+use crate::targets::Targets;
+use flow_input::Input;
+use flow_link::{Ending, LinkId, LinkSource, LinkTarget, Plan};
+use flow_net::NetParts;
+use flow_value::Runs;
+use std::alloc::{AllocError, Global};
+
+/// Room for the ends of all links and for all parts; which links are of inputs and which of exits; and which inputs stay open.
+#[derive(Drop)]
+pub(crate) struct Frame<W: Runs> {
+    pub(crate) sources: Sources,
+    pub(crate) targets: Targets,
+    pub(crate) tasks: Vec<Task<W>>,
+    pub(crate) entries: Vec<Entry<W>>,
+    pub(crate) exits: Vec<Exit<W>>,
+    pub(crate) inputs: Vec<LinkId>,
+    pub(crate) outs: Vec<LinkId>,
+    pub(crate) opens: Vec<bool>,
+}
+
+impl<W: Runs> Frame<W> {
+    /// Room for the parts of this network.
+    pub(crate) fn new(alloc: Global, apart: &NetParts<W>) -> Result<Frame<W>, AllocError>
+        ensures { IfOk result (λ frame. IsRoomFor (layout_of apart.now.plan) apart.now.nodes.items apart.now.inputs.items apart.now.exits.items frame) }
+    {
+        let blocks = apart.nodes.len();
+        let inputs = apart.inputs.len();
+        let exits = apart.exits.len();
+        Ok(Frame {
+            sources: Sources::with_room(alloc, &apart.nodes, inputs)?,
+            targets: Targets::with_room(alloc, &apart.nodes, exits)?,
+            tasks: Vec::with_capacity(alloc, blocks + inputs)?,
+            entries: Vec::with_capacity(alloc, inputs)?,
+            exits: Vec::with_capacity(alloc, exits)?,
+            inputs: input_links(alloc, &apart.plan)?,
+            outs: exit_links(alloc, &apart.plan)?,
+            opens: open_inputs(alloc, &apart.inputs)?,
+        })
+    }
+}
+
+/// The links of inputs.
+fn input_links<W>(alloc: Global, plan: &Plan<W>) -> Result<Vec<LinkId>, AllocError>
+    ensures { IfOk result (λ links. links.items ≡ links_of_inputs (layout_of plan.now)) }
+{
+    let mut links = Vec::new(alloc);
+    for id in 0..plan.link_count() {
+        match plan.link(id).source {
+            LinkSource::Input(_) => links.push(id)?,
+            LinkSource::Block(_) => {}
+        }
+    }
+    Ok(links)
+}
+
+/// The links that lead out of the network.
+fn exit_links<W>(alloc: Global, plan: &Plan<W>) -> Result<Vec<LinkId>, AllocError>
+    ensures { IfOk result (λ links. links.items ≡ links_out (layout_of plan.now)) }
+{
+    let mut links = Vec::new(alloc);
+    for id in 0..plan.link_count() {
+        match plan.link(id).target {
+            LinkTarget::Exit => links.push(id)?,
+            LinkTarget::Port(..) => {}
+        }
+    }
+    Ok(links)
+}
+
+/// Of each input, whether it stays open.
+fn open_inputs(alloc: Global, inputs: &[Input]) -> Result<Vec<bool>, AllocError>
+    ensures { IfOk result (λ opens. opens.items ≡ map stays_open inputs.now) }
+{
+    let mut opens = Vec::with_capacity(alloc, inputs.len())?;
+    for input in inputs {
+        opens.push_reserved(input.ending() == Ending::Open);
+    }
+    Ok(opens)
+}

@@ -1,0 +1,178 @@
+//! The parts of a scattered network are put together again.
+ghost use Rattle.std.specs.Prelude.{◌≡◌, ℕ, ◌<◌, ◌≤◌, [], get_or, length, map, take, vec_capacity, IfErr, IfOk};
+ghost use Rattle.std.specs.List.Sorted.{IsPermutation};
+ghost use Rattle.flow_lawful.specs.Lawful.{Lawful};
+ghost use Rattle.flow_lists.specs.Lists.{below};
+ghost use Rattle.flow_link.specs.Planned.{layout_of};
+ghost use Rattle.flow_block.specs.Planned.{links_out};
+ghost use Rattle.flow_core.specs.InOrder.{journals_of};
+ghost use Rattle.flow_core.specs.State.{NetState, no_node};
+ghost use Rattle.flow_exec.specs.Works.{works_of};
+ghost use Rattle.flow_exit.specs.Exit.{fresh_exit};
+ghost use Rattle.flow_input.specs.Input.{no_input};
+ghost use Rattle.flow_net.specs.Net.{layout_in, parts_of, run_of};
+ghost use Rattle.flow_board.specs.Absent.{AllThere};
+ghost use Rattle.flow_board.specs.Exits.{exit_due};
+ghost use Rattle.flow_board.specs.GatherRoom.{IsRoomToGather};
+ghost use Rattle.flow_board.specs.Gathers.{AreBack, GathersFrom, IsWhyNot};
+ghost use Rattle.flow_board.specs.Inputs.{input_due, links_of_inputs};
+ghost use Rattle.flow_board.specs.Known.{in_known, ins_due, out_known, outs_due};
+ghost use Rattle.flow_board.specs.Orders.{AreInOrder};
+ghost use Rattle.flow_board.specs.Parts.{AllEntriesOf, AllExitsOf, AllTasksOf, board_layout, marks_in};
+
+use crate::apart::{Blocks, Exits, Inputs};
+use crate::board::Board;
+use crate::close::close_all;
+use crate::numbered::Parts;
+use crate::sources::Sources;
+use crate::targets::Targets;
+use flow_net::Net;
+use flow_value::Runs;
+use std::alloc::{AllocError, Global};
+use std::collections::VecDeque;
+
+/// Why parts are not put together.
+#[derive(Clone, Copy, Debug, PartialEq, Eq)]
+pub enum GatherFault {
+    /// The part with this number is not among them: tasks, entries and exits are numbered from 0, as they were scattered.
+    Missing(usize),
+    /// Memory is out.
+    Memory,
+}
+
+/// Puts the parts of a scattered network together, wherever their turns stopped. They may come in any order. Where one is missing or
+/// memory is out, all come back, in the order of their numbers.
+pub fn gather<W: Runs>(
+    alloc: Global,
+    mut parts: Parts<W>,
+) -> Result<Net<W>, (Parts<W>, GatherFault)>
+    requires tasks_of { AllTasksOf parts.board parts.tasks.items }
+    requires entries_of { AllEntriesOf parts.board parts.entries.items }
+    requires exits_of { AllExitsOf parts.board parts.exits.items }
+    ensures same_layout { IfOk result (λ net. layout_in net ≡ board_layout parts.board) }
+    ensures lawful { IfOk result (λ net. Lawful (run_of W.meaning net)) }
+    ensures journals { IfOk result (λ net. GathersFrom parts.board parts.tasks.items (journals_of (parts_of net))) }
+    ensures why { IfErr result (λ refused. IsWhyNot refused.0 refused.1) }
+    ensures back { IfErr result (λ refused. AreBack parts refused.0) }
+{
+    parts.sort();
+    if let Some(number) = parts.first_missing() {
+        return Err((parts, GatherFault::Missing(number)));
+    }
+    match Apart::with_room(alloc, &parts) {
+        Ok(apart) => Ok(apart.fill(parts)),
+        Err(AllocError) => Err((parts, GatherFault::Memory)),
+    }
+}
+
+/// What a network is put together of.
+#[derive(Drop)]
+struct Apart {
+    blocks: Blocks,
+    inputs: Inputs,
+    exits: Exits,
+}
+
+impl Apart {
+    /// Room for what these parts are taken apart into.
+    fn with_room<W: Runs>(alloc: Global, parts: &Parts<W>) -> Result<Apart, AllocError>
+        ensures { IfOk result (λ apart. IsRoomToGather parts.now apart) }
+    {
+        let blocks = parts.board.rest.plan.block_count();
+        let inputs = parts.board.opens.len();
+        let exits = parts.exits.len();
+        Ok(Apart {
+            blocks: Blocks {
+                nodes: Vec::with_capacity(alloc, blocks)?,
+                outs: Vec::with_capacity(alloc, blocks)?,
+                ins: Vec::with_capacity(alloc, blocks)?,
+            },
+            inputs: Inputs {
+                inputs: Vec::with_capacity(alloc, inputs)?,
+                ends: Vec::with_capacity(alloc, inputs)?,
+            },
+            exits: Exits {
+                exits: Vec::with_capacity(alloc, exits)?,
+                ends: Vec::with_capacity(alloc, exits)?,
+            },
+        })
+    }
+
+    /// The network of all these parts, which are there in the order of their numbers.
+    fn fill<W: Runs>(self, parts: Parts<W>) -> Net<W>
+        requires tasks_of { AllTasksOf parts.board parts.tasks.items }
+        requires entries_of { AllEntriesOf parts.board parts.entries.items }
+        requires exits_of { AllExitsOf parts.board parts.exits.items }
+        requires there { AllThere parts.board parts.tasks.items parts.entries.items parts.exits.items }
+        requires room { IsRoomToGather parts self }
+        ensures same_layout { layout_in result ≡ board_layout parts.board }
+        ensures lawful { Lawful (run_of W.meaning result) }
+        ensures journals { journals_of (parts_of result) ≡
+            map marks_in (take (length (board_layout parts.board).blocks) parts.tasks.items) }
+    {
+        let Apart {
+            mut blocks,
+            mut inputs,
+            exits: mut exit_ends,
+        } = self;
+        let Parts {
+            board,
+            tasks,
+            entries,
+            exits,
+        } = parts;
+        let mut tasks = VecDeque::from_vec(tasks);
+        let mut entries = VecDeque::from_vec(entries);
+        blocks.take(&board, &mut tasks);
+        inputs.take(&board, &mut tasks, &mut entries);
+        exit_ends.take(&board, exits);
+        board.join(blocks, inputs, exit_ends)
+    }
+}
+
+impl<W: Runs> Board<W> {
+    /// Closes the wires of a network with all its ends, and puts it together.
+    fn join(self, blocks: Blocks, inputs: Inputs, exits: Exits) -> Net<W>
+        ghost net: { NetState }
+        requires nodes { net.nodes ≡ blocks.nodes.items }
+        requires inputs { net.inputs ≡ inputs.inputs.items }
+        requires exits { net.exits ≡ exits.exits.items }
+        requires in_order { AreInOrder (layout_of self.rest.plan) (works_of W.meaning (layout_of self.rest.plan)) net.nodes net.inputs
+            net.exits }
+        requires outs { map (λ row. map out_known row.items) blocks.outs.items ≡ map (λ b. outs_due (layout_of self.rest.plan)
+            self.wires.items b (get_or net.nodes b no_node)) (below (length (layout_of self.rest.plan).blocks)) }
+        requires ins { map (λ ports. map (λ row. map in_known row.items) ports.items) blocks.ins.items ≡ map (λ b. ins_due
+            (layout_of self.rest.plan) self.wires.items b (get_or net.nodes b no_node))
+            (below (length (layout_of self.rest.plan).blocks)) }
+        requires input_ends { map out_known inputs.ends.items ≡ map (λ q. input_due (layout_of self.rest.plan) self.wires.items
+            (get_or (links_of_inputs (layout_of self.rest.plan)) q 0) (get_or net.inputs q no_input))
+            (below (length (links_of_inputs (layout_of self.rest.plan)))) }
+        requires exit_ends { map in_known exits.ends.items ≡ map (λ k. exit_due (layout_of self.rest.plan) self.wires.items
+            (get_or (links_out (layout_of self.rest.plan)) k 0) (get_or net.exits k fresh_exit))
+            (below (length (links_out (layout_of self.rest.plan)))) }
+        ensures same_layout { layout_in result ≡ layout_of self.rest.plan }
+        ensures lawful { Lawful (run_of W.meaning result) }
+        ensures journals { journals_of (parts_of result) ≡ map (λ node. node.journal) net.nodes }
+    {
+        let Board {
+            mut rest,
+            wires,
+            ..
+        } = self;
+        let Blocks { nodes, outs, ins } = blocks;
+        let sources = Sources {
+            outs,
+            inputs: inputs.ends,
+        };
+        let targets = Targets {
+            ins,
+            exits: exits.ends,
+        };
+        let apart = &mut rest;
+        close_all(&apart.plan, wires, sources, targets, &mut apart.lines);
+        rest.nodes = nodes;
+        rest.inputs = inputs.inputs;
+        rest.exits = exits.exits;
+        rest.join()
+    }
+}

@@ -1,0 +1,262 @@
+//! The parts of a scattered network are made, each with its number.
+ghost use Rattle.std.specs.Prelude.{◌≡◌, ℕ, ◌<◌, ◌≤◌, ◌+◌, true, [], length, map, get_or, take, vec_capacity};
+ghost use Rattle.flow_lists.specs.Lists.{below, numbers_from};
+ghost use Rattle.flow_link.specs.Planned.{layout_of};
+ghost use Rattle.flow_block_law.specs.NodeLaw.{NodeLaw};
+ghost use Rattle.flow_core.specs.State.{no_node};
+ghost use Rattle.flow_exec.specs.Works.{works_of};
+ghost use Rattle.flow_block.specs.Planned.{leads_out, links_out};
+ghost use Rattle.flow_exit.specs.Exit.{fresh_exit};
+ghost use Rattle.flow_exit.specs.ExitKeeps.{ExitLaw};
+ghost use Rattle.flow_input.specs.Input.{no_input};
+ghost use Rattle.flow_input.specs.InputKeeps.{InputLaw};
+ghost use Rattle.flow_board.specs.Exits.{exit_due};
+ghost use Rattle.flow_board.specs.Inputs.{begins_at_input, input_due, links_of_inputs};
+ghost use Rattle.flow_board.specs.Known.{in_known, ins_due, out_known, outs_due};
+ghost use Rattle.flow_board.specs.Makes.{InputsMade};
+ghost use Rattle.flow_board.specs.Numbers.{entry_count, is_entry_number, is_exit_number, is_input_number, task_count};
+ghost use Rattle.flow_board.specs.Parts.{AllEntriesOf, AllExitsOf, AllTasksOf, board_of, entry_number, exit_number, marks_in, task_number};
+
+use crate::board::Board;
+use crate::input_task::InputTask;
+use crate::numbered::{Entry, Exit, Kind, Task};
+use crate::task::BlockTask;
+use flow_block::Node;
+use flow_exit::ExitEnd;
+use flow_input::Input;
+use flow_link::LinkId;
+use flow_value::Runs;
+use flow_wire::{SourceEnd, TargetEnd};
+use std::collections::VecDeque;
+use std::snapshot::Snapshot;
+
+impl<W: Runs> Board<W> {
+    /// Makes the tasks of the blocks, for which there is room.
+    pub(crate) fn make_blocks(
+        &self,
+        nodes: Vec<Node>,
+        outs: Vec<Vec<SourceEnd>>,
+        ins: Vec<Vec<Vec<TargetEnd>>>,
+        tasks: &mut Vec<Task<W>>,
+    )
+        requires count { length nodes.items ≡ length (layout_of self.now.rest.plan).blocks }
+        requires laws { (b : ℕ) → b < length (layout_of self.now.rest.plan).blocks → ∥ NodeLaw (layout_of self.now.rest.plan)
+            (works_of W.meaning (layout_of self.now.rest.plan)) b (get_or nodes.items b no_node) ∥₁ }
+        requires outs { map (λ row. map out_known row.items) outs.items ≡ map (λ b. outs_due (layout_of self.now.rest.plan)
+            self.now.wires.items b (get_or nodes.items b no_node)) (below (length (layout_of self.now.rest.plan).blocks)) }
+        requires ins { map (λ ports. map (λ row. map in_known row.items) ports.items) ins.items ≡ map (λ b. ins_due
+            (layout_of self.now.rest.plan) self.now.wires.items b (get_or nodes.items b no_node))
+            (below (length (layout_of self.now.rest.plan).blocks)) }
+        requires none { tasks.old.items ≡ [] }
+        requires room { length (layout_of self.now.rest.plan).blocks ≤ vec_capacity tasks.old }
+        ensures of { AllTasksOf self.now tasks.new.items }
+        ensures numbers { map task_number tasks.new.items ≡ below (length (layout_of self.now.rest.plan).blocks) }
+        ensures journals { map marks_in tasks.new.items ≡ map (λ node. node.journal) nodes.items }
+        ensures room { vec_capacity tasks.new ≡ vec_capacity tasks.old }
+    {
+        let mut outs = VecDeque::from_vec(outs);
+        let mut ins = VecDeque::from_vec(ins);
+        let mut number = 0;
+        for node in nodes {
+            let Some(outs) = outs.pop_front() else {
+                unreachable!()
+            };
+            let Some(ins) = ins.pop_front() else {
+                unreachable!()
+            };
+            tasks.push_reserved(self.make_block(number, node, outs, ins));
+            number += 1;
+        }
+    }
+
+    /// Makes the task of a block.
+    fn make_block(
+        &self,
+        number: usize,
+        node: Node,
+        outs: Vec<SourceEnd>,
+        ins: Vec<Vec<TargetEnd>>,
+    ) -> Task<W>
+        requires there { number < length (layout_of self.now.rest.plan).blocks }
+        requires law { ∥ NodeLaw (layout_of self.now.rest.plan) (works_of W.meaning (layout_of self.now.rest.plan)) number node ∥₁ }
+        requires outs { map out_known outs.items ≡ outs_due (layout_of self.now.rest.plan) self.now.wires.items number node }
+        requires ins { map (λ row. map in_known row.items) ins.items ≡
+            ins_due (layout_of self.now.rest.plan) self.now.wires.items number node }
+        ensures of { board_of result ≡ self.now }
+        ensures number { task_number result ≡ number }
+        ensures journal { marks_in result ≡ node.journal }
+    {
+        let task = BlockTask {
+            of: Snapshot::of(self),
+            number,
+            node,
+            outs,
+            ins,
+        };
+        Task {
+            number,
+            kind: Kind::Block(task),
+        }
+    }
+
+    /// Makes the tasks of the inputs that are turned, and the entries, for which there is room. The first entry has this number.
+    pub(crate) fn make_inputs(
+        &self,
+        inputs: Vec<Input>,
+        ends: Vec<SourceEnd>,
+        first: usize,
+        tasks: &mut Vec<Task<W>>,
+        entries: &mut Vec<Entry<W>>,
+    )
+        requires first { first ≡ task_count (layout_of self.now.rest.plan) self.now.opens.items }
+        requires count { length inputs.items ≡ length self.now.opens.items }
+        requires laws { (q : ℕ) → q < length self.now.opens.items → ∥ InputLaw (get_or inputs.items q no_input) ∥₁ }
+        requires ends { map out_known ends.items ≡ map (λ q. input_due (layout_of self.now.rest.plan) self.now.wires.items
+            (get_or (links_of_inputs (layout_of self.now.rest.plan)) q 0) (get_or inputs.items q no_input))
+            (below (length self.now.opens.items)) }
+        requires of { AllTasksOf self.now tasks.old.items }
+        requires numbers { map task_number tasks.old.items ≡ below (length (layout_of self.now.rest.plan).blocks) }
+        requires none { entries.old.items ≡ [] }
+        requires room { task_count (layout_of self.now.rest.plan) self.now.opens.items ≤ vec_capacity tasks.old }
+        requires entries_room { entry_count (layout_of self.now.rest.plan) self.now.opens.items ≤ vec_capacity entries.old }
+        ensures of { AllTasksOf self.now tasks.new.items }
+        ensures numbers { map task_number tasks.new.items ≡
+            below (task_count (layout_of self.now.rest.plan) self.now.opens.items) }
+        ensures blocks { take (length tasks.old.items) tasks.new.items ≡ tasks.old.items }
+        ensures entries_of { AllEntriesOf self.now entries.new.items }
+        ensures entry_numbers { map entry_number entries.new.items ≡ numbers_from
+            (task_count (layout_of self.now.rest.plan) self.now.opens.items) (entry_count (layout_of self.now.rest.plan) self.now.opens.items) }
+    {
+        let mut ends = VecDeque::from_vec(ends);
+        let mut place = 0;
+        for input in inputs {
+            let Some(end) = ends.pop_front() else {
+                unreachable!()
+            };
+            let part = self.make_input(self.inputs[place], input, end);
+            self.put_input(place, first, part, tasks, entries);
+            place += 1;
+        }
+    }
+
+    /// What is turned of an input becomes a task or an entry.
+    fn put_input(
+        &self,
+        place: usize,
+        first: usize,
+        part: InputTask<W>,
+        tasks: &mut Vec<Task<W>>,
+        entries: &mut Vec<Entry<W>>,
+    )
+        requires there { place < length self.now.opens.items }
+        requires first { first ≡ task_count (layout_of self.now.rest.plan) self.now.opens.items }
+        requires its { part.of.value ≡ self.now }
+        requires link { part.link ≡ get_or (links_of_inputs (layout_of self.now.rest.plan)) place 0 }
+        requires made { InputsMade self.now place tasks.old.items entries.old.items }
+        requires room { task_count (layout_of self.now.rest.plan) self.now.opens.items ≤ vec_capacity tasks.old }
+        requires entries_room { entry_count (layout_of self.now.rest.plan) self.now.opens.items ≤ vec_capacity entries.old }
+        ensures made { InputsMade self.now (place + 1) tasks.new.items entries.new.items }
+        ensures blocks { take (length tasks.old.items) tasks.new.items ≡ tasks.old.items }
+        ensures room { vec_capacity tasks.new ≡ vec_capacity tasks.old }
+        ensures entries_room { vec_capacity entries.new ≡ vec_capacity entries.old }
+    {
+        if self.opens[place] {
+            entries.push_reserved(self.make_entry(first + entries.len(), part));
+        } else {
+            tasks.push_reserved(self.make_turned(tasks.len(), part));
+        }
+    }
+
+    /// An input as an entry.
+    fn make_entry(&self, number: usize, input: InputTask<W>) -> Entry<W>
+        requires its { input.of.value ≡ self.now }
+        requires number { is_entry_number (layout_of self.now.rest.plan) self.now.opens.items input.link number ≡ true }
+        ensures of { result.input.of.value ≡ self.now }
+        ensures number { entry_number result ≡ number }
+    {
+        Entry { number, input }
+    }
+
+    /// An input as a task.
+    fn make_turned(&self, number: usize, input: InputTask<W>) -> Task<W>
+        requires its { input.of.value ≡ self.now }
+        requires number { is_input_number (layout_of self.now.rest.plan) self.now.opens.items input.link number ≡ true }
+        ensures of { board_of result ≡ self.now }
+        ensures number { task_number result ≡ number }
+    {
+        Task {
+            number,
+            kind: Kind::Input(input),
+        }
+    }
+
+    /// Makes what is turned of an input.
+    fn make_input(&self, link: LinkId, input: Input, out: SourceEnd) -> InputTask<W>
+        requires there { link < length (layout_of self.now.rest.plan).links }
+        requires begins { begins_at_input (layout_of self.now.rest.plan) link ≡ true }
+        requires law { ∥ InputLaw input ∥₁ }
+        requires known { out_known out ≡ input_due (layout_of self.now.rest.plan) self.now.wires.items link input }
+        ensures of { result.of.value ≡ self.now }
+        ensures link { result.link ≡ link }
+    {
+        InputTask {
+            of: Snapshot::of(self),
+            link,
+            input,
+            out,
+        }
+    }
+
+    /// Makes the exits, for which there is room. The first has this number.
+    pub(crate) fn make_exits(
+        &self,
+        states: Vec<ExitEnd>,
+        ends: Vec<TargetEnd>,
+        first: usize,
+        exits: &mut Vec<Exit<W>>,
+    )
+        requires first { first ≡ task_count (layout_of self.now.rest.plan) self.now.opens.items +
+            entry_count (layout_of self.now.rest.plan) self.now.opens.items }
+        requires count { length states.items ≡ length (links_out (layout_of self.now.rest.plan)) }
+        requires laws { (k : ℕ) → k < length (links_out (layout_of self.now.rest.plan)) →
+            ∥ ExitLaw (get_or states.items k fresh_exit) ∥₁ }
+        requires ends { map in_known ends.items ≡ map (λ k. exit_due (layout_of self.now.rest.plan) self.now.wires.items
+            (get_or (links_out (layout_of self.now.rest.plan)) k 0) (get_or states.items k fresh_exit))
+            (below (length (links_out (layout_of self.now.rest.plan)))) }
+        requires none { exits.old.items ≡ [] }
+        requires room { length (links_out (layout_of self.now.rest.plan)) ≤ vec_capacity exits.old }
+        ensures of { AllExitsOf self.now exits.new.items }
+        ensures numbers { map exit_number exits.new.items ≡ numbers_from (task_count (layout_of self.now.rest.plan)
+            self.now.opens.items + entry_count (layout_of self.now.rest.plan) self.now.opens.items)
+            (length (links_out (layout_of self.now.rest.plan))) }
+    {
+        let mut ends = VecDeque::from_vec(ends);
+        let mut place = 0;
+        for state in states {
+            let Some(end) = ends.pop_front() else {
+                unreachable!()
+            };
+            exits.push_reserved(self.make_exit(first + place, self.exits[place], state, end));
+            place += 1;
+        }
+    }
+
+    /// Makes an exit.
+    fn make_exit(&self, number: usize, link: LinkId, exit: ExitEnd, end: TargetEnd) -> Exit<W>
+        requires there { link < length (layout_of self.now.rest.plan).links }
+        requires leads { leads_out (layout_of self.now.rest.plan) link ≡ true }
+        requires law { ∥ ExitLaw exit ∥₁ }
+        requires known { in_known end ≡ exit_due (layout_of self.now.rest.plan) self.now.wires.items link exit }
+        requires number { is_exit_number (layout_of self.now.rest.plan) self.now.opens.items link number ≡ true }
+        ensures of { result.of.value ≡ self.now }
+        ensures number { exit_number result ≡ number }
+    {
+        Exit {
+            number,
+            of: Snapshot::of(self),
+            link,
+            exit,
+            end,
+        }
+    }
+}

@@ -1,0 +1,112 @@
+//! The parts of a scattered network, each with its number.
+ghost use Rattle.std.specs.Prelude.{◌≡◌, ◌<◌, true, length};
+ghost use Rattle.std.specs.Coded.{codes};
+ghost use Rattle.atomic_table.specs.Seated.{table_id_coded};
+ghost use Rattle.flow_value.specs.contracts.value.Value as content;
+ghost use Rattle.flow_link.specs.Planned.{layout_of};
+ghost use Rattle.flow_block.specs.Planned.{leads_out};
+ghost use Rattle.flow_exit.specs.ExitKeeps.{ExitLaw};
+ghost use Rattle.flow_board.specs.Exits.{exit_due};
+ghost use Rattle.flow_board.specs.Known.{in_known};
+ghost use Rattle.flow_board.specs.Numbers.{is_entry_number, is_exit_number};
+ghost use Rattle.flow_board.specs.Kinds.{is_task_number};
+
+use crate::board::Board;
+use crate::input_task::InputTask;
+use crate::task::BlockTask;
+use flow_exit::ExitEnd;
+use flow_link::{LinkId, Mark};
+use flow_poll::Turned;
+use flow_value::Runs;
+use flow_wire::TargetEnd;
+use std::alloc::{AllocError, Global};
+use std::snapshot::Snapshot;
+
+/// What a thread turns: a block, or an input that posts what it has and ends.
+#[derive(Drop)]
+pub struct Task<W: Runs> {
+    pub(crate) number: usize,
+    pub(crate) kind: Kind<W>,
+    ghost numbered: { is_task_number kind number ≡ true },
+}
+
+#[derive(Drop)]
+pub(crate) enum Kind<W: Runs> {
+    Block(BlockTask<W>),
+    Input(InputTask<W>),
+}
+
+impl<W: Runs> Task<W> {
+    ghost use Rattle.std.specs.Prelude.{◌≤◌, IfOk, OnErr};
+    ghost use Rattle.flow_poll.specs.Turns.{Extends};
+    ghost use Rattle.flow_poll.specs.declared.actor.TurnState.TheVariants.{Ended};
+    ghost use Rattle.flow_board.specs.Parts.{board_of, marks_in, task_number};
+    ghost use Rattle.flow_board.specs.Ended.{HasEnded};
+
+    /// The marks of its block, in order; an input has none.
+    pub fn journal(&self) -> &[Mark]
+        ensures { result.now ≡ marks_in self.now }
+    {
+        match &self.kind {
+            Kind::Block(task) => task.journal(),
+            Kind::Input(_) => &[],
+        }
+    }
+
+    /// Turns it: what comes next is done, at most so many events, and all its ends of links look before the answer is that nothing
+    /// is to do. Where memory is out before the first event, nothing is changed but what its ends know; later, the turn ends with
+    /// the events that are done. An event that needs a message id where none is left is not done, and the rest goes on.
+    ///
+    /// A block has ended once its last mark is Done or a fault, and all its links are refused or ended; an input once its link is.
+    pub fn turn(
+        &mut self,
+        alloc: Global,
+        board: &Board<W>,
+        budget: u32,
+    ) -> Result<Turned, AllocError>
+        requires of { board_of self.old ≡ board.now }
+        ensures of { board_of self.new ≡ board_of self.old }
+        ensures number { task_number self.new ≡ task_number self.old }
+        ensures within { IfOk result (λ turned. turned.events ≤ budget) }
+        ensures extends { Extends (marks_in self.old) (marks_in self.new) }
+        ensures kept { OnErr result (marks_in self.new ≡ marks_in self.old) }
+        ensures ended { IfOk result (λ turned. turned.state ≡ Ended → HasEnded self.new) }
+    {
+        match &mut self.kind {
+            Kind::Block(task) => task.turn(alloc, board, budget),
+            Kind::Input(task) => task.turn(alloc, board, budget),
+        }
+    }
+}
+
+/// An input that stays open: callers post into it.
+#[derive(Drop)]
+pub struct Entry<W: Runs> {
+    pub(crate) number: usize,
+    pub(crate) input: InputTask<W>,
+    ghost numbered: { is_entry_number (layout_of input.of.value.rest.plan) input.of.value.opens.items input.link number ≡ true },
+}
+
+/// The end of a link that leads out of the network: callers receive what comes there.
+#[derive(Drop)]
+pub struct Exit<W: Runs> {
+    pub(crate) number: usize,
+    pub(crate) of: Snapshot<Board<W>>,
+    pub(crate) link: LinkId,
+    pub(crate) exit: ExitEnd,
+    pub(crate) end: TargetEnd,
+    ghost there: { link < length (layout_of of.value.rest.plan).links },
+    ghost leads: { leads_out (layout_of of.value.rest.plan) link ≡ true },
+    ghost law: { ∥ ExitLaw exit ∥₁ },
+    ghost knows: { in_known end ≡ exit_due (layout_of of.value.rest.plan) of.value.wires.items link exit } by { Prim.hlevel (codes, table_id_coded, content.the_row.coded) },
+    ghost numbered: { is_exit_number (layout_of of.value.rest.plan) of.value.opens.items link number ≡ true },
+}
+
+/// All parts of a scattered network, to be put together again.
+#[derive(Drop)]
+pub struct Parts<W: Runs> {
+    pub board: Board<W>,
+    pub tasks: Vec<Task<W>>,
+    pub entries: Vec<Entry<W>>,
+    pub exits: Vec<Exit<W>>,
+}

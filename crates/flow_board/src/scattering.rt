@@ -1,0 +1,243 @@
+//! A network is scattered into parts that threads may turn.
+ghost use Rattle.std.specs.Prelude.{◌≡◌, ℕ, ◌<◌, ◌≤◌, ◌+◌, false, [], get_or, length, map, take, vec_capacity, IfErr, IfOk, OnErr};
+ghost use Rattle.flow_lists.specs.Lists.{below};
+ghost use Rattle.flow_link.specs.Planned.{layout_of};
+ghost use Rattle.flow_block.specs.Planned.{links_out};
+ghost use Rattle.flow_lawful.specs.Lawful.{Lawful};
+ghost use Rattle.flow_wire.specs.Ends.{Start, is_crossing};
+ghost use Rattle.flow_core.specs.Inputs.{InputsStay};
+ghost use Rattle.flow_core.specs.InOrder.{journals_of};
+ghost use Rattle.flow_core.specs.State.{NetState, line_at, no_node};
+ghost use Rattle.flow_net.specs.Net.{layout_in, parts_of, run_of};
+ghost use Rattle.flow_exec.specs.Works.{works_of};
+ghost use Rattle.flow_exit.specs.Exit.{fresh_exit};
+ghost use Rattle.flow_input.specs.Input.{no_input};
+ghost use Rattle.flow_board.specs.Absent.{AllThere};
+ghost use Rattle.flow_board.specs.Exits.{exit_due};
+ghost use Rattle.flow_board.specs.Frames.{IsRoomFor};
+ghost use Rattle.flow_board.specs.Inputs.{input_due, links_of_inputs};
+ghost use Rattle.flow_board.specs.Known.{in_known, ins_due, out_known, outs_due};
+ghost use Rattle.flow_board.specs.Orders.{AreInOrder};
+ghost use Rattle.flow_board.specs.Parts.{AllEntriesOf, AllExitsOf, AllTasksOf, board_layout, marks_in};
+ghost use Rattle.flow_board.specs.Stands.{StandsFor};
+ghost use Rattle.flow_board.specs.Wired.{AllReady, AreWired, starts_of};
+
+use crate::board::Board;
+use crate::frame::Frame;
+use crate::home::bring_home;
+use crate::numbered::{Entry, Exit, Parts, Task};
+use crate::sources::Sources;
+use crate::targets::Targets;
+use crate::wires::{Wired, make_wires};
+use flow_block::Node;
+use flow_exit::ExitEnd;
+use flow_input::Input;
+use flow_net::{Net, NetParts};
+use flow_value::Runs;
+use std::alloc::{AllocError, Global};
+use std::mem::replace;
+
+/// Scatters a network into its parts: its blocks, its inputs and its exits. What is under way over a link that was given is taken
+/// first. Threads turn the tasks, each one at a time, and `gather` puts the parts together again. Where memory is out the network
+/// comes back, and what was taken stays taken.
+pub fn scatter<W: Runs>(alloc: Global, mut net: Net<W>) -> Result<Parts<W>, (Net<W>, AllocError)>
+    ensures same_layout { IfOk result (λ parts. board_layout parts.board ≡ layout_in net) }
+    ensures tasks_of { IfOk result (λ parts. AllTasksOf parts.board parts.tasks.items) }
+    ensures entries_of { IfOk result (λ parts. AllEntriesOf parts.board parts.entries.items) }
+    ensures exits_of { IfOk result (λ parts. AllExitsOf parts.board parts.exits.items) }
+    ensures there { IfOk result (λ parts. AllThere parts.board parts.tasks.items parts.entries.items parts.exits.items) }
+    ensures journals { IfOk result (λ parts. StandsFor W.meaning (layout_in net) (parts_of net) parts.tasks.items) }
+    ensures back { IfErr result (λ refused. layout_in refused.0 ≡ layout_in net) }
+    ensures inputs_stay { IfErr result (λ refused. InputsStay (parts_of net) (parts_of refused.0)) }
+    ensures lawful { IfErr result (λ refused. Lawful (run_of W.meaning refused.0)) }
+{
+    match bring_home(alloc, &mut net) {
+        Ok(()) => scatter_home(alloc, net),
+        Err(fault) => Err((net, fault)),
+    }
+}
+
+/// The same of a network over none of whose links a message is under way.
+fn scatter_home<W: Runs>(alloc: Global, net: Net<W>) -> Result<Parts<W>, (Net<W>, AllocError)>
+    requires home { (l : ℕ) → l < length (layout_in net).links → is_crossing (line_at (parts_of net) l).phase ≡ false }
+    ensures same_layout { IfOk result (λ parts. board_layout parts.board ≡ layout_in net) }
+    ensures tasks_of { IfOk result (λ parts. AllTasksOf parts.board parts.tasks.items) }
+    ensures entries_of { IfOk result (λ parts. AllEntriesOf parts.board parts.entries.items) }
+    ensures exits_of { IfOk result (λ parts. AllExitsOf parts.board parts.exits.items) }
+    ensures there { IfOk result (λ parts. AllThere parts.board parts.tasks.items parts.entries.items parts.exits.items) }
+    ensures journals { IfOk result (λ parts. map marks_in (take (length (layout_in net).blocks) parts.tasks.items) ≡ journals_of (parts_of net)) }
+    ensures back { IfErr result (λ refused. layout_in refused.0 ≡ layout_in net) }
+    ensures inputs_stay { IfErr result (λ refused. InputsStay (parts_of net) (parts_of refused.0)) }
+    ensures lawful { IfErr result (λ refused. Lawful (run_of W.meaning refused.0)) }
+{
+    let mut apart = net.into_parts();
+    let frame = match Frame::new(alloc, &apart) {
+        Ok(frame) => frame,
+        Err(fault) => return Err((apart.join(), fault)),
+    };
+    match wire_up(alloc, &mut apart) {
+        Ok(wired) => Ok(frame.fill(alloc, apart, wired)),
+        Err(fault) => Err((apart.join(), fault)),
+    }
+}
+
+/// Makes the wires of the links of a network that is apart. Where memory is out, the links are in order as they were.
+fn wire_up<W>(alloc: Global, apart: &mut NetParts<W>) -> Result<Wired, AllocError>
+    ghost starts: { ℕ → Start }
+    requires { AllReady starts apart.old.lines.items }
+    ensures made { IfOk result (λ wired. AreWired starts (length apart.old.lines.items) wired.wires.items wired.sources.items
+        wired.targets.items) }
+    ensures count { length apart.new.lines.items ≡ length apart.old.lines.items }
+    ensures back { OnErr result (AllReady starts apart.new.lines.items) }
+    ensures plan { apart.new.plan ≡ apart.old.plan }
+    ensures nodes { apart.new.nodes ≡ apart.old.nodes }
+    ensures inputs { apart.new.inputs ≡ apart.old.inputs }
+    ensures exits { apart.new.exits ≡ apart.old.exits }
+{
+    make_wires(alloc, &mut apart.lines)
+}
+
+/// Room for all parts of a network.
+#[derive(Drop)]
+pub(crate) struct Room<W: Runs> {
+    pub(crate) tasks: Vec<Task<W>>,
+    pub(crate) entries: Vec<Entry<W>>,
+    pub(crate) exits: Vec<Exit<W>>,
+}
+
+/// The blocks, inputs and exits of a network.
+#[derive(Drop)]
+pub(crate) struct Lists {
+    pub(crate) nodes: Vec<Node>,
+    pub(crate) inputs: Vec<Input>,
+    pub(crate) exits: Vec<ExitEnd>,
+}
+
+impl<W: Runs> Board<W> {
+    /// Makes all parts, with their ends.
+    pub(crate) fn make_parts(
+        self,
+        lists: Lists,
+        sources: Sources,
+        targets: Targets,
+        room: Room<W>,
+    ) -> Parts<W>
+        requires in_order { AreInOrder (layout_of self.rest.plan) (works_of W.meaning (layout_of self.rest.plan)) lists.nodes.items
+            lists.inputs.items lists.exits.items }
+        requires outs { map (λ row. map out_known row.items) sources.outs.items ≡ map (λ b. outs_due (layout_of self.rest.plan)
+            self.wires.items b (get_or lists.nodes.items b no_node)) (below (length (layout_of self.rest.plan).blocks)) }
+        requires ins { map (λ ports. map (λ row. map in_known row.items) ports.items) targets.ins.items ≡ map (λ b. ins_due
+            (layout_of self.rest.plan) self.wires.items b (get_or lists.nodes.items b no_node))
+            (below (length (layout_of self.rest.plan).blocks)) }
+        requires inputs { map out_known sources.inputs.items ≡ map (λ q. input_due (layout_of self.rest.plan) self.wires.items
+            (get_or (links_of_inputs (layout_of self.rest.plan)) q 0) (get_or lists.inputs.items q no_input))
+            (below (length (links_of_inputs (layout_of self.rest.plan)))) }
+        requires exits { map in_known targets.exits.items ≡ map (λ k. exit_due (layout_of self.rest.plan) self.wires.items
+            (get_or (links_out (layout_of self.rest.plan)) k 0) (get_or lists.exits.items k fresh_exit))
+            (below (length (links_out (layout_of self.rest.plan)))) }
+        requires no_task { room.tasks.items ≡ [] }
+        requires no_entry { room.entries.items ≡ [] }
+        requires no_exit { room.exits.items ≡ [] }
+        requires tasks_room { length lists.nodes.items + length lists.inputs.items ≤ vec_capacity room.tasks }
+        requires entries_room { length lists.inputs.items ≤ vec_capacity room.entries }
+        requires exits_room { length lists.exits.items ≤ vec_capacity room.exits }
+        ensures board { result.board ≡ self }
+        ensures tasks_of { AllTasksOf self result.tasks.items }
+        ensures entries_of { AllEntriesOf self result.entries.items }
+        ensures exits_of { AllExitsOf self result.exits.items }
+        ensures there { AllThere self result.tasks.items result.entries.items result.exits.items }
+        ensures journals { map marks_in (take (length lists.nodes.items) result.tasks.items) ≡ map (λ node. node.journal) lists.nodes.items }
+    {
+        let Room {
+            mut tasks,
+            mut entries,
+            mut exits,
+        } = room;
+        let first = self.rest.plan.block_count() + self.closed_count();
+        let last = first + self.open_count();
+        self.make_blocks(lists.nodes, sources.outs, targets.ins, &mut tasks);
+        self.make_inputs(
+            lists.inputs,
+            sources.inputs,
+            first,
+            &mut tasks,
+            &mut entries,
+        );
+        self.make_exits(lists.exits, targets.exits, last, &mut exits);
+        Parts {
+            board: self,
+            tasks,
+            entries,
+            exits,
+        }
+    }
+}
+
+impl<W: Runs> Frame<W> {
+    /// The parts of the network for which this is the room, with the wires of its links.
+    pub(crate) fn fill(self, alloc: Global, mut apart: NetParts<W>, wired: Wired) -> Parts<W>
+        ghost net: { NetState }
+        requires nodes { net.nodes ≡ apart.nodes.items }
+        requires inputs { net.inputs ≡ apart.inputs.items }
+        requires exits { net.exits ≡ apart.exits.items }
+        requires lines { length apart.lines.items ≡ length (layout_of apart.plan).links }
+        requires room { IsRoomFor (layout_of apart.plan) net.nodes net.inputs net.exits self }
+        requires in_order { AreInOrder (layout_of apart.plan) (works_of W.meaning (layout_of apart.plan)) net.nodes net.inputs net.exits }
+        requires wired { AreWired (starts_of (layout_of apart.plan) net) (length (layout_of apart.plan).links) wired.wires.items
+            wired.sources.items wired.targets.items }
+        ensures plan { result.board.rest.plan ≡ apart.plan }
+        ensures lines { result.board.rest.lines.items ≡ apart.lines.items }
+        ensures tasks_of { AllTasksOf result.board result.tasks.items }
+        ensures entries_of { AllEntriesOf result.board result.entries.items }
+        ensures exits_of { AllExitsOf result.board result.exits.items }
+        ensures there { AllThere result.board result.tasks.items result.entries.items result.exits.items }
+        ensures journals { map marks_in (take (length net.nodes) result.tasks.items) ≡ map (λ node. node.journal) net.nodes }
+    {
+        let Frame {
+            mut sources,
+            mut targets,
+            tasks,
+            entries,
+            exits,
+            inputs,
+            outs,
+            opens,
+        } = self;
+        let Wired {
+            wires,
+            sources: source_ends,
+            targets: target_ends,
+        } = wired;
+        sources.deal(&apart.plan, source_ends);
+        targets.deal(&apart.plan, target_ends);
+        let lists = take_lists(alloc, &mut apart);
+        let board = Board {
+            rest: apart,
+            wires,
+            inputs,
+            exits: outs,
+            opens,
+        };
+        let room = Room {
+            tasks,
+            entries,
+            exits,
+        };
+        board.make_parts(lists, sources, targets, room)
+    }
+}
+
+/// Takes the blocks, inputs and exits out of a network that is apart.
+fn take_lists<W>(alloc: Global, apart: &mut NetParts<W>) -> Lists
+    ensures nodes { result.nodes.items ≡ apart.old.nodes.items }
+    ensures inputs { result.inputs.items ≡ apart.old.inputs.items }
+    ensures exits { result.exits.items ≡ apart.old.exits.items }
+    ensures plan { apart.new.plan ≡ apart.old.plan }
+    ensures lines { apart.new.lines ≡ apart.old.lines }
+{
+    Lists {
+        nodes: replace(&mut apart.nodes, Vec::new(alloc)),
+        inputs: replace(&mut apart.inputs, Vec::new(alloc)),
+        exits: replace(&mut apart.exits, Vec::new(alloc)),
+    }
+}
