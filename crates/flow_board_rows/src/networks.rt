@@ -1,0 +1,105 @@
+//! The networks of these tests, scattered and gathered.
+ghost use Rattle.flow_board.specs.Parts.{AllEntriesOf, AllExitsOf, AllTasksOf};
+
+use anyhow::Result;
+use flow_board::{Parts, gather, scatter};
+use flow_front::Inputs;
+use flow_link::{BlockDef, BlockKind, Draft, Ending, LinkDef, Mark};
+use flow_net::{Net, Settled};
+use flow_value::{Steps, Value};
+use std::alloc::Global;
+use std::process::Abort;
+
+/// A buffer to which 1, 2 and 3 are posted, a transform that doubles them, and an action that records them.
+fn chain(alloc: Global) -> Result<Inputs<Steps>> {
+    let double = Steps::read(alloc, &["mul 2"])?;
+    let keep = Steps::read(alloc, &["id"])?;
+    let plan = Draft::new(alloc)
+        .block(BlockDef::named(alloc, "in", BlockKind::Buffer)?.input())?
+        .block(BlockDef::named(alloc, "double", BlockKind::Transform)?.work(double))?
+        .block(BlockDef::named(alloc, "out", BlockKind::Action)?.work(keep))?
+        .link(LinkDef::between(alloc, "in", "double")?.propagate())?
+        .link(LinkDef::between(alloc, "double", "out")?.propagate())?
+        .check(alloc)?;
+    let mut inputs = Inputs::of(alloc, plan)?;
+    inputs.post("in", Value::Int(1))?;
+    inputs.post("in", Value::Int(2))?;
+    inputs.post("in", Value::Int(3))?;
+    inputs.end("in", Ending::Complete)?;
+    Ok(inputs)
+}
+
+/// A buffer that stays open, and leads out of the network.
+fn buffer(alloc: Global) -> Result<Inputs<Steps>> {
+    let plan = Draft::new(alloc)
+        .block(
+            BlockDef::named(alloc, "b", BlockKind::Buffer)?
+                .input()
+                .output(),
+        )?
+        .check(alloc)?;
+    let mut inputs = Inputs::of(alloc, plan)?;
+    inputs.end("b", Ending::Open)?;
+    Ok(inputs)
+}
+
+/// The parts of the network of these inputs.
+fn scattered(rt: &impl Abort, alloc: Global, inputs: Result<Inputs<Steps>>) -> Parts<Steps>
+    ensures tasks_of { AllTasksOf result.board result.tasks.items }
+    ensures entries_of { AllEntriesOf result.board result.entries.items }
+    ensures exits_of { AllExitsOf result.board result.exits.items }
+{
+    let Ok(inputs) = inputs else {
+        panic!(rt; "no plan");
+    };
+    let Ok(net) = inputs.start(alloc) else {
+        panic!(rt; "out of memory");
+    };
+    let Ok(parts) = scatter(alloc, net) else {
+        panic!(rt; "out of memory");
+    };
+    parts
+}
+
+/// The parts of the chain.
+pub(crate) fn chain_parts(rt: &impl Abort, alloc: Global) -> Parts<Steps>
+    ensures tasks_of { AllTasksOf result.board result.tasks.items }
+    ensures entries_of { AllEntriesOf result.board result.entries.items }
+    ensures exits_of { AllExitsOf result.board result.exits.items }
+{
+    scattered(rt, alloc, chain(alloc))
+}
+
+/// The parts of the buffer.
+pub(crate) fn buffer_parts(rt: &impl Abort, alloc: Global) -> Parts<Steps>
+    ensures tasks_of { AllTasksOf result.board result.tasks.items }
+    ensures entries_of { AllEntriesOf result.board result.entries.items }
+    ensures exits_of { AllExitsOf result.board result.exits.items }
+{
+    scattered(rt, alloc, buffer(alloc))
+}
+
+/// The network of these parts, all of which are there.
+pub(crate) fn gathered(rt: &impl Abort, alloc: Global, parts: Parts<Steps>) -> Net<Steps>
+    requires tasks_of { AllTasksOf parts.board parts.tasks.items }
+    requires entries_of { AllEntriesOf parts.board parts.entries.items }
+    requires exits_of { AllExitsOf parts.board parts.exits.items }
+{
+    let Ok(net) = gather(alloc, parts) else {
+        panic!(rt; "the parts are not gathered");
+    };
+    net
+}
+
+/// Does all that is left to do.
+pub(crate) fn settle(rt: &impl Abort, alloc: Global, net: &mut Net<Steps>) {
+    assert!(rt; matches!(net.settle(alloc, 1_000), Ok(Settled::Quiet)));
+}
+
+/// The marks of the block with this name.
+pub(crate) fn journal<'a>(rt: &impl Abort, net: &'a Net<Steps>, name: &str) -> &'a [Mark] {
+    let Some(block) = net.plan().find(name) else {
+        panic!(rt; "no block {name}");
+    };
+    net.journal(block)
+}

@@ -1,0 +1,72 @@
+//! Tasks are turned in rounds.
+ghost use Rattle.std.specs.Prelude.{◌≡◌};
+ghost use Rattle.flow_board.specs.Parts.{AllTasksOf, board_of};
+
+use flow_board::{Board, Task};
+use flow_poll::TurnState;
+use flow_value::Steps;
+use std::alloc::Global;
+use std::process::Abort;
+
+/// Turns a task, and tells how that was.
+fn turn(
+    rt: &impl Abort,
+    alloc: Global,
+    board: &Board<Steps>,
+    task: &mut Task<Steps>,
+    budget: u32,
+) -> TurnState
+    requires of { board_of task.old ≡ board.now }
+    ensures of { board_of task.new ≡ board_of task.old }
+{
+    let Ok(turned) = task.turn(alloc, board, budget) else {
+        panic!(rt; "out of memory");
+    };
+    turned.state
+}
+
+/// Turns each task once, and tells how that was for all together.
+fn turn_each(
+    rt: &impl Abort,
+    alloc: Global,
+    board: &Board<Steps>,
+    tasks: Vec<Task<Steps>>,
+    budget: u32,
+) -> (Vec<Task<Steps>>, TurnState)
+    requires of { AllTasksOf board.now tasks.items }
+    ensures of { AllTasksOf board.now result.0.items }
+{
+    let mut turned = Vec::new(alloc);
+    let mut state = TurnState::Ended;
+    for task in tasks {
+        let mut task = task;
+        state = state.joint(turn(rt, alloc, board, &mut task, budget));
+        let Ok(()) = turned.push(task) else {
+            panic!(rt; "out of memory");
+        };
+    }
+    (turned, state)
+}
+
+/// Turns all tasks in rounds, until a round in which none moved, or as many as these.
+pub(crate) fn turn_all(
+    rt: &impl Abort,
+    alloc: Global,
+    board: &Board<Steps>,
+    tasks: Vec<Task<Steps>>,
+    budget: u32,
+    rounds: usize,
+) -> (Vec<Task<Steps>>, TurnState)
+    requires of { AllTasksOf board.now tasks.items }
+    ensures of { AllTasksOf board.now result.0.items }
+{
+    let mut tasks = tasks;
+    for _ in 0..rounds {
+        let (next, state) = turn_each(rt, alloc, board, tasks, budget);
+        tasks = next;
+        if state != TurnState::Moved {
+            return (tasks, state);
+        }
+    }
+    (tasks, TurnState::Moved)
+}
