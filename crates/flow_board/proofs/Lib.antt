@@ -18,7 +18,9 @@ pub mod InputTells
 pub mod InputsApart
 pub mod InputsLeft
 pub mod InputsMore
+pub mod InputsStayed
 pub mod InputsTaken
+pub mod JournalsBegin
 pub mod JournalsGrow
 pub mod LinkOnce
 pub mod LinksFound
@@ -38,6 +40,7 @@ pub mod TargetsTake
 pub mod TaskSteps
 pub mod TasksApart
 pub mod TurnsGrow
+pub mod TurnsHappen
 pub mod TurnsStill
 pub mod WiresTell
 pub mod WordsFit

@@ -8,7 +8,8 @@ use Rattle.flow_board.specs.declared.board.Board.{Board}
 use Rattle.flow_board.specs.declared.numbered.Entry.{Entry}
 use Rattle.flow_board.specs.declared.numbered.Exit.{Exit}
 use Rattle.flow_board.specs.declared.numbered.Task.{Task}
-use Rattle.flow_board.specs.Parts.{AllEntriesOf, AllExitsOf, AllTasksOf, board_of}
+use Rattle.flow_board.specs.declared.numbered.Watch.{Watch}
+use Rattle.flow_board.specs.Parts.{AllEntriesOf, AllExitsOf, AllTasksOf, AllWatchesOf, board_of}
 
 -- What is left of a list
 
@@ -72,6 +73,11 @@ module _ {W : Type 0} {w : _} {e : _} (board : Board W) where
       → AllExitsOf board (exits ++ exit ∷ [])
   exits_on [] exit all is = (is, tt)
   exits_on (first ∷ exits) exit all is = (all.0, exits_on exits exit all.1 is)
+
+  pub watches_on : (watches : List (Watch W w e)) (watch : Watch W w e) → AllWatchesOf board watches → watch.of.value ≡ board
+      → AllWatchesOf board (watches ++ watch ∷ [])
+  watches_on [] watch all is = (is, tt)
+  watches_on (first ∷ watches) watch all is = (all.0, watches_on watches watch all.1 is)
 
 -- a list with another in front is no shorter
 pub front_long : {A : Type 0} (front whole : List A) → take (length front) whole ≡ front → length front ≤ length whole

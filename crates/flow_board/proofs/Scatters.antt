@@ -1,10 +1,9 @@
 -- A network that is in order has links of which wires can be made, and stays in order without them.
-use Rattle.std.proofs.Common.{◌≡◌, ℕ, ◌<◌, cond, Bool, true, false, List, length, map, get_or, Result, refl, sym, ap, ◌∙◌, subst}
+use Rattle.std.proofs.Common.{◌≡◌, ℕ, ◌<◌, cond, Bool, true, false, List, length, get_or, Result, refl, sym, ap, ◌∙◌, subst}
 use Rattle.std.proofs.Math.Logic.{∥∥₁_elim, ∥∥₁_map}
 use Rattle.std.proofs.Math.Nat.{ℕ_set}
 use Rattle.atomic_table.specs.Seated.{TableId}
 use Rattle.flow_value.specs.declared.value.Value.{Value}
-use Rattle.flow_lists.specs.Lists.{below}
 use Rattle.flow_link.specs.declared.plan.Plan.{Plan}
 use Rattle.flow_link.specs.declared.plan.LinkSource.{LinkSource}
 use Rattle.flow_link.specs.declared.plan.LinkSource.TheVariants.{Block, Input}
@@ -15,7 +14,6 @@ use Rattle.flow_link.specs.declared.stage.SourceStage.TheVariants as source
 use Rattle.flow_link.specs.declared.trace.LinkState.{LinkState}
 use Rattle.flow_link.specs.Facts.{facts_in}
 use Rattle.flow_link.specs.Layout.{Layout}
-use Rattle.flow_link.specs.LinkOk.{LinkOk}
 use Rattle.flow_link.specs.Plan.{is_one_taker, link_in}
 use Rattle.flow_link.specs.Stage.{source_stage_of}
 use Rattle.flow_link.specs.Views.{SourceView, TargetView}
@@ -31,7 +29,7 @@ use Rattle.flow_exit.specs.Exit.{ExitState}
 use Rattle.flow_input.specs.Input.{InputState, no_input}
 use Rattle.flow_input.specs.InputKeeps.{PostedStays}
 use Rattle.flow_core.specs.Inputs.{InputsStay, input_of}
-use Rattle.flow_board.specs.Wired.{AllReady, AreWired, idle, starts_of}
+use Rattle.flow_board.specs.Wired.{AllReady, AreWired, starts_of}
 use Rattle.flow_board.proofs.LinkOnce.{link_prop}
 use Rattle.flow_board.proofs.Places.{all_same}
 

@@ -1,5 +1,5 @@
 -- In each step of a turn a journal goes on, and where nothing was done it is as it was: a look marks nothing.
-use Rattle.std.proofs.Common.{◌≡◌, ℕ, Bool, true, false, cond, List, [], ◌∷◌, Option, Some, Result, Ok, Err, IfOk, OnOk, OnErr, refl, ap, ◌∙◌, subst}
+use Rattle.std.proofs.Common.{◌≡◌, ℕ, Bool, true, false, cond, List, [], ◌∷◌, Some, Result, Ok, Err, ap, sym, ◌∙◌, subst}
 use Rattle.std.specs.Coded.{codes}
 use Rattle.std.specs.declared.alloc.AllocError.{AllocError}
 use Rattle.std.proofs.Math.Logic.{∥∥₁_elim}
@@ -12,11 +12,12 @@ use Rattle.flow_link.specs.contracts.trace.Mark as mark
 use Rattle.flow_link.specs.Plan.{is_one_taker}
 use Rattle.flow_block.specs.Copies.{CopyCall}
 use Rattle.flow_block.specs.Node.{NodeState, NodeCall}
-use Rattle.flow_core.specs.Events.{source_look}
+use Rattle.flow_core.specs.Events.{in_call, source_call, source_look}
 use Rattle.flow_moves.specs.Calls.{Calls}
 use Rattle.flow_poll.specs.Turns.{Extends}
-use Rattle.flow_poll.proofs.EachGoes.{extends_further}
-use Rattle.flow_board.specs.Turns.{Does, Grows}
+use Rattle.flow_poll.proofs.EachGoes.{extends_further, extends_itself}
+use Rattle.flow_board.specs.Events.{BlockEvent, BlockHappens, Does}
+use Rattle.flow_board.specs.Turns.{Grows}
 use Rattle.flow_board.proofs.JournalsGrow.{grown}
 
 Mark-set : IsSet Mark
@@ -49,6 +50,21 @@ pub look_out_keeps : (kind : BlockKind) (k : ℕ) (phase : Phase) (node new : No
     → Calls (Some (source_look kind k phase)) node new → new.journal ≡ node.journal
 look_out_keeps kind k phase node new calls = look_keeps (is_one_taker kind) k phase node new calls
 
+-- An event
+
+event_grows : (makes : Value → Result (List Value) ℕ) (event : BlockEvent) (old new : NodeState) → BlockHappens makes event old new
+    → Extends old.journal new.journal
+event_grows makes BlockEvent.make old new is = grown (Some NodeCall.make) old new is.leaves
+event_grows makes BlockEvent.begin old new is = grown (Some NodeCall.begin) old new is.leaves
+event_grows makes (BlockEvent.end_job ticket) old new is =
+    subst (λ (node : NodeState). Extends old.journal node.journal) (sym is.leaves) (extends_itself old.journal)
+event_grows makes (BlockEvent.complete p) old new is = grown (Some (NodeCall.complete p)) old new is.leaves
+event_grows makes (BlockEvent.fault number) old new is = grown (Some (NodeCall.fault number)) old new is.leaves
+event_grows makes BlockEvent.finish old new is = grown (Some NodeCall.finish) old new is.leaves
+event_grows makes (BlockEvent.move_in p k next) old new is =
+    ∥∥₁_elim is.leaves (extends_prop old.journal new.journal) (λ some. grown (in_call p k some.0 next) old new some.1)
+event_grows makes (BlockEvent.move_out k next) old new is = grown (source_call old.block.kind k next) old new is.leaves
+
 -- A step, where the journal was as it is before
 
 pub grows_from : (result : Result Bool AllocError) (first old new : NodeState) → old.journal ≡ first.journal → Grows result old new
@@ -57,37 +73,11 @@ grows_from (Ok true) first old new same grows = subst (λ (journal : List Mark).
 grows_from (Ok false) first old new same grows = grows ∙ same
 grows_from (Err fault) first old new same grows = grows ∙ same
 
-pub does_grows : (result : Result Bool AllocError) (old new : NodeState) → Does result old new → Grows result old new
-does_grows (Ok true) old new does = does
-does_grows (Ok false) old new does = ap marks_of does
-does_grows (Err fault) old new does = ap marks_of does
-
--- a move, if it was not too late for it, nor memory out
-pub moved_does : (result : Result Bool AllocError) (call : Option NodeCall) (node new : NodeState)
-    → IfOk result (λ moved. moved ≡ true → Calls call node new) → IfOk result (λ moved. moved ≡ false → new ≡ node)
-    → OnErr result (new ≡ node) → Does result node new
-moved_does (Ok true) call node new moved missed kept = grown call node new (moved refl)
-moved_does (Ok false) call node new moved missed kept = missed refl
-moved_does (Err fault) call node new moved missed kept = kept
-
-pub merely_does : {X : Type 0} (result : Result Bool AllocError) (call : X → Option NodeCall) (node new : NodeState)
-    → IfOk result (λ moved. moved ≡ true → ∥ ((x : X) × Calls (call x) node new) ∥₁) → IfOk result (λ moved. moved ≡ false → new ≡ node)
-    → OnErr result (new ≡ node) → Does result node new
-merely_does (Ok true) call node new moved missed kept =
-    ∥∥₁_elim (moved refl) (extends_prop node.journal new.journal) (λ some. grown (call some.0) node new some.1)
-merely_does (Ok false) call node new moved missed kept = missed refl
-merely_does (Err fault) call node new moved missed kept = kept
-
--- what a block does by itself, unless an id or memory is wanting
-pub undone_does : {A E : Type 0} (done : Result A E) (result : Result Bool AllocError) (node new : NodeState)
-    → OnOk done (result ≡ Ok true) → OnErr done (IfOk result (λ did. did ≡ false))
-    → OnOk done (Extends node.journal new.journal) → OnErr done (new ≡ node) → Does result node new
-undone_does (Ok value) (Ok true) node new is not extends kept = extends
-undone_does (Ok value) (Ok false) node new is not extends kept = absurd (cc)
-undone_does (Ok value) (Err fault) node new is not extends kept = absurd (cc)
-undone_does (Err lack) (Ok true) node new is not extends kept = absurd (cc)
-undone_does (Err lack) (Ok false) node new is not extends kept = kept
-undone_does (Err lack) (Err fault) node new is not extends kept = kept
+pub does_grows : (makes : Value → Result (List Value) ℕ) (result : Result Bool AllocError) (old new : NodeState) → Does makes result old new
+    → Grows result old new
+does_grows makes (Ok true) old new does = ∥∥₁_elim does (extends_prop old.journal new.journal) (λ some. event_grows makes some.0 old new some.1)
+does_grows makes (Ok false) old new does = ap marks_of does
+does_grows makes (Err fault) old new does = ap marks_of does
 
 -- Step after step
 

@@ -1,5 +1,6 @@
 -- Where nothing was done, nothing is left to do: what was found step by step holds of the node as it was, and as it is.
-use Rattle.std.proofs.Common.{◌≡◌, ℕ, ◌<◌, Bool, true, false, List, length, Option, Some, Result, Ok, Err, IfOk, refl, sym, ◌∙◌, subst}
+use Rattle.std.proofs.Common.{◌≡◌, ℕ, ◌+◌, ◌<◌, ◌≤◌, Bool, true, false, List, length, Option, Some, Result, Ok, Err, IfOk, ⊎_elim, refl, sym, ◌∙◌, subst, arith}
+use Rattle.std.proofs.lemmas.Bool.{cases_lt}
 use Rattle.std.specs.declared.alloc.AllocError.{AllocError}
 use Rattle.flow_value.specs.declared.value.Value.{Value}
 use Rattle.flow_link.specs.declared.phase.Move.{Move}
@@ -10,16 +11,45 @@ use Rattle.flow_outlet.specs.Outlet.{lacks_ids}
 use Rattle.flow_block.specs.Peeks.{may_begin, may_end}
 use Rattle.flow_block_law.specs.JobsEnd.{put_at_end}
 use Rattle.flow_core.specs.MovesFit.{out_count}
-use Rattle.flow_board.specs.Turns.{Does, IsStill, JobsAreDone, MakeIsDone, OutIsStill, OwnIsDone, PortIsStill, StaysOpen}
+use Rattle.flow_board.specs.Events.{Does, HasEvent}
+use Rattle.flow_board.specs.Turns.{IsStill, JobsAreDone, MakeIsDone, OutIsStill, OwnIsDone, PortIsStill, StaysOpen}
 
 some_is : {A : Type 0} {x y : A} → Some x ≡ Some y → x ≡ y
 some_is e = cc
 
-pub unmoved : (did : Bool) (old new : NodeState) → did ≡ false → Does (Ok did) old new → new ≡ old
-unmoved did old new not does = subst (λ (b : Bool). Does (Ok b) old new) not does
+pub unmoved : (makes : Value → Result (List Value) ℕ) (did : Bool) (old new : NodeState) → did ≡ false → Does makes (Ok did) old new → new ≡ old
+unmoved makes did old new not does = subst (λ (b : Bool). Does makes (Ok b) old new) not does
 
-pub does_from : (result : Result Bool AllocError) (first old new : NodeState) → old ≡ first → Does result old new → Does result first new
-does_from result first old new same does = subst (λ (node : NodeState). Does result node new) same does
+pub does_from : (result : Result Bool AllocError) (makes makes' : Value → Result (List Value) ℕ) (first old new : NodeState)
+    → makes' ≡ makes → old ≡ first → Does makes' result old new → Does makes result first new
+does_from result makes makes' first old new same from does =
+    subst (λ (node : NodeState). Does makes result node new) from
+    (subst (λ (m : Value → Result (List Value) ℕ). Does m result old new) same does)
+
+-- an event that was done by a block which was as it is
+pub event_from : (makes makes' : Value → Result (List Value) ℕ) (did : Bool) (first old new : NodeState) → did ≡ true → makes' ≡ makes
+    → old ≡ first → Does makes' (Ok did) old new → ∥ HasEvent makes first new ∥₁
+event_from makes makes' did first old new said same from does =
+    does_from (Ok true) makes makes' first old new same from (subst (λ (b : Bool). Does makes' (Ok b) old new) said does)
+
+-- what holds from a place to another holds with that one
+pub between_more : (P : ℕ → Type 0) (first n : ℕ) → ((k : ℕ) → first ≤ k → k < n → P k) → P n → (k : ℕ) → first ≤ k → k < n + 1 → P k
+between_more P first n before here k from low =
+    ⊎_elim (λ (less : k < n). before k from less) (λ (same : n ≤ k). let is : n ≡ k = omega (arith, same, low) in subst P is here)
+    (cases_lt k n)
+
+-- what holds from a place to the end, and before it, holds everywhere
+pub once_round : (P : ℕ → Type 0) (first n : ℕ) → ((k : ℕ) → first ≤ k → k < n → P k) → ((k : ℕ) → 0 ≤ k → k < first → P k)
+    → (k : ℕ) → k < n → P k
+once_round P first n behind before k low =
+    ⊎_elim (λ (less : k < first). before k (omega arith) less) (λ (from : first ≤ k). behind k from low) (cases_lt k first)
+
+pub round_still : (result : Result Bool AllocError) (P Q : ℕ → Type 0) (first n : ℕ) → ((k : ℕ) → first ≤ k → k < n → P k)
+    → ((k : ℕ) → Q k → P k) → IfOk result (λ did. did ≡ false → (k : ℕ) → 0 ≤ k → k < first → Q k)
+    → IfOk result (λ did. did ≡ false → (k : ℕ) → k < n → P k)
+round_still (Ok did) P Q first n behind into before =
+    λ not. once_round P first n behind (λ k from low. into k (before not k from low))
+round_still (Err fault) P Q first n behind into before = tt
 
 -- the move that was found is the one that came too late
 pub missed : (result : Result Bool AllocError) (found : Option Move) (next : Move) (Late : Move → Type 0) → found ≡ Some next
@@ -70,7 +100,7 @@ all_still (Ok did) makes first second third one two own ins outs =
 all_still (Err fault) makes first second third one two own ins outs = tt
 
 pub still_later : (result : Result Bool AllocError) (makes makes' : Value → Result (List Value) ℕ) (old new : NodeState) → makes' ≡ makes
-    → Does result old new → IfOk result (λ did. did ≡ false → IsStill makes' old) → IfOk result (λ did. did ≡ false → IsStill makes new)
+    → Does makes' result old new → IfOk result (λ did. did ≡ false → IsStill makes' old) → IfOk result (λ did. did ≡ false → IsStill makes new)
 still_later (Ok true) makes makes' old new same does still = λ not. absurd (cc)
 still_later (Ok false) makes makes' old new same does still =
     λ not.

@@ -1,8 +1,6 @@
 -- What there is room for before the parts of a network are made.
-use Rattle.std.specs.Prelude.{◌≡◌, ◌+◌, ◌≤◌, Bool, true, false, List, [], length, map, get_or, vec_capacity}
+use Rattle.std.specs.Prelude.{◌≡◌, ◌+◌, ◌≤◌, List, [], length, map, get_or, vec_capacity}
 use Rattle.flow_lists.specs.Lists.{below}
-use Rattle.flow_link.specs.declared.trace.Ending.{Ending}
-use Rattle.flow_link.specs.declared.trace.Ending.TheVariants.{Open}
 use Rattle.flow_link.specs.Layout.{Layout}
 use Rattle.flow_block.specs.Node.{NodeState}
 use Rattle.flow_block.specs.Planned.{links_out}
@@ -11,16 +9,9 @@ use Rattle.flow_core.specs.State.{no_node}
 use Rattle.flow_exit.specs.Exit.{ExitState}
 use Rattle.flow_input.specs.Input.{InputState}
 use Rattle.flow_board.specs.Dealt.{HasRooms, HasRoomsIn}
-use Rattle.flow_board.specs.Inputs.{links_of_inputs}
+use Rattle.flow_board.specs.Inputs.{links_of_inputs, stays_open}
 use Rattle.flow_board.specs.Known.{in_known, out_known}
 use Rattle.flow_board.specs.declared.frame.Frame.{Frame}
-
-abbrev pub is_open_ending : Ending → Bool
-is_open_ending Open = true
-is_open_ending _ = false
-
-abbrev pub stays_open : InputState → Bool
-stays_open input = is_open_ending input.ending
 
 pub record IsRoomFor {W : Type 0} {w : _} {e : _} (layout : Layout W) (nodes : List NodeState) (inputs : List InputState)
     (exits : List ExitState) (frame : Frame W w e) : Type 0 where
@@ -39,6 +30,8 @@ pub record IsRoomFor {W : Type 0} {w : _} {e : _} (layout : Layout W) (nodes : L
   pub entries_room : length inputs ≤ vec_capacity frame.entries
   pub no_exit : frame.exits.items ≡ []
   pub parts_room : length exits ≤ vec_capacity frame.exits
+  pub no_watch : frame.watches.items ≡ []
+  pub watches_room : length nodes ≤ vec_capacity frame.watches
   pub input_links : frame.inputs.items ≡ links_of_inputs layout
   pub exit_links : frame.outs.items ≡ links_out layout
   pub opens : frame.opens.items ≡ map stays_open inputs

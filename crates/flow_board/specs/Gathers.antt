@@ -1,5 +1,5 @@
 -- What gathering makes of parts, and why it does not.
-use Rattle.std.specs.Prelude.{◌≡◌, ℕ, ◌≤◌, List, [], length, map, take, vec_capacity}
+use Rattle.std.specs.Prelude.{◌≡◌, List, length, map, take}
 use Rattle.std.specs.List.Sorted.{IsPermutation}
 use Rattle.flow_lists.specs.Lists.{below}
 use Rattle.flow_link.specs.declared.trace.Mark.{Mark}

@@ -1,6 +1,8 @@
 pub mod Absent
+pub mod Begun
 pub mod Dealt
 pub mod Ended
+pub mod Events
 pub mod Exits
 pub mod Frames
 pub mod GatherRoom
@@ -14,7 +16,8 @@ pub mod Makes
 pub mod Numbers
 pub mod Orders
 pub mod Parts
-pub mod Stands
+pub mod Rests
+pub mod TaskTurns
 pub mod Tasks
 pub mod Turns
 pub mod Wired

@@ -9,6 +9,7 @@ use Rattle.flow_board.specs.declared.numbered.Exit.{Exit}
 use Rattle.flow_board.specs.declared.numbered.Kind.{Kind}
 use Rattle.flow_board.specs.declared.numbered.Kind.TheVariants as kind
 use Rattle.flow_board.specs.declared.numbered.Task.{Task}
+use Rattle.flow_board.specs.declared.numbered.Watch.{Watch}
 
 -- the layout of the network that was scattered
 abbrev pub board_layout : {W : Type 0} → Board W → Layout W
@@ -40,6 +41,9 @@ module _ {W : Type 0} {w : _} {e : _} where
   abbrev pub exit_number : Exit W w e → ℕ
   exit_number exit = exit.number
 
+  abbrev pub watched_block : Watch W w e → ℕ
+  watched_block watch = watch.block
+
   -- each of these is of this board
   abbrev pub AllTasksOf : Board W → List (Task W w e) → Type 0
   AllTasksOf board [] = Unit {0}
@@ -52,3 +56,7 @@ module _ {W : Type 0} {w : _} {e : _} where
   abbrev pub AllExitsOf : Board W → List (Exit W w e) → Type 0
   AllExitsOf board [] = Unit {0}
   AllExitsOf board (exit ∷ exits) = (exit.of.value ≡ board) × AllExitsOf board exits
+
+  abbrev pub AllWatchesOf : Board W → List (Watch W w e) → Type 0
+  AllWatchesOf board [] = Unit {0}
+  AllWatchesOf board (watch ∷ watches) = (watch.of.value ≡ board) × AllWatchesOf board watches

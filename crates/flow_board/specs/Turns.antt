@@ -38,12 +38,6 @@ Grows (Ok true) old new = Extends old.journal new.journal
 Grows (Ok false) old new = new.journal ≡ old.journal
 Grows (Err fault) old new = new.journal ≡ old.journal
 
--- it goes on by what was done; where nothing was, or memory is out, the node is as it was
-abbrev pub Does : Result Bool AllocError → NodeState → NodeState → Type 0
-Does (Ok true) old new = Extends old.journal new.journal
-Does (Ok false) old new = new ≡ old
-Does (Err fault) old new = new ≡ old
-
 -- the ends of a block look, one after another: so many of those out of it, of those into a port, and of the ports
 abbrev pub LooksOut : ℕ → NodeState → NodeState → Type 0
 LooksOut zero old new = new ≡ old

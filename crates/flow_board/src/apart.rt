@@ -3,13 +3,15 @@ ghost use Rattle.std.specs.Prelude.{◌≡◌, ℕ, ◌<◌, ◌≤◌, ◌+◌,
 ghost use Rattle.flow_lists.specs.Lists.{below, numbers_from};
 ghost use Rattle.flow_link.specs.Planned.{layout_of};
 ghost use Rattle.flow_block_law.specs.NodeLaw.{NodeLaw};
+ghost use Rattle.flow_core.specs.Inputs.{input_of};
 ghost use Rattle.flow_core.specs.State.{no_node};
 ghost use Rattle.flow_exec.specs.Works.{works_of};
 ghost use Rattle.flow_exit.specs.ExitKeeps.{ExitLaw};
 ghost use Rattle.flow_exit.specs.Exit.{fresh_exit};
 ghost use Rattle.flow_block.specs.Planned.{links_out};
 ghost use Rattle.flow_input.specs.Input.{no_input};
-ghost use Rattle.flow_input.specs.InputKeeps.{InputLaw};
+ghost use Rattle.flow_input.specs.InputKeeps.{InputLaw, PostedStays};
+ghost use Rattle.flow_board.specs.Begun.{begun_in};
 ghost use Rattle.flow_board.specs.Exits.{exit_due};
 ghost use Rattle.flow_board.specs.Inputs.{input_due, links_of_inputs};
 ghost use Rattle.flow_board.specs.Known.{in_known, ins_due, out_known, outs_due};
@@ -109,6 +111,8 @@ impl Inputs {
         requires ends_room { length board.now.opens.items ≤ vec_capacity self.old.ends }
         ensures count { length self.new.inputs.items ≡ length board.now.opens.items }
         ensures laws { (q : ℕ) → q < length board.now.opens.items → ∥ InputLaw (get_or self.new.inputs.items q no_input) ∥₁ }
+        ensures posted { (q : ℕ) → q < length board.now.opens.items →
+            ∥ PostedStays (input_of (begun_in board.now) q) (get_or self.new.inputs.items q no_input) ∥₁ }
         ensures ends { map out_known self.new.ends.items ≡ map (λ q. input_due (layout_of board.now.rest.plan) board.now.wires.items
             (get_or (links_of_inputs (layout_of board.now.rest.plan)) q 0) (get_or self.new.inputs.items q no_input))
             (below (length board.now.opens.items)) }

@@ -1,19 +1,24 @@
 //! What the parts of a scattered network share.
-ghost use Rattle.std.specs.Prelude.{◌≡◌, length};
+ghost use Rattle.std.specs.Prelude.{◌≡◌, ◌<◌, ◌≤◌, length, map, IfSome};
+ghost use Rattle.std.specs.Option.{IfNone};
 ghost use Rattle.flow_link.specs.Planned.{layout_of};
 ghost use Rattle.flow_block.specs.Planned.{links_out};
-ghost use Rattle.flow_board.specs.Inputs.{links_of_inputs};
+ghost use Rattle.flow_board.specs.Inputs.{OpenOnesPost, links_of_inputs, stays_open};
+ghost use Rattle.flow_net.specs.Apart.{apart_in};
 ghost use Rattle.flow_board.specs.Numbers.{closed_before, entry_count};
 
 use flow_link::LinkId;
 use flow_net::NetParts;
 use flow_wire::Wire;
+use std::snapshot::Snapshot;
 
 /// The plan of a network, and the wires of its links by their numbers. Its parts borrow it, on whichever thread they are.
 #[derive(Drop)]
 pub struct Board<W> {
     /// The plan, and what the network is put together with again; no block, input, exit or link.
     pub(crate) rest: NetParts<W>,
+    /// The network as it was scattered.
+    pub(crate) begun: Snapshot<NetParts<W>>,
     pub(crate) wires: Vec<Wire>,
     /// The links of inputs, and of exits.
     pub(crate) inputs: Vec<LinkId>,
@@ -25,6 +30,8 @@ pub struct Board<W> {
     ghost inputs_are: { inputs.items ≡ links_of_inputs (layout_of rest.plan) },
     ghost exits_are: { exits.items ≡ links_out (layout_of rest.plan) },
     ghost told: { length opens.items ≡ length inputs.items },
+    ghost opens_are: { opens.items ≡ map stays_open begun.value.inputs.items },
+    ghost open_ones_post: { OpenOnesPost (apart_in begun.value) },
 }
 
 impl<W> Board<W> {
@@ -40,6 +47,16 @@ impl<W> Board<W> {
         ensures { result ≡ entry_count (layout_of self.now.rest.plan) self.now.opens.items }
     {
         self.opens.iter().filter(|open| **open).count()
+    }
+
+    /// The word that stands for the phase of a link, of which nothing is promised: other threads may move it at once. None where there
+    /// is no such link.
+    pub fn peek(&self, link: LinkId) -> Option<u64>
+        ensures there { IfSome result (λ word. link < length (layout_of self.now.rest.plan).links) }
+        ensures none { IfNone result (length (layout_of self.now.rest.plan).links ≤ link) }
+    {
+        let wire = self.wires.get(link as usize)?;
+        Some(wire.peek())
     }
 
     /// How many links lead out of the network.

@@ -2,10 +2,10 @@
 ghost use Rattle.std.specs.Prelude.{◌≡◌, IfOk, map};
 ghost use Rattle.flow_link.specs.Planned.{layout_of};
 ghost use Rattle.flow_block.specs.Planned.{links_out};
-ghost use Rattle.flow_board.specs.Frames.{IsRoomFor, stays_open};
-ghost use Rattle.flow_board.specs.Inputs.{links_of_inputs};
+ghost use Rattle.flow_board.specs.Frames.{IsRoomFor};
+ghost use Rattle.flow_board.specs.Inputs.{links_of_inputs, stays_open};
 
-use crate::numbered::{Entry, Exit, Task};
+use crate::numbered::{Entry, Exit, Task, Watch};
 use crate::sources::Sources;
 use crate::targets::Targets;
 use flow_input::Input;
@@ -22,6 +22,7 @@ pub(crate) struct Frame<W: Runs> {
     pub(crate) tasks: Vec<Task<W>>,
     pub(crate) entries: Vec<Entry<W>>,
     pub(crate) exits: Vec<Exit<W>>,
+    pub(crate) watches: Vec<Watch<W>>,
     pub(crate) inputs: Vec<LinkId>,
     pub(crate) outs: Vec<LinkId>,
     pub(crate) opens: Vec<bool>,
@@ -41,6 +42,7 @@ impl<W: Runs> Frame<W> {
             tasks: Vec::with_capacity(alloc, blocks + inputs)?,
             entries: Vec::with_capacity(alloc, inputs)?,
             exits: Vec::with_capacity(alloc, exits)?,
+            watches: Vec::with_capacity(alloc, blocks)?,
             inputs: input_links(alloc, &apart.plan)?,
             outs: exit_links(alloc, &apart.plan)?,
             opens: open_inputs(alloc, &apart.inputs)?,

@@ -6,12 +6,14 @@ ghost use Rattle.flow_lists.specs.Lists.{below};
 ghost use Rattle.flow_link.specs.Planned.{layout_of};
 ghost use Rattle.flow_block.specs.Planned.{links_out};
 ghost use Rattle.flow_core.specs.InOrder.{journals_of};
+ghost use Rattle.flow_core.specs.Inputs.{InputsStay};
 ghost use Rattle.flow_core.specs.State.{NetState, no_node};
 ghost use Rattle.flow_exec.specs.Works.{works_of};
 ghost use Rattle.flow_exit.specs.Exit.{fresh_exit};
 ghost use Rattle.flow_input.specs.Input.{no_input};
 ghost use Rattle.flow_net.specs.Net.{layout_in, parts_of, run_of};
 ghost use Rattle.flow_board.specs.Absent.{AllThere};
+ghost use Rattle.flow_board.specs.Begun.{JournalsGoOn, ClosedInputsStay, begun_in};
 ghost use Rattle.flow_board.specs.Exits.{exit_due};
 ghost use Rattle.flow_board.specs.GatherRoom.{IsRoomToGather};
 ghost use Rattle.flow_board.specs.Gathers.{AreBack, GathersFrom, IsWhyNot};
@@ -52,6 +54,9 @@ pub fn gather<W: Runs>(
     ensures same_layout { IfOk result (λ net. layout_in net ≡ board_layout parts.board) }
     ensures lawful { IfOk result (λ net. Lawful (run_of W.meaning net)) }
     ensures journals { IfOk result (λ net. GathersFrom parts.board parts.tasks.items (journals_of (parts_of net))) }
+    ensures go_on { IfOk result (λ net. JournalsGoOn parts.board (parts_of net)) }
+    ensures posted { IfOk result (λ net. ClosedInputsStay parts.board (parts_of net)) }
+    ensures inputs_stay { IfOk result (λ net. InputsStay (begun_in parts.board) (parts_of net)) }
     ensures why { IfErr result (λ refused. IsWhyNot refused.0 refused.1) }
     ensures back { IfErr result (λ refused. AreBack parts refused.0) }
 {
@@ -109,6 +114,8 @@ impl Apart {
         ensures lawful { Lawful (run_of W.meaning result) }
         ensures journals { journals_of (parts_of result) ≡
             map marks_in (take (length (board_layout parts.board).blocks) parts.tasks.items) }
+        ensures go_on { JournalsGoOn parts.board (parts_of result) }
+        ensures inputs_stay { InputsStay (begun_in parts.board) (parts_of result) }
     {
         let Apart {
             mut blocks,
@@ -150,9 +157,11 @@ impl<W: Runs> Board<W> {
         requires exit_ends { map in_known exits.ends.items ≡ map (λ k. exit_due (layout_of self.rest.plan) self.wires.items
             (get_or (links_out (layout_of self.rest.plan)) k 0) (get_or net.exits k fresh_exit))
             (below (length (links_out (layout_of self.rest.plan)))) }
+        requires inputs_stay { InputsStay (begun_in self) net }
         ensures same_layout { layout_in result ≡ layout_of self.rest.plan }
         ensures lawful { Lawful (run_of W.meaning result) }
         ensures journals { journals_of (parts_of result) ≡ map (λ node. node.journal) net.nodes }
+        ensures inputs_stay { InputsStay (begun_in self) (parts_of result) }
     {
         let Board {
             mut rest,

@@ -7,9 +7,11 @@ ghost use Rattle.flow_link.specs.Planned.{layout_of};
 ghost use Rattle.flow_link.specs.declared.phase.Phase.{Phase};
 ghost use Rattle.flow_core.specs.Events.{input_after, input_call};
 ghost use Rattle.flow_input.specs.Input.{InputCall, after_input, input_move};
-ghost use Rattle.flow_input.specs.InputKeeps.{InputLaw};
+ghost use Rattle.flow_input.specs.InputKeeps.{InputLaw, PostedStays};
 ghost use Rattle.flow_outlet.specs.End.{is_over};
 ghost use Rattle.flow_poll.specs.declared.actor.TurnState.TheVariants.{Ended};
+ghost use Rattle.flow_board.specs.Begun.{begun_input};
+ghost use Rattle.flow_board.specs.Events.{HasLooked, InputHappens, InputLooks, StepsBy, TurnsBy};
 ghost use Rattle.flow_board.specs.Inputs.{begins_at_input, input_due, state_after, HasId, InputIsStill};
 ghost use Rattle.flow_board.specs.Known.{out_known};
 
@@ -35,6 +37,7 @@ pub struct InputTask<W: Runs> {
     ghost there: { link < length (layout_of of.value.rest.plan).links },
     ghost begins: { begins_at_input (layout_of of.value.rest.plan) link ≡ true },
     ghost law: { ∥ InputLaw input ∥₁ },
+    ghost posted: { ∥ PostedStays (begun_input of.value link) input ∥₁ },
     ghost knows: { out_known out ≡ input_due (layout_of of.value.rest.plan) of.value.wires.items link input } by { Prim.hlevel (codes, table_id_coded, content.the_row.coded) },
 }
 
@@ -55,6 +58,8 @@ impl<W: Runs> InputTask<W> {
         ensures state { IfOk result (λ turned. turned.state ≡ state_after turned.events self.new.input) }
         ensures ended { IfOk result (λ turned. turned.state ≡ Ended → is_over self.new.input.stage ≡ true) }
         ensures still { IfOk result (λ turned. 0 < budget → turned.events ≡ 0 → InputIsStill self.new.input) }
+        ensures happens { IfOk result (λ turned. ∥ TurnsBy InputLooks InputHappens turned.events self.old.input self.new.input ∥₁) }
+        ensures looked { OnErr result (∥ HasLooked InputLooks self.old.input self.new.input ∥₁) }
         ensures kept { OnErr result (self.new.input.sent ≡ self.old.input.sent) }
     {
         for events in 0..budget {
@@ -102,6 +107,7 @@ impl<W: Runs> InputTask<W> {
         ensures of { self.new.of.value ≡ self.old.of.value }
         ensures link { self.new.link ≡ self.old.link }
         ensures still { IfOk result (λ did. did ≡ false → InputIsStill self.new.input) }
+        ensures steps { StepsBy InputLooks InputHappens result self.old.input self.new.input }
         ensures kept { OnErr result (self.new.input.sent ≡ self.old.input.sent) }
     {
         self.look(board);

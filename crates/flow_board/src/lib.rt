@@ -29,5 +29,5 @@ pub use gathering::{GatherFault, gather};
 pub use laws::{
     intakes_cross, marks_cross, nodes_cross, outlets_cross, spreads_cross, values_cross,
 };
-pub use numbered::{Entry, Exit, Parts, Task};
+pub use numbered::{Entry, Exit, Parts, Scattered, Task, Watch};
 pub use scattering::scatter;

@@ -3,23 +3,24 @@ ghost use Rattle.std.specs.Prelude.{◌≡◌, ℕ, ◌<◌, ◌≤◌, ◌+◌,
 ghost use Rattle.flow_lists.specs.Lists.{below, numbers_from};
 ghost use Rattle.flow_link.specs.Planned.{layout_of};
 ghost use Rattle.flow_block_law.specs.NodeLaw.{NodeLaw};
-ghost use Rattle.flow_core.specs.State.{no_node};
+ghost use Rattle.flow_core.specs.State.{no_node, node_at};
 ghost use Rattle.flow_exec.specs.Works.{works_of};
 ghost use Rattle.flow_block.specs.Planned.{leads_out, links_out};
 ghost use Rattle.flow_exit.specs.Exit.{fresh_exit};
 ghost use Rattle.flow_exit.specs.ExitKeeps.{ExitLaw};
 ghost use Rattle.flow_input.specs.Input.{no_input};
 ghost use Rattle.flow_input.specs.InputKeeps.{InputLaw};
+ghost use Rattle.flow_board.specs.Begun.{begun_in, begun_input};
 ghost use Rattle.flow_board.specs.Exits.{exit_due};
 ghost use Rattle.flow_board.specs.Inputs.{begins_at_input, input_due, links_of_inputs};
 ghost use Rattle.flow_board.specs.Known.{in_known, ins_due, out_known, outs_due};
 ghost use Rattle.flow_board.specs.Makes.{InputsMade};
 ghost use Rattle.flow_board.specs.Numbers.{entry_count, is_entry_number, is_exit_number, is_input_number, task_count};
-ghost use Rattle.flow_board.specs.Parts.{AllEntriesOf, AllExitsOf, AllTasksOf, board_of, entry_number, exit_number, marks_in, task_number};
+ghost use Rattle.flow_board.specs.Parts.{AllEntriesOf, AllExitsOf, AllTasksOf, AllWatchesOf, board_of, entry_number, exit_number, marks_in, task_number, watched_block};
 
 use crate::board::Board;
 use crate::input_task::InputTask;
-use crate::numbered::{Entry, Exit, Kind, Task};
+use crate::numbered::{Entry, Exit, Kind, Task, Watch};
 use crate::task::BlockTask;
 use flow_block::Node;
 use flow_exit::ExitEnd;
@@ -40,6 +41,7 @@ impl<W: Runs> Board<W> {
         tasks: &mut Vec<Task<W>>,
     )
         requires count { length nodes.items ≡ length (layout_of self.now.rest.plan).blocks }
+        requires begun { nodes.items ≡ (begun_in self.now).nodes }
         requires laws { (b : ℕ) → b < length (layout_of self.now.rest.plan).blocks → ∥ NodeLaw (layout_of self.now.rest.plan)
             (works_of W.meaning (layout_of self.now.rest.plan)) b (get_or nodes.items b no_node) ∥₁ }
         requires outs { map (λ row. map out_known row.items) outs.items ≡ map (λ b. outs_due (layout_of self.now.rest.plan)
@@ -82,6 +84,7 @@ impl<W: Runs> Board<W> {
         requires outs { map out_known outs.items ≡ outs_due (layout_of self.now.rest.plan) self.now.wires.items number node }
         requires ins { map (λ row. map in_known row.items) ins.items ≡
             ins_due (layout_of self.now.rest.plan) self.now.wires.items number node }
+        requires begun { node ≡ node_at (begun_in self.now) number }
         ensures of { board_of result ≡ self.now }
         ensures number { task_number result ≡ number }
         ensures journal { marks_in result ≡ node.journal }
@@ -92,6 +95,8 @@ impl<W: Runs> Board<W> {
             node,
             outs,
             ins,
+            at_out: 0,
+            at_in: 0,
         };
         Task {
             number,
@@ -110,6 +115,7 @@ impl<W: Runs> Board<W> {
     )
         requires first { first ≡ task_count (layout_of self.now.rest.plan) self.now.opens.items }
         requires count { length inputs.items ≡ length self.now.opens.items }
+        requires begun { inputs.items ≡ (begun_in self.now).inputs }
         requires laws { (q : ℕ) → q < length self.now.opens.items → ∥ InputLaw (get_or inputs.items q no_input) ∥₁ }
         requires ends { map out_known ends.items ≡ map (λ q. input_due (layout_of self.now.rest.plan) self.now.wires.items
             (get_or (links_of_inputs (layout_of self.now.rest.plan)) q 0) (get_or inputs.items q no_input))
@@ -196,6 +202,7 @@ impl<W: Runs> Board<W> {
         requires begins { begins_at_input (layout_of self.now.rest.plan) link ≡ true }
         requires law { ∥ InputLaw input ∥₁ }
         requires known { out_known out ≡ input_due (layout_of self.now.rest.plan) self.now.wires.items link input }
+        requires begun { input ≡ begun_input self.now link }
         ensures of { result.of.value ≡ self.now }
         ensures link { result.link ≡ link }
     {
@@ -204,6 +211,30 @@ impl<W: Runs> Board<W> {
             link,
             input,
             out,
+        }
+    }
+
+    /// Makes a watch of each block, for which there is room.
+    pub(crate) fn make_watches(&self, watches: &mut Vec<Watch<W>>)
+        requires none { watches.old.items ≡ [] }
+        requires room { length (layout_of self.now.rest.plan).blocks ≤ vec_capacity watches.old }
+        ensures of { AllWatchesOf self.now watches.new.items }
+        ensures blocks { map watched_block watches.new.items ≡ below (length (layout_of self.now.rest.plan).blocks) }
+    {
+        for block in 0..self.rest.plan.block_count() {
+            watches.push_reserved(self.make_watch(block));
+        }
+    }
+
+    /// Makes a watch of a block.
+    fn make_watch(&self, block: usize) -> Watch<W>
+        requires { block < length (layout_of self.now.rest.plan).blocks }
+        ensures of { result.of.value ≡ self.now }
+        ensures block { watched_block result ≡ block }
+    {
+        Watch {
+            of: Snapshot::of(self),
+            block,
         }
     }
 

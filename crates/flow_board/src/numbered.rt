@@ -9,7 +9,7 @@ ghost use Rattle.flow_exit.specs.ExitKeeps.{ExitLaw};
 ghost use Rattle.flow_board.specs.Exits.{exit_due};
 ghost use Rattle.flow_board.specs.Known.{in_known};
 ghost use Rattle.flow_board.specs.Numbers.{is_entry_number, is_exit_number};
-ghost use Rattle.flow_board.specs.Kinds.{is_task_number};
+ghost use Rattle.flow_board.specs.Kinds.{BeginsBy, is_task_number};
 
 use crate::board::Board;
 use crate::input_task::InputTask;
@@ -28,6 +28,7 @@ pub struct Task<W: Runs> {
     pub(crate) number: usize,
     pub(crate) kind: Kind<W>,
     ghost numbered: { is_task_number kind number ≡ true },
+    ghost begins: { ∥ BeginsBy kind ∥₁ },
 }
 
 #[derive(Drop)]
@@ -42,6 +43,8 @@ impl<W: Runs> Task<W> {
     ghost use Rattle.flow_poll.specs.declared.actor.TurnState.TheVariants.{Ended};
     ghost use Rattle.flow_board.specs.Parts.{board_of, marks_in, task_number};
     ghost use Rattle.flow_board.specs.Ended.{HasEnded};
+    ghost use Rattle.flow_board.specs.Rests.{Rests, state_in};
+    ghost use Rattle.flow_board.specs.TaskTurns.{HasTurned};
 
     /// The marks of its block, in order; an input has none.
     pub fn journal(&self) -> &[Mark]
@@ -68,7 +71,12 @@ impl<W: Runs> Task<W> {
         ensures of { board_of self.new ≡ board_of self.old }
         ensures number { task_number self.new ≡ task_number self.old }
         ensures within { IfOk result (λ turned. turned.events ≤ budget) }
+        ensures happens { IfOk result (λ turned. HasTurned W.meaning turned.events self.old self.new) }
+        ensures state { IfOk result (λ turned. turned.state ≡ state_in turned.events self.new) }
+        ensures still { IfOk result (λ turned. 0 < budget → turned.events ≡ 0 → Rests W.meaning self.new) }
         ensures extends { Extends (marks_in self.old) (marks_in self.new) }
+        ensures nothing { budget ≡ 0 → marks_in self.new ≡ marks_in self.old }
+        ensures looked { OnErr result (HasTurned W.meaning 0 self.old self.new) }
         ensures kept { OnErr result (marks_in self.new ≡ marks_in self.old) }
         ensures ended { IfOk result (λ turned. turned.state ≡ Ended → HasEnded self.new) }
     {
@@ -100,6 +108,62 @@ pub struct Exit<W: Runs> {
     ghost law: { ∥ ExitLaw exit ∥₁ },
     ghost knows: { in_known end ≡ exit_due (layout_of of.value.rest.plan) of.value.wires.items link exit } by { Prim.hlevel (codes, table_id_coded, content.the_row.coded) },
     ghost numbered: { is_exit_number (layout_of of.value.rest.plan) of.value.opens.items link number ≡ true },
+}
+
+/// A block of a scattered network, for a caller that wants to know how it ends.
+#[derive(Drop)]
+pub struct Watch<W: Runs> {
+    pub(crate) of: Snapshot<Board<W>>,
+    pub(crate) block: usize,
+    ghost there: { block < length (layout_of of.value.rest.plan).blocks },
+}
+
+impl<W: Runs> Watch<W> {
+    ghost use Rattle.flow_board.specs.Parts.{watched_block};
+
+    /// The number of its block.
+    pub fn block(&self) -> usize
+        ensures { result ≡ watched_block self.now }
+    {
+        self.block
+    }
+}
+
+/// A network that is scattered: what its parts share, what threads turn, what callers post to and receive from, and a watch of each
+/// block.
+#[derive(Drop)]
+pub struct Scattered<W: Runs> {
+    pub board: Board<W>,
+    pub tasks: Vec<Task<W>>,
+    pub entries: Vec<Entry<W>>,
+    pub exits: Vec<Exit<W>>,
+    pub watches: Vec<Watch<W>>,
+}
+
+impl<W: Runs> Scattered<W> {
+    /// Its parts, and its watches.
+    pub fn into_parts(self) -> (Parts<W>, Vec<Watch<W>>)
+        ensures board { result.0.board ≡ self.board }
+        ensures tasks { result.0.tasks ≡ self.tasks }
+        ensures entries { result.0.entries ≡ self.entries }
+        ensures exits { result.0.exits ≡ self.exits }
+        ensures watches { result.1 ≡ self.watches }
+    {
+        let Scattered {
+            board,
+            tasks,
+            entries,
+            exits,
+            watches,
+        } = self;
+        let parts = Parts {
+            board,
+            tasks,
+            entries,
+            exits,
+        };
+        (parts, watches)
+    }
 }
 
 /// All parts of a scattered network, to be put together again.

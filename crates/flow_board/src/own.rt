@@ -11,7 +11,8 @@ ghost use Rattle.flow_block.specs.Planned.{block_makes};
 ghost use Rattle.flow_block_law.specs.JobsEnd.{after_job, put_at_end};
 ghost use Rattle.flow_exec.specs.Works.{works_of};
 ghost use Rattle.flow_moves.specs.Calls.{Calls};
-ghost use Rattle.flow_board.specs.Turns.{Does, JobsAreDone, MakeIsDone, OwnIsDone, StaysOpen};
+ghost use Rattle.flow_board.specs.Events.{Does};
+ghost use Rattle.flow_board.specs.Turns.{JobsAreDone, MakeIsDone, OwnIsDone, StaysOpen};
 
 use crate::board::Board;
 use crate::task::BlockTask;
@@ -109,7 +110,7 @@ impl<W: Runs> BlockTask<W> {
         requires of { self.old.of.value ≡ board.now }
         ensures of { self.new.of.value ≡ self.old.of.value }
         ensures number { self.new.number ≡ self.old.number }
-        ensures does { Does result self.old.node self.new.node }
+        ensures does { Does (makes_of W.meaning self.old) result self.old.node self.new.node }
         ensures still { IfOk result (λ did. did ≡ false → OwnIsDone (makes_of W.meaning self.old) self.old.node) }
     {
         if self.make_once(alloc)? {
@@ -128,7 +129,7 @@ impl<W: Runs> BlockTask<W> {
     fn make_once(&mut self, alloc: Global) -> Result<bool, AllocError>
         ensures of { self.new.of.value ≡ self.old.of.value }
         ensures number { self.new.number ≡ self.old.number }
-        ensures does { Does result self.old.node self.new.node }
+        ensures does { Does (makes_of W.meaning self.old) result self.old.node self.new.node }
         ensures still { IfOk result (λ did. did ≡ false → MakeIsDone (makes_of W.meaning self.old) self.old.node) }
     {
         if !self.node.block().may_make() {
@@ -143,7 +144,7 @@ impl<W: Runs> BlockTask<W> {
         requires of { self.old.of.value ≡ board.now }
         ensures of { self.new.of.value ≡ self.old.of.value }
         ensures number { self.new.number ≡ self.old.number }
-        ensures does { Does result self.old.node self.new.node }
+        ensures does { Does (makes_of W.meaning self.old) result self.old.node self.new.node }
         ensures still { IfOk result (λ did. did ≡ false → JobsAreDone (makes_of W.meaning self.old) self.old.node) }
     {
         match self.node.block().next_end() {
@@ -156,7 +157,7 @@ impl<W: Runs> BlockTask<W> {
     fn begin_once(&mut self) -> Result<bool, AllocError>
         ensures of { self.new.of.value ≡ self.old.of.value }
         ensures number { self.new.number ≡ self.old.number }
-        ensures does { Does result self.old.node self.new.node }
+        ensures does { Does (makes_of W.meaning self.old) result self.old.node self.new.node }
         ensures still { IfOk result (λ did. did ≡ false → may_begin self.old.node.block ≡ false) }
     {
         if !self.node.block().may_begin() {
@@ -170,7 +171,7 @@ impl<W: Runs> BlockTask<W> {
     fn close(&mut self) -> Result<bool, AllocError>
         ensures of { self.new.of.value ≡ self.old.of.value }
         ensures number { self.new.number ≡ self.old.number }
-        ensures does { Does result self.old.node self.new.node }
+        ensures does { Does (makes_of W.meaning self.old) result self.old.node self.new.node }
         ensures still { IfOk result (λ did. did ≡ false → StaysOpen self.old.node.block) }
     {
         if let Some(port) = self.port_to_complete() {

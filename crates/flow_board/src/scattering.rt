@@ -13,19 +13,20 @@ ghost use Rattle.flow_exec.specs.Works.{works_of};
 ghost use Rattle.flow_exit.specs.Exit.{fresh_exit};
 ghost use Rattle.flow_input.specs.Input.{no_input};
 ghost use Rattle.flow_board.specs.Absent.{AllThere};
+ghost use Rattle.flow_board.specs.Begun.{begun_in};
 ghost use Rattle.flow_board.specs.Exits.{exit_due};
 ghost use Rattle.flow_board.specs.Frames.{IsRoomFor};
 ghost use Rattle.flow_board.specs.Inputs.{input_due, links_of_inputs};
 ghost use Rattle.flow_board.specs.Known.{in_known, ins_due, out_known, outs_due};
 ghost use Rattle.flow_board.specs.Orders.{AreInOrder};
-ghost use Rattle.flow_board.specs.Parts.{AllEntriesOf, AllExitsOf, AllTasksOf, board_layout, marks_in};
-ghost use Rattle.flow_board.specs.Stands.{StandsFor};
+ghost use Rattle.flow_board.specs.Parts.{AllEntriesOf, AllExitsOf, AllTasksOf, AllWatchesOf, board_layout, marks_in, watched_block};
+ghost use Rattle.flow_board.specs.Home.{HasGoneOn};
 ghost use Rattle.flow_board.specs.Wired.{AllReady, AreWired, starts_of};
 
 use crate::board::Board;
 use crate::frame::Frame;
 use crate::home::bring_home;
-use crate::numbered::{Entry, Exit, Parts, Task};
+use crate::numbered::{Entry, Exit, Scattered, Task, Watch};
 use crate::sources::Sources;
 use crate::targets::Targets;
 use crate::wires::{Wired, make_wires};
@@ -36,17 +37,26 @@ use flow_net::{Net, NetParts};
 use flow_value::Runs;
 use std::alloc::{AllocError, Global};
 use std::mem::replace;
+use std::snapshot::Snapshot;
 
-/// Scatters a network into its parts: its blocks, its inputs and its exits. What is under way over a link that was given is taken
-/// first. Threads turn the tasks, each one at a time, and `gather` puts the parts together again. Where memory is out the network
-/// comes back, and what was taken stays taken.
-pub fn scatter<W: Runs>(alloc: Global, mut net: Net<W>) -> Result<Parts<W>, (Net<W>, AllocError)>
+/// Scatters a network into its parts: its blocks, its inputs and its exits, with a watch of each block. What is under way over a
+/// link that was given is taken first. Threads turn the tasks, each one at a time, and `gather` puts the parts together again. Where
+/// memory is out the network comes back, and what was taken stays taken.
+pub fn scatter<W: Runs>(
+    alloc: Global,
+    mut net: Net<W>,
+) -> Result<Scattered<W>, (Net<W>, AllocError)>
     ensures same_layout { IfOk result (λ parts. board_layout parts.board ≡ layout_in net) }
     ensures tasks_of { IfOk result (λ parts. AllTasksOf parts.board parts.tasks.items) }
     ensures entries_of { IfOk result (λ parts. AllEntriesOf parts.board parts.entries.items) }
     ensures exits_of { IfOk result (λ parts. AllExitsOf parts.board parts.exits.items) }
     ensures there { IfOk result (λ parts. AllThere parts.board parts.tasks.items parts.entries.items parts.exits.items) }
-    ensures journals { IfOk result (λ parts. StandsFor W.meaning (layout_in net) (parts_of net) parts.tasks.items) }
+    ensures watches_of { IfOk result (λ parts. AllWatchesOf parts.board parts.watches.items) }
+    ensures watched { IfOk result (λ parts. map watched_block parts.watches.items ≡ below (length (layout_in net).blocks)) }
+    ensures goes_on { IfOk result (λ parts. HasGoneOn W.meaning (layout_in net) (parts_of net) (begun_in parts.board)) }
+    ensures posted { IfOk result (λ parts. InputsStay (parts_of net) (begun_in parts.board)) }
+    ensures journals { IfOk result (λ parts.
+        map marks_in (take (length (layout_in net).blocks) parts.tasks.items) ≡ journals_of (begun_in parts.board)) }
     ensures back { IfErr result (λ refused. layout_in refused.0 ≡ layout_in net) }
     ensures inputs_stay { IfErr result (λ refused. InputsStay (parts_of net) (parts_of refused.0)) }
     ensures lawful { IfErr result (λ refused. Lawful (run_of W.meaning refused.0)) }
@@ -58,25 +68,30 @@ pub fn scatter<W: Runs>(alloc: Global, mut net: Net<W>) -> Result<Parts<W>, (Net
 }
 
 /// The same of a network over none of whose links a message is under way.
-fn scatter_home<W: Runs>(alloc: Global, net: Net<W>) -> Result<Parts<W>, (Net<W>, AllocError)>
+fn scatter_home<W: Runs>(alloc: Global, net: Net<W>) -> Result<Scattered<W>, (Net<W>, AllocError)>
     requires home { (l : ℕ) → l < length (layout_in net).links → is_crossing (line_at (parts_of net) l).phase ≡ false }
     ensures same_layout { IfOk result (λ parts. board_layout parts.board ≡ layout_in net) }
     ensures tasks_of { IfOk result (λ parts. AllTasksOf parts.board parts.tasks.items) }
     ensures entries_of { IfOk result (λ parts. AllEntriesOf parts.board parts.entries.items) }
     ensures exits_of { IfOk result (λ parts. AllExitsOf parts.board parts.exits.items) }
     ensures there { IfOk result (λ parts. AllThere parts.board parts.tasks.items parts.entries.items parts.exits.items) }
-    ensures journals { IfOk result (λ parts. map marks_in (take (length (layout_in net).blocks) parts.tasks.items) ≡ journals_of (parts_of net)) }
+    ensures watches_of { IfOk result (λ parts. AllWatchesOf parts.board parts.watches.items) }
+    ensures watched { IfOk result (λ parts. map watched_block parts.watches.items ≡ below (length (layout_in net).blocks)) }
+    ensures begun { IfOk result (λ parts. begun_in parts.board ≡ parts_of net) }
+    ensures journals { IfOk result (λ parts.
+        map marks_in (take (length (layout_in net).blocks) parts.tasks.items) ≡ journals_of (begun_in parts.board)) }
     ensures back { IfErr result (λ refused. layout_in refused.0 ≡ layout_in net) }
     ensures inputs_stay { IfErr result (λ refused. InputsStay (parts_of net) (parts_of refused.0)) }
     ensures lawful { IfErr result (λ refused. Lawful (run_of W.meaning refused.0)) }
 {
     let mut apart = net.into_parts();
+    let begun = Snapshot::of(&apart);
     let frame = match Frame::new(alloc, &apart) {
         Ok(frame) => frame,
         Err(fault) => return Err((apart.join(), fault)),
     };
     match wire_up(alloc, &mut apart) {
-        Ok(wired) => Ok(frame.fill(alloc, apart, wired)),
+        Ok(wired) => Ok(frame.fill(alloc, apart, wired, begun)),
         Err(fault) => Err((apart.join(), fault)),
     }
 }
@@ -103,6 +118,7 @@ pub(crate) struct Room<W: Runs> {
     pub(crate) tasks: Vec<Task<W>>,
     pub(crate) entries: Vec<Entry<W>>,
     pub(crate) exits: Vec<Exit<W>>,
+    pub(crate) watches: Vec<Watch<W>>,
 }
 
 /// The blocks, inputs and exits of a network.
@@ -121,7 +137,7 @@ impl<W: Runs> Board<W> {
         sources: Sources,
         targets: Targets,
         room: Room<W>,
-    ) -> Parts<W>
+    ) -> Scattered<W>
         requires in_order { AreInOrder (layout_of self.rest.plan) (works_of W.meaning (layout_of self.rest.plan)) lists.nodes.items
             lists.inputs.items lists.exits.items }
         requires outs { map (λ row. map out_known row.items) sources.outs.items ≡ map (λ b. outs_due (layout_of self.rest.plan)
@@ -138,20 +154,27 @@ impl<W: Runs> Board<W> {
         requires no_task { room.tasks.items ≡ [] }
         requires no_entry { room.entries.items ≡ [] }
         requires no_exit { room.exits.items ≡ [] }
+        requires no_watch { room.watches.items ≡ [] }
         requires tasks_room { length lists.nodes.items + length lists.inputs.items ≤ vec_capacity room.tasks }
         requires entries_room { length lists.inputs.items ≤ vec_capacity room.entries }
         requires exits_room { length lists.exits.items ≤ vec_capacity room.exits }
+        requires watches_room { length lists.nodes.items ≤ vec_capacity room.watches }
+        requires nodes_begun { lists.nodes.items ≡ (begun_in self).nodes }
+        requires inputs_begun { lists.inputs.items ≡ (begun_in self).inputs }
         ensures board { result.board ≡ self }
         ensures tasks_of { AllTasksOf self result.tasks.items }
         ensures entries_of { AllEntriesOf self result.entries.items }
         ensures exits_of { AllExitsOf self result.exits.items }
         ensures there { AllThere self result.tasks.items result.entries.items result.exits.items }
+        ensures watches_of { AllWatchesOf self result.watches.items }
+        ensures watched { map watched_block result.watches.items ≡ below (length (layout_of self.rest.plan).blocks) }
         ensures journals { map marks_in (take (length lists.nodes.items) result.tasks.items) ≡ map (λ node. node.journal) lists.nodes.items }
     {
         let Room {
             mut tasks,
             mut entries,
             mut exits,
+            mut watches,
         } = room;
         let first = self.rest.plan.block_count() + self.closed_count();
         let last = first + self.open_count();
@@ -164,18 +187,26 @@ impl<W: Runs> Board<W> {
             &mut entries,
         );
         self.make_exits(lists.exits, targets.exits, last, &mut exits);
-        Parts {
+        self.make_watches(&mut watches);
+        Scattered {
             board: self,
             tasks,
             entries,
             exits,
+            watches,
         }
     }
 }
 
 impl<W: Runs> Frame<W> {
-    /// The parts of the network for which this is the room, with the wires of its links.
-    pub(crate) fn fill(self, alloc: Global, mut apart: NetParts<W>, wired: Wired) -> Parts<W>
+    /// The parts of the network for which this is the room, with the wires of its links. It was scattered as it was then.
+    pub(crate) fn fill(
+        self,
+        alloc: Global,
+        mut apart: NetParts<W>,
+        wired: Wired,
+        begun: Snapshot<NetParts<W>>,
+    ) -> Scattered<W>
         ghost net: { NetState }
         requires nodes { net.nodes ≡ apart.nodes.items }
         requires inputs { net.inputs ≡ apart.inputs.items }
@@ -185,12 +216,17 @@ impl<W: Runs> Frame<W> {
         requires in_order { AreInOrder (layout_of apart.plan) (works_of W.meaning (layout_of apart.plan)) net.nodes net.inputs net.exits }
         requires wired { AreWired (starts_of (layout_of apart.plan) net) (length (layout_of apart.plan).links) wired.wires.items
             wired.sources.items wired.targets.items }
+        requires nodes_begun { begun.value.nodes.items ≡ net.nodes }
+        requires inputs_begun { begun.value.inputs.items ≡ net.inputs }
         ensures plan { result.board.rest.plan ≡ apart.plan }
+        ensures begun { result.board.begun ≡ begun }
         ensures lines { result.board.rest.lines.items ≡ apart.lines.items }
         ensures tasks_of { AllTasksOf result.board result.tasks.items }
         ensures entries_of { AllEntriesOf result.board result.entries.items }
         ensures exits_of { AllExitsOf result.board result.exits.items }
         ensures there { AllThere result.board result.tasks.items result.entries.items result.exits.items }
+        ensures watches_of { AllWatchesOf result.board result.watches.items }
+        ensures watched { map watched_block result.watches.items ≡ below (length (layout_of apart.plan).blocks) }
         ensures journals { map marks_in (take (length net.nodes) result.tasks.items) ≡ map (λ node. node.journal) net.nodes }
     {
         let Frame {
@@ -199,6 +235,7 @@ impl<W: Runs> Frame<W> {
             tasks,
             entries,
             exits,
+            watches,
             inputs,
             outs,
             opens,
@@ -213,6 +250,7 @@ impl<W: Runs> Frame<W> {
         let lists = take_lists(alloc, &mut apart);
         let board = Board {
             rest: apart,
+            begun,
             wires,
             inputs,
             exits: outs,
@@ -222,6 +260,7 @@ impl<W: Runs> Frame<W> {
             tasks,
             entries,
             exits,
+            watches,
         };
         board.make_parts(lists, sources, targets, room)
     }

@@ -44,6 +44,9 @@ pub struct BlockTask<W: Runs> {
     pub(crate) node: Node,
     pub(crate) outs: Vec<SourceEnd>,
     pub(crate) ins: Vec<Vec<TargetEnd>>,
+    /// The places of the ends that moved last, out of it and into a port of it.
+    pub(crate) at_out: usize,
+    pub(crate) at_in: usize,
     ghost there: { number < length (layout_of of.value.rest.plan).blocks },
     ghost law: { ∥ NodeLaw (layout_of of.value.rest.plan) (works_of W.meaning (layout_of of.value.rest.plan)) number node ∥₁ },
     ghost outs_know: { map out_known outs.items ≡ outs_due (layout_of of.value.rest.plan) of.value.wires.items number node } by { Prim.hlevel (codes, table_id_coded, content.the_row.coded) },

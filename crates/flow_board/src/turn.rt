@@ -3,7 +3,8 @@ ghost use Rattle.std.specs.Prelude.{◌≡◌, ℕ, ◌<◌, ◌≤◌, true, fa
 ghost use Rattle.flow_core.specs.MovesFit.{out_count, in_count};
 ghost use Rattle.flow_poll.specs.Turns.{Extends};
 ghost use Rattle.flow_poll.specs.declared.actor.TurnState.TheVariants.{Ended};
-ghost use Rattle.flow_board.specs.Turns.{Does, Grows, InIsStill, IsOver, IsStill, LooksIn, LooksOut, OutIsStill, PortIsStill, PortsLook, are_links_over, state_of};
+ghost use Rattle.flow_board.specs.Events.{AllLook, Does, HasEvent, HasLooked, StepsBy, TurnsBy};
+ghost use Rattle.flow_board.specs.Turns.{Grows, InIsStill, IsOver, IsStill, LooksIn, LooksOut, OutIsStill, PortIsStill, PortsLook, are_links_over, state_of};
 
 use crate::board::Board;
 use crate::task::BlockTask;
@@ -24,7 +25,7 @@ impl<W: Runs> BlockTask<W> {
     }
 
     /// Turns the block: it does what comes next, at most so many events, and looks at each of its links before it answers that there
-    /// is nothing to do. Where memory is out before the first event, the journal is as it was; later, the turn ends with the events
+    /// is nothing to do. Where memory is out before the first event, its ends have looked at most; later, the turn ends with the events
     /// that are done. An event that needs a message id where none is left is not done, and the rest goes on. It has ended once the
     /// block has stopped, as its last mark says, and all its links are refused or ended.
     pub fn turn(
@@ -39,6 +40,10 @@ impl<W: Runs> BlockTask<W> {
         ensures within { IfOk result (λ turned. turned.events ≤ budget) }
         ensures extends { Extends (journal_of self.old) (journal_of self.new) }
         ensures kept { OnErr result (journal_of self.new ≡ journal_of self.old) }
+        ensures nothing { budget ≡ 0 → journal_of self.new ≡ journal_of self.old }
+        ensures looked { OnErr result (∥ HasLooked AllLook self.old.node self.new.node ∥₁) }
+        ensures happens { IfOk result (λ turned.
+            ∥ TurnsBy AllLook (HasEvent (makes_of W.meaning self.old)) turned.events self.old.node self.new.node ∥₁) }
         ensures state { IfOk result (λ turned. turned.state ≡ state_of turned.events self.new.node) }
         ensures ended { IfOk result (λ turned. turned.state ≡ Ended → IsOver (journal_of self.new)) }
         ensures links { IfOk result (λ turned. turned.state ≡ Ended → are_links_over self.new.node ≡ true) }
@@ -91,6 +96,7 @@ impl<W: Runs> BlockTask<W> {
         ensures of { self.new.of.value ≡ self.old.of.value }
         ensures number { self.new.number ≡ self.old.number }
         ensures grows { Grows result self.old.node self.new.node }
+        ensures steps { StepsBy AllLook (HasEvent (makes_of W.meaning self.old)) result self.old.node self.new.node }
         ensures still { IfOk result (λ did. did ≡ false → IsStill (makes_of W.meaning self.old) self.new.node) }
     {
         if self.go_on(alloc, board)? {
@@ -107,7 +113,7 @@ impl<W: Runs> BlockTask<W> {
         requires of { self.old.of.value ≡ board.now }
         ensures of { self.new.of.value ≡ self.old.of.value }
         ensures number { self.new.number ≡ self.old.number }
-        ensures does { Does result self.old.node self.new.node }
+        ensures does { Does (makes_of W.meaning self.old) result self.old.node self.new.node }
         ensures still { IfOk result (λ did. did ≡ false → IsStill (makes_of W.meaning self.old) self.old.node) }
     {
         if self.act(alloc, board)? {
@@ -159,16 +165,41 @@ impl<W: Runs> BlockTask<W> {
         }
     }
 
-    /// The first of the ends out of the block that has a move makes it. False where none has.
+    /// The first of the ends out of the block that has a move makes it, once round from the one that moved last. False where none
+    /// has.
     fn move_out_once(&mut self, alloc: Global, board: &Board<W>) -> Result<bool, AllocError>
         requires of { self.old.of.value ≡ board.now }
         ensures of { self.new.of.value ≡ self.old.of.value }
         ensures number { self.new.number ≡ self.old.number }
-        ensures does { Does result self.old.node self.new.node }
+        ensures does { Does (makes_of W.meaning self.old) result self.old.node self.new.node }
         ensures still { IfOk result (λ did. did ≡ false → (k : ℕ) → k < out_count self.old.node → OutIsStill k self.old.node) }
     {
-        for place in 0..self.outs.len() {
+        let end = self.outs.len();
+        let first = self.at_out.min(end);
+        if self.move_outs(alloc, board, first, end)? {
+            return Ok(true);
+        }
+        self.move_outs(alloc, board, 0, first)
+    }
+
+    /// The first of the ends out of the block between two places that has a move makes it. False where none has.
+    fn move_outs(
+        &mut self,
+        alloc: Global,
+        board: &Board<W>,
+        first: usize,
+        end: usize,
+    ) -> Result<bool, AllocError>
+        requires of { self.old.of.value ≡ board.now }
+        requires there { end ≤ out_count self.old.node }
+        ensures of { self.new.of.value ≡ self.old.of.value }
+        ensures number { self.new.number ≡ self.old.number }
+        ensures does { Does (makes_of W.meaning self.old) result self.old.node self.new.node }
+        ensures still { IfOk result (λ did. did ≡ false → (k : ℕ) → first ≤ k → k < end → OutIsStill k self.old.node) }
+    {
+        for place in first..end {
             if self.try_out(alloc, board, place)? {
+                self.at_out = place;
                 return Ok(true);
             }
         }
@@ -180,7 +211,7 @@ impl<W: Runs> BlockTask<W> {
         requires of { self.old.of.value ≡ board.now }
         ensures of { self.new.of.value ≡ self.old.of.value }
         ensures number { self.new.number ≡ self.old.number }
-        ensures does { Does result self.old.node self.new.node }
+        ensures does { Does (makes_of W.meaning self.old) result self.old.node self.new.node }
         ensures still { IfOk result (λ did. did ≡ false → (p : ℕ) → p < length self.old.node.block.ports → PortIsStill p self.old.node) }
     {
         for port in 0..self.node.block().port_count() {
@@ -191,17 +222,42 @@ impl<W: Runs> BlockTask<W> {
         Ok(false)
     }
 
-    /// The same at one port.
+    /// The same at one port, once round from the end that moved last.
     fn move_port_once(&mut self, board: &Board<W>, port: PortId) -> Result<bool, AllocError>
         requires of { self.old.of.value ≡ board.now }
         requires port { port < length self.old.node.block.ports }
         ensures of { self.new.of.value ≡ self.old.of.value }
         ensures number { self.new.number ≡ self.old.number }
-        ensures does { Does result self.old.node self.new.node }
+        ensures does { Does (makes_of W.meaning self.old) result self.old.node self.new.node }
         ensures still { IfOk result (λ did. did ≡ false → PortIsStill port self.old.node) }
     {
-        for place in 0..self.node.block().in_count(port as usize) {
+        let end = self.node.block().in_count(port as usize);
+        let first = self.at_in.min(end);
+        if self.move_ins(board, port, first, end)? {
+            return Ok(true);
+        }
+        self.move_ins(board, port, 0, first)
+    }
+
+    /// The first of the ends into a port between two places that has a move makes it. False where none has.
+    fn move_ins(
+        &mut self,
+        board: &Board<W>,
+        port: PortId,
+        first: usize,
+        end: usize,
+    ) -> Result<bool, AllocError>
+        requires of { self.old.of.value ≡ board.now }
+        requires port { port < length self.old.node.block.ports }
+        requires there { end ≤ in_count port self.old.node }
+        ensures of { self.new.of.value ≡ self.old.of.value }
+        ensures number { self.new.number ≡ self.old.number }
+        ensures does { Does (makes_of W.meaning self.old) result self.old.node self.new.node }
+        ensures still { IfOk result (λ did. did ≡ false → (k : ℕ) → first ≤ k → k < end → InIsStill port k self.old.node) }
+    {
+        for place in first..end {
             if self.try_in(board, port, place)? {
+                self.at_in = place;
                 return Ok(true);
             }
         }
@@ -214,7 +270,7 @@ impl<W: Runs> BlockTask<W> {
         requires there { place < out_count self.old.node }
         ensures of { self.new.of.value ≡ self.old.of.value }
         ensures number { self.new.number ≡ self.old.number }
-        ensures does { Does result self.old.node self.new.node }
+        ensures does { Does (makes_of W.meaning self.old) result self.old.node self.new.node }
         ensures still { IfOk result (λ did. did ≡ false → OutIsStill place self.old.node) }
     {
         match next_of_exit(&self.node, place) {
@@ -230,7 +286,7 @@ impl<W: Runs> BlockTask<W> {
         requires there { place < in_count port self.old.node }
         ensures of { self.new.of.value ≡ self.old.of.value }
         ensures number { self.new.number ≡ self.old.number }
-        ensures does { Does result self.old.node self.new.node }
+        ensures does { Does (makes_of W.meaning self.old) result self.old.node self.new.node }
         ensures still { IfOk result (λ did. did ≡ false → InIsStill port place self.old.node) }
     {
         match self.node.next_in(port as usize, place) {

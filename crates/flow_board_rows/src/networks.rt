@@ -6,7 +6,7 @@ use flow_board::{Parts, gather, scatter};
 use flow_front::Inputs;
 use flow_link::{BlockDef, BlockKind, Draft, Ending, LinkDef, Mark};
 use flow_net::{Net, Settled};
-use flow_value::{Steps, Value};
+use flow_value::{Steps, Text, Value};
 use std::alloc::Global;
 use std::process::Abort;
 
@@ -25,6 +25,25 @@ fn chain(alloc: Global) -> Result<Inputs<Steps>> {
     inputs.post("in", Value::Int(1))?;
     inputs.post("in", Value::Int(2))?;
     inputs.post("in", Value::Int(3))?;
+    inputs.end("in", Ending::Complete)?;
+    Ok(inputs)
+}
+
+/// A buffer to which the texts 1, 2 and 3 are posted, a transform that reads the numbers, and an action that records them.
+fn parse_three(alloc: Global) -> Result<Inputs<Steps>> {
+    let read = Steps::read(alloc, &["int"])?;
+    let keep = Steps::read(alloc, &[])?;
+    let plan = Draft::new(alloc)
+        .block(BlockDef::named(alloc, "in", BlockKind::Buffer)?.input())?
+        .block(BlockDef::named(alloc, "t", BlockKind::Transform)?.work(read))?
+        .block(BlockDef::named(alloc, "out", BlockKind::Action)?.work(keep))?
+        .link(LinkDef::between(alloc, "in", "t")?.propagate())?
+        .link(LinkDef::between(alloc, "t", "out")?.propagate())?
+        .check(alloc)?;
+    let mut inputs = Inputs::of(alloc, plan)?;
+    inputs.post("in", Value::Text(Text::from_str(alloc, "1")?))?;
+    inputs.post("in", Value::Text(Text::from_str(alloc, "2")?))?;
+    inputs.post("in", Value::Text(Text::from_str(alloc, "3")?))?;
     inputs.end("in", Ending::Complete)?;
     Ok(inputs)
 }
@@ -55,9 +74,10 @@ fn scattered(rt: &impl Abort, alloc: Global, inputs: Result<Inputs<Steps>>) -> P
     let Ok(net) = inputs.start(alloc) else {
         panic!(rt; "out of memory");
     };
-    let Ok(parts) = scatter(alloc, net) else {
+    let Ok(scattered) = scatter(alloc, net) else {
         panic!(rt; "out of memory");
     };
+    let (parts, _) = scattered.into_parts();
     parts
 }
 
@@ -68,6 +88,15 @@ pub(crate) fn chain_parts(rt: &impl Abort, alloc: Global) -> Parts<Steps>
     ensures exits_of { AllExitsOf result.board result.exits.items }
 {
     scattered(rt, alloc, chain(alloc))
+}
+
+/// The parts of the network that reads three numbers.
+pub(crate) fn parse_parts(rt: &impl Abort, alloc: Global) -> Parts<Steps>
+    ensures tasks_of { AllTasksOf result.board result.tasks.items }
+    ensures entries_of { AllEntriesOf result.board result.entries.items }
+    ensures exits_of { AllExitsOf result.board result.exits.items }
+{
+    scattered(rt, alloc, parse_three(alloc))
 }
 
 /// The parts of the buffer.

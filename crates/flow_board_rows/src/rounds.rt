@@ -48,6 +48,45 @@ fn turn_each(
     (turned, state)
 }
 
+/// Turns a task once, if it is to be turned.
+fn turn_if(
+    rt: &impl Abort,
+    alloc: Global,
+    board: &Board<Steps>,
+    task: &mut Task<Steps>,
+    budget: u32,
+    is_to_be: bool,
+)
+    requires of { board_of task.old ≡ board.now }
+    ensures of { board_of task.new ≡ board_of task.old }
+{
+    if is_to_be {
+        let _ = turn(rt, alloc, board, task, budget);
+    }
+}
+
+/// Turns the first of these tasks once, and leaves the others.
+pub(crate) fn turn_first(
+    rt: &impl Abort,
+    alloc: Global,
+    board: &Board<Steps>,
+    tasks: Vec<Task<Steps>>,
+    budget: u32,
+) -> Vec<Task<Steps>>
+    requires of { AllTasksOf board.now tasks.items }
+    ensures of { AllTasksOf board.now result.items }
+{
+    let mut turned = Vec::new(alloc);
+    for task in tasks {
+        let mut task = task;
+        turn_if(rt, alloc, board, &mut task, budget, turned.is_empty());
+        let Ok(()) = turned.push(task) else {
+            panic!(rt; "out of memory");
+        };
+    }
+    turned
+}
+
 /// Turns all tasks in rounds, until a round in which none moved, or as many as these.
 pub(crate) fn turn_all(
     rt: &impl Abort,

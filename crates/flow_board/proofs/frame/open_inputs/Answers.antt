@@ -3,7 +3,7 @@ use Rattle.std.proofs.lemmas.List.{get_or_default}
 use Rattle.flow_lists.specs.Lists.{below}
 use Rattle.flow_block.proofs.PlanMade.{mapped_more}
 use Rattle.flow_input.specs.Input.{no_input}
-use Rattle.flow_board.specs.Frames.{stays_open}
+use Rattle.flow_board.specs.Inputs.{stays_open}
 use Rattle.flow_board.proofs.DuesByPlace.{by_places}
 use Rattle.flow_board.proofs.frame.open_inputs.Goals as goal
 

@@ -1,7 +1,7 @@
 use Rattle.std.proofs.Common.{◌≡◌, ◌≤◌, length, map, get_or, vec_len, vec_capacity}
 use Rattle.flow_lists.specs.Lists.{below}
 use Rattle.flow_input.specs.Input.{no_input}
-use Rattle.flow_board.specs.Frames.{stays_open}
+use Rattle.flow_board.specs.Inputs.{stays_open}
 use Rattle.flow_board.proofs.frame.open_inputs.Given as goal
 
 abbrev pub invariant-loop-input : goal.invariant-loop-input

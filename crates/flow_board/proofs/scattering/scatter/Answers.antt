@@ -1,33 +1,47 @@
-use Rattle.std.proofs.Common.{◌≡◌, ℕ, List, length, map, take, sym, ap, ◌∙◌, subst}
-use Rattle.std.proofs.lemmas.Grind.{merely}
+use Rattle.std.proofs.Common.{◌≡◌, length, map, take, sym, ap, ◌∙◌, subst}
 use Rattle.std.proofs.lemmas.Result.{IfErr-weaker, IfOk-weaker}
 use Rattle.flow_link.specs.Layout.{Layout}
-use Rattle.flow_link.specs.Planned.{layout_of}
 use Rattle.flow_core.specs.InOrder.{journals_of}
 use Rattle.flow_core.specs.Inputs.{InputsStay}
 use Rattle.flow_core.proofs.InputsChange.{all_further}
+use Rattle.flow_core.specs.State.{NetState}
 use Rattle.flow_exec.specs.Works.{works_of}
 use Rattle.flow_moves.proofs.MerelyKept.{lawful_merely}
 use Rattle.flow_moves.proofs.PlansRun.{plan_runs}
 use Rattle.flow_net.specs.Net.{layout_in, parts_of}
+use Rattle.flow_board.specs.Begun.{begun_in}
+use Rattle.flow_board.specs.Home.{HasGoneOn}
 use Rattle.flow_board.specs.Parts.{marks_in}
-use Rattle.flow_board.specs.Stands.{StandsFor}
 use Rattle.flow_board.proofs.scattering.scatter.Goals as goal
+
+pub returns-in-Ok-clause-goes_on : goal.returns-in-Ok-clause-goes_on
+returns-in-Ok-clause-goes_on g c =
+    let home = c.bring_home in
+    let net = c.args.net in
+    IfOk-weaker c.scatter_home.result (λ parts. begun_in parts.board ≡ parts_of home.new.net)
+    (λ parts. HasGoneOn g.W.Runs.meaning (layout_in net) (parts_of net) (begun_in parts.board))
+    (λ parts is.
+    subst (λ (state : NetState). HasGoneOn g.W.Runs.meaning (layout_in net) (parts_of net) state) (sym is) home.ensures.goes_on)
+    c.scatter_home.ensures.begun
+
+pub returns-in-Ok-clause-posted : goal.returns-in-Ok-clause-posted
+returns-in-Ok-clause-posted g c =
+    let home = c.bring_home in
+    let net = c.args.net in
+    IfOk-weaker c.scatter_home.result (λ parts. begun_in parts.board ≡ parts_of home.new.net)
+    (λ parts. InputsStay (parts_of net) (begun_in parts.board))
+    (λ parts is. subst (λ (state : NetState). InputsStay (parts_of net) state) (sym is) home.ensures.inputs_stay)
+    c.scatter_home.ensures.begun
 
 pub returns-in-Ok-clause-journals : goal.returns-in-Ok-clause-journals
 returns-in-Ok-clause-journals g c =
     let home = c.bring_home in
+    let net = c.args.net in
     IfOk-weaker c.scatter_home.result
-    (λ parts. map marks_in (take (length (layout_in home.new.net).blocks) parts.tasks.items) ≡ journals_of (parts_of home.new.net))
-    (λ parts. StandsFor g.W.Runs.meaning (layout_in c.args.net) (parts_of c.args.net) parts.tasks.items)
+    (λ parts. map marks_in (take (length (layout_in home.new.net).blocks) parts.tasks.items) ≡ journals_of (begun_in parts.board))
+    (λ parts. map marks_in (take (length (layout_in net).blocks) parts.tasks.items) ≡ journals_of (begun_in parts.board))
     (λ parts told.
-    merely (
-      parts_of home.new.net,
-      (
-        home.ensures.goes_on,
-        ap (λ (layout : Layout _). map marks_in (take (length layout.blocks) parts.tasks.items)) (sym home.ensures.same_layout) ∙ told,
-      ),
-    ))
+    ap (λ (layout : Layout _). map marks_in (take (length layout.blocks) parts.tasks.items)) (sym home.ensures.same_layout) ∙ told)
     c.scatter_home.ensures.journals
 
 pub returns-in-Ok-clause-inputs_stay : goal.returns-in-Ok-clause-inputs_stay

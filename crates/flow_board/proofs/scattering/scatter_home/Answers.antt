@@ -1,8 +1,8 @@
-use Rattle.std.proofs.Common.{◌≡◌, ℕ, ◌<◌, false, List, length, map, get_or, take, refl, sym, ap, ◌∙◌, subst}
+use Rattle.std.proofs.Common.{◌≡◌, ℕ, ◌<◌, false, length, map, get_or, take, refl, sym, ap, ◌∙◌, subst}
 use Rattle.std.proofs.Math.Logic.{∥∥₁_elim}
 use Rattle.std.proofs.Math.Nat.{ℕ_set}
+use Rattle.std.specs.declared.snapshot.Snapshot.{Snapshot}
 use Rattle.flow_link.specs.declared.plan.Plan.{Plan}
-use Rattle.flow_link.specs.declared.trace.LinkState.{LinkState}
 use Rattle.flow_link.specs.Layout.{Layout}
 use Rattle.flow_link.specs.LinkOk.{LinkOk}
 use Rattle.flow_link.specs.Planned.{layout_of}
@@ -11,9 +11,8 @@ use Rattle.flow_block.specs.Node.{NodeState}
 use Rattle.flow_core.specs.InOrder.{NetInOrder, journals_of}
 use Rattle.flow_core.specs.State.{NetState, line_at}
 use Rattle.flow_exec.specs.Works.{works_of}
-use Rattle.flow_exit.specs.Exit.{ExitState}
-use Rattle.flow_input.specs.Input.{InputState}
 use Rattle.flow_net.specs.Apart.{apart_in, apart_layout}
+use Rattle.flow_net.specs.declared.parts.NetParts.{NetParts}
 use Rattle.flow_net.specs.Net.{layout_in, parts_of}
 use Rattle.flow_board.specs.Frames.{IsRoomFor}
 use Rattle.flow_board.specs.Orders.{AreInOrder}
@@ -22,6 +21,9 @@ use Rattle.flow_board.specs.Wired.{AreWired, idle, starts_of}
 use Rattle.flow_board.proofs.Orders.{in_order, in_parts}
 use Rattle.flow_board.proofs.Scatters.{all_ready, inputs_stay_by, kept_in_order, lines_many, moved, starts_same, wired_same}
 use Rattle.flow_board.proofs.scattering.scatter_home.Goals as goal
+
+abbrev begun_by : {W : Type 0} → Snapshot (NetParts W) → NetState
+begun_by begun = apart_in begun.value
 
 pub join-requires : goal.join-requires
 join-requires g c =
@@ -86,10 +88,16 @@ fill-requires g c κs within =
                 (
                   moved (λ plan nodes inputs exits. AreInOrder (layout_of plan) (works_of means (layout_of plan)) nodes inputs exits) old.plan
                       new.plan old.nodes.items new.nodes.items old.inputs.items new.inputs.items old.exits.items new.exits.items p n i e parts,
-                  moved
-                      (λ plan nodes inputs exits. AreWired (starts_of (layout_of plan) (record { nodes = nodes; inputs = inputs; exits = exits; lines = new.lines.items }))
-                      (length (layout_of plan).links) wired.wires.items wired.sources.items wired.targets.items)
-                      old.plan new.plan old.nodes.items new.nodes.items old.inputs.items new.inputs.items old.exits.items new.exits.items p n i e again,
+                  (
+                    moved
+                        (λ plan nodes inputs exits. AreWired (starts_of (layout_of plan) (record { nodes = nodes; inputs = inputs; exits = exits; lines = new.lines.items }))
+                        (length (layout_of plan).links) wired.wires.items wired.sources.items wired.targets.items)
+                        old.plan new.plan old.nodes.items new.nodes.items old.inputs.items new.inputs.items old.exits.items new.exits.items p n i e again,
+                    (
+                      ap (λ (parts : NetParts _). parts.nodes.items) c.of-begun.ensures ∙ n,
+                      ap (λ (parts : NetParts _). parts.inputs.items) c.of-begun.ensures ∙ i,
+                    ),
+                  ),
                 ),
               ),
             ),
@@ -131,16 +139,21 @@ join-requires-in-Err-wire_up g c =
     subst (λ (start : Start). LinkOk start.facts (get_or new.lines.items l idle).phase (get_or new.lines.items l idle).slot start.source start.target)
     (same l) (c.in-Err-wire_up.ensures.back l (subst (λ (k : ℕ). l < k) (sym count) small)).in_order)
 
+pub returns-in-Ok-wire_up-clause-begun : goal.returns-in-Ok-wire_up-clause-begun
+returns-in-Ok-wire_up-clause-begun g c =
+    ap begun_by c.fill.ensures.begun ∙ ap apart_in c.of-begun.ensures ∙ c.into_parts-apart.ensures.same_parts
+
 pub returns-in-Ok-wire_up-clause-journals : goal.returns-in-Ok-wire_up-clause-journals
 returns-in-Ok-wire_up-clause-journals g c =
     let net = c.args.net in
     let apart = c.into_parts-apart in
     let means = g.W.Runs.meaning in
     let nodes = ap (λ v. v.items) c.wire_up.ensures.nodes ∙ ap (λ (state : NetState). state.nodes) apart.ensures.same_parts in
+    let begun = ap begun_by c.fill.ensures.begun ∙ ap apart_in c.of-begun.ensures ∙ apart.ensures.same_parts in
     let order = kept_in_order (layout_in net) (works_of means (layout_in net)) (parts_of net) net.kept in
     let count = ∥∥₁_elim order (ℕ_set _ _) (λ o. o.node_count) in
     ap (λ (k : ℕ). map marks_in (take k c.fill.result.tasks.items)) (sym (ap length nodes ∙ count))
-    ∙ c.fill.ensures.journals ∙ ap (map (λ (node : NodeState). node.journal)) nodes
+    ∙ c.fill.ensures.journals ∙ ap (map (λ (node : NodeState). node.journal)) nodes ∙ sym (ap journals_of begun)
 
 pub returns-in-Err-wire_up-clause-inputs_stay : goal.returns-in-Err-wire_up-clause-inputs_stay
 returns-in-Err-wire_up-clause-inputs_stay g c =

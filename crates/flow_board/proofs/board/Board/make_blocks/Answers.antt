@@ -76,6 +76,14 @@ make_block-requires-clause-ins g c =
     (omega (arith, long, i.1.0, c.requires.count))
     ∙ ap (ins_due layout wires k) node
 
+pub make_block-requires-clause-begun : goal.make_block-requires-clause-begun
+make_block-requires-clause-begun g c =
+    let i = c.loop-node.invariant in
+    let all = i.0 ∙ ap (λ (rest : List NodeState). c.loop-node.yielded ++ rest) c.in-Some.ensures.steps.0 in
+    let node = ap (λ (n : ℕ). get_or c.args.nodes.items n no_node) i.1.0
+    ∙ next_there c.args.nodes.items c.loop-node.yielded (into_iter_items c.next.new.self) c.in-Some.node no_node all in
+    sym node ∙ ap (λ (nodes : List NodeState). get_or nodes c.loop-node.number no_node) c.requires.begun
+
 pub loop-node-preserved : goal.loop-node-preserved
 loop-node-preserved g c =
     let i = c.loop-node.invariant in

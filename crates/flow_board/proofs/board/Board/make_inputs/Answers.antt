@@ -3,8 +3,10 @@ use Rattle.std.specs.Vec.Iter.{into_iter_items}
 use Rattle.std.proofs.lemmas.List.{get_or_default, take-take}
 use Rattle.flow_lists.proofs.PlacesOfNumbers.{stands_below}
 use Rattle.flow_link.specs.Planned.{layout_of}
+use Rattle.flow_core.specs.Inputs.{input_of}
 use Rattle.flow_input.specs.Input.{InputState, no_input}
 use Rattle.flow_input.specs.InputKeeps.{InputLaw}
+use Rattle.flow_board.specs.Begun.{begun_in, begun_input}
 use Rattle.flow_board.specs.Inputs.{begins_at_input, input_due, links_of_inputs}
 use Rattle.flow_board.specs.Known.{out_known}
 use Rattle.flow_board.proofs.Makes.{dropped, front_long, some_left, next_there}
@@ -83,6 +85,26 @@ make_input-part-requires-clause-known g c =
     (omega (arith, long, i.1.0, c.requires.count))
     ∙ ap (input_due (layout_of board.rest.plan) wires (get_or links k 0)) input
     ∙ ap (λ (l : ℕ). input_due (layout_of board.rest.plan) wires l c.in-Some.input) (sym link)
+
+pub make_input-part-requires-clause-begun : goal.make_input-part-requires-clause-begun
+make_input-part-requires-clause-begun g c =
+    let i = c.loop-input.invariant in
+    let board = c.args.self.now in
+    let layout = layout_of board.rest.plan in
+    let k = c.loop-input.place in
+    let all = i.0 ∙ ap (λ (rest : List InputState). c.loop-input.yielded ++ rest) c.in-Some.ensures.steps.0 in
+    let long = ap length all ∙ length-append c.loop-input.yielded (c.in-Some.input ∷ into_iter_items c.next.new.self) in
+    let told = board.told in
+    let there : k < length board.inputs.items = omega (arith, long, i.1.0, c.requires.count, told) in
+    let small = subst (λ (ls : List ℕ). k < length ls) board.inputs_are there in
+    let at : c.index.result.now ≡ get_or board.inputs.items k c.index.result.now = search rules in
+    let link = at ∙ get_or_default board.inputs.items k c.index.result.now 0 there ∙ ap (λ (ls : List ℕ). get_or ls k 0) board.inputs_are in
+    let input = ap (λ (n : ℕ). get_or c.args.inputs.items n no_input) i.1.0
+    ∙ next_there c.args.inputs.items c.loop-input.yielded (into_iter_items c.next.new.self) c.in-Some.input no_input all in
+    let place = (stands_below (begins_at_input layout) (length layout.links) k small).before in
+    sym input ∙ ap (λ (inputs : List InputState). get_or inputs k no_input) c.requires.begun
+    ∙ ap (input_of (begun_in board)) (sym place)
+    ∙ ap (begun_input board) (sym link)
 
 pub loop-input-preserved : goal.loop-input-preserved
 loop-input-preserved g c =

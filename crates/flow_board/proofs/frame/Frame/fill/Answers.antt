@@ -1,4 +1,4 @@
-use Rattle.std.proofs.Common.{ℕ, [], List, length, map, get_or, vec_capacity, sym, ap, ◌∙◌, arith}
+use Rattle.std.proofs.Common.{ℕ, [], List, length, map, get_or, vec_capacity, sym, ap, ◌∙◌, arith, subst}
 use Rattle.atomic_table.specs.Seated.{TableId}
 use Rattle.flow_lists.specs.Lists.{below}
 use Rattle.flow_link.specs.declared.plan.Plan.{Plan}
@@ -11,12 +11,15 @@ use Rattle.flow_exit.specs.Exit.{ExitState, fresh_exit}
 use Rattle.flow_input.specs.Input.{InputState, no_input}
 use Rattle.flow_board.specs.Dealt.{exits_dealt, inputs_dealt, ins_dealt, outs_dealt}
 use Rattle.flow_board.specs.Exits.{exit_due}
-use Rattle.flow_board.specs.Inputs.{input_due, links_of_inputs}
+use Rattle.flow_board.specs.Inputs.{input_due, links_of_inputs, stays_open}
 use Rattle.flow_board.specs.Known.{in_known, ins_due, out_known, outs_due, source_due, target_due}
 use Rattle.flow_board.specs.Wired.{target_table}
 use Rattle.flow_board.proofs.EndsByPlace.{all_exits, all_inputs, all_ins, all_outs}
 use Rattle.flow_board.proofs.Fills.{ins_none, ins_roomy, outs_roomy, sources_due, targets_due}
 use Rattle.flow_board.proofs.Places.{count_is}
+use Rattle.flow_input.specs.InputKeeps.{InputLaw}
+use Rattle.flow_net.specs.Apart.{apart_in}
+use Rattle.flow_board.proofs.InputsStayed.{none_posts}
 use Rattle.flow_board.proofs.frame.Frame.fill.Goals as goal
 
 pub deal-requires : goal.deal-requires
@@ -34,7 +37,7 @@ deal-requires g c κs within =
     let wide = room.inputs_room in (
       within,
       (
-        sources_due layout g.net wired.wires.items wired.sources.items wired.targets.items c.requires.1.1.1.1.1.1.1,
+        sources_due layout g.net wired.wires.items wired.sources.items wired.targets.items c.requires.1.1.1.1.1.1.1.0,
         (
           outs,
           (
@@ -63,7 +66,7 @@ deal-requires-2 g c κs within =
     let wide = room.exits_room in (
       within,
       (
-        targets_due layout g.net wired.wires.items wired.sources.items wired.targets.items c.requires.1.1.1.1.1.1.1,
+        targets_due layout g.net wired.wires.items wired.sources.items wired.targets.items c.requires.1.1.1.1.1.1.1.0,
         (
           ins ∙ ins_none layout g.net meaning order.nodes_law say,
           (
@@ -84,7 +87,7 @@ make_parts-requires-clause-outs g c =
     let wired = c.args.wired in
     let wires = wired.wires.items in
     let order = c.requires.1.1.1.1.1.1.0 in
-    let seated = c.requires.1.1.1.1.1.1.1.seated in
+    let seated = c.requires.1.1.1.1.1.1.1.0.seated in
     c.deal.ensures.outs
     ∙ ap (λ (ws : List TableId). outs_dealt layout (source_due layout ws g.net) (length layout.links)) seated.sources_are
     ∙ all_outs layout wires g.net (works_of g.W.Runs.meaning layout) order.nodes_law
@@ -100,7 +103,7 @@ make_parts-requires-clause-ins g c =
     let wired = c.args.wired in
     let wires = wired.wires.items in
     let order = c.requires.1.1.1.1.1.1.0 in
-    let seated = c.requires.1.1.1.1.1.1.1.seated in
+    let seated = c.requires.1.1.1.1.1.1.1.0.seated in
     c.deal-2.ensures.ins
     ∙ ap (λ (ws : List TableId). ins_dealt layout (target_due layout ws g.net) (length layout.links)) seated.targets_are
     ∙ all_ins layout wires g.net (works_of g.W.Runs.meaning layout) order.nodes_law
@@ -115,7 +118,7 @@ make_parts-requires-clause-inputs g c =
     let layout = layout_of plan in
     let wired = c.args.wired in
     let wires = wired.wires.items in
-    let seated = c.requires.1.1.1.1.1.1.1.seated in
+    let seated = c.requires.1.1.1.1.1.1.1.0.seated in
     c.deal.ensures.inputs
     ∙ ap (λ (ws : List TableId). inputs_dealt layout (source_due layout ws g.net) (length layout.links)) seated.sources_are
     ∙ all_inputs layout wires g.net plan.laid_out
@@ -130,7 +133,7 @@ make_parts-requires-clause-exits g c =
     let layout = layout_of plan in
     let wired = c.args.wired in
     let wires = wired.wires.items in
-    let seated = c.requires.1.1.1.1.1.1.1.seated in
+    let seated = c.requires.1.1.1.1.1.1.1.0.seated in
     c.deal-2.ensures.exits
     ∙ ap (λ (ws : List TableId). exits_dealt layout (target_due layout ws g.net) (length layout.links)) seated.targets_are
     ∙ all_exits layout wires g.net
@@ -138,3 +141,30 @@ make_parts-requires-clause-exits g c =
     (c.requires.1.1.1.0 ∙ sym c.take_lists-lists.ensures.exits)
     ∙ ap (λ (p : Plan _). map (λ k. exit_due (layout_of p) wires (get_or (links_out (layout_of p)) k 0) (get_or c.take_lists-lists.result.exits.items k fresh_exit)) (below (length (links_out (layout_of p)))))
     (sym c.take_lists-lists.ensures.plan)
+
+pub make_parts-requires-clause-nodes_begun : goal.make_parts-requires-clause-nodes_begun
+make_parts-requires-clause-nodes_begun g c =
+    c.take_lists-lists.ensures.nodes ∙ sym c.requires.1.0 ∙ sym c.requires.1.1.1.1.1.1.1.1.0
+
+pub make_parts-requires-clause-inputs_begun : goal.make_parts-requires-clause-inputs_begun
+make_parts-requires-clause-inputs_begun g c =
+    c.take_lists-lists.ensures.inputs ∙ sym c.requires.1.1.0 ∙ sym c.requires.1.1.1.1.1.1.1.1.1
+
+pub invariant_of-board-clause-opens_are : goal.invariant_of-board-clause-opens_are
+invariant_of-board-clause-opens_are g c = c.requires.1.1.1.1.1.0.opens ∙ ap (map stays_open) (sym c.requires.1.1.1.1.1.1.1.1.1)
+
+pub invariant_of-board-clause-open_ones_post : goal.invariant_of-board-clause-open_ones_post
+invariant_of-board-clause-open_ones_post g c =
+    let order = c.requires.1.1.1.1.1.1.0 in
+    let same = c.requires.1.1.1.1.1.1.1.1.1 in
+    let layout = layout_of c.args.apart.plan in
+    none_posts (apart_in c.args.begun.value) (length (links_of_inputs layout)) (ap length same ∙ order.input_count)
+    (λ q low. subst (λ (inputs : List InputState). ∥ InputLaw (get_or inputs q no_input) ∥₁) (sym same) (order.inputs_law q low))
+
+pub invariant_of-board-clause-inputs_are : goal.invariant_of-board-clause-inputs_are
+invariant_of-board-clause-inputs_are g c =
+    c.requires.1.1.1.1.1.0.input_links ∙ ap (λ (plan : Plan _). links_of_inputs (layout_of plan)) (sym c.take_lists-lists.ensures.plan)
+
+pub invariant_of-board-clause-exits_are : goal.invariant_of-board-clause-exits_are
+invariant_of-board-clause-exits_are g c =
+    c.requires.1.1.1.1.1.0.exit_links ∙ ap (λ (plan : Plan _). links_out (layout_of plan)) (sym c.take_lists-lists.ensures.plan)

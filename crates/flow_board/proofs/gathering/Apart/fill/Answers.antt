@@ -1,10 +1,20 @@
-use Rattle.std.proofs.Common.{◌≡◌, ℕ, ◌+◌, ◌<◌, List, length, map, drop, get_or, refl, sym, ap, ◌∙◌, subst, arith}
+use Rattle.std.proofs.Common.{◌≡◌, ℕ, ◌+◌, List, [], length, map, drop, take, get_or, refl, sym, ap, ◌∙◌, subst, arith}
+use Rattle.std.proofs.lemmas.List.{length-map}
+use Rattle.std.proofs.Math.ListN.{get_or-map}
 use Rattle.flow_lists.specs.Lists.{below, numbers_from}
 use Rattle.flow_link.specs.Planned.{layout_of}
+use Rattle.flow_link.specs.declared.trace.Mark.{Mark}
+use Rattle.flow_block.specs.Node.{NodeState}
+use Rattle.flow_core.specs.State.{no_node}
 use Rattle.flow_input.specs.Input.{no_input}
-use Rattle.flow_board.specs.Inputs.{input_due, links_of_inputs}
-use Rattle.flow_board.specs.Numbers.{closed_before}
-use Rattle.flow_board.specs.Parts.{AllTasksOf, task_number}
+use Rattle.flow_net.specs.Net.{parts_of}
+use Rattle.flow_poll.specs.Turns.{Extends}
+use Rattle.flow_board.specs.Begun.{begun_in, begun_journal}
+use Rattle.flow_board.specs.Inputs.{input_due, links_of_inputs, stays_open}
+use Rattle.flow_board.specs.Numbers.{closed_before, task_count}
+use Rattle.flow_board.specs.Parts.{AllTasksOf, marks_in, task_number}
+use Rattle.flow_board.proofs.InputsStayed.{all_stay}
+use Rattle.flow_board.proofs.JournalsBegin.{journals_begin}
 use Rattle.flow_board.proofs.Makes.{numbers_behind, tasks_behind}
 use Rattle.flow_board.proofs.gathering.Apart.fill.Goals as goal
 
@@ -31,7 +41,10 @@ join-requires g c κs within =
     let layout = layout_of board.rest.plan in
     let wires = board.wires.items in
     let told = board.told ∙ ap length board.inputs_are in
-    let inputs = c.take-2.new.self.inputs.items in (
+    let inputs = c.take-2.new.self.inputs.items in
+    let opened = sym (length-map board.begun.value.inputs.items stays_open) ∙ ap length (sym board.opens_are) in
+    let stay = all_stay (begun_in board) (record { nodes = c.take.new.self.nodes.items; inputs = inputs; exits = c.take-3.new.self.exits.items; lines = board.rest.lines.items })
+    (length board.opens.items) opened c.take-2.ensures.count c.take-2.ensures.posted in (
       within,
       (
         refl,
@@ -55,7 +68,7 @@ join-requires g c κs within =
                   (
                     c.take-2.ensures.ends
                         ∙ ap (λ (n : ℕ). map (λ q. input_due layout wires (get_or (links_of_inputs layout) q 0) (get_or inputs q no_input)) (below n)) told,
-                    c.take-3.ensures.ends,
+                    (c.take-3.ensures.ends, stay),
                   ),
                 ),
               ),
@@ -64,3 +77,20 @@ join-requires g c κs within =
         ),
       ),
     )
+
+pub returns-clause-go_on : goal.returns-clause-go_on
+returns-clause-go_on g c = λ b small.
+    let board = c.args.parts.board in
+    let layout = layout_of board.rest.plan in
+    let blocks = length layout.blocks in
+    let tasks = c.args.parts.tasks.items in
+    let net = parts_of c.join.result in
+    let same = c.join.ensures.journals ∙ c.take.ensures.journals
+    ∙ ap (λ (all : List _). map marks_in (take blocks all)) c.from_vec-tasks.ensures.items in
+    let here = sym (get_or-map (λ (node : NodeState). node.journal) net.nodes b no_node)
+    ∙ ap (λ (journals : List (List Mark)). get_or journals b []) same in
+    let all = task_count layout board.opens.items in
+    let none : 0 + b ≡ b = omega arith in
+    subst (Extends (begun_journal board b)) (sym here)
+    (subst (λ (k : ℕ). Extends (begun_journal board k) (get_or (map marks_in (take blocks tasks)) b [])) none
+    (journals_begin board tasks blocks all 0 b c.requires.tasks_of c.requires.there.tasks_are small (omega (arith, small)) (omega (arith, small))))

@@ -1,4 +1,4 @@
-use Rattle.std.proofs.Common.{rules, ◌≡◌, ◌<◌, false, cond, length, sym, subst, arith}
+use Rattle.std.proofs.Common.{rules, ◌≡◌, ◌<◌, false, cond, length, sym, subst, arith, ℕ, true, below_more}
 use Rattle.flow_lists.proofs.ListTests.{every_below}
 use Rattle.flow_link.specs.Plan.{is_one_taker}
 use Rattle.flow_link.specs.Planned.{layout_of}
@@ -37,3 +37,10 @@ returns g c =
     s.outs_know in
     sym (every_below (λ k. is_over (stage_from k s.node)) (out_count s.node)
     (λ k low. c.loop-place.invariant k (omega (arith, many, s.outs.ok.0, c.len-place-end.ensures, c.loop-place-test.false, low))))
+
+pub loop-place-preserved : goal.loop-place-preserved
+loop-place-preserved g c =
+    let s = c.args.self.now in
+    let place = c.loop-place.place in
+    let over : is_over (stage_from place s.node) ≡ true = search rules in
+    below_more (λ (k : ℕ). is_over (stage_from k s.node) ≡ true) place c.loop-place.invariant over

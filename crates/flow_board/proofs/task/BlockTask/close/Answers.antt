@@ -1,16 +1,24 @@
-use Rattle.std.proofs.Common.{Some}
-use Rattle.flow_block.specs.Node.{NodeCall}
-use Rattle.flow_board.proofs.JournalsGrow.{grown}
+use Rattle.std.proofs.Common.{rules, ◌≡◌, true, Some}
+use Rattle.std.proofs.lemmas.Grind.{merely}
+use Rattle.flow_block.specs.Peeks.{may_finish, next_fault}
+use Rattle.flow_board.specs.Events.{BlockEvent}
 use Rattle.flow_board.proofs.task.BlockTask.close.Goals as goal
 
 pub returns-in-Some-clause-does : goal.returns-in-Some-clause-does
 returns-in-Some-clause-does g c =
-    grown (Some (NodeCall.complete c.in-Some.port)) c.args.self.now.node c.complete.new.self.node c.in_ok-complete.ensures.completed
+    let found = c.in-Some in
+    merely (
+      BlockEvent.complete found.port,
+      record { comes = (found.ensures.there, found.ensures.completes); leaves = c.in_ok-complete.ensures.completed },
+    )
 
 pub returns-in-Some-next_fault-clause-does : goal.returns-in-Some-next_fault-clause-does
 returns-in-Some-next_fault-clause-does g c =
-    grown (Some (NodeCall.fault c.in-Some-next_fault.number)) c.args.self.now.node c.fault.new.self.node c.in_ok-fault.ensures.faulted
+    let number = c.in-Some-next_fault.number in
+    let would : next_fault c.args.self.now.node.block ≡ Some number = search rules in
+    merely (BlockEvent.fault number, record { comes = would; leaves = c.in_ok-fault.ensures.faulted })
 
 pub returns-then-may_finish-clause-does : goal.returns-then-may_finish-clause-does
 returns-then-may_finish-clause-does g c =
-    grown (Some NodeCall.finish) c.args.self.now.node c.finish.new.self.node c.in_ok-finish.ensures.finished
+    let would : may_finish c.args.self.now.node.block ≡ true = search rules in
+    merely (BlockEvent.finish, record { comes = would; leaves = c.in_ok-finish.ensures.finished })

@@ -1,25 +1,28 @@
-use Rattle.std.proofs.Common.{◌≡◌, true, OnOk, sym, subst}
+use Rattle.std.proofs.Common.{◌≡◌, true, OnOk, subst}
+use Rattle.std.proofs.lemmas.Grind.{merely}
 use Rattle.std.proofs.lemmas.Result.{on_ok_weaker}
 use Rattle.flow_link.specs.Planned.{layout_of}
 use Rattle.flow_block.specs.Block.{BlockState}
-use Rattle.flow_block.specs.Node.{NodeState}
 use Rattle.flow_block.specs.Peeks.{may_end}
 use Rattle.flow_block.specs.Planned.{block_makes}
 use Rattle.flow_exec.specs.Works.{works_of}
-use Rattle.flow_poll.specs.Turns.{Extends}
-use Rattle.flow_poll.proofs.EachGoes.{extends_itself}
-use Rattle.flow_board.proofs.TurnsGrow.{undone_does}
+use Rattle.flow_board.specs.Events.{BlockEvent, HasEvent}
+use Rattle.flow_board.specs.Tasks.{makes_of}
+use Rattle.flow_board.proofs.TurnsHappen.{undone_does}
 use Rattle.flow_board.proofs.TurnsStill.{jobs_done}
 use Rattle.flow_board.proofs.task.BlockTask.end_once.Goals as goal
 
 pub returns-in-Some-clause-does : goal.returns-in-Some-clause-does
 returns-in-Some-clause-does g c =
-    let old = c.args.self.now.node in
+    let s = c.args.self.now in
+    let makes = makes_of g.W.Runs.meaning s in
+    let old = s.node in
     let new = c.finish_job.new.self.node in
-    let extends : OnOk c.finish_job.result (Extends old.journal new.journal) =
-    on_ok_weaker c.finish_job.result
-    (λ is. subst (λ (node : NodeState). Extends old.journal node.journal) (sym is) (extends_itself old.journal)) c.finish_job.ensures.ended in
-    undone_does c.finish_job.result c.left_undone.result old new c.left_undone.ensures.done c.left_undone.ensures.not_done extends
+    let ticket = c.in-Some.ticket in
+    let out = subst (λ (b : BlockState). may_end ticket b ≡ true) c.block.ensures c.in-Some.ensures.some in
+    let event : OnOk c.finish_job.result (∥ HasEvent makes old new ∥₁) =
+    on_ok_weaker c.finish_job.result (λ is. merely (BlockEvent.end_job ticket, record { comes = out; leaves = is })) c.finish_job.ensures.ended in
+    undone_does makes c.finish_job.result c.left_undone.result old new c.left_undone.ensures.done c.left_undone.ensures.not_done event
     c.finish_job.ensures.kept
 
 pub returns-in-Some-clause-still : goal.returns-in-Some-clause-still

@@ -1,0 +1,19 @@
+use Rattle.std.proofs.Common.{ℕ, sym, subst}
+use Rattle.std.proofs.Math.Logic.{∥∥₁_map}
+use Rattle.flow_poll.specs.Turns.{Extends}
+use Rattle.flow_poll.proofs.EachGoes.{extends_further}
+use Rattle.flow_board.specs.Begun.{begun_journal}
+use Rattle.flow_board.specs.Kinds.{BeginsBy}
+use Rattle.flow_board.specs.declared.board.Board.{Board}
+use Rattle.flow_board.specs.declared.numbered.Kind.{Kind}
+use Rattle.flow_board.proofs.numbered.Task.turn.Goals as goal
+
+pub invariant_of-self-clause-begins : goal.invariant_of-self-clause-begins
+invariant_of-self-clause-begins g c =
+    let old = c.in-Block.task in
+    let new = c.turn.new.self in
+    let before = subst (λ (kind : Kind _ _ _). ∥ BeginsBy kind ∥₁) c.in-Block.is c.args.self.now.begins in
+    ∥∥₁_map before (λ begins.
+    subst (λ (board : Board _). Extends (begun_journal board new.number) new.node.journal) (sym c.turn.ensures.of)
+    (subst (λ (n : ℕ). Extends (begun_journal old.of.value n) new.node.journal) (sym c.turn.ensures.number)
+    (extends_further (begun_journal old.of.value old.number) old.node.journal new.node.journal begins c.turn.ensures.extends)))

@@ -1,0 +1,12 @@
+use Rattle.std.proofs.Common.{sym, ◌∙◌, subst}
+use Rattle.flow_board.specs.Parts.{AllTasksOf}
+use Rattle.flow_board.proofs.Makes.{tasks_on}
+use Rattle.flow_board_rows.proofs.rounds.turn_first.Goals as goal
+
+pub loop-task-preserved : goal.loop-task-preserved
+loop-task-preserved g c =
+    let i = c.loop-task.invariant in
+    let board = c.args.board.now in
+    let of = subst (AllTasksOf board) c.in-Some.ensures.steps.0 i.0 in
+    let turned = tasks_on board c.loop-task.turned.items c.turn_if.new.task i.1 (c.turn_if.ensures.of ∙ of.0) in
+    (of.1, subst (AllTasksOf board) (sym c.in-Ok.ensures.items) turned)
