@@ -1,6 +1,7 @@
 pub mod AllExits
 pub mod AllOver
 pub mod BlocksApart
+pub mod BoardsShare
 pub mod Counts
 pub mod Dealing
 pub mod DealtBy
@@ -26,6 +27,7 @@ pub mod LinkOnce
 pub mod LinksFound
 pub mod Makes
 pub mod NodesCross
+pub mod NodesShare
 pub mod NumbersOfParts
 pub mod OpenCounts
 pub mod Orders
@@ -39,6 +41,7 @@ pub mod TakenApart
 pub mod TargetsTake
 pub mod TaskSteps
 pub mod TasksApart
+pub mod TasksCross
 pub mod TurnsGrow
 pub mod TurnsHappen
 pub mod TurnsStill

@@ -1,4 +1,5 @@
 pub mod Absent
+pub mod At
 pub mod Begun
 pub mod Dealt
 pub mod Ended

@@ -6,12 +6,22 @@ ghost use Rattle.flow_intake.specs.contracts.intake.Intake as intake;
 ghost use Rattle.flow_outlet.specs.contracts.outlet.Outlet as outlet;
 ghost use Rattle.flow_spread.specs.contracts.spread.Spread as spread;
 ghost use Rattle.flow_block.specs.contracts.node.Node as node;
+ghost use Rattle.flow_exit.specs.contracts.exit_end.ExitEnd as exit_end;
+ghost use Rattle.flow_input.specs.contracts.input.Input as input;
+ghost use Rattle.flow_wire.specs.contracts.source.SourceEnd as source;
+ghost use Rattle.flow_wire.specs.contracts.target.TargetEnd as target;
+ghost use Rattle.flow_board.specs.contracts.numbered.Entry as entry;
+ghost use Rattle.flow_board.specs.contracts.numbered.Exit as exit;
+ghost use Rattle.flow_board.specs.contracts.numbered.Task as task;
 
+use flow_exit::ExitEnd;
+use flow_input::Input;
 use flow_intake::Intake;
 use flow_link::Mark;
 use flow_outlet::Outlet;
 use flow_spread::Spread;
-use flow_value::Value;
+use flow_value::{Runs, Value};
+use flow_wire::{SourceEnd, TargetEnd};
 
 /// A type whose values may go to another thread.
 fn crosses<T: Send>()
@@ -62,4 +72,53 @@ pub fn nodes_cross()
     intakes_cross();
     outlets_cross();
     spreads_cross();
+}
+
+/// What is posted from outside may.
+pub fn inputs_cross()
+    ensures { IsSend input.the_row }
+{
+    crosses::<Input>();
+}
+
+/// What is received outside may.
+pub fn exit_ends_cross()
+    ensures { IsSend exit_end.the_row }
+{
+    crosses::<ExitEnd>();
+}
+
+/// An end of a link may.
+pub fn link_ends_cross()
+    ensures source { IsSend source.the_row }
+    ensures target { IsSend target.the_row }
+{
+    crosses::<SourceEnd>();
+    crosses::<TargetEnd>();
+}
+
+/// So a task may go to another thread, of whatever kind its works are: it has none of them, and knows its board by a snapshot. Call
+/// it before a task is sent there.
+pub fn tasks_cross<W: Runs>()
+    ensures { IsSend (task.the_row W.row (record { meaning = W.meaning }) (record { eq = W.eq })) }
+{
+    nodes_cross();
+    inputs_cross();
+    link_ends_cross();
+}
+
+/// So may an entry.
+pub fn entries_cross<W: Runs>()
+    ensures { IsSend (entry.the_row W.row (record { meaning = W.meaning }) (record { eq = W.eq })) }
+{
+    inputs_cross();
+    link_ends_cross();
+}
+
+/// So may an exit.
+pub fn exits_cross<W: Runs>()
+    ensures { IsSend (exit.the_row W.row (record { meaning = W.meaning }) (record { eq = W.eq })) }
+{
+    exit_ends_cross();
+    link_ends_cross();
 }

@@ -3,6 +3,7 @@
 #![tactic(auto)]
 
 mod apart;
+mod at;
 mod board;
 mod close;
 mod frame;
@@ -17,6 +18,7 @@ mod over;
 mod own;
 mod room;
 mod scattering;
+mod shared_laws;
 mod sources;
 mod targets;
 mod task;
@@ -24,10 +26,13 @@ mod turn;
 mod wires;
 mod words;
 
+pub use at::TaskAt;
 pub use board::Board;
 pub use gathering::{GatherFault, gather};
 pub use laws::{
-    intakes_cross, marks_cross, nodes_cross, outlets_cross, spreads_cross, values_cross,
+    entries_cross, exit_ends_cross, exits_cross, inputs_cross, intakes_cross, link_ends_cross,
+    marks_cross, nodes_cross, outlets_cross, spreads_cross, tasks_cross, values_cross,
 };
 pub use numbered::{Entry, Exit, Parts, Scattered, Task, Watch};
 pub use scattering::scatter;
+pub use shared_laws::boards_are_shared;

@@ -1,1 +1,2 @@
 pub mod SecondTask
+pub mod TasksAt

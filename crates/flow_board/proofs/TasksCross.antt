@@ -1,0 +1,37 @@
+-- A task may go to another thread: a block or an input, with its ends of links. Its board it knows by a snapshot, which is nothing.
+use denote.Param.Send.{IsSend, sendable}
+use denote.Param.SendFields.{declared_send, variants_send}
+use denote.RattleType.{RattleType}
+use Rattle.std.proofs.Crossing.{crosses}
+use Rattle.std.specs.declared.cmp.PartialEq as eq
+use Rattle.flow_value.specs.declared.work.Runs as runs
+use Rattle.flow_block.specs.contracts.node.Node as node
+use Rattle.flow_exit.specs.contracts.exit_end.ExitEnd as exit_end
+use Rattle.flow_input.specs.contracts.input.Input as input
+use Rattle.flow_wire.specs.contracts.source.SourceEnd as source
+use Rattle.flow_wire.specs.contracts.target.TargetEnd as target
+use Rattle.flow_board.specs.contracts.input_task.InputTask as input_task
+use Rattle.flow_board.specs.contracts.numbered.Entry as entry
+use Rattle.flow_board.specs.contracts.numbered.Exit as exit
+use Rattle.flow_board.specs.contracts.numbered.Kind as kind
+use Rattle.flow_board.specs.contracts.numbered.Task as task
+use Rattle.flow_board.specs.contracts.task.BlockTask as block_task
+
+module _ (W : RattleType) (w : runs.Ghosts W.Denot) (e : eq.Ghosts W.Denot) where
+  pub block_row : IsSend node.the_row → IsSend source.the_row → IsSend target.the_row → IsSend (block_task.the_row W w e)
+  block_row nodes sources targets = declared_send (block_task.the_type W w e) (search (sendable, crosses) depth 9, (search (sendable, crosses) depth 9, (search (sendable, crosses) depth 9, (search (sendable, crosses) depth 9, (search (sendable, crosses) depth 9, (search (sendable, crosses) depth 9, (search (sendable, crosses) depth 9, tt)))))))
+
+  pub input_row : IsSend input.the_row → IsSend source.the_row → IsSend (input_task.the_row W w e)
+  input_row inputs sources = declared_send (input_task.the_type W w e) (search (sendable, crosses) depth 9, (search (sendable, crosses) depth 9, (search (sendable, crosses) depth 9, (search (sendable, crosses) depth 9, tt))))
+
+  kind_row : IsSend (block_task.the_row W w e) → IsSend (input_task.the_row W w e) → IsSend (kind.the_row W w e)
+  kind_row block from_outside = variants_send (kind.enum W w e) ((block, tt), ((from_outside, tt), tt))
+
+  pub task_row : IsSend (block_task.the_row W w e) → IsSend (input_task.the_row W w e) → IsSend (task.the_row W w e)
+  task_row block from_outside = declared_send (task.the_type W w e) (search (sendable, crosses) depth 9, (kind_row block from_outside, tt))
+
+  pub entry_row : IsSend (input_task.the_row W w e) → IsSend (entry.the_row W w e)
+  entry_row from_outside = declared_send (entry.the_type W w e) (search (sendable, crosses) depth 9, (from_outside, tt))
+
+  pub exit_row : IsSend exit_end.the_row → IsSend target.the_row → IsSend (exit.the_row W w e)
+  exit_row exits targets = declared_send (exit.the_type W w e) (search (sendable, crosses) depth 9, (search (sendable, crosses) depth 9, (search (sendable, crosses) depth 9, (search (sendable, crosses) depth 9, (search (sendable, crosses) depth 9, tt)))))

@@ -1,0 +1,12 @@
+use denote.Param.{param}
+use Rattle.flow_board.proofs.TasksCross.{block_row, input_row, task_row}
+use Rattle.flow_board.proofs.laws.tasks_cross.Goals as goal
+
+pub returns : goal.returns
+returns g c =
+    let W = param 0 g.row.W in
+    let w = g.W.Runs in
+    let e = g.W.PartialEq in
+    let ends = c.link_ends_cross.ensures in
+    let block = block_row W w e c.nodes_cross.ensures ends.source ends.target in
+    task_row W w e block (input_row W w e c.inputs_cross.ensures ends.source)
