@@ -1,12 +1,11 @@
 //! The tasks of a network as actors, each at its board.
-ghost use Rattle.std.specs.Prelude.{◌≡◌};
 ghost use Rattle.flow_board.specs.At.{AllAt};
-ghost use Rattle.flow_board.specs.Parts.{AllTasksOf, board_of};
+ghost use Rattle.flow_board.specs.Parts.{AllTasksOf};
 
 use crate::networks::{chain_parts, gathered, journal};
 use crate::told::{has_recorded, is_done};
 use flow_board::{Board, Parts, Task, TaskAt};
-use flow_poll::{Crew, Running, TurnState};
+use flow_poll::{Crew, TurnState};
 use flow_value::Steps;
 use futures::executor::block_on;
 use std::alloc::{AllocGlobal, Global};
@@ -53,24 +52,6 @@ fn tasks_of(
     tasks
 }
 
-/// Drives a task alone until it waits for others.
-fn waiting(
-    rt: &(impl Abort + Wait + RandomSource + AllocGlobal),
-    alloc: Global,
-    board: &Board<Steps>,
-    task: Task<Steps>,
-) -> Task<Steps>
-    requires of { board_of task ≡ board.now }
-    ensures of { board_of result ≡ board.now }
-{
-    let running = Running::new(alloc, TaskAt::new(board, task), 2, 100);
-    let Ok((at, state)) = block_on(rt, running) else {
-        panic!(rt; "not driven");
-    };
-    assert!(rt; matches!(state, Ok(TurnState::Idle)));
-    at.into_task()
-}
-
 /// Drives tasks as a crew, until all have ended.
 fn crew_ended(
     rt: &(impl Abort + Wait + RandomSource + AllocGlobal),
@@ -89,26 +70,6 @@ fn crew_ended(
     tasks_of(rt, alloc, board, all)
 }
 
-/// Drives the last of four tasks alone, until it waits, and then all as a crew, until they have ended.
-fn ended(
-    rt: &(impl Abort + Wait + RandomSource + AllocGlobal),
-    alloc: Global,
-    board: &Board<Steps>,
-    tasks: Vec<Task<Steps>>,
-) -> Vec<Task<Steps>>
-    requires of { AllTasksOf board.now tasks.items }
-    ensures of { AllTasksOf board.now result.items }
-{
-    let mut tasks = tasks;
-    assert!(rt; tasks.len() == 4);
-    let last = tasks.remove(3);
-    let last = waiting(rt, alloc, board, last);
-    let Ok(()) = tasks.push(last) else {
-        panic!(rt; "out of memory");
-    };
-    crew_ended(rt, alloc, board, tasks)
-}
-
 #[test]
 fn tasks_at_their_board_end_and_are_gathered(rt: HostRuntime) {
     let alloc = rt.alloc();
@@ -118,7 +79,7 @@ fn tasks_at_their_board_end_and_are_gathered(rt: HostRuntime) {
         entries,
         exits,
     } = chain_parts(&rt, alloc);
-    let tasks = ended(&rt, alloc, &board, tasks);
+    let tasks = crew_ended(&rt, alloc, &board, tasks);
     let parts = Parts {
         board,
         tasks,
