@@ -1,0 +1,30 @@
+//! Tests of runs that are scattered into tasks: networks and records as texts, turned by one thread or by two, stopped anywhere and
+//! gathered. Each comes to the end that is due of it.
+#![tactic(auto)]
+
+#[cfg(test)]
+mod alone;
+#[cfg(test)]
+mod ends;
+#[cfg(test)]
+mod halves;
+#[cfg(test)]
+mod journals;
+#[cfg(test)]
+mod midway;
+#[cfg(test)]
+mod networks;
+#[cfg(test)]
+mod numbers;
+#[cfg(test)]
+mod rounds;
+#[cfg(test)]
+mod rows;
+#[cfg(test)]
+mod shares;
+#[cfg(test)]
+mod stops;
+#[cfg(test)]
+mod threads;
+#[cfg(test)]
+mod turned;

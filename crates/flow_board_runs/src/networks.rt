@@ -1,0 +1,43 @@
+//! Networks that are read from texts.
+ghost use Rattle.std.specs.Prelude.{◌≡◌, true, length, map, count_by};
+ghost use Rattle.flow_lists.specs.Lists.{every};
+ghost use Rattle.flow_link.specs.Planned.{layout_of};
+ghost use Rattle.flow_link.specs.Posted.{ends_by_number, input_of};
+
+use flow_link::{Plan, Posted};
+use flow_net::Net;
+use flow_run::split_input;
+use flow_text::{read_plan, read_records};
+use flow_value::Steps;
+use std::alloc::Global;
+use std::process::Abort;
+
+/// The network of a text, to which the records behind it are posted.
+pub(crate) fn network(rt: &impl Abort, alloc: Global, text: &str) -> Net<Steps> {
+    let (network, records) = split_input(text.as_bytes());
+    let plan = planned(rt, alloc, network);
+    let posted = posted(rt, alloc, records, &plan);
+    let Ok(net) = Net::new(alloc, plan, posted) else {
+        panic!(rt; "out of memory");
+    };
+    net
+}
+
+/// The plan of a network's text.
+fn planned(rt: &impl Abort, alloc: Global, text: &[u8]) -> Plan<Steps> {
+    let Ok(plan) = read_plan(alloc, text) else {
+        panic!(rt; "no plan");
+    };
+    plan
+}
+
+/// What records post to the inputs of a plan.
+fn posted(rt: &impl Abort, alloc: Global, records: &[u8], plan: &Plan<Steps>) -> Vec<Posted>
+    ensures one_each { length result.items ≡ count_by (λ block. block.input) (layout_of plan.now).blocks }
+    ensures numbered { every ends_by_number (map input_of result.items) ≡ true }
+{
+    let Ok(posted) = read_records(alloc, records, plan) else {
+        panic!(rt; "no records");
+    };
+    posted
+}

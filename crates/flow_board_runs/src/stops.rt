@@ -1,0 +1,37 @@
+//! Runs are stopped anywhere, gathered, and go on.
+
+use crate::ends::has_ended;
+use crate::journals::{go_on, journals};
+use crate::networks::network;
+use crate::rows::{Row, stopped};
+use crate::turned::{Way, turned};
+use std::alloc::Global;
+use std::process::Abort;
+use std::thread::Threads;
+
+/// The most rounds after which a run is stopped.
+const MOST: u32 = 50;
+
+/// Asserts that a run that two threads turn for so many rounds, and that is gathered then, goes on to its end from there.
+fn goes_on(rt: &(impl Abort + Threads + Sync), alloc: Global, row: &Row, rounds: u32) {
+    let net = network(rt, alloc, row.text);
+    let net = turned(rt, alloc, net, Way::BothFor(rounds));
+    let kept = journals(rt, alloc, &net);
+    let net = turned(rt, alloc, net, Way::Both(64));
+    go_on(rt, alloc, &net, &kept);
+    has_ended(rt, alloc, &net, row);
+}
+
+/// Asserts the same after each number of rounds.
+fn goes_on_after_each(rt: &(impl Abort + Threads + Sync), alloc: Global, row: &Row) {
+    for rounds in 0..=MOST {
+        goes_on(rt, alloc, row, rounds);
+    }
+}
+
+#[test]
+fn stopped_runs_go_on(rt: HostRuntime) {
+    for row in stopped() {
+        goes_on_after_each(&rt, rt.alloc(), row);
+    }
+}

@@ -1,0 +1,14 @@
+//! Two threads turn the tasks of each run at once.
+
+use crate::ends::check_all;
+use crate::turned::Way;
+
+#[test]
+fn runs_end_by_two_threads(rt: HostRuntime) {
+    check_all(&rt, rt.alloc(), Way::Both(64));
+}
+
+#[test]
+fn runs_end_by_single_events_of_two_threads(rt: HostRuntime) {
+    check_all(&rt, rt.alloc(), Way::Both(1));
+}
