@@ -2,7 +2,7 @@ use Rattle.std.proofs.Common.{◌∙◌, length}
 use Rattle.flow_link.specs.Planned.{layout_of}
 use Rattle.flow_record_text.specs.Records.{input_names}
 use Rattle.flow_run.proofs.InputsAsPosted.{names_count, as_many, complete_numbered}
-use Rattle.flow_board_runs.proofs.networks.posted.Goals as goal
+use Rattle.flow_turn_rows.proofs.networks.posted.Goals as goal
 
 pub returns : goal.returns
 returns g c =

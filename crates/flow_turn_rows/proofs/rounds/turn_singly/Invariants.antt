@@ -1,5 +1,5 @@
 use Rattle.flow_board.specs.Parts.{AllTasksOf}
-use Rattle.flow_board_runs.proofs.rounds.turn_singly.Given as goal
+use Rattle.flow_turn_rows.proofs.rounds.turn_singly.Given as goal
 
 abbrev pub invariant-loop-turn : goal.invariant-loop-turn
 invariant-loop-turn l = AllTasksOf l.board l.tasks.items

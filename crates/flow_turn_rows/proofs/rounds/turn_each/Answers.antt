@@ -1,6 +1,6 @@
 use Rattle.std.proofs.Common.{rules, ◌<◌, length}
-use Rattle.flow_board_runs.proofs.TasksOf.{task_of, tasks_turned}
-use Rattle.flow_board_runs.proofs.rounds.turn_each.Goals as goal
+use Rattle.flow_turn_rows.proofs.TasksOf.{task_of, tasks_turned}
+use Rattle.flow_turn_rows.proofs.rounds.turn_each.Goals as goal
 
 pub turn-requires : goal.turn-requires
 turn-requires c =

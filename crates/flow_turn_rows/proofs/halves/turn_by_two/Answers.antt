@@ -1,6 +1,6 @@
 use Rattle.std.proofs.Common.{◌/◌}
-use Rattle.flow_board_runs.proofs.TasksOf.{front_of, back_of, whole_of}
-use Rattle.flow_board_runs.proofs.halves.turn_by_two.Goals as goal
+use Rattle.flow_turn_rows.proofs.TasksOf.{front_of, back_of, whole_of}
+use Rattle.flow_turn_rows.proofs.halves.turn_by_two.Goals as goal
 
 pub turn_on-requires-clause-first : goal.turn_on-requires-clause-first
 turn_on-requires-clause-first g c κs within = front_of c.args.board.now (c.len.result / 2) c.args.tasks.items c.split_off.new.self.items c.in-Ok.ensures.items c.requires.of
