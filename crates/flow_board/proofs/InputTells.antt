@@ -1,4 +1,4 @@
--- What an input would do next by itself has an id if it offers, and is no move that the target may forestall.
+-- What an input would do next by itself has an id if it offers, and is no move that the target may forestall; and a look gives nothing.
 use Rattle.std.proofs.Common.{◌≡◌, ℕ, ◌<◌, ◌^◌, ltb, cond, not, ◌&&◌, Bool, true, false, Option, Some, None, refl, subst}
 use Rattle.std.proofs.lemmas.Bool.{ltb-true}
 use Rattle.flow_link.specs.declared.phase.LinkEnd.{LinkEnd}
@@ -7,7 +7,9 @@ use Rattle.flow_link.specs.declared.phase.Move.TheVariants as move
 use Rattle.flow_link.specs.declared.stage.SourceStage.{SourceStage}
 use Rattle.flow_link.specs.declared.stage.SourceStage.TheVariants.{Free, Accepted, Wished}
 use Rattle.flow_outlet.specs.End.{is_free}
-use Rattle.flow_input.specs.Input.{InputState, has_next, next_id, input_move, move_from, end_by, end_move}
+use Rattle.flow_link.specs.declared.phase.Phase.{Phase}
+use Rattle.flow_link.specs.Stage.{source_looks}
+use Rattle.flow_input.specs.Input.{InputState, has_next, next_id, input_move, is_turned_down, looks, move_from, end_by, end_move, stands_at, takes_back}
 use Rattle.flow_moves.specs.Ready.{InputIsReady}
 use Rattle.flow_board.specs.Inputs.{HasId}
 use Rattle.flow_board.specs.Words.{is_withdrawal}
@@ -55,3 +57,12 @@ ready_is_own (move.Offer i) input ready = refl
 ready_is_own move.Give input ready = refl
 ready_is_own (move.End how) input ready = refl
 ready_is_own _ input ready = absurd ready
+
+-- a look gives nothing
+either_sent : (which : Bool) (one other : InputState) (n : ℕ) → one.sent ≡ n → other.sent ≡ n → (cond which one other).sent ≡ n
+either_sent true one other n e f = e
+either_sent false one other n e f = f
+
+pub look_gives_nothing : (phase : Phase) (input : InputState) → (looks phase input).sent ≡ input.sent
+look_gives_nothing phase input =
+    either_sent (is_turned_down input.stage phase) (takes_back input) (stands_at (source_looks input.stage phase) input) input.sent refl refl

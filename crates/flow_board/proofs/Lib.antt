@@ -36,7 +36,9 @@ pub mod OwnTries
 pub mod Places
 pub mod Reasons
 pub mod Reordered
+pub mod RunsOn
 pub mod Scatters
+pub mod Spends
 pub mod TakenApart
 pub mod TargetsTake
 pub mod TaskSteps

@@ -19,7 +19,7 @@ use Rattle.flow_board.specs.contracts.task.BlockTask as block_task
 
 module _ (W : RattleType) (w : runs.Ghosts W.Denot) (e : eq.Ghosts W.Denot) where
   pub block_row : IsSend node.the_row → IsSend source.the_row → IsSend target.the_row → IsSend (block_task.the_row W w e)
-  block_row nodes sources targets = declared_send (block_task.the_type W w e) (search (sendable, crosses) depth 9, (search (sendable, crosses) depth 9, (search (sendable, crosses) depth 9, (search (sendable, crosses) depth 9, (search (sendable, crosses) depth 9, (search (sendable, crosses) depth 9, (search (sendable, crosses) depth 9, tt)))))))
+  block_row nodes sources targets = declared_send (block_task.the_type W w e) (search (sendable, crosses) depth 9, (search (sendable, crosses) depth 9, (search (sendable, crosses) depth 9, (search (sendable, crosses) depth 9, (search (sendable, crosses) depth 9, (search (sendable, crosses) depth 9, tt))))))
 
   pub input_row : IsSend input.the_row → IsSend source.the_row → IsSend (input_task.the_row W w e)
   input_row inputs sources = declared_send (input_task.the_type W w e) (search (sendable, crosses) depth 9, (search (sendable, crosses) depth 9, (search (sendable, crosses) depth 9, (search (sendable, crosses) depth 9, tt))))

@@ -1,6 +1,6 @@
 -- What an event of a task is: what comes next for a block by itself or for an end of its links, and what comes next for an input; and
 -- what a turn comes to: so many events, and looks between them.
-use Rattle.std.specs.Prelude.{◌≡◌, ℕ, zero, suc, ◌<◌, Bool, true, false, List, length, Option, Some, Result, Ok, Err}
+use Rattle.std.specs.Prelude.{◌≡◌, ℕ, zero, suc, ◌-◌, ◌<◌, ◌≤◌, Bool, true, false, List, length, Option, Some, Result, Ok, Err}
 use Rattle.std.specs.declared.alloc.AllocError.{AllocError}
 use Rattle.flow_value.specs.declared.value.Value.{Value}
 use Rattle.flow_link.specs.declared.phase.Move.{Move}
@@ -13,6 +13,7 @@ use Rattle.flow_core.specs.Events.{input_after, input_call, source_call}
 use Rattle.flow_core.specs.MovesFit.{out_count, in_count}
 use Rattle.flow_input.specs.Input.{InputState, InputCall, after_input, input_move}
 use Rattle.flow_moves.specs.Calls.{Calls}
+use Rattle.flow_poll.specs.Turns.{Extends}
 use Rattle.flow_board.specs.Inputs.{HasId}
 use Rattle.flow_board.specs.Turns.{LooksOut, MovesIn, PortsLook}
 
@@ -98,3 +99,10 @@ module _ {S : Type 0} (Looks : S → S → Type 0) where
     StepsBy (Ok true) old new = ∥ ((mid : S) × (HasLooked old mid × Happens mid new)) ∥₁
     StepsBy (Ok false) old new = ∥ HasLooked old new ∥₁
     StepsBy (Err memory) old new = ∥ HasLooked old new ∥₁
+
+-- so many events are left after what a block did as before, or fewer: the others were done. Where as many are left, it is as it was
+pub record Spends (makes : Value → Result (List Value) ℕ) (before after : ℕ) (old new : NodeState) : Type 0 where
+  pub less : after ≤ before
+  pub happens : ∥ TurnsBy AllLook (HasEvent makes) (before - after) old new ∥₁
+  pub grows : Extends old.journal new.journal
+  pub kept : after ≡ before → new ≡ old

@@ -1,8 +1,8 @@
 -- What the calls of a block leave of it, when it is turned, when it is over, and when it has nothing to do.
-use Rattle.std.specs.Prelude.{◌≡◌, ℕ, zero, suc, ◌<◌, ltb, cond, Bool, true, false, ◌&&◌, List, [], ◌∷◌, length, Option, Some, None, is_some, Result, Ok, Err}
+use Rattle.std.specs.Prelude.{◌≡◌, ℕ, zero, suc, ◌<◌, ltb, cond, Bool, true, false, not, ◌&&◌, List, [], ◌∷◌, length, Option, Some, None, is_some, is_none, Result, Ok, Err}
 use Rattle.std.specs.declared.alloc.AllocError.{AllocError}
 use Rattle.flow_value.specs.declared.value.Value.{Value}
-use Rattle.flow_lists.specs.Lists.{every, below}
+use Rattle.flow_lists.specs.Lists.{every, below, is_empty}
 use Rattle.flow_link.specs.declared.phase.Move.{Move}
 use Rattle.flow_link.specs.declared.phase.Phase.{Phase}
 use Rattle.flow_link.specs.declared.stage.SourceStage.{SourceStage}
@@ -11,13 +11,15 @@ use Rattle.flow_link.specs.declared.stage.TargetStage.TheVariants.{Refused, Ende
 use Rattle.flow_link.specs.declared.trace.Mark.{Mark}
 use Rattle.flow_link.specs.declared.trace.Mark.TheVariants.{Done, Fault}
 use Rattle.flow_link.specs.Plan.{is_one_taker}
-use Rattle.flow_intake.specs.Port.{stage_at}
+use Rattle.flow_intake.specs.Port.{PortState, stage_at}
+use Rattle.flow_intake.specs.Ended.{fault_at_ends, has_seen_completion}
+use Rattle.flow_intake.specs.PortLaw.{has_ended}
 use Rattle.flow_outlet.specs.End.{is_over}
 use Rattle.flow_outlet.specs.Outlet.{lacks_ids, stage_at as exit_stage}
 use Rattle.flow_spread.specs.Spread.{stage_at as copy_stage}
 use Rattle.flow_block.specs.Block.{BlockState, port_at}
 use Rattle.flow_block.specs.Node.{NodeState, NodeCall, next_in}
-use Rattle.flow_block.specs.Peeks.{may_make, may_begin, may_end, may_complete, next_fault, may_finish, lacks_next}
+use Rattle.flow_block.specs.Peeks.{may_make, may_begin, may_end, may_complete, next_fault, may_finish, lacks_next, is_written}
 use Rattle.flow_block_law.specs.JobsEnd.{put_at_end}
 use Rattle.flow_block_law.specs.NextMoves.{next_source}
 use Rattle.flow_core.specs.Events.{in_call, source_look}
@@ -104,6 +106,14 @@ InIsStill p k node = (next : Move) → next_in p k node ≡ Some next → may_be
 
 abbrev pub PortIsStill : ℕ → NodeState → Type 0
 PortIsStill p node = (k : ℕ) → k < in_count p node → InIsStill p k node
+
+-- a port runs on: it was not completed, and over no link into it completion or a fault has come
+abbrev pub runs_on : PortState → Bool
+runs_on port = not (has_ended port.refusing) && (not (has_seen_completion port.ends) && is_none (fault_at_ends port.ends))
+
+-- so do all ports, nothing has faulted, and the one message that the block takes in all, if it does, has yet to come
+abbrev pub is_running : BlockState → Bool
+is_running block = (is_none block.fault && not (is_written block)) && (not (is_empty block.ports) && every runs_on block.ports)
 
 -- no port completes, and the block does not stop
 pub record StaysOpen (block : BlockState) : Type 0 where

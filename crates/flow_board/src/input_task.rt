@@ -42,7 +42,7 @@ pub struct InputTask<W: Runs> {
 }
 
 impl<W: Runs> InputTask<W> {
-    /// Turns the input: it offers and gives its values, and ends its link after them, by at most so many events. Where memory is out
+    /// Turns the input: its end looks, it offers and gives its values, and ends its link after them, by at most so many events. Where memory is out
     /// before the first event, nothing was given; later, the turn ends with the events that are done. A value for which no message id
     /// is left is not offered. It has ended once its link is refused or ended.
     pub fn turn(
@@ -62,6 +62,7 @@ impl<W: Runs> InputTask<W> {
         ensures looked { OnErr result (∥ HasLooked InputLooks self.old.input self.new.input ∥₁) }
         ensures kept { OnErr result (self.new.input.sent ≡ self.old.input.sent) }
     {
+        self.look(board);
         for events in 0..budget {
             match self.step(alloc, board) {
                 Ok(true) => {}
@@ -101,7 +102,7 @@ impl<W: Runs> InputTask<W> {
         }
     }
 
-    /// Its end looks, and makes its move, if it has one. False where it has none.
+    /// Its end makes its move, if it has one. False where it has none.
     fn step(&mut self, alloc: Global, board: &Board<W>) -> Result<bool, AllocError>
         requires of { self.old.of.value ≡ board.now }
         ensures of { self.new.of.value ≡ self.old.of.value }
@@ -110,7 +111,6 @@ impl<W: Runs> InputTask<W> {
         ensures steps { StepsBy InputLooks InputHappens result self.old.input self.new.input }
         ensures kept { OnErr result (self.new.input.sent ≡ self.old.input.sent) }
     {
-        self.look(board);
         match self.input.next_move() {
             Some(next) => {
                 self.go(alloc, board, next)?;

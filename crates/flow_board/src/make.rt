@@ -22,6 +22,7 @@ use crate::board::Board;
 use crate::input_task::InputTask;
 use crate::numbered::{Entry, Exit, Kind, Task, Watch};
 use crate::task::BlockTask;
+use crate::turn::Station;
 use flow_block::Node;
 use flow_exit::ExitEnd;
 use flow_input::Input;
@@ -95,8 +96,7 @@ impl<W: Runs> Board<W> {
             node,
             outs,
             ins,
-            at_out: 0,
-            at_in: 0,
+            at: Station::In(0, 0),
         };
         Task {
             number,

@@ -2,9 +2,10 @@
 ghost use Rattle.std.specs.Prelude.{◌≡◌, ℕ, ◌<◌, true, false, List, length, Some, Result, Ok, Err, IfOk, IfSome, OnOk, OnErr};
 ghost use Rattle.std.specs.Option.{IfNone};
 ghost use Rattle.flow_value.specs.declared.value.Value.{Value};
+ghost use Rattle.std.specs.List.{list_all};
 ghost use Rattle.flow_link.specs.Planned.{layout_of};
 ghost use Rattle.flow_block.specs.Node.{NodeCall};
-ghost use Rattle.flow_block.specs.Peeks.{may_make, may_begin, may_end, may_complete, next_fault, may_finish, lacks_next};
+ghost use Rattle.flow_block.specs.Peeks.{may_make, may_begin, may_end, may_complete, next_fault, may_finish, lacks_next, is_written};
 ghost use Rattle.flow_outlet.specs.Outlet.{lacks_ids};
 ghost use Rattle.flow_outlet.specs.declared.fault.OutletFault.TheVariants.{Ids};
 ghost use Rattle.flow_block.specs.Planned.{block_makes};
@@ -12,10 +13,12 @@ ghost use Rattle.flow_block_law.specs.JobsEnd.{after_job, put_at_end};
 ghost use Rattle.flow_exec.specs.Works.{works_of};
 ghost use Rattle.flow_moves.specs.Calls.{Calls};
 ghost use Rattle.flow_board.specs.Events.{Does};
-ghost use Rattle.flow_board.specs.Turns.{JobsAreDone, MakeIsDone, OwnIsDone, StaysOpen};
+ghost use Rattle.flow_board.specs.Turns.{JobsAreDone, MakeIsDone, OwnIsDone, StaysOpen, is_running, runs_on};
 
 use crate::board::Board;
 use crate::task::BlockTask;
+use flow_block::Block;
+use flow_intake::Intake;
 use flow_link::PortId;
 use flow_moves::finish_job;
 use flow_outlet::OutletFault;
@@ -174,6 +177,9 @@ impl<W: Runs> BlockTask<W> {
         ensures does { Does (makes_of W.meaning self.old) result self.old.node self.new.node }
         ensures still { IfOk result (λ did. did ≡ false → StaysOpen self.old.node.block) }
     {
+        if is_running(self.node.block()) {
+            return Ok(false);
+        }
         if let Some(port) = self.port_to_complete() {
             self.complete(port)?;
             return Ok(true);
@@ -204,6 +210,36 @@ impl<W: Runs> BlockTask<W> {
         }
         None
     }
+}
+
+/// Whether nothing has come to a block by which a port of it may complete or it may stop: the one test that most turns need.
+#[tactic(auto, using(flow_lists::proofs::FirstInOrder::all_is_every))]
+fn is_running(block: &Block) -> bool
+    ensures { result ≡ is_running block.now }
+{
+    (block.own_fault().is_none() && !is_written(block))
+        && (!block.ports().is_empty() && do_ports_run_on(block.ports()))
+}
+
+/// Whether a block takes one message in all, and has it.
+fn is_written(block: &Block) -> bool
+    ensures { result ≡ is_written block.now }
+{
+    block.kind().unit().copies_one() && block.copies().element().is_some()
+}
+
+/// Whether all ports run on.
+fn do_ports_run_on(ports: &[Intake]) -> bool
+    ensures { result ≡ list_all runs_on ports.now }
+{
+    ports.iter().all(|port| runs_on(port))
+}
+
+/// Whether a port runs on: it was not completed, and over no link into it completion or a fault has come.
+fn runs_on(port: &Intake) -> bool
+    ensures { result ≡ runs_on port.now }
+{
+    !port.has_ended() && (!port.has_seen_completion() && port.fault_seen().is_none())
 }
 
 /// Whether something was done. Where a message id is wanting, nothing was.

@@ -24,6 +24,7 @@ ghost use Rattle.flow_board.specs.Turns.{MovesIn};
 ghost use Rattle.flow_board.specs.Words.{is_withdrawal, may_be_forestalled, opens};
 
 use crate::board::Board;
+use crate::turn::Station;
 use crate::words::{
     header_in, header_out, may_be_forestalled, open, take_up, withdraw, write_source, write_target,
 };
@@ -44,9 +45,8 @@ pub struct BlockTask<W: Runs> {
     pub(crate) node: Node,
     pub(crate) outs: Vec<SourceEnd>,
     pub(crate) ins: Vec<Vec<TargetEnd>>,
-    /// The places of the ends that moved last, out of it and into a port of it.
-    pub(crate) at_out: usize,
-    pub(crate) at_in: usize,
+    /// Where its next turn goes on.
+    pub(crate) at: Station,
     ghost there: { number < length (layout_of of.value.rest.plan).blocks },
     ghost law: { ∥ NodeLaw (layout_of of.value.rest.plan) (works_of W.meaning (layout_of of.value.rest.plan)) number node ∥₁ },
     ghost outs_know: { map out_known outs.items ≡ outs_due (layout_of of.value.rest.plan) of.value.wires.items number node } by { Prim.hlevel (codes, table_id_coded, content.the_row.coded) },
@@ -177,7 +177,7 @@ impl<W: Runs> BlockTask<W> {
     }
 
     /// The end of the link into it at this place of a port takes the message out of the slot.
-    fn open(&mut self, board: &Board<W>, port: PortId, place: usize)
+    pub(crate) fn open(&mut self, board: &Board<W>, port: PortId, place: usize)
         requires of { self.old.of.value ≡ board.now }
         requires port { port < length self.old.node.block.ports }
         requires there { place < in_count port self.old.node }

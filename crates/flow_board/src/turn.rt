@@ -1,18 +1,32 @@
-//! Turns of a block: it does what comes next, event by event.
-ghost use Rattle.std.specs.Prelude.{◌≡◌, ℕ, ◌<◌, ◌≤◌, true, false, length, IfOk, OnErr};
+//! Turns of a block. All its ends look, and then it goes once round: the ends into it make their moves, it does what it can by itself,
+//! and the ends out of it make their moves. So a turn costs as much as the block has ends and does events, however many ends each event
+//! has beside its own. A turn that has no event left says where the next one goes on.
+ghost use Rattle.std.specs.Prelude.{◌≡◌, ℕ, ◌<◌, ◌≤◌, true, false, length, Some, IfOk, OnOk, OnErr};
+ghost use Rattle.flow_block.specs.Node.{next_in};
 ghost use Rattle.flow_core.specs.MovesFit.{out_count, in_count};
 ghost use Rattle.flow_poll.specs.Turns.{Extends};
 ghost use Rattle.flow_poll.specs.declared.actor.TurnState.TheVariants.{Ended};
-ghost use Rattle.flow_board.specs.Events.{AllLook, Does, HasEvent, HasLooked, StepsBy, TurnsBy};
-ghost use Rattle.flow_board.specs.Turns.{Grows, InIsStill, IsOver, IsStill, LooksIn, LooksOut, OutIsStill, PortIsStill, PortsLook, are_links_over, state_of};
+ghost use Rattle.flow_board.specs.Events.{AllLook, Does, HasEvent, HasLooked, Spends, TurnsBy};
+ghost use Rattle.flow_board.specs.Turns.{InIsStill, IsOver, IsStill, LooksIn, LooksOut, OutIsStill, OwnIsDone, PortIsStill, PortsLook, are_links_over, state_of};
 
 use crate::board::Board;
 use crate::task::BlockTask;
-use flow_link::{Mark, PortId};
+use flow_link::{Mark, Move, PortId};
 use flow_moves::next_of_exit;
 use flow_poll::{TurnState, Turned};
 use flow_value::Runs;
 use std::alloc::{AllocError, Global};
+
+/// Where a turn goes on.
+#[derive(Clone, Copy)]
+pub(crate) enum Station {
+    /// At the end of the link into this port at this place.
+    In(PortId, usize),
+    /// At what the block does by itself.
+    Own,
+    /// At the end of the link out of the block at this place.
+    Out(usize),
+}
 
 impl<W: Runs> BlockTask<W> {
     ghost use Rattle.flow_board.specs.Tasks.{journal_of, makes_of};
@@ -24,10 +38,11 @@ impl<W: Runs> BlockTask<W> {
         self.node.journal()
     }
 
-    /// Turns the block: it does what comes next, at most so many events, and looks at each of its links before it answers that there
-    /// is nothing to do. Where memory is out before the first event, its ends have looked at most; later, the turn ends with the events
-    /// that are done. An event that needs a message id where none is left is not done, and the rest goes on. It has ended once the
-    /// block has stopped, as its last mark says, and all its links are refused or ended.
+    /// Turns the block: it looks at each of its links, and does what comes next, at most so many events. It answers that there is
+    /// nothing to do only where it has looked and gone all the way round. Where memory is out before the first event, its ends have
+    /// looked at most; later, the turn ends with the events that are done. An event that needs a message id where none is left is not
+    /// done, and the rest goes on. It has ended once the block has stopped, as its last mark says, and all its links are refused or
+    /// ended.
     pub fn turn(
         &mut self,
         alloc: Global,
@@ -44,24 +59,24 @@ impl<W: Runs> BlockTask<W> {
         ensures looked { OnErr result (∥ HasLooked AllLook self.old.node self.new.node ∥₁) }
         ensures happens { IfOk result (λ turned.
             ∥ TurnsBy AllLook (HasEvent (makes_of W.meaning self.old)) turned.events self.old.node self.new.node ∥₁) }
+        ensures all_look { IfOk result (λ turned. turned.events ≡ 0 → AllLook self.old.node self.new.node) }
         ensures state { IfOk result (λ turned. turned.state ≡ state_of turned.events self.new.node) }
         ensures ended { IfOk result (λ turned. turned.state ≡ Ended → IsOver (journal_of self.new)) }
         ensures links { IfOk result (λ turned. turned.state ≡ Ended → are_links_over self.new.node ≡ true) }
         ensures still { IfOk result (λ turned. 0 < budget → turned.events ≡ 0 → IsStill (makes_of W.meaning self.new) self.new.node) }
     {
-        for events in 0..budget {
-            match self.step(alloc, board) {
-                Ok(true) => {}
-                Ok(false) => return Ok(self.turned(events)),
-                Err(fault) => {
-                    if events == 0 {
-                        return Err(fault);
-                    }
-                    return Ok(self.turned(events));
+        self.look_ins(board);
+        self.look_outs(board);
+        let mut left = budget;
+        match self.go_round(alloc, board, &mut left) {
+            Ok(()) => Ok(self.turned(budget - left)),
+            Err(fault) => {
+                if left == budget {
+                    return Err(fault);
                 }
+                Ok(self.turned(budget - left))
             }
         }
-        Ok(self.turned(budget))
     }
 
     /// What comes of a turn in which so many events were done.
@@ -89,40 +104,283 @@ impl<W: Runs> BlockTask<W> {
         }
     }
 
-    /// The block does the first event that it finds. Where it finds none by what its ends know, they all look, and it tries again: so
-    /// false says that there is nothing to do by what they found.
-    fn step(&mut self, alloc: Global, board: &Board<W>) -> Result<bool, AllocError>
+    /// The block goes on from where it stands, by what its ends know, until it has gone round or no event is left. Where it finds nothing
+    /// to do from there on, it goes all the way round.
+    fn go_round(
+        &mut self,
+        alloc: Global,
+        board: &Board<W>,
+        left: &mut u32,
+    ) -> Result<(), AllocError>
         requires of { self.old.of.value ≡ board.now }
         ensures of { self.new.of.value ≡ self.old.of.value }
         ensures number { self.new.number ≡ self.old.number }
-        ensures grows { Grows result self.old.node self.new.node }
-        ensures steps { StepsBy AllLook (HasEvent (makes_of W.meaning self.old)) result self.old.node self.new.node }
-        ensures still { IfOk result (λ did. did ≡ false → IsStill (makes_of W.meaning self.old) self.new.node) }
+        ensures spends { Spends (makes_of W.meaning self.old) left.old left.new self.old.node self.new.node }
+        ensures still { OnOk result (0 < left.old → left.new ≡ left.old → IsStill (makes_of W.meaning self.old) self.new.node) }
     {
-        if self.go_on(alloc, board)? {
-            return Ok(true);
+        let from_start = self.is_at_start();
+        let before = *left;
+        self.go_on(alloc, board, left)?;
+        if from_start || *left < before {
+            return Ok(());
         }
-        self.look_ins(board);
-        self.look_outs(board);
-        self.go_on(alloc, board)
+        self.go_on(alloc, board, left)
     }
 
-    /// The block does the first event that it finds by what its ends know: one of its own, or a move of one of them. False where it
-    /// finds none.
-    fn go_on(&mut self, alloc: Global, board: &Board<W>) -> Result<bool, AllocError>
+    /// Whether it stands where a round begins.
+    fn is_at_start(&self) -> bool
+        ensures { result ≡ true → self.now.at ≡ Station.In 0 0 }
+    {
+        match self.at {
+            Station::In(0, 0) => true,
+            Station::In(_, _) | Station::Own | Station::Out(_) => false,
+        }
+    }
+
+    /// The block goes on from where it stands to the end of the round, where the next one begins, unless no event is left before.
+    fn go_on(&mut self, alloc: Global, board: &Board<W>, left: &mut u32) -> Result<(), AllocError>
         requires of { self.old.of.value ≡ board.now }
         ensures of { self.new.of.value ≡ self.old.of.value }
         ensures number { self.new.number ≡ self.old.number }
-        ensures does { Does (makes_of W.meaning self.old) result self.old.node self.new.node }
-        ensures still { IfOk result (λ did. did ≡ false → IsStill (makes_of W.meaning self.old) self.old.node) }
+        ensures spends { Spends (makes_of W.meaning self.old) left.old left.new self.old.node self.new.node }
+        ensures still { OnOk result (0 < left.old → left.new ≡ left.old → self.old.at ≡ Station.In 0 0 →
+            IsStill (makes_of W.meaning self.old) self.old.node) }
+        ensures back { OnOk result (0 < left.old → left.new ≡ left.old → self.new.at ≡ Station.In 0 0) }
     {
-        if self.act(alloc, board)? {
-            return Ok(true);
+        match self.at {
+            Station::In(port, place) => self.go_on_in(alloc, board, port, place, left),
+            Station::Own => self.go_on_own(alloc, board, left),
+            Station::Out(place) => self.go_on_out(alloc, board, place, left),
         }
-        if self.move_in_once(board)? {
-            return Ok(true);
+    }
+
+    /// The same from the end of the link into this port at this place.
+    fn go_on_in(
+        &mut self,
+        alloc: Global,
+        board: &Board<W>,
+        port: PortId,
+        place: usize,
+        left: &mut u32,
+    ) -> Result<(), AllocError>
+        requires of { self.old.of.value ≡ board.now }
+        ensures of { self.new.of.value ≡ self.old.of.value }
+        ensures number { self.new.number ≡ self.old.number }
+        ensures spends { Spends (makes_of W.meaning self.old) left.old left.new self.old.node self.new.node }
+        ensures still { OnOk result (0 < left.old → left.new ≡ left.old → port ≡ 0 → place ≡ 0 →
+            IsStill (makes_of W.meaning self.old) self.old.node) }
+        ensures back { OnOk result (0 < left.old → left.new ≡ left.old → self.new.at ≡ Station.In 0 0) }
+    {
+        if self.move_ins(board, port, place, left)? {
+            return self.go_on_own(alloc, board, left);
         }
-        self.move_out_once(alloc, board)
+        Ok(())
+    }
+
+    /// The same from what the block does by itself.
+    fn go_on_own(
+        &mut self,
+        alloc: Global,
+        board: &Board<W>,
+        left: &mut u32,
+    ) -> Result<(), AllocError>
+        requires of { self.old.of.value ≡ board.now }
+        ensures of { self.new.of.value ≡ self.old.of.value }
+        ensures number { self.new.number ≡ self.old.number }
+        ensures spends { Spends (makes_of W.meaning self.old) left.old left.new self.old.node self.new.node }
+        ensures own { OnOk result (0 < left.old → left.new ≡ left.old → OwnIsDone (makes_of W.meaning self.old) self.old.node) }
+        ensures outs { OnOk result (0 < left.old → left.new ≡ left.old → (k : ℕ) → k < out_count self.old.node →
+            OutIsStill k self.old.node) }
+        ensures back { OnOk result (0 < left.old → left.new ≡ left.old → self.new.at ≡ Station.In 0 0) }
+    {
+        if self.act_on(alloc, board, left)? {
+            return self.go_on_out(alloc, board, 0, left);
+        }
+        Ok(())
+    }
+
+    /// The block does what it can by itself. False where no event is left for more: then it stands there.
+    fn act_on(
+        &mut self,
+        alloc: Global,
+        board: &Board<W>,
+        left: &mut u32,
+    ) -> Result<bool, AllocError>
+        requires of { self.old.of.value ≡ board.now }
+        ensures of { self.new.of.value ≡ self.old.of.value }
+        ensures number { self.new.number ≡ self.old.number }
+        ensures spends { Spends (makes_of W.meaning self.old) left.old left.new self.old.node self.new.node }
+        ensures still { IfOk result (λ all. all ≡ true → left.new ≡ left.old → OwnIsDone (makes_of W.meaning self.old) self.old.node) }
+        ensures stops { IfOk result (λ all. all ≡ false → 0 < left.old → left.new < left.old) }
+    {
+        while *left > 0 {
+            if !self.act(alloc, board)? {
+                return Ok(true);
+            }
+            *left -= 1;
+        }
+        self.at = Station::Own;
+        Ok(false)
+    }
+
+    /// The ends out of the block make their moves, from this place on. Where no event is left for more, it stands there.
+    fn go_on_out(
+        &mut self,
+        alloc: Global,
+        board: &Board<W>,
+        first: usize,
+        left: &mut u32,
+    ) -> Result<(), AllocError>
+        requires of { self.old.of.value ≡ board.now }
+        ensures of { self.new.of.value ≡ self.old.of.value }
+        ensures number { self.new.number ≡ self.old.number }
+        ensures spends { Spends (makes_of W.meaning self.old) left.old left.new self.old.node self.new.node }
+        ensures still { OnOk result (0 < left.old → left.new ≡ left.old → first ≡ 0 → (k : ℕ) → k < out_count self.old.node →
+            OutIsStill k self.old.node) }
+        ensures back { OnOk result (0 < left.old → left.new ≡ left.old → self.new.at ≡ Station.In 0 0) }
+    {
+        for place in first..self.outs.len() {
+            if *left == 0 {
+                self.at = Station::Out(place);
+                return Ok(());
+            }
+            self.move_out_once(alloc, board, place, left)?;
+        }
+        self.at = Station::In(0, 0);
+        Ok(())
+    }
+
+    /// The ends into the block make their moves, from this place of this port on. False where no event is left for more: then it stands
+    /// there.
+    fn move_ins(
+        &mut self,
+        board: &Board<W>,
+        first: PortId,
+        place: usize,
+        left: &mut u32,
+    ) -> Result<bool, AllocError>
+        requires of { self.old.of.value ≡ board.now }
+        ensures of { self.new.of.value ≡ self.old.of.value }
+        ensures number { self.new.number ≡ self.old.number }
+        ensures spends { Spends (makes_of W.meaning self.old) left.old left.new self.old.node self.new.node }
+        ensures still { IfOk result (λ all. all ≡ true → left.new ≡ left.old → first ≡ 0 → place ≡ 0 → (p : ℕ) →
+            p < length self.old.node.block.ports → PortIsStill p self.old.node) }
+        ensures stops { IfOk result (λ all. all ≡ false → 0 < left.old → left.new < left.old) }
+    {
+        for port in first as usize..self.node.block().port_count() {
+            let from = if port == first as usize { place } else { 0 };
+            if !self.move_port(board, port as PortId, from, left)? {
+                return Ok(false);
+            }
+        }
+        Ok(true)
+    }
+
+    /// The same at one port.
+    fn move_port(
+        &mut self,
+        board: &Board<W>,
+        port: PortId,
+        first: usize,
+        left: &mut u32,
+    ) -> Result<bool, AllocError>
+        requires of { self.old.of.value ≡ board.now }
+        requires port { port < length self.old.node.block.ports }
+        ensures of { self.new.of.value ≡ self.old.of.value }
+        ensures number { self.new.number ≡ self.old.number }
+        ensures spends { Spends (makes_of W.meaning self.old) left.old left.new self.old.node self.new.node }
+        ensures still { IfOk result (λ all. all ≡ true → left.new ≡ left.old → first ≡ 0 → PortIsStill port self.old.node) }
+        ensures stops { IfOk result (λ all. all ≡ false → 0 < left.old → left.new < left.old) }
+    {
+        for place in first..self.node.block().in_count(port as usize) {
+            if *left == 0 {
+                self.at = Station::In(port, place);
+                return Ok(false);
+            }
+            self.move_in_once(board, port, place, left)?;
+        }
+        Ok(true)
+    }
+
+    /// The end of the link into it at this place of a port makes its move, if it has one.
+    fn move_in_once(
+        &mut self,
+        board: &Board<W>,
+        port: PortId,
+        place: usize,
+        left: &mut u32,
+    ) -> Result<(), AllocError>
+        requires of { self.old.of.value ≡ board.now }
+        requires port { port < length self.old.node.block.ports }
+        requires there { place < in_count port self.old.node }
+        requires left { 0 < left.old }
+        ensures of { self.new.of.value ≡ self.old.of.value }
+        ensures number { self.new.number ≡ self.old.number }
+        ensures spends { Spends (makes_of W.meaning self.old) left.old left.new self.old.node self.new.node }
+        ensures still { OnOk result (left.new ≡ left.old → InIsStill port place self.old.node) }
+    {
+        match self.node.next_in(port as usize, place) {
+            None => Ok(()),
+            Some(Move::Open) => self.take(board, port, place, left),
+            Some(next) => {
+                if self.move_in(board, port, place, next)? {
+                    *left -= 1;
+                }
+                Ok(())
+            }
+        }
+    }
+
+    /// The end of the link into it at this place of a port takes the message out of the slot, and puts it away at once, if an event is
+    /// left for that.
+    fn take(
+        &mut self,
+        board: &Board<W>,
+        port: PortId,
+        place: usize,
+        left: &mut u32,
+    ) -> Result<(), AllocError>
+        requires of { self.old.of.value ≡ board.now }
+        requires port { port < length self.old.node.block.ports }
+        requires there { place < in_count port self.old.node }
+        requires next { next_in port place self.old.node ≡ Some Move.Open }
+        requires left { 0 < left.old }
+        ensures of { self.new.of.value ≡ self.old.of.value }
+        ensures number { self.new.number ≡ self.old.number }
+        ensures spends { Spends (makes_of W.meaning self.old) left.old left.new self.old.node self.new.node }
+        ensures less { left.new < left.old }
+    {
+        self.open(board, port, place);
+        *left -= 1;
+        if *left == 0 {
+            return Ok(());
+        }
+        if self.try_in(board, port, place)? {
+            *left -= 1;
+        }
+        Ok(())
+    }
+
+    /// The end of the link out of it at this place makes its move, if it has one.
+    fn move_out_once(
+        &mut self,
+        alloc: Global,
+        board: &Board<W>,
+        place: usize,
+        left: &mut u32,
+    ) -> Result<(), AllocError>
+        requires of { self.old.of.value ≡ board.now }
+        requires there { place < out_count self.old.node }
+        requires left { 0 < left.old }
+        ensures of { self.new.of.value ≡ self.old.of.value }
+        ensures number { self.new.number ≡ self.old.number }
+        ensures spends { Spends (makes_of W.meaning self.old) left.old left.new self.old.node self.new.node }
+        ensures still { OnOk result (left.new ≡ left.old → OutIsStill place self.old.node) }
+    {
+        if self.try_out(alloc, board, place)? {
+            *left -= 1;
+        }
+        Ok(())
     }
 
     /// All ends out of the block look.
@@ -163,105 +421,6 @@ impl<W: Runs> BlockTask<W> {
         for place in 0..self.node.block().in_count(port as usize) {
             self.look_in(board, port, place);
         }
-    }
-
-    /// The first of the ends out of the block that has a move makes it, once round from the one that moved last. False where none
-    /// has.
-    fn move_out_once(&mut self, alloc: Global, board: &Board<W>) -> Result<bool, AllocError>
-        requires of { self.old.of.value ≡ board.now }
-        ensures of { self.new.of.value ≡ self.old.of.value }
-        ensures number { self.new.number ≡ self.old.number }
-        ensures does { Does (makes_of W.meaning self.old) result self.old.node self.new.node }
-        ensures still { IfOk result (λ did. did ≡ false → (k : ℕ) → k < out_count self.old.node → OutIsStill k self.old.node) }
-    {
-        let end = self.outs.len();
-        let first = self.at_out.min(end);
-        if self.move_outs(alloc, board, first, end)? {
-            return Ok(true);
-        }
-        self.move_outs(alloc, board, 0, first)
-    }
-
-    /// The first of the ends out of the block between two places that has a move makes it. False where none has.
-    fn move_outs(
-        &mut self,
-        alloc: Global,
-        board: &Board<W>,
-        first: usize,
-        end: usize,
-    ) -> Result<bool, AllocError>
-        requires of { self.old.of.value ≡ board.now }
-        requires there { end ≤ out_count self.old.node }
-        ensures of { self.new.of.value ≡ self.old.of.value }
-        ensures number { self.new.number ≡ self.old.number }
-        ensures does { Does (makes_of W.meaning self.old) result self.old.node self.new.node }
-        ensures still { IfOk result (λ did. did ≡ false → (k : ℕ) → first ≤ k → k < end → OutIsStill k self.old.node) }
-    {
-        for place in first..end {
-            if self.try_out(alloc, board, place)? {
-                self.at_out = place;
-                return Ok(true);
-            }
-        }
-        Ok(false)
-    }
-
-    /// The first of the ends into the block that has a move makes it. False where none has.
-    fn move_in_once(&mut self, board: &Board<W>) -> Result<bool, AllocError>
-        requires of { self.old.of.value ≡ board.now }
-        ensures of { self.new.of.value ≡ self.old.of.value }
-        ensures number { self.new.number ≡ self.old.number }
-        ensures does { Does (makes_of W.meaning self.old) result self.old.node self.new.node }
-        ensures still { IfOk result (λ did. did ≡ false → (p : ℕ) → p < length self.old.node.block.ports → PortIsStill p self.old.node) }
-    {
-        for port in 0..self.node.block().port_count() {
-            if self.move_port_once(board, port as PortId)? {
-                return Ok(true);
-            }
-        }
-        Ok(false)
-    }
-
-    /// The same at one port, once round from the end that moved last.
-    fn move_port_once(&mut self, board: &Board<W>, port: PortId) -> Result<bool, AllocError>
-        requires of { self.old.of.value ≡ board.now }
-        requires port { port < length self.old.node.block.ports }
-        ensures of { self.new.of.value ≡ self.old.of.value }
-        ensures number { self.new.number ≡ self.old.number }
-        ensures does { Does (makes_of W.meaning self.old) result self.old.node self.new.node }
-        ensures still { IfOk result (λ did. did ≡ false → PortIsStill port self.old.node) }
-    {
-        let end = self.node.block().in_count(port as usize);
-        let first = self.at_in.min(end);
-        if self.move_ins(board, port, first, end)? {
-            return Ok(true);
-        }
-        self.move_ins(board, port, 0, first)
-    }
-
-    /// The first of the ends into a port between two places that has a move makes it. False where none has.
-    fn move_ins(
-        &mut self,
-        board: &Board<W>,
-        port: PortId,
-        first: usize,
-        end: usize,
-    ) -> Result<bool, AllocError>
-        requires of { self.old.of.value ≡ board.now }
-        requires port { port < length self.old.node.block.ports }
-        requires there { end ≤ in_count port self.old.node }
-        ensures of { self.new.of.value ≡ self.old.of.value }
-        ensures number { self.new.number ≡ self.old.number }
-        ensures does { Does (makes_of W.meaning self.old) result self.old.node self.new.node }
-        ensures still { IfOk result (λ did. did ≡ false → (k : ℕ) → first ≤ k → k < end → InIsStill port k self.old.node) }
-    {
-        for place in first..end {
-            if self.try_in(board, port, place)? {
-                self.at_in = place;
-                return Ok(true);
-            }
-        }
-        Ok(false)
     }
 
     /// The end of the link out of it at this place makes its move. False where it has none, or the target moved first.

@@ -1,11 +1,21 @@
-use Rattle.std.proofs.Common.{◌≡◌, ℕ, suc, ◌+◌, Bool, true, Ok, refl, ap, ◌∙◌, subst, arith, false, Err, sym}
+use Rattle.std.proofs.Common.{◌≡◌, ℕ, suc, ◌+◌, Bool, true, Ok, ap, ◌∙◌, subst, arith, false, Err, sym}
 use Rattle.std.proofs.lemmas.Grind.{merely}
+use Rattle.flow_input.specs.Input.{InputState}
 use Rattle.flow_board.specs.Events.{InputHappens, InputLooks, TurnsBy}
-use Rattle.flow_board.proofs.TurnsHappen.{looked_turns, stays, step_turns, steps_so}
+use Rattle.flow_board.proofs.InputTells.{look_gives_nothing}
+use Rattle.flow_board.proofs.TurnsHappen.{looked_turns, one_look, step_turns, steps_so}
 use Rattle.flow_board.proofs.input_task.InputTask.turn.Goals as goal
 
 pub loop-events-init : goal.loop-events-init
-loop-events-init g c = record { of = refl; link = refl; turned = merely (stays InputLooks c.args.self.now.input); kept = λ none. refl }
+loop-events-init g c =
+    let first = c.args.self.now.input in
+    let looked = c.look.ensures.looked in
+    record {
+      of = c.look.ensures.of;
+      link = c.look.ensures.link;
+      turned = merely (one_look InputLooks first c.look.new.self.input (record { phase = looked.0; leaves = looked.1 }));
+      kept = λ none. ap (λ (input : InputState). input.sent) looked.1 ∙ look_gives_nothing looked.0 first;
+    }
 
 pub loop-events-preserved : goal.loop-events-preserved
 loop-events-preserved g c =

@@ -2,7 +2,15 @@ use Rattle.std.proofs.Common.{rules, ◌≡◌, true, Some}
 use Rattle.std.proofs.lemmas.Grind.{merely}
 use Rattle.flow_block.specs.Peeks.{may_finish, next_fault}
 use Rattle.flow_board.specs.Events.{BlockEvent}
+use Rattle.flow_board.specs.Turns.{is_running}
+use Rattle.flow_board.proofs.RunsOn.{running_stays_open}
 use Rattle.flow_board.proofs.task.BlockTask.close.Goals as goal
+
+pub returns-then-is_running-clause-still : goal.returns-then-is_running-clause-still
+returns-then-is_running-clause-still g c =
+    let block = c.args.self.now.node.block in
+    let runs : is_running block ≡ true = search rules in
+    λ none. running_stays_open block runs
 
 pub returns-in-Some-clause-does : goal.returns-in-Some-clause-does
 returns-in-Some-clause-does g c =

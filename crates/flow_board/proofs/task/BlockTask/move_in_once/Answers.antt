@@ -1,42 +1,79 @@
-use Rattle.std.proofs.Common.{ℕ, ◌≤◌, length, sym, ◌∙◌, subst, below_more, arith, ap₂}
-use Rattle.flow_link.specs.Planned.{layout_of}
-use Rattle.flow_block.specs.Block.{BlockState}
-use Rattle.flow_block.specs.Node.{NodeState}
-use Rattle.flow_exec.specs.Works.{works_of}
-use Rattle.flow_board.specs.Turns.{PortIsStill}
-use Rattle.flow_board.proofs.Counts.{few_ports}
-use Rattle.flow_board.proofs.TurnsStill.{event_from, unmoved}
-use Rattle.flow_block.specs.Planned.{block_makes}
-use Rattle.flow_board.specs.declared.board.Board.{Board}
+use Rattle.std.proofs.Common.{rules, ◌≡◌, true, Bool, Result, Ok, refl, sym, ◌∙◌, subst, arith}
+use Rattle.std.specs.declared.alloc.AllocError.{AllocError}
+use Rattle.std.proofs.lemmas.Grind.{merely}
+use Rattle.flow_link.specs.declared.phase.Move.{Move}
+use Rattle.flow_intake.specs.Port.{stage_at}
+use Rattle.flow_block.specs.Block.{port_at}
+use Rattle.flow_block.specs.Node.{next_in}
+use Rattle.flow_board.specs.Events.{BlockEvent, Does}
+use Rattle.flow_board.specs.Tasks.{makes_of}
+use Rattle.flow_board.specs.Turns.{MovesIn}
+use Rattle.flow_board.specs.Words.{may_be_forestalled}
+use Rattle.flow_board.proofs.Spends.{spends_did, spends_none, spends_not}
+use Rattle.flow_board.proofs.TurnsHappen.{moved_does}
+use Rattle.flow_board.proofs.TurnsStill.{missed}
 use Rattle.flow_board.proofs.task.BlockTask.move_in_once.Goals as goal
 
-pub overflow_cast-port : goal.overflow_cast-port
-overflow_cast-port g c =
-    let s = c.args.self.now in
-    let few : length c.block.result.now.ports ≤ 3 =
-    subst (λ (b : BlockState). length b.ports ≤ 3) (sym c.block.ensures)
-    (few_ports s.of.value.rest.plan (works_of g.W.Runs.meaning (layout_of s.of.value.rest.plan)) s.number s.there s.node s.law) in
-    omega (arith, few, c.loop-port-test.true, c.port_count-port-end.ensures)
+pub returns-in_err-move_in-in-Some : goal.returns-in_err-move_in-in-Some
+returns-in_err-move_in-in-Some g c = record {
+  of = c.move_in.ensures.of;
+  number = c.move_in.ensures.number;
+  spends = spends_none _ c.args.left.now c.args.self.now.node c.move_in.new.self.node c.in_err-move_in-in-Some.ensures.kept;
+  still = search rules;
+}
 
-pub loop-port-preserved : goal.loop-port-preserved
-loop-port-preserved g c =
-    let i = c.loop-port.invariant in
-    let here = c.loop-port.port in
-    let not = c.if-branch.false in
-    let said = c.in_ok-move_port_once.ensures in
+pub returns-in-None-clause-spends : goal.returns-in-None-clause-spends
+returns-in-None-clause-spends g c = spends_none _ c.args.left.now c.args.self.now.node c.args.self.now.node refl
+
+pub returns-then-branch : goal.returns-then-branch
+returns-then-branch g c =
+    let s = c.args.self.now in
+    let old = s.node in
+    let new = c.move_in.new.self.node in
+    let next = c.in-Some.next in
+    let said = c.move_in.ensures in
+    let does = moved_does (makes_of g.W.Runs.meaning s) (MovesIn c.args.port c.args.place next old new) c.move_in.result old new
+    (λ moves.
+    merely (
+      BlockEvent.move_in c.args.port c.args.place next,
+      record {
+        comes = record { is_there = (c.requires.port, c.requires.there); found_is = sym c.next_in.ensures ∙ c.in-Some.is };
+        leaves = moves;
+      },
+    ))
+    said.moved said.missed said.kept in
     record {
-      of = c.move_port_once.ensures.of ∙ i.of;
-      number = c.move_port_once.ensures.number ∙ i.number;
-      node = unmoved _ c.in_ok-move_port_once.field-0 c.loop-port.self.node c.move_port_once.new.self.node not said.does ∙ i.node;
-      still = below_more (λ (k : ℕ). PortIsStill k c.args.self.now.node) here i.still
-          (subst (λ (node : NodeState). PortIsStill here node) i.node (said.still not));
+      of = said.of;
+      number = said.number;
+      spends = spends_did (makes_of g.W.Runs.meaning s) c.args.left.now c.in_ok-move_in-in-Some.field-0 old new c.requires.left c.if-branch.true
+          (subst (λ (r : Result Bool AllocError). Does (makes_of g.W.Runs.meaning s) r old new) c.in_ok-move_in-in-Some.was does);
+      still = λ as_many. absurd (omega (arith, as_many, c.requires.left));
     }
 
-pub returns-then-branch-clause-does : goal.returns-then-branch-clause-does
-returns-then-branch-clause-does g c =
+pub returns-else-branch : goal.returns-else-branch
+returns-else-branch g c =
     let s = c.args.self.now in
-    let t = c.loop-port.self in
-    let i = c.loop-port.invariant in
-    let makes = (λ (board : Board _) (n : ℕ). block_makes (layout_of board.rest.plan) (works_of g.W.Runs.meaning (layout_of board.rest.plan)) n) in
-    event_from (makes s.of.value s.number) (makes t.of.value t.number) c.in_ok-move_port_once.field-0 s.node t.node
-    c.move_port_once.new.self.node c.if-branch.true (ap₂ makes i.of i.number) i.node c.in_ok-move_port_once.ensures.does
+    let old = s.node in
+    let new = c.move_in.new.self.node in
+    let next = c.in-Some.next in
+    let said = c.move_in.ensures in
+    let does = moved_does (makes_of g.W.Runs.meaning s) (MovesIn c.args.port c.args.place next old new) c.move_in.result old new
+    (λ moves.
+    merely (
+      BlockEvent.move_in c.args.port c.args.place next,
+      record {
+        comes = record { is_there = (c.requires.port, c.requires.there); found_is = sym c.next_in.ensures ∙ c.in-Some.is };
+        leaves = moves;
+      },
+    ))
+    said.moved said.missed said.kept in
+    record {
+      of = said.of;
+      number = said.number;
+      spends = spends_not (makes_of g.W.Runs.meaning s) c.args.left.now c.in_ok-move_in-in-Some.field-0 old new c.if-branch.false
+          (subst (λ (r : Result Bool AllocError). Does (makes_of g.W.Runs.meaning s) r old new) c.in_ok-move_in-in-Some.was does);
+      still = λ as_many.
+          missed (Ok c.in_ok-move_in-in-Some.field-0) (next_in c.args.port c.args.place old) c.in-Some.next
+          (λ (next : Move). may_be_forestalled next (stage_at c.args.place (port_at c.args.port old.block)) ≡ true)
+          (sym c.next_in.ensures ∙ c.in-Some.is) c.in_ok-move_in-in-Some.ensures.late c.if-branch.false;
+    }

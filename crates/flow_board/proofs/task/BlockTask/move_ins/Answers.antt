@@ -1,42 +1,83 @@
-use Rattle.std.proofs.Common.{ℕ, ◌<◌, sym, ◌∙◌, subst, arith, ap₂}
-use Rattle.flow_block.specs.Node.{NodeState}
-use Rattle.flow_core.specs.MovesFit.{in_count}
-use Rattle.flow_board.specs.Turns.{InIsStill}
-use Rattle.flow_board.proofs.TurnsStill.{between_more, event_from, unmoved}
+use Rattle.std.proofs.Common.{◌≡◌, ℕ, ◌≤◌, length, refl, ap, ap₂, sym, ◌∙◌, subst, below_more, arith}
 use Rattle.flow_link.specs.Planned.{layout_of}
-use Rattle.flow_block.specs.Planned.{block_makes}
+use Rattle.flow_block.specs.Block.{BlockState}
+use Rattle.flow_block.specs.Node.{NodeState}
 use Rattle.flow_exec.specs.Works.{works_of}
+use Rattle.flow_board.specs.Turns.{PortIsStill}
 use Rattle.flow_board.specs.declared.board.Board.{Board}
+use Rattle.flow_block.specs.Planned.{block_makes}
+use Rattle.flow_board.proofs.Counts.{few_ports, ports_alike}
+use Rattle.flow_board.proofs.Spends.{as_many_first, as_many_then, spends_more, spends_none, spends_so}
 use Rattle.flow_board.proofs.task.BlockTask.move_ins.Goals as goal
+use Rattle.flow_board.proofs.task.BlockTask.move_ins.Goals.{then-port-first, else-port-first}
 
-pub try_in-requires-clause-there : goal.try_in-requires-clause-there
-try_in-requires-clause-there g c =
-    let there = c.requires.there in
-    subst (λ (node : NodeState). c.loop-place.place < in_count c.args.port node) (sym c.loop-place.invariant.node)
-    (omega (arith, there, c.loop-place-test.true))
-
-pub loop-place-preserved : goal.loop-place-preserved
-loop-place-preserved g c =
-    let i = c.loop-place.invariant in
-    let here = c.loop-place.place in
-    let not = c.if-branch.false in
-    let said = c.in_ok-try_in.ensures in
+pub loop-port-init : goal.loop-port-init
+loop-port-init g c =
+    let node = c.args.self.now.node in
     record {
-      of = c.try_in.ensures.of ∙ i.of;
-      number = c.try_in.ensures.number ∙ i.number;
-      node = unmoved _ c.in_ok-try_in.field-0 c.loop-place.self.node c.try_in.new.self.node not said.does ∙ i.node;
-      still = between_more (λ (k : ℕ). InIsStill c.args.port k c.args.self.now.node) c.args.first here i.still
-          (subst (λ (node : NodeState). InIsStill c.args.port here node) i.node (said.still not));
+      of = refl;
+      number = refl;
+      spends = spends_none _ c.args.left.now node node refl;
+      still = λ as_many first place k low. absurd (omega (arith, first, low));
     }
 
-pub returns-clause-still : goal.returns-clause-still
-returns-clause-still g c = λ not k from low. c.loop-place.invariant.still k from (omega (arith, c.loop-place-test.false, low))
-
-pub returns-then-branch-clause-does : goal.returns-then-branch-clause-does
-returns-then-branch-clause-does g c =
+pub overflow_cast-port : goal.overflow_cast-port
+overflow_cast-port g c =
     let s = c.args.self.now in
-    let t = c.loop-place.self in
-    let i = c.loop-place.invariant in
+    let few : length c.block.result.now.ports ≤ 3 =
+    subst (λ (b : BlockState). length b.ports ≤ 3) (sym c.block.ensures)
+    (few_ports s.of.value.rest.plan (works_of g.W.Runs.meaning (layout_of s.of.value.rest.plan)) s.number s.there s.node s.law) in
+    omega (arith, few, c.loop-port-test.true, c.port_count-port-end.ensures)
+
+pub move_port-requires-clause-port : goal.move_port-requires-clause-port
+move_port-requires-clause-port g c =
+    let s = c.args.self.now in
+    let t = c.loop-port.self in
+    let old = layout_of s.of.value.rest.plan in
+    let new = layout_of t.of.value.rest.plan in
+    let meaning = g.W.Runs.meaning in
+    let alike = ports_alike new old (works_of meaning new) (works_of meaning old) t.number s.number t.node s.node t.law s.law
+    (ap (λ (board : Board _). layout_of board.rest.plan) c.loop-port.invariant.of) c.loop-port.invariant.number in
+    let many : c.port_count-port-end.result ≡ length s.node.block.ports =
+    c.port_count-port-end.ensures ∙ ap (λ (b : BlockState). length b.ports) c.block.ensures in
+    omega (arith, alike, many, c.loop-port-test.true)
+
+pub returns-in_err-move_port-clause-spends : goal.returns-in_err-move_port-clause-spends
+returns-in_err-move_port-clause-spends g c =
+    let s = c.args.self.now in
+    let i = c.loop-port.invariant in
+    let new = c.move_port.new.self.node in
     let makes = (λ (board : Board _) (n : ℕ). block_makes (layout_of board.rest.plan) (works_of g.W.Runs.meaning (layout_of board.rest.plan)) n) in
-    event_from (makes s.of.value s.number) (makes t.of.value t.number) c.in_ok-try_in.field-0 s.node t.node c.try_in.new.self.node c.if-branch.true
-    (ap₂ makes i.of i.number) i.node c.in_ok-try_in.ensures.does
+    spends_more (makes s.of.value s.number) c.args.left.now c.loop-port.left c.move_port.new.left s.node c.loop-port.self.node new i.spends
+    (spends_so c.loop-port.left c.move_port.new.left c.loop-port.self.node new (ap₂ makes i.of i.number) c.move_port.ensures.spends)
+
+pub returns-then-not-branch-clause-spends : goal.returns-then-not-branch-clause-spends
+returns-then-not-branch-clause-spends g c =
+    let s = c.args.self.now in
+    let i = c.loop-port.invariant in
+    let new = c.move_port.new.self.node in
+    let makes = (λ (board : Board _) (n : ℕ). block_makes (layout_of board.rest.plan) (works_of g.W.Runs.meaning (layout_of board.rest.plan)) n) in
+    spends_more (makes s.of.value s.number) c.args.left.now c.loop-port.left c.move_port.new.left s.node c.loop-port.self.node new i.spends
+    (spends_so c.loop-port.left c.move_port.new.left c.loop-port.self.node new (ap₂ makes i.of i.number) c.move_port.ensures.spends)
+
+pub loop-port-preserved : goal.loop-port-preserved
+loop-port-preserved g c =
+    let i = c.loop-port.invariant in
+    let here = c.loop-port.port in
+    let old = c.args.self.now.node in
+    let said = c.move_port.ensures in
+    let s = c.args.self.now in
+    let makes = (λ (board : Board _) (n : ℕ). block_makes (layout_of board.rest.plan) (works_of g.W.Runs.meaning (layout_of board.rest.plan)) n) in
+    let from : c.args.place ≡ 0 → c.if-port-first.from ≡ 0 =
+    λ place. elim c.if-port-first.branch [ then-port-first w ↦ w.from-is ∙ place | else-port-first w ↦ w.from-is ] in
+    record {
+      of = said.of ∙ i.of;
+      number = said.number ∙ i.number;
+      spends = spends_more (makes s.of.value s.number) c.args.left.now c.loop-port.left c.move_port.new.left old c.loop-port.self.node
+          c.move_port.new.self.node i.spends
+          (spends_so c.loop-port.left c.move_port.new.left c.loop-port.self.node c.move_port.new.self.node (ap₂ makes i.of i.number) said.spends);
+      still = λ as_many first place.
+          below_more (λ (k : ℕ). PortIsStill k old) here (i.still (as_many_first i.spends said.spends as_many) first place)
+          (subst (λ (node : NodeState). PortIsStill here node) (i.spends.kept (as_many_first i.spends said.spends as_many))
+          (c.in_ok-move_port.ensures.still c.if-not-branch.false (as_many_then i.spends said.spends as_many) (from place)));
+    }

@@ -1,12 +1,14 @@
-use Rattle.std.proofs.Common.{◌≡◌, ℕ, ◌<◌, ◌≤◌}
-use Rattle.flow_board.specs.Turns.{InIsStill}
+use Rattle.std.proofs.Common.{◌≡◌, ℕ, ◌<◌}
+use Rattle.flow_board.specs.Events.{Spends}
+use Rattle.flow_board.specs.Tasks.{makes_of}
+use Rattle.flow_board.specs.Turns.{PortIsStill}
 use Rattle.flow_board.proofs.task.BlockTask.move_ins.Given as goal
 
--- it is the same block, and nothing is done: those before have no move
-abbrev pub invariant-loop-place : goal.invariant-loop-place
-invariant-loop-place g l = record {
+-- it is the same block, this was spent, and where nothing was, those before have no move
+abbrev pub invariant-loop-port : goal.invariant-loop-port
+invariant-loop-port g l = record {
   of : l.self.of.value ≡ l.fn.self.of.value;
   number : l.self.number ≡ l.fn.self.number;
-  node : l.self.node ≡ l.fn.self.node;
-  still : (k : ℕ) → l.first ≤ k → k < l.place → InIsStill l.port k l.fn.self.node;
+  spends : Spends (makes_of g.W.Runs.meaning l.fn.self) l.fn.left l.left l.fn.self.node l.self.node;
+  still : l.left ≡ l.fn.left → l.first ≡ 0 → l.place ≡ 0 → (k : ℕ) → k < l.port → PortIsStill k l.fn.self.node;
 }

@@ -1,77 +1,58 @@
-use Rattle.std.proofs.Common.{◌≡◌, ℕ, suc, ◌+◌, Bool, true, List, Result, Ok, refl, ap, ap₂, ◌∙◌, subst, arith, false, Err, sym}
+use Rattle.std.proofs.Common.{ℕ, ap₂, sym, ◌∙◌, subst}
 use Rattle.std.proofs.lemmas.Grind.{merely}
-use Rattle.flow_value.specs.declared.value.Value.{Value}
 use Rattle.flow_link.specs.Planned.{layout_of}
+use Rattle.flow_block.specs.Node.{NodeState}
 use Rattle.flow_block.specs.Planned.{block_makes}
 use Rattle.flow_exec.specs.Works.{works_of}
-use Rattle.flow_poll.proofs.EachGoes.{extends_itself}
-use Rattle.flow_board.specs.Events.{AllLook, HasEvent, StepsBy, TurnsBy}
+use Rattle.flow_board.specs.Events.{AllLook, HasEvent, TurnsBy}
 use Rattle.flow_board.specs.declared.board.Board.{Board}
-use Rattle.flow_board.proofs.TurnsHappen.{looked_turns, stays, step_turns, steps_so}
-use Rattle.flow_board.proofs.TurnsGrow.{step_extends, turns_further}
+use Rattle.flow_board.proofs.Spends.{spends_so, turn_happens}
+use Rattle.flow_board.proofs.TurnsHappen.{one_look}
 use Rattle.flow_board.proofs.task.BlockTask.turn.Goals as goal
 
-pub loop-events-init : goal.loop-events-init
-loop-events-init g c =
-    record { of = refl; number = refl; turned = merely (stays AllLook c.args.self.now.node); extends = extends_itself c.args.self.now.node.journal; kept = λ none. refl }
-
-pub loop-events-preserved : goal.loop-events-preserved
-loop-events-preserved g c =
-    let i = c.loop-events.invariant in
-    let old = c.loop-events.self.node in
-    let new = c.step.new.self.node in
+pub returns-then-left-budget-clause-looked : goal.returns-then-left-budget-clause-looked
+returns-then-left-budget-clause-looked g c =
     let s = c.args.self.now in
-    let t = c.loop-events.self in
-    let makes = (λ (board : Board _) (n : ℕ). block_makes (layout_of board.rest.plan) (works_of g.W.Runs.meaning (layout_of board.rest.plan)) n) in
-    let same = ap₂ makes i.of i.number in
-    let steps = subst (λ (m : Value → Result (List Value) ℕ). StepsBy AllLook (HasEvent m) (Ok true) old new) same
-    (steps_so AllLook (HasEvent (makes t.of.value t.number)) c.step.result (Ok true) old new
-    (c.in-Ok-true.is ∙ ap (λ (did : Bool). Ok did) c.in-Ok-true.field-0-test) c.step.ensures.steps) in
-    let more : suc c.loop-events.events ≡ c.loop-events.events + 1 = omega arith in
-    record {
-      of = c.step.ensures.of ∙ i.of;
-      number = c.step.ensures.number ∙ i.number;
-      turned = subst (λ (n : ℕ). ∥ TurnsBy AllLook (HasEvent (makes s.of.value s.number)) n s.node new ∥₁) more
-          (step_turns AllLook (HasEvent (makes s.of.value s.number)) c.loop-events.events s.node old new i.turned steps);
-      extends = turns_further c.args.self.now.node old new i.extends
-          (step_extends c.step.result c.in-Ok-true.field-0 old new c.in-Ok-true.is c.in-Ok-true.field-0-test c.step.ensures.grows);
-      kept = λ none. absurd (omega (arith, none));
-    }
+    let t = c.look_outs.new.self in
+    let new = c.go_round.new.self.node in
+    let looked : AllLook s.node t.node = record {
+      mid = c.look_ins.new.self.node;
+      ins = c.look_ins.ensures.looked;
+      outs = c.look_outs.ensures.looked;
+    } in
+    merely (one_look AllLook s.node new
+    (subst (λ (node : NodeState). AllLook s.node node) (sym (c.go_round.ensures.spends.kept c.if-left-budget.true)) looked))
 
-pub returns-in-Ok-false-clause-happens : goal.returns-in-Ok-false-clause-happens
-returns-in-Ok-false-clause-happens g c =
+pub returns-in-Ok-clause-happens : goal.returns-in-Ok-clause-happens
+returns-in-Ok-clause-happens g c =
     let s = c.args.self.now in
-    let t = c.loop-events.self in
-    let new = c.step.new.self.node in
-    let i = c.loop-events.invariant in
+    let t = c.look_outs.new.self in
+    let new = c.go_round.new.self.node in
+    let looked : AllLook s.node t.node = record {
+      mid = c.look_ins.new.self.node;
+      ins = c.look_ins.ensures.looked;
+      outs = c.look_outs.ensures.looked;
+    } in
     let makes = (λ (board : Board _) (n : ℕ). block_makes (layout_of board.rest.plan) (works_of g.W.Runs.meaning (layout_of board.rest.plan)) n) in
     let here = makes s.of.value s.number in
-    let looked = steps_so AllLook (HasEvent (makes t.of.value t.number)) c.step.result (Ok false) t.node new
-    (c.in-Ok-false.is ∙ ap (λ (did : Bool). Ok did) c.in-Ok-false.field-0-test) c.step.ensures.steps in
+    let spent = spends_so c.args.budget c.go_round.new.left t.node new
+    (ap₂ makes (c.look_outs.ensures.of ∙ c.look_ins.ensures.of) (c.look_outs.ensures.number ∙ c.look_ins.ensures.number)) c.go_round.ensures.spends in
     subst (λ (n : ℕ). ∥ TurnsBy AllLook (HasEvent here) n s.node new ∥₁) (sym c.turned.ensures.events)
-    (looked_turns AllLook (HasEvent here) c.loop-events.events s.node t.node new i.turned looked)
+    (turn_happens here c.args.budget c.go_round.new.left s.node t.node new looked spent)
 
-pub returns-then-events-eq0-clause-looked : goal.returns-then-events-eq0-clause-looked
-returns-then-events-eq0-clause-looked g c =
+pub returns-else-left-budget-clause-happens : goal.returns-else-left-budget-clause-happens
+returns-else-left-budget-clause-happens g c =
     let s = c.args.self.now in
-    let t = c.loop-events.self in
-    let new = c.step.new.self.node in
-    let i = c.loop-events.invariant in
+    let t = c.look_outs.new.self in
+    let new = c.go_round.new.self.node in
+    let looked : AllLook s.node t.node = record {
+      mid = c.look_ins.new.self.node;
+      ins = c.look_ins.ensures.looked;
+      outs = c.look_outs.ensures.looked;
+    } in
     let makes = (λ (board : Board _) (n : ℕ). block_makes (layout_of board.rest.plan) (works_of g.W.Runs.meaning (layout_of board.rest.plan)) n) in
     let here = makes s.of.value s.number in
-    looked_turns AllLook (HasEvent here) 0 s.node t.node new
-    (subst (λ (n : ℕ). ∥ TurnsBy AllLook (HasEvent here) n s.node t.node ∥₁) c.if-events-eq0.true i.turned)
-    (steps_so AllLook (HasEvent (makes t.of.value t.number)) c.step.result (Err c.in-Err.fault) t.node new c.in-Err.is c.step.ensures.steps)
-
-pub returns-in-Err-clause-happens : goal.returns-in-Err-clause-happens
-returns-in-Err-clause-happens g c =
-    let s = c.args.self.now in
-    let t = c.loop-events.self in
-    let new = c.step.new.self.node in
-    let i = c.loop-events.invariant in
-    let makes = (λ (board : Board _) (n : ℕ). block_makes (layout_of board.rest.plan) (works_of g.W.Runs.meaning (layout_of board.rest.plan)) n) in
-    let here = makes s.of.value s.number in
-    let looked = steps_so AllLook (HasEvent (makes t.of.value t.number)) c.step.result (Err c.in-Err.fault) t.node new c.in-Err.is
-    c.step.ensures.steps in
+    let spent = spends_so c.args.budget c.go_round.new.left t.node new
+    (ap₂ makes (c.look_outs.ensures.of ∙ c.look_ins.ensures.of) (c.look_outs.ensures.number ∙ c.look_ins.ensures.number)) c.go_round.ensures.spends in
     subst (λ (n : ℕ). ∥ TurnsBy AllLook (HasEvent here) n s.node new ∥₁) (sym c.turned-in-Err.ensures.events)
-    (looked_turns AllLook (HasEvent here) c.loop-events.events s.node t.node new i.turned looked)
+    (turn_happens here c.args.budget c.go_round.new.left s.node t.node new looked spent)
