@@ -3,7 +3,9 @@ use denote.Param.Send.{IsSync, sendable}
 use denote.Param.SendFields.{declared_sync}
 use denote.RattleType.{RattleType}
 use Rattle.std.proofs.Crossing.{crosses}
+use Rattle.once_cell.specs.contracts.race.once_box.OnceBox as once_box
 use Rattle.flow_link.specs.contracts.plan.Plan as plan
+use Rattle.flow_link.specs.contracts.trace.Outcome as outcome
 use Rattle.flow_link.specs.contracts.trace.LinkState as line
 use Rattle.flow_block.specs.contracts.node.Node as node
 use Rattle.flow_block.specs.contracts.planned.Route as route
@@ -25,5 +27,6 @@ pub parts_row : (W : RattleType) → IsSync (plan.the_row W) → IsSync node.the
     → IsSync line.the_row → IsSync route.the_row → IsSync (parts.the_row W)
 parts_row W plans nodes inputs exits lines routes = declared_sync (parts.the_type W) (plans, (search (sendable, crosses) depth 9, (search (sendable, crosses) depth 9, (search (sendable, crosses) depth 9, (search (sendable, crosses) depth 9, (search (sendable, crosses) depth 9, (agenda_row, tt)))))))
 
-pub board_row : (W : RattleType) → IsSync (parts.the_row W) → IsSync wire.the_row → IsSync (board.the_row W)
-board_row W rest wires = declared_sync (board.the_type W) (rest, (search (sendable, crosses) depth 9, (search (sendable, crosses) depth 9, (search (sendable, crosses) depth 9, (search (sendable, crosses) depth 9, (search (sendable, crosses) depth 9, tt))))))
+pub board_row : (W : RattleType) → IsSync (parts.the_row W) → IsSync wire.the_row → IsSync (once_box.the_row outcome.the_row)
+    → IsSync (board.the_row W)
+board_row W rest wires cells = declared_sync (board.the_type W) (rest, (search (sendable, crosses) depth 9, (search (sendable, crosses) depth 9, (search (sendable, crosses) depth 9, (search (sendable, crosses) depth 9, (search (sendable, crosses) depth 9, (search (sendable, crosses) depth 9, tt)))))))

@@ -8,6 +8,8 @@ pub mod DealtBy
 pub mod DuesByPlace
 pub mod EndsByPlace
 pub mod EndsOf
+pub mod EndsTold
+pub mod ExitSteps
 pub mod ExitsApart
 pub mod FewParts
 pub mod Fills

@@ -1,5 +1,5 @@
 -- What a block spends of its events: what was done one after another, in all; and that nothing is left to do where nothing was spent.
-use Rattle.std.proofs.Common.{◌≡◌, ℕ, zero, suc, ◌+◌, ◌-◌, ◌<◌, Bool, true, false, List, length, Result, Ok, Err, OnOk, refl, sym, ◌∙◌, subst, arith}
+use Rattle.std.proofs.Common.{◌≡◌, ℕ, zero, suc, ◌+◌, ◌-◌, ◌<◌, Bool, true, false, List, length, Result, Ok, Err, OnOk, OnErr, refl, sym, ◌∙◌, subst, arith}
 use Rattle.std.specs.declared.alloc.AllocError.{AllocError}
 use Rattle.std.proofs.Math.Logic.{∥∥₁_elim, ∥∥₁_map, ∥∥₁_prop}
 use Rattle.std.proofs.lemmas.Grind.{merely}
@@ -100,6 +100,10 @@ where_well (Err fault) goes said = tt
 pub both_well : {A E P Q R : Type 0} (result : Result A E) → (P → Q → R) → OnOk result P → OnOk result Q → OnOk result R
 both_well (Ok value) goes said also = goes said also
 both_well (Err fault) goes said also = tt
+
+pub where_failed : {A E P Q : Type 0} (result : Result A E) → (P → Q) → OnErr result P → OnErr result Q
+where_failed (Ok value) goes said = tt
+where_failed (Err fault) goes said = goes said
 
 -- what holds where nothing was spent holds of the node as it was
 pub outs_before : {makes makes' : Value → Result (List Value) ℕ} (most more less : ℕ) (first second last : NodeState)

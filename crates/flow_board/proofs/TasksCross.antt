@@ -5,6 +5,8 @@ use denote.RattleType.{RattleType}
 use Rattle.std.proofs.Crossing.{crosses}
 use Rattle.std.specs.declared.cmp.PartialEq as eq
 use Rattle.flow_value.specs.declared.work.Runs as runs
+use Rattle.once_cell.specs.contracts.race.note.Note as note
+use Rattle.flow_link.specs.contracts.trace.Outcome as outcome
 use Rattle.flow_block.specs.contracts.node.Node as node
 use Rattle.flow_exit.specs.contracts.exit_end.ExitEnd as exit_end
 use Rattle.flow_input.specs.contracts.input.Input as input
@@ -15,11 +17,16 @@ use Rattle.flow_board.specs.contracts.numbered.Entry as entry
 use Rattle.flow_board.specs.contracts.numbered.Exit as exit
 use Rattle.flow_board.specs.contracts.numbered.Kind as kind
 use Rattle.flow_board.specs.contracts.numbered.Task as task
+use Rattle.flow_board.specs.contracts.numbered.Watch as watch
 use Rattle.flow_board.specs.contracts.task.BlockTask as block_task
 
 module _ (W : RattleType) (w : runs.Ghosts W.Denot) (e : eq.Ghosts W.Denot) where
-  pub block_row : IsSend node.the_row → IsSend source.the_row → IsSend target.the_row → IsSend (block_task.the_row W w e)
-  block_row nodes sources targets = declared_send (block_task.the_type W w e) (search (sendable, crosses) depth 9, (search (sendable, crosses) depth 9, (search (sendable, crosses) depth 9, (search (sendable, crosses) depth 9, (search (sendable, crosses) depth 9, (search (sendable, crosses) depth 9, tt))))))
+  pub block_row : IsSend node.the_row → IsSend source.the_row → IsSend target.the_row → IsSend (note.the_row outcome.the_row)
+      → IsSend (block_task.the_row W w e)
+  block_row nodes sources targets notes = declared_send (block_task.the_type W w e) (search (sendable, crosses) depth 9, (search (sendable, crosses) depth 9, (search (sendable, crosses) depth 9, (search (sendable, crosses) depth 9, (search (sendable, crosses) depth 9, (search (sendable, crosses) depth 9, (search (sendable, crosses) depth 9, tt)))))))
+
+  pub watch_row : IsSend (note.the_row outcome.the_row) → IsSend (watch.the_row W w e)
+  watch_row notes = declared_send (watch.the_type W w e) (search (sendable, crosses) depth 9, (search (sendable, crosses) depth 9, (search (sendable, crosses) depth 9, tt)))
 
   pub input_row : IsSend input.the_row → IsSend source.the_row → IsSend (input_task.the_row W w e)
   input_row inputs sources = declared_send (input_task.the_type W w e) (search (sendable, crosses) depth 9, (search (sendable, crosses) depth 9, (search (sendable, crosses) depth 9, (search (sendable, crosses) depth 9, tt))))

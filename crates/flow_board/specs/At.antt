@@ -1,17 +1,34 @@
--- What a contract sees of a task beside its board, and what its turns come to.
+-- What a contract sees of a task, a watch or an exit beside its board, and what the turns of a task come to.
 use Rattle.std.specs.Prelude.{◌≡◌, ℕ, ◌<◌, List, [], ◌∷◌, Result, refl}
-use Rattle.std.proofs.Common.{◌∙◌}
+use Rattle.std.proofs.Common.{◌∙◌, subst}
 use Rattle.flow_value.specs.declared.value.Value.{Value}
 use Rattle.flow_value.specs.declared.work.WorkFault.{WorkFault}
+use Rattle.flow_poll.specs.Receives.{Sight, StaysOver}
 use Rattle.flow_poll.specs.declared.actor.Turned.{Turned}
 use Rattle.flow_poll.specs.declared.actor.TurnState.TheVariants.{Moved, Ended}
+use Rattle.flow_net.specs.Sights.{sight_of}
 use Rattle.flow_board.specs.Ended.{HasEnded}
-use Rattle.flow_board.specs.Parts.{task_number}
+use Rattle.flow_board.specs.Parts.{exit_number, exit_state, task_number, watched_block}
 use Rattle.flow_board.specs.Rests.{Rests, state_in}
 use Rattle.flow_board.specs.TaskTurns.{HasTurned}
 use Rattle.flow_board.specs.declared.board.Board.{Board}
 use Rattle.flow_board.specs.declared.numbered.Task.{Task}
+use Rattle.flow_board.specs.declared.numbered.Exit.{Exit}
+use Rattle.flow_board.specs.declared.numbered.Watch.{Watch}
 use Rattle.flow_board.specs.declared.at.TaskAt.{TaskAt}
+use Rattle.flow_board.specs.declared.at.WatchAt.{WatchAt}
+use Rattle.flow_board.specs.declared.at.ExitAt.{ExitAt}
+
+-- what is over stays over, and over several steps
+pub over_stays : (sight : Sight) → StaysOver sight sight
+over_stays Sight.nothing = tt
+over_stays Sight.message = tt
+over_stays (Sight.over how) = refl
+
+pub over_goes_further : (first mid last : Sight) → StaysOver first mid → StaysOver mid last → StaysOver first last
+over_goes_further Sight.nothing mid last head tail = tt
+over_goes_further Sight.message mid last head tail = tt
+over_goes_further (Sight.over how) mid last head tail = subst (λ (sight : Sight). StaysOver sight last) head tail
 
 module _ {W : Type 0} {w : _} {e : _} where
   -- the task, and its board
@@ -20,6 +37,42 @@ module _ {W : Type 0} {w : _} {e : _} where
 
   abbrev pub board_at : TaskAt W w e → Board W
   board_at at = at.board.now
+
+  -- the watch, and its board
+  abbrev pub watch_at : WatchAt W w e → Watch W w e
+  watch_at at = at.watch
+
+  abbrev pub watching_board : WatchAt W w e → Board W
+  watching_board at = at.board.now
+
+  -- it watches the same block of the same board
+  pub record IsSameWatch (old new : WatchAt W w e) : Type 0 where
+    pub board : watching_board new ≡ watching_board old
+    pub block : watched_block (watch_at new) ≡ watched_block (watch_at old)
+
+  -- the exit, and its board
+  abbrev pub exit_in : ExitAt W w e → Exit W w e
+  exit_in at = at.exit
+
+  abbrev pub receiving_board : ExitAt W w e → Board W
+  receiving_board at = at.board.now
+
+  -- it is the same exit of the same board, and what was over there is over
+  pub record IsSameExit (old new : ExitAt W w e) : Type 0 where
+    pub board : receiving_board new ≡ receiving_board old
+    pub number : exit_number (exit_in new) ≡ exit_number (exit_in old)
+    pub over : StaysOver (sight_of (exit_state (exit_in old))) (sight_of (exit_state (exit_in new)))
+
+  pub exit_same : (at : ExitAt W w e) → IsSameExit at at
+  exit_same at = record { board = refl; number = refl; over = over_stays (sight_of (exit_state (exit_in at))) }
+
+  pub exit_further : (first mid last : ExitAt W w e) → IsSameExit first mid → IsSameExit mid last → IsSameExit first last
+  exit_further first mid last head tail = record {
+    board = tail.board ∙ head.board;
+    number = tail.number ∙ head.number;
+    over = over_goes_further (sight_of (exit_state (exit_in first))) (sight_of (exit_state (exit_in mid))) (sight_of (exit_state (exit_in last)))
+        head.over tail.over;
+  }
 
   -- it is the same part of the same board
   pub record IsSame (old new : TaskAt W w e) : Type 0 where

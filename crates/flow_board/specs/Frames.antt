@@ -35,3 +35,4 @@ pub record IsRoomFor {W : Type 0} {w : _} {e : _} (layout : Layout W) (nodes : L
   pub input_links : frame.inputs.items ≡ links_of_inputs layout
   pub exit_links : frame.outs.items ≡ links_out layout
   pub opens : frame.opens.items ≡ map stays_open inputs
+  pub cells : length frame.cells.items ≡ length nodes

@@ -1,6 +1,7 @@
 pub mod Absent
 pub mod At
 pub mod Begun
+pub mod Cells
 pub mod Dealt
 pub mod Ended
 pub mod Events

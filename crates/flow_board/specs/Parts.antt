@@ -1,8 +1,10 @@
 -- What a contract sees of the parts of a scattered network.
-use Rattle.std.specs.Prelude.{◌≡◌, ℕ, List, [], ◌∷◌}
+use Rattle.std.specs.Prelude.{◌≡◌, ℕ, List, [], ◌∷◌, Option}
 use Rattle.flow_link.specs.declared.trace.Mark.{Mark}
+use Rattle.flow_link.specs.declared.trace.Outcome.{Outcome}
 use Rattle.flow_link.specs.Layout.{Layout}
 use Rattle.flow_link.specs.Planned.{layout_of}
+use Rattle.flow_exit.specs.Exit.{ExitState}
 use Rattle.flow_board.specs.declared.board.Board.{Board}
 use Rattle.flow_board.specs.declared.numbered.Entry.{Entry}
 use Rattle.flow_board.specs.declared.numbered.Exit.{Exit}
@@ -41,8 +43,28 @@ module _ {W : Type 0} {w : _} {e : _} where
   abbrev pub exit_number : Exit W w e → ℕ
   exit_number exit = exit.number
 
+  -- its board, and where its end of the link stands
+  abbrev pub exit_board : Exit W w e → Board W
+  exit_board exit = exit.of.value
+
+  abbrev pub exit_state : Exit W w e → ExitState
+  exit_state exit = exit.exit
+
   abbrev pub watched_block : Watch W w e → ℕ
   watched_block watch = watch.block
+
+  abbrev pub watched_board : Watch W w e → Board W
+  watched_board watch = watch.of.value
+
+  -- how the block has ended, as far as it knows
+  abbrev pub watched_outcome : Watch W w e → Option Outcome
+  watched_outcome watch = watch.note.known
+
+  -- it watches the same block of the same board, and knows the same
+  pub record IsWatchOf (one other : Watch W w e) : Type 0 where
+    pub board : watched_board other ≡ watched_board one
+    pub block : watched_block other ≡ watched_block one
+    pub knows : watched_outcome other ≡ watched_outcome one
 
   -- each of these is of this board
   abbrev pub AllTasksOf : Board W → List (Task W w e) → Type 0

@@ -13,7 +13,7 @@ use Rattle.flow_board.specs.declared.numbered.Task.{Task}
 module _ {W : Type 0} {w : _} {e : _} where
   -- the state of a block or of an input, where so many events were done
   abbrev pub state_by : ℕ → Kind W w e → TurnState
-  state_by events (kind.Block task) = state_of events task.node
+  state_by events (kind.Block task) = state_of events task.note.known task.node
   state_by events (kind.Input task) = state_after events task.input
 
   abbrev pub state_in : ℕ → Task W w e → TurnState

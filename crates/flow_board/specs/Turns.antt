@@ -1,5 +1,5 @@
 -- What the calls of a block leave of it, when it is turned, when it is over, and when it has nothing to do.
-use Rattle.std.specs.Prelude.{◌≡◌, ℕ, zero, suc, ◌<◌, ltb, cond, Bool, true, false, not, ◌&&◌, List, [], ◌∷◌, length, Option, Some, None, is_some, is_none, Result, Ok, Err}
+use Rattle.std.specs.Prelude.{◌≡◌, ℕ, zero, suc, ◌<◌, ltb, cond, Bool, true, false, not, ◌&&◌, List, [], ◌∷◌, length, Option, Some, None, is_none, Result, Ok, Err}
 use Rattle.std.specs.declared.alloc.AllocError.{AllocError}
 use Rattle.flow_value.specs.declared.value.Value.{Value}
 use Rattle.flow_lists.specs.Lists.{every, below, is_empty}
@@ -10,6 +10,7 @@ use Rattle.flow_link.specs.declared.stage.TargetStage.{TargetStage}
 use Rattle.flow_link.specs.declared.stage.TargetStage.TheVariants.{Refused, Ended}
 use Rattle.flow_link.specs.declared.trace.Mark.{Mark}
 use Rattle.flow_link.specs.declared.trace.Mark.TheVariants.{Done, Fault}
+use Rattle.flow_link.specs.declared.trace.Outcome.{Outcome}
 use Rattle.flow_link.specs.Plan.{is_one_taker}
 use Rattle.flow_intake.specs.Port.{PortState, stage_at}
 use Rattle.flow_intake.specs.Ended.{fault_at_ends, has_seen_completion}
@@ -28,6 +29,7 @@ use Rattle.flow_moves.specs.Calls.{Calls}
 use Rattle.flow_poll.specs.Turns.{Extends}
 use Rattle.flow_poll.specs.declared.actor.TurnState.{TurnState}
 use Rattle.flow_poll.specs.declared.actor.TurnState.TheVariants as turn
+use Rattle.flow_board.specs.Cells.{is_told}
 use Rattle.flow_board.specs.Words.{is_withdrawal, may_be_forestalled}
 
 -- the end of a link into it moves so, and finds something in the slot or nothing
@@ -92,10 +94,10 @@ are_outs_over node = every (λ k. is_over (stage_from k node)) (below (out_count
 abbrev pub are_links_over : NodeState → Bool
 are_links_over node = are_ins_over node && are_outs_over node
 
--- what comes of a turn in which so many events were done
-abbrev pub state_of : ℕ → NodeState → TurnState
-state_of events node =
-    cond (ltb 0 events) turn.Moved (cond (is_some node.block.stopped && are_links_over node) turn.Ended turn.Idle)
+-- what comes of a turn in which so many events were done, where this is known of the end of its block
+abbrev pub state_of : ℕ → Option Outcome → NodeState → TurnState
+state_of events known node =
+    cond (ltb 0 events) turn.Moved (cond (is_told known node.block.stopped && are_links_over node) turn.Ended turn.Idle)
 
 -- the end of a link would make no move, but one that the other end has forestalled
 abbrev pub OutIsStill : ℕ → NodeState → Type 0

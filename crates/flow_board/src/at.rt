@@ -1,10 +1,12 @@
-//! A task beside its board.
+//! A task, a watch and an exit, beside their board.
 ghost use Rattle.std.specs.Prelude.{◌≡◌};
-ghost use Rattle.flow_board.specs.Parts.{board_of};
+ghost use Rattle.flow_board.specs.Parts.{board_of, exit_board, exit_state, watched_board};
+ghost use Rattle.flow_net.specs.Sights.{exit_seen};
 
 use crate::board::Board;
-use crate::numbered::Task;
-use flow_poll::{Actor, Turned};
+use crate::numbered::{Exit, Task, Watch};
+use flow_link::{Completing, Outcome};
+use flow_poll::{Actor, ReceivePort, Received, Turned};
 use flow_value::Runs;
 use std::alloc::{AllocError, Global};
 
@@ -56,5 +58,100 @@ impl<W: Runs> Actor for TaskAt<'_, W> {
 
     fn turn(&mut self, alloc: Global, budget: u32) -> Result<Turned, AllocError> {
         self.task.turn(alloc, self.board, budget)
+    }
+}
+
+/// A watch with the board that it is of. So a `Completion` waits for the end of its block.
+#[derive(Drop)]
+pub struct WatchAt<'b, W: Runs> {
+    board: &'b Board<W>,
+    watch: Watch<W>,
+    ghost its: { watched_board watch ≡ board.now },
+}
+
+impl<'b, W: Runs> WatchAt<'b, W> {
+    ghost use Rattle.flow_board.specs.At.{watch_at, watching_board};
+
+    /// This watch, at its board.
+    pub fn new(board: &'b Board<W>, watch: Watch<W>) -> WatchAt<'b, W>
+        requires its { watched_board watch ≡ board.now }
+        ensures board { watching_board result ≡ board.now }
+        ensures watch { watch_at result ≡ watch }
+    {
+        WatchAt { board, watch }
+    }
+
+    /// The watch alone.
+    pub fn into_watch(self) -> Watch<W>
+        ensures watch { result ≡ watch_at self.entry }
+        ensures of { watched_board result ≡ watching_board self.entry }
+    {
+        let WatchAt { watch, .. } = self;
+        watch
+    }
+}
+
+impl<W: Runs> Completing for WatchAt<'_, W> {
+    ghost use Rattle.flow_board.specs.At.{IsSameWatch, watch_at};
+    ghost use Rattle.flow_board.specs.Parts.{watched_outcome};
+
+    ghost outcome = { λ at. watched_outcome (watch_at at) };
+
+    ghost learns = { λ old new. IsSameWatch old new };
+
+    fn completion(&mut self) -> Option<Outcome> {
+        self.watch.read(self.board)
+    }
+}
+
+/// An exit with the board that it is of. So a `Receive` waits for a message there, and an `OutputAvailable` until one is in sight.
+#[derive(Drop)]
+pub struct ExitAt<'b, W: Runs> {
+    board: &'b Board<W>,
+    exit: Exit<W>,
+    ghost its: { exit_board exit ≡ board.now },
+}
+
+impl<'b, W: Runs> ExitAt<'b, W> {
+    ghost use Rattle.flow_board.specs.At.{exit_in, receiving_board};
+
+    /// This exit, at its board.
+    pub fn new(board: &'b Board<W>, exit: Exit<W>) -> ExitAt<'b, W>
+        requires its { exit_board exit ≡ board.now }
+        ensures board { receiving_board result ≡ board.now }
+        ensures exit { exit_in result ≡ exit }
+    {
+        ExitAt { board, exit }
+    }
+
+    /// The exit alone.
+    pub fn into_exit(self) -> Exit<W>
+        ensures exit { result ≡ exit_in self.entry }
+        ensures of { exit_board result ≡ receiving_board self.entry }
+    {
+        let ExitAt { exit, .. } = self;
+        exit
+    }
+}
+
+impl<W: Runs> ReceivePort for ExitAt<'_, W> {
+    ghost use Rattle.flow_board.specs.At.{IsSameExit, exit_further, exit_in, exit_same};
+
+    ghost receives = { λ port. exit_seen (exit_state (exit_in port)) };
+
+    ghost goes_on = { λ old new. IsSameExit old new };
+
+    ghost stays = { λ port. exit_same port };
+
+    ghost goes_further = { λ first mid last head tail. exit_further first mid last head tail };
+
+    ghost over = { λ first last goes. goes.over };
+
+    fn try_receive(&mut self, alloc: Global) -> Result<Received, AllocError> {
+        self.exit.try_receive(alloc, self.board)
+    }
+
+    fn available(&mut self, alloc: Global) -> Result<Option<bool>, AllocError> {
+        self.exit.available(alloc, self.board)
     }
 }

@@ -7,9 +7,10 @@ ghost use Rattle.flow_board.specs.Inputs.{OpenOnesPost, links_of_inputs, stays_o
 ghost use Rattle.flow_net.specs.Apart.{apart_in};
 ghost use Rattle.flow_board.specs.Numbers.{closed_before, entry_count};
 
-use flow_link::LinkId;
+use flow_link::{LinkId, Outcome};
 use flow_net::NetParts;
 use flow_wire::Wire;
+use once_cell::race::OnceBox;
 use std::snapshot::Snapshot;
 
 /// The plan of a network, and the wires of its links by their numbers. Its parts borrow it, on whichever thread they are.
@@ -25,11 +26,14 @@ pub struct Board<W> {
     pub(crate) exits: Vec<LinkId>,
     /// Of each input, in the order of their links, whether it is an entry.
     pub(crate) opens: Vec<bool>,
+    /// Of each block how it has ended, once its task has told it.
+    pub(crate) cells: Vec<OnceBox<Outcome>>,
     ghost lines: { length rest.lines.items ≡ length (layout_of rest.plan).links },
     ghost wired: { length wires.items ≡ length (layout_of rest.plan).links },
     ghost inputs_are: { inputs.items ≡ links_of_inputs (layout_of rest.plan) },
     ghost exits_are: { exits.items ≡ links_out (layout_of rest.plan) },
     ghost told: { length opens.items ≡ length inputs.items },
+    ghost celled: { length cells.items ≡ length (layout_of rest.plan).blocks },
     ghost opens_are: { opens.items ≡ map stays_open begun.value.inputs.items },
     ghost open_ones_post: { OpenOnesPost (apart_in begun.value) },
 }

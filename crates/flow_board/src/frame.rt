@@ -1,5 +1,5 @@
 //! Room for the parts of a network, before anything is changed.
-ghost use Rattle.std.specs.Prelude.{◌≡◌, IfOk, map};
+ghost use Rattle.std.specs.Prelude.{◌≡◌, IfOk, length, map};
 ghost use Rattle.flow_link.specs.Planned.{layout_of};
 ghost use Rattle.flow_block.specs.Planned.{links_out};
 ghost use Rattle.flow_board.specs.Frames.{IsRoomFor};
@@ -9,9 +9,10 @@ use crate::numbered::{Entry, Exit, Task, Watch};
 use crate::sources::Sources;
 use crate::targets::Targets;
 use flow_input::Input;
-use flow_link::{Ending, LinkId, LinkSource, LinkTarget, Plan};
+use flow_link::{Ending, LinkId, LinkSource, LinkTarget, Outcome, Plan};
 use flow_net::NetParts;
 use flow_value::Runs;
+use once_cell::race::OnceBox;
 use std::alloc::{AllocError, Global};
 
 /// Room for the ends of all links and for all parts; which links are of inputs and which of exits; and which inputs stay open.
@@ -26,6 +27,7 @@ pub(crate) struct Frame<W: Runs> {
     pub(crate) inputs: Vec<LinkId>,
     pub(crate) outs: Vec<LinkId>,
     pub(crate) opens: Vec<bool>,
+    pub(crate) cells: Vec<OnceBox<Outcome>>,
 }
 
 impl<W: Runs> Frame<W> {
@@ -46,6 +48,7 @@ impl<W: Runs> Frame<W> {
             inputs: input_links(alloc, &apart.plan)?,
             outs: exit_links(alloc, &apart.plan)?,
             opens: open_inputs(alloc, &apart.inputs)?,
+            cells: empty_cells(alloc, blocks)?,
         })
     }
 }
@@ -87,4 +90,15 @@ fn open_inputs(alloc: Global, inputs: &[Input]) -> Result<Vec<bool>, AllocError>
         opens.push_reserved(input.ending() == Ending::Open);
     }
     Ok(opens)
+}
+
+/// Cells in which nothing is told yet.
+fn empty_cells(alloc: Global, count: usize) -> Result<Vec<OnceBox<Outcome>>, AllocError>
+    ensures { IfOk result (λ cells. length cells.items ≡ count) }
+{
+    let mut cells = Vec::with_capacity(alloc, count)?;
+    for place in 0..count {
+        cells.push_reserved(OnceBox::new(alloc));
+    }
+    Ok(cells)
 }

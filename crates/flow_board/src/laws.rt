@@ -1,7 +1,11 @@
 //! What may go to another thread. Each law stands on a function that does nothing: whoever calls it has the whole law.
+ghost use Rattle.std.specs.Prelude.{◌≡◌, Some};
 ghost use Rattle.std.specs.Thread.{IsSend};
 ghost use Rattle.flow_value.specs.contracts.value.Value as content;
 ghost use Rattle.flow_link.specs.contracts.trace.Mark as mark;
+ghost use Rattle.flow_link.specs.contracts.trace.Outcome as outcome;
+ghost use Rattle.once_cell.specs.contracts.race.note.Note as note;
+ghost use Rattle.flow_link.specs.declared.trace.Outcome.{Outcome};
 ghost use Rattle.flow_intake.specs.contracts.intake.Intake as intake;
 ghost use Rattle.flow_outlet.specs.contracts.outlet.Outlet as outlet;
 ghost use Rattle.flow_spread.specs.contracts.spread.Spread as spread;
@@ -10,18 +14,24 @@ ghost use Rattle.flow_exit.specs.contracts.exit_end.ExitEnd as exit_end;
 ghost use Rattle.flow_input.specs.contracts.input.Input as input;
 ghost use Rattle.flow_wire.specs.contracts.source.SourceEnd as source;
 ghost use Rattle.flow_wire.specs.contracts.target.TargetEnd as target;
+ghost use Rattle.flow_board.specs.Cells.{last_outcome};
+ghost use Rattle.flow_board.specs.Ended.{HasEnded, StaysSo};
+ghost use Rattle.flow_board.specs.Parts.{IsWatchOf, board_of, marks_in, task_number, watched_block, watched_board, watched_outcome};
 ghost use Rattle.flow_board.specs.contracts.numbered.Entry as entry;
 ghost use Rattle.flow_board.specs.contracts.numbered.Exit as exit;
 ghost use Rattle.flow_board.specs.contracts.numbered.Task as task;
+ghost use Rattle.flow_board.specs.contracts.numbered.Watch as watch;
 
+use crate::numbered::{Kind, Task, Watch};
 use flow_exit::ExitEnd;
 use flow_input::Input;
 use flow_intake::Intake;
-use flow_link::Mark;
+use flow_link::{Mark, Outcome};
 use flow_outlet::Outlet;
 use flow_spread::Spread;
 use flow_value::{Runs, Value};
 use flow_wire::{SourceEnd, TargetEnd};
+use once_cell::race::Note;
 
 /// A type whose values may go to another thread.
 fn crosses<T: Send>()
@@ -97,6 +107,13 @@ pub fn link_ends_cross()
     crosses::<TargetEnd>();
 }
 
+/// What is known of the end of a block may.
+fn notes_cross()
+    ensures { IsSend (note.the_row outcome.the_row) }
+{
+    crosses::<Note<Outcome>>();
+}
+
 /// So a task may go to another thread, of whatever kind its works are: it has none of them, and knows its board by a snapshot. Call
 /// it before a task is sent there.
 pub fn tasks_cross<W: Runs>()
@@ -105,6 +122,7 @@ pub fn tasks_cross<W: Runs>()
     nodes_cross();
     inputs_cross();
     link_ends_cross();
+    notes_cross();
 }
 
 /// So may an entry.
@@ -121,4 +139,37 @@ pub fn exits_cross<W: Runs>()
 {
     exit_ends_cross();
     link_ends_cross();
+}
+
+/// So may a watch.
+pub fn watches_cross<W: Runs>()
+    ensures { IsSend (watch.the_row W.row (record { meaning = W.meaning }) (record { eq = W.eq })) }
+{
+    notes_cross();
+}
+
+/// Where a task of a block has ended, a watch of that block that knows how it ended knows what the last mark of the task says.
+pub fn same_end<W: Runs>(watch: &mut Watch<W>, task: &mut Task<W>)
+    requires board { watched_board watch.old ≡ board_of task.old }
+    requires block { watched_block watch.old ≡ task_number task.old }
+    ensures watch { IsWatchOf watch.old watch.new }
+    ensures task { StaysSo task.old task.new }
+    ensures agrees { HasEnded task.old → (how : Outcome) → watched_outcome watch.old ≡ Some how →
+        last_outcome (marks_in task.old) ≡ Some how }
+{
+    match &mut task.kind {
+        Kind::Block(block) => watch.note.compare(block.note.again()),
+        Kind::Input(_) => {}
+    }
+}
+
+/// Two watches of a block that know how it has ended know the same.
+pub fn watches_agree<W: Runs>(one: &mut Watch<W>, other: &mut Watch<W>)
+    requires board { watched_board one.old ≡ watched_board other.old }
+    requires block { watched_block one.old ≡ watched_block other.old }
+    ensures one { IsWatchOf one.old one.new }
+    ensures other { IsWatchOf other.old other.new }
+    ensures agrees { (how so : Outcome) → watched_outcome one.old ≡ Some how → watched_outcome other.old ≡ Some so → how ≡ so }
+{
+    one.note.compare(other.note.again());
 }

@@ -6,6 +6,7 @@ mod apart;
 mod at;
 mod board;
 mod close;
+mod exit;
 mod frame;
 mod gathering;
 mod home;
@@ -26,12 +27,13 @@ mod turn;
 mod wires;
 mod words;
 
-pub use at::TaskAt;
+pub use at::{ExitAt, TaskAt, WatchAt};
 pub use board::Board;
 pub use gathering::{GatherFault, gather};
 pub use laws::{
     entries_cross, exit_ends_cross, exits_cross, inputs_cross, intakes_cross, link_ends_cross,
-    marks_cross, nodes_cross, outlets_cross, spreads_cross, tasks_cross, values_cross,
+    marks_cross, nodes_cross, outlets_cross, same_end, spreads_cross, tasks_cross, values_cross,
+    watches_agree, watches_cross,
 };
 pub use numbered::{Entry, Exit, Parts, Scattered, Task, Watch};
 pub use scattering::scatter;

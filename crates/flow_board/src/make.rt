@@ -97,6 +97,7 @@ impl<W: Runs> Board<W> {
             outs,
             ins,
             at: Station::In(0, 0),
+            note: self.cells[number].note(),
         };
         Task {
             number,
@@ -235,6 +236,7 @@ impl<W: Runs> Board<W> {
         Watch {
             of: Snapshot::of(self),
             block,
+            note: self.cells[block].note(),
         }
     }
 

@@ -6,6 +6,7 @@ ghost use Rattle.flow_value.specs.contracts.value.Value as content;
 ghost use Rattle.flow_link.specs.Planned.{layout_of};
 ghost use Rattle.flow_block.specs.Planned.{leads_out};
 ghost use Rattle.flow_exit.specs.ExitKeeps.{ExitLaw};
+ghost use Rattle.flow_board.specs.Cells.{IsNoteOf};
 ghost use Rattle.flow_board.specs.Exits.{exit_due};
 ghost use Rattle.flow_board.specs.Known.{in_known};
 ghost use Rattle.flow_board.specs.Numbers.{is_entry_number, is_exit_number};
@@ -15,10 +16,11 @@ use crate::board::Board;
 use crate::input_task::InputTask;
 use crate::task::BlockTask;
 use flow_exit::ExitEnd;
-use flow_link::{LinkId, Mark};
+use flow_link::{LinkId, Mark, Outcome};
 use flow_poll::Turned;
 use flow_value::Runs;
 use flow_wire::TargetEnd;
+use once_cell::race::Note;
 use std::alloc::{AllocError, Global};
 use std::snapshot::Snapshot;
 
@@ -60,7 +62,8 @@ impl<W: Runs> Task<W> {
     /// is to do. Where memory is out before the first event, nothing is changed but what its ends know; later, the turn ends with
     /// the events that are done. An event that needs a message id where none is left is not done, and the rest goes on.
     ///
-    /// A block has ended once its last mark is Done or a fault, and all its links are refused or ended; an input once its link is.
+    /// A block has ended once its last mark is Done or a fault, all its links are refused or ended, and its watches can know how it has
+    /// ended; an input once its link is.
     pub fn turn(
         &mut self,
         alloc: Global,
@@ -111,21 +114,55 @@ pub struct Exit<W: Runs> {
 }
 
 /// A block of a scattered network, for a caller that wants to know how it ends.
+///
+/// Microsoft: `IDataflowBlock.Completion`.
 #[derive(Drop)]
 pub struct Watch<W: Runs> {
     pub(crate) of: Snapshot<Board<W>>,
     pub(crate) block: usize,
+    /// What it knows of the cell in which the block's task tells how the block has ended.
+    pub(crate) note: Note<Outcome>,
     ghost there: { block < length (layout_of of.value.rest.plan).blocks },
+    ghost noted: { IsNoteOf of.value block note.cell },
 }
 
 impl<W: Runs> Watch<W> {
-    ghost use Rattle.flow_board.specs.Parts.{watched_block};
+    ghost use Rattle.flow_link.specs.BlockCalls.{Stays};
+    ghost use Rattle.flow_board.specs.Parts.{IsWatchOf, watched_block, watched_board, watched_outcome};
 
     /// The number of its block.
     pub fn block(&self) -> usize
         ensures { result ≡ watched_block self.now }
     {
         self.block
+    }
+
+    /// How the block has ended, if its task has told that by now. What was answered once is answered ever after. A task tells it at the
+    /// end of the turn in which its block ends, or later, where there was no memory for it then.
+    pub fn read(&mut self, board: &Board<W>) -> Option<Outcome>
+        requires of { watched_board self.old ≡ board.now }
+        ensures of { watched_board self.new ≡ watched_board self.old }
+        ensures block { watched_block self.new ≡ watched_block self.old }
+        ensures told { result ≡ watched_outcome self.new }
+        ensures stays { Stays (watched_outcome self.old) result }
+    {
+        match board.cells[self.block].get_as(&mut self.note) {
+            Some(outcome) => Some(*outcome),
+            None => None,
+        }
+    }
+
+    /// Another watch of the block, which knows what this one knows.
+    pub fn again(&mut self, board: &Board<W>) -> Watch<W>
+        requires of { watched_board self.old ≡ board.now }
+        ensures stays { IsWatchOf self.old self.new }
+        ensures again { IsWatchOf self.old result }
+    {
+        Watch {
+            of: Snapshot::of(board),
+            block: self.block,
+            note: self.note.again(),
+        }
     }
 }
 

@@ -239,6 +239,7 @@ impl<W: Runs> Frame<W> {
             inputs,
             outs,
             opens,
+            cells,
         } = self;
         let Wired {
             wires,
@@ -255,6 +256,7 @@ impl<W: Runs> Frame<W> {
             inputs,
             exits: outs,
             opens,
+            cells,
         };
         let room = Room {
             tasks,

@@ -1,9 +1,11 @@
 //! What several threads may share. Each law stands on a function that does nothing: whoever calls it has the whole law.
 ghost use Rattle.std.specs.Thread.{IsSync};
 ghost use Rattle.flow_value.specs.contracts.value.Value as content;
+ghost use Rattle.once_cell.specs.contracts.race.once_box.OnceBox as once_box;
 ghost use Rattle.flow_link.specs.contracts.plan.Plan as plan;
 ghost use Rattle.flow_link.specs.contracts.trace.LinkState as line;
 ghost use Rattle.flow_link.specs.contracts.trace.Mark as mark;
+ghost use Rattle.flow_link.specs.contracts.trace.Outcome as outcome;
 ghost use Rattle.flow_intake.specs.contracts.intake.Intake as intake;
 ghost use Rattle.flow_outlet.specs.contracts.outlet.Outlet as outlet;
 ghost use Rattle.flow_spread.specs.contracts.spread.Spread as spread;
@@ -18,11 +20,12 @@ use flow_block::Route;
 use flow_exit::ExitEnd;
 use flow_input::Input;
 use flow_intake::Intake;
-use flow_link::{LinkState, Mark, Plan};
+use flow_link::{LinkState, Mark, Outcome, Plan};
 use flow_outlet::Outlet;
 use flow_spread::Spread;
 use flow_value::Value;
 use flow_wire::Wire;
+use once_cell::race::OnceBox;
 
 /// A type whose values threads may share.
 fn is_shared<T: Sync>()
@@ -110,6 +113,13 @@ fn wires_are_shared()
     is_shared::<Wire>();
 }
 
+/// They may share the cell in which it is told how a block has ended.
+fn cells_are_shared()
+    ensures { IsSync (once_box.the_row outcome.the_row) }
+{
+    is_shared::<OnceBox<Outcome>>();
+}
+
 /// They may share a plan, where they may share its works.
 fn plans_are_shared<W: Sync>()
     ensures { IsSync (plan.the_row W.row) }
@@ -128,4 +138,5 @@ pub fn boards_are_shared<W: Sync>()
     lines_are_shared();
     routes_are_shared();
     wires_are_shared();
+    cells_are_shared();
 }

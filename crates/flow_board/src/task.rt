@@ -19,6 +19,7 @@ ghost use Rattle.flow_moves.specs.Calls.{Calls, answers_first};
 ghost use Rattle.flow_moves.specs.Ready.{ExitIsReady, InIsReady};
 ghost use Rattle.flow_outlet.specs.Outlet.{end_at, stage_at as stage_over};
 ghost use Rattle.flow_spread.specs.Spread.{link_at, stage_at as copy_stage};
+ghost use Rattle.flow_board.specs.Cells.{IsNoteOf};
 ghost use Rattle.flow_board.specs.Known.{out_known, in_known, link_from, link_to, outs_due, ins_due};
 ghost use Rattle.flow_board.specs.Turns.{MovesIn};
 ghost use Rattle.flow_board.specs.Words.{is_withdrawal, may_be_forestalled, opens};
@@ -29,10 +30,11 @@ use crate::words::{
     header_in, header_out, may_be_forestalled, open, take_up, withdraw, write_source, write_target,
 };
 use flow_block::{Block, Node};
-use flow_link::{LinkId, Move, PortId, Refusal, SourceStage, TargetStage};
+use flow_link::{LinkId, Move, Outcome, PortId, Refusal, SourceStage, TargetStage};
 use flow_moves::{look_exit, move_exit, move_in, shares_out};
 use flow_value::Runs;
 use flow_wire::{SourceEnd, TargetEnd, Wire};
+use once_cell::race::Note;
 use std::alloc::{AllocError, Global};
 use std::snapshot::Snapshot;
 
@@ -47,7 +49,10 @@ pub struct BlockTask<W: Runs> {
     pub(crate) ins: Vec<Vec<TargetEnd>>,
     /// Where its next turn goes on.
     pub(crate) at: Station,
+    /// What it knows of the cell in which it tells how its block has ended.
+    pub(crate) note: Note<Outcome>,
     ghost there: { number < length (layout_of of.value.rest.plan).blocks },
+    ghost noted: { IsNoteOf of.value number note.cell },
     ghost law: { ∥ NodeLaw (layout_of of.value.rest.plan) (works_of W.meaning (layout_of of.value.rest.plan)) number node ∥₁ },
     ghost outs_know: { map out_known outs.items ≡ outs_due (layout_of of.value.rest.plan) of.value.wires.items number node } by { Prim.hlevel (codes, table_id_coded, content.the_row.coded) },
     ghost ins_know: { map (λ port. map in_known port.items) ins.items ≡ ins_due (layout_of of.value.rest.plan) of.value.wires.items number node } by { Prim.hlevel (codes, table_id_coded, content.the_row.coded) },

@@ -6,12 +6,13 @@ ghost use Rattle.flow_block.specs.Node.{next_in};
 ghost use Rattle.flow_core.specs.MovesFit.{out_count, in_count};
 ghost use Rattle.flow_poll.specs.Turns.{Extends};
 ghost use Rattle.flow_poll.specs.declared.actor.TurnState.TheVariants.{Ended};
+ghost use Rattle.flow_board.specs.Cells.{is_same_end, is_told, last_outcome};
 ghost use Rattle.flow_board.specs.Events.{AllLook, Does, HasEvent, HasLooked, Spends, TurnsBy};
 ghost use Rattle.flow_board.specs.Turns.{InIsStill, IsOver, IsStill, LooksIn, LooksOut, OutIsStill, OwnIsDone, PortIsStill, PortsLook, are_links_over, state_of};
 
 use crate::board::Board;
 use crate::task::BlockTask;
-use flow_link::{Mark, Move, PortId};
+use flow_link::{Mark, Move, Outcome, PortId};
 use flow_moves::next_of_exit;
 use flow_poll::{TurnState, Turned};
 use flow_value::Runs;
@@ -41,8 +42,8 @@ impl<W: Runs> BlockTask<W> {
     /// Turns the block: it looks at each of its links, and does what comes next, at most so many events. It answers that there is
     /// nothing to do only where it has looked and gone all the way round. Where memory is out before the first event, its ends have
     /// looked at most; later, the turn ends with the events that are done. An event that needs a message id where none is left is not
-    /// done, and the rest goes on. It has ended once the block has stopped, as its last mark says, and all its links are refused or
-    /// ended.
+    /// done, and the rest goes on. It has ended once the block has stopped, as its last mark says, all its links are refused or ended,
+    /// and its watches can know how it has stopped.
     pub fn turn(
         &mut self,
         alloc: Global,
@@ -60,31 +61,86 @@ impl<W: Runs> BlockTask<W> {
         ensures happens { IfOk result (λ turned.
             ∥ TurnsBy AllLook (HasEvent (makes_of W.meaning self.old)) turned.events self.old.node self.new.node ∥₁) }
         ensures all_look { IfOk result (λ turned. turned.events ≡ 0 → AllLook self.old.node self.new.node) }
-        ensures state { IfOk result (λ turned. turned.state ≡ state_of turned.events self.new.node) }
+        ensures state { IfOk result (λ turned. turned.state ≡ state_of turned.events self.new.note.known self.new.node) }
         ensures ended { IfOk result (λ turned. turned.state ≡ Ended → IsOver (journal_of self.new)) }
         ensures links { IfOk result (λ turned. turned.state ≡ Ended → are_links_over self.new.node ≡ true) }
+        ensures told { IfOk result (λ turned. turned.state ≡ Ended → self.new.note.known ≡ last_outcome (journal_of self.new)) }
         ensures still { IfOk result (λ turned. 0 < budget → turned.events ≡ 0 → IsStill (makes_of W.meaning self.new) self.new.node) }
     {
         self.look_ins(board);
         self.look_outs(board);
         let mut left = budget;
         match self.go_round(alloc, board, &mut left) {
-            Ok(()) => Ok(self.turned(budget - left)),
+            Ok(()) => self.end_turn(alloc, board, budget - left),
             Err(fault) => {
                 if left == budget {
                     return Err(fault);
                 }
-                Ok(self.turned(budget - left))
+                Ok(self.turned(budget - left, false))
             }
         }
     }
 
-    /// What comes of a turn in which so many events were done.
-    fn turned(&self, events: u32) -> Turned
+    /// It tells how its block has ended, if it has. Where memory is out for that and no event was done, the turn is refused.
+    fn end_turn(
+        &mut self,
+        alloc: Global,
+        board: &Board<W>,
+        events: u32,
+    ) -> Result<Turned, AllocError>
+        requires of { self.old.of.value ≡ board.now }
+        ensures of { self.new.of.value ≡ self.old.of.value }
+        ensures number { self.new.number ≡ self.old.number }
+        ensures node { self.new.node ≡ self.old.node }
+        ensures events { IfOk result (λ turned. turned.events ≡ events) }
+        ensures none { OnErr result (events ≡ 0) }
+        ensures state { IfOk result (λ turned. turned.state ≡ state_of turned.events self.new.note.known self.new.node) }
+        ensures ended { IfOk result (λ turned. turned.state ≡ Ended → IsOver (journal_of self.new)) }
+        ensures links { IfOk result (λ turned. turned.state ≡ Ended → are_links_over self.new.node ≡ true) }
+        ensures told { IfOk result (λ turned. turned.state ≡ Ended → self.new.note.known ≡ last_outcome (journal_of self.new)) }
+    {
+        match self.tell_end(alloc, board) {
+            Ok(told) => Ok(self.turned(events, told)),
+            Err(fault) => {
+                if events == 0 {
+                    return Err(fault);
+                }
+                Ok(self.turned(events, false))
+            }
+        }
+    }
+
+    /// Tells in its cell how the block has ended, if it has, and whether that stands there now.
+    fn tell_end(&mut self, alloc: Global, board: &Board<W>) -> Result<bool, AllocError>
+        requires of { self.old.of.value ≡ board.now }
+        ensures of { self.new.of.value ≡ self.old.of.value }
+        ensures number { self.new.number ≡ self.old.number }
+        ensures node { self.new.node ≡ self.old.node }
+        ensures told { IfOk result (λ told. told ≡ is_told self.new.note.known self.new.node.block.stopped) }
+    {
+        let Some(outcome) = self.node.block().stopped() else {
+            return Ok(false);
+        };
+        let cell = &board.cells[self.number];
+        if cell.get_as(&mut self.note).is_none() {
+            let told = Box::new(alloc, outcome)?;
+            drop(cell.set_as(told, &mut self.note));
+        }
+        match cell.get_as(&mut self.note) {
+            Some(told) => Ok(is_same_end(*told, outcome)),
+            None => Ok(false),
+        }
+    }
+
+    /// What comes of a turn in which so many events were done. Where none was, `told` says whether its watches can know how the block has
+    /// ended.
+    fn turned(&self, events: u32, told: bool) -> Turned
+        requires { events ≡ 0 → told ≡ is_told self.now.note.known self.now.node.block.stopped }
         ensures events { result.events ≡ events }
-        ensures state { result.state ≡ state_of result.events self.now.node }
+        ensures state { result.state ≡ state_of result.events self.now.note.known self.now.node }
         ensures ended { result.state ≡ Ended → IsOver (journal_of self.now) }
         ensures links { result.state ≡ Ended → are_links_over self.now.node ≡ true }
+        ensures told { result.state ≡ Ended → self.now.note.known ≡ last_outcome (journal_of self.now) }
     {
         if events > 0 {
             return Turned {
@@ -92,7 +148,7 @@ impl<W: Runs> BlockTask<W> {
                 state: TurnState::Moved,
             };
         }
-        if self.node.block().stopped().is_some() && self.are_links_over() {
+        if told && self.are_links_over() {
             return Turned {
                 events,
                 state: TurnState::Ended,
@@ -452,5 +508,16 @@ impl<W: Runs> BlockTask<W> {
             Some(next) => self.move_in(board, port, place, next),
             None => Ok(false),
         }
+    }
+}
+
+/// Whether two ends of a block are the same.
+fn is_same_end(one: Outcome, other: Outcome) -> bool
+    ensures { result ≡ is_same_end one other }
+{
+    match (one, other) {
+        (Outcome::Done, Outcome::Done) => true,
+        (Outcome::Faulted(one), Outcome::Faulted(other)) => one == other,
+        (Outcome::Done, Outcome::Faulted(_)) | (Outcome::Faulted(_), Outcome::Done) => false,
     }
 }

@@ -4,6 +4,8 @@
 #[cfg(test)]
 mod actors;
 #[cfg(test)]
+mod exits;
+#[cfg(test)]
 mod networks;
 #[cfg(test)]
 mod offers;
@@ -13,3 +15,5 @@ mod rounds;
 mod told;
 #[cfg(test)]
 mod turned;
+#[cfg(test)]
+mod watches;

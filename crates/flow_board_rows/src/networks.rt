@@ -1,8 +1,9 @@
 //! The networks of these tests, scattered and gathered.
-ghost use Rattle.flow_board.specs.Parts.{AllEntriesOf, AllExitsOf, AllTasksOf};
+ghost use Rattle.std.specs.Prelude.{◌≡◌};
+ghost use Rattle.flow_board.specs.Parts.{AllEntriesOf, AllExitsOf, AllTasksOf, watched_board};
 
 use anyhow::Result;
-use flow_board::{Parts, gather, scatter};
+use flow_board::{Parts, Watch, gather, scatter};
 use flow_front::Inputs;
 use flow_link::{BlockDef, BlockKind, Draft, Ending, LinkDef, Mark};
 use flow_net::{Net, Settled};
@@ -62,11 +63,32 @@ fn buffer(alloc: Global) -> Result<Inputs<Steps>> {
     Ok(inputs)
 }
 
-/// The parts of the network of these inputs.
-fn scattered(rt: &impl Abort, alloc: Global, inputs: Result<Inputs<Steps>>) -> Parts<Steps>
-    ensures tasks_of { AllTasksOf result.board result.tasks.items }
-    ensures entries_of { AllEntriesOf result.board result.entries.items }
-    ensures exits_of { AllExitsOf result.board result.exits.items }
+/// A buffer to which 1 and 2 are posted, and which leads out of the network.
+fn counted(alloc: Global) -> Result<Inputs<Steps>> {
+    let plan = Draft::new(alloc)
+        .block(
+            BlockDef::named(alloc, "b", BlockKind::Buffer)?
+                .input()
+                .output(),
+        )?
+        .check(alloc)?;
+    let mut inputs = Inputs::of(alloc, plan)?;
+    inputs.post("b", Value::Int(1))?;
+    inputs.post("b", Value::Int(2))?;
+    inputs.end("b", Ending::Complete)?;
+    Ok(inputs)
+}
+
+/// The parts of the network of these inputs, and a watch of its first block.
+fn watched(
+    rt: &impl Abort,
+    alloc: Global,
+    inputs: Result<Inputs<Steps>>,
+) -> (Parts<Steps>, Watch<Steps>)
+    ensures tasks_of { AllTasksOf result.0.board result.0.tasks.items }
+    ensures entries_of { AllEntriesOf result.0.board result.0.entries.items }
+    ensures exits_of { AllExitsOf result.0.board result.0.exits.items }
+    ensures watch_of { watched_board result.1 ≡ result.0.board }
 {
     let Ok(inputs) = inputs else {
         panic!(rt; "no plan");
@@ -77,8 +99,31 @@ fn scattered(rt: &impl Abort, alloc: Global, inputs: Result<Inputs<Steps>>) -> P
     let Ok(scattered) = scatter(alloc, net) else {
         panic!(rt; "out of memory");
     };
-    let (parts, _) = scattered.into_parts();
+    let (parts, watches) = scattered.into_parts();
+    let Some(watch) = watches.into_iter().next() else {
+        panic!(rt; "no watch");
+    };
+    (parts, watch)
+}
+
+/// The parts of the network of these inputs.
+fn scattered(rt: &impl Abort, alloc: Global, inputs: Result<Inputs<Steps>>) -> Parts<Steps>
+    ensures tasks_of { AllTasksOf result.board result.tasks.items }
+    ensures entries_of { AllEntriesOf result.board result.entries.items }
+    ensures exits_of { AllExitsOf result.board result.exits.items }
+{
+    let (parts, _) = watched(rt, alloc, inputs);
     parts
+}
+
+/// The parts of the chain, and a watch of its first block.
+pub(crate) fn chain_watched(rt: &impl Abort, alloc: Global) -> (Parts<Steps>, Watch<Steps>)
+    ensures tasks_of { AllTasksOf result.0.board result.0.tasks.items }
+    ensures entries_of { AllEntriesOf result.0.board result.0.entries.items }
+    ensures exits_of { AllExitsOf result.0.board result.0.exits.items }
+    ensures watch_of { watched_board result.1 ≡ result.0.board }
+{
+    watched(rt, alloc, chain(alloc))
 }
 
 /// The parts of the chain.
@@ -106,6 +151,15 @@ pub(crate) fn buffer_parts(rt: &impl Abort, alloc: Global) -> Parts<Steps>
     ensures exits_of { AllExitsOf result.board result.exits.items }
 {
     scattered(rt, alloc, buffer(alloc))
+}
+
+/// The parts of the buffer of two numbers.
+pub(crate) fn counted_parts(rt: &impl Abort, alloc: Global) -> Parts<Steps>
+    ensures tasks_of { AllTasksOf result.board result.tasks.items }
+    ensures entries_of { AllEntriesOf result.board result.entries.items }
+    ensures exits_of { AllExitsOf result.board result.exits.items }
+{
+    scattered(rt, alloc, counted(alloc))
 }
 
 /// The network of these parts, all of which are there.

@@ -8,5 +8,5 @@ returns g c =
     let w = g.W.Runs in
     let e = g.W.PartialEq in
     let ends = c.link_ends_cross.ensures in
-    let block = block_row W w e c.nodes_cross.ensures ends.source ends.target in
+    let block = block_row W w e c.nodes_cross.ensures ends.source ends.target c.notes_cross.ensures in
     task_row W w e block (input_row W w e c.inputs_cross.ensures ends.source)

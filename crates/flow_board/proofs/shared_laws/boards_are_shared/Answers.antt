@@ -7,4 +7,4 @@ returns g c =
     let W = param 0 g.row.W in
     let rest = parts_row W (record { shared = c.plans_are_shared.ensures.shared }) c.nodes_are_shared.ensures c.inputs_are_shared.ensures
     c.exit_ends_are_shared.ensures c.lines_are_shared.ensures c.routes_are_shared.ensures in
-    board_row W rest c.wires_are_shared.ensures
+    board_row W rest c.wires_are_shared.ensures c.cells_are_shared.ensures

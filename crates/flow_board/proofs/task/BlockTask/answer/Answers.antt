@@ -141,6 +141,7 @@ invariant_of-self-2 g c =
     (λ is. sym c.requires.kept ∙ is) new c.in_ok-answer_at.ensures.done in
     record {
       there = s.there;
+      noted = s.noted;
       law = in_law layout works wires s.number plan.well_formed s.there s.node s.law port place c.requires.port c.requires.there seen new step;
       outs_know = s.outs_know
           ∙ in_outs layout works wires s.number plan.well_formed s.there s.node s.law port place c.requires.port c.requires.there seen new step;

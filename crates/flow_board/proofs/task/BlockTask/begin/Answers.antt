@@ -24,6 +24,7 @@ invariant_of-self g c =
     (λ l calls. begins layout works s.number s.node l c.requires new calls) in
     record {
       there = s.there;
+      noted = s.noted;
       law = own_law layout works s.number wires s.node new s.law step;
       outs_know = s.outs_know ∙ own_outs layout works s.number wires s.node new s.law step;
       ins_know = s.ins_know ∙ own_ins layout works s.number wires s.node new s.law step;

@@ -75,6 +75,7 @@ invariant_of-self g c =
     new (subst (λ (makes : Value → Result (List Value) ℕ). new ≡ after_job makes ticket s.node) is done.0)) in
     record {
       there = s.there;
+      noted = s.noted;
       law = own_law layout works s.number wires s.node new s.law step;
       outs_know = s.outs_know ∙ own_outs layout works s.number wires s.node new s.law step;
       ins_know = s.ins_know ∙ own_ins layout works s.number wires s.node new s.law step;

@@ -74,6 +74,7 @@ invariant_of-self g c =
     c.look-phase.ensures.found new (λ result. c.look_in.ensures) in
     record {
       there = s.there;
+      noted = s.noted;
       law = in_law layout works wires s.number plan.well_formed s.there s.node s.law port place c.requires.port c.requires.there seen new step;
       outs_know = s.outs_know
           ∙ in_outs layout works wires s.number plan.well_formed s.there s.node s.law port place c.requires.port c.requires.there seen new step;

@@ -51,6 +51,7 @@ invariant_of-self g c =
     c.look-phase.ensures.found (ap (λ (known : OutKnown). known.facts) here) (ap (λ (known : OutKnown). known.view) here) new c.look_exit.ensures in
     record {
       there = s.there;
+      noted = s.noted;
       law = out_law layout works wires s.number plan.well_formed s.there s.node s.law place c.requires.there seen new step;
       outs_know = out_outs layout works wires s.number plan.well_formed s.there s.node s.law place c.requires.there seen new step s.outs.items
           c.look-phase.new.self s.outs_know

@@ -93,6 +93,7 @@ invariant_of-self-2 g c =
     let due = out_due layout wires s.number s.node place in
     record {
       there = s.there;
+      noted = s.noted;
       law = out_law layout works wires s.number plan.well_formed s.there s.node s.law place c.requires.there seen new step;
       outs_know = out_outs layout works wires s.number plan.well_formed s.there s.node s.law place c.requires.there seen new step s.outs.items
           c.write_source.new.end s.outs_know

@@ -144,6 +144,7 @@ invariant_of-self g c =
     (done_anyway c.answer_at.result next c.answer_at.ensures.done c.answer_at.ensures.memory (late_is_second next stage c.requires.late)) in
     record {
       there = s.there;
+      noted = s.noted;
       law = in_law layout works wires s.number plan.well_formed s.there s.node s.law port place c.requires.port c.requires.there seen new step;
       outs_know = s.outs_know
           ∙ in_outs layout works wires s.number plan.well_formed s.there s.node s.law port place c.requires.port c.requires.there seen new step;
@@ -162,6 +163,7 @@ invariant_of-self-else-won g c =
     let lost : c.take_up-won.result ≡ false = search rules in
     record {
       there = s.there;
+      noted = s.noted;
       law = s.law;
       outs_know = s.outs_know;
       ins_know = map-set_same (λ port. map in_known port.items) s.ins.items c.args.port (with_item row c.args.place changed) row

@@ -1,0 +1,60 @@
+//! Watches of a block whose task is turned.
+ghost use Rattle.std.specs.Prelude.{◌≡◌};
+ghost use Rattle.flow_board.specs.Parts.{watched_board};
+
+use crate::networks::{chain_watched, gathered};
+use crate::rounds::turn_all;
+use flow_board::{Board, Parts, Watch, WatchAt};
+use flow_link::Outcome;
+use flow_poll::{Completion, TurnState};
+use flow_value::Steps;
+use futures::executor::block_on;
+use std::alloc::{AllocGlobal, Global};
+use std::process::Abort;
+use std::random::RandomSource;
+use std::sync::Wait;
+
+/// Asserts that a watch tells that its block is done, and another of that block, and a future that waits for it.
+fn knows_done(
+    rt: &(impl Abort + Wait + RandomSource + AllocGlobal),
+    alloc: Global,
+    board: &Board<Steps>,
+    mut watch: Watch<Steps>,
+)
+    requires of { watched_board watch ≡ board.now }
+{
+    assert!(rt; watch.read(board) == Some(Outcome::Done));
+    let mut other = watch.again(board);
+    assert!(rt; other.read(board) == Some(Outcome::Done));
+    let waits = Completion::new(alloc, WatchAt::new(board, other));
+    let Ok((at, outcome)) = block_on(rt, waits) else {
+        panic!(rt; "not driven");
+    };
+    assert!(rt; outcome == Outcome::Done);
+    assert!(rt; at.into_watch().block() == watch.block());
+}
+
+// In the first round the block has nothing yet, and so it has not ended.
+#[test]
+fn a_watch_learns_how_its_block_has_ended(rt: HostRuntime) {
+    let alloc = rt.alloc();
+    let (parts, mut watch) = chain_watched(&rt, alloc);
+    let Parts {
+        board,
+        tasks,
+        entries,
+        exits,
+    } = parts;
+    let (tasks, _) = turn_all(&rt, alloc, &board, tasks, 64, 1);
+    assert!(rt; watch.read(&board).is_none());
+    let (tasks, state) = turn_all(&rt, alloc, &board, tasks, 64, 100);
+    assert!(rt; state == TurnState::Ended);
+    knows_done(&rt, alloc, &board, watch);
+    let parts = Parts {
+        board,
+        tasks,
+        entries,
+        exits,
+    };
+    drop(gathered(&rt, alloc, parts));
+}
