@@ -1,6 +1,6 @@
 //! The port's ends of all links that lead into it, by their places, with counts of them.
 ghost use Rattle.std.specs.Prelude.{◌≡◌, ◌<◌, ◌≤◌, ◌+◌, ◌^◌, [], ◌∷◌, ◌++◌, Some, None, true, length};
-ghost use Rattle.std.specs.Prelude.{◌==◌, cond, OnOk, OnErr, IfSome};
+ghost use Rattle.std.specs.Prelude.{◌==◌, cond, false, OnOk, OnErr, IfSome};
 ghost use Rattle.flow_intake.specs.Port.{fresh_end, stage_in, link_in, hand_in, is_hand, is_coming, is_owed, count_at};
 ghost use Rattle.flow_intake.specs.Ended.{is_completion, has_seen_fault, has_seen_completion, fault_at_ends};
 ghost use Rattle.flow_intake.specs.ByLink.{place_of, is_free};
@@ -144,16 +144,8 @@ impl Ends {
         self.ends[place].go_to(stage);
         self.coming = recounted(self.coming, is_coming(&before), is_coming(&stage));
         self.owed = recounted(self.owed, is_owed(&before), is_owed(&stage));
-        self.completed = recounted(
-            self.completed,
-            is_completion(&before),
-            is_completion(&stage),
-        );
-        self.faulted = recounted(
-            self.faulted,
-            has_seen_fault(&before),
-            has_seen_fault(&stage),
-        );
+        self.completed = completions_after(self.completed, &before, &stage);
+        self.faulted = faults_after(self.faulted, &before, &stage);
     }
 
     /// The end at this place, where the message lies in the slot, has it in hand.
@@ -211,4 +203,36 @@ fn recounted(count: usize, before: bool, after: bool) -> usize
     ensures { result + cond before 1 0 ≡ count + cond after 1 0 }
 {
     count - usize::from(before) + usize::from(after)
+}
+
+/// How many ends have seen completion after one of them moved: few moves have to do with that.
+fn completions_after(count: usize, before: &TargetStage, after: &TargetStage) -> usize
+    requires there { cond (is_completion before.now) 1 0 ≤ count }
+    requires small { count < 2 ^ 63 }
+    ensures { result + cond (is_completion before.now) 1 0 ≡ count + cond (is_completion after.now) 1 0 }
+{
+    if !has_ended(before) && !has_ended(after) {
+        return count;
+    }
+    recounted(count, is_completion(before), is_completion(after))
+}
+
+/// The same of faults.
+fn faults_after(count: usize, before: &TargetStage, after: &TargetStage) -> usize
+    requires there { cond (has_seen_fault before.now) 1 0 ≤ count }
+    requires small { count < 2 ^ 63 }
+    ensures { result + cond (has_seen_fault before.now) 1 0 ≡ count + cond (has_seen_fault after.now) 1 0 }
+{
+    if !has_ended(before) && !has_ended(after) {
+        return count;
+    }
+    recounted(count, has_seen_fault(before), has_seen_fault(after))
+}
+
+/// Whether an end has seen that its link ended.
+fn has_ended(stage: &TargetStage) -> bool
+    ensures completion { result ≡ false → is_completion stage.now ≡ false }
+    ensures fault { result ≡ false → has_seen_fault stage.now ≡ false }
+{
+    matches!(stage, TargetStage::Ended(_))
 }

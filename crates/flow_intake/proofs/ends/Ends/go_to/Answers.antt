@@ -20,26 +20,26 @@ recounted-self-inside-requires-2-clause-there c =
 pub recounted-self-inside-requires-2-clause-small : goal.recounted-self-inside-requires-2-clause-small
 recounted-self-inside-requires-2-clause-small c = omega (arith, c.self.invariant.1, count_below is_owed c.self.inside.ends.items)
 
-pub recounted-self-inside-requires-3-clause-there : goal.recounted-self-inside-requires-3-clause-there
-recounted-self-inside-requires-3-clause-there c =
+pub completions_after-self-inside-requires-clause-there : goal.completions_after-self-inside-requires-clause-there
+completions_after-self-inside-requires-clause-there c =
     let ends = c.self.inside.ends.items in
     let known : c.args.place < length ends = rw (← c.self.view_is) at c.requires.place in
-    rw (c.is_completion.ensures, c.stage-before.ensures, ← c.self.view_is, c.self.invariant.2)
+    rw (c.stage-before.ensures, ← c.self.view_is, c.self.invariant.2)
     (count_there is_completion ends c.args.place known)
 
-pub recounted-self-inside-requires-3-clause-small : goal.recounted-self-inside-requires-3-clause-small
-recounted-self-inside-requires-3-clause-small c =
+pub completions_after-self-inside-requires-clause-small : goal.completions_after-self-inside-requires-clause-small
+completions_after-self-inside-requires-clause-small c =
     omega (arith, c.self.invariant.2, count_below is_completion c.self.inside.ends.items)
 
-pub recounted-self-inside-requires-4-clause-there : goal.recounted-self-inside-requires-4-clause-there
-recounted-self-inside-requires-4-clause-there c =
+pub faults_after-self-inside-requires-clause-there : goal.faults_after-self-inside-requires-clause-there
+faults_after-self-inside-requires-clause-there c =
     let ends = c.self.inside.ends.items in
     let known : c.args.place < length ends = rw (← c.self.view_is) at c.requires.place in
-    rw (c.has_seen_fault.ensures, c.stage-before.ensures, ← c.self.view_is, c.self.invariant.3)
+    rw (c.stage-before.ensures, ← c.self.view_is, c.self.invariant.3)
     (count_there has_seen_fault ends c.args.place known)
 
-pub recounted-self-inside-requires-4-clause-small : goal.recounted-self-inside-requires-4-clause-small
-recounted-self-inside-requires-4-clause-small c =
+pub faults_after-self-inside-requires-clause-small : goal.faults_after-self-inside-requires-clause-small
+faults_after-self-inside-requires-clause-small c =
     omega (arith, c.self.invariant.3, count_below has_seen_fault c.self.inside.ends.items)
 
 pub invariant_of-self : goal.invariant_of-self
@@ -49,18 +49,18 @@ invariant_of-self c =
     let coming = rw (c.is_coming.ensures, c.is_coming-2.ensures, c.stage-before.ensures, ← c.self.view_is) at c.recounted-self-inside.ensures in
     let owed = rw (c.is_owed.ensures, c.is_owed-2.ensures, c.stage-before.ensures, ← c.self.view_is) at c.recounted-self-inside-2.ensures in
     let completed =
-    rw (c.is_completion.ensures, c.is_completion-2.ensures, c.stage-before.ensures, ← c.self.view_is)
-    at c.recounted-self-inside-3.ensures in
+    rw (c.stage-before.ensures, ← c.self.view_is)
+    at c.completions_after-self-inside.ensures in
     let faulted =
-    rw (c.has_seen_fault.ensures, c.has_seen_fault-2.ensures, c.stage-before.ensures, ← c.self.view_is)
-    at c.recounted-self-inside-4.ensures in
+    rw (c.stage-before.ensures, ← c.self.view_is)
+    at c.faults_after-self-inside.ensures in
     rw c.go_to.ensures (
       count_moved is_coming ends c.args.place _ c.self.inside.coming c.recounted-self-inside.result known c.self.invariant.0 coming,
       count_moved is_owed ends c.args.place _ c.self.inside.owed c.recounted-self-inside-2.result known c.self.invariant.1 owed,
       count_moved is_completion ends c.args.place _ c.self.inside.completed
-          c.recounted-self-inside-3.result known c.self.invariant.2 completed,
+          c.completions_after-self-inside.result known c.self.invariant.2 completed,
       count_moved has_seen_fault ends c.args.place _ c.self.inside.faulted
-          c.recounted-self-inside-4.result known c.self.invariant.3 faulted,
+          c.faults_after-self-inside.result known c.self.invariant.3 faulted,
     )
 
 pub returns-clause-coming : goal.returns-clause-coming
