@@ -119,6 +119,13 @@ impl Input {
         }
     }
 
+    /// Passes over the values that were taken up to now: its caller is told only of what is taken later.
+    pub fn pass_taken(&mut self)
+        ensures { self.new ≡ record self.old { told = settled self.old } }
+    {
+        self.told = self.settled();
+    }
+
     /// Whether it is known what became of the first value that was begun.
     pub fn has_answer(&self) -> bool
         ensures { result ≡ has_answer self.now }

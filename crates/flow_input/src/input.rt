@@ -157,6 +157,14 @@ impl Input {
         Ok(())
     }
 
+    /// Keeps this parcel of the next value, which was made before.
+    pub fn put_parcel(&mut self, parcel: Parcel)
+        requires { next_value self.old ≡ Some parcel }
+        ensures { self.new ≡ record self.old { parcel = next_value self.old } }
+    {
+        self.parcel = Some(parcel);
+    }
+
     /// Offers the next value, and tells its header.
     pub fn offer(&mut self) -> MessageHeader
         requires free { is_free self.old.stage ≡ true }
