@@ -25,14 +25,20 @@ number_there number (y ∷ before) after x first n e =
     let one : first + 1 + length before ≡ first + length (y ∷ before) = omega arith in
     number_there number before after x (first + 1) (n - 1) (number_here number (before ++ x ∷ after) y first n e).1 ∙ one
 
+-- an exit's place, by its number
+pub exit_at_place : {W : Type 0} (layout : Layout W) (opens : List Bool) (l n k : ℕ)
+    → n ≡ task_count layout opens + entry_count layout opens + k → is_exit_number layout opens l n ≡ true → exit_place layout l ≡ k
+exit_at_place layout opens l n k is numbered =
+    let before = task_count layout opens + entry_count layout opens + exit_place layout l in
+    let same : before ≡ n = eqb-true before n numbered in
+    omega (arith, same, is)
+
 -- an exit's link, by its number
 pub exit_link : {W : Type 0} (layout : Layout W) (opens : List Bool) (l n k : ℕ) → l < length layout.links → leads_out layout l ≡ true
     → n ≡ task_count layout opens + entry_count layout opens + k → is_exit_number layout opens l n ≡ true
     → l ≡ get_or (links_out layout) k 0
 exit_link layout opens l n k there leads is numbered =
-    let before = task_count layout opens + entry_count layout opens + exit_place layout l in
-    let same : before ≡ n = eqb-true before n numbered in
-    let place : exit_place layout l ≡ k = omega (arith, same, is) in
+    let place = exit_at_place layout opens l n k is numbered in
     sym (place_below (leads_out layout) (length layout.links) l there leads).is_there
     ∙ ap (λ (j : ℕ). get_or (links_out layout) j 0) place
 

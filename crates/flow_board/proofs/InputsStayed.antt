@@ -1,5 +1,5 @@
 -- What is posted to the inputs of a scattered network stays.
-use Rattle.std.proofs.Common.{◌≡◌, ℕ, ◌<◌, ◌≤◌, Bool, true, false, List, length, get_or, None, refl, sym, ap, ap₂, ◌∙◌, subst, arith, ⊎_elim}
+use Rattle.std.proofs.Common.{◌≡◌, ℕ, zero, suc, ◌<◌, ◌≤◌, Bool, true, false, List, length, get_or, None, Result, Ok, Err, IfOk, OnErr, refl, sym, ap, ap₂, ◌∙◌, subst, arith, ⊎_elim}
 use Rattle.std.specs.Coded.{codes}
 use Rattle.std.proofs.Math.Logic.{∥∥₁_elim, ∥∥₁_map}
 use Rattle.std.proofs.lemmas.Bool.{cases_lt}
@@ -10,18 +10,19 @@ use Rattle.flow_value.specs.contracts.value.Value as content
 use Rattle.flow_value.specs.declared.value.Value.{Value}
 use Rattle.flow_link.specs.declared.phase.Move.{Move}
 use Rattle.flow_link.specs.declared.phase.Move.TheVariants as move
-use Rattle.flow_link.specs.declared.phase.Phase.{Phase}
 use Rattle.flow_link.specs.declared.trace.Ending.{Ending}
 use Rattle.flow_link.specs.declared.trace.Ending.TheVariants as ending
 use Rattle.flow_link.specs.Planned.{layout_of}
 use Rattle.flow_outlet.specs.Law.{is_posted}
 use Rattle.flow_core.specs.Events.{input_after, input_call}
-use Rattle.flow_core.specs.Inputs.{InputsStay, input_of}
+use Rattle.flow_core.specs.Inputs.{input_of}
 use Rattle.flow_core.specs.State.{NetState}
-use Rattle.flow_input.specs.Input.{InputState, InputCall, after_input, end_by, no_input}
+use Rattle.flow_input.specs.Input.{InputState, InputCall, end_by, no_input}
 use Rattle.flow_input.specs.InputKeeps.{InputLaw, PostedStays}
 use Rattle.flow_input.proofs.PostedKept.{posted_is_kept}
+use Rattle.flow_poll.specs.declared.actor.Turned.{Turned}
 use Rattle.flow_board.specs.Begun.{ClosedInputsStay, begun_in}
+use Rattle.flow_board.specs.Events.{HasLooked, InputHappens, InputLooks, LooksBy, TurnsBy}
 use Rattle.flow_board.specs.Inputs.{OpenOnesPost, is_open_ending, stays_open}
 use Rattle.flow_board.specs.Numbers.{is_open}
 use Rattle.flow_board.specs.declared.board.Board.{Board}
@@ -33,42 +34,41 @@ posted_prop old new = Prim.hlevel (codes, content.the_row.coded)
 
 -- One input
 
-pub stays_looked : (phase : Phase) (begun input : InputState) → ∥ PostedStays begun input ∥₁
-    → ∥ PostedStays begun (after_input (InputCall.look phase) input) ∥₁
-stays_looked phase begun input before =
-    ∥∥₁_map before (λ s. posted_is_kept.further begun input (after_input (InputCall.look phase) input) s
-    (posted_is_kept.stays input (InputCall.look phase) refl))
-
 moved : (next : Move) (input : InputState) → PostedStays input (input_after (input_call next) input)
 moved (move.Offer i) input = posted_is_kept.stays input InputCall.offer refl
 moved move.Give input = posted_is_kept.stays input InputCall.give refl
 moved (move.End how) input = posted_is_kept.stays input (InputCall.end_link how) refl
 moved _ input = posted_is_kept.same input
 
-pub stays_moved : (next : Move) (begun input : InputState) → ∥ PostedStays begun input ∥₁
-    → ∥ PostedStays begun (input_after (input_call next) input) ∥₁
-stays_moved next begun input before =
-    ∥∥₁_map before (λ s. posted_is_kept.further begun input (input_after (input_call next) input) s (moved next input))
+looks_stay : (n : ℕ) (old new : InputState) → LooksBy InputLooks n old new → PostedStays old new
+looks_stay zero old new same = subst (PostedStays old) (sym same) (posted_is_kept.same old)
+looks_stay (suc n) old new (mid, (before, look)) =
+    posted_is_kept.further old mid new (looks_stay n old mid before)
+    (subst (PostedStays mid) (sym look.leaves) (posted_is_kept.stays mid (InputCall.look look.phase) refl))
 
--- All inputs
+pub looked_stays : (old new : InputState) → HasLooked InputLooks old new → PostedStays old new
+looked_stays old new looked = looks_stay looked.0 old new looked.1
 
-pub all_stay : (begun net : NetState) (n : ℕ) → length begun.inputs ≡ n → length net.inputs ≡ n
-    → ((q : ℕ) → q < n → ∥ PostedStays (input_of begun q) (input_of net q) ∥₁) → InputsStay begun net
-all_stay begun net n old new each = record {
-  count = new ∙ sym old;
-  each = λ q. ⊎_elim (λ (low : q < n). ∥∥₁_elim (each q low) (posted_prop (input_of begun q) (input_of net q)) (λ s. s))
-      (λ (high : n ≤ q).
-      subst (λ (input : InputState). PostedStays (input_of begun q) input)
-      (get_or_past begun.inputs q no_input (omega (arith, old, high)) ∙ sym (get_or_past net.inputs q no_input (omega (arith, new, high))))
-      (posted_is_kept.same (input_of begun q)))
-      (cases_lt q n);
-}
+turned_stays : (n : ℕ) (old new : InputState) → TurnsBy InputLooks InputHappens n old new → PostedStays old new
+turned_stays zero old new looked = looked_stays old new looked
+turned_stays (suc n) old new (mid, (before, (next, (event, looked)))) =
+    posted_is_kept.further old mid new (turned_stays n old mid before)
+    (posted_is_kept.further mid next new
+    (subst (PostedStays mid) (sym event.leaves) (moved event.next mid))
+    (looked_stays next new looked))
 
-pub stay_into : (begun one other : NetState) → one.inputs ≡ other.inputs → InputsStay begun one → InputsStay begun other
-stay_into begun one other same stay = record {
-  count = ap length (sym same) ∙ stay.count;
-  each = λ k. subst (λ (inputs : List InputState). PostedStays (input_of begun k) (get_or inputs k no_input)) same (stay.each k);
-}
+-- a turn leaves what was posted when it began
+pub stays_turned : (n : ℕ) (begun old new : InputState) → PostedStays begun old → ∥ TurnsBy InputLooks InputHappens n old new ∥₁
+    → ∥ PostedStays begun new ∥₁
+stays_turned n begun old new before turned =
+    ∥∥₁_map turned (λ t. posted_is_kept.further begun old new before (turned_stays n old new t))
+
+-- whatever came of the turn
+pub stays_done : {E : Type 0} (result : Result Turned E) (begun old new : InputState) → PostedStays begun old
+    → IfOk result (λ turned. ∥ TurnsBy InputLooks InputHappens turned.events old new ∥₁) → OnErr result (∥ HasLooked InputLooks old new ∥₁)
+    → ∥ PostedStays begun new ∥₁
+stays_done (Ok turned) begun old new before happens looked = stays_turned turned.events begun old new before happens
+stays_done (Err fault) begun old new before happens looked = stays_turned 0 begun old new before looked
 
 -- Those that are no entries
 
@@ -93,17 +93,19 @@ none_posts net n count laws q closed =
     (cases_lt q n)
 
 module _ {W : Type 0} (board : Board W) where
-  -- what is no entry was not open when it was scattered
-  was_closed : (q : ℕ) → q < length board.opens.items → is_open (layout_of board.rest.plan) board.opens.items q ≡ false
-      → stays_open (input_of (begun_in board) q) ≡ false
-  was_closed q there closed =
+  -- an entry was open when it was scattered, and what is no entry was not
+  pub opens_tell : (q : ℕ) → q < length board.opens.items
+      → stays_open (input_of (begun_in board) q) ≡ is_open (layout_of board.rest.plan) board.opens.items q
+  opens_tell q there =
       let inputs = board.begun.value.inputs.items in
       sym (get_or-map stays_open inputs q no_input)
       ∙ ap (λ (opens : List Bool). get_or opens q true) (sym board.opens_are)
-      ∙ get_or_default board.opens.items q true false there ∙ closed
+      ∙ get_or_default board.opens.items q true false there
 
-  pub closed_stay : (net : NetState) → InputsStay (begun_in board) net → ClosedInputsStay board net
+  pub closed_stay : (net : NetState)
+      → ((q : ℕ) → q < length board.opens.items → is_open (layout_of board.rest.plan) board.opens.items q ≡ false
+      → ∥ PostedStays (input_of (begun_in board) q) (input_of net q) ∥₁) → ClosedInputsStay board net
   closed_stay net stay q there closed =
-      let one = stay.each q in
-      let same = (one.unposted (board.open_ones_post q (was_closed q there closed))).0 in
+      let one = ∥∥₁_elim (stay q there closed) (posted_prop (input_of (begun_in board) q) (input_of net q)) (λ s. s) in
+      let same = (one.unposted (board.open_ones_post q (opens_tell q there ∙ closed))).0 in
       ap₂ (λ (posted : List Value) (how : Ending). record { posted = posted; ending = how }) same one.same_ending

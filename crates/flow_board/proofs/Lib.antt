@@ -1,4 +1,5 @@
 pub mod AllExits
+pub mod AllLooked
 pub mod AllOver
 pub mod BlocksApart
 pub mod BoardsShare
@@ -9,6 +10,11 @@ pub mod DuesByPlace
 pub mod EndsByPlace
 pub mod EndsOf
 pub mod EndsTold
+pub mod EntriesBegin
+pub mod EntriesKeep
+pub mod EntriesMade
+pub mod EntriesTell
+pub mod EntrySteps
 pub mod ExitSteps
 pub mod ExitsApart
 pub mod FewParts
@@ -35,6 +41,8 @@ pub mod OpenCounts
 pub mod Orders
 pub mod OwnSteps
 pub mod OwnTries
+pub mod PartsKept
+pub mod PartsTaken
 pub mod Places
 pub mod Reasons
 pub mod Reordered

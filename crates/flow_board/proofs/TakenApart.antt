@@ -41,6 +41,13 @@ count_left number xs i n e = sym (length-map xs number) ∙ ap length e ∙ leng
 pub known_there : {B : Type 0} (P : B → ℕ → Type 0) (a b : B) (m n : ℕ) → a ≡ b → m ≡ n → P a m → P b n
 known_there P a b m n same is here = subst (λ x. P x n) same (subst (P a) is here)
 
+-- one more element of what is told by places
+pub viewed_more : {E V : Type 0} (view : E → V) (say : ℕ → V) (k : ℕ) (xs : List E) (x : E) → map view xs ≡ map say (below k) → view x ≡ say k
+    → map view (xs ++ x ∷ []) ≡ map say (below (k + 1))
+viewed_more view say k xs x are is =
+    map-append view xs (x ∷ []) ∙ ap (λ vs. vs ++ view x ∷ []) are ∙ ap (λ v. map say (below k) ++ v ∷ []) is
+    ∙ sym (map-append say (below k) (k ∷ [])) ∙ ap (map say) (sym (below_more k))
+
 -- one more element of what is said by places of another list, which grows with it
 pub said_more : {E V N : Type 0} (known : E → V) (say : N → ℕ → V) (i : ℕ) (ends : List E) (end : E) (nodes : List N) (node d : N)
     → length nodes ≡ i → map known ends ≡ map (λ b. say (get_or nodes b d) b) (below i) → known end ≡ say node i

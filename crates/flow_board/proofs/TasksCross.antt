@@ -4,6 +4,7 @@ use denote.Param.SendFields.{declared_send, variants_send}
 use denote.RattleType.{RattleType}
 use Rattle.std.proofs.Crossing.{crosses}
 use Rattle.std.specs.declared.cmp.PartialEq as eq
+use Rattle.flow_value.specs.contracts.parcel.Parcel as parcel
 use Rattle.flow_value.specs.declared.work.Runs as runs
 use Rattle.once_cell.specs.contracts.race.note.Note as note
 use Rattle.flow_link.specs.contracts.trace.Outcome as outcome
@@ -37,8 +38,8 @@ module _ (W : RattleType) (w : runs.Ghosts W.Denot) (e : eq.Ghosts W.Denot) wher
   pub task_row : IsSend (block_task.the_row W w e) → IsSend (input_task.the_row W w e) → IsSend (task.the_row W w e)
   task_row block from_outside = declared_send (task.the_type W w e) (search (sendable, crosses) depth 9, (kind_row block from_outside, tt))
 
-  pub entry_row : IsSend (input_task.the_row W w e) → IsSend (entry.the_row W w e)
-  entry_row from_outside = declared_send (entry.the_type W w e) (search (sendable, crosses) depth 9, (from_outside, tt))
+  pub entry_row : IsSend (input_task.the_row W w e) → IsSend parcel.the_row → IsSend (entry.the_row W w e)
+  entry_row from_outside parcels = declared_send (entry.the_type W w e) (search (sendable, crosses) depth 9, (from_outside, (search (sendable, crosses) depth 9, tt)))
 
   pub exit_row : IsSend exit_end.the_row → IsSend target.the_row → IsSend (exit.the_row W w e)
   exit_row exits targets = declared_send (exit.the_type W w e) (search (sendable, crosses) depth 9, (search (sendable, crosses) depth 9, (search (sendable, crosses) depth 9, (search (sendable, crosses) depth 9, (search (sendable, crosses) depth 9, tt)))))

@@ -1,4 +1,4 @@
--- What a contract sees of a task, a watch or an exit beside its board, and what the turns of a task come to.
+-- What a contract sees of a task, a watch, an entry or an exit beside its board, and what the turns of a task come to.
 use Rattle.std.specs.Prelude.{◌≡◌, ℕ, ◌<◌, List, [], ◌∷◌, Result, refl}
 use Rattle.std.proofs.Common.{◌∙◌, subst}
 use Rattle.flow_value.specs.declared.value.Value.{Value}
@@ -8,15 +8,17 @@ use Rattle.flow_poll.specs.declared.actor.Turned.{Turned}
 use Rattle.flow_poll.specs.declared.actor.TurnState.TheVariants.{Moved, Ended}
 use Rattle.flow_net.specs.Sights.{sight_of}
 use Rattle.flow_board.specs.Ended.{HasEnded}
-use Rattle.flow_board.specs.Parts.{exit_number, exit_state, task_number, watched_block}
+use Rattle.flow_board.specs.Parts.{entry_number, exit_number, exit_state, task_number, watched_block}
 use Rattle.flow_board.specs.Rests.{Rests, state_in}
 use Rattle.flow_board.specs.TaskTurns.{HasTurned}
 use Rattle.flow_board.specs.declared.board.Board.{Board}
 use Rattle.flow_board.specs.declared.numbered.Task.{Task}
+use Rattle.flow_board.specs.declared.numbered.Entry.{Entry}
 use Rattle.flow_board.specs.declared.numbered.Exit.{Exit}
 use Rattle.flow_board.specs.declared.numbered.Watch.{Watch}
 use Rattle.flow_board.specs.declared.at.TaskAt.{TaskAt}
 use Rattle.flow_board.specs.declared.at.WatchAt.{WatchAt}
+use Rattle.flow_board.specs.declared.at.EntryAt.{EntryAt}
 use Rattle.flow_board.specs.declared.at.ExitAt.{ExitAt}
 
 -- what is over stays over, and over several steps
@@ -49,6 +51,27 @@ module _ {W : Type 0} {w : _} {e : _} where
   pub record IsSameWatch (old new : WatchAt W w e) : Type 0 where
     pub board : watching_board new ≡ watching_board old
     pub block : watched_block (watch_at new) ≡ watched_block (watch_at old)
+
+  -- the entry, and its board
+  abbrev pub entry_in : EntryAt W w e → Entry W w e
+  entry_in at = at.way_in
+
+  abbrev pub sending_board : EntryAt W w e → Board W
+  sending_board at = at.board.now
+
+  -- it is the same entry of the same board
+  pub record IsSameEntry (old new : EntryAt W w e) : Type 0 where
+    pub board : sending_board new ≡ sending_board old
+    pub number : entry_number (entry_in new) ≡ entry_number (entry_in old)
+
+  pub entry_same : (at : EntryAt W w e) → IsSameEntry at at
+  entry_same at = record { board = refl; number = refl }
+
+  pub entry_further : (first mid last : EntryAt W w e) → IsSameEntry first mid → IsSameEntry mid last → IsSameEntry first last
+  entry_further first mid last head tail = record {
+    board = tail.board ∙ head.board;
+    number = tail.number ∙ head.number;
+  }
 
   -- the exit, and its board
   abbrev pub exit_in : ExitAt W w e → Exit W w e

@@ -9,6 +9,7 @@ use Rattle.flow_core.specs.State.{no_node}
 use Rattle.flow_exit.specs.Exit.{ExitState}
 use Rattle.flow_input.specs.Input.{InputState}
 use Rattle.flow_board.specs.Dealt.{HasRooms, HasRoomsIn}
+use Rattle.flow_board.specs.Entries.{waits_in}
 use Rattle.flow_board.specs.Inputs.{links_of_inputs, stays_open}
 use Rattle.flow_board.specs.Known.{in_known, out_known}
 use Rattle.flow_board.specs.declared.frame.Frame.{Frame}
@@ -35,4 +36,5 @@ pub record IsRoomFor {W : Type 0} {w : _} {e : _} (layout : Layout W) (nodes : L
   pub input_links : frame.inputs.items ≡ links_of_inputs layout
   pub exit_links : frame.outs.items ≡ links_out layout
   pub opens : frame.opens.items ≡ map stays_open inputs
+  pub waiting : map (λ row. row.items) frame.waiting.items ≡ map waits_in inputs
   pub cells : length frame.cells.items ≡ length nodes

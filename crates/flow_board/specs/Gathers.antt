@@ -1,14 +1,29 @@
 -- What gathering makes of parts, and why it does not.
-use Rattle.std.specs.Prelude.{◌≡◌, List, length, map, take}
+use Rattle.std.specs.Prelude.{◌≡◌, ℕ, ◌+◌, ◌≤◌, true, List, Result, length, map, take}
 use Rattle.std.specs.List.Sorted.{IsPermutation}
-use Rattle.flow_lists.specs.Lists.{below}
+use Rattle.flow_value.specs.declared.value.Value.{Value}
+use Rattle.flow_value.specs.declared.work.WorkFault.{WorkFault}
+use Rattle.flow_lists.specs.Lists.{below, is_front}
+use Rattle.flow_link.specs.Plan.{link_in}
+use Rattle.flow_link.specs.Trace.{gave_over, marks_of, took_over}
+use Rattle.flow_link.specs.declared.plan.LinkSource.TheVariants.{Block}
+use Rattle.flow_link.specs.declared.plan.LinkTarget.TheVariants.{Port}
+use Rattle.flow_core.specs.Inputs.{input_of}
+use Rattle.flow_core.specs.State.{NetState, exit_at}
+use Rattle.flow_core.specs.Statements.{IsReceivedOf}
+use Rattle.flow_input.specs.Sends.{sends_of}
+use Rattle.flow_net.specs.Net.{run_with}
+use Rattle.flow_board.specs.Begun.{begun_input}
+use Rattle.flow_board.specs.Entries.{took_at}
 use Rattle.flow_link.specs.declared.trace.Mark.{Mark}
 use Rattle.flow_board.specs.Absent.{IsAbsent, NoTwoAlike}
-use Rattle.flow_board.specs.Numbers.{task_count}
-use Rattle.flow_board.specs.Parts.{board_layout, marks_in, task_number}
+use Rattle.flow_board.specs.Numbers.{place_in, task_count}
+use Rattle.flow_board.specs.Parts.{board_layout, entry_link, entry_state, exit_link, exit_state, marks_in, task_number}
 use Rattle.flow_board.specs.declared.board.Board.{Board}
 use Rattle.flow_board.specs.declared.gathering.GatherFault.{GatherFault}
 use Rattle.flow_board.specs.declared.gathering.GatherFault.TheVariants.{Missing, Memory}
+use Rattle.flow_board.specs.declared.numbered.Entry.{Entry}
+use Rattle.flow_board.specs.declared.numbered.Exit.{Exit}
 use Rattle.flow_board.specs.declared.numbered.Parts.{Parts}
 use Rattle.flow_board.specs.declared.numbered.Task.{Task}
 
@@ -33,3 +48,23 @@ module _ {W : Type 0} {w : _} {e : _} where
     pub tasks : IsPermutation old.tasks.items new.tasks.items
     pub entries : IsPermutation old.entries.items new.entries.items
     pub exits : IsPermutation old.exits.items new.exits.items
+
+-- what was told as accepted is what was taken over the link, in order, and at most one value more was taken
+pub record IsToldOf (told taken : List Value) : Type 0 where
+  pub front : is_front told taken ≡ true
+  pub one_more : length taken ≤ length told + 1
+
+module _ {W : Type 0} {w : _} {e : _} (meaning : W → Value → Result (List Value) WorkFault) (board : Board W) (net : NetState) where
+  -- the input of an entry has what its callers know of it; what it told goes on from what was taken when the network was scattered
+  pub record EntryIsKept (entry : Entry W w e) : Type 0 where
+    pub sends : sends_of (input_of net (place_in (board_layout board) (entry_link entry))) ≡ sends_of (entry_state entry)
+    pub same_ending : (input_of net (place_in (board_layout board) (entry_link entry))).ending ≡ (entry_state entry).ending
+    pub goes_on : is_front (took_at (begun_input board (entry_link entry))) (sends_of (entry_state entry)).accepted ≡ true
+    pub taken : (t p : ℕ) → (link_in (board_layout board).links (entry_link entry)).target ≡ Port t p
+        → IsToldOf (sends_of (entry_state entry)).accepted (took_over (entry_link entry) (marks_of (run_with meaning (board_layout board) net) t))
+
+  -- the end of an exit has what was received there
+  pub record ExitIsKept (exit : Exit W w e) : Type 0 where
+    pub received : (exit_at (board_layout board) net (exit_link exit)).received ≡ (exit_state exit).received
+    pub given : (b : ℕ) → (link_in (board_layout board).links (exit_link exit)).source ≡ Block b
+        → IsReceivedOf (exit_state exit).received (gave_over (exit_link exit) (marks_of (run_with meaning (board_layout board) net) b))

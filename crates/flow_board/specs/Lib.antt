@@ -4,6 +4,7 @@ pub mod Begun
 pub mod Cells
 pub mod Dealt
 pub mod Ended
+pub mod Entries
 pub mod Events
 pub mod Exits
 pub mod Frames

@@ -5,6 +5,7 @@ use Rattle.flow_link.specs.declared.trace.Outcome.{Outcome}
 use Rattle.flow_link.specs.Layout.{Layout}
 use Rattle.flow_link.specs.Planned.{layout_of}
 use Rattle.flow_exit.specs.Exit.{ExitState}
+use Rattle.flow_input.specs.Input.{InputState}
 use Rattle.flow_board.specs.declared.board.Board.{Board}
 use Rattle.flow_board.specs.declared.numbered.Entry.{Entry}
 use Rattle.flow_board.specs.declared.numbered.Exit.{Exit}
@@ -40,12 +41,25 @@ module _ {W : Type 0} {w : _} {e : _} where
   abbrev pub entry_number : Entry W w e → ℕ
   entry_number entry = entry.number
 
+  -- its board, the link that begins there, and where its end of the link stands
+  abbrev pub entry_board : Entry W w e → Board W
+  entry_board entry = entry.input.of.value
+
+  abbrev pub entry_link : Entry W w e → ℕ
+  entry_link entry = entry.input.link
+
+  abbrev pub entry_state : Entry W w e → InputState
+  entry_state entry = entry.input.input
+
   abbrev pub exit_number : Exit W w e → ℕ
   exit_number exit = exit.number
 
-  -- its board, and where its end of the link stands
+  -- its board, its link, and where its end of that stands
   abbrev pub exit_board : Exit W w e → Board W
   exit_board exit = exit.of.value
+
+  abbrev pub exit_link : Exit W w e → ℕ
+  exit_link exit = exit.link
 
   abbrev pub exit_state : Exit W w e → ExitState
   exit_state exit = exit.exit
@@ -73,7 +87,7 @@ module _ {W : Type 0} {w : _} {e : _} where
 
   abbrev pub AllEntriesOf : Board W → List (Entry W w e) → Type 0
   AllEntriesOf board [] = Unit {0}
-  AllEntriesOf board (entry ∷ entries) = (entry.input.of.value ≡ board) × AllEntriesOf board entries
+  AllEntriesOf board (entry ∷ entries) = (entry_board entry ≡ board) × AllEntriesOf board entries
 
   abbrev pub AllExitsOf : Board W → List (Exit W w e) → Type 0
   AllExitsOf board [] = Unit {0}

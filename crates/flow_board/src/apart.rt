@@ -1,5 +1,5 @@
 //! The parts of a scattered network are taken apart, in the order of their numbers.
-ghost use Rattle.std.specs.Prelude.{◌≡◌, ℕ, ◌<◌, ◌≤◌, ◌+◌, ◌-◌, [], length, map, drop, take, get_or, vec_capacity};
+ghost use Rattle.std.specs.Prelude.{◌≡◌, ℕ, ◌<◌, ◌≤◌, ◌+◌, ◌-◌, false, All, [], length, map, drop, take, get_or, vec_capacity};
 ghost use Rattle.flow_lists.specs.Lists.{below, numbers_from};
 ghost use Rattle.flow_link.specs.Planned.{layout_of};
 ghost use Rattle.flow_block_law.specs.NodeLaw.{NodeLaw};
@@ -15,8 +15,8 @@ ghost use Rattle.flow_board.specs.Begun.{begun_in};
 ghost use Rattle.flow_board.specs.Exits.{exit_due};
 ghost use Rattle.flow_board.specs.Inputs.{input_due, links_of_inputs};
 ghost use Rattle.flow_board.specs.Known.{in_known, ins_due, out_known, outs_due};
-ghost use Rattle.flow_board.specs.Lefts.{InputsLeft};
-ghost use Rattle.flow_board.specs.Numbers.{closed_before, entry_count, task_count};
+ghost use Rattle.flow_board.specs.Lefts.{EntryIsAt, ExitIsAt, InputsLeft, IsTakenFrom};
+ghost use Rattle.flow_board.specs.Numbers.{closed_before, entry_count, is_open, task_count};
 ghost use Rattle.flow_board.specs.Parts.{AllEntriesOf, AllExitsOf, AllTasksOf, entry_number, exit_number, marks_in, task_number};
 
 use crate::board::Board;
@@ -111,8 +111,9 @@ impl Inputs {
         requires ends_room { length board.now.opens.items ≤ vec_capacity self.old.ends }
         ensures count { length self.new.inputs.items ≡ length board.now.opens.items }
         ensures laws { (q : ℕ) → q < length board.now.opens.items → ∥ InputLaw (get_or self.new.inputs.items q no_input) ∥₁ }
-        ensures posted { (q : ℕ) → q < length board.now.opens.items →
+        ensures posted { (q : ℕ) → q < length board.now.opens.items → is_open (layout_of board.now.rest.plan) board.now.opens.items q ≡ false →
             ∥ PostedStays (input_of (begun_in board.now) q) (get_or self.new.inputs.items q no_input) ∥₁ }
+        ensures entries { All (λ entry. EntryIsAt board.now self.new.inputs.items entry) entries.old.items }
         ensures ends { map out_known self.new.ends.items ≡ map (λ q. input_due (layout_of board.now.rest.plan) board.now.wires.items
             (get_or (links_of_inputs (layout_of board.now.rest.plan)) q 0) (get_or self.new.inputs.items q no_input))
             (below (length board.now.opens.items)) }
@@ -137,6 +138,7 @@ fn next_input<W: Runs>(
     ensures of { result.of.value ≡ board.now }
     ensures link { result.link ≡ get_or (links_of_inputs (layout_of board.now.rest.plan)) place 0 }
     ensures left { InputsLeft board.now (place + 1) tasks.new.items entries.new.items }
+    ensures from { IsTakenFrom (is_open (layout_of board.now.rest.plan) board.now.opens.items place) result entries.old.items entries.new.items }
 {
     if board.opens[place] {
         let Some(Entry { input, .. }) = entries.pop_front() else {
@@ -176,6 +178,7 @@ impl Exits {
         ensures ends { map in_known self.new.ends.items ≡ map (λ k. exit_due (layout_of board.now.rest.plan) board.now.wires.items
             (get_or (links_out (layout_of board.now.rest.plan)) k 0) (get_or self.new.exits.items k fresh_exit))
             (below (length (links_out (layout_of board.now.rest.plan)))) }
+        ensures exits { All (λ exit. ExitIsAt board.now self.new.exits.items exit) exits.items }
     {
         for Exit { exit, end, .. } in exits {
             self.exits.push_reserved(exit);

@@ -1,13 +1,14 @@
-//! A task, a watch and an exit, beside their board.
+//! A task, a watch, an entry and an exit, beside their board.
 ghost use Rattle.std.specs.Prelude.{◌≡◌};
-ghost use Rattle.flow_board.specs.Parts.{board_of, exit_board, exit_state, watched_board};
+ghost use Rattle.flow_input.specs.Sends.{has_id, sends_of};
+ghost use Rattle.flow_board.specs.Parts.{board_of, entry_board, entry_state, exit_board, exit_state, watched_board};
 ghost use Rattle.flow_net.specs.Sights.{exit_seen};
 
 use crate::board::Board;
-use crate::numbered::{Exit, Task, Watch};
+use crate::numbered::{Entry, Exit, Task, Watch};
 use flow_link::{Completing, Outcome};
-use flow_poll::{Actor, ReceivePort, Received, Turned};
-use flow_value::Runs;
+use flow_poll::{Actor, ReceivePort, Received, SendFault, SendPort, Sent, Turned};
+use flow_value::{Runs, Value};
 use std::alloc::{AllocError, Global};
 
 /// A task with the board that it is of: it goes on by turns without being told the board each time. So one is turned by a `Running`,
@@ -101,6 +102,70 @@ impl<W: Runs> Completing for WatchAt<'_, W> {
 
     fn completion(&mut self) -> Option<Outcome> {
         self.watch.read(self.board)
+    }
+}
+
+/// An entry with the board that it is of. So a `Post` or a `SendAsync` waits for what becomes of a value there.
+#[derive(Drop)]
+pub struct EntryAt<'b, W: Runs> {
+    board: &'b Board<W>,
+    way_in: Entry<W>,
+    ghost its: { entry_board way_in ≡ board.now },
+}
+
+impl<'b, W: Runs> EntryAt<'b, W> {
+    ghost use Rattle.flow_board.specs.At.{entry_in, sending_board};
+
+    /// This entry, at its board.
+    pub fn new(board: &'b Board<W>, entry: Entry<W>) -> EntryAt<'b, W>
+        requires its { entry_board entry ≡ board.now }
+        ensures board { sending_board result ≡ board.now }
+        ensures entry { entry_in result ≡ entry }
+    {
+        EntryAt {
+            board,
+            way_in: entry,
+        }
+    }
+
+    /// The entry alone.
+    pub fn into_entry(self) -> Entry<W>
+        ensures entry { result ≡ entry_in self.entry }
+        ensures of { entry_board result ≡ sending_board self.entry }
+    {
+        let EntryAt { way_in, .. } = self;
+        way_in
+    }
+}
+
+impl<W: Runs> SendPort for EntryAt<'_, W> {
+    ghost use Rattle.flow_board.specs.At.{IsSameEntry, entry_further, entry_in, entry_same};
+
+    ghost sends = { λ port. sends_of (entry_state (entry_in port)) };
+
+    ghost has_id = { λ port. has_id (entry_state (entry_in port)) };
+
+    ghost goes_on = { λ old new. IsSameEntry old new };
+
+    ghost stays = { λ port. entry_same port };
+
+    ghost goes_further = { λ first mid last head tail. entry_further first mid last head tail };
+
+    fn begin(
+        &mut self,
+        alloc: Global,
+        value: Value,
+        may_postpone: bool,
+    ) -> Result<(), (Value, SendFault)> {
+        if may_postpone {
+            self.way_in.begin_send(alloc, self.board, value)
+        } else {
+            self.way_in.begin_post(alloc, self.board, value)
+        }
+    }
+
+    fn look(&mut self, _alloc: Global) -> Result<Sent, AllocError> {
+        Ok(self.way_in.look(self.board))
     }
 }
 

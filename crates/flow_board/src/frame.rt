@@ -2,6 +2,7 @@
 ghost use Rattle.std.specs.Prelude.{◌≡◌, IfOk, length, map};
 ghost use Rattle.flow_link.specs.Planned.{layout_of};
 ghost use Rattle.flow_block.specs.Planned.{links_out};
+ghost use Rattle.flow_board.specs.Entries.{waits_in};
 ghost use Rattle.flow_board.specs.Frames.{IsRoomFor};
 ghost use Rattle.flow_board.specs.Inputs.{links_of_inputs, stays_open};
 
@@ -11,11 +12,13 @@ use crate::targets::Targets;
 use flow_input::Input;
 use flow_link::{Ending, LinkId, LinkSource, LinkTarget, Outcome, Plan};
 use flow_net::NetParts;
-use flow_value::Runs;
+use flow_value::{Parcel, Runs, Value};
 use once_cell::race::OnceBox;
 use std::alloc::{AllocError, Global};
+use std::collections::VecDeque;
 
-/// Room for the ends of all links and for all parts; which links are of inputs and which of exits; and which inputs stay open.
+/// Room for the ends of all links and for all parts; which links are of inputs and which of exits; and which inputs stay open, with the
+/// parcels of what waits there.
 #[derive(Drop)]
 pub(crate) struct Frame<W: Runs> {
     pub(crate) sources: Sources,
@@ -27,6 +30,8 @@ pub(crate) struct Frame<W: Runs> {
     pub(crate) inputs: Vec<LinkId>,
     pub(crate) outs: Vec<LinkId>,
     pub(crate) opens: Vec<bool>,
+    /// Of each input the parcels of what waits there, if it stays open.
+    pub(crate) waiting: Vec<VecDeque<Parcel>>,
     pub(crate) cells: Vec<OnceBox<Outcome>>,
 }
 
@@ -48,6 +53,7 @@ impl<W: Runs> Frame<W> {
             inputs: input_links(alloc, &apart.plan)?,
             outs: exit_links(alloc, &apart.plan)?,
             opens: open_inputs(alloc, &apart.inputs)?,
+            waiting: waiting_parcels(alloc, &apart.inputs)?,
             cells: empty_cells(alloc, blocks)?,
         })
     }
@@ -90,6 +96,41 @@ fn open_inputs(alloc: Global, inputs: &[Input]) -> Result<Vec<bool>, AllocError>
         opens.push_reserved(input.ending() == Ending::Open);
     }
     Ok(opens)
+}
+
+/// Of each input, the parcels of the values that wait there, if it stays open.
+fn waiting_parcels(alloc: Global, inputs: &[Input]) -> Result<Vec<VecDeque<Parcel>>, AllocError>
+    ensures { IfOk result (λ waiting. map (λ row. row.items) waiting.items ≡ map waits_in inputs.now) }
+{
+    let mut waiting = Vec::with_capacity(alloc, inputs.len())?;
+    for input in inputs {
+        waiting.push_reserved(parcels_of(alloc, waiting_in(input))?);
+    }
+    Ok(waiting)
+}
+
+/// The values that wait at an input, if it stays open.
+fn waiting_in(input: &Input) -> &[Value]
+    ensures { result.now ≡ waits_in input.now }
+{
+    if input.ending() != Ending::Open {
+        return &[];
+    }
+    match input.posted().get(input.sent()..) {
+        Some(values) => values,
+        None => &[],
+    }
+}
+
+/// A parcel of each of these values.
+fn parcels_of(alloc: Global, values: &[Value]) -> Result<VecDeque<Parcel>, AllocError>
+    ensures { IfOk result (λ parcels. parcels.items ≡ values.now) }
+{
+    let mut parcels = Vec::with_capacity(alloc, values.len())?;
+    for value in values {
+        parcels.push_reserved(Parcel::of(alloc, value)?);
+    }
+    Ok(VecDeque::from_vec(parcels))
 }
 
 /// Cells in which nothing is told yet.

@@ -1,25 +1,24 @@
 //! The parts of a scattered network are put together again.
-ghost use Rattle.std.specs.Prelude.{◌≡◌, ℕ, ◌<◌, ◌≤◌, [], get_or, length, map, take, vec_capacity, IfErr, IfOk};
+ghost use Rattle.std.specs.Prelude.{◌≡◌, ℕ, ◌<◌, ◌≤◌, All, [], get_or, length, map, take, vec_capacity, IfErr, IfOk};
 ghost use Rattle.std.specs.List.Sorted.{IsPermutation};
 ghost use Rattle.flow_lawful.specs.Lawful.{Lawful};
 ghost use Rattle.flow_lists.specs.Lists.{below};
 ghost use Rattle.flow_link.specs.Planned.{layout_of};
 ghost use Rattle.flow_block.specs.Planned.{links_out};
 ghost use Rattle.flow_core.specs.InOrder.{journals_of};
-ghost use Rattle.flow_core.specs.Inputs.{InputsStay};
 ghost use Rattle.flow_core.specs.State.{NetState, no_node};
 ghost use Rattle.flow_exec.specs.Works.{works_of};
 ghost use Rattle.flow_exit.specs.Exit.{fresh_exit};
 ghost use Rattle.flow_input.specs.Input.{no_input};
 ghost use Rattle.flow_net.specs.Net.{layout_in, parts_of, run_of};
 ghost use Rattle.flow_board.specs.Absent.{AllThere};
-ghost use Rattle.flow_board.specs.Begun.{JournalsGoOn, ClosedInputsStay, begun_in};
+ghost use Rattle.flow_board.specs.Begun.{JournalsGoOn, ClosedInputsStay};
 ghost use Rattle.flow_board.specs.Exits.{exit_due};
 ghost use Rattle.flow_board.specs.GatherRoom.{IsRoomToGather};
-ghost use Rattle.flow_board.specs.Gathers.{AreBack, GathersFrom, IsWhyNot};
+ghost use Rattle.flow_board.specs.Gathers.{AreBack, EntryIsKept, ExitIsKept, GathersFrom, IsWhyNot};
 ghost use Rattle.flow_board.specs.Inputs.{input_due, links_of_inputs};
 ghost use Rattle.flow_board.specs.Known.{in_known, ins_due, out_known, outs_due};
-ghost use Rattle.flow_board.specs.Orders.{AreInOrder};
+ghost use Rattle.flow_board.specs.Orders.{AreInOrder, HasLookedAround};
 ghost use Rattle.flow_board.specs.Parts.{AllEntriesOf, AllExitsOf, AllTasksOf, board_layout, marks_in};
 
 use crate::apart::{Blocks, Exits, Inputs};
@@ -56,7 +55,8 @@ pub fn gather<W: Runs>(
     ensures journals { IfOk result (λ net. GathersFrom parts.board parts.tasks.items (journals_of (parts_of net))) }
     ensures go_on { IfOk result (λ net. JournalsGoOn parts.board (parts_of net)) }
     ensures posted { IfOk result (λ net. ClosedInputsStay parts.board (parts_of net)) }
-    ensures inputs_stay { IfOk result (λ net. InputsStay (begun_in parts.board) (parts_of net)) }
+    ensures entries { IfOk result (λ net. All (λ entry. EntryIsKept W.meaning parts.board (parts_of net) entry) parts.entries.items) }
+    ensures exits { IfOk result (λ net. All (λ exit. ExitIsKept W.meaning parts.board (parts_of net) exit) parts.exits.items) }
     ensures why { IfErr result (λ refused. IsWhyNot refused.0 refused.1) }
     ensures back { IfErr result (λ refused. AreBack parts refused.0) }
 {
@@ -115,7 +115,9 @@ impl Apart {
         ensures journals { journals_of (parts_of result) ≡
             map marks_in (take (length (board_layout parts.board).blocks) parts.tasks.items) }
         ensures go_on { JournalsGoOn parts.board (parts_of result) }
-        ensures inputs_stay { InputsStay (begun_in parts.board) (parts_of result) }
+        ensures posted { ClosedInputsStay parts.board (parts_of result) }
+        ensures entries { All (λ entry. EntryIsKept W.meaning parts.board (parts_of result) entry) parts.entries.items }
+        ensures exits { All (λ exit. ExitIsKept W.meaning parts.board (parts_of result) exit) parts.exits.items }
     {
         let Apart {
             mut blocks,
@@ -157,11 +159,10 @@ impl<W: Runs> Board<W> {
         requires exit_ends { map in_known exits.ends.items ≡ map (λ k. exit_due (layout_of self.rest.plan) self.wires.items
             (get_or (links_out (layout_of self.rest.plan)) k 0) (get_or net.exits k fresh_exit))
             (below (length (links_out (layout_of self.rest.plan)))) }
-        requires inputs_stay { InputsStay (begun_in self) net }
         ensures same_layout { layout_in result ≡ layout_of self.rest.plan }
         ensures lawful { Lawful (run_of W.meaning result) }
         ensures journals { journals_of (parts_of result) ≡ map (λ node. node.journal) net.nodes }
-        ensures inputs_stay { InputsStay (begun_in self) (parts_of result) }
+        ensures looked { HasLookedAround W.meaning (layout_of self.rest.plan) net (parts_of result) }
     {
         let Board {
             mut rest,

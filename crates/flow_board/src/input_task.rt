@@ -7,10 +7,9 @@ ghost use Rattle.flow_link.specs.Planned.{layout_of};
 ghost use Rattle.flow_link.specs.declared.phase.Phase.{Phase};
 ghost use Rattle.flow_core.specs.Events.{input_after, input_call};
 ghost use Rattle.flow_input.specs.Input.{InputCall, after_input, input_move};
-ghost use Rattle.flow_input.specs.InputKeeps.{InputLaw, PostedStays};
+ghost use Rattle.flow_input.specs.InputKeeps.{InputLaw};
 ghost use Rattle.flow_outlet.specs.End.{is_over};
 ghost use Rattle.flow_poll.specs.declared.actor.TurnState.TheVariants.{Ended};
-ghost use Rattle.flow_board.specs.Begun.{begun_input};
 ghost use Rattle.flow_board.specs.Events.{HasLooked, InputHappens, InputLooks, StepsBy, TurnsBy};
 ghost use Rattle.flow_board.specs.Inputs.{begins_at_input, input_due, state_after, HasId, InputIsStill};
 ghost use Rattle.flow_board.specs.Known.{out_known};
@@ -37,7 +36,6 @@ pub struct InputTask<W: Runs> {
     ghost there: { link < length (layout_of of.value.rest.plan).links },
     ghost begins: { begins_at_input (layout_of of.value.rest.plan) link ≡ true },
     ghost law: { ∥ InputLaw input ∥₁ },
-    ghost posted: { ∥ PostedStays (begun_input of.value link) input ∥₁ },
     ghost knows: { out_known out ≡ input_due (layout_of of.value.rest.plan) of.value.wires.items link input } by { Prim.hlevel (codes, table_id_coded, content.the_row.coded) },
 }
 
@@ -121,7 +119,7 @@ impl<W: Runs> InputTask<W> {
     }
 
     /// Its end looks.
-    fn look(&mut self, board: &Board<W>)
+    pub(crate) fn look(&mut self, board: &Board<W>)
         requires of { self.old.of.value ≡ board.now }
         ensures of { self.new.of.value ≡ self.old.of.value }
         ensures link { self.new.link ≡ self.old.link }

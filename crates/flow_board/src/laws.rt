@@ -1,6 +1,7 @@
 //! What may go to another thread. Each law stands on a function that does nothing: whoever calls it has the whole law.
 ghost use Rattle.std.specs.Prelude.{◌≡◌, Some};
 ghost use Rattle.std.specs.Thread.{IsSend};
+ghost use Rattle.flow_value.specs.contracts.parcel.Parcel as parcel;
 ghost use Rattle.flow_value.specs.contracts.value.Value as content;
 ghost use Rattle.flow_link.specs.contracts.trace.Mark as mark;
 ghost use Rattle.flow_link.specs.contracts.trace.Outcome as outcome;
@@ -29,7 +30,7 @@ use flow_intake::Intake;
 use flow_link::{Mark, Outcome};
 use flow_outlet::Outlet;
 use flow_spread::Spread;
-use flow_value::{Runs, Value};
+use flow_value::{Parcel, Runs, Value};
 use flow_wire::{SourceEnd, TargetEnd};
 use once_cell::race::Note;
 
@@ -131,6 +132,14 @@ pub fn entries_cross<W: Runs>()
 {
     inputs_cross();
     link_ends_cross();
+    parcels_cross();
+}
+
+/// A value that is ready to be given may.
+fn parcels_cross()
+    ensures { IsSend parcel.the_row }
+{
+    crosses::<Parcel>();
 }
 
 /// So may an exit.

@@ -6,10 +6,12 @@ mod apart;
 mod at;
 mod board;
 mod close;
+mod entry;
 mod exit;
 mod frame;
 mod gathering;
 mod home;
+mod input_calls;
 mod input_task;
 mod laws;
 mod make;
@@ -27,7 +29,7 @@ mod turn;
 mod wires;
 mod words;
 
-pub use at::{ExitAt, TaskAt, WatchAt};
+pub use at::{EntryAt, ExitAt, TaskAt, WatchAt};
 pub use board::Board;
 pub use gathering::{GatherFault, gather};
 pub use laws::{

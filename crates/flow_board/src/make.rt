@@ -1,8 +1,9 @@
 //! The parts of a scattered network are made, each with its number.
-ghost use Rattle.std.specs.Prelude.{◌≡◌, ℕ, ◌<◌, ◌≤◌, ◌+◌, true, [], length, map, get_or, take, vec_capacity};
+ghost use Rattle.std.specs.Prelude.{◌≡◌, ℕ, ◌<◌, ◌≤◌, ◌+◌, true, [], length, map, get_or, drop, take, vec_capacity};
 ghost use Rattle.flow_lists.specs.Lists.{below, numbers_from};
 ghost use Rattle.flow_link.specs.Planned.{layout_of};
 ghost use Rattle.flow_block_law.specs.NodeLaw.{NodeLaw};
+ghost use Rattle.flow_core.specs.Inputs.{input_of};
 ghost use Rattle.flow_core.specs.State.{no_node, node_at};
 ghost use Rattle.flow_exec.specs.Works.{works_of};
 ghost use Rattle.flow_block.specs.Planned.{leads_out, links_out};
@@ -11,12 +12,13 @@ ghost use Rattle.flow_exit.specs.ExitKeeps.{ExitLaw};
 ghost use Rattle.flow_input.specs.Input.{no_input};
 ghost use Rattle.flow_input.specs.InputKeeps.{InputLaw};
 ghost use Rattle.flow_board.specs.Begun.{begun_in, begun_input};
+ghost use Rattle.flow_board.specs.Entries.{waits_in};
 ghost use Rattle.flow_board.specs.Exits.{exit_due};
-ghost use Rattle.flow_board.specs.Inputs.{begins_at_input, input_due, links_of_inputs};
+ghost use Rattle.flow_board.specs.Inputs.{begins_at_input, input_due, links_of_inputs, stays_open};
 ghost use Rattle.flow_board.specs.Known.{in_known, ins_due, out_known, outs_due};
 ghost use Rattle.flow_board.specs.Makes.{InputsMade};
 ghost use Rattle.flow_board.specs.Numbers.{entry_count, is_entry_number, is_exit_number, is_input_number, task_count};
-ghost use Rattle.flow_board.specs.Parts.{AllEntriesOf, AllExitsOf, AllTasksOf, AllWatchesOf, board_of, entry_number, exit_number, marks_in, task_number, watched_block};
+ghost use Rattle.flow_board.specs.Parts.{AllEntriesOf, AllExitsOf, AllTasksOf, AllWatchesOf, board_of, entry_board, entry_number, exit_number, marks_in, task_number, watched_block};
 
 use crate::board::Board;
 use crate::input_task::InputTask;
@@ -27,7 +29,7 @@ use flow_block::Node;
 use flow_exit::ExitEnd;
 use flow_input::Input;
 use flow_link::LinkId;
-use flow_value::Runs;
+use flow_value::{Parcel, Runs};
 use flow_wire::{SourceEnd, TargetEnd};
 use std::collections::VecDeque;
 use std::snapshot::Snapshot;
@@ -110,11 +112,13 @@ impl<W: Runs> Board<W> {
         &self,
         inputs: Vec<Input>,
         ends: Vec<SourceEnd>,
+        waiting: Vec<VecDeque<Parcel>>,
         first: usize,
         tasks: &mut Vec<Task<W>>,
         entries: &mut Vec<Entry<W>>,
     )
         requires first { first ≡ task_count (layout_of self.now.rest.plan) self.now.opens.items }
+        requires waiting { map (λ row. row.items) waiting.items ≡ map waits_in inputs.items }
         requires count { length inputs.items ≡ length self.now.opens.items }
         requires begun { inputs.items ≡ (begun_in self.now).inputs }
         requires laws { (q : ℕ) → q < length self.now.opens.items → ∥ InputLaw (get_or inputs.items q no_input) ∥₁ }
@@ -135,23 +139,28 @@ impl<W: Runs> Board<W> {
             (task_count (layout_of self.now.rest.plan) self.now.opens.items) (entry_count (layout_of self.now.rest.plan) self.now.opens.items) }
     {
         let mut ends = VecDeque::from_vec(ends);
+        let mut waiting = VecDeque::from_vec(waiting);
         let mut place = 0;
         for input in inputs {
             let Some(end) = ends.pop_front() else {
                 unreachable!()
             };
+            let Some(ready) = waiting.pop_front() else {
+                unreachable!()
+            };
             let part = self.make_input(self.inputs[place], input, end);
-            self.put_input(place, first, part, tasks, entries);
+            self.put_input(place, first, part, ready, tasks, entries);
             place += 1;
         }
     }
 
-    /// What is turned of an input becomes a task or an entry.
+    /// What is turned of an input becomes a task, or with the parcels of what waits there an entry.
     fn put_input(
         &self,
         place: usize,
         first: usize,
         part: InputTask<W>,
+        ready: VecDeque<Parcel>,
         tasks: &mut Vec<Task<W>>,
         entries: &mut Vec<Entry<W>>,
     )
@@ -159,6 +168,8 @@ impl<W: Runs> Board<W> {
         requires first { first ≡ task_count (layout_of self.now.rest.plan) self.now.opens.items }
         requires its { part.of.value ≡ self.now }
         requires link { part.link ≡ get_or (links_of_inputs (layout_of self.now.rest.plan)) place 0 }
+        requires begun { part.input ≡ input_of (begun_in self.now) place }
+        requires waiting { ready.items ≡ waits_in part.input }
         requires made { InputsMade self.now place tasks.old.items entries.old.items }
         requires room { task_count (layout_of self.now.rest.plan) self.now.opens.items ≤ vec_capacity tasks.old }
         requires entries_room { entry_count (layout_of self.now.rest.plan) self.now.opens.items ≤ vec_capacity entries.old }
@@ -168,26 +179,42 @@ impl<W: Runs> Board<W> {
         ensures entries_room { vec_capacity entries.new ≡ vec_capacity entries.old }
     {
         if self.opens[place] {
-            entries.push_reserved(self.make_entry(first + entries.len(), part));
+            let number = first + entries.len();
+            entries.push_reserved(self.make_entry(number, part, ready));
         } else {
             tasks.push_reserved(self.make_turned(tasks.len(), part));
         }
     }
 
-    /// An input as an entry.
-    fn make_entry(&self, number: usize, input: InputTask<W>) -> Entry<W>
+    /// An input as an entry: what was taken up to now is told no more, and these are the parcels of what waits there.
+    fn make_entry(
+        &self,
+        number: usize,
+        mut input: InputTask<W>,
+        mut ready: VecDeque<Parcel>,
+    ) -> Entry<W>
         requires its { input.of.value ≡ self.now }
         requires number { is_entry_number (layout_of self.now.rest.plan) self.now.opens.items input.link number ≡ true }
-        ensures of { result.input.of.value ≡ self.now }
+        requires begun { input.input ≡ begun_input self.now input.link }
+        requires stays_open { stays_open input.input ≡ true }
+        requires waiting { ready.items ≡ drop input.input.sent input.input.posted }
+        ensures of { entry_board result ≡ self.now }
         ensures number { entry_number result ≡ number }
     {
-        Entry { number, input }
+        input.pass_taken();
+        input.put_first(&mut ready);
+        Entry {
+            number,
+            input,
+            ready,
+        }
     }
 
     /// An input as a task.
     fn make_turned(&self, number: usize, input: InputTask<W>) -> Task<W>
         requires its { input.of.value ≡ self.now }
         requires number { is_input_number (layout_of self.now.rest.plan) self.now.opens.items input.link number ≡ true }
+        requires begun { input.input ≡ begun_input self.now input.link }
         ensures of { board_of result ≡ self.now }
         ensures number { task_number result ≡ number }
     {
@@ -203,9 +230,9 @@ impl<W: Runs> Board<W> {
         requires begins { begins_at_input (layout_of self.now.rest.plan) link ≡ true }
         requires law { ∥ InputLaw input ∥₁ }
         requires known { out_known out ≡ input_due (layout_of self.now.rest.plan) self.now.wires.items link input }
-        requires begun { input ≡ begun_input self.now link }
         ensures of { result.of.value ≡ self.now }
         ensures link { result.link ≡ link }
+        ensures input { result.input ≡ input }
     {
         InputTask {
             of: Snapshot::of(self),

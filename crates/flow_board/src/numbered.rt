@@ -6,7 +6,9 @@ ghost use Rattle.flow_value.specs.contracts.value.Value as content;
 ghost use Rattle.flow_link.specs.Planned.{layout_of};
 ghost use Rattle.flow_block.specs.Planned.{leads_out};
 ghost use Rattle.flow_exit.specs.ExitKeeps.{ExitLaw};
+ghost use Rattle.flow_board.specs.Begun.{begun_input};
 ghost use Rattle.flow_board.specs.Cells.{IsNoteOf};
+ghost use Rattle.flow_board.specs.Entries.{EntryLaw};
 ghost use Rattle.flow_board.specs.Exits.{exit_due};
 ghost use Rattle.flow_board.specs.Known.{in_known};
 ghost use Rattle.flow_board.specs.Numbers.{is_entry_number, is_exit_number};
@@ -18,10 +20,11 @@ use crate::task::BlockTask;
 use flow_exit::ExitEnd;
 use flow_link::{LinkId, Mark, Outcome};
 use flow_poll::Turned;
-use flow_value::Runs;
+use flow_value::{Parcel, Runs};
 use flow_wire::TargetEnd;
 use once_cell::race::Note;
 use std::alloc::{AllocError, Global};
+use std::collections::VecDeque;
 use std::snapshot::Snapshot;
 
 /// What a thread turns: a block, or an input that posts what it has and ends.
@@ -95,7 +98,10 @@ impl<W: Runs> Task<W> {
 pub struct Entry<W: Runs> {
     pub(crate) number: usize,
     pub(crate) input: InputTask<W>,
+    /// The parcels of the values that wait behind the next one, since before the network was scattered.
+    pub(crate) ready: VecDeque<Parcel>,
     ghost numbered: { is_entry_number (layout_of input.of.value.rest.plan) input.of.value.opens.items input.link number ≡ true },
+    ghost law: { ∥ EntryLaw (begun_input input.of.value input.link) input.input ready.items ∥₁ },
 }
 
 /// The end of a link that leads out of the network: callers receive what comes there.

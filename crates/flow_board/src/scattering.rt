@@ -14,6 +14,7 @@ ghost use Rattle.flow_exit.specs.Exit.{fresh_exit};
 ghost use Rattle.flow_input.specs.Input.{no_input};
 ghost use Rattle.flow_board.specs.Absent.{AllThere};
 ghost use Rattle.flow_board.specs.Begun.{begun_in};
+ghost use Rattle.flow_board.specs.Entries.{waits_in};
 ghost use Rattle.flow_board.specs.Exits.{exit_due};
 ghost use Rattle.flow_board.specs.Frames.{IsRoomFor};
 ghost use Rattle.flow_board.specs.Inputs.{input_due, links_of_inputs};
@@ -34,8 +35,9 @@ use flow_block::Node;
 use flow_exit::ExitEnd;
 use flow_input::Input;
 use flow_net::{Net, NetParts};
-use flow_value::Runs;
+use flow_value::{Parcel, Runs};
 use std::alloc::{AllocError, Global};
+use std::collections::VecDeque;
 use std::mem::replace;
 use std::snapshot::Snapshot;
 
@@ -136,6 +138,7 @@ impl<W: Runs> Board<W> {
         lists: Lists,
         sources: Sources,
         targets: Targets,
+        waiting: Vec<VecDeque<Parcel>>,
         room: Room<W>,
     ) -> Scattered<W>
         requires in_order { AreInOrder (layout_of self.rest.plan) (works_of W.meaning (layout_of self.rest.plan)) lists.nodes.items
@@ -151,6 +154,7 @@ impl<W: Runs> Board<W> {
         requires exits { map in_known targets.exits.items ≡ map (λ k. exit_due (layout_of self.rest.plan) self.wires.items
             (get_or (links_out (layout_of self.rest.plan)) k 0) (get_or lists.exits.items k fresh_exit))
             (below (length (links_out (layout_of self.rest.plan)))) }
+        requires waiting { map (λ row. row.items) waiting.items ≡ map waits_in lists.inputs.items }
         requires no_task { room.tasks.items ≡ [] }
         requires no_entry { room.entries.items ≡ [] }
         requires no_exit { room.exits.items ≡ [] }
@@ -182,6 +186,7 @@ impl<W: Runs> Board<W> {
         self.make_inputs(
             lists.inputs,
             sources.inputs,
+            waiting,
             first,
             &mut tasks,
             &mut entries,
@@ -239,6 +244,7 @@ impl<W: Runs> Frame<W> {
             inputs,
             outs,
             opens,
+            waiting,
             cells,
         } = self;
         let Wired {
@@ -264,7 +270,7 @@ impl<W: Runs> Frame<W> {
             exits,
             watches,
         };
-        board.make_parts(lists, sources, targets, room)
+        board.make_parts(lists, sources, targets, waiting, room)
     }
 }
 

@@ -2,9 +2,9 @@
 ghost use Rattle.std.specs.Prelude.{◌≡◌, true, false, is_some, None, Some};
 ghost use Rattle.flow_outlet.specs.End.{id_of};
 ghost use Rattle.flow_board.specs.Known.{out_known, in_known};
-ghost use Rattle.flow_link.specs.Moves.{withdrawing};
+ghost use Rattle.flow_link.specs.Moves.{posting, withdrawing};
 ghost use Rattle.flow_core.specs.MovesFit.{has_arrived};
-ghost use Rattle.flow_board.specs.Words.{MayMoveOut, MayWithdraw, MayMoveIn, Stands, moved_out, moved_in, opened_so, header_of};
+ghost use Rattle.flow_board.specs.Words.{MayMoveOut, MayOffer, MayWithdraw, MayMoveIn, Stands, moved_out, moved_in, opened_so, header_of};
 ghost use Rattle.flow_board.specs.Words.{is_withdrawal, is_late, may_be_forestalled, opens};
 
 use flow_link::{Move, Refusal, SourceStage, TargetStage};
@@ -113,6 +113,15 @@ pub(crate) fn write_source(
         | Move::Open
         | Move::Close => unreachable!(),
     }
+}
+
+/// The source's end of a link posts a message, which the target takes now or not at all.
+pub(crate) fn post(end: &mut SourceEnd, wire: &Wire, header: MessageHeader)
+    requires table { end.old.table ≡ wire.now }
+    requires may { MayOffer end.old.side.facts header end.old.side.view }
+    ensures { out_known end.new ≡ record (out_known end.old) { view = posting header end.old.side.view } }
+{
+    end.post(wire, header);
 }
 
 /// The source's end of a link takes back the offer of this header, which it has seen postponed. False where the target moved first:

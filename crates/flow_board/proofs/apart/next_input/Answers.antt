@@ -1,9 +1,11 @@
-use Rattle.std.proofs.Common.{◌≡◌, List, not, true, false, sym, ap, ◌∙◌, subst, arith}
+use Rattle.std.proofs.Common.{◌≡◌, Bool, List, refl, not, true, false, sym, ap, ◌∙◌, subst, arith}
 use Rattle.std.proofs.lemmas.List.{get_or_default}
 use Rattle.flow_link.specs.Planned.{layout_of}
-use Rattle.flow_board.specs.Lefts.{InputsLeft}
+use Rattle.flow_board.specs.Kinds.{BeginsBy}
+use Rattle.flow_board.specs.Lefts.{InputsLeft, IsTakenFrom}
 use Rattle.flow_board.specs.Numbers.{is_open}
 use Rattle.flow_board.specs.declared.numbered.Entry.{Entry}
+use Rattle.flow_board.specs.declared.numbered.Kind.{Kind}
 use Rattle.flow_board.specs.declared.numbered.Task.{Task}
 use Rattle.flow_board.proofs.InputsLeft.{entry_is, entry_taken, entry_there, never_block, task_is, task_taken, task_there}
 use Rattle.flow_board.proofs.apart.next_input.Goals as goal
@@ -84,3 +86,24 @@ returns-clause-left g c =
     get_or_default opens place false c.index.result.now c.requires.there ∙ sym c.index.ensures ∙ c.if-index.false in
     task_taken board place c.pop_front-2.new.self.items entries (ap not shut) c.in-Some-pop_front.field-0
     (subst (λ (tasks : List (Task _ _ _)). InputsLeft board place tasks entries) c.in-Some-pop_front.ensures.items c.requires.left) shut
+
+pub returns-then-index-clause-from : goal.returns-then-index-clause-from
+returns-then-index-clause-from g c =
+    let board = c.args.board.now in
+    let opens = board.opens.items in
+    let place = c.args.place in
+    let opened : is_open (layout_of board.rest.plan) opens place ≡ true =
+    get_or_default opens place false c.index.result.now c.requires.there ∙ sym c.index.ensures ∙ c.if-index.true in
+    subst (λ (so : Bool). IsTakenFrom so c.in-Some.field-0.input c.args.entries.now.items c.pop_front.new.self.items) (sym opened)
+    (c.in-Some.field-0, (c.in-Some.ensures.items, refl))
+
+pub returns-clause-from : goal.returns-clause-from
+returns-clause-from g c =
+    let board = c.args.board.now in
+    let opens = board.opens.items in
+    let place = c.args.place in
+    let entries = c.args.entries.now.items in
+    let shut : is_open (layout_of board.rest.plan) opens place ≡ false =
+    get_or_default opens place false c.index.result.now c.requires.there ∙ sym c.index.ensures ∙ c.if-index.false in
+    subst (λ (so : Bool). IsTakenFrom so c.in-Input.input entries entries) (sym shut)
+    (refl, subst (λ (kind : Kind _ _ _). ∥ BeginsBy kind ∥₁) c.in-Input.is c.in-Some-pop_front.field-0.begins)

@@ -1,10 +1,10 @@
-use Rattle.std.proofs.Common.{sym, subst}
-use Rattle.flow_core.specs.Inputs.{InputsStay}
+use Rattle.std.proofs.Common.{All, sym, subst}
+use Rattle.std.proofs.lemmas.List.Sorted.{All-permutation, IsPermutation-sym}
 use Rattle.flow_net.specs.Net.{parts_of}
-use Rattle.flow_board.specs.Begun.{JournalsGoOn, begun_in}
+use Rattle.flow_board.specs.Begun.{ClosedInputsStay, JournalsGoOn}
+use Rattle.flow_board.specs.Gathers.{EntryIsKept, ExitIsKept}
 use Rattle.flow_board.specs.Parts.{AllEntriesOf, AllExitsOf, AllTasksOf}
 use Rattle.flow_board.specs.declared.board.Board.{Board}
-use Rattle.flow_board.proofs.InputsStayed.{closed_stay}
 use Rattle.flow_board.proofs.gathering.gather.Goals as goal
 
 pub first_missing-requires-clause-tasks_of : goal.first_missing-requires-clause-tasks_of
@@ -43,9 +43,22 @@ returns-in-Ok-clause-go_on g c =
 
 pub returns-in-Ok-clause-posted : goal.returns-in-Ok-clause-posted
 returns-in-Ok-clause-posted g c =
-    closed_stay c.args.parts.board (parts_of c.fill.result)
-    (subst (λ (board : Board _). InputsStay (begun_in board) (parts_of c.fill.result)) c.sort.ensures.board c.fill.ensures.inputs_stay)
+    subst (λ (board : Board _). ClosedInputsStay board (parts_of c.fill.result)) c.sort.ensures.board c.fill.ensures.posted
 
-pub returns-in-Ok-clause-inputs_stay : goal.returns-in-Ok-clause-inputs_stay
-returns-in-Ok-clause-inputs_stay g c =
-    subst (λ (board : Board _). InputsStay (begun_in board) (parts_of c.fill.result)) c.sort.ensures.board c.fill.ensures.inputs_stay
+pub returns-in-Ok-clause-entries : goal.returns-in-Ok-clause-entries
+returns-in-Ok-clause-entries g c =
+    let net = parts_of c.fill.result in
+    let board = c.args.parts.board in
+    let sorted = c.sort.new.self.entries.items in
+    All-permutation (λ entry. EntryIsKept g.W.Runs.meaning board net entry) sorted c.args.parts.entries.items
+    (IsPermutation-sym c.args.parts.entries.items sorted c.sort.ensures.entries)
+    (subst (λ (its : Board _). All (λ entry. EntryIsKept g.W.Runs.meaning its net entry) sorted) c.sort.ensures.board c.fill.ensures.entries)
+
+pub returns-in-Ok-clause-exits : goal.returns-in-Ok-clause-exits
+returns-in-Ok-clause-exits g c =
+    let net = parts_of c.fill.result in
+    let board = c.args.parts.board in
+    let sorted = c.sort.new.self.exits.items in
+    All-permutation (λ exit. ExitIsKept g.W.Runs.meaning board net exit) sorted c.args.parts.exits.items
+    (IsPermutation-sym c.args.parts.exits.items sorted c.sort.ensures.exits)
+    (subst (λ (its : Board _). All (λ exit. ExitIsKept g.W.Runs.meaning its net exit) sorted) c.sort.ensures.board c.fill.ensures.exits)

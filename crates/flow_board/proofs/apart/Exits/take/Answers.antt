@@ -12,7 +12,8 @@ use Rattle.flow_board.specs.Parts.{AllExitsOf, exit_number}
 use Rattle.flow_board.specs.declared.board.Board.{Board}
 use Rattle.flow_board.specs.declared.numbered.Exit.{Exit}
 use Rattle.flow_board.proofs.AllExits.{its_board}
-use Rattle.flow_board.proofs.ExitsApart.{ExitsTaken, due_at, exit_link, exit_more, number_there}
+use Rattle.flow_board.proofs.ExitsApart.{ExitsTaken, due_at, exit_at_place, exit_link, exit_more, number_there}
+use Rattle.flow_board.proofs.PartsTaken.{ExitsBelow, all_exits_taken, exits_more}
 use Rattle.flow_board.proofs.Places.{count_is}
 use Rattle.flow_board.proofs.TakenApart.{count_left, known_there}
 use Rattle.flow_board.proofs.apart.Exits.take.Goals as goal
@@ -58,6 +59,11 @@ loop-exit-preserved g c =
           (exit_more layout wires k c.loop-exit.self.exits.items c.loop-exit.self.ends.items i.taken exit.exit exit.end
           c.push_reserved.new.self.items c.push_reserved-in-loop-exit.new.self.items c.push_reserved.ensures.items
           c.push_reserved-in-loop-exit.ensures.items exit.law knows);
+      at = subst (λ (n : ℕ). ExitsBelow board n c.push_reserved.new.self.items (before ++ exit ∷ [])) (sym (length_push before exit))
+          (exits_more board k c.loop-exit.self.exits.items c.push_reserved.new.self.items before exit i.at i.taken.count
+          (exit_at_place layout opens exit.link exit.number k number
+          (subst (λ (b : Board _). is_exit_number (layout_of b.rest.plan) b.opens.items exit.link exit.number ≡ true) its exit.numbered))
+          c.push_reserved.ensures.items);
       room = subst (λ (cap : ℕ). length c.args.exits.items ≤ cap) (sym c.push_reserved.ensures.capacity) i.room;
       ends_room = subst (λ (cap : ℕ). length c.args.exits.items ≤ cap) (sym c.push_reserved-in-loop-exit.ensures.capacity) i.ends_room;
     }
@@ -87,3 +93,11 @@ returns-clause-ends g c =
     ∙ count_left exit_number c.args.exits.items (task_count layout opens + entry_count layout opens) (length (links_out layout)) c.requires.numbers in
     i.taken.ends_know
     ∙ ap (λ (n : ℕ). map (λ j. due_at layout board.wires.items (get_or c.loop-exit.self.exits.items j fresh_exit) j) (below n)) many
+
+pub returns-clause-exits : goal.returns-clause-exits
+returns-clause-exits g c =
+    let i = c.loop-exit.invariant in
+    let left : into_iter_items c.loop-exit.exit-iterator ≡ [] =
+    nil_from_length (into_iter_items c.loop-exit.exit-iterator) (sym c.loop-exit.exit-iterator.rest.ok.0 ∙ c.in-None.ensures.steps.0) in
+    let all = i.parts ∙ ap (λ (more : List (Exit _ _ _)). c.loop-exit.yielded ++ more) left ∙ append-nil c.loop-exit.yielded in
+    all_exits_taken c.args.board.now (length c.loop-exit.yielded) c.loop-exit.self.exits.items c.args.exits.items c.loop-exit.yielded all i.at

@@ -1,19 +1,15 @@
-use Rattle.std.proofs.Common.{◌≡◌, ℕ, ◌<◌, get_or, refl, sym, ap, ◌∙◌, subst, arith}
+use Rattle.std.proofs.Common.{◌≡◌, ℕ, ◌<◌, length, get_or, refl, sym, ap, ◌∙◌, subst, arith}
 use Rattle.flow_link.specs.LinkOk.{LinkOk}
 use Rattle.flow_link.specs.Plan.{link_in}
 use Rattle.flow_link.specs.Planned.{layout_of}
 use Rattle.flow_wire.specs.Ends.{Start}
-use Rattle.flow_core.proofs.InputsChange.{all_further}
+use Rattle.flow_core.specs.InOrder.{all_looked}
 use Rattle.flow_exec.specs.Works.{works_of}
-use Rattle.flow_core.specs.State.{NetState}
-use Rattle.flow_net.specs.Net.{parts_of}
-use Rattle.flow_board.specs.Begun.{begun_in}
 use Rattle.flow_board.specs.Dealt.{exits_dealt, inputs_dealt, ins_dealt, outs_dealt}
 use Rattle.flow_board.specs.Known.{source_due, target_due}
 use Rattle.flow_board.specs.Orders.{AreInOrder}
 use Rattle.flow_board.specs.Wired.{idle, starts_of}
 use Rattle.flow_board.proofs.EndsByPlace.{all_exits, all_inputs, all_ins, all_outs}
-use Rattle.flow_board.proofs.InputsStayed.{stay_into}
 use Rattle.flow_board.proofs.Orders.{in_order}
 use Rattle.flow_board.proofs.Scatters.{moved, source_home, starts_same}
 use Rattle.flow_board.proofs.board.Board.join.Goals as goal
@@ -33,7 +29,7 @@ close_all-requires g c κs within =
     ∙ ap (λ (n : ℕ). ins_dealt layout (target_due layout wires g.net) n) (sym many) in
     let posted = c.requires.1.1.1.1.1.1.1.0 ∙ sym (all_inputs layout wires g.net board.rest.plan.laid_out)
     ∙ ap (λ (n : ℕ). inputs_dealt layout (source_due layout wires g.net) n) (sym many) in
-    let received = c.requires.1.1.1.1.1.1.1.1.0 ∙ sym (all_exits layout wires g.net)
+    let received = c.requires.1.1.1.1.1.1.1.1 ∙ sym (all_exits layout wires g.net)
     ∙ ap (λ (n : ℕ). exits_dealt layout (target_due layout wires g.net) n) (sym many) in (
       within,
       (
@@ -77,14 +73,17 @@ join-requires g c =
     subst (λ (start : Start). LinkOk start.facts (get_or lines l idle).phase (get_or lines l idle).slot start.source start.target)
     (same l) (c.close_all.ensures.closed l (subst (λ (k : ℕ). l < k) (sym board.wired) small)))
 
-pub returns-clause-inputs_stay : goal.returns-clause-inputs_stay
-returns-clause-inputs_stay g c =
-    let board = c.args.self in
-    let begun = begun_in board in
-    let mid : NetState = record {
-      nodes = c.args.blocks.nodes.items;
-      inputs = c.args.inputs.inputs.items;
-      exits = c.args.exits.exits.items;
-      lines = c.close_all.new.lines.items;
-    } in
-    all_further begun mid (parts_of c.join.result) (stay_into begun g.net mid c.requires.1.1.0 c.requires.1.1.1.1.1.1.1.1.1) c.join.ensures.inputs_stay
+pub returns-clause-looked : goal.returns-clause-looked
+returns-clause-looked g c =
+    let layout = layout_of c.args.self.rest.plan in
+    let lines = c.close_all.new.lines.items in (
+      lines,
+      c.join.ensures.looked
+          ∙ moved
+          (λ plan nodes inputs exits. all_looked (layout_of plan) (works_of g.W.Runs.meaning (layout_of plan)) (length (layout_of plan).links)
+          (record { nodes = c.args.blocks.nodes.items; inputs = c.args.inputs.inputs.items; exits = c.args.exits.exits.items; lines = lines })
+          ≡ all_looked (layout_of plan) (works_of g.W.Runs.meaning (layout_of plan)) (length (layout_of plan).links)
+          (record { nodes = nodes; inputs = inputs; exits = exits; lines = lines }))
+          c.args.self.rest.plan c.args.self.rest.plan c.args.blocks.nodes.items g.net.nodes c.args.inputs.inputs.items g.net.inputs
+          c.args.exits.exits.items g.net.exits refl (sym c.requires.1.0) (sym c.requires.1.1.0) (sym c.requires.1.1.1.0) refl,
+    )

@@ -8,7 +8,7 @@ abbrev pub invariant-loop-input : goal.invariant-loop-input
 invariant-loop-input g l =
     (l.fn.inputs.items ≡ l.yielded ++ into_iter_items l.input-iterator)
     × ((l.place ≡ length l.yielded)
-    × ((l.ends.items ≡ drop l.place l.fn.ends.items)
+    × (((l.ends.items ≡ drop l.place l.fn.ends.items) × (l.waiting.items ≡ drop l.place l.fn.waiting.items))
     × (InputsMade l.fn.self l.place l.tasks.items l.entries.items
     × ((take (length l.fn.tasks.items) l.tasks.items ≡ l.fn.tasks.items)
     × ((length l.fn.tasks.items ≤ length l.tasks.items)

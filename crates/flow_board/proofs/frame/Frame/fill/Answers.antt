@@ -10,6 +10,7 @@ use Rattle.flow_exec.specs.Works.{works_of}
 use Rattle.flow_exit.specs.Exit.{ExitState, fresh_exit}
 use Rattle.flow_input.specs.Input.{InputState, no_input}
 use Rattle.flow_board.specs.Dealt.{exits_dealt, inputs_dealt, ins_dealt, outs_dealt}
+use Rattle.flow_board.specs.Entries.{waits_in}
 use Rattle.flow_board.specs.Exits.{exit_due}
 use Rattle.flow_board.specs.Inputs.{input_due, links_of_inputs, stays_open}
 use Rattle.flow_board.specs.Known.{in_known, ins_due, out_known, outs_due, source_due, target_due}
@@ -141,6 +142,10 @@ make_parts-requires-clause-exits g c =
     (c.requires.1.1.1.0 ∙ sym c.take_lists-lists.ensures.exits)
     ∙ ap (λ (p : Plan _). map (λ k. exit_due (layout_of p) wires (get_or (links_out (layout_of p)) k 0) (get_or c.take_lists-lists.result.exits.items k fresh_exit)) (below (length (links_out (layout_of p)))))
     (sym c.take_lists-lists.ensures.plan)
+
+pub make_parts-requires-clause-waiting : goal.make_parts-requires-clause-waiting
+make_parts-requires-clause-waiting g c =
+    c.requires.1.1.1.1.1.0.waiting ∙ ap (map waits_in) (c.requires.1.1.0 ∙ sym c.take_lists-lists.ensures.inputs)
 
 pub make_parts-requires-clause-nodes_begun : goal.make_parts-requires-clause-nodes_begun
 make_parts-requires-clause-nodes_begun g c =

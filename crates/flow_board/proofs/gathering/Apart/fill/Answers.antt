@@ -1,21 +1,32 @@
-use Rattle.std.proofs.Common.{◌≡◌, ℕ, ◌+◌, List, [], length, map, drop, take, get_or, refl, sym, ap, ◌∙◌, subst, arith}
-use Rattle.std.proofs.lemmas.List.{length-map}
+use Rattle.std.proofs.Common.{◌≡◌, ℕ, ◌+◌, All, List, [], length, map, drop, slice_index_or, take, get_or, refl, sym, ap, ◌∙◌, subst, arith}
+use Rattle.std.proofs.Math.Logic.{∥∥₁_map}
 use Rattle.std.proofs.Math.ListN.{get_or-map}
 use Rattle.flow_lists.specs.Lists.{below, numbers_from}
+use Rattle.flow_link.specs.Layout.{Layout}
 use Rattle.flow_link.specs.Planned.{layout_of}
 use Rattle.flow_link.specs.declared.trace.Mark.{Mark}
 use Rattle.flow_block.specs.Node.{NodeState}
-use Rattle.flow_core.specs.State.{no_node}
+use Rattle.flow_core.specs.Inputs.{input_of}
+use Rattle.flow_core.specs.Keeps.{NetKeeps}
+use Rattle.flow_core.specs.State.{NetState, no_node}
+use Rattle.flow_exec.specs.Works.{works_of}
+use Rattle.flow_input.proofs.PostedKept.{posted_is_kept}
 use Rattle.flow_input.specs.Input.{no_input}
 use Rattle.flow_net.specs.Net.{parts_of}
 use Rattle.flow_poll.specs.Turns.{Extends}
 use Rattle.flow_board.specs.Begun.{begun_in, begun_journal}
-use Rattle.flow_board.specs.Inputs.{input_due, links_of_inputs, stays_open}
+use Rattle.flow_board.specs.Events.{HasLooked, InputLooks}
+use Rattle.flow_board.specs.Inputs.{input_due, links_of_inputs}
+use Rattle.flow_board.specs.Lefts.{EntryIsAt}
 use Rattle.flow_board.specs.Numbers.{closed_before, task_count}
 use Rattle.flow_board.specs.Parts.{AllTasksOf, marks_in, task_number}
-use Rattle.flow_board.proofs.InputsStayed.{all_stay}
+use Rattle.flow_board.specs.declared.numbered.Entry.{Entry}
+use Rattle.flow_board.proofs.AllLooked.{input_looked}
+use Rattle.flow_board.proofs.InputsStayed.{closed_stay, looked_stays}
 use Rattle.flow_board.proofs.JournalsBegin.{journals_begin}
 use Rattle.flow_board.proofs.Makes.{numbers_behind, tasks_behind}
+use Rattle.flow_board.proofs.PartsKept.{entry_kept, exit_kept}
+use Rattle.flow_board.proofs.Reordered.{each_entry, each_exit}
 use Rattle.flow_board.proofs.gathering.Apart.fill.Goals as goal
 
 pub take-requires-2-clause-of : goal.take-requires-2-clause-of
@@ -41,10 +52,7 @@ join-requires g c κs within =
     let layout = layout_of board.rest.plan in
     let wires = board.wires.items in
     let told = board.told ∙ ap length board.inputs_are in
-    let inputs = c.take-2.new.self.inputs.items in
-    let opened = sym (length-map board.begun.value.inputs.items stays_open) ∙ ap length (sym board.opens_are) in
-    let stay = all_stay (begun_in board) (record { nodes = c.take.new.self.nodes.items; inputs = inputs; exits = c.take-3.new.self.exits.items; lines = board.rest.lines.items })
-    (length board.opens.items) opened c.take-2.ensures.count c.take-2.ensures.posted in (
+    let inputs = c.take-2.new.self.inputs.items in (
       within,
       (
         refl,
@@ -68,7 +76,7 @@ join-requires g c κs within =
                   (
                     c.take-2.ensures.ends
                         ∙ ap (λ (n : ℕ). map (λ q. input_due layout wires (get_or (links_of_inputs layout) q 0) (get_or inputs q no_input)) (below n)) told,
-                    (c.take-3.ensures.ends, stay),
+                    c.take-3.ensures.ends,
                   ),
                 ),
               ),
@@ -94,3 +102,59 @@ returns-clause-go_on g c = λ b small.
     subst (Extends (begun_journal board b)) (sym here)
     (subst (λ (k : ℕ). Extends (begun_journal board k) (get_or (map marks_in (take blocks tasks)) b [])) none
     (journals_begin board tasks blocks all 0 b c.requires.tasks_of c.requires.there.tasks_are small (omega (arith, small)) (omega (arith, small))))
+
+pub returns-clause-posted : goal.returns-clause-posted
+returns-clause-posted g c =
+    let board = c.args.parts.board in
+    let layout = layout_of board.rest.plan in
+    let inputs = c.take-2.new.self.inputs.items in
+    let net = parts_of c.join.result in
+    let looked = c.join.ensures.looked in
+    let start : NetState = record {
+      nodes = c.take.new.self.nodes.items;
+      inputs = inputs;
+      exits = c.take-3.new.self.exits.items;
+      lines = looked.0;
+    } in
+    closed_stay board net (λ q low shut.
+    ∥∥₁_map (c.take-2.ensures.posted q low shut) (λ stays.
+    posted_is_kept.further (input_of (begun_in board) q) (input_of start q) (input_of net q) stays
+    (looked_stays (input_of start q) (input_of net q)
+    (subst (λ (state : NetState). HasLooked InputLooks (input_of start q) (input_of state q)) (sym looked.1)
+    (input_looked layout (works_of g.W.Runs.meaning layout) (length layout.links) start q)))))
+
+pub returns-clause-entries : goal.returns-clause-entries
+returns-clause-entries g c =
+    let board = c.args.parts.board in
+    let net = c.join.result in
+    let entries = c.args.parts.entries.items in
+    let kept = subst (λ (lay : Layout _). ∥ NetKeeps lay (works_of g.W.Runs.meaning lay) (parts_of net) ∥₁) c.join.ensures.same_layout net.kept in
+    let mid : NetState = record {
+      nodes = c.take.new.self.nodes.items;
+      inputs = c.take-2.new.self.inputs.items;
+      exits = c.take-3.new.self.exits.items;
+      lines = board.rest.lines.items;
+    } in
+    let at = subst (λ (all : List (Entry _ _ _)). All (λ entry. EntryIsAt board mid.inputs entry) all) c.from_vec-entries.ensures.items
+    c.take-2.ensures.entries in
+    λ k d low.
+    let entry = slice_index_or entries k d in
+    entry_kept g.W.Runs.meaning board (parts_of net) mid kept c.join.ensures.looked entry
+    (each_entry board entries c.requires.entries_of k d low) (at k d low)
+
+pub returns-clause-exits : goal.returns-clause-exits
+returns-clause-exits g c =
+    let board = c.args.parts.board in
+    let net = c.join.result in
+    let exits = c.args.parts.exits.items in
+    let kept = subst (λ (lay : Layout _). ∥ NetKeeps lay (works_of g.W.Runs.meaning lay) (parts_of net) ∥₁) c.join.ensures.same_layout net.kept in
+    let mid : NetState = record {
+      nodes = c.take.new.self.nodes.items;
+      inputs = c.take-2.new.self.inputs.items;
+      exits = c.take-3.new.self.exits.items;
+      lines = board.rest.lines.items;
+    } in
+    λ k d low.
+    let exit = slice_index_or exits k d in
+    exit_kept g.W.Runs.meaning board (parts_of net) mid kept c.join.ensures.looked exit
+    (each_exit board exits c.requires.exits_of k d low) (c.take-3.ensures.exits k d low)

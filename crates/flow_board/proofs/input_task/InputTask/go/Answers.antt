@@ -4,16 +4,14 @@ use Rattle.flow_link.specs.Facts.{facts_in}
 use Rattle.flow_link.specs.Planned.{layout_of}
 use Rattle.flow_outlet.specs.End.{id_of}
 use Rattle.flow_input.specs.Input.{InputState, input_view}
-use Rattle.flow_input.specs.InputKeeps.{InputLaw, PostedStays}
+use Rattle.flow_input.specs.InputKeeps.{InputLaw}
 use Rattle.flow_moves.proofs.PlansRun.{plan_runs}
-use Rattle.flow_board.specs.Begun.{begun_input}
 use Rattle.flow_board.specs.Inputs.{input_due}
 use Rattle.flow_board.specs.Known.{OutKnown, out_known}
 use Rattle.flow_board.specs.Words.{MayMoveOut, moved_out}
 use Rattle.flow_board.specs.declared.board.Board.{Board}
 use Rattle.flow_board.proofs.InputSteps.{move_law, move_knows, move_may, move_ready}
 use Rattle.flow_board.proofs.InputTells.{ready_is_own}
-use Rattle.flow_board.proofs.InputsStayed.{stays_moved}
 use Rattle.flow_board.proofs.Places.{found_low, found_there}
 use Rattle.flow_board.proofs.TaskSteps.{out_knows}
 use Rattle.flow_board.proofs.input_task.InputTask.go.Goals as goal
@@ -84,8 +82,6 @@ invariant_of-self-2 g c =
       begins = s.begins;
       law = subst (λ (input : InputState). ∥ InputLaw input ∥₁) (sym is)
           (move_law layout run wires s.link s.there s.begins s.input s.law next c.requires.next);
-      posted = subst (λ (input : InputState). ∥ PostedStays (begun_input s.of.value s.link) input ∥₁) (sym is)
-          (stays_moved next (begun_input s.of.value s.link) s.input s.posted);
       knows = move_knows layout run wires s.link s.there s.begins s.input s.law next c.requires.next (out_known c.write_source.new.end)
           (c.write_source.ensures
           ∙ ap (λ (known : OutKnown). out_knows (moved_out next c.in_ok-given.given known.view) known) s.knows

@@ -2,14 +2,12 @@ use Rattle.std.proofs.Common.{◌≡◌, ◌<◌, slice_index_or, vec_len, ap, s
 use Rattle.flow_link.specs.Looks.{looking_out}
 use Rattle.flow_link.specs.Planned.{layout_of}
 use Rattle.flow_input.specs.Input.{InputState}
-use Rattle.flow_input.specs.InputKeeps.{InputLaw, PostedStays}
+use Rattle.flow_input.specs.InputKeeps.{InputLaw}
 use Rattle.flow_moves.proofs.PlansRun.{plan_runs}
-use Rattle.flow_board.specs.Begun.{begun_input}
 use Rattle.flow_board.specs.Inputs.{input_due}
 use Rattle.flow_board.specs.Known.{OutKnown, out_known}
 use Rattle.flow_board.specs.declared.board.Board.{Board}
 use Rattle.flow_board.proofs.InputSteps.{look_law, look_knows}
-use Rattle.flow_board.proofs.InputsStayed.{stays_looked}
 use Rattle.flow_board.proofs.Places.{found_low, found_there}
 use Rattle.flow_board.proofs.TaskSteps.{out_knows}
 use Rattle.flow_board.proofs.input_task.InputTask.look.Goals as goal
@@ -43,8 +41,6 @@ invariant_of-self g c =
       there = s.there;
       begins = s.begins;
       law = subst (λ (input : InputState). ∥ InputLaw input ∥₁) (sym is) (look_law layout run wires s.link s.there s.begins s.input s.law phase);
-      posted = subst (λ (input : InputState). ∥ PostedStays (begun_input s.of.value s.link) input ∥₁) (sym is)
-          (stays_looked phase (begun_input s.of.value s.link) s.input s.posted);
       knows = look_knows layout run wires s.link s.there s.begins s.input s.law phase (out_known c.look-phase.new.self)
           (ap out_known c.look-phase.ensures.end ∙ ap (λ (known : OutKnown). out_knows (looking_out phase known.view) known) s.knows)
           ∙ ap (input_due layout wires s.link) (sym is);
