@@ -4,7 +4,6 @@ ghost use Rattle.flow_value.specs.declared.value.Value.{Value};
 ghost use Rattle.flow_link.specs.declared.phase.Phase.{Phase};
 ghost use Rattle.flow_link.specs.declared.phase.Move.TheVariants.{Consume, Open};
 ghost use Rattle.flow_board.specs.Exits.{ExitGoes, StepsBy, answers_plainly};
-ghost use Rattle.flow_link.specs.Planned.{layout_of};
 ghost use Rattle.flow_exit.specs.Exit.{ExitCall, after_exit, exit_after, exit_call, exit_move};
 ghost use Rattle.flow_exit.specs.ExitKeeps.{MayMoveExit};
 ghost use Rattle.flow_poll.specs.Receives.{Gives, StaysOver, is_in_sight};

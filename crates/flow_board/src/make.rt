@@ -18,7 +18,7 @@ ghost use Rattle.flow_board.specs.Inputs.{begins_at_input, input_due, links_of_i
 ghost use Rattle.flow_board.specs.Known.{in_known, ins_due, out_known, outs_due};
 ghost use Rattle.flow_board.specs.Makes.{InputsMade};
 ghost use Rattle.flow_board.specs.Numbers.{entry_count, is_entry_number, is_exit_number, is_input_number, task_count};
-ghost use Rattle.flow_board.specs.Parts.{AllEntriesOf, AllExitsOf, AllTasksOf, AllWatchesOf, board_of, entry_board, entry_number, exit_number, marks_in, task_number, watched_block};
+ghost use Rattle.flow_board.specs.Parts.{AllEntriesOf, AllExitsOf, AllTasksOf, AllWatchesOf, board_of, entry_board, entry_number, exit_number, exit_state, marks_in, task_number, watched_block};
 
 use crate::board::Board;
 use crate::input_task::InputTask;
@@ -289,6 +289,7 @@ impl<W: Runs> Board<W> {
         ensures numbers { map exit_number exits.new.items ≡ numbers_from (task_count (layout_of self.now.rest.plan)
             self.now.opens.items + entry_count (layout_of self.now.rest.plan) self.now.opens.items)
             (length (links_out (layout_of self.now.rest.plan))) }
+        ensures states { map exit_state exits.new.items ≡ states.items }
     {
         let mut ends = VecDeque::from_vec(ends);
         let mut place = 0;
@@ -310,6 +311,7 @@ impl<W: Runs> Board<W> {
         requires number { is_exit_number (layout_of self.now.rest.plan) self.now.opens.items link number ≡ true }
         ensures of { result.of.value ≡ self.now }
         ensures number { exit_number result ≡ number }
+        ensures state { exit_state result ≡ exit }
     {
         Exit {
             number,

@@ -20,7 +20,7 @@ ghost use Rattle.flow_board.specs.Frames.{IsRoomFor};
 ghost use Rattle.flow_board.specs.Inputs.{input_due, links_of_inputs};
 ghost use Rattle.flow_board.specs.Known.{in_known, ins_due, out_known, outs_due};
 ghost use Rattle.flow_board.specs.Orders.{AreInOrder};
-ghost use Rattle.flow_board.specs.Parts.{AllEntriesOf, AllExitsOf, AllTasksOf, AllWatchesOf, board_layout, marks_in, watched_block};
+ghost use Rattle.flow_board.specs.Parts.{AllEntriesOf, AllExitsOf, AllTasksOf, AllWatchesOf, board_layout, exit_state, marks_in, watched_block};
 ghost use Rattle.flow_board.specs.Home.{HasGoneOn};
 ghost use Rattle.flow_board.specs.Wired.{AllReady, AreWired, starts_of};
 
@@ -59,6 +59,7 @@ pub fn scatter<W: Runs>(
     ensures posted { IfOk result (λ parts. InputsStay (parts_of net) (begun_in parts.board)) }
     ensures journals { IfOk result (λ parts.
         map marks_in (take (length (layout_in net).blocks) parts.tasks.items) ≡ journals_of (begun_in parts.board)) }
+    ensures received { IfOk result (λ parts. map exit_state parts.exits.items ≡ (begun_in parts.board).exits) }
     ensures back { IfErr result (λ refused. layout_in refused.0 ≡ layout_in net) }
     ensures inputs_stay { IfErr result (λ refused. InputsStay (parts_of net) (parts_of refused.0)) }
     ensures lawful { IfErr result (λ refused. Lawful (run_of W.meaning refused.0)) }
@@ -82,6 +83,7 @@ fn scatter_home<W: Runs>(alloc: Global, net: Net<W>) -> Result<Scattered<W>, (Ne
     ensures begun { IfOk result (λ parts. begun_in parts.board ≡ parts_of net) }
     ensures journals { IfOk result (λ parts.
         map marks_in (take (length (layout_in net).blocks) parts.tasks.items) ≡ journals_of (begun_in parts.board)) }
+    ensures received { IfOk result (λ parts. map exit_state parts.exits.items ≡ (begun_in parts.board).exits) }
     ensures back { IfErr result (λ refused. layout_in refused.0 ≡ layout_in net) }
     ensures inputs_stay { IfErr result (λ refused. InputsStay (parts_of net) (parts_of refused.0)) }
     ensures lawful { IfErr result (λ refused. Lawful (run_of W.meaning refused.0)) }
@@ -165,6 +167,7 @@ impl<W: Runs> Board<W> {
         requires watches_room { length lists.nodes.items ≤ vec_capacity room.watches }
         requires nodes_begun { lists.nodes.items ≡ (begun_in self).nodes }
         requires inputs_begun { lists.inputs.items ≡ (begun_in self).inputs }
+        requires exits_begun { lists.exits.items ≡ (begun_in self).exits }
         ensures board { result.board ≡ self }
         ensures tasks_of { AllTasksOf self result.tasks.items }
         ensures entries_of { AllEntriesOf self result.entries.items }
@@ -173,6 +176,7 @@ impl<W: Runs> Board<W> {
         ensures watches_of { AllWatchesOf self result.watches.items }
         ensures watched { map watched_block result.watches.items ≡ below (length (layout_of self.rest.plan).blocks) }
         ensures journals { map marks_in (take (length lists.nodes.items) result.tasks.items) ≡ map (λ node. node.journal) lists.nodes.items }
+        ensures received { map exit_state result.exits.items ≡ (begun_in self).exits }
     {
         let Room {
             mut tasks,
@@ -223,6 +227,7 @@ impl<W: Runs> Frame<W> {
             wired.sources.items wired.targets.items }
         requires nodes_begun { begun.value.nodes.items ≡ net.nodes }
         requires inputs_begun { begun.value.inputs.items ≡ net.inputs }
+        requires exits_begun { begun.value.exits.items ≡ net.exits }
         ensures plan { result.board.rest.plan ≡ apart.plan }
         ensures begun { result.board.begun ≡ begun }
         ensures lines { result.board.rest.lines.items ≡ apart.lines.items }
@@ -233,6 +238,7 @@ impl<W: Runs> Frame<W> {
         ensures watches_of { AllWatchesOf result.board result.watches.items }
         ensures watched { map watched_block result.watches.items ≡ below (length (layout_of apart.plan).blocks) }
         ensures journals { map marks_in (take (length net.nodes) result.tasks.items) ≡ map (λ node. node.journal) net.nodes }
+        ensures received { map exit_state result.exits.items ≡ net.exits }
     {
         let Frame {
             mut sources,

@@ -95,7 +95,10 @@ fill-requires g c κs within =
                         old.plan new.plan old.nodes.items new.nodes.items old.inputs.items new.inputs.items old.exits.items new.exits.items p n i e again,
                     (
                       ap (λ (parts : NetParts _). parts.nodes.items) c.of-begun.ensures ∙ n,
-                      ap (λ (parts : NetParts _). parts.inputs.items) c.of-begun.ensures ∙ i,
+                      (
+                        ap (λ (parts : NetParts _). parts.inputs.items) c.of-begun.ensures ∙ i,
+                        ap (λ (parts : NetParts _). parts.exits.items) c.of-begun.ensures ∙ e,
+                      ),
                     ),
                   ),
                 ),
@@ -154,6 +157,13 @@ returns-in-Ok-wire_up-clause-journals g c =
     let count = ∥∥₁_elim order (ℕ_set _ _) (λ o. o.node_count) in
     ap (λ (k : ℕ). map marks_in (take k c.fill.result.tasks.items)) (sym (ap length nodes ∙ count))
     ∙ c.fill.ensures.journals ∙ ap (map (λ (node : NodeState). node.journal)) nodes ∙ sym (ap journals_of begun)
+
+pub returns-in-Ok-wire_up-clause-received : goal.returns-in-Ok-wire_up-clause-received
+returns-in-Ok-wire_up-clause-received g c =
+    let apart = c.into_parts-apart in
+    let exits = ap (λ v. v.items) c.wire_up.ensures.exits ∙ ap (λ (state : NetState). state.exits) apart.ensures.same_parts in
+    let begun = ap begun_by c.fill.ensures.begun ∙ ap apart_in c.of-begun.ensures ∙ apart.ensures.same_parts in
+    c.fill.ensures.received ∙ exits ∙ sym (ap (λ (state : NetState). state.exits) begun)
 
 pub returns-in-Err-wire_up-clause-inputs_stay : goal.returns-in-Err-wire_up-clause-inputs_stay
 returns-in-Err-wire_up-clause-inputs_stay g c =

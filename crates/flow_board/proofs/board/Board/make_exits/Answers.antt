@@ -1,6 +1,6 @@
 use Rattle.std.proofs.Common.{rules, ◌≡◌, ℕ, ◌+◌, ◌<◌, ◌++◌, ◌∷◌, [], List, length, map, get_or, sym, ap, ◌∙◌, subst, arith, length-append, append_assoc}
 use Rattle.std.specs.Vec.Iter.{into_iter_items}
-use Rattle.std.proofs.lemmas.List.{get_or_default}
+use Rattle.std.proofs.lemmas.List.{append-nil, get_or_default, map-append, nil_from_length}
 use Rattle.flow_lists.proofs.PlacesOfNumbers.{stands_below}
 use Rattle.flow_link.specs.Planned.{layout_of}
 use Rattle.flow_block.specs.Planned.{leads_out, links_out}
@@ -9,7 +9,7 @@ use Rattle.flow_exit.specs.ExitKeeps.{ExitLaw}
 use Rattle.flow_board.specs.Exits.{exit_due}
 use Rattle.flow_board.specs.Known.{in_known}
 use Rattle.flow_board.specs.Numbers.{entry_count, is_exit_number, task_count}
-use Rattle.flow_board.specs.Parts.{AllExitsOf, exit_number}
+use Rattle.flow_board.specs.Parts.{AllExitsOf, exit_number, exit_state}
 use Rattle.flow_board.proofs.Makes.{dropped, some_left, next_there, numbers_on, exits_on}
 use Rattle.flow_board.proofs.Places.{at_place, count_is}
 use Rattle.flow_board.proofs.FewParts.{exit_numbered, few_parts}
@@ -134,9 +134,24 @@ loop-state-preserved g c =
             subst (AllExitsOf board) (sym grown) (exits_on board exits c.make_exit.result i.1.1.1.0 c.make_exit.ensures.of),
             (
               ap (map exit_number) grown ∙ numbers_on exit_number from k exits c.make_exit.result i.1.1.1.1.0 number,
-              search rules,
+              (
+                search rules,
+                (
+                  search rules,
+                  ap (map exit_state) grown ∙ map-append exit_state exits (c.make_exit.result ∷ [])
+                      ∙ ap (λ (states : List ExitState). states ++ exit_state c.make_exit.result ∷ []) i.1.1.1.1.1.1.1
+                      ∙ ap (λ (last : ExitState). yielded ++ last ∷ []) c.make_exit.ensures.state,
+                ),
+              ),
             ),
           ),
         ),
       ),
     )
+
+pub returns-clause-states : goal.returns-clause-states
+returns-clause-states g c =
+    let i = c.loop-state.invariant in
+    let left : into_iter_items c.loop-state.state-iterator ≡ [] =
+    nil_from_length (into_iter_items c.loop-state.state-iterator) (sym c.loop-state.state-iterator.rest.ok.0 ∙ c.in-None.ensures.steps.0) in
+    i.1.1.1.1.1.1.1 ∙ sym (i.0 ∙ ap (λ (more : List ExitState). c.loop-state.yielded ++ more) left ∙ append-nil c.loop-state.yielded)

@@ -153,15 +153,22 @@ make_parts-requires-clause-nodes_begun g c =
 
 pub make_parts-requires-clause-inputs_begun : goal.make_parts-requires-clause-inputs_begun
 make_parts-requires-clause-inputs_begun g c =
-    c.take_lists-lists.ensures.inputs ∙ sym c.requires.1.1.0 ∙ sym c.requires.1.1.1.1.1.1.1.1.1
+    c.take_lists-lists.ensures.inputs ∙ sym c.requires.1.1.0 ∙ sym c.requires.1.1.1.1.1.1.1.1.1.0
+
+pub make_parts-requires-clause-exits_begun : goal.make_parts-requires-clause-exits_begun
+make_parts-requires-clause-exits_begun g c =
+    c.take_lists-lists.ensures.exits ∙ sym c.requires.1.1.1.0 ∙ sym c.requires.1.1.1.1.1.1.1.1.1.1
+
+pub returns-clause-received : goal.returns-clause-received
+returns-clause-received g c = c.make_parts.ensures.received ∙ c.requires.1.1.1.1.1.1.1.1.1.1
 
 pub invariant_of-board-clause-opens_are : goal.invariant_of-board-clause-opens_are
-invariant_of-board-clause-opens_are g c = c.requires.1.1.1.1.1.0.opens ∙ ap (map stays_open) (sym c.requires.1.1.1.1.1.1.1.1.1)
+invariant_of-board-clause-opens_are g c = c.requires.1.1.1.1.1.0.opens ∙ ap (map stays_open) (sym c.requires.1.1.1.1.1.1.1.1.1.0)
 
 pub invariant_of-board-clause-open_ones_post : goal.invariant_of-board-clause-open_ones_post
 invariant_of-board-clause-open_ones_post g c =
     let order = c.requires.1.1.1.1.1.1.0 in
-    let same = c.requires.1.1.1.1.1.1.1.1.1 in
+    let same = c.requires.1.1.1.1.1.1.1.1.1.0 in
     let layout = layout_of c.args.apart.plan in
     none_posts (apart_in c.args.begun.value) (length (links_of_inputs layout)) (ap length same ∙ order.input_count)
     (λ q low. subst (λ (inputs : List InputState). ∥ InputLaw (get_or inputs q no_input) ∥₁) (sym same) (order.inputs_law q low))
