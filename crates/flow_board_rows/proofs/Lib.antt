@@ -1,2 +1,3 @@
 pub mod SecondTask
+pub mod SentBack
 pub mod TasksAt

@@ -49,8 +49,8 @@ fn parse_three(alloc: Global) -> Result<Inputs<Steps>> {
     Ok(inputs)
 }
 
-/// A buffer that stays open, and leads out of the network.
-fn buffer(alloc: Global) -> Result<Inputs<Steps>> {
+/// A buffer that leads out of the network. These numbers are posted to it, and its input ends so.
+fn buffer(alloc: Global, numbers: &[i64], ending: Ending) -> Result<Inputs<Steps>> {
     let plan = Draft::new(alloc)
         .block(
             BlockDef::named(alloc, "b", BlockKind::Buffer)?
@@ -58,29 +58,42 @@ fn buffer(alloc: Global) -> Result<Inputs<Steps>> {
                 .output(),
         )?
         .check(alloc)?;
+    let mut inputs = Inputs::of(alloc, plan)?;
+    for number in numbers {
+        inputs.post("b", Value::Int(*number))?;
+    }
+    inputs.end("b", ending)?;
+    Ok(inputs)
+}
+
+/// A block alone, whose input stays open.
+fn single(alloc: Global, block: BlockDef<Steps>) -> Result<Inputs<Steps>> {
+    let plan = Draft::new(alloc).block(block.input())?.check(alloc)?;
     let mut inputs = Inputs::of(alloc, plan)?;
     inputs.end("b", Ending::Open)?;
     Ok(inputs)
 }
 
-/// A buffer to which 1 and 2 are posted, and which leads out of the network.
-fn counted(alloc: Global) -> Result<Inputs<Steps>> {
-    let plan = Draft::new(alloc)
-        .block(
-            BlockDef::named(alloc, "b", BlockKind::Buffer)?
-                .input()
-                .output(),
-        )?
-        .check(alloc)?;
-    let mut inputs = Inputs::of(alloc, plan)?;
-    inputs.post("b", Value::Int(1))?;
-    inputs.post("b", Value::Int(2))?;
-    inputs.end("b", Ending::Complete)?;
-    Ok(inputs)
+/// A buffer with room for one message, which stays open and leads out of the network.
+pub(crate) fn bounded(alloc: Global) -> Result<Inputs<Steps>> {
+    let block = BlockDef::named(alloc, "b", BlockKind::Buffer)?;
+    single(alloc, block.capacity(1).output())
+}
+
+/// A block that takes one message, and stays open for it.
+pub(crate) fn once(alloc: Global) -> Result<Inputs<Steps>> {
+    single(alloc, BlockDef::named(alloc, "b", BlockKind::WriteOnce)?)
+}
+
+/// An action that reads numbers, and stays open.
+pub(crate) fn reader(alloc: Global) -> Result<Inputs<Steps>> {
+    let read = Steps::read(alloc, &["int"])?;
+    let block = BlockDef::named(alloc, "b", BlockKind::Action)?;
+    single(alloc, block.work(read))
 }
 
 /// The parts of the network of these inputs, and a watch of its first block.
-fn watched(
+pub(crate) fn watched(
     rt: &impl Abort,
     alloc: Global,
     inputs: Result<Inputs<Steps>>,
@@ -144,13 +157,13 @@ pub(crate) fn parse_parts(rt: &impl Abort, alloc: Global) -> Parts<Steps>
     scattered(rt, alloc, parse_three(alloc))
 }
 
-/// The parts of the buffer.
-pub(crate) fn buffer_parts(rt: &impl Abort, alloc: Global) -> Parts<Steps>
+/// The parts of the buffer that stays open, and to which these numbers are posted.
+pub(crate) fn buffer_parts(rt: &impl Abort, alloc: Global, numbers: &[i64]) -> Parts<Steps>
     ensures tasks_of { AllTasksOf result.board result.tasks.items }
     ensures entries_of { AllEntriesOf result.board result.entries.items }
     ensures exits_of { AllExitsOf result.board result.exits.items }
 {
-    scattered(rt, alloc, buffer(alloc))
+    scattered(rt, alloc, buffer(alloc, numbers, Ending::Open))
 }
 
 /// The parts of the buffer of two numbers.
@@ -159,7 +172,7 @@ pub(crate) fn counted_parts(rt: &impl Abort, alloc: Global) -> Parts<Steps>
     ensures entries_of { AllEntriesOf result.board result.entries.items }
     ensures exits_of { AllExitsOf result.board result.exits.items }
 {
-    scattered(rt, alloc, counted(alloc))
+    scattered(rt, alloc, buffer(alloc, &[1, 2], Ending::Complete))
 }
 
 /// The network of these parts, all of which are there.

@@ -1,11 +1,8 @@
 //! A network is scattered, turned and gathered.
-ghost use Rattle.std.specs.Prelude.{◌≡◌};
-ghost use Rattle.flow_board.specs.Parts.{AllEntriesOf, AllExitsOf, AllTasksOf};
-
 use crate::networks::{buffer_parts, chain_parts, gathered, journal, settle};
 use crate::rounds::turn_all;
 use crate::told::{Told, all_told, begins, has_recorded, is_done, is_told};
-use flow_board::{GatherFault, Parts, Task, gather};
+use flow_board::{Parts, Task};
 use flow_link::Mark;
 use flow_net::Net;
 use flow_poll::TurnState;
@@ -107,42 +104,10 @@ fn turns_may_stop_anywhere(rt: HostRuntime) {
     goes_on(&rt, alloc, 5, true);
 }
 
-/// Asserts that parts are not gathered since the second one is missing, and gives them back.
-fn refused(rt: &impl Abort, alloc: Global, parts: Parts<Steps>) -> Parts<Steps>
-    requires tasks_of { AllTasksOf parts.board parts.tasks.items }
-    requires entries_of { AllEntriesOf parts.board parts.entries.items }
-    requires exits_of { AllExitsOf parts.board parts.exits.items }
-    ensures board { result.board ≡ parts.board }
-    ensures tasks_of { AllTasksOf parts.board result.tasks.items }
-    ensures entries_of { AllEntriesOf parts.board result.entries.items }
-    ensures exits_of { AllExitsOf parts.board result.exits.items }
-{
-    let Err((parts, GatherFault::Missing(1))) = gather(alloc, parts) else {
-        panic!(rt; "parts are gathered though one is missing");
-    };
-    parts
-}
-
-#[test]
-fn a_part_that_is_kept_back_is_missing(rt: HostRuntime) {
-    let alloc = rt.alloc();
-    let mut parts = chain_parts(&rt, alloc);
-    assert!(rt; parts.tasks.len() == 4);
-    let second = parts.tasks.remove(1);
-    let mut parts = refused(&rt, alloc, parts);
-    assert!(rt; parts.tasks.len() == 3);
-    let Ok(()) = parts.tasks.push(second) else {
-        panic!(rt; "out of memory");
-    };
-    let mut net = gathered(&rt, alloc, parts);
-    settle(&rt, alloc, &mut net);
-    has_recorded(&rt, &net);
-}
-
 #[test]
 fn an_open_input_is_an_entry(rt: HostRuntime) {
     let alloc = rt.alloc();
-    let parts = buffer_parts(&rt, alloc);
+    let parts = buffer_parts(&rt, alloc, &[]);
     assert!(rt; parts.tasks.len() == 1);
     assert!(rt; parts.entries.len() == 1);
     assert!(rt; parts.exits.len() == 1);

@@ -1,5 +1,5 @@
-//! Tests of runs that are scattered into tasks: networks and records as texts, turned by one thread or by two, stopped anywhere and
-//! gathered. Each comes to the end that is due of it.
+//! Tests of runs that are scattered into tasks: networks and records as texts, turned by one thread or by two, fed by another, stopped
+//! anywhere and gathered. Each comes to the end that is due of it.
 #![tactic(auto)]
 
 #[cfg(test)]
@@ -20,6 +20,8 @@ mod numbers;
 mod rounds;
 #[cfg(test)]
 mod rows;
+#[cfg(test)]
+mod sends;
 #[cfg(test)]
 mod shares;
 #[cfg(test)]

@@ -24,7 +24,7 @@ pub(crate) fn network(rt: &impl Abort, alloc: Global, text: &str) -> Net<Steps> 
 }
 
 /// The plan of a network's text.
-fn planned(rt: &impl Abort, alloc: Global, text: &[u8]) -> Plan<Steps> {
+pub(crate) fn planned(rt: &impl Abort, alloc: Global, text: &[u8]) -> Plan<Steps> {
     let Ok(plan) = read_plan(alloc, text) else {
         panic!(rt; "no plan");
     };

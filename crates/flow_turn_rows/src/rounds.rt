@@ -18,7 +18,7 @@ pub(crate) struct Pace {
 }
 
 /// Turns each task once, and tells how that was for all together.
-fn turn_each(
+pub(crate) fn turn_each(
     alloc: Global,
     board: &Board<Steps>,
     tasks: &mut Vec<Task<Steps>>,

@@ -564,3 +564,10 @@ const ARRIVED: &Row = &ONE_MESSAGE;
 pub(crate) fn one_message() -> &'static Row<'static> {
     ARRIVED
 }
+
+const SHARED: &Row = &TWO_JOINS_SHARE_SOURCES;
+
+/// The run of two joins.
+pub(crate) fn two_joins() -> &'static Row<'static> {
+    SHARED
+}

@@ -1,6 +1,6 @@
 use Rattle.std.proofs.Common.{◌≡◌}
 use Rattle.flow_board.specs.Parts.{AllTasksOf, exit_board}
-use Rattle.flow_board_rows.proofs.exits.receive.Given as goal
+use Rattle.flow_board_rows.proofs.ports.receive.Given as goal
 
 -- the tasks are those of the board, and so is the exit
 abbrev pub invariant-loop : goal.invariant-loop

@@ -1,0 +1,104 @@
+//! What becomes of values at an entry, by its calls, while tasks are turned.
+
+use crate::networks::{buffer_parts, gathered, once, reader, watched};
+use crate::ports::{entry_alone, look, only_entry};
+use flow_board::Parts;
+use flow_link::{Ending, Outcome};
+use flow_poll::{SendFault, Sent};
+use flow_value::{Text, Value};
+
+#[test]
+fn values_that_wait_when_it_is_scattered_are_told_in_turn(rt: HostRuntime) {
+    let alloc = rt.alloc();
+    let Parts {
+        board,
+        tasks,
+        entries,
+        exits,
+    } = buffer_parts(&rt, alloc, &[1, 2]);
+    let mut entry = only_entry(&rt, &board, entries);
+    let (tasks, sent) = look(&rt, alloc, &board, tasks, &mut entry);
+    assert!(rt; matches!(sent, Sent::Accepted));
+    assert!(rt; matches!(entry.accepted(), [Value::Int(1)]));
+    let (tasks, sent) = look(&rt, alloc, &board, tasks, &mut entry);
+    assert!(rt; matches!(sent, Sent::Accepted));
+    assert!(rt; matches!(entry.look(&board), Sent::Idle));
+    assert!(rt; matches!(entry.accepted(), [Value::Int(1), Value::Int(2)]));
+    let entries = entry_alone(&rt, alloc, &board, entry);
+    let parts = Parts {
+        board,
+        tasks,
+        entries,
+        exits,
+    };
+    drop(gathered(&rt, alloc, parts));
+}
+
+#[test]
+fn an_entry_is_busy_while_a_value_is_under_way(rt: HostRuntime) {
+    let alloc = rt.alloc();
+    let Parts {
+        board,
+        tasks,
+        entries,
+        ..
+    } = buffer_parts(&rt, alloc, &[]);
+    let mut entry = only_entry(&rt, &board, entries);
+    assert!(rt; entry.begin_send(alloc, &board, Value::Int(1)).is_ok());
+    let posted = entry.begin_post(alloc, &board, Value::Int(2));
+    assert!(rt; matches!(posted, Err((Value::Int(2), SendFault::Busy))));
+    let sent = entry.begin_send(alloc, &board, Value::Int(3));
+    assert!(rt; matches!(sent, Err((Value::Int(3), SendFault::Busy))));
+    assert!(rt; entry.finish(&board, Ending::Complete) == Err(SendFault::Busy));
+    let (_tasks, sent) = look(&rt, alloc, &board, tasks, &mut entry);
+    assert!(rt; matches!(sent, Sent::Accepted));
+    assert!(rt; matches!(entry.accepted(), [Value::Int(1)]));
+    assert!(rt; entry.finish(&board, Ending::Complete).is_ok());
+}
+
+#[test]
+fn a_block_that_takes_one_value_sends_later_ones_back_for_good(rt: HostRuntime) {
+    let alloc = rt.alloc();
+    let (parts, mut watch) = watched(&rt, alloc, once(alloc));
+    let Parts {
+        board,
+        tasks,
+        entries,
+        ..
+    } = parts;
+    let mut entry = only_entry(&rt, &board, entries);
+    assert!(rt; entry.begin_post(alloc, &board, Value::Int(7)).is_ok());
+    let (tasks, sent) = look(&rt, alloc, &board, tasks, &mut entry);
+    assert!(rt; matches!(sent, Sent::Accepted));
+    assert!(rt; entry.begin_post(alloc, &board, Value::Int(8)).is_ok());
+    let (tasks, sent) = look(&rt, alloc, &board, tasks, &mut entry);
+    assert!(rt; matches!(sent, Sent::Permanently(Value::Int(8))));
+    assert!(rt; entry.begin_send(alloc, &board, Value::Int(9)).is_ok());
+    let (_tasks, sent) = look(&rt, alloc, &board, tasks, &mut entry);
+    assert!(rt; matches!(sent, Sent::Permanently(Value::Int(9))));
+    assert!(rt; watch.read(&board) == Some(Outcome::Done));
+}
+
+// The action reads numbers, and the first value is a text that is none.
+#[test]
+fn a_block_that_has_faulted_sends_values_back_for_good(rt: HostRuntime) {
+    let alloc = rt.alloc();
+    let Ok(text) = Text::from_str(alloc, "x") else {
+        panic!(rt; "out of memory");
+    };
+    let (parts, mut watch) = watched(&rt, alloc, reader(alloc));
+    let Parts {
+        board,
+        tasks,
+        entries,
+        ..
+    } = parts;
+    let mut entry = only_entry(&rt, &board, entries);
+    assert!(rt; entry.begin_send(alloc, &board, Value::Text(text)).is_ok());
+    let (tasks, sent) = look(&rt, alloc, &board, tasks, &mut entry);
+    assert!(rt; matches!(sent, Sent::Accepted));
+    assert!(rt; entry.begin_send(alloc, &board, Value::Int(2)).is_ok());
+    let (_tasks, sent) = look(&rt, alloc, &board, tasks, &mut entry);
+    assert!(rt; matches!(sent, Sent::Permanently(Value::Int(2))));
+    assert!(rt; watch.read(&board) == Some(Outcome::Faulted(1)));
+}
