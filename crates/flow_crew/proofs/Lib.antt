@@ -1,0 +1,5 @@
+pub mod ComesBack
+pub mod ItemsCross
+pub mod Journals
+pub mod Keeps
+pub mod Tasks

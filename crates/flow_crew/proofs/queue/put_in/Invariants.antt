@@ -1,0 +1,19 @@
+use Rattle.std.proofs.Common.{◌≡◌, reverse}
+use Rattle.std.specs.Vec.{vec_capacity, vec_len}
+use Rattle.crossbeam_queue.specs.Passes.{view, IsPassOf}
+use Rattle.flow_crew.specs.Numbers.{numbers}
+use Rattle.flow_crew.specs.Rounds.{AllIn}
+use Rattle.flow_crew.specs.Rules.{all_parts}
+use Rattle.flow_crew.proofs.queue.put_in.Given as goal
+
+abbrev pub invariant-loop-task : goal.invariant-loop-task
+invariant-loop-task g l = record {
+  queue : IsPassOf l.queue l.pass;
+  part : (view l.pass).parts ≡ all_parts;
+  holds : (view l.pass).holds ≡ reverse (numbers l.tasks.items);
+  in_round : AllIn g.J.Round.board g.J.Round.came l.tasks.items;
+  room : vec_capacity l.tasks ≡ vec_capacity l.initial.tasks;
+}
+
+abbrev pub decreases-loop-task : goal.decreases-loop-task
+decreases-loop-task g l = vec_len l.tasks

@@ -1,0 +1,4 @@
+pub mod Journals
+pub mod Numbers
+pub mod Rounds
+pub mod Rules

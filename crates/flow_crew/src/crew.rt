@@ -1,0 +1,142 @@
+//! The workers of a round, joined by halves.
+ghost use Rattle.std.specs.Prelude.{◌≡◌, ◌≤◌, ◌<◌, [], length, Some};
+ghost use Rattle.std.specs.Thread.{IsSend, IsSync};
+ghost use Rattle.crossbeam_queue.specs.Passes.{view, IsPassOf, ruled_capacity};
+
+use crate::bell::{Bell, Lull};
+use crate::item::Round;
+use crate::laws::{crosses, is_shared, items_cross};
+use crate::rule::{Halves, Queue, Ticket};
+use crate::worker::{Done, Worker};
+use flow_board::{Board, boards_are_shared};
+use flow_value::Runs;
+use std::alloc::Global;
+use std::collections::VecDeque;
+use std::sync::Wait;
+use std::thread::{Threads, join};
+
+/// What a worker is told of the round.
+#[derive(Clone, Copy)]
+pub(crate) struct Share {
+    /// How many tasks it takes at a time, of how many.
+    pub(crate) chunk: usize,
+    pub(crate) tasks: usize,
+    /// How many events it does at most.
+    pub(crate) budget: u64,
+}
+
+/// One worker: it takes tasks, turns them and puts them back, until none moves, or the budget is used. Its pass comes back as it was.
+fn work<W: Runs, J: Round<W>, R: Wait>(
+    rt: &R,
+    alloc: Global,
+    board: &Board<W>,
+    queue: &Queue<W, J>,
+    bell: &Bell,
+    pass: Ticket<W, J>,
+    share: Share,
+) -> (Ticket<W, J>, Done)
+    requires board { J.board ≡ Some board.now }
+    requires queue { IsPassOf queue.now pass × (length J.all ≤ ruled_capacity queue.now) }
+    requires pass { (0 < (view pass).parts) × ((view pass).holds ≡ []) }
+    ensures queue { IsPassOf queue.now result.0 }
+    ensures pass { ((view result.0).parts ≡ (view pass).parts) × ((view result.0).holds ≡ []) }
+    ensures within { result.1.events ≤ share.budget }
+{
+    let Ok(held) = VecDeque::with_capacity(alloc, share.chunk) else {
+        bell.end();
+        return (
+            pass,
+            Done {
+                events: 0,
+                refused: true,
+            },
+        );
+    };
+    let mut worker = Worker::new(pass, held);
+    let mut lull = Lull::new(bell);
+    let mut events = 0;
+    let mut refused = false;
+    bell.come();
+    for _ in rt.forever() {
+        if refused || events >= share.budget || bell.is_over() {
+            break;
+        }
+        lull.listen(bell);
+        worker.take_some(queue, share.chunk);
+        let taken = worker.held.len();
+        let done = worker.turn_all(alloc, board, share.budget - events);
+        worker.put_all(rt, queue);
+        events += done.events;
+        refused = done.refused;
+        if refused {
+            bell.end();
+        } else if done.events > 0 {
+            lull.moved(bell);
+        } else {
+            lull.lay_still(rt, bell, taken, share.tasks);
+        }
+    }
+    worker.put_all(rt, queue);
+    bell.leave();
+    (worker.end(), Done { events, refused })
+}
+
+/// So many workers, each with its share of the budget. The pass comes back as it was, so nothing is held when they are done.
+pub(crate) fn crew<W: Runs + Sync, J: Round<W> + Send + Sync, R: Threads + Wait + Sync>(
+    rt: &R,
+    alloc: Global,
+    board: &Board<W>,
+    queue: &Queue<W, J>,
+    bell: &Bell,
+    mut pass: Ticket<W, J>,
+    workers: usize,
+    share: Share,
+) -> (Ticket<W, J>, Done)
+    requires board { J.board ≡ Some board.now }
+    requires queue { IsPassOf queue.now pass × (length J.all ≤ ruled_capacity queue.now) }
+    requires pass { (workers ≤ (view pass).parts) × (0 < (view pass).parts) × ((view pass).holds ≡ []) }
+    ensures queue { IsPassOf queue.now result.0 }
+    ensures pass { ((view result.0).parts ≡ (view pass).parts) × ((view result.0).holds ≡ []) }
+    ensures within { result.1.events ≤ share.budget }
+{
+    if workers < 2 {
+        return work(rt, alloc, board, queue, bell, pass, share);
+    }
+    items_cross::<W, J>();
+    crosses::<Ticket<W, J>>();
+    is_shared::<Queue<W, J>>();
+    boards_are_shared::<W>();
+    let low = workers / 2;
+    let high = workers - low;
+    let low_budget = (share.budget / workers as u64)
+        .saturating_mul(low as u64)
+        .min(share.budget);
+    let lower = Share {
+        budget: low_budget,
+        ..share
+    };
+    let upper = Share {
+        budget: share.budget - low_budget,
+        ..share
+    };
+    let other = queue.another::<Halves>(&mut pass);
+    let front = move || -> (Ticket<W, J>, Done)
+        requires { IsSync W.row × IsSend J.row × IsSync J.row × IsSync R.row × (J.board ≡ Some board.now) × IsPassOf queue.now pass
+            × (length J.all ≤ ruled_capacity queue.now) × (high ≤ (view pass).parts) × (0 < (view pass).parts) × ((view pass).holds ≡ []) }
+        ensures { IsPassOf queue.entry.now result.0 × ((view result.0).parts ≡ (view pass).parts) × ((view result.0).holds ≡ [])
+            × (result.1.events ≤ upper.budget) }
+    { crew(rt, alloc, board, queue, bell, pass, high, upper) };
+    let back = move || -> (Ticket<W, J>, Done)
+        requires { IsSync W.row × IsSend J.row × IsSync J.row × IsSync R.row × (J.board ≡ Some board.now) × IsPassOf queue.now other
+            × (length J.all ≤ ruled_capacity queue.now) × (low ≤ (view other).parts) × (0 < (view other).parts) × ((view other).holds ≡ []) }
+        ensures { IsPassOf queue.entry.now result.0 × ((view result.0).parts ≡ (view other).parts) × ((view result.0).holds ≡ [])
+            × (result.1.events ≤ lower.budget) }
+    { crew(rt, alloc, board, queue, bell, other, low, lower) };
+    let ((mut pass, first), (other, second)) = join(rt, front, back);
+    queue.absorb::<Halves>(&mut pass, other);
+    let done = Done {
+        events: first.events + second.events,
+        refused: first.refused || second.refused,
+    };
+    (pass, done)
+}

@@ -1,0 +1,9 @@
+//! Tests of crews: networks that are scattered, turned by so many workers, and gathered.
+#![tactic(auto)]
+
+#[cfg(test)]
+mod networks;
+#[cfg(test)]
+mod rounds;
+#[cfg(test)]
+mod workers;
