@@ -1,5 +1,6 @@
 -- One more input is part of a board.
 use Rattle.std.proofs.Common.{◌≡◌, ℕ, ◌+◌, not, true, false, List, [], ◌∷◌, ◌++◌, length, refl, sym, ap, ◌∙◌, arith}
+use Rattle.std.proofs.lemmas.List.Elements.{All-push}
 use Rattle.flow_lists.specs.Lists.{below, numbers_from}
 use Rattle.flow_link.specs.Planned.{layout_of}
 use Rattle.flow_block.proofs.PlanMade.{counted_where, counted_else}
@@ -9,6 +10,7 @@ use Rattle.flow_board.specs.declared.numbered.Task.{Task}
 use Rattle.flow_board.specs.Makes.{InputsMade}
 use Rattle.flow_board.specs.Numbers.{closed_before, is_closed, is_open, open_before, task_count}
 use Rattle.flow_board.specs.Parts.{board_of, entry_number, task_number}
+use Rattle.flow_board.specs.Untouched.{IsUntouched}
 use Rattle.flow_board.proofs.Makes.{entries_on, numbers_on, tasks_on}
 
 module _ {W : Type 0} {w : _} {e : _} (board : Board W) (place : ℕ) (tasks : List (Task W w e)) (entries : List (Entry W w e))
@@ -17,8 +19,8 @@ module _ {W : Type 0} {w : _} {e : _} (board : Board W) (place : ℕ) (tasks : L
   pub entry_more : is_open (layout_of board.rest.plan) board.opens.items place ≡ true → (entry : Entry W w e)
       → entry.input.of.value ≡ board
       → entry_number entry ≡ task_count (layout_of board.rest.plan) board.opens.items + open_before (layout_of board.rest.plan) board.opens.items place
-      → InputsMade board (place + 1) tasks (entries ++ entry ∷ [])
-  entry_more opened entry of number = record {
+      → IsUntouched board entry → InputsMade board (place + 1) tasks (entries ++ entry ∷ [])
+  entry_more opened entry of number fresh = record {
     of = made.of;
     numbers = made.numbers
         ∙ ap (λ (n : ℕ). below (length (layout_of board.rest.plan).blocks + n))
@@ -28,6 +30,7 @@ module _ {W : Type 0} {w : _} {e : _} (board : Board W) (place : ℕ) (tasks : L
         (open_before (layout_of board.rest.plan) board.opens.items place) entries entry made.entry_numbers number
         ∙ ap (numbers_from (task_count (layout_of board.rest.plan) board.opens.items))
         (counted_where (is_open (layout_of board.rest.plan) board.opens.items) place (open_before (layout_of board.rest.plan) board.opens.items place) refl opened);
+    untouched = All-push (IsUntouched board) entries entry made.untouched fresh;
   }
 
   -- an input that is turned
@@ -47,4 +50,5 @@ module _ {W : Type 0} {w : _} {e : _} (board : Board W) (place : ℕ) (tasks : L
         entry_numbers = made.entry_numbers
             ∙ ap (numbers_from (task_count (layout_of board.rest.plan) board.opens.items))
             (counted_else (is_open (layout_of board.rest.plan) board.opens.items) place (open_before (layout_of board.rest.plan) board.opens.items place) refl closed);
+        untouched = made.untouched;
       }

@@ -3,7 +3,7 @@ use Rattle.std.proofs.Common.{◌≡◌, ℕ, zero, suc, ◌<◌, ◌≤◌, Boo
 use Rattle.std.specs.Coded.{codes}
 use Rattle.std.proofs.Math.Logic.{∥∥₁_elim, ∥∥₁_map}
 use Rattle.std.proofs.lemmas.Bool.{cases_lt}
-use Rattle.std.proofs.lemmas.List.{get_or_default, get_or_past}
+use Rattle.std.proofs.lemmas.List.{get_or_default, get_or_past, length-map}
 use Rattle.std.proofs.Math.Bool.{Bool-set}
 use Rattle.std.proofs.Math.ListN.{get_or-map}
 use Rattle.flow_value.specs.contracts.value.Value as content
@@ -15,7 +15,7 @@ use Rattle.flow_link.specs.declared.trace.Ending.TheVariants as ending
 use Rattle.flow_link.specs.Planned.{layout_of}
 use Rattle.flow_outlet.specs.Law.{is_posted}
 use Rattle.flow_core.specs.Events.{input_after, input_call}
-use Rattle.flow_core.specs.Inputs.{input_of}
+use Rattle.flow_core.specs.Inputs.{InputsStay, input_of}
 use Rattle.flow_core.specs.State.{NetState}
 use Rattle.flow_input.specs.Input.{InputState, InputCall, end_by, no_input}
 use Rattle.flow_input.specs.InputKeeps.{InputLaw, PostedStays}
@@ -24,7 +24,9 @@ use Rattle.flow_poll.specs.declared.actor.Turned.{Turned}
 use Rattle.flow_board.specs.Begun.{ClosedInputsStay, begun_in}
 use Rattle.flow_board.specs.Events.{HasLooked, InputHappens, InputLooks, LooksBy, TurnsBy}
 use Rattle.flow_board.specs.Inputs.{OpenOnesPost, is_open_ending, stays_open}
+use Rattle.flow_board.specs.Entries.{with_parcel}
 use Rattle.flow_board.specs.Numbers.{is_open}
+use Rattle.flow_board.specs.Untouched.{passed}
 use Rattle.flow_board.specs.declared.board.Board.{Board}
 
 -- One proof
@@ -70,6 +72,25 @@ pub stays_done : {E : Type 0} (result : Result Turned E) (begun old new : InputS
 stays_done (Ok turned) begun old new before happens looked = stays_turned turned.events begun old new before happens
 stays_done (Err fault) begun old new before happens looked = stays_turned 0 begun old new before looked
 
+-- an input is as it was, but for what is told of it and the parcel of its next value
+pub untouched_stays : (old new : InputState) → with_parcel new ≡ with_parcel (passed old) → PostedStays old new
+untouched_stays old new same =
+    let here = posted_is_kept.same old in
+    let there = subst (PostedStays old) (sym same) (record {
+      same_ending = here.same_ending;
+      more = here.more;
+      front = here.front;
+      given = here.given;
+      unposted = here.unposted;
+    }) in
+    record {
+      same_ending = there.same_ending;
+      more = there.more;
+      front = there.front;
+      given = there.given;
+      unposted = there.unposted;
+    }
+
 -- Those that are no entries
 
 is_false : (b : Bool) → (b ≡ true → ⊥) → b ≡ false
@@ -109,3 +130,24 @@ module _ {W : Type 0} (board : Board W) where
       let one = ∥∥₁_elim (stay q there closed) (posted_prop (input_of (begun_in board) q) (input_of net q)) (λ s. s) in
       let same = (one.unposted (board.open_ones_post q (opens_tell q there ∙ closed))).0 in
       ap₂ (λ (posted : List Value) (how : Ending). record { posted = posted; ending = how }) same one.same_ending
+
+  -- where each stays, all do
+  pub all_stay : (net : NetState) → length net.inputs ≡ length board.opens.items
+      → ((q : ℕ) → q < length board.opens.items → ∥ PostedStays (input_of (begun_in board) q) (input_of net q) ∥₁)
+      → InputsStay (begun_in board) net
+  all_stay net count stay =
+      let inputs = board.begun.value.inputs.items in
+      let begun = ap length board.opens_are ∙ length-map inputs stays_open in
+      record {
+        count = count ∙ begun;
+        each = λ q.
+            ⊎_elim
+            (λ (low : q < length board.opens.items).
+            ∥∥₁_elim (stay q low) (posted_prop (input_of (begun_in board) q) (input_of net q)) (λ s. s))
+            (λ (high : length board.opens.items ≤ q).
+            let old = get_or_past inputs q no_input (omega (arith, begun, high)) in
+            let new = get_or_past net.inputs q no_input (omega (arith, count, high)) in
+            subst (λ (input : InputState). PostedStays input (input_of net q)) (sym old)
+            (subst (PostedStays no_input) (sym new) (posted_is_kept.same no_input)))
+            (cases_lt q (length board.opens.items));
+      }

@@ -15,6 +15,7 @@ pub mod EntriesKeep
 pub mod EntriesMade
 pub mod EntriesTell
 pub mod EntrySteps
+pub mod EventsGrow
 pub mod ExitSteps
 pub mod ExitsApart
 pub mod FewParts
@@ -50,6 +51,7 @@ pub mod RunsOn
 pub mod Scatters
 pub mod Spends
 pub mod TakenApart
+pub mod TakenAtHome
 pub mod TargetsTake
 pub mod TaskSteps
 pub mod TasksApart

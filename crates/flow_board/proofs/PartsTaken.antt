@@ -1,7 +1,9 @@
 -- The inputs of entries, and the ends of exits, that are taken stand at their places.
-use Rattle.std.proofs.Common.{◌≡◌, ℕ, ◌+◌, ◌<◌, Bool, true, false, List, [], ◌∷◌, ◌++◌, All, length, map, get_or, slice_index_or, refl, sym, ap, ◌∙◌, subst, append_assoc, arith}
+use Rattle.std.proofs.Common.{◌≡◌, ℕ, ◌+◌, ◌<◌, Bool, true, false, List, [], ◌∷◌, ◌++◌, All, length, map, get_or, slice_index_or, refl, sym, ap, ◌∙◌, subst, append_assoc, length-append, arith}
 use Rattle.std.proofs.lemmas.List.{append-nil, get_or_append_left, get_or_push, nil_from_length}
+use Rattle.std.proofs.lemmas.Grind.{merely}
 use Rattle.std.proofs.lemmas.List.Elements.{All-push, All-same}
+use Rattle.std.proofs.Math.Seq.{get_or-append_seam}
 use Rattle.flow_block.specs.Planned.{exit_place}
 use Rattle.flow_exit.specs.Exit.{ExitState, fresh_exit}
 use Rattle.flow_input.specs.Input.{InputState, no_input}
@@ -10,22 +12,18 @@ use Rattle.flow_input.specs.InputKeeps.{PostedStays}
 use Rattle.flow_board.specs.Begun.{begun_input}
 use Rattle.flow_board.specs.Lefts.{EntryIsAt, ExitIsAt, IsTakenFrom}
 use Rattle.flow_board.specs.Numbers.{place_in}
-use Rattle.flow_board.specs.Parts.{board_layout, entry_link, exit_link, exit_state}
+use Rattle.flow_board.specs.Parts.{board_layout, entry_link, entry_state, exit_link, exit_state}
+use Rattle.flow_board.specs.Untouched.{AllUntouched, IsUntouched}
 use Rattle.flow_board.specs.declared.board.Board.{Board}
 use Rattle.flow_board.specs.declared.input_task.InputTask.{InputTask}
 use Rattle.flow_board.specs.declared.numbered.Entry.{Entry}
 use Rattle.flow_board.specs.declared.numbered.Exit.{Exit}
+use Rattle.flow_board.proofs.InputsStayed.{untouched_stays}
 use Rattle.flow_board.proofs.TakenApart.{count_left}
 
 -- none is left where none has a number
 pub no_left : {A : Type 0} (number : A → ℕ) (left : List A) (first n : ℕ) → map number left ≡ numbers_from first n → n ≡ 0 → left ≡ []
 no_left number left first n are none = nil_from_length left (count_left number left first n are ∙ none)
-
--- the values of an input that is no entry stayed
-pub from_closed : {W : Type 0} {w : _} {e : _} (opened : Bool) (part : InputTask W w e) (old new : List (Entry W w e)) → opened ≡ false
-    → IsTakenFrom opened part old new → ∥ PostedStays (begun_input part.of.value part.link) part.input ∥₁
-from_closed true part old new shut from = absurd (cc)
-from_closed false part old new shut from = from.1
 
 module _ {W : Type 0} {w : _} {e : _} (board : Board W) where
   -- an entry whose input is among the first, and there
@@ -39,6 +37,23 @@ module _ {W : Type 0} {w : _} {e : _} (board : Board W) where
 
   pub none_taken : (all : List (Entry W w e)) (inputs : List InputState) → EntriesTaken all 0 inputs all
   none_taken all inputs = record { before = []; all_is = refl; at = λ k d low. absurd (omega (arith, low)) }
+
+  -- the values of an input stayed that is no entry, or to whose entry no call was made
+  pub stays_from : (opened : Bool) (part : InputTask W w e) (all : List (Entry W w e)) (place : ℕ) (inputs : List InputState)
+      (old new : List (Entry W w e)) → EntriesTaken all place inputs old → IsTakenFrom opened part old new → part.of.value ≡ board
+      → (opened ≡ true → AllUntouched board all) → ∥ PostedStays (begun_input board part.link) part.input ∥₁
+  stays_from true part all place inputs old new taken from of untouched =
+      let entry = from.0 in
+      let before = taken.before in
+      let is = taken.all_is ∙ ap (λ (left : List (Entry W w e)). before ++ left) from.1.0 in
+      let long = ap length is ∙ length-append before (entry ∷ new) in
+      let here : get_or all (length before) entry ≡ entry =
+      ap (λ (xs : List (Entry W w e)). get_or xs (length before) entry) is ∙ get_or-append_seam before entry new entry in
+      let so = subst (IsUntouched board) here (untouched refl (length before) entry (omega (arith, long))) in
+      merely (subst (λ (input : InputTask W w e). PostedStays (begun_input board input.link) input.input) from.1.1
+      (untouched_stays (begun_input board (entry_link entry)) (entry_state entry) so))
+  stays_from false part all place inputs old new taken from of untouched =
+      subst (λ (b : Board W). ∥ PostedStays (begun_input b part.link) part.input ∥₁) of from.1
 
   entry_stays : (place : ℕ) (inputs : List InputState) (input : InputState) → length inputs ≡ place → (entry : Entry W w e)
       → EntryBelow place inputs entry → EntryBelow (place + 1) (inputs ++ input ∷ []) entry

@@ -1,5 +1,5 @@
 -- Parts in another order are of the same board.
-use Rattle.std.proofs.Common.{◌≡◌, List, [], ◌∷◌, All, arith}
+use Rattle.std.proofs.Common.{◌≡◌, List, [], ◌∷◌, All, sym, subst, arith}
 use Rattle.std.specs.List.Sorted.{IsPermutation}
 use Rattle.std.proofs.lemmas.List.Elements.{All-cons, All-head, All-tail}
 use Rattle.std.proofs.lemmas.List.Sorted.{All-permutation}
@@ -53,3 +53,16 @@ module _ {W : Type 0} {w : _} {e : _} where
 
   pub exits_stay : (old new : List (Exit W w e)) → IsPermutation old new → ExitsStay old new
   exits_stay old new same board all = all_exits board new (All-permutation (OfExit board) old new same (each_exit board old all))
+
+  -- and of a board that is the same one
+  pub tasks_sorted : (was now : Board W) (old new : List (Task W w e)) → now ≡ was → TasksStay old new → AllTasksOf was old
+      → AllTasksOf now new
+  tasks_sorted was now old new same stay all = subst (λ (board : Board W). AllTasksOf board new) (sym same) (stay was all)
+
+  pub entries_sorted : (was now : Board W) (old new : List (Entry W w e)) → now ≡ was → EntriesStay old new → AllEntriesOf was old
+      → AllEntriesOf now new
+  entries_sorted was now old new same stay all = subst (λ (board : Board W). AllEntriesOf board new) (sym same) (stay was all)
+
+  pub exits_sorted : (was now : Board W) (old new : List (Exit W w e)) → now ≡ was → ExitsStay old new → AllExitsOf was old
+      → AllExitsOf now new
+  exits_sorted was now old new same stay all = subst (λ (board : Board W). AllExitsOf board new) (sym same) (stay was all)

@@ -1,6 +1,7 @@
 -- What a network was when it was scattered, and what became of its parts since then.
 use Rattle.std.specs.Prelude.{◌≡◌, ℕ, ◌<◌, false, List, length}
 use Rattle.flow_link.specs.declared.trace.Mark.{Mark}
+use Rattle.flow_link.specs.Layout.{Layout}
 use Rattle.flow_link.specs.Planned.{layout_of}
 use Rattle.flow_core.specs.Inputs.{input_of}
 use Rattle.flow_core.specs.State.{NetState, node_at}
@@ -21,10 +22,13 @@ begun_journal board b = (node_at (begun_in board) b).journal
 abbrev pub begun_input : {W : Type 0} → Board W → ℕ → InputState
 begun_input board l = input_of (begun_in board) (place_in (layout_of board.rest.plan) l)
 
+-- the journal of each block of one network goes on in another of the same layout
+abbrev pub JournalsExtend : {W : Type 0} → Layout W → NetState → NetState → Type 0
+JournalsExtend layout old new = (b : ℕ) → b < length layout.blocks → Extends (node_at old b).journal (node_at new b).journal
+
 -- the journal of each block goes on from the one with which it began
 abbrev pub JournalsGoOn : {W : Type 0} → Board W → NetState → Type 0
-JournalsGoOn board net =
-    (b : ℕ) → b < length (layout_of board.rest.plan).blocks → Extends (begun_journal board b) (node_at net b).journal
+JournalsGoOn board net = JournalsExtend (layout_of board.rest.plan) (begun_in board) net
 
 -- each input that is no entry has the values that were posted to it, and ends as it was to end
 abbrev pub ClosedInputsStay : {W : Type 0} → Board W → NetState → Type 0

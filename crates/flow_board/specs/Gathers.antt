@@ -1,12 +1,13 @@
 -- What gathering makes of parts, and why it does not.
-use Rattle.std.specs.Prelude.{◌≡◌, ℕ, ◌+◌, ◌≤◌, true, List, Result, length, map, take}
+use Rattle.std.specs.Prelude.{◌≡◌, ℕ, ◌+◌, ◌<◌, ◌≤◌, true, List, Result, length, map, take}
 use Rattle.std.specs.List.Sorted.{IsPermutation}
 use Rattle.flow_value.specs.declared.value.Value.{Value}
 use Rattle.flow_value.specs.declared.work.WorkFault.{WorkFault}
 use Rattle.flow_lists.specs.Lists.{below, is_front}
+use Rattle.flow_link.specs.Layout.{Layout}
 use Rattle.flow_link.specs.Plan.{link_in}
 use Rattle.flow_link.specs.Trace.{gave_over, marks_of, took_over}
-use Rattle.flow_link.specs.declared.plan.LinkSource.TheVariants.{Block}
+use Rattle.flow_link.specs.declared.plan.LinkSource.TheVariants.{Block, Input}
 use Rattle.flow_link.specs.declared.plan.LinkTarget.TheVariants.{Port}
 use Rattle.flow_core.specs.Inputs.{input_of}
 use Rattle.flow_core.specs.State.{NetState, exit_at}
@@ -53,6 +54,12 @@ module _ {W : Type 0} {w : _} {e : _} where
 pub record IsToldOf (told taken : List Value) : Type 0 where
   pub front : is_front told taken ≡ true
   pub one_more : length taken ≤ length told + 1
+
+-- what was taken over the link of each input is what the input knows to be taken
+abbrev pub KnowsTaken : {W : Type 0} → (W → Value → Result (List Value) WorkFault) → Layout W → NetState → Type 0
+KnowsTaken meaning layout net =
+    (l b t p : ℕ) → l < length layout.links → (link_in layout.links l).source ≡ Input b → (link_in layout.links l).target ≡ Port t p
+    → took_over l (marks_of (run_with meaning layout net) t) ≡ took_at (input_of net (place_in layout l))
 
 module _ {W : Type 0} {w : _} {e : _} (meaning : W → Value → Result (List Value) WorkFault) (board : Board W) (net : NetState) where
   -- the input of an entry has what its callers know of it; what it told goes on from what was taken when the network was scattered

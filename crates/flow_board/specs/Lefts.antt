@@ -7,8 +7,9 @@ use Rattle.flow_exit.specs.Exit.{ExitState, fresh_exit}
 use Rattle.flow_input.specs.Input.{InputState, no_input}
 use Rattle.flow_input.specs.InputKeeps.{PostedStays}
 use Rattle.flow_board.specs.Begun.{begun_input}
-use Rattle.flow_board.specs.Numbers.{closed_before, entry_count, open_before, place_in, task_count}
+use Rattle.flow_board.specs.Numbers.{closed_before, entry_count, is_open, open_before, place_in, task_count}
 use Rattle.flow_board.specs.Parts.{AllEntriesOf, AllTasksOf, board_layout, entry_link, entry_number, entry_state, exit_link, exit_state, task_number}
+use Rattle.flow_board.specs.Untouched.{AllUntouched}
 use Rattle.flow_board.specs.declared.board.Board.{Board}
 use Rattle.flow_board.specs.declared.input_task.InputTask.{InputTask}
 use Rattle.flow_board.specs.declared.numbered.Entry.{Entry}
@@ -41,6 +42,10 @@ module _ {W : Type 0} {w : _} {e : _} where
   abbrev pub IsTakenFrom : Bool → InputTask W w e → List (Entry W w e) → List (Entry W w e) → Type 0
   IsTakenFrom true part old new = (entry : Entry W w e) × ((old ≡ entry ∷ new) × (entry.input ≡ part))
   IsTakenFrom false part old new = (new ≡ old) × ∥ PostedStays (begun_input part.of.value part.link) part.input ∥₁
+
+  -- the input at this place is no entry, or no call was made to any entry
+  abbrev pub StaysAt : Board W → List (Entry W w e) → ℕ → Type 0
+  StaysAt board entries q = is_open (board_layout board) board.opens.items q ≡ true → AllUntouched board entries
 
   -- the input of an entry, and the end of an exit, stand at their places
   abbrev pub EntryIsAt : Board W → List InputState → Entry W w e → Type 0

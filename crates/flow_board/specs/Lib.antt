@@ -23,5 +23,6 @@ pub mod Rests
 pub mod TaskTurns
 pub mod Tasks
 pub mod Turns
+pub mod Untouched
 pub mod Wired
 pub mod Words

@@ -4,6 +4,7 @@ use Rattle.flow_lists.specs.Lists.{below, numbers_from}
 use Rattle.flow_link.specs.Planned.{layout_of}
 use Rattle.flow_board.specs.Numbers.{closed_before, open_before, task_count}
 use Rattle.flow_board.specs.Parts.{AllEntriesOf, AllTasksOf, entry_number, task_number}
+use Rattle.flow_board.specs.Untouched.{AllUntouched}
 use Rattle.flow_board.specs.declared.board.Board.{Board}
 use Rattle.flow_board.specs.declared.numbered.Entry.{Entry}
 use Rattle.flow_board.specs.declared.numbered.Task.{Task}
@@ -16,3 +17,4 @@ pub record InputsMade {W : Type 0} {w : _} {e : _} (board : Board W) (place : â„
   pub entries_of : AllEntriesOf board entries
   pub entry_numbers : map entry_number entries
       â‰¡ numbers_from (task_count (layout_of board.rest.plan) board.opens.items) (open_before (layout_of board.rest.plan) board.opens.items place)
+  pub untouched : AllUntouched board entries

@@ -1,5 +1,7 @@
 -- What a contract sees of the parts of a scattered network.
 use Rattle.std.specs.Prelude.{◌≡◌, ℕ, List, [], ◌∷◌, Option}
+use Rattle.flow_link.specs.declared.plan.LinkSource.{LinkSource}
+use Rattle.flow_link.specs.declared.plan.LinkSource.TheVariants.{Block, Input}
 use Rattle.flow_link.specs.declared.trace.Mark.{Mark}
 use Rattle.flow_link.specs.declared.trace.Outcome.{Outcome}
 use Rattle.flow_link.specs.Layout.{Layout}
@@ -13,6 +15,11 @@ use Rattle.flow_board.specs.declared.numbered.Kind.{Kind}
 use Rattle.flow_board.specs.declared.numbered.Kind.TheVariants as kind
 use Rattle.flow_board.specs.declared.numbered.Task.{Task}
 use Rattle.flow_board.specs.declared.numbered.Watch.{Watch}
+
+-- the block at which a link begins, or that of the input at which it does
+abbrev pub block_of : LinkSource → ℕ
+block_of (Block b) = b
+block_of (Input b) = b
 
 -- the layout of the network that was scattered
 abbrev pub board_layout : {W : Type 0} → Board W → Layout W

@@ -15,7 +15,7 @@ ghost use Rattle.flow_board.specs.Begun.{begun_in};
 ghost use Rattle.flow_board.specs.Exits.{exit_due};
 ghost use Rattle.flow_board.specs.Inputs.{input_due, links_of_inputs};
 ghost use Rattle.flow_board.specs.Known.{in_known, ins_due, out_known, outs_due};
-ghost use Rattle.flow_board.specs.Lefts.{EntryIsAt, ExitIsAt, InputsLeft, IsTakenFrom};
+ghost use Rattle.flow_board.specs.Lefts.{EntryIsAt, ExitIsAt, InputsLeft, IsTakenFrom, StaysAt};
 ghost use Rattle.flow_board.specs.Numbers.{closed_before, entry_count, is_open, task_count};
 ghost use Rattle.flow_board.specs.Parts.{AllEntriesOf, AllExitsOf, AllTasksOf, entry_number, exit_number, marks_in, task_number};
 
@@ -111,7 +111,7 @@ impl Inputs {
         requires ends_room { length board.now.opens.items ≤ vec_capacity self.old.ends }
         ensures count { length self.new.inputs.items ≡ length board.now.opens.items }
         ensures laws { (q : ℕ) → q < length board.now.opens.items → ∥ InputLaw (get_or self.new.inputs.items q no_input) ∥₁ }
-        ensures posted { (q : ℕ) → q < length board.now.opens.items → is_open (layout_of board.now.rest.plan) board.now.opens.items q ≡ false →
+        ensures posted { (q : ℕ) → q < length board.now.opens.items → StaysAt board.now entries.old.items q →
             ∥ PostedStays (input_of (begun_in board.now) q) (get_or self.new.inputs.items q no_input) ∥₁ }
         ensures entries { All (λ entry. EntryIsAt board.now self.new.inputs.items entry) entries.old.items }
         ensures ends { map out_known self.new.ends.items ≡ map (λ q. input_due (layout_of board.now.rest.plan) board.now.wires.items

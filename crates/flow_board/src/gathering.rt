@@ -6,13 +6,14 @@ ghost use Rattle.flow_lists.specs.Lists.{below};
 ghost use Rattle.flow_link.specs.Planned.{layout_of};
 ghost use Rattle.flow_block.specs.Planned.{links_out};
 ghost use Rattle.flow_core.specs.InOrder.{journals_of};
+ghost use Rattle.flow_core.specs.Inputs.{InputsStay};
 ghost use Rattle.flow_core.specs.State.{NetState, no_node};
 ghost use Rattle.flow_exec.specs.Works.{works_of};
 ghost use Rattle.flow_exit.specs.Exit.{fresh_exit};
 ghost use Rattle.flow_input.specs.Input.{no_input};
 ghost use Rattle.flow_net.specs.Net.{layout_in, parts_of, run_of};
 ghost use Rattle.flow_board.specs.Absent.{AllThere};
-ghost use Rattle.flow_board.specs.Begun.{JournalsGoOn, ClosedInputsStay};
+ghost use Rattle.flow_board.specs.Begun.{JournalsGoOn, ClosedInputsStay, begun_in};
 ghost use Rattle.flow_board.specs.Exits.{exit_due};
 ghost use Rattle.flow_board.specs.GatherRoom.{IsRoomToGather};
 ghost use Rattle.flow_board.specs.Gathers.{AreBack, EntryIsKept, ExitIsKept, GathersFrom, IsWhyNot};
@@ -20,6 +21,7 @@ ghost use Rattle.flow_board.specs.Inputs.{input_due, links_of_inputs};
 ghost use Rattle.flow_board.specs.Known.{in_known, ins_due, out_known, outs_due};
 ghost use Rattle.flow_board.specs.Orders.{AreInOrder, HasLookedAround};
 ghost use Rattle.flow_board.specs.Parts.{AllEntriesOf, AllExitsOf, AllTasksOf, board_layout, marks_in};
+ghost use Rattle.flow_board.specs.Untouched.{AllUntouched};
 
 use crate::apart::{Blocks, Exits, Inputs};
 use crate::board::Board;
@@ -42,7 +44,7 @@ pub enum GatherFault {
 }
 
 /// Puts the parts of a scattered network together, wherever their turns stopped. They may come in any order. Where one is missing or
-/// memory is out, all come back, in the order of their numbers.
+/// memory is out, all come back, in the order of their numbers, and may be gathered again.
 pub fn gather<W: Runs>(
     alloc: Global,
     mut parts: Parts<W>,
@@ -55,10 +57,14 @@ pub fn gather<W: Runs>(
     ensures journals { IfOk result (λ net. GathersFrom parts.board parts.tasks.items (journals_of (parts_of net))) }
     ensures go_on { IfOk result (λ net. JournalsGoOn parts.board (parts_of net)) }
     ensures posted { IfOk result (λ net. ClosedInputsStay parts.board (parts_of net)) }
+    ensures inputs_stay { IfOk result (λ net. AllUntouched parts.board parts.entries.items → InputsStay (begun_in parts.board) (parts_of net)) }
     ensures entries { IfOk result (λ net. All (λ entry. EntryIsKept W.meaning parts.board (parts_of net) entry) parts.entries.items) }
     ensures exits { IfOk result (λ net. All (λ exit. ExitIsKept W.meaning parts.board (parts_of net) exit) parts.exits.items) }
     ensures why { IfErr result (λ refused. IsWhyNot refused.0 refused.1) }
     ensures back { IfErr result (λ refused. AreBack parts refused.0) }
+    ensures tasks_back { IfErr result (λ refused. AllTasksOf refused.0.board refused.0.tasks.items) }
+    ensures entries_back { IfErr result (λ refused. AllEntriesOf refused.0.board refused.0.entries.items) }
+    ensures exits_back { IfErr result (λ refused. AllExitsOf refused.0.board refused.0.exits.items) }
 {
     parts.sort();
     if let Some(number) = parts.first_missing() {
@@ -116,6 +122,7 @@ impl Apart {
             map marks_in (take (length (board_layout parts.board).blocks) parts.tasks.items) }
         ensures go_on { JournalsGoOn parts.board (parts_of result) }
         ensures posted { ClosedInputsStay parts.board (parts_of result) }
+        ensures inputs_stay { AllUntouched parts.board parts.entries.items → InputsStay (begun_in parts.board) (parts_of result) }
         ensures entries { All (λ entry. EntryIsKept W.meaning parts.board (parts_of result) entry) parts.entries.items }
         ensures exits { All (λ exit. ExitIsKept W.meaning parts.board (parts_of result) exit) parts.exits.items }
     {

@@ -5,6 +5,7 @@
 mod apart;
 mod at;
 mod board;
+mod callers;
 mod close;
 mod entry;
 mod exit;

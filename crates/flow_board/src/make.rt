@@ -19,6 +19,7 @@ ghost use Rattle.flow_board.specs.Known.{in_known, ins_due, out_known, outs_due}
 ghost use Rattle.flow_board.specs.Makes.{InputsMade};
 ghost use Rattle.flow_board.specs.Numbers.{entry_count, is_entry_number, is_exit_number, is_input_number, task_count};
 ghost use Rattle.flow_board.specs.Parts.{AllEntriesOf, AllExitsOf, AllTasksOf, AllWatchesOf, board_of, entry_board, entry_number, exit_number, exit_state, marks_in, task_number, watched_block};
+ghost use Rattle.flow_board.specs.Untouched.{AllUntouched, IsUntouched};
 
 use crate::board::Board;
 use crate::input_task::InputTask;
@@ -137,6 +138,7 @@ impl<W: Runs> Board<W> {
         ensures entries_of { AllEntriesOf self.now entries.new.items }
         ensures entry_numbers { map entry_number entries.new.items ≡ numbers_from
             (task_count (layout_of self.now.rest.plan) self.now.opens.items) (entry_count (layout_of self.now.rest.plan) self.now.opens.items) }
+        ensures untouched { AllUntouched self.now entries.new.items }
     {
         let mut ends = VecDeque::from_vec(ends);
         let mut waiting = VecDeque::from_vec(waiting);
@@ -200,6 +202,7 @@ impl<W: Runs> Board<W> {
         requires waiting { ready.items ≡ drop input.input.sent input.input.posted }
         ensures of { entry_board result ≡ self.now }
         ensures number { entry_number result ≡ number }
+        ensures untouched { IsUntouched self.now result }
     {
         input.pass_taken();
         input.put_first(&mut ready);

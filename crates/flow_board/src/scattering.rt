@@ -13,7 +13,7 @@ ghost use Rattle.flow_exec.specs.Works.{works_of};
 ghost use Rattle.flow_exit.specs.Exit.{fresh_exit};
 ghost use Rattle.flow_input.specs.Input.{no_input};
 ghost use Rattle.flow_board.specs.Absent.{AllThere};
-ghost use Rattle.flow_board.specs.Begun.{begun_in};
+ghost use Rattle.flow_board.specs.Begun.{JournalsExtend, begun_in};
 ghost use Rattle.flow_board.specs.Entries.{waits_in};
 ghost use Rattle.flow_board.specs.Exits.{exit_due};
 ghost use Rattle.flow_board.specs.Frames.{IsRoomFor};
@@ -21,7 +21,9 @@ ghost use Rattle.flow_board.specs.Inputs.{input_due, links_of_inputs};
 ghost use Rattle.flow_board.specs.Known.{in_known, ins_due, out_known, outs_due};
 ghost use Rattle.flow_board.specs.Orders.{AreInOrder};
 ghost use Rattle.flow_board.specs.Parts.{AllEntriesOf, AllExitsOf, AllTasksOf, AllWatchesOf, board_layout, exit_state, marks_in, watched_block};
+ghost use Rattle.flow_board.specs.Gathers.{KnowsTaken};
 ghost use Rattle.flow_board.specs.Home.{HasGoneOn};
+ghost use Rattle.flow_board.specs.Untouched.{AllUntouched};
 ghost use Rattle.flow_board.specs.Wired.{AllReady, AreWired, starts_of};
 
 use crate::board::Board;
@@ -57,11 +59,15 @@ pub fn scatter<W: Runs>(
     ensures watched { IfOk result (λ parts. map watched_block parts.watches.items ≡ below (length (layout_in net).blocks)) }
     ensures goes_on { IfOk result (λ parts. HasGoneOn W.meaning (layout_in net) (parts_of net) (begun_in parts.board)) }
     ensures posted { IfOk result (λ parts. InputsStay (parts_of net) (begun_in parts.board)) }
+    ensures extends { IfOk result (λ parts. JournalsExtend (layout_in net) (parts_of net) (begun_in parts.board)) }
     ensures journals { IfOk result (λ parts.
         map marks_in (take (length (layout_in net).blocks) parts.tasks.items) ≡ journals_of (begun_in parts.board)) }
     ensures received { IfOk result (λ parts. map exit_state parts.exits.items ≡ (begun_in parts.board).exits) }
+    ensures taken { IfOk result (λ parts. KnowsTaken W.meaning (board_layout parts.board) (begun_in parts.board)) }
+    ensures untouched { IfOk result (λ parts. AllUntouched parts.board parts.entries.items) }
     ensures back { IfErr result (λ refused. layout_in refused.0 ≡ layout_in net) }
     ensures inputs_stay { IfErr result (λ refused. InputsStay (parts_of net) (parts_of refused.0)) }
+    ensures extends_back { IfErr result (λ refused. JournalsExtend (layout_in net) (parts_of net) (parts_of refused.0)) }
     ensures lawful { IfErr result (λ refused. Lawful (run_of W.meaning refused.0)) }
 {
     match bring_home(alloc, &mut net) {
@@ -84,8 +90,11 @@ fn scatter_home<W: Runs>(alloc: Global, net: Net<W>) -> Result<Scattered<W>, (Ne
     ensures journals { IfOk result (λ parts.
         map marks_in (take (length (layout_in net).blocks) parts.tasks.items) ≡ journals_of (begun_in parts.board)) }
     ensures received { IfOk result (λ parts. map exit_state parts.exits.items ≡ (begun_in parts.board).exits) }
+    ensures taken { IfOk result (λ parts. KnowsTaken W.meaning (board_layout parts.board) (begun_in parts.board)) }
+    ensures untouched { IfOk result (λ parts. AllUntouched parts.board parts.entries.items) }
     ensures back { IfErr result (λ refused. layout_in refused.0 ≡ layout_in net) }
     ensures inputs_stay { IfErr result (λ refused. InputsStay (parts_of net) (parts_of refused.0)) }
+    ensures journals_back { IfErr result (λ refused. journals_of (parts_of refused.0) ≡ journals_of (parts_of net)) }
     ensures lawful { IfErr result (λ refused. Lawful (run_of W.meaning refused.0)) }
 {
     let mut apart = net.into_parts();
@@ -177,6 +186,7 @@ impl<W: Runs> Board<W> {
         ensures watched { map watched_block result.watches.items ≡ below (length (layout_of self.rest.plan).blocks) }
         ensures journals { map marks_in (take (length lists.nodes.items) result.tasks.items) ≡ map (λ node. node.journal) lists.nodes.items }
         ensures received { map exit_state result.exits.items ≡ (begun_in self).exits }
+        ensures untouched { AllUntouched self result.entries.items }
     {
         let Room {
             mut tasks,
@@ -239,6 +249,7 @@ impl<W: Runs> Frame<W> {
         ensures watched { map watched_block result.watches.items ≡ below (length (layout_of apart.plan).blocks) }
         ensures journals { map marks_in (take (length net.nodes) result.tasks.items) ≡ map (λ node. node.journal) net.nodes }
         ensures received { map exit_state result.exits.items ≡ net.exits }
+        ensures untouched { AllUntouched result.board result.entries.items }
     {
         let Frame {
             mut sources,

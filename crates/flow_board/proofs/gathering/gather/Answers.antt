@@ -1,41 +1,73 @@
-use Rattle.std.proofs.Common.{All, sym, subst}
+use Rattle.std.proofs.Common.{All, subst}
 use Rattle.std.proofs.lemmas.List.Sorted.{All-permutation, IsPermutation-sym}
 use Rattle.flow_net.specs.Net.{parts_of}
-use Rattle.flow_board.specs.Begun.{ClosedInputsStay, JournalsGoOn}
+use Rattle.flow_core.specs.Inputs.{InputsStay}
+use Rattle.flow_board.specs.Begun.{ClosedInputsStay, JournalsGoOn, begun_in}
 use Rattle.flow_board.specs.Gathers.{EntryIsKept, ExitIsKept}
-use Rattle.flow_board.specs.Parts.{AllEntriesOf, AllExitsOf, AllTasksOf}
+use Rattle.flow_board.specs.Untouched.{AllUntouched, IsUntouched}
 use Rattle.flow_board.specs.declared.board.Board.{Board}
+use Rattle.flow_board.proofs.Reordered.{entries_sorted, exits_sorted, tasks_sorted}
 use Rattle.flow_board.proofs.gathering.gather.Goals as goal
 
 pub first_missing-requires-clause-tasks_of : goal.first_missing-requires-clause-tasks_of
 first_missing-requires-clause-tasks_of g c =
-    subst (λ (board : Board _). AllTasksOf board c.sort.new.self.tasks.items) (sym c.sort.ensures.board)
-    (c.sort.ensures.tasks_of c.args.parts.board c.requires.tasks_of)
+    tasks_sorted c.args.parts.board c.sort.new.self.board c.args.parts.tasks.items c.sort.new.self.tasks.items c.sort.ensures.board
+    c.sort.ensures.tasks_of c.requires.tasks_of
 
 pub first_missing-requires-clause-entries_of : goal.first_missing-requires-clause-entries_of
 first_missing-requires-clause-entries_of g c =
-    subst (λ (board : Board _). AllEntriesOf board c.sort.new.self.entries.items) (sym c.sort.ensures.board)
-    (c.sort.ensures.entries_of c.args.parts.board c.requires.entries_of)
+    entries_sorted c.args.parts.board c.sort.new.self.board c.args.parts.entries.items c.sort.new.self.entries.items c.sort.ensures.board
+    c.sort.ensures.entries_of c.requires.entries_of
 
 pub first_missing-requires-clause-exits_of : goal.first_missing-requires-clause-exits_of
 first_missing-requires-clause-exits_of g c =
-    subst (λ (board : Board _). AllExitsOf board c.sort.new.self.exits.items) (sym c.sort.ensures.board)
-    (c.sort.ensures.exits_of c.args.parts.board c.requires.exits_of)
+    exits_sorted c.args.parts.board c.sort.new.self.board c.args.parts.exits.items c.sort.new.self.exits.items c.sort.ensures.board
+    c.sort.ensures.exits_of c.requires.exits_of
 
 pub fill-requires-clause-tasks_of : goal.fill-requires-clause-tasks_of
 fill-requires-clause-tasks_of g c =
-    subst (λ (board : Board _). AllTasksOf board c.sort.new.self.tasks.items) (sym c.sort.ensures.board)
-    (c.sort.ensures.tasks_of c.args.parts.board c.requires.tasks_of)
+    tasks_sorted c.args.parts.board c.sort.new.self.board c.args.parts.tasks.items c.sort.new.self.tasks.items c.sort.ensures.board
+    c.sort.ensures.tasks_of c.requires.tasks_of
 
 pub fill-requires-clause-entries_of : goal.fill-requires-clause-entries_of
 fill-requires-clause-entries_of g c =
-    subst (λ (board : Board _). AllEntriesOf board c.sort.new.self.entries.items) (sym c.sort.ensures.board)
-    (c.sort.ensures.entries_of c.args.parts.board c.requires.entries_of)
+    entries_sorted c.args.parts.board c.sort.new.self.board c.args.parts.entries.items c.sort.new.self.entries.items c.sort.ensures.board
+    c.sort.ensures.entries_of c.requires.entries_of
 
 pub fill-requires-clause-exits_of : goal.fill-requires-clause-exits_of
 fill-requires-clause-exits_of g c =
-    subst (λ (board : Board _). AllExitsOf board c.sort.new.self.exits.items) (sym c.sort.ensures.board)
-    (c.sort.ensures.exits_of c.args.parts.board c.requires.exits_of)
+    exits_sorted c.args.parts.board c.sort.new.self.board c.args.parts.exits.items c.sort.new.self.exits.items c.sort.ensures.board
+    c.sort.ensures.exits_of c.requires.exits_of
+
+pub returns-in-Some-clause-tasks_back : goal.returns-in-Some-clause-tasks_back
+returns-in-Some-clause-tasks_back g c =
+    tasks_sorted c.args.parts.board c.sort.new.self.board c.args.parts.tasks.items c.sort.new.self.tasks.items c.sort.ensures.board
+    c.sort.ensures.tasks_of c.requires.tasks_of
+
+pub returns-in-Some-clause-entries_back : goal.returns-in-Some-clause-entries_back
+returns-in-Some-clause-entries_back g c =
+    entries_sorted c.args.parts.board c.sort.new.self.board c.args.parts.entries.items c.sort.new.self.entries.items c.sort.ensures.board
+    c.sort.ensures.entries_of c.requires.entries_of
+
+pub returns-in-Some-clause-exits_back : goal.returns-in-Some-clause-exits_back
+returns-in-Some-clause-exits_back g c =
+    exits_sorted c.args.parts.board c.sort.new.self.board c.args.parts.exits.items c.sort.new.self.exits.items c.sort.ensures.board
+    c.sort.ensures.exits_of c.requires.exits_of
+
+pub returns-in-Err-clause-tasks_back : goal.returns-in-Err-clause-tasks_back
+returns-in-Err-clause-tasks_back g c =
+    tasks_sorted c.args.parts.board c.sort.new.self.board c.args.parts.tasks.items c.sort.new.self.tasks.items c.sort.ensures.board
+    c.sort.ensures.tasks_of c.requires.tasks_of
+
+pub returns-in-Err-clause-entries_back : goal.returns-in-Err-clause-entries_back
+returns-in-Err-clause-entries_back g c =
+    entries_sorted c.args.parts.board c.sort.new.self.board c.args.parts.entries.items c.sort.new.self.entries.items c.sort.ensures.board
+    c.sort.ensures.entries_of c.requires.entries_of
+
+pub returns-in-Err-clause-exits_back : goal.returns-in-Err-clause-exits_back
+returns-in-Err-clause-exits_back g c =
+    exits_sorted c.args.parts.board c.sort.new.self.board c.args.parts.exits.items c.sort.new.self.exits.items c.sort.ensures.board
+    c.sort.ensures.exits_of c.requires.exits_of
 
 pub returns-in-Ok-clause-go_on : goal.returns-in-Ok-clause-go_on
 returns-in-Ok-clause-go_on g c =
@@ -44,6 +76,14 @@ returns-in-Ok-clause-go_on g c =
 pub returns-in-Ok-clause-posted : goal.returns-in-Ok-clause-posted
 returns-in-Ok-clause-posted g c =
     subst (λ (board : Board _). ClosedInputsStay board (parts_of c.fill.result)) c.sort.ensures.board c.fill.ensures.posted
+
+pub returns-in-Ok-clause-inputs_stay : goal.returns-in-Ok-clause-inputs_stay
+returns-in-Ok-clause-inputs_stay g c = λ untouched.
+    let net = parts_of c.fill.result in
+    let board = c.args.parts.board in
+    let sorted = c.sort.new.self.entries.items in
+    let all = All-permutation (IsUntouched board) c.args.parts.entries.items sorted c.sort.ensures.entries untouched in
+    subst (λ (its : Board _). AllUntouched its sorted → InputsStay (begun_in its) net) c.sort.ensures.board c.fill.ensures.inputs_stay all
 
 pub returns-in-Ok-clause-entries : goal.returns-in-Ok-clause-entries
 returns-in-Ok-clause-entries g c =

@@ -9,9 +9,10 @@ use Rattle.flow_exec.specs.Works.{works_of}
 use Rattle.flow_moves.proofs.MerelyKept.{lawful_merely}
 use Rattle.flow_moves.proofs.PlansRun.{plan_runs}
 use Rattle.flow_net.specs.Net.{layout_in, parts_of}
-use Rattle.flow_board.specs.Begun.{begun_in}
+use Rattle.flow_board.specs.Begun.{JournalsExtend, begun_in}
 use Rattle.flow_board.specs.Home.{HasGoneOn}
 use Rattle.flow_board.specs.Parts.{marks_in}
+use Rattle.flow_board.proofs.EventsGrow.{gone_extends, same_extends}
 use Rattle.flow_board.proofs.scattering.scatter.Goals as goal
 
 pub returns-in-Ok-clause-goes_on : goal.returns-in-Ok-clause-goes_on
@@ -32,6 +33,34 @@ returns-in-Ok-clause-posted g c =
     (λ parts. InputsStay (parts_of net) (begun_in parts.board))
     (λ parts is. subst (λ (state : NetState). InputsStay (parts_of net) state) (sym is) home.ensures.inputs_stay)
     c.scatter_home.ensures.begun
+
+pub returns-in-Ok-clause-extends : goal.returns-in-Ok-clause-extends
+returns-in-Ok-clause-extends g c =
+    let home = c.bring_home in
+    let net = c.args.net in
+    let layout = layout_in net in
+    IfOk-weaker c.scatter_home.result (λ parts. begun_in parts.board ≡ parts_of home.new.net)
+    (λ parts. JournalsExtend layout (parts_of net) (begun_in parts.board))
+    (λ parts is. subst (JournalsExtend layout (parts_of net)) (sym is)
+    (gone_extends layout g.W.Runs.meaning (parts_of net) (parts_of home.new.net) home.ensures.goes_on))
+    c.scatter_home.ensures.begun
+
+pub returns-in-Ok-clause-extends_back : goal.returns-in-Ok-clause-extends_back
+returns-in-Ok-clause-extends_back g c =
+    let home = c.bring_home in
+    let net = c.args.net in
+    let layout = layout_in net in
+    IfErr-weaker c.scatter_home.result (λ refused. journals_of (parts_of refused.0) ≡ journals_of (parts_of home.new.net))
+    (λ refused. JournalsExtend layout (parts_of net) (parts_of refused.0))
+    (λ refused same. same_extends layout (parts_of net) (parts_of home.new.net) (parts_of refused.0) same
+    (gone_extends layout g.W.Runs.meaning (parts_of net) (parts_of home.new.net) home.ensures.goes_on))
+    c.scatter_home.ensures.journals_back
+
+pub returns-in-Err-clause-extends_back : goal.returns-in-Err-clause-extends_back
+returns-in-Err-clause-extends_back g c =
+    let home = c.bring_home in
+    let net = c.args.net in
+    gone_extends (layout_in net) g.W.Runs.meaning (parts_of net) (parts_of home.new.net) home.ensures.goes_on
 
 pub returns-in-Ok-clause-journals : goal.returns-in-Ok-clause-journals
 returns-in-Ok-clause-journals g c =

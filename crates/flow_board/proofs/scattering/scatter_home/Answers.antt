@@ -16,7 +16,10 @@ use Rattle.flow_net.specs.declared.parts.NetParts.{NetParts}
 use Rattle.flow_net.specs.Net.{layout_in, parts_of}
 use Rattle.flow_board.specs.Frames.{IsRoomFor}
 use Rattle.flow_board.specs.Orders.{AreInOrder}
-use Rattle.flow_board.specs.Parts.{marks_in}
+use Rattle.flow_board.specs.Begun.{begun_in}
+use Rattle.flow_board.specs.Gathers.{KnowsTaken}
+use Rattle.flow_board.specs.Parts.{board_layout, marks_in}
+use Rattle.flow_board.proofs.TakenAtHome.{knows_taken}
 use Rattle.flow_board.specs.Wired.{AreWired, idle, starts_of}
 use Rattle.flow_board.proofs.Orders.{in_order, in_parts}
 use Rattle.flow_board.proofs.Scatters.{all_ready, inputs_stay_by, kept_in_order, lines_many, moved, starts_same, wired_same}
@@ -169,3 +172,19 @@ pub returns-in-Err-wire_up-clause-inputs_stay : goal.returns-in-Err-wire_up-clau
 returns-in-Err-wire_up-clause-inputs_stay g c =
     let inputs = ap (λ v. v.items) c.wire_up.ensures.inputs ∙ ap (λ (state : NetState). state.inputs) c.into_parts-apart.ensures.same_parts in
     inputs_stay_by (apart_in c.wire_up.new.apart) (parts_of c.args.net) (parts_of c.join-in-Err-wire_up.result) inputs c.join-in-Err-wire_up.ensures.inputs_stay
+
+pub returns-in-Err-wire_up-clause-journals_back : goal.returns-in-Err-wire_up-clause-journals_back
+returns-in-Err-wire_up-clause-journals_back g c =
+    let nodes = ap (λ v. v.items) c.wire_up.ensures.nodes ∙ ap (λ (state : NetState). state.nodes) c.into_parts-apart.ensures.same_parts in
+    c.join-in-Err-wire_up.ensures.journals ∙ ap (map (λ (node : NodeState). node.journal)) nodes
+
+pub returns-in-Ok-wire_up-clause-taken : goal.returns-in-Ok-wire_up-clause-taken
+returns-in-Ok-wire_up-clause-taken g c =
+    let net = c.args.net in
+    let means = g.W.Runs.meaning in
+    let parts = c.fill.result in
+    let begun = ap begun_by c.fill.ensures.begun ∙ ap apart_in c.of-begun.ensures ∙ c.into_parts-apart.ensures.same_parts in
+    let layout : board_layout parts.board ≡ layout_in net =
+    ap layout_of c.fill.ensures.plan ∙ ap layout_of c.wire_up.ensures.plan ∙ c.into_parts-apart.ensures.same_layout in
+    subst (λ (lay : Layout _). KnowsTaken means lay (begun_in parts.board)) (sym layout)
+    (subst (KnowsTaken means (layout_in net)) (sym begun) (knows_taken means net.engine.plan (parts_of net) net.kept c.requires.home))

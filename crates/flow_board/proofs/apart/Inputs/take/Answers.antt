@@ -1,17 +1,18 @@
-use Rattle.std.proofs.Common.{◌≡◌, ℕ, ◌+◌, ◌-◌, ◌<◌, ◌≤◌, false, List, length, get_or, sym, ap, ◌∙◌, subst, arith}
+use Rattle.std.proofs.Common.{◌≡◌, ℕ, ◌+◌, ◌-◌, ◌<◌, ◌≤◌, List, length, get_or, sym, ap, ◌∙◌, subst, arith}
 use Rattle.flow_link.specs.Planned.{layout_of}
 use Rattle.flow_lists.proofs.PlacesOfNumbers.{stands_below}
 use Rattle.flow_core.specs.Inputs.{input_of}
 use Rattle.flow_input.specs.Input.{InputState, no_input}
 use Rattle.flow_input.specs.InputKeeps.{PostedStays}
-use Rattle.flow_board.specs.Begun.{begun_in, begun_input}
+use Rattle.flow_board.specs.Begun.{begun_in}
 use Rattle.flow_board.specs.Inputs.{begins_at_input, input_due, links_of_inputs}
 use Rattle.flow_board.specs.Known.{out_known}
+use Rattle.flow_board.specs.Lefts.{StaysAt}
 use Rattle.flow_board.specs.declared.board.Board.{Board}
 use Rattle.flow_board.specs.Numbers.{entry_count, is_open, open_before, place_in}
 use Rattle.flow_board.specs.Parts.{entry_number}
 use Rattle.flow_board.proofs.InputsTaken.{due_at, input_more}
-use Rattle.flow_board.proofs.PartsTaken.{all_taken, from_closed, no_left, taken_more}
+use Rattle.flow_board.proofs.PartsTaken.{all_taken, no_left, stays_from, taken_more}
 use Rattle.flow_board.proofs.Places.{count_is}
 use Rattle.flow_board.proofs.TakenApart.{holds_more, known_there}
 use Rattle.flow_board.proofs.apart.Inputs.take.Goals as goal
@@ -40,10 +41,11 @@ loop-place-preserved g c =
     let place = (stands_below (begins_at_input layout) (length layout.links) k small).before in
     let at : place_in layout part.link ≡ k = ap (place_in layout) c.next_input-part.ensures.link ∙ place in
     let its = c.next_input-part.ensures.of in
-    let posted = λ (shut : is_open layout board.opens.items k ≡ false).
+    let entries = c.args.entries.now.items in
+    let posted = λ (stays : StaysAt board entries k).
     subst (λ (q : ℕ). ∥ PostedStays (input_of (begun_in board) q) part.input ∥₁) at
-    (subst (λ (b : Board _). ∥ PostedStays (begun_input b part.link) part.input ∥₁) its
-    (from_closed (is_open layout board.opens.items k) part _ _ shut c.next_input-part.ensures.from)) in (
+    (stays_from board (is_open layout board.opens.items k) part entries k c.loop-place.self.inputs.items c.loop-place.entries.items
+    c.next_input-part.new.entries.items i.1.1.1.1.1 c.next_input-part.ensures.from its stays) in (
       input_more (layout_of board.rest.plan) board.wires.items c.loop-place.place c.loop-place.self.inputs.items c.loop-place.self.ends.items i.0
           part.input part.out c.push_reserved.new.self.items c.push_reserved-in-loop-place.new.self.items c.push_reserved.ensures.items
           c.push_reserved-in-loop-place.ensures.items part.law knows,
@@ -55,10 +57,10 @@ loop-place-preserved g c =
             subst (λ (cap : ℕ). length board.opens.items ≤ cap) (sym c.push_reserved-in-loop-place.ensures.capacity) i.1.1.1.0,
             (
               subst
-                  (λ (inputs : List InputState). (q : ℕ) → q < k + 1 → is_open layout board.opens.items q ≡ false
+                  (λ (inputs : List InputState). (q : ℕ) → q < k + 1 → StaysAt board entries q
                   → ∥ PostedStays (input_of (begun_in board) q) (get_or inputs q no_input) ∥₁)
                   (sym c.push_reserved.ensures.items)
-                  (holds_more (λ q input. is_open layout board.opens.items q ≡ false → ∥ PostedStays (input_of (begun_in board) q) input ∥₁) k
+                  (holds_more (λ q input. StaysAt board entries q → ∥ PostedStays (input_of (begun_in board) q) input ∥₁) k
                   c.loop-place.self.inputs.items part.input no_input i.0.count i.1.1.1.1.0 posted),
               taken_more board (is_open layout board.opens.items k) part c.args.entries.now.items k c.loop-place.self.inputs.items
                   c.push_reserved.new.self.items c.loop-place.entries.items c.next_input-part.new.entries.items i.1.1.1.1.1

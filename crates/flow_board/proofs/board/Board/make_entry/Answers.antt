@@ -1,6 +1,8 @@
-use Rattle.std.proofs.Common.{◌+◌, drop, refl, sym, ap, ◌∙◌}
+use Rattle.std.proofs.Common.{ℕ, ◌+◌, drop, refl, sym, ap, ◌∙◌}
 use Rattle.flow_input.specs.Input.{InputState}
 use Rattle.flow_board.specs.Entries.{with_parcel}
+use Rattle.flow_board.specs.Begun.{begun_input}
+use Rattle.flow_board.specs.Untouched.{passed}
 use Rattle.flow_board.proofs.EntriesKeep.{made_so}
 use Rattle.flow_board.proofs.EntriesMade.{made_by, made_number}
 use Rattle.flow_board.proofs.board.Board.make_entry.Goals as goal
@@ -24,3 +26,11 @@ invariant_of-result g c =
           (c.put_first.ensures.same ∙ ap with_parcel passed) c.put_first.ensures.first
           (c.put_first.ensures.rest ∙ ap (λ (state : InputState). drop (state.sent + 1) state.posted) passed));
     }
+
+pub returns-clause-untouched : goal.returns-clause-untouched
+returns-clause-untouched g c =
+    let board = c.args.self.now in
+    let link = c.put_first.ensures.link ∙ c.pass_taken.ensures.link in
+    c.put_first.ensures.same ∙ ap with_parcel c.pass_taken.ensures.passed
+    ∙ ap (λ (state : InputState). with_parcel (passed state)) c.requires.begun
+    ∙ ap (λ (l : ℕ). with_parcel (passed (begun_input board l))) (sym link)

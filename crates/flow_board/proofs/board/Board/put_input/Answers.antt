@@ -94,7 +94,7 @@ returns-then-index-clause-made g c =
     let number = c.make_entry.ensures.number in
     subst (InputsMade board (place + 1) c.args.tasks.now.items) (sym c.push_reserved.ensures.items)
     (entry_more board place c.args.tasks.now.items entries.items c.requires.made opened c.make_entry.result c.make_entry.ensures.of
-    (omega (arith, number, first, long, many)))
+    (omega (arith, number, first, long, many)) c.make_entry.ensures.untouched)
 
 pub returns-else-index-clause-made : goal.returns-else-index-clause-made
 returns-else-index-clause-made g c =

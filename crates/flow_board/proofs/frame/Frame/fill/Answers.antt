@@ -14,7 +14,9 @@ use Rattle.flow_board.specs.Entries.{waits_in}
 use Rattle.flow_board.specs.Exits.{exit_due}
 use Rattle.flow_board.specs.Inputs.{input_due, links_of_inputs, stays_open}
 use Rattle.flow_board.specs.Known.{in_known, ins_due, out_known, outs_due, source_due, target_due}
+use Rattle.flow_board.specs.Untouched.{AllUntouched}
 use Rattle.flow_board.specs.Wired.{target_table}
+use Rattle.flow_board.specs.declared.board.Board.{Board}
 use Rattle.flow_board.proofs.EndsByPlace.{all_exits, all_inputs, all_ins, all_outs}
 use Rattle.flow_board.proofs.Fills.{ins_none, ins_roomy, outs_roomy, sources_due, targets_due}
 use Rattle.flow_board.proofs.Places.{count_is}
@@ -180,3 +182,8 @@ invariant_of-board-clause-inputs_are g c =
 pub invariant_of-board-clause-exits_are : goal.invariant_of-board-clause-exits_are
 invariant_of-board-clause-exits_are g c =
     c.requires.1.1.1.1.1.0.exit_links ∙ ap (λ (plan : Plan _). links_out (layout_of plan)) (sym c.take_lists-lists.ensures.plan)
+
+pub returns-clause-untouched : goal.returns-clause-untouched
+returns-clause-untouched g c =
+    subst (λ (board : Board _). AllUntouched board c.make_parts.result.entries.items) (sym c.make_parts.ensures.board)
+    c.make_parts.ensures.untouched

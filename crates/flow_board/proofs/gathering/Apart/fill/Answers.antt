@@ -6,7 +6,9 @@ use Rattle.flow_link.specs.Layout.{Layout}
 use Rattle.flow_link.specs.Planned.{layout_of}
 use Rattle.flow_link.specs.declared.trace.Mark.{Mark}
 use Rattle.flow_block.specs.Node.{NodeState}
-use Rattle.flow_core.specs.Inputs.{input_of}
+use Rattle.flow_core.proofs.AllLook.{looks_leave_posted}
+use Rattle.flow_core.proofs.InputsChange.{all_further}
+use Rattle.flow_core.specs.Inputs.{InputsStay, input_of}
 use Rattle.flow_core.specs.Keeps.{NetKeeps}
 use Rattle.flow_core.specs.State.{NetState, no_node}
 use Rattle.flow_exec.specs.Works.{works_of}
@@ -20,9 +22,10 @@ use Rattle.flow_board.specs.Inputs.{input_due, links_of_inputs}
 use Rattle.flow_board.specs.Lefts.{EntryIsAt}
 use Rattle.flow_board.specs.Numbers.{closed_before, task_count}
 use Rattle.flow_board.specs.Parts.{AllTasksOf, marks_in, task_number}
+use Rattle.flow_board.specs.Untouched.{AllUntouched}
 use Rattle.flow_board.specs.declared.numbered.Entry.{Entry}
 use Rattle.flow_board.proofs.AllLooked.{input_looked}
-use Rattle.flow_board.proofs.InputsStayed.{closed_stay, looked_stays}
+use Rattle.flow_board.proofs.InputsStayed.{all_stay, closed_stay, looked_stays}
 use Rattle.flow_board.proofs.JournalsBegin.{journals_begin}
 use Rattle.flow_board.proofs.Makes.{numbers_behind, tasks_behind}
 use Rattle.flow_board.proofs.PartsKept.{entry_kept, exit_kept}
@@ -117,11 +120,27 @@ returns-clause-posted g c =
       lines = looked.0;
     } in
     closed_stay board net (λ q low shut.
-    ∥∥₁_map (c.take-2.ensures.posted q low shut) (λ stays.
+    ∥∥₁_map (c.take-2.ensures.posted q low (λ opened. absurd (let both = sym shut ∙ opened in cc))) (λ stays.
     posted_is_kept.further (input_of (begun_in board) q) (input_of start q) (input_of net q) stays
     (looked_stays (input_of start q) (input_of net q)
     (subst (λ (state : NetState). HasLooked InputLooks (input_of start q) (input_of state q)) (sym looked.1)
     (input_looked layout (works_of g.W.Runs.meaning layout) (length layout.links) start q)))))
+
+pub returns-clause-inputs_stay : goal.returns-clause-inputs_stay
+returns-clause-inputs_stay g c = λ untouched.
+    let board = c.args.parts.board in
+    let layout = layout_of board.rest.plan in
+    let looked = c.join.ensures.looked in
+    let start : NetState = record {
+      nodes = c.take.new.self.nodes.items;
+      inputs = c.take-2.new.self.inputs.items;
+      exits = c.take-3.new.self.exits.items;
+      lines = looked.0;
+    } in
+    let all = subst (AllUntouched board) (sym c.from_vec-entries.ensures.items) untouched in
+    all_further (begun_in board) start (parts_of c.join.result)
+    (all_stay board start c.take-2.ensures.count (λ q low. c.take-2.ensures.posted q low (λ opened. all)))
+    (subst (InputsStay start) (sym looked.1) (looks_leave_posted _ layout (works_of g.W.Runs.meaning layout) (length layout.links) start))
 
 pub returns-clause-entries : goal.returns-clause-entries
 returns-clause-entries g c =
