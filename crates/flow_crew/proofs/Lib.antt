@@ -2,4 +2,5 @@ pub mod ComesBack
 pub mod ItemsCross
 pub mod Journals
 pub mod Keeps
+pub mod RunsOn
 pub mod Tasks

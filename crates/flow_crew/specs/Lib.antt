@@ -2,3 +2,4 @@ pub mod Journals
 pub mod Numbers
 pub mod Rounds
 pub mod Rules
+pub mod Runs

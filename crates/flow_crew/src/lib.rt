@@ -18,6 +18,8 @@ mod laws;
 mod queue;
 mod round;
 mod rule;
+mod run;
 mod worker;
 
 pub use round::turn_round;
+pub use run::{RunFault, run_workers};
