@@ -1,6 +1,11 @@
 pub mod BlockStepsKeep
+pub mod FirstPlaces
 pub mod JobsInSlots
+pub mod LanesStayApart
 pub mod LaneStepsKeep
+pub mod LooksGoOn
+pub mod OneSideChanges
+pub mod StandingsTell
 pub mod StepsAllowed
 pub mod TablesEnd
 pub mod WordsDiffer

@@ -16,6 +16,9 @@ pub record JobState (W : Type 0) : Type 0 where
   pub message : Value
   pub ticket : ℕ
 
+abbrev pub ticket_of : {W : Type 0} → JobState W → ℕ
+ticket_of job = job.ticket
+
 abbrev pub state_of : {W : Type 0} → Job W → JobState W
 state_of job = record { work = work_in job; kind = kind_in job; message = message_in job; ticket = ticket_in job }
 

@@ -1,7 +1,9 @@
+pub mod BlockLanes
 pub mod Items
 pub mod Phase
 pub mod Plays
 pub mod Rule
 pub mod SideSeats
 pub mod Sides
+pub mod Standing
 pub mod Views

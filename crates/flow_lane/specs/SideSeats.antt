@@ -1,9 +1,11 @@
 -- What a seat has to be, to be a side of a lane.
-use Rattle.std.specs.Prelude.{◌≡◌, List, [], ◌∷◌, ℕ, Option, None}
+use Rattle.std.specs.Prelude.{◌≡◌, List, [], ◌∷◌, ℕ, Option, Some, None}
 use Rattle.atomic_table.specs.Seated.{TableId}
 use Rattle.atomic_table.specs.Table.{Me}
 use Rattle.flow_lane.specs.Views.{BlockStage, LaneStage, BlockView, LaneView, SeatView, block_in, lane_in}
 use Rattle.flow_lane.specs.Sides.{BlockOf, LaneOf}
+use Rattle.flow_lane.specs.Standing.{standing_of}
+use Rattle.flow_lane.specs.declared.standing.Standing.{Standing}
 
 module _ {J : Type 0} where
   -- no put is under way
@@ -34,12 +36,13 @@ module _ {J S : Type 0} where
   abbrev pub lane_of : TableId → Me (Option S) (SeatView J) → LaneOf J
   lane_of table me = record { table = table; side = lane_in me.0 }
 
-  -- a seat of a lane's table that knows what a side does, with the slots that are then out
-  pub record IsBlockSeat (table : TableId) (me : Me (Option S) (SeatView J)) : Type 0 where
+  -- a seat of a lane's table that knows what a side does, with the slots that are then out. The block's also tells where it stands
+  pub record IsBlockSeat (ticket_of : J → ℕ) (table : TableId) (me : Me (Option S) (SeatView J)) (standing : Standing) : Type 0 where
     pub words : table.words ≡ 8
     pub slots : table.slots ≡ 1
     pub me_is : me ≡ block_seat (block_in me.0)
     pub quiet : IsQuiet (block_in me.0).stage
+    pub told : standing_of ticket_of (block_in me.0).stage ≡ Some standing
 
   pub record IsLaneSeat (table : TableId) (me : Me (Option S) (SeatView J)) : Type 0 where
     pub words : table.words ≡ 8

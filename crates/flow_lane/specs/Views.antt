@@ -85,6 +85,11 @@ module _ {J : Type 0} where
   Meet Fetching b l = (job : J) × (b ≡ BlockStage.hand job) × (l ≡ LaneStage.idle)
   Meet Ended b l = (b ≡ BlockStage.ended) × ((l ≡ LaneStage.idle) ⊎ (l ≡ LaneStage.ended))
 
+  -- nothing is in the lane
+  abbrev pub is_free : BlockStage J → Bool
+  is_free BlockStage.free = true
+  is_free _ = false
+
   -- it put a job, and has not seen the result
   abbrev pub is_sent : BlockStage J → Bool
   is_sent (BlockStage.sent _) = true

@@ -1,12 +1,15 @@
 //! The block's side of a lane: its looks, and its moves of the word and the slot.
-ghost use Rattle.std.specs.Prelude.{◌≡◌, ◌↔◌, true, IsOk, OnOk, OnErr, IfErr};
-ghost use Rattle.flow_lane.specs.Items.{state_of, state_in};
+ghost use Rattle.std.specs.Prelude.{◌≡◌, ◌↔◌, true, Some, IsOk, OnOk, OnErr, IfErr};
+ghost use Rattle.flow_lane.specs.BlockLanes.{has_ticket};
+ghost use Rattle.flow_lane.specs.Items.{state_of, state_in, ticket_of};
 ghost use Rattle.flow_lane.specs.Sides.{FoundNotFree, block_looked, putting, fetching, clearing, ending};
-ghost use Rattle.flow_lane.specs.Views.{BlockStage, FoundByBlock, StandsAsBlock, is_ready, has_in_hand};
+ghost use Rattle.flow_lane.specs.Standing.{standing_of};
+ghost use Rattle.flow_lane.specs.Views.{BlockStage, FoundByBlock, StandsAsBlock, is_free, is_ready, is_sent, has_in_hand};
 
 use crate::item::LaneItem;
 use crate::phase::{LanePhase, phase_of, word_of};
 use crate::plays::{BlockLook, Clear, End, Fetch, Put, SlotOut};
+use crate::standing::Standing;
 use crate::table::{Lane, SideSeat};
 use flow_exec::{Job, JobResult};
 use flow_value::Runs;
@@ -16,13 +19,15 @@ use std::marker::Model;
 #[derive(Drop)]
 pub struct BlockSide<W: Runs> {
     pub(crate) seat: SideSeat<W>,
+    /// What it knows of the lane.
+    pub(crate) standing: Standing,
 }
 
 impl<W: Runs> Model for BlockSide<W> {
     ghost use Rattle.std.specs.Coded.{codes};
     ghost use Rattle.atomic_table.specs.Seated.{table_id_coded};
     ghost use Rattle.flow_value.specs.contracts.value.Value as content;
-    ghost use Rattle.flow_lane.specs.Items.{JobState};
+    ghost use Rattle.flow_lane.specs.Items.{JobState, ticket_of};
     ghost use Rattle.flow_lane.specs.Sides.{BlockOf};
     ghost use Rattle.flow_lane.specs.SideSeats.{block_of, IsBlockSeat};
 
@@ -32,10 +37,48 @@ impl<W: Runs> Model for BlockSide<W> {
 
     ghost view = { λ b. block_of b.seat.table_id b.seat.me };
 
-    ghost invariant = { λ b. IsBlockSeat b.seat.table_id b.seat.me };
+    ghost invariant = { λ b. IsBlockSeat ticket_of b.seat.table_id b.seat.me b.standing };
 }
 
 impl<W: Runs> BlockSide<W> {
+    /// Where the lane stands, as far as it knows.
+    pub fn standing(&self) -> Standing
+        ensures { standing_of ticket_of self.now.side.stage ≡ Some result }
+    {
+        self.standing
+    }
+
+    /// Whether the job that it put, and that has not come back, has this ticket.
+    pub fn has_ticket(&self, ticket: u64) -> bool
+        ensures { result ≡ has_ticket ticket self.now }
+    {
+        match self.standing.ticket() {
+            Some(own) => own == ticket,
+            None => false,
+        }
+    }
+
+    /// Whether it knows the lane to be free.
+    pub fn is_free(&self) -> bool
+        ensures { result ≡ is_free self.now.side.stage }
+    {
+        self.standing.is_free()
+    }
+
+    /// Whether it put a job whose result it has not seen.
+    pub fn is_sent(&self) -> bool
+        ensures { result ≡ is_sent self.now.side.stage }
+    {
+        self.standing.is_sent()
+    }
+
+    /// Whether it has seen that the result is there.
+    pub fn is_ready(&self) -> bool
+        ensures { result ≡ is_ready self.now.side.stage }
+    {
+        self.standing.is_ready()
+    }
+
     /// The phase, which the lane may leave at once. The side goes to the stage that the phase tells.
     pub fn look(&mut self, lane: &Lane<W>) -> LanePhase
         requires { self.old.table ≡ lane.now }
@@ -43,7 +86,9 @@ impl<W: Runs> BlockSide<W> {
         ensures found { FoundByBlock result self.old.side.stage }
         ensures stands { StandsAsBlock result self.new.side.stage }
     {
-        phase_of(lane.table.shared.load::<BlockLook>(&mut self.seat, 0))
+        let phase = phase_of(lane.table.shared.load::<BlockLook>(&mut self.seat, 0));
+        self.standing = self.standing.looked_at(phase);
+        phase
     }
 
     /// Puts a job into the lane. Where the lane is not free, the job comes back.
@@ -62,8 +107,10 @@ impl<W: Runs> BlockSide<W> {
         if found != free {
             return Err(job);
         }
+        let ticket = job.ticket();
         drop(shared.exchange(&mut self.seat, 0, Some(LaneItem::Job(job))));
         shared.store::<Put>(&mut self.seat, 0, word_of(LanePhase::Job));
+        self.standing = Standing::Sent(ticket);
         Ok(())
     }
 
@@ -79,6 +126,7 @@ impl<W: Runs> BlockSide<W> {
         let Some(LaneItem::Result(done)) = shared.exchange(&mut self.seat, 0, None) else {
             unreachable!()
         };
+        self.standing = Standing::InHand(done.job().ticket());
         done
     }
 
@@ -91,6 +139,7 @@ impl<W: Runs> BlockSide<W> {
         lane.table
             .shared
             .store::<Clear>(&mut self.seat, 0, word_of(LanePhase::Free));
+        self.standing = Standing::Free;
     }
 
     /// Ends the lane, in which nothing is.
@@ -102,5 +151,6 @@ impl<W: Runs> BlockSide<W> {
         lane.table
             .shared
             .store::<End>(&mut self.seat, 0, word_of(LanePhase::Ended));
+        self.standing = Standing::Ended;
     }
 }

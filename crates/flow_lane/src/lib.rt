@@ -15,21 +15,27 @@
 //! A look is a load. A put loads first, and where the lane is not free it hands the job back. Where it is free, only the
 //! block can reach the slot from that load to the store of Job. From open to finish only the lane can, and from fetch to
 //! clear only the block.
+//!
+//! A block has its side of each of its lanes in a [`BlockLanes`].
 #![tactic(auto)]
 
+mod block_lanes;
 mod block_side;
 mod item;
 mod lane_side;
 mod laws;
 mod phase;
 mod plays;
+mod standing;
 mod table;
 mod view;
 
+pub use block_lanes::BlockLanes;
 pub use block_side::BlockSide;
 pub use item::LaneItem;
 pub use lane_side::LaneSide;
 pub use laws::{items_cross, lanes_cross, sides_cross};
 pub use phase::LanePhase;
+pub use standing::Standing;
 pub use table::{Lane, LaneRule, LaneState};
 pub use view::View;

@@ -10,6 +10,7 @@ use crate::item::LaneItem;
 use crate::lane_side::LaneSide;
 use crate::phase::{LanePhase, phase_of, word_of};
 use crate::plays::{BothSides, Halves, Part};
+use crate::standing::Standing;
 use crate::view::View;
 use atomic_table::{Seat, Table, TableRule};
 use flow_value::Runs;
@@ -70,7 +71,11 @@ impl<W: Runs> Lane<W> {
         match LaneTable::vacant(alloc, &words, 1, &()) {
             Ok((table, mut seat)) => {
                 let other = table.shared.split_seat::<Halves>(&mut seat);
-                Ok((Lane { table }, BlockSide { seat }, LaneSide { seat: other }))
+                let block = BlockSide {
+                    seat,
+                    standing: Standing::Free,
+                };
+                Ok((Lane { table }, block, LaneSide { seat: other }))
             }
             Err(_) => Err(AllocError),
         }
@@ -83,7 +88,10 @@ impl<W: Runs> Lane<W> {
         ensures { Left as_job as_result state_of state_in result.phase result.slot block.side.stage lane.side.stage }
     {
         let Lane { table } = self;
-        let BlockSide { seat: mut other } = block;
+        let BlockSide {
+            seat: mut other,
+            standing: _,
+        } = block;
         let LaneSide { mut seat } = lane;
         // a seat that is taken in has no slot out
         table.shared.load::<Part>(&mut other, 0);

@@ -1,8 +1,9 @@
-use Rattle.std.proofs.Common.{rules, ap, ◌∙◌}
-use Rattle.flow_lane.specs.Items.{JobState, as_job, as_result, state_of, state_in}
+use Rattle.std.proofs.Common.{rules, ap, ◌∙◌, refl}
+use Rattle.flow_lane.specs.Items.{JobState, as_job, as_result, state_of, state_in, ticket_of}
 use Rattle.flow_lane.specs.Sides.{BlockOf, clearing}
 use Rattle.flow_lane.specs.Views.{block_in, has_in_hand}
 use Rattle.flow_lane.proofs.BlockStepsKeep.{clears, is_now, job_in_hand, quiet_now}
+use Rattle.flow_lane.proofs.StandingsTell.{told_now}
 use Rattle.flow_lane.proofs.block_side.BlockSide.clear.Goals as goal
 
 pub store-requires : goal.store-requires
@@ -17,4 +18,5 @@ invariant_of-self g c = record {
   slots = search rules;
   me_is = is_now _ (clearing (block_in c.self.inside.seat.me.0)) c.store.ensures.2;
   quiet = quiet_now _ (clearing (block_in c.self.inside.seat.me.0)) _ c.store.ensures.2 tt;
+  told = told_now ticket_of _ (clearing (block_in c.self.inside.seat.me.0)) _ _ c.store.ensures.2 refl;
 }

@@ -1,8 +1,9 @@
 use Rattle.std.proofs.Common.{rules, ap, ◌∙◌, Some}
-use Rattle.flow_lane.specs.Items.{JobState, as_job, as_result, state_of, state_in}
+use Rattle.flow_lane.specs.Items.{JobState, as_job, as_result, state_of, state_in, ticket_of}
 use Rattle.flow_lane.specs.Sides.{BlockOf, fetching}
 use Rattle.flow_lane.specs.Views.{block_in, is_ready}
 use Rattle.flow_lane.proofs.BlockStepsKeep.{fetches, holds_one, is_now, job_ready, quiet_now, written}
+use Rattle.flow_lane.proofs.StandingsTell.{told_now}
 use Rattle.flow_lane.proofs.block_side.BlockSide.fetch.Goals as goal
 
 pub store-requires : goal.store-requires
@@ -25,4 +26,5 @@ invariant_of-self g c =
       slots = search rules;
       me_is = is_now _ side now;
       quiet = quiet_now _ side _ now tt;
+      told = told_now ticket_of _ side _ _ now (search rules);
     }

@@ -1,9 +1,10 @@
 use Rattle.std.proofs.Common.{rules, ◌≡◌, refl}
-use Rattle.flow_lane.specs.Items.{as_job, as_result, state_of, state_in}
+use Rattle.flow_lane.specs.Items.{as_job, as_result, state_of, state_in, ticket_of}
 use Rattle.flow_lane.specs.Sides.{filling, putting}
 use Rattle.flow_lane.specs.Views.{block_in}
 use Rattle.flow_lane.proofs.BlockStepsKeep.{is_now, out_seat, put_is, puts, quiet_now, takes_out, was_free, written}
 use Rattle.flow_lane.proofs.JobsInSlots.{one_job}
+use Rattle.flow_lane.proofs.StandingsTell.{told_now}
 use Rattle.flow_lane.proofs.block_side.BlockSide.put.Goals as goal
 
 pub load-found-requires : goal.load-found-requires
@@ -33,4 +34,5 @@ invariant_of-self-2 g c =
       slots = search rules;
       me_is = is_now _ side is;
       quiet = quiet_now _ side _ is tt;
+      told = told_now ticket_of _ side _ _ is (search rules);
     }

@@ -1,0 +1,27 @@
+use Rattle.std.proofs.Common.{refl, ap, ◌∙◌}
+use Rattle.flow_lane.specs.BlockLanes.{LanesState, stage_at, tables_of, ticket_at}
+use Rattle.flow_lane.specs.Items.{JobState}
+use Rattle.flow_lane.specs.Sides.{BlockOf, putting}
+use Rattle.flow_lane.specs.Views.{is_free}
+use Rattle.std.specs.List.{list_any}
+use Rattle.flow_exec.specs.Jobs.{ticket_in}
+use Rattle.flow_lane.specs.BlockLanes.{has_ticket}
+use Rattle.flow_lane.specs.Items.{state_in, state_of}
+use Rattle.flow_lane.proofs.LanesStayApart.{is_there, new_apart}
+use Rattle.flow_lane.proofs.OneSideChanges.{free_no_hand, same_table, still_in_hand, tables_now}
+use Rattle.flow_lane.proofs.block_lanes.BlockLanes.put_there.Goals as goal
+
+pub invariant_of-self : goal.invariant_of-self
+invariant_of-self g c =
+    let sides = c.self.inside.sides.items in
+    let at = ap (λ (l : LanesState g.row.W.Denot). is_free (stage_at c.args.place l)) c.self.view_is ∙ ap is_free c.requires.may.free in
+    let there = is_there is_free refl sides c.args.place at in
+    (new_apart sides c.args.place (ticket_in c.args.job) c.put.new.self there c.self.invariant.0 (ap (λ (s : BlockOf (JobState g.row.W.Denot)). ticket_at s.side.stage) c.in-Ok.ensures.put) (ap (λ (l : LanesState g.row.W.Denot). list_any (has_ticket (ticket_in c.args.job)) l.sides) c.self.view_is ∙ c.requires.may.nowhere), still_in_hand sides c.args.place there c.put.new.self c.self.inside.kept state_in (λ job. free_no_hand _ job at) c.self.invariant.1)
+
+pub returns-clause-tables : goal.returns-clause-tables
+returns-clause-tables g c =
+    let sides = c.self.inside.sides.items in
+    let at = ap (λ (l : LanesState g.row.W.Denot). is_free (stage_at c.args.place l)) c.self.view_is ∙ ap is_free c.requires.may.free in
+    let there = is_there is_free refl sides c.args.place at in
+    tables_now sides c.args.place there c.put.new.self (same_table sides c.args.place there (putting (state_of c.args.job)) c.index_mut.result.now c.put.new.self c.index_mut.ensures.value c.in-Ok.ensures.put)
+    ∙ ap (λ (l : LanesState g.row.W.Denot). tables_of l.sides) c.self.view_is ∙ c.requires.table

@@ -1,0 +1,93 @@
+-- The lanes of a block, as contracts see them: the block's side of each, and whose result it keeps.
+use Rattle.std.specs.Prelude.{◌≡◌, ◌≤◌, ℕ, Bool, true, false, eqb, List, [], length, map, set, get_or, count_by, Option, Some, None}
+use Rattle.std.specs.List.{list_any}
+use Rattle.atomic_table.specs.Seated.{TableId}
+use Rattle.flow_lane.specs.declared.phase.LanePhase.{LanePhase}
+use Rattle.flow_lane.specs.Items.{JobState}
+use Rattle.flow_lane.specs.Sides.{BlockOf, block_looked}
+use Rattle.flow_lane.specs.Views.{BlockStage, BlockView, FoundByBlock, is_free, is_sent, is_ready}
+
+pub record LanesState (W : Type 0) : Type 0 where
+  -- the block's side of each lane
+  pub sides : List (BlockOf (JobState W))
+  -- the place whose result was fetched and is kept
+  pub kept : Option ℕ
+
+abbrev pub is_ticket : ℕ → Option ℕ → Bool
+is_ticket ticket None = false
+is_ticket ticket (Some other) = eqb other ticket
+
+-- no lane stands past the last one
+abbrev pub no_table : TableId
+no_table = record { words = 0; slots = 0; views_name = 0; atom = 0; block = 0; offset = 0; slot_names = [] }
+
+module _ {W : Type 0} where
+  -- the ticket of the job that stands in a lane
+  abbrev pub ticket_at : BlockStage (JobState W) → Option ℕ
+  ticket_at BlockStage.free = None
+  ticket_at BlockStage.filling = None
+  ticket_at (BlockStage.sent job) = Some job.ticket
+  ticket_at (BlockStage.ready job) = Some job.ticket
+  ticket_at (BlockStage.hand job) = Some job.ticket
+  ticket_at BlockStage.ended = None
+
+  -- Of one side
+
+  -- a job with this ticket stands in its lane
+  abbrev pub has_ticket : ℕ → BlockOf (JobState W) → Bool
+  has_ticket ticket side = is_ticket ticket (ticket_at side.side.stage)
+
+  abbrev pub has_room : BlockOf (JobState W) → Bool
+  has_room side = is_free side.side.stage
+
+  abbrev pub has_result : BlockOf (JobState W) → Bool
+  has_result side = is_ready side.side.stage
+
+  -- Of all sides
+
+  abbrev pub tables_of : List (BlockOf (JobState W)) → List TableId
+  tables_of sides = map (λ side. side.table) sides
+
+  -- no ticket stands in two lanes
+  abbrev pub AreApart : List (BlockOf (JobState W)) → Type 0
+  AreApart sides = (ticket : ℕ) → count_by (has_ticket ticket) sides ≤ 1
+
+  abbrev pub no_side : BlockOf (JobState W)
+  no_side = record { table = no_table; side = record { stage = BlockStage.ended; accesses = [] } }
+
+  abbrev pub side_in : List (BlockOf (JobState W)) → ℕ → BlockOf (JobState W)
+  side_in sides place = get_or sides place no_side
+
+  -- the side at a place, and where it stands: past the last lane, none comes any more
+  abbrev pub side_at : ℕ → LanesState W → BlockOf (JobState W)
+  side_at place lanes = side_in lanes.sides place
+
+  abbrev pub stage_at : ℕ → LanesState W → BlockStage (JobState W)
+  stage_at place lanes = (side_at place lanes).side.stage
+
+  -- one side changed
+  abbrev pub changed : (BlockView (JobState W) → BlockView (JobState W)) → BlockOf (JobState W) → BlockOf (JobState W)
+  changed change side = record { table = side.table; side = change side.side }
+
+  abbrev pub with_side : ℕ → (BlockView (JobState W) → BlockView (JobState W)) → LanesState W → LanesState W
+  with_side place change lanes =
+      record { sides = set lanes.sides place (changed change (side_at place lanes)); kept = lanes.kept }
+
+  -- What the calls ask and tell
+
+  -- the lane at the place is free, and the job stands in none
+  pub record MayPut (place ticket : ℕ) (lanes : LanesState W) : Type 0 where
+    pub free : stage_at place lanes ≡ BlockStage.free
+    pub nowhere : list_any (has_ticket ticket) lanes.sides ≡ false
+
+  -- where a job was sent, the side looked once, and otherwise it did nothing
+  pub record HasLooked (before after : BlockOf (JobState W)) : Type 0 where
+    pub looked : is_sent before.side.stage ≡ true
+        → (phase : LanePhase) × FoundByBlock phase before.side.stage × (after ≡ changed (block_looked phase) before)
+    pub still : is_sent before.side.stage ≡ false → after ≡ before
+
+  -- each side did so
+  pub record HaveLooked (before after : LanesState W) : Type 0 where
+    pub many : length after.sides ≡ length before.sides
+    pub each : (place : ℕ) → HasLooked (side_at place before) (side_at place after)
+    pub kept : after.kept ≡ before.kept
