@@ -1,5 +1,6 @@
 pub mod BlockLanes
 pub mod Items
+pub mod LaneEnd
 pub mod Phase
 pub mod Plays
 pub mod Rule

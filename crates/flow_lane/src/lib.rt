@@ -16,12 +16,14 @@
 //! block can reach the slot from that load to the store of Job. From open to finish only the lane can, and from fetch to
 //! clear only the block.
 //!
-//! A block has its side of each of its lanes in a [`BlockLanes`].
+//! A block has its side of each of its lanes in a [`BlockLanes`], and the thread that does the jobs of a lane has its side in a
+//! [`LaneEnd`].
 #![tactic(auto)]
 
 mod block_lanes;
 mod block_side;
 mod item;
+mod lane_end;
 mod lane_side;
 mod laws;
 mod phase;
@@ -33,6 +35,7 @@ mod view;
 pub use block_lanes::BlockLanes;
 pub use block_side::BlockSide;
 pub use item::LaneItem;
+pub use lane_end::LaneEnd;
 pub use lane_side::LaneSide;
 pub use laws::{items_cross, lanes_cross, sides_cross};
 pub use phase::LanePhase;
