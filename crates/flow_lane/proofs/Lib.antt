@@ -1,4 +1,5 @@
 pub mod BlockStepsKeep
+pub mod EndsCross
 pub mod FirstPlaces
 pub mod JobsInSlots
 pub mod LanesStayApart

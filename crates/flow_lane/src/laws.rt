@@ -1,7 +1,11 @@
 //! What of a lane may go to another thread, or be seen by two.
 ghost use Rattle.std.specs.Thread.{IsSend, IsSync};
+ghost use Rattle.flow_exec.specs.contracts.job.Job as job;
+ghost use Rattle.flow_exec.specs.contracts.result.JobResult as result_of;
+ghost use Rattle.flow_lane.specs.contracts.block_lanes.BlockLanes as block_lanes;
 ghost use Rattle.flow_lane.specs.contracts.block_side.BlockSide as block;
 ghost use Rattle.flow_lane.specs.contracts.item.LaneItem as item;
+ghost use Rattle.flow_lane.specs.contracts.lane_end.LaneEnd as lane_end;
 ghost use Rattle.flow_lane.specs.contracts.lane_side.LaneSide as lane_side;
 ghost use Rattle.flow_lane.specs.contracts.table.Lane as lane;
 
@@ -9,6 +13,7 @@ use crate::block_side::BlockSide;
 use crate::item::LaneItem;
 use crate::lane_side::LaneSide;
 use crate::table::Lane;
+use flow_exec::{Job, JobResult};
 use flow_value::Runs;
 
 fn crosses<T: Send>()
@@ -35,6 +40,24 @@ pub fn sides_cross<W: Runs + Send + Sync>()
     items_cross::<W>();
     crosses::<BlockSide<W>>();
     crosses::<LaneSide<W>>();
+}
+
+/// A job crosses threads, and so does what came of it.
+pub fn results_cross<W: Runs + Send + Sync>()
+    ensures job { IsSend (job.the_row W.row) }
+    ensures result { IsSend (result_of.the_row W.row (record { meaning = W.meaning }) (record { eq = W.eq })) }
+{
+    crosses::<Job<W>>();
+    crosses::<JobResult<W>>();
+}
+
+/// So a block's sides of all its lanes cross threads, and so does the end of a lane.
+pub fn ends_cross<W: Runs + Send + Sync>()
+    ensures block { IsSend (block_lanes.the_row W.row (record { meaning = W.meaning }) (record { eq = W.eq })) }
+    ensures lane { IsSend (lane_end.the_row W.row (record { meaning = W.meaning }) (record { eq = W.eq })) }
+{
+    sides_cross::<W>();
+    results_cross::<W>();
 }
 
 /// So a lane crosses threads, and two may share it.

@@ -37,7 +37,7 @@ pub use block_side::BlockSide;
 pub use item::LaneItem;
 pub use lane_end::LaneEnd;
 pub use lane_side::LaneSide;
-pub use laws::{items_cross, lanes_cross, sides_cross};
+pub use laws::{ends_cross, items_cross, lanes_cross, results_cross, sides_cross};
 pub use phase::LanePhase;
 pub use standing::Standing;
 pub use table::{Lane, LaneRule, LaneState};
