@@ -2,7 +2,6 @@
 use Rattle.std.proofs.Common.{◌≡◌, ℕ, true, Option, Some, None, IfSome, position, refl, sym}
 use Rattle.std.proofs.lemmas.List.Quantifiers.{position-Some}
 use Rattle.flow_lane.specs.BlockLanes.{LanesState, has_result, has_room, no_side, stage_at}
-use Rattle.flow_lane.specs.Items.{JobState}
 use Rattle.flow_lane.specs.Views.{BlockStage, is_free, is_ready}
 
 module _ {J : Type 0} where

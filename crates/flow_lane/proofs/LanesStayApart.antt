@@ -1,5 +1,5 @@
 -- No ticket comes to stand in two lanes, and a side that changes keeps its place.
-use Rattle.std.proofs.Common.{◌≡◌, ◌+◌, ◌<◌, ◌≤◌, ℕ, zero, suc, Bool, true, false, cond, ◌||◌, Option, Some, None, ◌⊎◌, ⊎_elim, inl, inr, List, [], ◌∷◌, length, map, set, get_or, All, count_by, refl, ap, sym, ◌∙◌, subst, arith}
+use Rattle.std.proofs.Common.{◌≡◌, ◌+◌, ◌<◌, ◌≤◌, ℕ, zero, suc, Bool, true, false, cond, ◌||◌, Some, None, ◌⊎◌, ⊎_elim, inl, inr, List, [], ◌∷◌, length, set, All, count_by, refl, ap, sym, ◌∙◌, subst, arith}
 use Rattle.std.specs.List.{list_any}
 use Rattle.std.proofs.lemmas.Bool.{eqb-true}
 use Rattle.std.proofs.lemmas.List.{length-map}

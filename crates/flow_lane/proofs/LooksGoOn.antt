@@ -1,7 +1,7 @@
 -- A look at one lane after another is a look at all.
-use Rattle.std.proofs.Common.{◌≡◌, ◌≢◌, ◌+◌, ◌<◌, ◌≤◌, ℕ, Bool, true, false, ◌⊎◌, ⊎_elim, inl, inr, length, set, get_or, refl, ap, sym, ◌∙◌, subst, arith}
+use Rattle.std.proofs.Common.{◌≡◌, ◌≢◌, ◌+◌, ◌<◌, ◌≤◌, ℕ, ◌⊎◌, ⊎_elim, inl, inr, length, set, refl, ap, sym, ◌∙◌, subst, arith}
 use Rattle.std.proofs.lemmas.Bool.{cases_lt}
-use Rattle.std.proofs.lemmas.List.{get_or_past, get_or-set_other, length-set, set-get_or}
+use Rattle.std.proofs.lemmas.List.{get_or_past, get_or-set_other, length-set}
 use Rattle.flow_lane.specs.BlockLanes.{LanesState, HasLooked, HaveLooked, no_side, side_at}
 use Rattle.flow_lane.specs.Items.{JobState}
 use Rattle.flow_lane.specs.Sides.{BlockOf}

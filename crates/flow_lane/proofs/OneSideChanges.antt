@@ -1,12 +1,12 @@
 -- One side of a block's lanes takes a step: what is then true of all of them.
-use Rattle.std.proofs.Common.{◌≡◌, ◌≢◌, ◌+◌, ◌<◌, ℕ, Bool, true, false, ⊎_elim, List, [], ◌∷◌, length, set, get_or, Option, Some, None, option_map, refl, ap, sym, ◌∙◌, subst, arith}
+use Rattle.std.proofs.Common.{◌≡◌, ◌<◌, ℕ, true, ⊎_elim, List, length, set, get_or, Option, None, option_map, refl, ap, sym, ◌∙◌, subst}
 use Rattle.std.specs.Option.{ForSome}
 use Rattle.std.proofs.Math.Seq.{map-set_same}
 use Rattle.std.proofs.lemmas.Bool.{cases_eq}
 use Rattle.std.proofs.lemmas.List.{get_or_default, get_or-set_same, get_or-set_other}
 use Rattle.flow_lane.specs.declared.phase.LanePhase.{LanePhase}
 use Rattle.flow_lane.specs.declared.phase.LanePhase.TheVariants.{Result}
-use Rattle.flow_lane.specs.BlockLanes.{LanesState, changed, no_side, side_at, side_in, stage_at, tables_of, ticket_at, with_side}
+use Rattle.flow_lane.specs.BlockLanes.{LanesState, changed, no_side, side_in, tables_of, ticket_at, with_side}
 use Rattle.flow_lane.specs.Items.{JobState}
 use Rattle.flow_lane.specs.Sides.{BlockOf, block_finds}
 use Rattle.flow_lane.specs.Views.{BlockStage, BlockView, is_free, is_ready, is_sent}

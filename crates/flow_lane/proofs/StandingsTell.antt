@@ -1,5 +1,5 @@
 -- What a block's side tells at run time stays true with each step.
-use Rattle.std.proofs.Common.{◌≡◌, ℕ, Bool, List, sym, refl, ap, ◌∙◌, subst, Option, Some, option_map, unwrap_or}
+use Rattle.std.proofs.Common.{◌≡◌, ℕ, List, sym, refl, ap, ◌∙◌, subst, Option, Some, option_map, unwrap_or}
 use Rattle.atomic_table.specs.Table.{Me}
 use Rattle.flow_lane.specs.declared.phase.LanePhase.{LanePhase}
 use Rattle.flow_lane.specs.declared.phase.LanePhase.TheVariants.{Result}
