@@ -6,4 +6,6 @@ mod networks;
 #[cfg(test)]
 mod rounds;
 #[cfg(test)]
+mod runs;
+#[cfg(test)]
 mod workers;

@@ -1,9 +1,11 @@
-//! Tests of runs that are scattered into tasks: networks and records as texts, turned by one thread or by two, fed by another, stopped
-//! anywhere and gathered. Each comes to the end that is due of it.
+//! Tests of runs that are scattered into tasks: networks and records as texts, turned by one thread or by two, run by a crew, fed by
+//! another thread, stopped anywhere and gathered. Each comes to the end that is due of it.
 #![tactic(auto)]
 
 #[cfg(test)]
 mod alone;
+#[cfg(test)]
+mod crews;
 #[cfg(test)]
 mod ends;
 #[cfg(test)]

@@ -67,7 +67,7 @@ fn a_result_that_is_kept_comes_too_late(rt: HostRuntime) {
 }
 
 /// The run of one message, gathered where the message is out of the slot of the link between its blocks, and not yet taken.
-fn in_mid_move(rt: &(impl Abort + Threads + Sync), alloc: Global) -> Net<Steps> {
+pub(crate) fn in_mid_move(rt: &(impl Abort + Threads + Sync), alloc: Global) -> Net<Steps> {
     for turns in 0..100 {
         let net = network(rt, alloc, one_message().text);
         let net = turned(rt, alloc, net, Way::Singly(turns));

@@ -1,0 +1,105 @@
+//! Networks are run by so many workers, until nothing may happen any more or the limit is reached.
+ghost use Rattle.std.specs.Prelude.{◌≤◌, ◌<◌};
+
+use anyhow::Result;
+use flow_crew::run_workers;
+use flow_front::{Inputs, record_of, state_of};
+use flow_link::{BlockDef, BlockKind, Draft, Ending, LinkDef};
+use flow_net::{Net, Settled, State};
+use flow_value::{Steps, Text, Value};
+use std::alloc::Global;
+use std::process::Abort;
+use std::sync::Wait;
+use std::thread::Threads;
+
+/// How many events the network has in all.
+const ALL: u64 = 69;
+
+/// A buffer to which the texts 1, 2 and 3 are posted, a transform that reads them as numbers, and an action that records those.
+fn numbers(alloc: Global) -> Result<Net<Steps>> {
+    let int = Steps::read(alloc, &["int"])?;
+    let keep = Steps::read(alloc, &[])?;
+    let plan = Draft::new(alloc)
+        .block(BlockDef::named(alloc, "in", BlockKind::Buffer)?.input())?
+        .block(BlockDef::named(alloc, "t", BlockKind::Transform)?.work(int))?
+        .block(BlockDef::named(alloc, "out", BlockKind::Action)?.work(keep))?
+        .link(LinkDef::between(alloc, "in", "t")?.propagate())?
+        .link(LinkDef::between(alloc, "t", "out")?.propagate())?
+        .check(alloc)?;
+    let mut inputs = Inputs::of(alloc, plan)?;
+    for text in ["1", "2", "3"] {
+        inputs.post("in", Value::Text(Text::from_str(alloc, text)?))?;
+    }
+    inputs.end("in", Ending::Complete)?;
+    Ok(inputs.start(alloc)?)
+}
+
+/// The network, run by so many workers for at most so many events, and how far it came.
+fn run<R: Abort + Threads + Wait + Sync>(
+    rt: &R,
+    alloc: Global,
+    workers: usize,
+    limit: u64,
+) -> (Net<Steps>, Settled)
+    requires workers { (0 < workers) × (workers ≤ 64) }
+{
+    let Ok(net) = numbers(alloc) else {
+        panic!(rt; "no network");
+    };
+    let Ok(ran) = run_workers(rt, alloc, net, workers, limit) else {
+        panic!(rt; "out of memory");
+    };
+    ran
+}
+
+/// Asserts that the action has all three numbers, and what became of it.
+fn has_recorded(rt: &impl Abort, net: &Net<Steps>, state: State) {
+    let all = [Value::Int(1), Value::Int(2), Value::Int(3)];
+    assert!(rt; matches!(record_of(net, "out"), Some(record) if record == all.as_slice()));
+    assert!(rt; state_of(net, "in") == Some(State::Done));
+    assert!(rt; state_of(net, "t") == Some(State::Done));
+    assert!(rt; state_of(net, "out") == Some(state));
+}
+
+/// Asserts that so many workers do as many events as there are.
+fn ends<R: Abort + Threads + Wait + Sync>(rt: &R, alloc: Global, workers: usize)
+    requires workers { (0 < workers) × (workers ≤ 64) }
+{
+    let (net, settled) = run(rt, alloc, workers, ALL);
+    assert!(rt; settled == Settled::Quiet);
+    has_recorded(rt, &net, State::Done);
+}
+
+/// Asserts that so many workers stop where one event less may be done: it is that by which the action stops.
+fn stops<R: Abort + Threads + Wait + Sync>(rt: &R, alloc: Global, workers: usize)
+    requires workers { (0 < workers) × (workers ≤ 64) }
+{
+    let (net, settled) = run(rt, alloc, workers, ALL - 1);
+    assert!(rt; settled == Settled::Stopped);
+    has_recorded(rt, &net, State::Completing);
+}
+
+#[test]
+fn a_run_ends_within_its_limit(rt: HostRuntime) {
+    let alloc = rt.alloc();
+    ends(&rt, alloc, 1);
+    ends(&rt, alloc, 2);
+    ends(&rt, alloc, 8);
+}
+
+#[test]
+fn a_run_stops_at_its_limit(rt: HostRuntime) {
+    let alloc = rt.alloc();
+    stops(&rt, alloc, 1);
+    stops(&rt, alloc, 2);
+    stops(&rt, alloc, 8);
+}
+
+#[test]
+fn nothing_is_done_within_no_limit(rt: HostRuntime) {
+    let (net, settled) = run(&rt, rt.alloc(), 2, 0);
+    assert!(rt; settled == Settled::Stopped);
+    for block in 0..net.plan().block_count() {
+        assert!(rt; net.journal(block).is_empty());
+    }
+}
