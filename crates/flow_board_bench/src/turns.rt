@@ -20,7 +20,7 @@ pub(crate) fn by_one_thread<R: Clock>(rt: &R, alloc: Global, count: u32) -> Resu
 }
 
 /// The parts of the chain.
-pub(crate) fn scattered(alloc: Global, count: u32) -> Result<Parts<Steps>>
+fn scattered(alloc: Global, count: u32) -> Result<Parts<Steps>>
     ensures tasks_of { IfOk result (λ parts. AllTasksOf parts.board parts.tasks.items) }
     ensures entries_of { IfOk result (λ parts. AllEntriesOf parts.board parts.entries.items) }
     ensures exits_of { IfOk result (λ parts. AllExitsOf parts.board parts.exits.items) }
@@ -35,7 +35,7 @@ pub(crate) fn scattered(alloc: Global, count: u32) -> Result<Parts<Steps>>
 }
 
 /// What the chain of these parts has recorded, whose turns took so long.
-pub(crate) fn gathered(alloc: Global, parts: Parts<Steps>, taken: Result<Duration>) -> Result<Timed>
+fn gathered(alloc: Global, parts: Parts<Steps>, taken: Result<Duration>) -> Result<Timed>
     requires tasks_of { AllTasksOf parts.board parts.tasks.items }
     requires entries_of { AllEntriesOf parts.board parts.entries.items }
     requires exits_of { AllExitsOf parts.board parts.exits.items }
