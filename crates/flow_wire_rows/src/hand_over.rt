@@ -11,7 +11,7 @@ use std::alloc::Global;
 use std::thread::{Threads, join_mut, yield_now};
 
 /// How many numbers go over a link.
-const COUNT: u64 = 1_000;
+const COUNT: u64 = 200;
 
 /// How many runs there are, each with a seed of its own; the target reserves in every other.
 const SEEDS: u64 = 100;
