@@ -1,5 +1,5 @@
 //! Tests of a lane: its moves by hand, and its two sides on two threads, which get through a thousand jobs whatever the
-//! schedule.
+//! schedule. Tests of the lanes of one block, on one thread and on two.
 #![tactic(auto)]
 
 #[cfg(test)]
@@ -8,5 +8,9 @@ mod by_hand;
 mod jobs;
 #[cfg(test)]
 mod second_put;
+#[cfg(test)]
+mod two_lanes;
+#[cfg(test)]
+mod two_lanes_threads;
 #[cfg(test)]
 mod two_threads;

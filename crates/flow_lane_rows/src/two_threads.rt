@@ -16,12 +16,12 @@ use std::thread::{Threads, join, yield_now};
 const JOBS: u32 = 1_000;
 
 /// More looks than a side needs until the other has moved, also where that waits long for a processor.
-const LOOKS: u32 = 1_000_000_000;
+pub(crate) const LOOKS: u32 = 1_000_000_000;
 
 /// How many looks a side takes before it lets other threads run.
 const LOOKS_A_TURN: u32 = 1_000;
 
-fn let_others_run(looks: u32) {
+pub(crate) fn let_others_run(looks: u32) {
     if looks % LOOKS_A_TURN == 0 {
         yield_now();
     }
