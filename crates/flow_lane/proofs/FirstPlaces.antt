@@ -5,7 +5,7 @@ use Rattle.flow_lane.specs.BlockLanes.{LanesState, has_result, has_room, no_side
 use Rattle.flow_lane.specs.Views.{BlockStage, is_free, is_ready}
 
 module _ {J : Type 0} where
-  free_is : (b : BlockStage J) → is_free b ≡ true → b ≡ BlockStage.free
+  pub free_is : (b : BlockStage J) → is_free b ≡ true → b ≡ BlockStage.free
   free_is BlockStage.free free = refl
   free_is BlockStage.filling free = absurd (cc)
   free_is (BlockStage.sent j) free = absurd (cc)

@@ -1,11 +1,15 @@
 pub mod BlockStepsKeep
 pub mod EndsCross
 pub mod FirstPlaces
+pub mod JobLanesCross
 pub mod JobsInSlots
+pub mod JobsStay
+pub mod LanesEnded
 pub mod LanesStayApart
 pub mod LaneStepsKeep
 pub mod LooksGoOn
 pub mod OneSideChanges
+pub mod SharedLanes
 pub mod StandingsTell
 pub mod StepsAllowed
 pub mod TablesEnd

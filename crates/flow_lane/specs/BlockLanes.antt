@@ -1,10 +1,10 @@
 -- The lanes of a block, as contracts see them: the block's side of each, and whose result it keeps.
-use Rattle.std.specs.Prelude.{◌≡◌, ◌≤◌, ℕ, Bool, true, false, eqb, List, [], length, map, set, get_or, count_by, Option, Some, None}
+use Rattle.std.specs.Prelude.{◌≡◌, ◌≤◌, ℕ, Bool, true, false, cond, eqb, List, [], length, map, set, get_or, count_by, All, Option, Some, None}
 use Rattle.std.specs.List.{list_any}
 use Rattle.atomic_table.specs.Seated.{TableId}
 use Rattle.flow_lane.specs.declared.phase.LanePhase.{LanePhase}
 use Rattle.flow_lane.specs.Items.{JobState}
-use Rattle.flow_lane.specs.Sides.{BlockOf, block_looked}
+use Rattle.flow_lane.specs.Sides.{BlockOf, block_looked, ending}
 use Rattle.flow_lane.specs.Views.{BlockStage, BlockView, FoundByBlock, is_free, is_sent, is_ready}
 
 pub record LanesState (W : Type 0) : Type 0 where
@@ -31,6 +31,20 @@ module _ {W : Type 0} where
   ticket_at (BlockStage.hand job) = Some job.ticket
   ticket_at BlockStage.ended = None
 
+  -- the job that stands in a lane
+  abbrev pub job_at : BlockStage (JobState W) → Option (JobState W)
+  job_at BlockStage.free = None
+  job_at BlockStage.filling = None
+  job_at (BlockStage.sent job) = Some job
+  job_at (BlockStage.ready job) = Some job
+  job_at (BlockStage.hand job) = Some job
+  job_at BlockStage.ended = None
+
+  -- no job comes any more
+  abbrev pub is_ended : BlockStage (JobState W) → Bool
+  is_ended BlockStage.ended = true
+  is_ended _ = false
+
   -- Of one side
 
   -- a job with this ticket stands in its lane
@@ -43,7 +57,18 @@ module _ {W : Type 0} where
   abbrev pub has_result : BlockOf (JobState W) → Bool
   has_result side = is_ready side.side.stage
 
+  abbrev pub has_ended : BlockOf (JobState W) → Bool
+  has_ended side = is_ended side.side.stage
+
   -- Of all sides
+
+  -- nothing is in any lane
+  abbrev pub AreFree : List (BlockOf (JobState W)) → Type 0
+  AreFree sides = All (λ side. side.side.stage ≡ BlockStage.free) sides
+
+  -- the jobs that stand in the lanes
+  abbrev pub jobs_of : List (BlockOf (JobState W)) → List (Option (JobState W))
+  jobs_of sides = map (λ side. job_at side.side.stage) sides
 
   abbrev pub tables_of : List (BlockOf (JobState W)) → List TableId
   tables_of sides = map (λ side. side.table) sides
@@ -72,6 +97,14 @@ module _ {W : Type 0} where
   abbrev pub with_side : ℕ → (BlockView (JobState W) → BlockView (JobState W)) → LanesState W → LanesState W
   with_side place change lanes =
       record { sides = set lanes.sides place (changed change (side_at place lanes)); kept = lanes.kept }
+
+  -- a lane in which nothing is, is ended
+  abbrev pub ended_where_free : BlockOf (JobState W) → BlockOf (JobState W)
+  ended_where_free side = cond (has_room side) (changed ending side) side
+
+  -- each of them is
+  abbrev pub with_free_ended : LanesState W → LanesState W
+  with_free_ended lanes = record { sides = map ended_where_free lanes.sides; kept = lanes.kept }
 
   -- What the calls ask and tell
 

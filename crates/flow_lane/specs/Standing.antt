@@ -19,7 +19,7 @@ number_of (Ready ticket) = Some ticket
 number_of (InHand ticket) = Some ticket
 number_of Ended = None
 
--- nothing is in the lane; the result was not seen; it was seen
+-- nothing is in the lane; the result was not seen; it was seen; no job comes any more
 abbrev pub stands_free : Standing → Bool
 stands_free Free = true
 stands_free _ = false
@@ -31,6 +31,10 @@ stands_sent _ = false
 abbrev pub stands_ready : Standing → Bool
 stands_ready (Ready _) = true
 stands_ready _ = false
+
+abbrev pub stands_ended : Standing → Bool
+stands_ended Ended = true
+stands_ended _ = false
 
 module _ {J : Type 0} (ticket_of : J → ℕ) where
   -- a stage, with the ticket of its job alone: that of a side whose put is under way is told by none

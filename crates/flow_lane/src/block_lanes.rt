@@ -5,11 +5,11 @@
 //! (`keep`) and taken out again later (`take_kept`). No ticket ever stands in two lanes.
 ghost use Rattle.std.specs.Prelude.{◌≡◌, ◌↔◌, ◌<◌, true, false, length, option_map, is_some, Some, None};
 ghost use Rattle.std.specs.Prelude.{All, position, slice_set, IsOk, IfErr, IfSome, OnErr, OnOk};
-ghost use Rattle.std.specs.List.{list_any};
+ghost use Rattle.std.specs.List.{list_all, list_any};
 ghost use Rattle.std.specs.Option.{ForSome};
 ghost use Rattle.flow_exec.specs.Jobs.{ticket_in};
 ghost use Rattle.flow_lane.specs.BlockLanes.{AreApart, HasLooked, HaveLooked, MayPut};
-ghost use Rattle.flow_lane.specs.BlockLanes.{has_result, has_room, has_ticket, side_at, stage_at, tables_of, with_side};
+ghost use Rattle.flow_lane.specs.BlockLanes.{has_ended, has_result, has_room, has_ticket, side_at, stage_at, tables_of, with_side};
 ghost use Rattle.flow_lane.specs.Items.{state_of, state_in};
 ghost use Rattle.flow_lane.specs.Sides.{clearing, ending, fetching, putting};
 ghost use Rattle.flow_lane.specs.Views.{BlockStage, is_ready, has_in_hand};
@@ -81,6 +81,27 @@ impl<W: Runs> BlockLanes<W> {
         self.sides.iter().any(|side| side.has_ticket(ticket))
     }
 
+    /// Whether nothing is in any of them.
+    pub fn are_free(&self) -> bool
+        ensures { result ≡ list_all has_room self.now.sides }
+    {
+        self.sides.iter().all(|side| side.is_free())
+    }
+
+    /// Whether nothing is in one of them.
+    pub fn has_room(&self) -> bool
+        ensures { result ≡ list_any has_room self.now.sides }
+    {
+        self.sides.iter().any(|side| side.is_free())
+    }
+
+    /// Whether all are ended.
+    pub fn have_ended(&self) -> bool
+        ensures { result ≡ list_all has_ended self.now.sides }
+    {
+        self.sides.iter().all(|side| side.has_ended())
+    }
+
     /// The first one in which nothing is.
     pub fn free_place(&self) -> Option<usize>
         ensures first { result ≡ position has_room self.now.sides }
@@ -103,8 +124,9 @@ impl<W: Runs> BlockLanes<W> {
     }
 
     /// Whether nothing is in the one at this place.
-    fn is_free_at(&self, place: usize) -> bool
-        ensures { result ≡ has_room (side_at place self.now) }
+    pub(crate) fn is_free_at(&self, place: usize) -> bool
+        ensures is { result ≡ has_room (side_at place self.now) }
+        ensures free { result ≡ true → stage_at place self.now ≡ BlockStage.free }
     {
         match self.sides.get(place) {
             Some(side) => side.is_free(),

@@ -1,6 +1,6 @@
 //! The block's side of a lane: its looks, and its moves of the word and the slot.
 ghost use Rattle.std.specs.Prelude.{◌≡◌, ◌↔◌, true, Some, IsOk, OnOk, OnErr, IfErr};
-ghost use Rattle.flow_lane.specs.BlockLanes.{has_ticket};
+ghost use Rattle.flow_lane.specs.BlockLanes.{has_ticket, is_ended};
 ghost use Rattle.flow_lane.specs.Items.{state_of, state_in, ticket_of};
 ghost use Rattle.flow_lane.specs.Sides.{FoundNotFree, block_looked, putting, fetching, clearing, ending};
 ghost use Rattle.flow_lane.specs.Standing.{standing_of};
@@ -77,6 +77,13 @@ impl<W: Runs> BlockSide<W> {
         ensures { result ≡ is_ready self.now.side.stage }
     {
         self.standing.is_ready()
+    }
+
+    /// Whether it ended the lane.
+    pub fn has_ended(&self) -> bool
+        ensures { result ≡ is_ended self.now.side.stage }
+    {
+        self.standing.is_ended()
     }
 
     /// The phase, which the lane may leave at once. The side goes to the stage that the phase tells.

@@ -5,6 +5,8 @@ ghost use Rattle.flow_exec.specs.contracts.result.JobResult as result_of;
 ghost use Rattle.flow_lane.specs.contracts.block_lanes.BlockLanes as block_lanes;
 ghost use Rattle.flow_lane.specs.contracts.block_side.BlockSide as block;
 ghost use Rattle.flow_lane.specs.contracts.item.LaneItem as item;
+ghost use Rattle.flow_lane.specs.contracts.job_lane.JobLane as job_lane;
+ghost use Rattle.flow_lane.specs.contracts.job_lanes.JobLanes as job_lanes;
 ghost use Rattle.flow_lane.specs.contracts.lane_end.LaneEnd as lane_end;
 ghost use Rattle.flow_lane.specs.contracts.lane_side.LaneSide as lane_side;
 ghost use Rattle.flow_lane.specs.contracts.table.Lane as lane;
@@ -15,6 +17,8 @@ use crate::lane_side::LaneSide;
 use crate::table::Lane;
 use flow_exec::{Job, JobResult};
 use flow_value::Runs;
+use std::alloc::Global;
+use std::sync::Arc;
 
 fn crosses<T: Send>()
     ensures { IsSend T.row }
@@ -68,4 +72,15 @@ pub fn lanes_cross<W: Runs + Send + Sync>()
     items_cross::<W>();
     crosses::<Lane<W>>();
     is_shared::<Lane<W>>();
+}
+
+/// So a block's lanes with their tables cross threads, and so does each of them for the thread that does its jobs.
+pub fn job_lanes_cross<W: Runs + Send + Sync>()
+    ensures block { IsSend (job_lanes.the_row W.row (record { meaning = W.meaning }) (record {}) (record { eq = W.eq })) }
+    ensures lane { IsSend (job_lane.the_row W.row (record { meaning = W.meaning }) (record {}) (record { eq = W.eq })) }
+{
+    ends_cross::<W>();
+    lanes_cross::<W>();
+    crosses::<Option<Arc<W, Global>>>();
+    crosses::<Arc<Vec<Lane<W>>, Global>>();
 }

@@ -17,12 +17,14 @@
 //! clear only the block.
 //!
 //! A block has its side of each of its lanes in a [`BlockLanes`], and the thread that does the jobs of a lane has its side in a
-//! [`LaneEnd`].
+//! [`LaneEnd`]. With the tables that they share, these are [`JobLanes`] and [`JobLane`].
 #![tactic(auto)]
 
 mod block_lanes;
 mod block_side;
 mod item;
+mod job_lane;
+mod job_lanes;
 mod lane_end;
 mod lane_side;
 mod laws;
@@ -35,9 +37,11 @@ mod view;
 pub use block_lanes::BlockLanes;
 pub use block_side::BlockSide;
 pub use item::LaneItem;
+pub use job_lane::JobLane;
+pub use job_lanes::JobLanes;
 pub use lane_end::LaneEnd;
 pub use lane_side::LaneSide;
-pub use laws::{ends_cross, items_cross, lanes_cross, results_cross, sides_cross};
+pub use laws::{ends_cross, items_cross, job_lanes_cross, lanes_cross, results_cross, sides_cross};
 pub use phase::LanePhase;
 pub use standing::Standing;
 pub use table::{Lane, LaneRule, LaneState};

@@ -1,6 +1,6 @@
 //! What a block's side knows of its lane at run time.
 ghost use Rattle.std.specs.Prelude.{◌≡◌};
-ghost use Rattle.flow_lane.specs.Standing.{looked_at, number_of, stands_free, stands_ready, stands_sent};
+ghost use Rattle.flow_lane.specs.Standing.{looked_at, number_of, stands_ended, stands_free, stands_ready, stands_sent};
 
 use crate::phase::LanePhase;
 
@@ -59,6 +59,16 @@ impl Standing {
         match self {
             Standing::Ready(_) => true,
             Standing::Free | Standing::Sent(_) | Standing::InHand(_) | Standing::Ended => false,
+        }
+    }
+
+    /// Whether no job comes any more.
+    pub(crate) fn is_ended(self) -> bool
+        ensures { result ≡ stands_ended self }
+    {
+        match self {
+            Standing::Ended => true,
+            Standing::Free | Standing::Sent(_) | Standing::Ready(_) | Standing::InHand(_) => false,
         }
     }
 

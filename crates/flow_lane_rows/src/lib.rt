@@ -9,6 +9,8 @@ mod jobs;
 #[cfg(test)]
 mod second_put;
 #[cfg(test)]
+mod shared_lanes;
+#[cfg(test)]
 mod two_lanes;
 #[cfg(test)]
 mod two_lanes_threads;

@@ -2,7 +2,7 @@
 ghost use Rattle.std.specs.Prelude.{◌≡◌, [], ◌∷◌, None};
 ghost use Rattle.flow_lane.specs.BlockLanes.{tables_of};
 
-use crate::jobs;
+use crate::{jobs, shared_lanes};
 use flow_exec::Job;
 use flow_lane::{BlockLanes, Lane, LaneEnd};
 use flow_value::Steps;
@@ -165,6 +165,7 @@ fn two_jobs_go_through_two_lanes(rt: HostRuntime) {
     work_off(&rt, alloc, &lanes[0], &mut first_end, FIRST);
     take_back(&rt, &lanes, &mut block, 0, FIRST);
     assert!(rt; block.free_place() == Some(0));
+    shared_lanes::two_jobs_go_through(&rt, alloc);
 }
 
 #[test]
