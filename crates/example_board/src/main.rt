@@ -20,8 +20,8 @@ ghost use Rattle.flow_board.specs.Parts.{AllEntriesOf, AllExitsOf, AllTasksOf, e
 
 use anyhow::{Result, bail};
 use flow_board::{
-    Board, Entry, Exit, Parts, Task, boards_are_shared, entries_cross, exits_cross, gather,
-    scatter, tasks_cross,
+    Board, Entry, Exit, OpenGate, Parts, Task, boards_are_shared, entries_cross, exits_cross,
+    gather, scatter, tasks_cross,
 };
 use flow_crew::turn_round;
 use flow_front::{Inputs, state_of};
@@ -229,7 +229,7 @@ fn turn_all<R: Threads + Wait + Clock + Sync>(
             break;
         }
         let all = replace(tasks, Vec::new(alloc));
-        match turn_round(rt, alloc, board, all, 2, 1_000) {
+        match turn_round(rt, alloc, board, all, 2, &OpenGate, 1_000) {
             Ok((back, 0)) | Err((back, _)) => {
                 *tasks = back;
                 pause(rt);

@@ -1,20 +1,23 @@
 -- The next input is taken from what is left of a network's parts.
-use Rattle.std.proofs.Common.{◌≡◌, ℕ, ◌+◌, ◌-◌, ◌<◌, true, false, List, ◌∷◌, length, map, get_or, ap, ◌∙◌, subst, arith}
+use Rattle.std.proofs.Common.{◌≡◌, ℕ, ◌+◌, ◌-◌, ◌<◌, ◌≤◌, true, false, List, ◌∷◌, length, map, get_or, ap, ◌∙◌, subst, arith}
 use Rattle.flow_lists.specs.Lists.{numbers_from}
 use Rattle.flow_link.specs.Planned.{layout_of}
 use Rattle.flow_board.specs.Inputs.{begins_at_input, links_of_inputs}
+use Rattle.flow_board.specs.Lanes.{lane_count}
 use Rattle.flow_board.specs.Lefts.{InputsLeft}
-use Rattle.flow_board.specs.Numbers.{closed_before, entry_count, is_closed, is_entry_number, is_open, open_before, task_count}
+use Rattle.flow_board.specs.Numbers.{closed_before, entry_count, is_closed, is_entry_number, is_open, open_before, task_count, turned_count}
 use Rattle.flow_board.specs.Parts.{entry_number, task_number}
 use Rattle.flow_board.specs.declared.board.Board.{Board}
 use Rattle.flow_board.specs.declared.input_task.InputTask.{InputTask}
+use Rattle.flow_board.specs.declared.lane_task.LaneTask.{LaneTask}
+use Rattle.flow_board.specs.declared.laned.LanedTask.{LanedTask}
 use Rattle.flow_board.specs.declared.numbered.Entry.{Entry}
+use Rattle.flow_board.specs.declared.numbered.Kind.{Kind}
 use Rattle.flow_board.specs.declared.numbered.Kind.TheVariants as kind
 use Rattle.flow_board.specs.declared.numbered.Task.{Task}
-use Rattle.flow_board.specs.declared.task.BlockTask.{BlockTask}
 use Rattle.flow_board.proofs.InputsApart.{closed_left, closed_more, closed_stays, entry_link, input_link, open_left, open_more, open_stays}
 use Rattle.flow_board.proofs.TakenApart.{count_left, number_here}
-use Rattle.flow_board.proofs.TasksApart.{block_board, block_number, input_board, input_number}
+use Rattle.flow_board.proofs.TasksApart.{block_board, block_number, input_board, input_number, lane_later}
 
 -- the same numbers, told otherwise
 same_numbers : (a b m n : ℕ) → a ≡ b → m ≡ n → numbers_from a m ≡ numbers_from b n
@@ -65,7 +68,7 @@ module _ {W : Type 0} {w : _} {e : _} (board : Board W) (q : ℕ) (tasks : List 
             of = left.of;
             entries_of = left.entries_of.1;
             numbers = left.numbers ∙ ap
-                (λ (k : ℕ). numbers_from (length layout.blocks + k) (closed_before layout opens (length opens) - k)) stays;
+                (λ (k : ℕ). numbers_from (length layout.blocks + k) (closed_before layout opens (length opens) - k + lane_count layout)) stays;
             entry_numbers = entry_number_is.1 ∙ same_numbers (task_count layout opens + open_before layout opens q + 1)
                 (task_count layout opens + open_before layout opens (q + 1)) (entry_count layout opens - open_before layout opens q - 1)
                 (entry_count layout opens - open_before layout opens (q + 1)) (omega (arith, more)) (omega (arith, more));
@@ -79,7 +82,7 @@ module _ {W : Type 0} {w : _} {e : _} (board : Board W) (q : ℕ) (tasks : List 
         let opens = board.opens.items in
         let some = closed_left layout opens q low closed in
         let many = count_left task_number tasks (length layout.blocks + closed_before layout opens q)
-        (closed_before layout opens (length opens) - closed_before layout opens q) left.numbers in
+        (closed_before layout opens (length opens) - closed_before layout opens q + lane_count layout) left.numbers in
         omega (arith, some, many)
 
     module _ (task : Task W w e) (left : InputsLeft board q (task ∷ tasks) entries) where
@@ -87,20 +90,36 @@ module _ {W : Type 0} {w : _} {e : _} (board : Board W) (q : ℕ) (tasks : List 
           × (map task_number tasks
           ≡ numbers_from (length (layout_of board.rest.plan).blocks + closed_before (layout_of board.rest.plan) board.opens.items q + 1)
           (closed_before (layout_of board.rest.plan) board.opens.items (length board.opens.items)
-          - closed_before (layout_of board.rest.plan) board.opens.items q - 1))
+          - closed_before (layout_of board.rest.plan) board.opens.items q + lane_count (layout_of board.rest.plan) - 1))
       task_number_is =
           let layout = layout_of board.rest.plan in
           let opens = board.opens.items in
           number_here task_number tasks task (length layout.blocks + closed_before layout opens q)
-          (closed_before layout opens (length opens) - closed_before layout opens q) left.numbers
+          (closed_before layout opens (length opens) - closed_before layout opens q + lane_count layout) left.numbers
 
       -- no block
-      pub never_block : (block : BlockTask W w e) → task.kind ≡ kind.Block block → ⊥
+      never_block : (block : LanedTask W w e) → task.kind ≡ kind.Block block → ⊥
       never_block block is =
           let its = block_board board task.kind task.number left.of.0 task.numbered block is in
           let same = block_number board task.kind task.number left.of.0 task.numbered block is in
-          let low = subst (λ (b : Board W). block.number < length (layout_of b.rest.plan).blocks) its block.there in
+          let low = subst (λ (b : Board W). block.block.number < length (layout_of b.rest.plan).blocks) its block.block.there in
           omega (arith, task_number_is.0, same, low)
+
+      -- nor a lane
+      never_lane : q < length board.opens.items → (lane : LaneTask W) → task.kind ≡ kind.Lane lane → ⊥
+      never_lane there lane is =
+          let layout = layout_of board.rest.plan in
+          let opens = board.opens.items in
+          let some = closed_left layout opens q there closed in
+          let later : turned_count layout opens ≤ task.number = lane_later board task.kind task.number left.of.0 task.numbered lane is in
+          omega (arith, task_number_is.0, some, later)
+
+      -- so it is an input
+      pub never_other : q < length board.opens.items → (k : Kind W w e) → task.kind ≡ k
+          → ((input : InputTask W w e) → task.kind ≡ kind.Input input → ⊥) → ⊥
+      never_other there (kind.Block block) is other = never_block block is
+      never_other there (kind.Input input) is other = other input is
+      never_other there (kind.Lane lane) is other = never_lane there lane is
 
       pub task_is : (input : InputTask W w e) → task.kind ≡ kind.Input input → input.link ≡ get_or (links_of_inputs (layout_of board.rest.plan)) q 0
       task_is input is =
@@ -110,19 +129,22 @@ module _ {W : Type 0} {w : _} {e : _} (board : Board W) (q : ℕ) (tasks : List 
           (subst (λ (b : Board W). begins_at_input (layout_of b.rest.plan) input.link ≡ true) its input.begins)
           closed task_number_is.0 (input_number board task.kind task.number left.of.0 task.numbered input is)
 
-      pub task_taken : is_open (layout_of board.rest.plan) board.opens.items q ≡ false → InputsLeft board (q + 1) tasks entries
-      task_taken shut =
+      pub task_taken : is_open (layout_of board.rest.plan) board.opens.items q ≡ false → q < length board.opens.items
+          → InputsLeft board (q + 1) tasks entries
+      task_taken shut there =
           let layout = layout_of board.rest.plan in
           let opens = board.opens.items in
           let more = closed_more layout opens q closed in
+          let some = closed_left layout opens q there closed in
           let stays = open_stays layout opens q shut in
           record {
             of = left.of.1;
             entries_of = left.entries_of;
             numbers = task_number_is.1 ∙ same_numbers (length layout.blocks + closed_before layout opens q + 1)
                 (length layout.blocks + closed_before layout opens (q + 1))
-                (closed_before layout opens (length opens) - closed_before layout opens q - 1)
-                (closed_before layout opens (length opens) - closed_before layout opens (q + 1)) (omega (arith, more)) (omega (arith, more));
+                (closed_before layout opens (length opens) - closed_before layout opens q + lane_count layout - 1)
+                (closed_before layout opens (length opens) - closed_before layout opens (q + 1) + lane_count layout) (omega (arith, more))
+                (omega (arith, more, some));
             entry_numbers = left.entry_numbers ∙ ap
                 (λ (k : ℕ). numbers_from (task_count layout opens + k) (entry_count layout opens - k)) stays;
           }

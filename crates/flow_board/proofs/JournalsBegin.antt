@@ -13,7 +13,7 @@ use Rattle.flow_board.specs.declared.numbered.Kind.TheVariants as kind
 use Rattle.flow_board.specs.declared.numbered.Task.{Task}
 use Rattle.flow_board.proofs.TakenApart.{number_here}
 use Rattle.flow_board.proofs.TurnsGrow.{extends_prop}
-use Rattle.flow_board.proofs.TasksApart.{block_board, block_number, input_later}
+use Rattle.flow_board.proofs.TasksApart.{block_board, block_number, input_later, lane_later}
 
 -- how many blocks are on a board
 abbrev count : {W : Type 0} → Board W → ℕ
@@ -26,11 +26,14 @@ module _ {W : Type 0} {w : _} {e : _} (board : Board W) where
   begins_by it (kind.Block task) is its b number small begins =
       let of = block_board board it.kind it.number its it.numbered task is in
       let same = block_number board it.kind it.number its it.numbered task is ∙ number in
-      ∥∥₁_elim begins (extends_prop (begun_journal board b) task.node.journal) (λ goes.
-      subst (λ (n : ℕ). Extends (begun_journal board n) task.node.journal) same
-      (subst (λ (on : Board W). Extends (begun_journal on task.number) task.node.journal) of goes))
+      ∥∥₁_elim begins (extends_prop (begun_journal board b) task.block.node.journal) (λ goes.
+      subst (λ (n : ℕ). Extends (begun_journal board n) task.block.node.journal) same
+      (subst (λ (on : Board W). Extends (begun_journal on task.block.number) task.block.node.journal) of goes))
   begins_by it (kind.Input task) is its b number small begins =
       let later = input_later board it.kind it.number its it.numbered task is in
+      absurd (omega (arith, later, number, small))
+  begins_by it (kind.Lane task) is its b number small begins =
+      let later = lane_later board it.kind it.number its it.numbered task is in
       absurd (omega (arith, later, number, small))
 
   -- the first of tasks in the order of their numbers

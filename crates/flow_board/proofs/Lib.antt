@@ -30,8 +30,11 @@ pub mod InputsLeft
 pub mod InputsMore
 pub mod InputsStayed
 pub mod InputsTaken
+pub mod JobsReturn
 pub mod JournalsBegin
 pub mod JournalsGrow
+pub mod LanedTurns
+pub mod LanesAreFew
 pub mod LinkOnce
 pub mod LinksFound
 pub mod Makes

@@ -1,6 +1,6 @@
 -- The parts of a board are made one by one.
 use Rattle.std.proofs.Common.{◌≡◌, ℕ, zero, suc, ◌+◌, ◌<◌, ◌≤◌, List, [], ◌∷◌, ◌++◌, length, map, drop, take, get_or, slice_index_or, sym, ap, ◌∙◌, arith}
-use Rattle.std.proofs.lemmas.List.{map-append}
+use Rattle.std.proofs.lemmas.List.{map-append, take-take}
 use Rattle.std.proofs.Math.Seq.{get_or-append_seam}
 use Rattle.flow_lists.specs.Lists.{numbers_from}
 use Rattle.flow_lists.proofs.ListTests.{numbers_more}
@@ -86,6 +86,12 @@ front_long (x ∷ front) [] e = absurd (cc)
 front_long (x ∷ front) (y ∷ whole) e =
     let rest : length front ≤ length whole = front_long front whole (ap (drop 1) e) in
     omega (arith, rest)
+
+-- and what is in front of it is in front of all
+pub front_of_front : {A : Type 0} (first front whole : List A) → take (length first) front ≡ first → take (length front) whole ≡ front
+    → take (length first) whole ≡ first
+front_of_front first front whole one other =
+    sym (take-take (length first) (length front) whole (front_long first front one)) ∙ ap (take (length first)) other ∙ one
 
 -- Behind the first ones
 

@@ -1,6 +1,6 @@
 -- Which numbers the parts of a board have.
-use Rattle.std.proofs.Common.{◌≡◌, ℕ, ◌+◌, ◌<◌, ◌≤◌, ◌==◌, Bool, true, length, filter, subst, ap, ◌∙◌, arith}
-use Rattle.std.proofs.lemmas.Bool.{and_parts, eqb-true}
+use Rattle.std.proofs.Common.{◌≡◌, ℕ, ◌+◌, ◌<◌, ◌≤◌, leb, ltb, ◌==◌, Bool, true, length, filter, subst, ap, ◌∙◌, arith}
+use Rattle.std.proofs.lemmas.Bool.{and_parts, eqb-true, ltb-true}
 use Rattle.std.proofs.lemmas.List.Sums.{length-filter, count_by-le-length}
 use Rattle.flow_lists.specs.Lists.{below}
 use Rattle.flow_lists.proofs.ListTests.{length_numbers}
@@ -9,7 +9,7 @@ use Rattle.flow_link.proofs.PortsAreFew.{few_links}
 use Rattle.flow_link.specs.Planned.{layout_of}
 use Rattle.flow_block.specs.Planned.{exit_place, leads_out, links_out}
 use Rattle.flow_board.specs.Inputs.{begins_at_input}
-use Rattle.flow_board.specs.Numbers.{closed_before, entry_count, is_closed, is_entry_number, is_exit_number, is_input_number, is_open, open_before, place_in, task_count}
+use Rattle.flow_board.specs.Numbers.{closed_before, entry_count, is_closed, is_entry_number, is_exit_number, is_input_number, is_lane_number, is_open, open_before, place_in, task_count, turned_count}
 use Rattle.flow_board.specs.Kinds.{is_task_number}
 use Rattle.flow_board.specs.Parts.{board_by}
 use Rattle.flow_board.specs.declared.board.Board.{Board}
@@ -18,6 +18,7 @@ use Rattle.flow_board.specs.declared.numbered.Exit.{Exit}
 use Rattle.flow_board.specs.declared.numbered.Kind.{Kind}
 use Rattle.flow_board.specs.declared.numbered.Kind.TheVariants as kind
 use Rattle.flow_board.proofs.InputsApart.{closed_left, open_left}
+use Rattle.flow_board.proofs.LanesAreFew.{lanes_few}
 
 few_pass : (test : ℕ → Bool) (n : ℕ) → length (filter test (below n)) ≤ n
 few_pass test n =
@@ -37,19 +38,20 @@ module _ {W : Type 0} (board : Board W) where
   exits_end = entries_end + length (links_out (layout_of board.rest.plan))
 
   -- a plan has few blocks and links, so there are few parts
-  pub few_parts : exits_end ≤ 4864
+  pub few_parts : exits_end ≤ 8960
   few_parts =
       let layout = layout_of board.rest.plan in
       let many = length layout.links in
       let few = few_links board.rest.plan.blocks.items board.rest.plan.links.items board.rest.plan.well_formed board.rest.plan.laid_out in
       let few_blocks = board.rest.plan.well_formed.few_blocks in
+      let lanes = lanes_few layout board.rest.plan.well_formed in
       let opens = length board.opens.items in
       let inputs = board.told ∙ ap length board.inputs_are in
       let few_inputs = few_pass (begins_at_input layout) many in
       let few_closed = few_pass (is_closed layout board.opens.items) opens in
       let few_open = few_pass (is_open layout board.opens.items) opens in
       let few_out = few_pass (leads_out layout) many in
-      omega (arith, few, few_blocks, inputs, few_inputs, few_closed, few_open, few_out)
+      omega (arith, few, few_blocks, lanes, inputs, few_inputs, few_closed, few_open, few_out)
 
   -- the place of an input is one of those that are told to be entries or not
   place_low : (l : ℕ) → l < length (layout_of board.rest.plan).links → begins_at_input (layout_of board.rest.plan) l ≡ true
@@ -63,8 +65,8 @@ module _ {W : Type 0} (board : Board W) where
   module _ {w : _} {e : _} where
     pub task_low : (it : Kind W w e) (n : ℕ) → board_by it ≡ board → is_task_number it n ≡ true → n < tasks_end
     task_low (kind.Block task) n its numbered =
-        let same = eqb-true task.number n numbered in
-        let there = subst (λ (b : Board W). task.number < length (layout_of b.rest.plan).blocks) its task.there in
+        let same = eqb-true task.block.number n numbered in
+        let there = subst (λ (b : Board W). task.block.number < length (layout_of b.rest.plan).blocks) its task.block.there in
         omega (arith, same, there)
     task_low (kind.Input task) n its numbered =
         let layout = layout_of board.rest.plan in
@@ -79,6 +81,11 @@ module _ {W : Type 0} (board : Board W) where
         let same : before ≡ n = eqb-true before n parts.1 in
         let less = closed_left layout opens place (place_low l there begins) parts.0 in
         omega (arith, same, less)
+    task_low (kind.Lane task) n its numbered =
+        let layout = layout_of board.rest.plan in
+        let opens = board.opens.items in
+        let number = subst (λ (b : Board W). is_lane_number (layout_of b.rest.plan) b.opens.items n ≡ true) its numbered in
+        ltb-true n tasks_end (and_parts (leb (turned_count layout opens) n) (ltb n tasks_end) number).1
 
     pub entry_between : (entry : Entry W w e) → entry.input.of.value ≡ board → (tasks_end ≤ entry.number) × (entry.number < entries_end)
     entry_between entry its =

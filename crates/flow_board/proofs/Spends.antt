@@ -116,19 +116,20 @@ outs_before most more less first second last one other still some same =
     (still (omega (arith, some, mid)) (as_many_then one other same))
 
 -- all that a round tries
-pub gone_round : (most more less : ℕ) (makes makes' : Value → Result (List Value) ℕ) (first second last : NodeState) → makes' ≡ makes
+pub gone_round : (most more less : ℕ) (makes makes' : Value → Result (List Value) ℕ) (in_place : Bool) (first second last : NodeState)
+    → makes' ≡ makes
     → Spends makes most more first second → Spends makes' more less second last
     → (more ≡ most → (p : ℕ) → p < length first.block.ports → PortIsStill p first)
-    → (0 < more → less ≡ more → OwnIsDone makes' second)
+    → (0 < more → less ≡ more → OwnIsDone makes' second in_place)
     → (0 < more → less ≡ more → (k : ℕ) → k < out_count second → OutIsStill k second)
-    → 0 < most → less ≡ most → IsStill makes first
-gone_round most more less makes makes' first second last alike one other ins own outs some same =
+    → 0 < most → less ≡ most → IsStill makes first in_place
+gone_round most more less makes makes' in_place first second last alike one other ins own outs some same =
     let mid = as_many_first one other same in
     let later = as_many_then one other same in
     let more_than_none : 0 < more = omega (arith, some, mid) in
     record {
-      own = subst (λ (node : NodeState). OwnIsDone makes node) (one.kept mid)
-          (subst (λ (m : Value → Result (List Value) ℕ). OwnIsDone m second) alike (own more_than_none later));
+      own = subst (λ (node : NodeState). OwnIsDone makes node in_place) (one.kept mid)
+          (subst (λ (m : Value → Result (List Value) ℕ). OwnIsDone m second in_place) alike (own more_than_none later));
       ins = ins mid;
       outs = subst (λ (node : NodeState). (k : ℕ) → k < out_count node → OutIsStill k node) (one.kept mid) (outs more_than_none later);
     }

@@ -1,6 +1,5 @@
 -- Where nothing was done, nothing is left to do: what was found step by step holds of the node as it was, and as it is.
-use Rattle.std.proofs.Common.{◌≡◌, ℕ, ◌+◌, ◌<◌, ◌≤◌, Bool, true, false, List, length, Option, Some, Result, Ok, Err, IfOk, ⊎_elim, refl, sym, ◌∙◌, subst, arith}
-use Rattle.std.proofs.lemmas.Bool.{cases_lt}
+use Rattle.std.proofs.Common.{◌≡◌, ℕ, Bool, true, false, List, Option, Some, Result, Ok, Err, IfOk, sym, ◌∙◌, subst}
 use Rattle.std.specs.declared.alloc.AllocError.{AllocError}
 use Rattle.flow_value.specs.declared.value.Value.{Value}
 use Rattle.flow_link.specs.declared.phase.Move.{Move}
@@ -10,9 +9,8 @@ use Rattle.flow_outlet.specs.declared.fault.OutletFault.TheVariants.{Ids}
 use Rattle.flow_outlet.specs.Outlet.{lacks_ids}
 use Rattle.flow_block.specs.Peeks.{may_begin, may_end}
 use Rattle.flow_block_law.specs.JobsEnd.{put_at_end}
-use Rattle.flow_core.specs.MovesFit.{out_count}
 use Rattle.flow_board.specs.Events.{Does, HasEvent}
-use Rattle.flow_board.specs.Turns.{IsStill, JobsAreDone, MakeIsDone, OutIsStill, OwnIsDone, PortIsStill, StaysOpen}
+use Rattle.flow_board.specs.Turns.{JobsAreDone, MakeIsDone, OwnIsDone, StaysOpen, WorkIsDone}
 
 some_is : {A : Type 0} {x y : A} → Some x ≡ Some y → x ≡ y
 some_is e = cc
@@ -32,25 +30,6 @@ pub event_from : (makes makes' : Value → Result (List Value) ℕ) (did : Bool)
 event_from makes makes' did first old new said same from does =
     does_from (Ok true) makes makes' first old new same from (subst (λ (b : Bool). Does makes' (Ok b) old new) said does)
 
--- what holds from a place to another holds with that one
-pub between_more : (P : ℕ → Type 0) (first n : ℕ) → ((k : ℕ) → first ≤ k → k < n → P k) → P n → (k : ℕ) → first ≤ k → k < n + 1 → P k
-between_more P first n before here k from low =
-    ⊎_elim (λ (less : k < n). before k from less) (λ (same : n ≤ k). let is : n ≡ k = omega (arith, same, low) in subst P is here)
-    (cases_lt k n)
-
--- what holds from a place to the end, and before it, holds everywhere
-pub once_round : (P : ℕ → Type 0) (first n : ℕ) → ((k : ℕ) → first ≤ k → k < n → P k) → ((k : ℕ) → 0 ≤ k → k < first → P k)
-    → (k : ℕ) → k < n → P k
-once_round P first n behind before k low =
-    ⊎_elim (λ (less : k < first). before k (omega arith) less) (λ (from : first ≤ k). behind k from low) (cases_lt k first)
-
-pub round_still : (result : Result Bool AllocError) (P Q : ℕ → Type 0) (first n : ℕ) → ((k : ℕ) → first ≤ k → k < n → P k)
-    → ((k : ℕ) → Q k → P k) → IfOk result (λ did. did ≡ false → (k : ℕ) → 0 ≤ k → k < first → Q k)
-    → IfOk result (λ did. did ≡ false → (k : ℕ) → k < n → P k)
-round_still (Ok did) P Q first n behind into before =
-    λ not. once_round P first n behind (λ k from low. into k (before not k from low))
-round_still (Err fault) P Q first n behind into before = tt
-
 -- the move that was found is the one that came too late
 pub missed : (result : Result Bool AllocError) (found : Option Move) (next : Move) (Late : Move → Type 0) → found ≡ Some next
     → IfOk result (λ moved. moved ≡ false → Late next)
@@ -68,41 +47,29 @@ jobs_done (Ok did) done makes node ticket out lacks ids =
     λ not other may. record { ticket = ticket; out = out; lacks = lacks (ids not) }
 jobs_done (Err fault) done makes node ticket out lacks ids = tt
 
+-- of its jobs: that none is out, and that none begins
+pub work_done : (result : Result Bool AllocError) (makes : Value → Result (List Value) ℕ) (in_place : Bool) (first second : NodeState)
+    → second ≡ first → JobsAreDone makes first → IfOk result (λ did. did ≡ false → may_begin second.block ≡ false)
+    → IfOk result (λ did. did ≡ false → WorkIsDone makes first in_place)
+work_done (Ok did) makes in_place first second one jobs begin =
+    λ not.
+    record {
+      jobs = λ itself. jobs;
+      begin = λ itself. subst (λ (node : NodeState). may_begin node.block ≡ false) one (begin not);
+    }
+work_done (Err fault) makes in_place first second one jobs begin = tt
+
 -- of what a block does by itself, one after another
-pub own_done : (result : Result Bool AllocError) (makes makes' : Value → Result (List Value) ℕ) (first second third last : NodeState)
-    → second ≡ first → third ≡ second → last ≡ third → makes' ≡ makes → MakeIsDone makes first → JobsAreDone makes' second
-    → may_begin third.block ≡ false → IfOk result (λ did. did ≡ false → StaysOpen last.block)
-    → IfOk result (λ did. did ≡ false → OwnIsDone makes first)
-own_done (Ok did) makes makes' first second third last one two three same make jobs begin open_yet =
+pub own_done : (result : Result Bool AllocError) (makes makes' : Value → Result (List Value) ℕ) (in_place : Bool)
+    (first second last : NodeState) → second ≡ first → last ≡ second → makes' ≡ makes → MakeIsDone makes first
+    → WorkIsDone makes' second in_place → IfOk result (λ did. did ≡ false → StaysOpen last.block)
+    → IfOk result (λ did. did ≡ false → OwnIsDone makes first in_place)
+own_done (Ok did) makes makes' in_place first second last one two same make work open_yet =
     λ not.
     record {
       make = make;
-      jobs = subst (λ (node : NodeState). JobsAreDone makes node) one
-          (subst (λ (m : Value → Result (List Value) ℕ). JobsAreDone m second) same jobs);
-      begin = subst (λ (node : NodeState). may_begin node.block ≡ false) (two ∙ one) begin;
-      open_yet = subst (λ (node : NodeState). StaysOpen node.block) (three ∙ two ∙ one) (open_yet not);
+      work = subst (λ (node : NodeState). WorkIsDone makes node in_place) one
+          (subst (λ (m : Value → Result (List Value) ℕ). WorkIsDone m second in_place) same work);
+      open_yet = subst (λ (node : NodeState). StaysOpen node.block) (two ∙ one) (open_yet not);
     }
-own_done (Err fault) makes makes' first second third last one two three same make jobs begin open_yet = tt
-
--- and with the moves of its ends
-pub all_still : (result : Result Bool AllocError) (makes : Value → Result (List Value) ℕ) (first second third : NodeState)
-    → second ≡ first → third ≡ second → OwnIsDone makes first
-    → ((p : ℕ) → p < length second.block.ports → PortIsStill p second)
-    → IfOk result (λ did. did ≡ false → (k : ℕ) → k < out_count third → OutIsStill k third)
-    → IfOk result (λ did. did ≡ false → IsStill makes first)
-all_still (Ok did) makes first second third one two own ins outs =
-    λ not.
-    record {
-      own = own;
-      ins = subst (λ (node : NodeState). (p : ℕ) → p < length node.block.ports → PortIsStill p node) one ins;
-      outs = subst (λ (node : NodeState). (k : ℕ) → k < out_count node → OutIsStill k node) (two ∙ one) (outs not);
-    }
-all_still (Err fault) makes first second third one two own ins outs = tt
-
-pub still_later : (result : Result Bool AllocError) (makes makes' : Value → Result (List Value) ℕ) (old new : NodeState) → makes' ≡ makes
-    → Does makes' result old new → IfOk result (λ did. did ≡ false → IsStill makes' old) → IfOk result (λ did. did ≡ false → IsStill makes new)
-still_later (Ok true) makes makes' old new same does still = λ not. absurd (cc)
-still_later (Ok false) makes makes' old new same does still =
-    λ not.
-    subst (λ (m : Value → Result (List Value) ℕ). IsStill m new) same (subst (λ (node : NodeState). IsStill makes' node) (sym does) (still refl))
-still_later (Err fault) makes makes' old new same does still = tt
+own_done (Err fault) makes makes' in_place first second last one two same make work open_yet = tt

@@ -9,7 +9,7 @@ use Rattle.flow_poll.specs.declared.actor.TurnState.TheVariants.{Moved, Ended}
 use Rattle.flow_net.specs.Sights.{sight_of}
 use Rattle.flow_board.specs.Ended.{HasEnded}
 use Rattle.flow_board.specs.Parts.{entry_number, exit_number, exit_state, task_number, watched_block}
-use Rattle.flow_board.specs.Rests.{Rests, state_in}
+use Rattle.flow_board.specs.Rests.{HasState, Rests}
 use Rattle.flow_board.specs.TaskTurns.{HasTurned}
 use Rattle.flow_board.specs.declared.board.Board.{Board}
 use Rattle.flow_board.specs.declared.numbered.Task.{Task}
@@ -116,7 +116,7 @@ module _ {W : Type 0} {w : _} {e : _} where
   pub record Tells (meaning : W → Value → Result (List Value) WorkFault) (old : Task W w e) (budget : ℕ) (turned : Turned) (task : Task W w e)
       : Type 0 where
     pub happens : HasTurned meaning turned.events old task
-    pub state : turned.state ≡ state_in turned.events task
+    pub state : HasState turned.events turned.state task
     pub moved : 0 < turned.events → turned.state ≡ Moved
     pub ended : turned.state ≡ Ended → HasEnded task
     pub rests : 0 < budget → turned.events ≡ 0 → Rests meaning task

@@ -1,4 +1,4 @@
--- What there is room for before the parts of a network are made.
+-- What there is room for before the parts of a network are made, and that its lanes are made.
 use Rattle.std.specs.Prelude.{◌≡◌, ◌+◌, ◌≤◌, List, [], length, map, get_or, vec_capacity}
 use Rattle.flow_lists.specs.Lists.{below}
 use Rattle.flow_link.specs.Layout.{Layout}
@@ -11,6 +11,7 @@ use Rattle.flow_input.specs.Input.{InputState}
 use Rattle.flow_board.specs.Dealt.{HasRooms, HasRoomsIn}
 use Rattle.flow_board.specs.Entries.{waits_in}
 use Rattle.flow_board.specs.Inputs.{links_of_inputs, stays_open}
+use Rattle.flow_board.specs.Lanes.{lane_count}
 use Rattle.flow_board.specs.Known.{in_known, out_known}
 use Rattle.flow_board.specs.declared.frame.Frame.{Frame}
 
@@ -26,7 +27,9 @@ pub record IsRoomFor {W : Type 0} {w : _} {e : _} (layout : Layout W) (nodes : L
   pub ins_rooms : HasRoomsIn (λ ports. ports.items) vec_capacity (λ b p. in_count p (get_or nodes b no_node)) frame.targets.ins.items
   pub exits_room : length exits ≤ vec_capacity frame.targets.exits
   pub no_task : frame.tasks.items ≡ []
-  pub tasks_room : length nodes + length inputs ≤ vec_capacity frame.tasks
+  pub rows : length frame.lanes.rows.items ≡ length layout.blocks
+  pub lanes : length frame.lanes.lanes.items ≡ lane_count layout
+  pub tasks_room : length nodes + length inputs + lane_count layout ≤ vec_capacity frame.tasks
   pub no_entry : frame.entries.items ≡ []
   pub entries_room : length inputs ≤ vec_capacity frame.entries
   pub no_exit : frame.exits.items ≡ []

@@ -7,6 +7,7 @@ use Rattle.flow_exit.specs.Exit.{ExitState, fresh_exit}
 use Rattle.flow_input.specs.Input.{InputState, no_input}
 use Rattle.flow_input.specs.InputKeeps.{PostedStays}
 use Rattle.flow_board.specs.Begun.{begun_input}
+use Rattle.flow_board.specs.Lanes.{lane_count}
 use Rattle.flow_board.specs.Numbers.{closed_before, entry_count, is_open, open_before, place_in, task_count}
 use Rattle.flow_board.specs.Parts.{AllEntriesOf, AllTasksOf, board_layout, entry_link, entry_number, entry_state, exit_link, exit_state, task_number}
 use Rattle.flow_board.specs.Untouched.{AllUntouched}
@@ -17,13 +18,13 @@ use Rattle.flow_board.specs.declared.numbered.Exit.{Exit}
 use Rattle.flow_board.specs.declared.numbered.Task.{Task}
 
 module _ {W : Type 0} (board : Board W) (q : ℕ) where
-  -- the numbers of the inputs that are turned from this place on, and those of the entries
+  -- the numbers of the inputs that are turned from this place on, and of the lanes behind them, and those of the entries
   abbrev pub turned_from : List ℕ
   turned_from =
       let layout = layout_of board.rest.plan in
       let opens = board.opens.items in
       numbers_from (length layout.blocks + closed_before layout opens q)
-      (closed_before layout opens (length opens) - closed_before layout opens q)
+      (closed_before layout opens (length opens) - closed_before layout opens q + lane_count layout)
 
   abbrev pub entries_from : List ℕ
   entries_from =

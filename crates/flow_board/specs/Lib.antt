@@ -14,6 +14,9 @@ pub mod Home
 pub mod Inputs
 pub mod Kinds
 pub mod Known
+pub mod LaneTasks
+pub mod Laned
+pub mod Lanes
 pub mod Lefts
 pub mod Makes
 pub mod Numbers

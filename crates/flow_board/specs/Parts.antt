@@ -1,5 +1,5 @@
 -- What a contract sees of the parts of a scattered network.
-use Rattle.std.specs.Prelude.{◌≡◌, ℕ, List, [], ◌∷◌, Option}
+use Rattle.std.specs.Prelude.{◌≡◌, ℕ, List, [], ◌∷◌, Option, None}
 use Rattle.flow_link.specs.declared.plan.LinkSource.{LinkSource}
 use Rattle.flow_link.specs.declared.plan.LinkSource.TheVariants.{Block, Input}
 use Rattle.flow_link.specs.declared.trace.Mark.{Mark}
@@ -8,6 +8,7 @@ use Rattle.flow_link.specs.Layout.{Layout}
 use Rattle.flow_link.specs.Planned.{layout_of}
 use Rattle.flow_exit.specs.Exit.{ExitState}
 use Rattle.flow_input.specs.Input.{InputState}
+use Rattle.flow_board.specs.LaneTasks.{job_of}
 use Rattle.flow_board.specs.declared.board.Board.{Board}
 use Rattle.flow_board.specs.declared.numbered.Entry.{Entry}
 use Rattle.flow_board.specs.declared.numbered.Exit.{Exit}
@@ -28,19 +29,30 @@ board_layout board = layout_of board.rest.plan
 module _ {W : Type 0} {w : _} {e : _} where
   -- the board that it is of
   abbrev pub board_by : Kind W w e → Board W
-  board_by (kind.Block task) = task.of.value
+  board_by (kind.Block task) = task.block.of.value
   board_by (kind.Input task) = task.of.value
+  board_by (kind.Lane task) = task.of.value
 
   abbrev pub board_of : Task W w e → Board W
   board_of task = board_by task.kind
 
-  -- the marks of its block; none of an input
+  -- the marks of its block; none of an input or a lane
   abbrev pub marks_by : Kind W w e → List Mark
-  marks_by (kind.Block task) = task.node.journal
+  marks_by (kind.Block task) = task.block.node.journal
   marks_by (kind.Input task) = []
+  marks_by (kind.Lane task) = []
 
   abbrev pub marks_in : Task W w e → List Mark
   marks_in task = marks_by task.kind
+
+  -- the job that a lane does next, if one has come
+  abbrev pub job_by : Kind W w e → Option (ℕ × ℕ)
+  job_by (kind.Block task) = None
+  job_by (kind.Input task) = None
+  job_by (kind.Lane task) = job_of task
+
+  abbrev pub job_in : Task W w e → Option (ℕ × ℕ)
+  job_in task = job_by task.kind
 
   abbrev pub task_number : Task W w e → ℕ
   task_number task = task.number

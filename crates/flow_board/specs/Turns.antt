@@ -136,15 +136,20 @@ module _ (makes : Value → Result (List Value) ℕ) (node : NodeState) where
   abbrev pub JobsAreDone : Type 0
   JobsAreDone = (ticket : ℕ) → may_end ticket node.block ≡ true → JobLacksIds
 
-  -- a block does nothing by itself, but what no message id is left for
-  pub record OwnIsDone : Type 0 where
-    pub make : MakeIsDone
-    pub jobs : JobsAreDone
-    pub begin : may_begin node.block ≡ false
-    pub open_yet : StaysOpen node.block
+  module _ (in_place : Bool) where
+    -- where it does its jobs itself, none is out, but for want of message ids, and none begins
+    pub record WorkIsDone : Type 0 where
+      pub jobs : in_place ≡ true → JobsAreDone
+      pub begin : in_place ≡ true → may_begin node.block ≡ false
 
-  -- and no end of its links makes a move
-  pub record IsStill : Type 0 where
-    pub own : OwnIsDone
-    pub ins : (p : ℕ) → p < length node.block.ports → PortIsStill p node
-    pub outs : (k : ℕ) → k < out_count node → OutIsStill k node
+    -- a block does nothing by itself, but what no message id is left for
+    pub record OwnIsDone : Type 0 where
+      pub make : MakeIsDone
+      pub work : WorkIsDone
+      pub open_yet : StaysOpen node.block
+
+    -- and no end of its links makes a move
+    pub record IsStill : Type 0 where
+      pub own : OwnIsDone
+      pub ins : (p : ℕ) → p < length node.block.ports → PortIsStill p node
+      pub outs : (k : ℕ) → k < out_count node → OutIsStill k node

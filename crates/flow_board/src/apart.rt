@@ -15,6 +15,7 @@ ghost use Rattle.flow_board.specs.Begun.{begun_in};
 ghost use Rattle.flow_board.specs.Exits.{exit_due};
 ghost use Rattle.flow_board.specs.Inputs.{input_due, links_of_inputs};
 ghost use Rattle.flow_board.specs.Known.{in_known, ins_due, out_known, outs_due};
+ghost use Rattle.flow_board.specs.Lanes.{lane_count};
 ghost use Rattle.flow_board.specs.Lefts.{EntryIsAt, ExitIsAt, InputsLeft, IsTakenFrom, StaysAt};
 ghost use Rattle.flow_board.specs.Numbers.{closed_before, entry_count, is_open, task_count};
 ghost use Rattle.flow_board.specs.Parts.{AllEntriesOf, AllExitsOf, AllTasksOf, entry_number, exit_number, marks_in, task_number};
@@ -66,17 +67,15 @@ impl Blocks {
             let Some(Task { kind, .. }) = tasks.pop_front() else {
                 unreachable!()
             };
-            let Kind::Block(
-                BlockTask {
-                    node,
-                    outs,
-                    ins,
-                    ..
-                },
-            ) = kind
-            else {
+            let Kind::Block(task) = kind else {
                 unreachable!()
             };
+            let BlockTask {
+                node,
+                outs,
+                ins,
+                ..
+            } = task.block;
             self.nodes.push_reserved(node);
             self.outs.push_reserved(outs);
             self.ins.push_reserved(ins);
@@ -92,7 +91,7 @@ pub(crate) struct Inputs {
 }
 
 impl Inputs {
-    /// Takes all inputs: what is left of the tasks, and the entries. There is room for them.
+    /// Takes all inputs: what is left of the tasks but the lanes, and the entries. There is room for them.
     pub(crate) fn take<W: Runs>(
         &mut self,
         board: &Board<W>,
@@ -102,7 +101,8 @@ impl Inputs {
         requires of { AllTasksOf board.now tasks.old.items }
         requires entries_of { AllEntriesOf board.now entries.old.items }
         requires numbers { map task_number tasks.old.items ≡ numbers_from (length (layout_of board.now.rest.plan).blocks)
-            (closed_before (layout_of board.now.rest.plan) board.now.opens.items (length board.now.opens.items)) }
+            (closed_before (layout_of board.now.rest.plan) board.now.opens.items (length board.now.opens.items)
+            + lane_count (layout_of board.now.rest.plan)) }
         requires entry_numbers { map entry_number entries.old.items ≡ numbers_from (task_count (layout_of board.now.rest.plan)
             board.now.opens.items) (entry_count (layout_of board.now.rest.plan) board.now.opens.items) }
         requires none { self.old.inputs.items ≡ [] }

@@ -5,8 +5,10 @@ ghost use Rattle.flow_link.specs.Planned.{layout_of};
 ghost use Rattle.flow_block.specs.Planned.{links_out};
 ghost use Rattle.flow_board.specs.Inputs.{OpenOnesPost, links_of_inputs, stays_open};
 ghost use Rattle.flow_net.specs.Apart.{apart_in};
+ghost use Rattle.flow_board.specs.Lanes.{lane_count};
 ghost use Rattle.flow_board.specs.Numbers.{closed_before, entry_count};
 
+use crate::lane_rows::lane_count;
 use flow_link::{LinkId, Outcome};
 use flow_net::NetParts;
 use flow_wire::Wire;
@@ -44,6 +46,13 @@ impl<W> Board<W> {
         ensures { result ≡ closed_before (layout_of self.now.rest.plan) self.now.opens.items (length self.now.opens.items) }
     {
         self.opens.iter().filter(|open| !**open).count()
+    }
+
+    /// How many lanes are tasks.
+    pub(crate) fn lane_count(&self) -> usize
+        ensures { result ≡ lane_count (layout_of self.now.rest.plan) }
+    {
+        lane_count(&self.rest.plan)
     }
 
     /// How many inputs are entries.

@@ -6,6 +6,7 @@ ghost use Rattle.flow_board.specs.Entries.{waits_in};
 ghost use Rattle.flow_board.specs.Frames.{IsRoomFor};
 ghost use Rattle.flow_board.specs.Inputs.{links_of_inputs, stays_open};
 
+use crate::lane_rows::LaneRows;
 use crate::numbered::{Entry, Exit, Task, Watch};
 use crate::sources::Sources;
 use crate::targets::Targets;
@@ -17,12 +18,13 @@ use once_cell::race::OnceBox;
 use std::alloc::{AllocError, Global};
 use std::collections::VecDeque;
 
-/// Room for the ends of all links and for all parts; which links are of inputs and which of exits; and which inputs stay open, with the
-/// parcels of what waits there.
+/// The lanes of all blocks, and room for the ends of all links and for all parts; which links are of inputs and which of exits; and
+/// which inputs stay open, with the parcels of what waits there.
 #[derive(Drop)]
 pub(crate) struct Frame<W: Runs> {
     pub(crate) sources: Sources,
     pub(crate) targets: Targets,
+    pub(crate) lanes: LaneRows<W>,
     pub(crate) tasks: Vec<Task<W>>,
     pub(crate) entries: Vec<Entry<W>>,
     pub(crate) exits: Vec<Exit<W>>,
@@ -38,18 +40,22 @@ pub(crate) struct Frame<W: Runs> {
 impl<W: Runs> Frame<W> {
     /// Room for the parts of this network.
     pub(crate) fn new(alloc: Global, apart: &NetParts<W>) -> Result<Frame<W>, AllocError>
+        requires { length apart.now.nodes.items ≡ length (layout_of apart.now.plan).blocks }
         ensures { IfOk result (λ frame. IsRoomFor (layout_of apart.now.plan) apart.now.nodes.items apart.now.inputs.items apart.now.exits.items frame) }
     {
         let blocks = apart.nodes.len();
         let inputs = apart.inputs.len();
         let exits = apart.exits.len();
+        let lanes = LaneRows::new(alloc, &apart.plan)?;
+        let tasks = blocks + inputs + lanes.lanes.len();
         Ok(Frame {
             sources: Sources::with_room(alloc, &apart.nodes, inputs)?,
             targets: Targets::with_room(alloc, &apart.nodes, exits)?,
-            tasks: Vec::with_capacity(alloc, blocks + inputs)?,
+            tasks: Vec::with_capacity(alloc, tasks)?,
             entries: Vec::with_capacity(alloc, inputs)?,
             exits: Vec::with_capacity(alloc, exits)?,
             watches: Vec::with_capacity(alloc, blocks)?,
+            lanes,
             inputs: input_links(alloc, &apart.plan)?,
             outs: exit_links(alloc, &apart.plan)?,
             opens: open_inputs(alloc, &apart.inputs)?,

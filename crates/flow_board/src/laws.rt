@@ -27,6 +27,7 @@ use crate::numbered::{Kind, Task, Watch};
 use flow_exit::ExitEnd;
 use flow_input::Input;
 use flow_intake::Intake;
+use flow_lane::job_lanes_cross;
 use flow_link::{Mark, Outcome};
 use flow_outlet::Outlet;
 use flow_spread::Spread;
@@ -115,15 +116,16 @@ fn notes_cross()
     crosses::<Note<Outcome>>();
 }
 
-/// So a task may go to another thread, of whatever kind its works are: it has none of them, and knows its board by a snapshot. Call
+/// So a task may go to another thread, where a work may go there and threads may share it: the jobs of lanes have shares of works. Call
 /// it before a task is sent there.
-pub fn tasks_cross<W: Runs>()
-    ensures { IsSend (task.the_row W.row (record { meaning = W.meaning }) (record { eq = W.eq })) }
+pub fn tasks_cross<W: Runs + Send + Sync>()
+    ensures { IsSend (task.the_row W.row (record { meaning = W.meaning }) (record { eq = W.eq }) (record {})) }
 {
     nodes_cross();
     inputs_cross();
     link_ends_cross();
     notes_cross();
+    job_lanes_cross::<W>();
 }
 
 /// So may an entry.
@@ -167,8 +169,8 @@ pub fn same_end<W: Runs>(watch: &mut Watch<W>, task: &mut Task<W>)
         last_outcome (marks_in task.old) ≡ Some how }
 {
     match &mut task.kind {
-        Kind::Block(block) => watch.note.compare(block.note.again()),
-        Kind::Input(_) => {}
+        Kind::Block(task) => watch.note.compare(task.block.note.again()),
+        Kind::Input(_) | Kind::Lane(_) => {}
     }
 }
 

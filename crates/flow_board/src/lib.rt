@@ -1,4 +1,4 @@
-//! Blocks on threads. A network is scattered into tasks, one for each block and each input, over links that they share; each task is
+//! Blocks on threads. A network is scattered into tasks, one for each block, each input and each lane, over links that they share; each is
 //! turned on any thread, one turn at a time; and wherever the turns stop, the parts are gathered to a lawful network.
 #![tactic(auto)]
 
@@ -10,10 +10,15 @@ mod close;
 mod entry;
 mod exit;
 mod frame;
+mod gate;
 mod gathering;
 mod home;
 mod input_calls;
 mod input_task;
+mod jobs;
+mod lane_rows;
+mod lane_task;
+mod laned;
 mod laws;
 mod make;
 mod missing;
@@ -32,6 +37,7 @@ mod words;
 
 pub use at::{EntryAt, ExitAt, TaskAt, WatchAt};
 pub use board::Board;
+pub use gate::{Gate, OpenGate};
 pub use gathering::{GatherFault, gather};
 pub use laws::{
     entries_cross, exit_ends_cross, exits_cross, inputs_cross, intakes_cross, link_ends_cross,

@@ -15,20 +15,24 @@ ghost use Rattle.flow_board.specs.Begun.{begun_in, begun_input};
 ghost use Rattle.flow_board.specs.Entries.{waits_in};
 ghost use Rattle.flow_board.specs.Exits.{exit_due};
 ghost use Rattle.flow_board.specs.Inputs.{begins_at_input, input_due, links_of_inputs, stays_open};
+ghost use Rattle.flow_board.specs.Lanes.{lane_count};
 ghost use Rattle.flow_board.specs.Known.{in_known, ins_due, out_known, outs_due};
 ghost use Rattle.flow_board.specs.Makes.{InputsMade};
-ghost use Rattle.flow_board.specs.Numbers.{entry_count, is_entry_number, is_exit_number, is_input_number, task_count};
+ghost use Rattle.flow_board.specs.Numbers.{entry_count, is_entry_number, is_exit_number, is_input_number, is_lane_number, task_count, turned_count};
 ghost use Rattle.flow_board.specs.Parts.{AllEntriesOf, AllExitsOf, AllTasksOf, AllWatchesOf, board_of, entry_board, entry_number, exit_number, exit_state, marks_in, task_number, watched_block};
 ghost use Rattle.flow_board.specs.Untouched.{AllUntouched, IsUntouched};
 
 use crate::board::Board;
 use crate::input_task::InputTask;
+use crate::lane_task::{BlockLane, LaneTask};
+use crate::laned::LanedTask;
 use crate::numbered::{Entry, Exit, Kind, Task, Watch};
 use crate::task::BlockTask;
 use crate::turn::Station;
 use flow_block::Node;
 use flow_exit::ExitEnd;
 use flow_input::Input;
+use flow_lane::JobLanes;
 use flow_link::LinkId;
 use flow_value::{Parcel, Runs};
 use flow_wire::{SourceEnd, TargetEnd};
@@ -42,6 +46,7 @@ impl<W: Runs> Board<W> {
         nodes: Vec<Node>,
         outs: Vec<Vec<SourceEnd>>,
         ins: Vec<Vec<Vec<TargetEnd>>>,
+        rows: Vec<Option<JobLanes<W>>>,
         tasks: &mut Vec<Task<W>>,
     )
         requires count { length nodes.items ≡ length (layout_of self.now.rest.plan).blocks }
@@ -53,6 +58,7 @@ impl<W: Runs> Board<W> {
         requires ins { map (λ ports. map (λ row. map in_known row.items) ports.items) ins.items ≡ map (λ b. ins_due
             (layout_of self.now.rest.plan) self.now.wires.items b (get_or nodes.items b no_node))
             (below (length (layout_of self.now.rest.plan).blocks)) }
+        requires rows { length rows.items ≡ length (layout_of self.now.rest.plan).blocks }
         requires none { tasks.old.items ≡ [] }
         requires room { length (layout_of self.now.rest.plan).blocks ≤ vec_capacity tasks.old }
         ensures of { AllTasksOf self.now tasks.new.items }
@@ -62,6 +68,7 @@ impl<W: Runs> Board<W> {
     {
         let mut outs = VecDeque::from_vec(outs);
         let mut ins = VecDeque::from_vec(ins);
+        let mut rows = VecDeque::from_vec(rows);
         let mut number = 0;
         for node in nodes {
             let Some(outs) = outs.pop_front() else {
@@ -70,7 +77,10 @@ impl<W: Runs> Board<W> {
             let Some(ins) = ins.pop_front() else {
                 unreachable!()
             };
-            tasks.push_reserved(self.make_block(number, node, outs, ins));
+            let Some(lanes) = rows.pop_front() else {
+                unreachable!()
+            };
+            tasks.push_reserved(self.make_block(number, node, outs, ins, lanes));
             number += 1;
         }
     }
@@ -82,6 +92,7 @@ impl<W: Runs> Board<W> {
         node: Node,
         outs: Vec<SourceEnd>,
         ins: Vec<Vec<TargetEnd>>,
+        lanes: Option<JobLanes<W>>,
     ) -> Task<W>
         requires there { number < length (layout_of self.now.rest.plan).blocks }
         requires law { ∥ NodeLaw (layout_of self.now.rest.plan) (works_of W.meaning (layout_of self.now.rest.plan)) number node ∥₁ }
@@ -93,7 +104,7 @@ impl<W: Runs> Board<W> {
         ensures number { task_number result ≡ number }
         ensures journal { marks_in result ≡ node.journal }
     {
-        let task = BlockTask {
+        let block = BlockTask {
             of: Snapshot::of(self),
             number,
             node,
@@ -104,7 +115,7 @@ impl<W: Runs> Board<W> {
         };
         Task {
             number,
-            kind: Kind::Block(task),
+            kind: Kind::Block(LanedTask { block, lanes }),
         }
     }
 
@@ -133,7 +144,8 @@ impl<W: Runs> Board<W> {
         requires entries_room { entry_count (layout_of self.now.rest.plan) self.now.opens.items ≤ vec_capacity entries.old }
         ensures of { AllTasksOf self.now tasks.new.items }
         ensures numbers { map task_number tasks.new.items ≡
-            below (task_count (layout_of self.now.rest.plan) self.now.opens.items) }
+            below (turned_count (layout_of self.now.rest.plan) self.now.opens.items) }
+        ensures room { vec_capacity tasks.new ≡ vec_capacity tasks.old }
         ensures blocks { take (length tasks.old.items) tasks.new.items ≡ tasks.old.items }
         ensures entries_of { AllEntriesOf self.now entries.new.items }
         ensures entry_numbers { map entry_number entries.new.items ≡ numbers_from
@@ -242,6 +254,38 @@ impl<W: Runs> Board<W> {
             link,
             input,
             out,
+        }
+    }
+
+    /// Makes the tasks of the lanes, behind the others. There is room for them.
+    pub(crate) fn make_lanes(&self, lanes: Vec<BlockLane<W>>, tasks: &mut Vec<Task<W>>)
+        requires count { length lanes.items ≡ lane_count (layout_of self.now.rest.plan) }
+        requires of { AllTasksOf self.now tasks.old.items }
+        requires numbers { map task_number tasks.old.items ≡
+            below (turned_count (layout_of self.now.rest.plan) self.now.opens.items) }
+        requires room { task_count (layout_of self.now.rest.plan) self.now.opens.items ≤ vec_capacity tasks.old }
+        ensures of { AllTasksOf self.now tasks.new.items }
+        ensures numbers { map task_number tasks.new.items ≡
+            below (task_count (layout_of self.now.rest.plan) self.now.opens.items) }
+        ensures others { take (length tasks.old.items) tasks.new.items ≡ tasks.old.items }
+    {
+        for lane in lanes {
+            tasks.push_reserved(self.make_lane(tasks.len(), lane));
+        }
+    }
+
+    /// A lane as a task.
+    fn make_lane(&self, number: usize, its: BlockLane<W>) -> Task<W>
+        requires { is_lane_number (layout_of self.now.rest.plan) self.now.opens.items number ≡ true }
+        ensures of { board_of result ≡ self.now }
+        ensures number { task_number result ≡ number }
+    {
+        Task {
+            number,
+            kind: Kind::Lane(LaneTask {
+                of: Snapshot::of(self),
+                its,
+            }),
         }
     }
 

@@ -43,7 +43,8 @@ impl<W: Runs> Parts<W> {
         ensures before { IfSome result (λ n. (k : ℕ) → k < n →
             IsThere self.now.board self.now.tasks.items self.now.entries.items self.now.exits.items k) }
     {
-        let entries = self.board.rest.plan.block_count() + self.board.closed_count();
+        let turned = self.board.rest.plan.block_count() + self.board.closed_count();
+        let entries = turned + self.board.lane_count();
         let exits = entries + self.board.open_count();
         let end = exits + self.board.exit_count();
         if let Some(number) = first_gap(&self.tasks, 0, entries) {

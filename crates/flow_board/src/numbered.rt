@@ -15,8 +15,10 @@ ghost use Rattle.flow_board.specs.Numbers.{is_entry_number, is_exit_number};
 ghost use Rattle.flow_board.specs.Kinds.{BeginsBy, is_task_number};
 
 use crate::board::Board;
+use crate::gate::{Gate, OpenGate};
 use crate::input_task::InputTask;
-use crate::task::BlockTask;
+use crate::lane_task::LaneTask;
+use crate::laned::LanedTask;
 use flow_exit::ExitEnd;
 use flow_link::{LinkId, Mark, Outcome};
 use flow_poll::Turned;
@@ -27,7 +29,7 @@ use std::alloc::{AllocError, Global};
 use std::collections::VecDeque;
 use std::snapshot::Snapshot;
 
-/// What a thread turns: a block, or an input that posts what it has and ends.
+/// What a thread turns: a block, an input that posts what it has and ends, or a lane of a block, where its jobs are done.
 #[derive(Drop)]
 pub struct Task<W: Runs> {
     pub(crate) number: usize,
@@ -38,26 +40,27 @@ pub struct Task<W: Runs> {
 
 #[derive(Drop)]
 pub(crate) enum Kind<W: Runs> {
-    Block(BlockTask<W>),
+    Block(LanedTask<W>),
     Input(InputTask<W>),
+    Lane(LaneTask<W>),
 }
 
 impl<W: Runs> Task<W> {
     ghost use Rattle.std.specs.Prelude.{◌≤◌, IfOk, OnErr};
     ghost use Rattle.flow_poll.specs.Turns.{Extends};
     ghost use Rattle.flow_poll.specs.declared.actor.TurnState.TheVariants.{Ended};
-    ghost use Rattle.flow_board.specs.Parts.{board_of, marks_in, task_number};
+    ghost use Rattle.flow_board.specs.Parts.{board_of, job_in, marks_in, task_number};
     ghost use Rattle.flow_board.specs.Ended.{HasEnded};
-    ghost use Rattle.flow_board.specs.Rests.{Rests, state_in};
+    ghost use Rattle.flow_board.specs.Rests.{HasState, Rests};
     ghost use Rattle.flow_board.specs.TaskTurns.{HasTurned};
 
-    /// The marks of its block, in order; an input has none.
+    /// The marks of its block, in order; an input has none, nor has a lane.
     pub fn journal(&self) -> &[Mark]
         ensures { result.now ≡ marks_in self.now }
     {
         match &self.kind {
-            Kind::Block(task) => task.journal(),
-            Kind::Input(_) => &[],
+            Kind::Block(task) => task.block.journal(),
+            Kind::Input(_) | Kind::Lane(_) => &[],
         }
     }
 
@@ -65,8 +68,8 @@ impl<W: Runs> Task<W> {
     /// is to do. Where memory is out before the first event, nothing is changed but what its ends know; later, the turn ends with
     /// the events that are done. An event that needs a message id where none is left is not done, and the rest goes on.
     ///
-    /// A block has ended once its last mark is Done or a fault, all its links are refused or ended, and its watches can know how it has
-    /// ended; an input once its link is.
+    /// A block has ended once its last mark is Done or a fault, all its links are refused or ended, its watches can know how it has ended,
+    /// and its lanes are ended; an input once its link is; a lane once its block has ended it. What a lane does is no event.
     pub fn turn(
         &mut self,
         alloc: Global,
@@ -78,7 +81,31 @@ impl<W: Runs> Task<W> {
         ensures number { task_number self.new ≡ task_number self.old }
         ensures within { IfOk result (λ turned. turned.events ≤ budget) }
         ensures happens { IfOk result (λ turned. HasTurned W.meaning turned.events self.old self.new) }
-        ensures state { IfOk result (λ turned. turned.state ≡ state_in turned.events self.new) }
+        ensures state { IfOk result (λ turned. HasState turned.events turned.state self.new) }
+        ensures still { IfOk result (λ turned. 0 < budget → turned.events ≡ 0 → Rests W.meaning self.new) }
+        ensures extends { Extends (marks_in self.old) (marks_in self.new) }
+        ensures nothing { budget ≡ 0 → marks_in self.new ≡ marks_in self.old }
+        ensures looked { OnErr result (HasTurned W.meaning 0 self.old self.new) }
+        ensures kept { OnErr result (marks_in self.new ≡ marks_in self.old) }
+        ensures ended { IfOk result (λ turned. turned.state ≡ Ended → HasEnded self.new) }
+    {
+        self.turn_through(alloc, board, budget, &OpenGate)
+    }
+
+    /// The same, where each job goes through this gate.
+    pub fn turn_through<G: Gate>(
+        &mut self,
+        alloc: Global,
+        board: &Board<W>,
+        budget: u32,
+        gate: &G,
+    ) -> Result<Turned, AllocError>
+        requires of { board_of self.old ≡ board.now }
+        ensures of { board_of self.new ≡ board_of self.old }
+        ensures number { task_number self.new ≡ task_number self.old }
+        ensures within { IfOk result (λ turned. turned.events ≤ budget) }
+        ensures happens { IfOk result (λ turned. HasTurned W.meaning turned.events self.old self.new) }
+        ensures state { IfOk result (λ turned. HasState turned.events turned.state self.new) }
         ensures still { IfOk result (λ turned. 0 < budget → turned.events ≡ 0 → Rests W.meaning self.new) }
         ensures extends { Extends (marks_in self.old) (marks_in self.new) }
         ensures nothing { budget ≡ 0 → marks_in self.new ≡ marks_in self.old }
@@ -87,8 +114,23 @@ impl<W: Runs> Task<W> {
         ensures ended { IfOk result (λ turned. turned.state ≡ Ended → HasEnded self.new) }
     {
         match &mut self.kind {
-            Kind::Block(task) => task.turn(alloc, board, budget),
+            Kind::Block(task) => task.turn(alloc, board, budget, gate),
             Kind::Input(task) => task.turn(alloc, board, budget),
+            Kind::Lane(task) => task.turn(alloc, gate),
+        }
+    }
+
+    /// Of a lane, the number of its block and the ticket of the job that its next turn does, if one has come. None of a block or an
+    /// input.
+    pub fn job(&mut self) -> Option<(usize, u64)>
+        ensures of { board_of self.new ≡ board_of self.old }
+        ensures number { task_number self.new ≡ task_number self.old }
+        ensures marks { marks_in self.new ≡ marks_in self.old }
+        ensures job { result ≡ job_in self.new }
+    {
+        match &mut self.kind {
+            Kind::Lane(task) => task.job(),
+            Kind::Block(_) | Kind::Input(_) => None,
         }
     }
 }

@@ -13,9 +13,10 @@ ghost use Rattle.flow_block_law.specs.JobsEnd.{after_job, put_at_end};
 ghost use Rattle.flow_exec.specs.Works.{works_of};
 ghost use Rattle.flow_moves.specs.Calls.{Calls};
 ghost use Rattle.flow_board.specs.Events.{Does};
-ghost use Rattle.flow_board.specs.Turns.{JobsAreDone, MakeIsDone, OwnIsDone, StaysOpen, is_running, runs_on};
+ghost use Rattle.flow_board.specs.Turns.{JobsAreDone, MakeIsDone, OwnIsDone, StaysOpen, WorkIsDone, is_running, runs_on};
 
 use crate::board::Board;
+use crate::gate::{Gate, JobPolicy};
 use crate::task::BlockTask;
 use flow_block::Block;
 use flow_intake::Intake;
@@ -46,6 +47,7 @@ impl<W: Runs> BlockTask<W> {
         requires { may_begin self.old.node.block ≡ true }
         ensures of { self.new.of.value ≡ self.old.of.value }
         ensures number { self.new.number ≡ self.old.number }
+        ensures note { self.new.note ≡ self.old.note }
         ensures begun { OnOk result (Calls (Some NodeCall.begin) self.old.node self.new.node) }
         ensures kept { OnErr result (self.new.node ≡ self.old.node) }
     {
@@ -64,6 +66,7 @@ impl<W: Runs> BlockTask<W> {
         requires out { may_end ticket self.old.node.block ≡ true }
         ensures of { self.new.of.value ≡ self.old.of.value }
         ensures number { self.new.number ≡ self.old.number }
+        ensures note { self.new.note ≡ self.old.note }
         ensures ended { OnOk result (self.new.node ≡ after_job (block_makes (layout_of self.old.of.value.rest.plan)
             (works_of W.meaning (layout_of self.old.of.value.rest.plan)) self.old.number) ticket self.old.node) }
         ensures kept { OnErr result (self.new.node ≡ self.old.node) }
@@ -108,24 +111,50 @@ impl<W: Runs> BlockTask<W> {
         self.node.finish()
     }
 
-    /// The block does what comes next for it by itself. False where there is nothing, but for what no message id is left for.
-    pub(crate) fn act(&mut self, alloc: Global, board: &Board<W>) -> Result<bool, AllocError>
+    /// The block does what comes next for it by itself; it does its jobs only where they are done in place. False where there is nothing,
+    /// but for what no message id is left for.
+    pub(crate) fn act<G: Gate>(
+        &mut self,
+        alloc: Global,
+        board: &Board<W>,
+        policy: &JobPolicy<'_, G>,
+    ) -> Result<bool, AllocError>
         requires of { self.old.of.value ≡ board.now }
         ensures of { self.new.of.value ≡ self.old.of.value }
         ensures number { self.new.number ≡ self.old.number }
         ensures does { Does (makes_of W.meaning self.old) result self.old.node self.new.node }
-        ensures still { IfOk result (λ did. did ≡ false → OwnIsDone (makes_of W.meaning self.old) self.old.node) }
+        ensures still { IfOk result (λ did. did ≡ false → OwnIsDone (makes_of W.meaning self.old) self.old.node policy.now.in_place) }
     {
         if self.make_once(alloc)? {
             return Ok(true);
         }
-        if self.end_once(alloc, board)? {
-            return Ok(true);
-        }
-        if self.begin_once()? {
+        if self.work_once(alloc, board, policy)? {
             return Ok(true);
         }
         self.close()
+    }
+
+    /// The oldest job that is out ends, or one more begins, where jobs are done in place. False where there is none, or no message id is
+    /// left for the result.
+    fn work_once<G: Gate>(
+        &mut self,
+        alloc: Global,
+        board: &Board<W>,
+        policy: &JobPolicy<'_, G>,
+    ) -> Result<bool, AllocError>
+        requires of { self.old.of.value ≡ board.now }
+        ensures of { self.new.of.value ≡ self.old.of.value }
+        ensures number { self.new.number ≡ self.old.number }
+        ensures does { Does (makes_of W.meaning self.old) result self.old.node self.new.node }
+        ensures still { IfOk result (λ did. did ≡ false → WorkIsDone (makes_of W.meaning self.old) self.old.node policy.now.in_place) }
+    {
+        if !policy.in_place {
+            return Ok(false);
+        }
+        if self.end_once(alloc, board, policy.gate)? {
+            return Ok(true);
+        }
+        self.begin_once()
     }
 
     /// The block makes its next outputs, if it would. False where it would not, or no message id is left for them.
@@ -143,15 +172,26 @@ impl<W: Runs> BlockTask<W> {
 
     /// The message of the oldest job that is out is worked on, and the result comes back. False where none is out, or no message id
     /// is left for the result.
-    fn end_once(&mut self, alloc: Global, board: &Board<W>) -> Result<bool, AllocError>
+    pub(crate) fn end_once<G: Gate>(
+        &mut self,
+        alloc: Global,
+        board: &Board<W>,
+        gate: &G,
+    ) -> Result<bool, AllocError>
         requires of { self.old.of.value ≡ board.now }
         ensures of { self.new.of.value ≡ self.old.of.value }
         ensures number { self.new.number ≡ self.old.number }
+        ensures note { self.new.note ≡ self.old.note }
         ensures does { Does (makes_of W.meaning self.old) result self.old.node self.new.node }
         ensures still { IfOk result (λ did. did ≡ false → JobsAreDone (makes_of W.meaning self.old) self.old.node) }
     {
         match self.node.block().next_end() {
-            Some(ticket) => left_undone(self.finish_job(alloc, board, ticket)),
+            Some(ticket) => {
+                gate.before(self.number, ticket);
+                let done = self.finish_job(alloc, board, ticket);
+                gate.after(self.number, ticket);
+                left_undone(done)
+            }
             None => Ok(false),
         }
     }
@@ -243,7 +283,7 @@ fn runs_on(port: &Intake) -> bool
 }
 
 /// Whether something was done. Where a message id is wanting, nothing was.
-fn left_undone(done: Result<(), OutletFault>) -> Result<bool, AllocError>
+pub(crate) fn left_undone(done: Result<(), OutletFault>) -> Result<bool, AllocError>
     ensures done { OnOk done (result ≡ Ok true) }
     ensures not_done { OnErr done (IfOk result (λ did. did ≡ false)) }
     ensures ids { IfOk result (λ did. did ≡ false → done ≡ Err Ids) }

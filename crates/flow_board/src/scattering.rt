@@ -18,6 +18,7 @@ ghost use Rattle.flow_board.specs.Entries.{waits_in};
 ghost use Rattle.flow_board.specs.Exits.{exit_due};
 ghost use Rattle.flow_board.specs.Frames.{IsRoomFor};
 ghost use Rattle.flow_board.specs.Inputs.{input_due, links_of_inputs};
+ghost use Rattle.flow_board.specs.Lanes.{lane_count};
 ghost use Rattle.flow_board.specs.Known.{in_known, ins_due, out_known, outs_due};
 ghost use Rattle.flow_board.specs.Orders.{AreInOrder};
 ghost use Rattle.flow_board.specs.Parts.{AllEntriesOf, AllExitsOf, AllTasksOf, AllWatchesOf, board_layout, exit_state, marks_in, watched_block};
@@ -29,6 +30,7 @@ ghost use Rattle.flow_board.specs.Wired.{AllReady, AreWired, starts_of};
 use crate::board::Board;
 use crate::frame::Frame;
 use crate::home::bring_home;
+use crate::lane_rows::LaneRows;
 use crate::numbered::{Entry, Exit, Scattered, Task, Watch};
 use crate::sources::Sources;
 use crate::targets::Targets;
@@ -150,6 +152,7 @@ impl<W: Runs> Board<W> {
         sources: Sources,
         targets: Targets,
         waiting: Vec<VecDeque<Parcel>>,
+        lanes: LaneRows<W>,
         room: Room<W>,
     ) -> Scattered<W>
         requires in_order { AreInOrder (layout_of self.rest.plan) (works_of W.meaning (layout_of self.rest.plan)) lists.nodes.items
@@ -166,11 +169,14 @@ impl<W: Runs> Board<W> {
             (get_or (links_out (layout_of self.rest.plan)) k 0) (get_or lists.exits.items k fresh_exit))
             (below (length (links_out (layout_of self.rest.plan)))) }
         requires waiting { map (λ row. row.items) waiting.items ≡ map waits_in lists.inputs.items }
+        requires rows { length lanes.rows.items ≡ length (layout_of self.rest.plan).blocks }
+        requires lanes { length lanes.lanes.items ≡ lane_count (layout_of self.rest.plan) }
         requires no_task { room.tasks.items ≡ [] }
         requires no_entry { room.entries.items ≡ [] }
         requires no_exit { room.exits.items ≡ [] }
         requires no_watch { room.watches.items ≡ [] }
-        requires tasks_room { length lists.nodes.items + length lists.inputs.items ≤ vec_capacity room.tasks }
+        requires tasks_room { length lists.nodes.items + length lists.inputs.items + lane_count (layout_of self.rest.plan) ≤
+            vec_capacity room.tasks }
         requires entries_room { length lists.inputs.items ≤ vec_capacity room.entries }
         requires exits_room { length lists.exits.items ≤ vec_capacity room.exits }
         requires watches_room { length lists.nodes.items ≤ vec_capacity room.watches }
@@ -194,9 +200,15 @@ impl<W: Runs> Board<W> {
             mut exits,
             mut watches,
         } = room;
-        let first = self.rest.plan.block_count() + self.closed_count();
+        let first = self.rest.plan.block_count() + self.closed_count() + self.lane_count();
         let last = first + self.open_count();
-        self.make_blocks(lists.nodes, sources.outs, targets.ins, &mut tasks);
+        self.make_blocks(
+            lists.nodes,
+            sources.outs,
+            targets.ins,
+            lanes.rows,
+            &mut tasks,
+        );
         self.make_inputs(
             lists.inputs,
             sources.inputs,
@@ -205,6 +217,7 @@ impl<W: Runs> Board<W> {
             &mut tasks,
             &mut entries,
         );
+        self.make_lanes(lanes.lanes, &mut tasks);
         self.make_exits(lists.exits, targets.exits, last, &mut exits);
         self.make_watches(&mut watches);
         Scattered {
@@ -254,6 +267,7 @@ impl<W: Runs> Frame<W> {
         let Frame {
             mut sources,
             mut targets,
+            lanes,
             tasks,
             entries,
             exits,
@@ -287,7 +301,7 @@ impl<W: Runs> Frame<W> {
             exits,
             watches,
         };
-        board.make_parts(lists, sources, targets, waiting, room)
+        board.make_parts(lists, sources, targets, waiting, lanes, room)
     }
 }
 

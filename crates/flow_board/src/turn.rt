@@ -11,6 +11,7 @@ ghost use Rattle.flow_board.specs.Events.{AllLook, Does, HasEvent, HasLooked, Sp
 ghost use Rattle.flow_board.specs.Turns.{InIsStill, IsOver, IsStill, LooksIn, LooksOut, OutIsStill, OwnIsDone, PortIsStill, PortsLook, are_links_over, state_of};
 
 use crate::board::Board;
+use crate::gate::{Gate, JobPolicy};
 use crate::task::BlockTask;
 use flow_link::{Mark, Move, Outcome, PortId};
 use flow_moves::next_of_exit;
@@ -43,12 +44,13 @@ impl<W: Runs> BlockTask<W> {
     /// nothing to do only where it has looked and gone all the way round. Where memory is out before the first event, its ends have
     /// looked at most; later, the turn ends with the events that are done. An event that needs a message id where none is left is not
     /// done, and the rest goes on. It has ended once the block has stopped, as its last mark says, all its links are refused or ended,
-    /// and its watches can know how it has stopped.
-    pub fn turn(
+    /// and its watches can know how it has stopped. It does its jobs itself only where they are done in place.
+    pub fn turn<G: Gate>(
         &mut self,
         alloc: Global,
         board: &Board<W>,
         budget: u32,
+        policy: &JobPolicy<'_, G>,
     ) -> Result<Turned, AllocError>
         requires of { self.old.of.value ≡ board.now }
         ensures of { self.new.of.value ≡ self.old.of.value }
@@ -61,16 +63,17 @@ impl<W: Runs> BlockTask<W> {
         ensures happens { IfOk result (λ turned.
             ∥ TurnsBy AllLook (HasEvent (makes_of W.meaning self.old)) turned.events self.old.node self.new.node ∥₁) }
         ensures all_look { IfOk result (λ turned. turned.events ≡ 0 → AllLook self.old.node self.new.node) }
+        ensures idle { IfOk result (λ turned. turned.events ≡ 0 → journal_of self.new ≡ journal_of self.old) }
         ensures state { IfOk result (λ turned. turned.state ≡ state_of turned.events self.new.note.known self.new.node) }
         ensures ended { IfOk result (λ turned. turned.state ≡ Ended → IsOver (journal_of self.new)) }
         ensures links { IfOk result (λ turned. turned.state ≡ Ended → are_links_over self.new.node ≡ true) }
         ensures told { IfOk result (λ turned. turned.state ≡ Ended → self.new.note.known ≡ last_outcome (journal_of self.new)) }
-        ensures still { IfOk result (λ turned. 0 < budget → turned.events ≡ 0 → IsStill (makes_of W.meaning self.new) self.new.node) }
+        ensures still { IfOk result (λ turned. 0 < budget → turned.events ≡ 0 → IsStill (makes_of W.meaning self.new) self.new.node policy.now.in_place) }
     {
         self.look_ins(board);
         self.look_outs(board);
         let mut left = budget;
-        match self.go_round(alloc, board, &mut left) {
+        match self.go_round(alloc, board, policy, &mut left) {
             Ok(()) => self.end_turn(alloc, board, budget - left),
             Err(fault) => {
                 if left == budget {
@@ -162,25 +165,26 @@ impl<W: Runs> BlockTask<W> {
 
     /// The block goes on from where it stands, by what its ends know, until it has gone round or no event is left. Where it finds nothing
     /// to do from there on, it goes all the way round.
-    fn go_round(
+    fn go_round<G: Gate>(
         &mut self,
         alloc: Global,
         board: &Board<W>,
+        policy: &JobPolicy<'_, G>,
         left: &mut u32,
     ) -> Result<(), AllocError>
         requires of { self.old.of.value ≡ board.now }
         ensures of { self.new.of.value ≡ self.old.of.value }
         ensures number { self.new.number ≡ self.old.number }
         ensures spends { Spends (makes_of W.meaning self.old) left.old left.new self.old.node self.new.node }
-        ensures still { OnOk result (0 < left.old → left.new ≡ left.old → IsStill (makes_of W.meaning self.old) self.new.node) }
+        ensures still { OnOk result (0 < left.old → left.new ≡ left.old → IsStill (makes_of W.meaning self.old) self.new.node policy.now.in_place) }
     {
         let from_start = self.is_at_start();
         let before = *left;
-        self.go_on(alloc, board, left)?;
+        self.go_on(alloc, board, policy, left)?;
         if from_start || *left < before {
             return Ok(());
         }
-        self.go_on(alloc, board, left)
+        self.go_on(alloc, board, policy, left)
     }
 
     /// Whether it stands where a round begins.
@@ -194,27 +198,34 @@ impl<W: Runs> BlockTask<W> {
     }
 
     /// The block goes on from where it stands to the end of the round, where the next one begins, unless no event is left before.
-    fn go_on(&mut self, alloc: Global, board: &Board<W>, left: &mut u32) -> Result<(), AllocError>
+    fn go_on<G: Gate>(
+        &mut self,
+        alloc: Global,
+        board: &Board<W>,
+        policy: &JobPolicy<'_, G>,
+        left: &mut u32,
+    ) -> Result<(), AllocError>
         requires of { self.old.of.value ≡ board.now }
         ensures of { self.new.of.value ≡ self.old.of.value }
         ensures number { self.new.number ≡ self.old.number }
         ensures spends { Spends (makes_of W.meaning self.old) left.old left.new self.old.node self.new.node }
         ensures still { OnOk result (0 < left.old → left.new ≡ left.old → self.old.at ≡ Station.In 0 0 →
-            IsStill (makes_of W.meaning self.old) self.old.node) }
+            IsStill (makes_of W.meaning self.old) self.old.node policy.now.in_place) }
         ensures back { OnOk result (0 < left.old → left.new ≡ left.old → self.new.at ≡ Station.In 0 0) }
     {
         match self.at {
-            Station::In(port, place) => self.go_on_in(alloc, board, port, place, left),
-            Station::Own => self.go_on_own(alloc, board, left),
+            Station::In(port, place) => self.go_on_in(alloc, board, policy, port, place, left),
+            Station::Own => self.go_on_own(alloc, board, policy, left),
             Station::Out(place) => self.go_on_out(alloc, board, place, left),
         }
     }
 
     /// The same from the end of the link into this port at this place.
-    fn go_on_in(
+    fn go_on_in<G: Gate>(
         &mut self,
         alloc: Global,
         board: &Board<W>,
+        policy: &JobPolicy<'_, G>,
         port: PortId,
         place: usize,
         left: &mut u32,
@@ -224,53 +235,55 @@ impl<W: Runs> BlockTask<W> {
         ensures number { self.new.number ≡ self.old.number }
         ensures spends { Spends (makes_of W.meaning self.old) left.old left.new self.old.node self.new.node }
         ensures still { OnOk result (0 < left.old → left.new ≡ left.old → port ≡ 0 → place ≡ 0 →
-            IsStill (makes_of W.meaning self.old) self.old.node) }
+            IsStill (makes_of W.meaning self.old) self.old.node policy.now.in_place) }
         ensures back { OnOk result (0 < left.old → left.new ≡ left.old → self.new.at ≡ Station.In 0 0) }
     {
         if self.move_ins(board, port, place, left)? {
-            return self.go_on_own(alloc, board, left);
+            return self.go_on_own(alloc, board, policy, left);
         }
         Ok(())
     }
 
     /// The same from what the block does by itself.
-    fn go_on_own(
+    fn go_on_own<G: Gate>(
         &mut self,
         alloc: Global,
         board: &Board<W>,
+        policy: &JobPolicy<'_, G>,
         left: &mut u32,
     ) -> Result<(), AllocError>
         requires of { self.old.of.value ≡ board.now }
         ensures of { self.new.of.value ≡ self.old.of.value }
         ensures number { self.new.number ≡ self.old.number }
         ensures spends { Spends (makes_of W.meaning self.old) left.old left.new self.old.node self.new.node }
-        ensures own { OnOk result (0 < left.old → left.new ≡ left.old → OwnIsDone (makes_of W.meaning self.old) self.old.node) }
+        ensures own { OnOk result (0 < left.old → left.new ≡ left.old → OwnIsDone (makes_of W.meaning self.old) self.old.node policy.now.in_place) }
         ensures outs { OnOk result (0 < left.old → left.new ≡ left.old → (k : ℕ) → k < out_count self.old.node →
             OutIsStill k self.old.node) }
         ensures back { OnOk result (0 < left.old → left.new ≡ left.old → self.new.at ≡ Station.In 0 0) }
     {
-        if self.act_on(alloc, board, left)? {
+        if self.act_on(alloc, board, policy, left)? {
             return self.go_on_out(alloc, board, 0, left);
         }
         Ok(())
     }
 
     /// The block does what it can by itself. False where no event is left for more: then it stands there.
-    fn act_on(
+    fn act_on<G: Gate>(
         &mut self,
         alloc: Global,
         board: &Board<W>,
+        policy: &JobPolicy<'_, G>,
         left: &mut u32,
     ) -> Result<bool, AllocError>
         requires of { self.old.of.value ≡ board.now }
         ensures of { self.new.of.value ≡ self.old.of.value }
         ensures number { self.new.number ≡ self.old.number }
         ensures spends { Spends (makes_of W.meaning self.old) left.old left.new self.old.node self.new.node }
-        ensures still { IfOk result (λ all. all ≡ true → left.new ≡ left.old → OwnIsDone (makes_of W.meaning self.old) self.old.node) }
+        ensures still { IfOk result (λ all. all ≡ true → left.new ≡ left.old → OwnIsDone (makes_of W.meaning self.old) self.old.node policy.now.in_place) }
         ensures stops { IfOk result (λ all. all ≡ false → 0 < left.old → left.new < left.old) }
     {
         while *left > 0 {
-            if !self.act(alloc, board)? {
+            if !self.act(alloc, board, policy)? {
                 return Ok(true);
             }
             *left -= 1;

@@ -4,6 +4,7 @@ ghost use Rattle.std.specs.Prelude.{◌≤◌, ◌<◌};
 use crate::chain::{chain, in_turn};
 use crate::timed::Timed;
 use anyhow::{Result, bail};
+use flow_board::OpenGate;
 use flow_crew::run_workers;
 use std::alloc::Global;
 use std::sync::Wait;
@@ -21,7 +22,7 @@ pub(crate) fn by_workers<R: Threads + Wait + Clock + Sync>(
 {
     let net = chain(alloc, count)?;
     let begun = Instant::now(rt)?;
-    let ran = run_workers(rt, alloc, net, workers, u64::MAX);
+    let ran = run_workers(rt, alloc, net, workers, &OpenGate, u64::MAX);
     let taken = begun.elapsed(rt);
     match ran {
         Ok((net, _)) => {

@@ -11,6 +11,8 @@ mod entries;
 #[cfg(test)]
 mod exits;
 #[cfg(test)]
+mod lanes;
+#[cfg(test)]
 mod missing;
 #[cfg(test)]
 mod networks;

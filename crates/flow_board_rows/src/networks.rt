@@ -11,13 +11,17 @@ use flow_value::{Steps, Text, Value};
 use std::alloc::Global;
 use std::process::Abort;
 
-/// A buffer to which 1, 2 and 3 are posted, a transform that doubles them, and an action that records them.
-fn chain(alloc: Global) -> Result<Inputs<Steps>> {
+/// A buffer to which 1, 2 and 3 are posted, a transform that doubles them in so many lanes, and an action that records them.
+fn chain(alloc: Global, lanes: u32) -> Result<Inputs<Steps>> {
     let double = Steps::read(alloc, &["mul 2"])?;
     let keep = Steps::read(alloc, &["id"])?;
     let plan = Draft::new(alloc)
         .block(BlockDef::named(alloc, "in", BlockKind::Buffer)?.input())?
-        .block(BlockDef::named(alloc, "double", BlockKind::Transform)?.work(double))?
+        .block(
+            BlockDef::named(alloc, "double", BlockKind::Transform)?
+                .work(double)
+                .lanes(lanes),
+        )?
         .block(BlockDef::named(alloc, "out", BlockKind::Action)?.work(keep))?
         .link(LinkDef::between(alloc, "in", "double")?.propagate())?
         .link(LinkDef::between(alloc, "double", "out")?.propagate())?
@@ -136,7 +140,7 @@ pub(crate) fn chain_watched(rt: &impl Abort, alloc: Global) -> (Parts<Steps>, Wa
     ensures exits_of { AllExitsOf result.0.board result.0.exits.items }
     ensures watch_of { watched_board result.1 ≡ result.0.board }
 {
-    watched(rt, alloc, chain(alloc))
+    watched(rt, alloc, chain(alloc, 1))
 }
 
 /// The parts of the chain.
@@ -145,7 +149,16 @@ pub(crate) fn chain_parts(rt: &impl Abort, alloc: Global) -> Parts<Steps>
     ensures entries_of { AllEntriesOf result.board result.entries.items }
     ensures exits_of { AllExitsOf result.board result.exits.items }
 {
-    scattered(rt, alloc, chain(alloc))
+    scattered(rt, alloc, chain(alloc, 1))
+}
+
+/// The parts of the chain whose transform has two lanes.
+pub(crate) fn laned_parts(rt: &impl Abort, alloc: Global) -> Parts<Steps>
+    ensures tasks_of { AllTasksOf result.board result.tasks.items }
+    ensures entries_of { AllEntriesOf result.board result.entries.items }
+    ensures exits_of { AllExitsOf result.board result.exits.items }
+{
+    scattered(rt, alloc, chain(alloc, 2))
 }
 
 /// The parts of the network that reads three numbers.
@@ -173,6 +186,19 @@ pub(crate) fn counted_parts(rt: &impl Abort, alloc: Global) -> Parts<Steps>
     ensures exits_of { AllExitsOf result.board result.exits.items }
 {
     scattered(rt, alloc, buffer(alloc, &[1, 2], Ending::Complete))
+}
+
+/// The parts of a network, scattered once more.
+pub(crate) fn again(rt: &impl Abort, alloc: Global, net: Net<Steps>) -> Parts<Steps>
+    ensures tasks_of { AllTasksOf result.board result.tasks.items }
+    ensures entries_of { AllEntriesOf result.board result.entries.items }
+    ensures exits_of { AllExitsOf result.board result.exits.items }
+{
+    let Ok(scattered) = scatter(alloc, net) else {
+        panic!(rt; "out of memory");
+    };
+    let (parts, _) = scattered.into_parts();
+    parts
 }
 
 /// The network of these parts, all of which are there.

@@ -40,7 +40,7 @@ fn an_offer_is_wanted(rt: HostRuntime) {
     } = parse_parts(&rt, alloc);
     assert!(rt; board.peek(3).is_none());
     let (tasks, _) = turn_all(&rt, alloc, &board, tasks, 1, 1);
-    let tasks = turn_first(&rt, alloc, &board, tasks, 1);
+    let tasks = turn_first(&rt, alloc, &board, tasks, 1, 1);
     assert!(rt; board.peek(2) == Some(WANTED));
     let mut net = gathered(
         &rt,

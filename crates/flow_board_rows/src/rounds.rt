@@ -65,13 +65,14 @@ fn turn_if(
     }
 }
 
-/// Turns the first of these tasks once, and leaves the others.
+/// Turns so many of these tasks once, and leaves the others.
 pub(crate) fn turn_first(
     rt: &impl Abort,
     alloc: Global,
     board: &Board<Steps>,
     tasks: Vec<Task<Steps>>,
     budget: u32,
+    count: usize,
 ) -> Vec<Task<Steps>>
     requires of { AllTasksOf board.now tasks.items }
     ensures of { AllTasksOf board.now result.items }
@@ -79,12 +80,32 @@ pub(crate) fn turn_first(
     let mut turned = Vec::new(alloc);
     for task in tasks {
         let mut task = task;
-        turn_if(rt, alloc, board, &mut task, budget, turned.is_empty());
+        let is_to_be = turned.len() < count;
+        turn_if(rt, alloc, board, &mut task, budget, is_to_be);
         let Ok(()) = turned.push(task) else {
             panic!(rt; "out of memory");
         };
     }
     turned
+}
+
+/// Turns so many of these tasks in so many rounds, and leaves the others.
+pub(crate) fn turn_some(
+    rt: &impl Abort,
+    alloc: Global,
+    board: &Board<Steps>,
+    tasks: Vec<Task<Steps>>,
+    count: usize,
+    rounds: usize,
+) -> Vec<Task<Steps>>
+    requires of { AllTasksOf board.now tasks.items }
+    ensures of { AllTasksOf board.now result.items }
+{
+    let mut tasks = tasks;
+    for _ in 0..rounds {
+        tasks = turn_first(rt, alloc, board, tasks, 64, count);
+    }
+    tasks
 }
 
 /// Turns all tasks in rounds, until a round in which none moved, or as many as these.

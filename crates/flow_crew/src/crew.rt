@@ -8,7 +8,7 @@ use crate::item::Round;
 use crate::laws::{crosses, is_shared, items_cross};
 use crate::rule::{Halves, Queue, Ticket};
 use crate::worker::{Done, Worker};
-use flow_board::{Board, boards_are_shared};
+use flow_board::{Board, Gate, boards_are_shared};
 use flow_value::Runs;
 use std::alloc::Global;
 use std::collections::VecDeque;
@@ -26,7 +26,7 @@ pub(crate) struct Share {
 }
 
 /// One worker: it takes tasks, turns them and puts them back, until none moves, or the budget is used. Its pass comes back as it was.
-fn work<W: Runs, J: Round<W>, R: Wait>(
+fn work<W: Runs, J: Round<W>, R: Wait, G: Gate>(
     rt: &R,
     alloc: Global,
     board: &Board<W>,
@@ -34,6 +34,7 @@ fn work<W: Runs, J: Round<W>, R: Wait>(
     bell: &Bell,
     pass: Ticket<W, J>,
     share: Share,
+    gate: &G,
 ) -> (Ticket<W, J>, Done)
     requires board { J.board ≡ Some board.now }
     requires queue { IsPassOf queue.now pass × (length J.all ≤ ruled_capacity queue.now) }
@@ -44,13 +45,7 @@ fn work<W: Runs, J: Round<W>, R: Wait>(
 {
     let Ok(held) = VecDeque::with_capacity(alloc, share.chunk) else {
         bell.end();
-        return (
-            pass,
-            Done {
-                events: 0,
-                refused: true,
-            },
-        );
+        return (pass, Done::nothing().refused());
     };
     let mut worker = Worker::new(pass, held);
     let mut lull = Lull::new(bell);
@@ -62,15 +57,21 @@ fn work<W: Runs, J: Round<W>, R: Wait>(
             break;
         }
         lull.listen(bell);
-        worker.take_some(queue, share.chunk);
+        let has_job = worker.take_some(queue, share.chunk);
         let taken = worker.held.len();
-        let done = worker.turn_all(alloc, board, share.budget - events);
+        let done = if has_job {
+            worker.put_others(rt, queue);
+            bell.ring();
+            worker.do_job(alloc, board, gate)
+        } else {
+            worker.turn_all(alloc, board, share.budget - events, gate)
+        };
         worker.put_all(rt, queue);
         events += done.events;
         refused = done.refused;
         if refused {
             bell.end();
-        } else if done.events > 0 {
+        } else if done.moved {
             lull.moved(bell);
         } else {
             lull.lay_still(rt, bell, taken, share.tasks);
@@ -78,11 +79,21 @@ fn work<W: Runs, J: Round<W>, R: Wait>(
     }
     worker.put_all(rt, queue);
     bell.leave();
-    (worker.end(), Done { events, refused })
+    let done = Done {
+        events,
+        refused,
+        ..Done::nothing()
+    };
+    (worker.end(), done)
 }
 
 /// So many workers, each with its share of the budget. The pass comes back as it was, so nothing is held when they are done.
-pub(crate) fn crew<W: Runs + Sync, J: Round<W> + Send + Sync, R: Threads + Wait + Sync>(
+pub(crate) fn crew<
+    W: Runs + Send + Sync,
+    J: Round<W> + Send + Sync,
+    R: Threads + Wait + Sync,
+    G: Gate + Sync,
+>(
     rt: &R,
     alloc: Global,
     board: &Board<W>,
@@ -91,6 +102,7 @@ pub(crate) fn crew<W: Runs + Sync, J: Round<W> + Send + Sync, R: Threads + Wait 
     mut pass: Ticket<W, J>,
     workers: usize,
     share: Share,
+    gate: &G,
 ) -> (Ticket<W, J>, Done)
     requires board { J.board ≡ Some board.now }
     requires queue { IsPassOf queue.now pass × (length J.all ≤ ruled_capacity queue.now) }
@@ -100,7 +112,7 @@ pub(crate) fn crew<W: Runs + Sync, J: Round<W> + Send + Sync, R: Threads + Wait 
     ensures within { result.1.events ≤ share.budget }
 {
     if workers < 2 {
-        return work(rt, alloc, board, queue, bell, pass, share);
+        return work(rt, alloc, board, queue, bell, pass, share, gate);
     }
     items_cross::<W, J>();
     crosses::<Ticket<W, J>>();
@@ -121,22 +133,23 @@ pub(crate) fn crew<W: Runs + Sync, J: Round<W> + Send + Sync, R: Threads + Wait 
     };
     let other = queue.another::<Halves>(&mut pass);
     let front = move || -> (Ticket<W, J>, Done)
-        requires { IsSync W.row × IsSend J.row × IsSync J.row × IsSync R.row × (J.board ≡ Some board.now) × IsPassOf queue.now pass
+        requires { IsSend W.row × IsSync W.row × IsSend J.row × IsSync J.row × IsSync R.row × IsSync G.row × (J.board ≡ Some board.now) × IsPassOf queue.now pass
             × (length J.all ≤ ruled_capacity queue.now) × (high ≤ (view pass).parts) × (0 < (view pass).parts) × ((view pass).holds ≡ []) }
         ensures { IsPassOf queue.entry.now result.0 × ((view result.0).parts ≡ (view pass).parts) × ((view result.0).holds ≡ [])
             × (result.1.events ≤ upper.budget) }
-    { crew(rt, alloc, board, queue, bell, pass, high, upper) };
+    { crew(rt, alloc, board, queue, bell, pass, high, upper, gate) };
     let back = move || -> (Ticket<W, J>, Done)
-        requires { IsSync W.row × IsSend J.row × IsSync J.row × IsSync R.row × (J.board ≡ Some board.now) × IsPassOf queue.now other
+        requires { IsSend W.row × IsSync W.row × IsSend J.row × IsSync J.row × IsSync R.row × IsSync G.row × (J.board ≡ Some board.now) × IsPassOf queue.now other
             × (length J.all ≤ ruled_capacity queue.now) × (low ≤ (view other).parts) × (0 < (view other).parts) × ((view other).holds ≡ []) }
         ensures { IsPassOf queue.entry.now result.0 × ((view result.0).parts ≡ (view other).parts) × ((view result.0).holds ≡ [])
             × (result.1.events ≤ lower.budget) }
-    { crew(rt, alloc, board, queue, bell, other, low, lower) };
+    { crew(rt, alloc, board, queue, bell, other, low, lower, gate) };
     let ((mut pass, first), (other, second)) = join(rt, front, back);
     queue.absorb::<Halves>(&mut pass, other);
     let done = Done {
         events: first.events + second.events,
         refused: first.refused || second.refused,
+        ..Done::nothing()
     };
     (pass, done)
 }

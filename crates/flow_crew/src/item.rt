@@ -3,7 +3,8 @@ ghost use Rattle.std.specs.Prelude.{◌≡◌, ◌≤◌, IfOk, Some};
 ghost use Rattle.flow_board.specs.Parts.{task_number};
 ghost use Rattle.flow_crew.specs.Rounds.{IsIn};
 
-use flow_board::{Board, Task};
+use flow_board::{Board, Gate, Task};
+use flow_poll::Turned;
 use flow_value::Runs;
 use std::alloc::{AllocError, Global};
 use std::marker::{Brand, Model, PhantomData};
@@ -68,18 +69,25 @@ impl<W: Runs, J: Round<W>> Item<W, J> {
         self.task
     }
 
-    /// Turns it for at most so many events, and tells how many were done.
-    pub(crate) fn turn(
+    /// Whether it is a lane to which a job has come.
+    pub(crate) fn has_job(&mut self) -> bool
+        ensures same { self.new ≡ self.old }
+    {
+        self.task.job().is_some()
+    }
+
+    /// Turns it for at most so many events; each job goes through the gate.
+    pub(crate) fn turn<G: Gate>(
         &mut self,
         alloc: Global,
         board: &Board<W>,
         budget: u32,
-    ) -> Result<u32, AllocError>
+        gate: &G,
+    ) -> Result<Turned, AllocError>
         requires board { J.board ≡ Some board.now }
         ensures same { self.new ≡ self.old }
-        ensures within { IfOk result (λ events. events ≤ budget) }
+        ensures within { IfOk result (λ turned. turned.events ≤ budget) }
     {
-        let turned = self.task.turn(alloc, board, budget)?;
-        Ok(turned.events)
+        self.task.turn_through(alloc, board, budget, gate)
     }
 }

@@ -18,8 +18,8 @@ pub(crate) fn is_shared<T: Sync>()
 {}
 
 /// A task of a round may go to another thread.
-pub(crate) fn items_cross<W: Runs, J: Round<W>>()
-    ensures { IsSend (item.the_row W.row J.row (record { meaning = W.meaning }) (record { eq = W.eq })
+pub(crate) fn items_cross<W: Runs + Send + Sync, J: Round<W>>()
+    ensures { IsSend (item.the_row W.row J.row (record { meaning = W.meaning }) (record { eq = W.eq }) (record {})
         (record { board = J.board; all = J.all; came = J.came })) }
 {
     tasks_cross::<W>();

@@ -9,7 +9,7 @@ use crate::crew::{Share, crew};
 use crate::item::Round;
 use crate::queue::{put_in, take_out};
 use crate::rule::Queue;
-use flow_board::{Board, Task};
+use flow_board::{Board, Gate, Task};
 use flow_value::Runs;
 use std::alloc::{AllocError, Global};
 use std::marker::Brand;
@@ -17,12 +17,18 @@ use std::sync::Wait;
 use std::thread::Threads;
 
 /// Turns all tasks of this round.
-fn turn_in<W: Runs + Sync, J: Round<W> + Send + Sync, R: Threads + Wait + Sync>(
+fn turn_in<
+    W: Runs + Send + Sync,
+    J: Round<W> + Send + Sync,
+    R: Threads + Wait + Sync,
+    G: Gate + Sync,
+>(
     rt: &R,
     alloc: Global,
     board: &Board<W>,
     tasks: Vec<Task<W>>,
     workers: usize,
+    gate: &G,
     budget: u64,
 ) -> Result<(Vec<Task<W>>, u64), (Vec<Task<W>>, AllocError)>
     requires workers { (0 < workers) × (workers ≤ 64) }
@@ -48,7 +54,7 @@ fn turn_in<W: Runs + Sync, J: Round<W> + Send + Sync, R: Threads + Wait + Sync>(
         tasks: count,
         budget,
     };
-    let (mut pass, done) = crew(rt, alloc, board, &queue, &bell, pass, workers, share);
+    let (mut pass, done) = crew(rt, alloc, board, &queue, &bell, pass, workers, share, gate);
     take_out(rt, &queue, &mut pass, &mut tasks);
     if done.refused {
         return Err((tasks, AllocError));
@@ -64,13 +70,17 @@ fn turn_in<W: Runs + Sync, J: Round<W> + Send + Sync, R: Threads + Wait + Sync>(
 ///
 /// Errors: memory is out. All tasks come back then too, and the events that were done stay done.
 ///
+/// Each job goes through the gate. Before it does a job of a lane, a worker puts back all other tasks that it holds, so whatever the gate
+/// waits for may be done by the others.
+///
 /// It waits for its workers. A worker that finds nothing to do sleeps until another has moved a task, a millisecond at most at a time.
-pub fn turn_round<W: Runs + Sync, R: Threads + Wait + Sync>(
+pub fn turn_round<W: Runs + Send + Sync, R: Threads + Wait + Sync, G: Gate + Sync>(
     rt: &R,
     alloc: Global,
     board: &Board<W>,
     tasks: Vec<Task<W>>,
     workers: usize,
+    gate: &G,
     budget: u64,
 ) -> Result<(Vec<Task<W>>, u64), (Vec<Task<W>>, AllocError)>
     requires workers { (0 < workers) × (workers ≤ 64) }
@@ -79,5 +89,5 @@ pub fn turn_round<W: Runs + Sync, R: Threads + Wait + Sync>(
     ensures within { IfOk result (λ r. r.1 ≤ budget) }
     ensures refused { IfErr result (λ r. ComeBack board.now tasks.items r.0.items) }
 {
-    turn_in::<W, Brand, R>(rt, alloc, board, tasks, workers, budget)
+    turn_in::<W, Brand, R, G>(rt, alloc, board, tasks, workers, gate, budget)
 }

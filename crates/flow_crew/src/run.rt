@@ -9,7 +9,7 @@ ghost use Rattle.flow_net.specs.declared.settled.Settled.TheVariants as settled;
 ghost use Rattle.flow_crew.specs.Runs.{IsGatheredOf, IsLeft, IsLeftOf, MayBeGathered, RunsOn};
 
 use crate::round::turn_round;
-use flow_board::{Parts, gather, scatter};
+use flow_board::{Gate, Parts, gather, scatter};
 use flow_link::{LinkId, Move, Phase};
 use flow_net::{Event, Net, NetFault, Settled};
 use flow_value::Runs;
@@ -32,16 +32,18 @@ pub enum RunFault<W: Runs> {
 /// stay open and exits do what the network does for them by itself; no call is made there.
 ///
 /// A round scatters the network, has the threads turn its tasks, and gathers it. It costs the threads, and as much as the network has
-/// blocks and links; the work of a block is done by whichever thread turns it, one message at a time.
+/// blocks and links. A block that has several lanes works on as many messages at a time, on whichever threads turn its lanes; any other
+/// works in its own turns, one message at a time. Each job goes through the gate.
 ///
 /// Errors: message ids or memory are used up. Whatever was done until then stays done, and comes back.
 ///
 /// It waits for its threads.
-pub fn run_workers<W: Runs + Sync, R: Threads + Wait + Sync>(
+pub fn run_workers<W: Runs + Send + Sync, R: Threads + Wait + Sync, G: Gate + Sync>(
     rt: &R,
     alloc: Global,
     mut net: Net<W>,
     workers: usize,
+    gate: &G,
     limit: u64,
 ) -> Result<(Net<W>, Settled), RunFault<W>>
     requires workers { (0 < workers) × (workers ≤ 64) }
@@ -56,7 +58,7 @@ pub fn run_workers<W: Runs + Sync, R: Threads + Wait + Sync>(
 {
     let mut left = limit;
     while left > 0 {
-        let (next, done) = run_round(rt, alloc, net, workers, left)?;
+        let (next, done) = run_round(rt, alloc, net, workers, gate, left)?;
         net = next;
         left = if done == 0 { 0 } else { left - done };
     }
@@ -79,11 +81,12 @@ fn how_settled<W: Runs>(net: &Net<W>) -> Settled
 
 /// Does some events, at most so many, and answers how many; none where nothing may happen any more. What is under way over links is
 /// taken first, as scattering would do it. Where the tasks find nothing to do, the network takes one step by itself.
-fn run_round<W: Runs + Sync, R: Threads + Wait + Sync>(
+fn run_round<W: Runs + Send + Sync, R: Threads + Wait + Sync, G: Gate + Sync>(
     rt: &R,
     alloc: Global,
     mut net: Net<W>,
     workers: usize,
+    gate: &G,
     limit: u64,
 ) -> Result<(Net<W>, u64), RunFault<W>>
     requires workers { (0 < workers) × (workers ≤ 64) }
@@ -98,7 +101,7 @@ fn run_round<W: Runs + Sync, R: Threads + Wait + Sync>(
     if taken > 0 {
         return Ok((net, taken));
     }
-    let (net, events) = turn_all(rt, alloc, net, workers, limit)?;
+    let (net, events) = turn_all(rt, alloc, net, workers, gate, limit)?;
     if events > 0 {
         return Ok((net, events));
     }
@@ -121,11 +124,12 @@ fn take_step<W: Runs>(alloc: Global, mut net: Net<W>) -> Result<(Net<W>, u64), R
 }
 
 /// Scatters a network, has so many threads turn its tasks, for at most so many events, and gathers it.
-fn turn_all<W: Runs + Sync, R: Threads + Wait + Sync>(
+fn turn_all<W: Runs + Send + Sync, R: Threads + Wait + Sync, G: Gate + Sync>(
     rt: &R,
     alloc: Global,
     net: Net<W>,
     workers: usize,
+    gate: &G,
     limit: u64,
 ) -> Result<(Net<W>, u64), RunFault<W>>
     requires workers { (0 < workers) × (workers ≤ 64) }
@@ -136,18 +140,19 @@ fn turn_all<W: Runs + Sync, R: Threads + Wait + Sync>(
     match scatter(alloc, net) {
         Ok(scattered) => {
             let (parts, _) = scattered.into_parts();
-            turn_and_gather(rt, alloc, parts, workers, limit)
+            turn_and_gather(rt, alloc, parts, workers, gate, limit)
         }
         Err((net, AllocError)) => Err(RunFault::Net(net)),
     }
 }
 
 /// Has so many threads turn the tasks of a board, for at most so many events, and puts the parts together.
-fn turn_and_gather<W: Runs + Sync, R: Threads + Wait + Sync>(
+fn turn_and_gather<W: Runs + Send + Sync, R: Threads + Wait + Sync, G: Gate + Sync>(
     rt: &R,
     alloc: Global,
     parts: Parts<W>,
     workers: usize,
+    gate: &G,
     limit: u64,
 ) -> Result<(Net<W>, u64), RunFault<W>>
     requires workers { (0 < workers) × (workers ≤ 64) }
@@ -162,7 +167,7 @@ fn turn_and_gather<W: Runs + Sync, R: Threads + Wait + Sync>(
         entries,
         exits,
     } = parts;
-    let (tasks, events) = match turn_round(rt, alloc, &board, tasks, workers, limit) {
+    let (tasks, events) = match turn_round(rt, alloc, &board, tasks, workers, gate, limit) {
         Ok((tasks, events)) => (tasks, Some(events)),
         Err((tasks, AllocError)) => (tasks, None),
     };

@@ -1,24 +1,63 @@
 //! A worker: its pass names the tasks that it holds.
-ghost use Rattle.std.specs.Prelude.{◌≡◌, ◌≤◌, ◌<◌, [], length, Some, IsFalse, IsTrue};
+ghost use Rattle.std.specs.Prelude.{◌≡◌, ◌≤◌, ◌<◌, ◌+◌, ◌^◌, [], length, Some, IsFalse, IsTrue};
 ghost use Rattle.std.specs.VecDeque.{deque_len};
 ghost use Rattle.crossbeam_queue.specs.Passes.{view, IsPassOf, ruled_capacity};
 
 use crate::item::{Item, Round};
 use crate::rule::{Puts, Queue, Takes, Ticket};
-use flow_board::Board;
+use flow_board::{Board, Gate};
+use flow_poll::{TurnState, Turned};
 use flow_value::Runs;
-use std::alloc::Global;
+use std::alloc::{AllocError, Global};
 use std::collections::VecDeque;
 use std::sync::Wait;
 
 /// How many events a task does at a time.
 const TURN: u64 = 64;
 
-/// How many events were done, and whether memory was refused then.
+/// What a worker did: how many events, whether a task moved, whether a job waits in a lane that it holds, and whether memory was refused.
 #[derive(Clone, Copy)]
 pub(crate) struct Done {
     pub(crate) events: u64,
+    pub(crate) moved: bool,
+    pub(crate) job: bool,
     pub(crate) refused: bool,
+}
+
+impl Done {
+    /// Nothing.
+    pub(crate) fn nothing() -> Done
+        ensures events { result.events ≡ 0 }
+    {
+        Done {
+            events: 0,
+            moved: false,
+            job: false,
+            refused: false,
+        }
+    }
+
+    /// Memory was refused.
+    pub(crate) fn refused(self) -> Done
+        ensures events { result.events ≡ self.events }
+    {
+        Done {
+            refused: true,
+            ..self
+        }
+    }
+
+    /// With what came of one turn.
+    fn with(self, turned: Turned) -> Done
+        requires { self.events + turned.events < 2 ^ 64 }
+        ensures events { result.events ≡ self.events + turned.events }
+    {
+        Done {
+            events: self.events + turned.events as u64,
+            moved: self.moved || turned.state == TurnState::Moved,
+            ..self
+        }
+    }
 }
 
 pub(crate) struct Worker<W: Runs, J: Round<W>> {
@@ -55,8 +94,18 @@ impl<W: Runs, J: Round<W>> Worker<W, J> {
         }
     }
 
-    /// Takes at most so many.
-    pub(crate) fn take_some(&mut self, queue: &Queue<W, J>, count: usize)
+    /// Whether the task that was taken last is a lane to which a job has come.
+    fn has_job_last(&mut self) -> bool
+        ensures pass { self.new.pass ≡ self.old.pass }
+    {
+        match self.held.back_mut() {
+            Some(item) => item.has_job(),
+            None => false,
+        }
+    }
+
+    /// Takes at most so many, up to the first lane to which a job has come. Whether the last is one.
+    pub(crate) fn take_some(&mut self, queue: &Queue<W, J>, count: usize) -> bool
         requires queue { IsPassOf queue.now self.old.pass }
         requires part { 0 < (view self.old.pass).parts }
         ensures queue { IsPassOf queue.now self.new.pass }
@@ -64,9 +113,13 @@ impl<W: Runs, J: Round<W>> Worker<W, J> {
     {
         for _ in 0..count {
             if !self.take(queue) {
-                break;
+                return false;
+            }
+            if self.has_job_last() {
+                return true;
             }
         }
+        false
     }
 
     /// Puts the first task back, if there is one.
@@ -88,6 +141,21 @@ impl<W: Runs, J: Round<W>> Worker<W, J> {
         }
     }
 
+    /// Puts all but the last back.
+    pub(crate) fn put_others<R: Wait>(&mut self, rt: &R, queue: &Queue<W, J>)
+        requires queue { IsPassOf queue.now self.old.pass }
+        requires part { 0 < (view self.old.pass).parts }
+        requires room { length J.all ≤ ruled_capacity queue.now }
+        ensures queue { IsPassOf queue.now self.new.pass }
+        ensures part { (view self.new.pass).parts ≡ (view self.old.pass).parts }
+    {
+        while self.held.len() > 1 {
+            if !self.put(rt, queue) {
+                break;
+            }
+        }
+    }
+
     /// Puts all back.
     pub(crate) fn put_all<R: Wait>(&mut self, rt: &R, queue: &Queue<W, J>)
         requires queue { IsPassOf queue.now self.old.pass }
@@ -100,56 +168,72 @@ impl<W: Runs, J: Round<W>> Worker<W, J> {
         while self.put(rt, queue) {}
     }
 
-    /// Turns each task that is held once, the last first. It stops where memory is refused.
-    fn turn_once(&mut self, alloc: Global, board: &Board<W>, budget: u64) -> Done
+    /// Does the job that has come to the lane which is held last.
+    pub(crate) fn do_job<G: Gate>(&mut self, alloc: Global, board: &Board<W>, gate: &G) -> Done
         requires board { J.board ≡ Some board.now }
         ensures pass { self.new.pass ≡ self.old.pass }
-        ensures within { result.events ≤ budget }
+        ensures events { result.events ≡ 0 }
     {
-        let mut events = 0;
-        for k in 0..self.held.len() {
-            let at = self.held.len() - 1 - k;
-            let most = (budget - events).min(TURN) as u32;
-            match self.held[at].turn(alloc, board, most) {
-                Ok(more) => events += more as u64,
-                Err(_) => {
-                    return Done {
-                        events,
-                        refused: true,
-                    };
-                }
-            }
-        }
-        Done {
-            events,
-            refused: false,
+        let Some(lane) = self.held.back_mut() else {
+            return Done::nothing();
+        };
+        match lane.turn(alloc, board, 0, gate) {
+            Ok(_) => Done {
+                moved: true,
+                ..Done::nothing()
+            },
+            Err(AllocError) => Done::nothing().refused(),
         }
     }
 
-    /// Turns them again and again, while any moves and the budget lasts.
-    pub(crate) fn turn_all(&mut self, alloc: Global, board: &Board<W>, budget: u64) -> Done
+    /// Turns each task that is held once, the last first, but lanes to which a job has come. It stops where memory is refused.
+    fn turn_once<G: Gate>(&mut self, alloc: Global, board: &Board<W>, budget: u64, gate: &G) -> Done
         requires board { J.board ≡ Some board.now }
         ensures pass { self.new.pass ≡ self.old.pass }
         ensures within { result.events ≤ budget }
     {
-        let mut events = 0;
-        for _ in 0..budget {
-            let done = self.turn_once(alloc, board, budget - events);
-            events += done.events;
-            if done.refused {
-                return Done {
-                    events,
-                    refused: true,
-                };
+        let mut done = Done::nothing();
+        for k in 0..self.held.len() {
+            let at = self.held.len() - 1 - k;
+            if self.held[at].has_job() {
+                done.job = true;
+                continue;
             }
-            if done.events == 0 {
+            let most = (budget - done.events).min(TURN) as u32;
+            match self.held[at].turn(alloc, board, most, gate) {
+                Ok(turned) => done = done.with(turned),
+                Err(AllocError) => return done.refused(),
+            }
+        }
+        done
+    }
+
+    /// Turns them again and again, while any moves and the budget lasts, until a job has come to a lane among them.
+    pub(crate) fn turn_all<G: Gate>(
+        &mut self,
+        alloc: Global,
+        board: &Board<W>,
+        budget: u64,
+        gate: &G,
+    ) -> Done
+        requires board { J.board ≡ Some board.now }
+        ensures pass { self.new.pass ≡ self.old.pass }
+        ensures within { result.events ≤ budget }
+    {
+        let mut done = Done::nothing();
+        for _ in 0..budget {
+            let more = self.turn_once(alloc, board, budget - done.events, gate);
+            done = Done {
+                events: done.events + more.events,
+                moved: done.moved || more.moved || more.job,
+                job: more.job,
+                refused: more.refused,
+            };
+            if more.refused || more.job || more.events == 0 {
                 break;
             }
         }
-        Done {
-            events,
-            refused: false,
-        }
+        done
     }
 
     /// Its pass, once it holds nothing.

@@ -4,6 +4,8 @@
 #[cfg(test)]
 mod networks;
 #[cfg(test)]
+mod overlap;
+#[cfg(test)]
 mod rounds;
 #[cfg(test)]
 mod runs;

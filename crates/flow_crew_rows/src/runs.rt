@@ -2,6 +2,7 @@
 ghost use Rattle.std.specs.Prelude.{◌≤◌, ◌<◌};
 
 use anyhow::Result;
+use flow_board::OpenGate;
 use flow_crew::run_workers;
 use flow_front::{Inputs, record_of, state_of};
 use flow_link::{BlockDef, BlockKind, Draft, Ending, LinkDef};
@@ -46,7 +47,7 @@ fn run<R: Abort + Threads + Wait + Sync>(
     let Ok(net) = numbers(alloc) else {
         panic!(rt; "no network");
     };
-    let Ok(ran) = run_workers(rt, alloc, net, workers, limit) else {
+    let Ok(ran) = run_workers(rt, alloc, net, workers, &OpenGate, limit) else {
         panic!(rt; "out of memory");
     };
     ran

@@ -4,7 +4,7 @@ ghost use Rattle.flow_board.specs.Parts.{AllTasksOf};
 
 use crate::networks::{gathered, is_quiet, parts, record, settled};
 use crate::rounds::turn_on;
-use flow_board::Parts;
+use flow_board::{OpenGate, Parts};
 use flow_net::Net;
 use flow_value::Steps;
 use std::alloc::Global;
@@ -28,7 +28,7 @@ fn turned<R: Abort + Threads + Wait + Sync>(
         entries,
         exits,
     } = parts(rt, alloc);
-    let (tasks, events) = turn_on(rt, alloc, &board, tasks, workers, budget);
+    let (tasks, events) = turn_on(rt, alloc, &board, tasks, workers, &OpenGate, budget);
     let parts = Parts {
         board,
         tasks,

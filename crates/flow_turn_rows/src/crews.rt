@@ -6,6 +6,7 @@ use crate::journals::{go_on, journals};
 use crate::midway::in_mid_move;
 use crate::networks::network;
 use crate::rows::{Row, branches, chains, copies, joins, one_message};
+use flow_board::OpenGate;
 use flow_crew::run_workers;
 use flow_net::{Net, Settled};
 use flow_value::Steps;
@@ -23,7 +24,7 @@ fn ran(
 ) -> Net<Steps>
     requires workers { (0 < workers) × (workers ≤ 64) }
 {
-    let Ok((net, Settled::Quiet)) = run_workers(rt, alloc, net, workers, u64::MAX) else {
+    let Ok((net, Settled::Quiet)) = run_workers(rt, alloc, net, workers, &OpenGate, u64::MAX) else {
         panic!(rt; "the run does not end");
     };
     net

@@ -7,7 +7,7 @@ use Rattle.flow_board.specs.Numbers.{is_open}
 use Rattle.flow_board.specs.declared.numbered.Entry.{Entry}
 use Rattle.flow_board.specs.declared.numbered.Kind.{Kind}
 use Rattle.flow_board.specs.declared.numbered.Task.{Task}
-use Rattle.flow_board.proofs.InputsLeft.{entry_is, entry_taken, entry_there, never_block, task_is, task_taken, task_there}
+use Rattle.flow_board.proofs.InputsLeft.{entry_is, entry_taken, entry_there, never_other, task_is, task_taken, task_there}
 use Rattle.flow_board.proofs.apart.next_input.Goals as goal
 
 pub unreachable-requires : goal.unreachable-requires
@@ -60,9 +60,9 @@ unreachable-requires-in_default-kind g c =
     let entries = c.args.entries.now.items in
     let shut : is_open (layout_of board.rest.plan) opens place ≡ false =
     get_or_default opens place false c.index.result.now c.requires.there ∙ sym c.index.ensures ∙ c.if-index.false in
-    never_block board place c.pop_front-2.new.self.items entries (ap not shut) c.in-Some-pop_front.field-0
+    never_other board place c.pop_front-2.new.self.items entries (ap not shut) c.in-Some-pop_front.field-0
     (subst (λ (tasks : List (Task _ _ _)). InputsLeft board place tasks entries) c.in-Some-pop_front.ensures.items c.requires.left)
-    c.in_default-kind.field-0 c.in_default-kind.is
+    c.requires.there c.in-Some-pop_front.field-0.kind refl c.in_default-kind.not-Input
 
 pub returns-clause-link : goal.returns-clause-link
 returns-clause-link g c =
@@ -85,7 +85,7 @@ returns-clause-left g c =
     let shut : is_open (layout_of board.rest.plan) opens place ≡ false =
     get_or_default opens place false c.index.result.now c.requires.there ∙ sym c.index.ensures ∙ c.if-index.false in
     task_taken board place c.pop_front-2.new.self.items entries (ap not shut) c.in-Some-pop_front.field-0
-    (subst (λ (tasks : List (Task _ _ _)). InputsLeft board place tasks entries) c.in-Some-pop_front.ensures.items c.requires.left) shut
+    (subst (λ (tasks : List (Task _ _ _)). InputsLeft board place tasks entries) c.in-Some-pop_front.ensures.items c.requires.left) shut c.requires.there
 
 pub returns-then-index-clause-from : goal.returns-then-index-clause-from
 returns-then-index-clause-from g c =

@@ -1,9 +1,11 @@
 use Rattle.std.proofs.Common.{All, subst}
+use Rattle.std.proofs.lemmas.Grind.{merely}
 use Rattle.std.proofs.lemmas.List.Sorted.{All-permutation, IsPermutation-sym}
 use Rattle.flow_net.specs.Net.{parts_of}
 use Rattle.flow_core.specs.Inputs.{InputsStay}
+use Rattle.flow_core.specs.InOrder.{journals_of}
 use Rattle.flow_board.specs.Begun.{ClosedInputsStay, JournalsGoOn, begun_in}
-use Rattle.flow_board.specs.Gathers.{EntryIsKept, ExitIsKept}
+use Rattle.flow_board.specs.Gathers.{EntryIsKept, ExitIsKept, GathersFrom}
 use Rattle.flow_board.specs.Untouched.{AllUntouched, IsUntouched}
 use Rattle.flow_board.specs.declared.board.Board.{Board}
 use Rattle.flow_board.proofs.Reordered.{entries_sorted, exits_sorted, tasks_sorted}
@@ -68,6 +70,12 @@ pub returns-in-Err-clause-exits_back : goal.returns-in-Err-clause-exits_back
 returns-in-Err-clause-exits_back g c =
     exits_sorted c.args.parts.board c.sort.new.self.board c.args.parts.exits.items c.sort.new.self.exits.items c.sort.ensures.board
     c.sort.ensures.exits_of c.requires.exits_of
+
+pub returns-in-Ok-clause-journals : goal.returns-in-Ok-clause-journals
+returns-in-Ok-clause-journals g c =
+    let there = c.in_default.ensures.all in
+    subst (λ (board : Board _). GathersFrom board c.args.parts.tasks.items (journals_of (parts_of c.fill.result))) c.sort.ensures.board
+    (merely (c.sort.new.self.tasks.items, (c.sort.ensures.tasks, (there.tasks_are, c.fill.ensures.journals))))
 
 pub returns-in-Ok-clause-go_on : goal.returns-in-Ok-clause-go_on
 returns-in-Ok-clause-go_on g c =

@@ -9,7 +9,7 @@ use Rattle.flow_board.proofs.laws.same_end.Goals as goal
 
 pub returns-in-Block-clause-agrees : goal.returns-in-Block-clause-agrees
 returns-in-Block-clause-agrees g c ended how knows =
-    let block = c.in-Block.block in
+    let block = c.in-Block.task.block in
     let known = c.args.watch.now.note.known in
     let has = subst (λ (kind : Kind _ _ _). EndedBy kind) c.in-Block.is ended in
     let so = subst (λ n. IfSome n.known (Agrees known)) c.again.ensures.1 c.compare.ensures.1 in

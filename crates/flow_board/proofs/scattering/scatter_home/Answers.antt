@@ -37,6 +37,15 @@ join-requires g c =
     (subst (λ (state : NetState). ∥ NetInOrder (layout_in net) (works_of means (layout_in net)) state ∥₁) (sym apart.ensures.same_parts)
     (kept_in_order (layout_in net) (works_of means (layout_in net)) (parts_of net) net.kept))
 
+pub new-requires : goal.new-requires
+new-requires g c =
+    let net = c.args.net in
+    let apart = c.into_parts-apart in
+    let order = kept_in_order (layout_in net) (works_of g.W.Runs.meaning (layout_in net)) (parts_of net) net.kept in
+    let count = ∥∥₁_elim order (ℕ_set _ _) (λ o. o.node_count) in
+    ap (λ (state : NetState). length state.nodes) apart.ensures.same_parts ∙ count
+    ∙ ap (λ (layout : Layout _). length layout.blocks) (sym apart.ensures.same_layout)
+
 pub wire_up-requires : goal.wire_up-requires
 wire_up-requires g c κs within =
     let net = c.args.net in

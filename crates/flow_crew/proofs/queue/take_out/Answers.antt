@@ -1,6 +1,8 @@
 use Rattle.std.proofs.Common.{◌∙◌, ap, length, subst, sym}
 use native.Mathlib.Omega.{arith}
+use Rattle.std.proofs.lemmas.List.{nil_from_length}
 use Rattle.crossbeam_queue.specs.Passes.{view}
+use Rattle.flow_crew.specs.Numbers.{weigh}
 use Rattle.flow_crew.specs.Rounds.{AllIn}
 use Rattle.flow_crew.proofs.Journals.{all_pushed}
 use Rattle.flow_crew.proofs.Keeps.{takes, tells}
@@ -37,3 +39,11 @@ loop-preserved g c =
       in_round = subst (AllIn board came) (sym items) (all_pushed board came old task c.loop.invariant.in_round c.into_task.ensures.in_round);
       room = c.push_reserved.ensures.capacity ∙ c.loop.invariant.room;
     }
+
+pub returns-in-None-pop_as-clause-all : goal.returns-in-None-pop_as-clause-all
+returns-in-None-pop_as-clause-all g c h =
+    let told = c.in-None-pop_as.ensures.rule.1 in
+    let sum = told.2 c.loop.invariant.part h in
+    let none = ap (weigh h) (nil_from_length told.0 told.1) in
+    let held = ap (weigh h) c.loop.invariant.holds in
+    omega (arith, sum, none, held)

@@ -1,4 +1,5 @@
-use Rattle.std.proofs.lemmas.Result.{err_from_is_err_and}
+use Rattle.std.proofs.Common.{◌≤◌, arith}
+use Rattle.std.proofs.lemmas.Result.{IfOk-weaker, err_from_is_err_and}
 use Rattle.flow_crew.proofs.ComesBack.{if_err, if_ok}
 use Rattle.flow_crew.proofs.RunsOn.{left_further, net_is_lawful, runs_further}
 use Rattle.flow_crew.proofs.run.run_round.Goals as goal
@@ -28,3 +29,9 @@ returns-clause-left g c =
     let before = runs_further c.args.net c.take_home.new.net c.in_ok-net.net c.take_home.ensures.runs_on c.in_ok-net.ensures.runs_on in
     if_err _ _ (λ fault is. left_further g.W.Runs.meaning c.args.net c.in_ok-net.net fault before is) c.take_step.result
     c.take_step.ensures.left
+
+pub returns-clause-within : goal.returns-clause-within
+returns-clause-within g c =
+    let some = c.requires.some in
+    IfOk-weaker c.take_step.result (λ ran. ran.1 ≤ 1) (λ ran. ran.1 ≤ c.args.limit) (λ ran few. omega (arith, few, some))
+    c.take_step.ensures.within

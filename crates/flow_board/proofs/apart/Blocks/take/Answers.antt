@@ -1,4 +1,4 @@
-use Rattle.std.proofs.Common.{◌≡◌, ℕ, ◌≤◌, ◌+◌, ◌-◌, length, map, get_or, sym, ap, ◌∙◌, subst, arith}
+use Rattle.std.proofs.Common.{◌≡◌, ℕ, ◌≤◌, ◌+◌, ◌-◌, length, map, get_or, refl, sym, ap, ◌∙◌, subst, arith}
 use Rattle.flow_lists.specs.Lists.{numbers_from}
 use Rattle.flow_link.specs.Planned.{layout_of}
 use Rattle.flow_block_law.specs.NodeLaw.{NodeLaw}
@@ -11,7 +11,7 @@ use Rattle.flow_board.specs.declared.board.Board.{Board}
 use Rattle.flow_board.proofs.Places.{count_is}
 use Rattle.flow_board.proofs.TakenApart.{count_left, known_there, number_here}
 use Rattle.flow_board.proofs.BlocksApart.{BlocksTaken, block_more}
-use Rattle.flow_board.proofs.TasksApart.{block_board, block_number, input_later}
+use Rattle.flow_board.proofs.TasksApart.{block_board, block_number, no_block}
 use Rattle.flow_board.proofs.apart.Blocks.take.Goals as goal
 
 pub unreachable-requires : goal.unreachable-requires
@@ -31,7 +31,7 @@ unreachable-requires-in_default-kind g c =
     let of = subst (AllTasksOf board) c.in-Some.ensures.items i.1.0 in
     let left = task_count (layout_of board.rest.plan) board.opens.items - c.loop.counter in
     let here = number_here task_number rest task c.loop.counter left (ap (map task_number) (sym c.in-Some.ensures.items) ∙ i.1.1.0) in
-    let later = input_later board task.kind task.number of.0 task.numbered c.in_default-kind.field-0 c.in_default-kind.is in
+    let later = no_block board task.kind task.number of.0 task.numbered task.kind refl c.in_default-kind.not-Block in
     omega (arith, here.0, later)
 
 pub push_reserved-requires-in-loop : goal.push_reserved-requires-in-loop
@@ -59,14 +59,15 @@ loop-preserved g c =
     let wires = board.wires.items in
     let n = c.loop.counter in
     let task = c.in-Some.field-0 in
-    let block = c.in-Block.field-0 in
+    let whole = c.in-Block.task in
+    let block = whole.block in
     let rest = c.pop_front.new.self.items in
     let split = c.in-Some.ensures.items in
     let of = subst (AllTasksOf board) split i.1.0 in
     let left = task_count layout board.opens.items - n in
     let here = number_here task_number rest task n left (ap (map task_number) (sym split) ∙ i.1.1.0) in
-    let its = block_board board task.kind task.number of.0 task.numbered block c.in-Block.is in
-    let number = block_number board task.kind task.number of.0 task.numbered block c.in-Block.is ∙ here.0 in
+    let its = block_board board task.kind task.number of.0 task.numbered whole c.in-Block.is in
+    let number = block_number board task.kind task.number of.0 task.numbered whole c.in-Block.is ∙ here.0 in
     let law = known_there
     (λ (b : Board _) (k : ℕ). ∥ NodeLaw (layout_of b.rest.plan) (works_of g.W.Runs.meaning (layout_of b.rest.plan)) k block.node ∥₁)
     block.of.value board block.number n its number block.law in

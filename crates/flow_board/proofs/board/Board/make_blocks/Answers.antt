@@ -29,7 +29,16 @@ unreachable-requires-in_default-pop_front g c =
     let long = ap length all ∙ length-append c.loop-node.yielded (c.in-Some.node ∷ into_iter_items c.next.new.self) in
     let many = count_is (λ ports. map (λ row. map in_known row.items) ports.items) (λ b. ins_due layout c.args.self.now.wires.items b (get_or c.args.nodes.items b no_node)) (length (layout_of c.args.self.now.rest.plan).blocks) c.args.ins.items c.requires.ins in
     let none : c.loop-node.ins.items ≡ [] = search rules in
-    some_left c.loop-node.number c.args.ins.items (omega (arith, many, long, i.1.0, c.requires.count)) (sym i.1.1.1.0 ∙ none)
+    some_left c.loop-node.number c.args.ins.items (omega (arith, many, long, i.1.0, c.requires.count)) (sym i.1.1.1.0.0 ∙ none)
+
+pub unreachable-requires-in_default-pop_front-2 : goal.unreachable-requires-in_default-pop_front-2
+unreachable-requires-in_default-pop_front-2 g c =
+    let i = c.loop-node.invariant in
+    let all = i.0 ∙ ap (λ (rest : List NodeState). c.loop-node.yielded ++ rest) c.in-Some.ensures.steps.0 in
+    let long = ap length all ∙ length-append c.loop-node.yielded (c.in-Some.node ∷ into_iter_items c.next.new.self) in
+    let many = c.requires.rows in
+    let none : c.loop-node.rows.items ≡ [] = search rules in
+    some_left c.loop-node.number c.args.rows.items (omega (arith, many, long, i.1.0, c.requires.count)) (sym i.1.1.1.0.1 ∙ none)
 
 pub make_block-requires-clause-law : goal.make_block-requires-clause-law
 make_block-requires-clause-law g c =
@@ -70,7 +79,7 @@ make_block-requires-clause-ins g c =
     let node = ap (λ (n : ℕ). get_or c.args.nodes.items n no_node) i.1.0
     ∙ next_there c.args.nodes.items c.loop-node.yielded (into_iter_items c.next.new.self) c.in-Some.node no_node all in
     let ports = c.in-Some-pop_front-2.ins in
-    let left = dropped k c.args.ins.items ports c.pop_front-in-loop-node.new.self.items (sym i.1.1.1.0 ∙ c.in-Some-pop_front-2.ensures.items) in
+    let left = dropped k c.args.ins.items ports c.pop_front-in-loop-node.new.self.items (sym i.1.1.1.0.0 ∙ c.in-Some-pop_front-2.ensures.items) in
     ap (λ b. map (λ r. map in_known r.items) b.items) (sym (left.first ports))
     ∙ at_place (λ b. map (λ r. map in_known r.items) b.items) (λ b. ins_due layout wires b (get_or c.args.nodes.items b no_node)) (length (layout_of c.args.self.now.rest.plan).blocks) c.args.ins.items k ports c.requires.ins
     (omega (arith, long, i.1.0, c.requires.count))
@@ -95,7 +104,8 @@ loop-node-preserved g c =
     let grown = c.push_reserved.ensures.items in
     let tasks = c.loop-node.tasks.items in
     let out = dropped k c.args.outs.items c.in-Some-pop_front.outs c.pop_front.new.self.items (sym i.1.1.0 ∙ c.in-Some-pop_front.ensures.items) in
-    let into = dropped k c.args.ins.items c.in-Some-pop_front-2.ins c.pop_front-in-loop-node.new.self.items (sym i.1.1.1.0 ∙ c.in-Some-pop_front-2.ensures.items) in
+    let into = dropped k c.args.ins.items c.in-Some-pop_front-2.ins c.pop_front-in-loop-node.new.self.items (sym i.1.1.1.0.0 ∙ c.in-Some-pop_front-2.ensures.items) in
+    let row = dropped k c.args.rows.items c.in-Some-pop_front-3.lanes c.pop_front-in-loop-node-2.new.self.items (sym i.1.1.1.0.1 ∙ c.in-Some-pop_front-3.ensures.items) in
     let first : task_number c.make_block.result ≡ 0 + k = (let is = c.make_block.ensures.number in omega (arith, is)) in (
       all ∙ sym (append_assoc yielded (node ∷ []) rest),
       (
@@ -103,7 +113,7 @@ loop-node-preserved g c =
         (
           out.others,
           (
-            into.others,
+            (into.others, row.others),
             (
               subst (AllTasksOf c.args.self.now) (sym grown) (tasks_on c.args.self.now tasks c.make_block.result i.1.1.1.1.0 c.make_block.ensures.of),
               (

@@ -8,6 +8,7 @@ use Rattle.flow_board.specs.Inputs.{input_due, links_of_inputs}
 use Rattle.flow_board.specs.Numbers.{is_closed, is_open}
 use Rattle.flow_board.specs.Parts.{marks_in, task_number}
 use Rattle.flow_board.proofs.FewParts.{few_parts, passing}
+use Rattle.flow_board.proofs.Makes.{front_of_front}
 use Rattle.flow_board.proofs.board.Board.make_parts.Goals as goal
 
 pub overflow_add-first : goal.overflow_add-first
@@ -19,6 +20,16 @@ overflow_add-first g c =
     let closed = c.closed_count.ensures in
     omega (arith, few, blocks, closed)
 
+pub overflow_add-first-2 : goal.overflow_add-first-2
+overflow_add-first-2 g c =
+    let board = c.args.self in
+    let few = few_parts (layout_of board.rest.plan) board.rest.plan.well_formed board.rest.plan.laid_out board.opens.items
+    (board.told ∙ ap length board.inputs_are) in
+    let blocks = c.block_count.ensures in
+    let closed = c.closed_count.ensures in
+    let lanes = c.lane_count.ensures in
+    omega (arith, few, blocks, closed, lanes)
+
 pub overflow_add-last : goal.overflow_add-last
 overflow_add-last g c =
     let board = c.args.self in
@@ -26,8 +37,9 @@ overflow_add-last g c =
     (board.told ∙ ap length board.inputs_are) in
     let blocks = c.block_count.ensures in
     let closed = c.closed_count.ensures in
+    let lanes = c.lane_count.ensures in
     let open_ones = c.open_count.ensures in
-    omega (arith, few, blocks, closed, open_ones)
+    omega (arith, few, blocks, closed, lanes, open_ones)
 
 pub make_inputs-requires-clause-laws : goal.make_inputs-requires-clause-laws
 make_inputs-requires-clause-laws g c = λ q small.
@@ -60,12 +72,20 @@ make_inputs-requires-clause-entries_room g c =
     let before = c.requires.entries_room in
     omega (arith, told, opened, before, c.requires.in_order.input_count)
 
+pub make_lanes-requires-clause-room : goal.make_lanes-requires-clause-room
+make_lanes-requires-clause-room g c =
+    let board = c.args.self in
+    let told = board.told ∙ ap length board.inputs_are in
+    let closed = passing (is_closed (layout_of board.rest.plan) board.opens.items) (length board.opens.items) in
+    let room = c.make_inputs.ensures.room ∙ c.make_blocks.ensures.room in
+    let before = c.requires.tasks_room in
+    omega (arith, told, closed, room, before, c.requires.in_order.node_count, c.requires.in_order.input_count)
+
 pub returns-clause-journals : goal.returns-clause-journals
 returns-clause-journals g c =
     let tasks = c.make_blocks.new.tasks.items in
     let many : length tasks ≡ length c.args.lists.nodes.items =
     sym (length-map tasks task_number) ∙ ap length c.make_blocks.ensures.numbers
     ∙ length_numbers 0 (length (layout_of c.args.self.rest.plan).blocks) ∙ sym c.requires.in_order.node_count in
-    ap (map marks_in)
-    (ap (λ (n : ℕ). take n c.make_inputs.new.tasks.items) (sym many) ∙ c.make_inputs.ensures.blocks)
-    ∙ c.make_blocks.ensures.journals
+    let front = front_of_front tasks c.make_inputs.new.tasks.items c.make_lanes.new.tasks.items c.make_inputs.ensures.blocks c.make_lanes.ensures.others in
+    ap (map marks_in) (ap (λ (n : ℕ). take n c.make_lanes.new.tasks.items) (sym many) ∙ front) ∙ c.make_blocks.ensures.journals

@@ -19,6 +19,7 @@ use Rattle.flow_poll.specs.Turns.{Extends}
 use Rattle.flow_board.specs.Begun.{begun_in, begun_journal}
 use Rattle.flow_board.specs.Events.{HasLooked, InputLooks}
 use Rattle.flow_board.specs.Inputs.{input_due, links_of_inputs}
+use Rattle.flow_board.specs.Lanes.{lane_count}
 use Rattle.flow_board.specs.Lefts.{EntryIsAt}
 use Rattle.flow_board.specs.Numbers.{closed_before, task_count}
 use Rattle.flow_board.specs.Parts.{AllTasksOf, marks_in, task_number}
@@ -44,10 +45,13 @@ take-requires-2-clause-numbers g c =
     let board = c.args.parts.board in
     let blocks = length (layout_of board.rest.plan).blocks in
     let closed = closed_before (layout_of board.rest.plan) board.opens.items (length board.opens.items) in
+    let behind = closed + lane_count (layout_of board.rest.plan) in
     let left = c.take.ensures.others ∙ ap (drop blocks) c.from_vec-tasks.ensures.items in
     let first : 0 + blocks ≡ blocks = omega arith in
-    ap (map task_number) left ∙ numbers_behind task_number 0 blocks closed c.args.parts.tasks.items c.requires.there.tasks_are
-    ∙ ap (λ (n : ℕ). numbers_from n closed) first
+    let all : task_count (layout_of board.rest.plan) board.opens.items ≡ blocks + behind = omega arith in
+    ap (map task_number) left
+    ∙ numbers_behind task_number 0 blocks behind c.args.parts.tasks.items (c.requires.there.tasks_are ∙ ap below all)
+    ∙ ap (λ (n : ℕ). numbers_from n behind) first
 
 pub join-requires : goal.join-requires
 join-requires g c κs within =

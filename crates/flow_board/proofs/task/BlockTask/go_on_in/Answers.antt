@@ -22,7 +22,7 @@ returns-then-branch-clause-still g c =
     let makes = (λ (board : Board _) (n : ℕ). block_makes (layout_of board.rest.plan) (works_of g.W.Runs.meaning (layout_of board.rest.plan)) n) in
     both_well c.go_on_own.result
     (λ own outs some as_many port place.
-    gone_round c.args.left.now c.move_ins.new.left c.go_on_own.new.left (makes s.of.value s.number) (makes t.of.value t.number) s.node t.node
-    c.go_on_own.new.self.node (ap₂ makes c.move_ins.ensures.of c.move_ins.ensures.number) c.move_ins.ensures.spends c.go_on_own.ensures.spends
+    gone_round c.args.left.now c.move_ins.new.left c.go_on_own.new.left (makes s.of.value s.number) (makes t.of.value t.number)
+    c.args.policy.now.in_place s.node t.node c.go_on_own.new.self.node (ap₂ makes c.move_ins.ensures.of c.move_ins.ensures.number) c.move_ins.ensures.spends c.go_on_own.ensures.spends
     (λ same. c.in_ok-move_ins.ensures.still c.if-branch.true same port place) own outs some as_many)
     c.go_on_own.ensures.own c.go_on_own.ensures.outs

@@ -4,5 +4,5 @@ use Rattle.flow_crew.proofs.worker.Worker.turn_all.Given as goal
 abbrev pub invariant-loop : goal.invariant-loop
 invariant-loop g l = record {
   pass : l.self.pass ≡ l.initial.self.pass;
-  within : l.events ≤ l.budget;
+  within : l.done.events ≤ l.budget;
 }

@@ -5,5 +5,5 @@ abbrev pub invariant-loop-k : goal.invariant-loop-k
 invariant-loop-k g l = record {
   pass : l.self.pass ≡ l.initial.self.pass;
   held : l.self.held.items ≡ l.initial.self.held.items;
-  within : l.events ≤ l.budget;
+  within : l.done.events ≤ l.budget;
 }
