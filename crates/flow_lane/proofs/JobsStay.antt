@@ -1,10 +1,10 @@
 -- A job stays in its lane while the block looks and fetches.
-use Rattle.std.proofs.Common.{◌≡◌, ℕ, Bool, true, false, Option, refl, ap, sym, ◌∙◌, arith}
+use Rattle.std.proofs.Common.{◌≡◌, ℕ, Bool, true, false, Option, None, refl, ap, sym, subst, ◌∙◌, arith}
 use Rattle.std.proofs.Math.Seq.{map-set_same}
 use Rattle.std.proofs.lemmas.List.{get_or-map, length-map, same_lists}
 use Rattle.flow_lane.specs.declared.phase.LanePhase.{LanePhase}
 use Rattle.flow_lane.specs.declared.phase.LanePhase.TheVariants.{Result}
-use Rattle.flow_lane.specs.BlockLanes.{HasLooked, HaveLooked, LanesState, job_at, jobs_of, no_side, side_at, stage_at, with_side}
+use Rattle.flow_lane.specs.BlockLanes.{HasLooked, HaveLooked, LanesState, TakesFirst, job_at, jobs_of, no_side, side_at, stage_at, with_side}
 use Rattle.flow_lane.specs.Items.{JobState}
 use Rattle.flow_lane.specs.Sides.{BlockOf, block_finds, fetching}
 use Rattle.flow_lane.specs.Views.{BlockStage, is_sent}
@@ -40,3 +40,11 @@ module _ {W : Type 0} where
   fetched_jobs before after place job ready is =
       ap (λ (l : LanesState W). jobs_of l.sides) is
       ∙ map-set_same (λ (s : BlockOf (JobState W)). job_at s.side.stage) before.sides place _ no_side (sym (ap job_at ready))
+
+  -- where none is kept, there is none to be let go
+  pub none_let_go : (taken : Option (ℕ × JobState W)) (seen before mid after : LanesState W) → mid ≡ record { sides = seen.sides; kept = None }
+      → seen ≡ before → before.kept ≡ None → TakesFirst taken mid after → TakesFirst taken before after
+  none_let_go taken seen before mid after is same none takes =
+      subst (λ (l : LanesState W). TakesFirst taken l after)
+      (is ∙ ap (λ (l : LanesState W). record { sides = l.sides; kept = None }) same
+      ∙ ap (λ (kept : Option ℕ). record { sides = before.sides; kept = kept }) (sym none)) takes

@@ -1,10 +1,10 @@
 -- The lanes of a block, as contracts see them: the block's side of each, and whose result it keeps.
-use Rattle.std.specs.Prelude.{◌≡◌, ◌≤◌, ℕ, Bool, true, false, cond, eqb, List, [], length, map, set, get_or, count_by, All, Option, Some, None}
+use Rattle.std.specs.Prelude.{◌≡◌, ◌≤◌, ℕ, Bool, true, false, cond, eqb, List, [], length, map, set, get_or, count_by, position, All, Option, Some, None, option_map}
 use Rattle.std.specs.List.{list_any}
 use Rattle.atomic_table.specs.Seated.{TableId}
 use Rattle.flow_lane.specs.declared.phase.LanePhase.{LanePhase}
 use Rattle.flow_lane.specs.Items.{JobState}
-use Rattle.flow_lane.specs.Sides.{BlockOf, block_looked, ending}
+use Rattle.flow_lane.specs.Sides.{BlockOf, block_looked, ending, fetching}
 use Rattle.flow_lane.specs.Views.{BlockStage, BlockView, FoundByBlock, is_free, is_sent, is_ready}
 
 pub record LanesState (W : Type 0) : Type 0 where
@@ -124,3 +124,15 @@ module _ {W : Type 0} where
     pub many : length after.sides ≡ length before.sides
     pub each : (place : ℕ) → HasLooked (side_at place before) (side_at place after)
     pub kept : after.kept ≡ before.kept
+
+  -- the result of this job is taken out at its place, if there is one
+  abbrev pub with_taken : Option (ℕ × JobState W) → LanesState W → LanesState W
+  with_taken None lanes = lanes
+  with_taken (Some next) lanes = with_side next.0 (fetching next.1) lanes
+
+  -- each side looked, and the first result that is there then was taken out; none was, where none is there
+  pub record TakesFirst (taken : Option (ℕ × JobState W)) (before after : LanesState W) : Type 0 where
+    pub looked : LanesState W
+    pub looks : HaveLooked before looked
+    pub first : option_map (λ (next : ℕ × JobState W). next.0) taken ≡ position has_result looked.sides
+    pub takes : after ≡ with_taken taken looked

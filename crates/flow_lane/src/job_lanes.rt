@@ -6,7 +6,7 @@ ghost use Rattle.std.specs.Option.{ForSome};
 ghost use Rattle.flow_block.specs.Peeks.{may_begin};
 ghost use Rattle.flow_exec.specs.Execution.{next_message, next_ticket};
 ghost use Rattle.flow_exec.specs.Jobs.{kind_in, message_in, ticket_in};
-ghost use Rattle.flow_lane.specs.BlockLanes.{AreFree, ended_where_free, job_at, jobs_of, side_at, stage_at, tables_of, with_free_ended, with_side};
+ghost use Rattle.flow_lane.specs.BlockLanes.{AreFree, TakesFirst, ended_where_free, job_at, jobs_of, side_at, stage_at, tables_of, with_free_ended, with_side};
 ghost use Rattle.flow_lane.specs.BlockLanes.{has_ended, has_room, has_ticket};
 ghost use Rattle.flow_lane.specs.Items.{state_in, state_of};
 ghost use Rattle.flow_lane.specs.Sides.{clearing, putting};
@@ -152,6 +152,9 @@ impl<W: Runs> JobLanes<W> {
         // A result that is kept is the next, and nothing else changes then.
         ensures first { is_some self.old.kept ≡ true → option_map (λ next. next.0) result ≡ self.old.kept }
         ensures rest { is_some self.old.kept ≡ true → self.new ≡ record { sides = self.old.sides; kept = None } }
+
+        // Where none is kept, each lane is looked at. So None says that no result was there.
+        ensures looks { self.old.kept ≡ None → TakesFirst (option_map (λ next. (next.0, state_in next.1)) result) self.old self.new }
     {
         match self.sides.take_kept() {
             Some(kept) => Some(kept),
@@ -166,6 +169,7 @@ impl<W: Runs> JobLanes<W> {
         ensures in_hand { IfSome result (λ next. stage_at next.0 self.new ≡ BlockStage.hand (state_in next.1)) }
         ensures none_kept { self.new.kept ≡ None }
         ensures jobs { jobs_of self.new.sides ≡ jobs_of self.old.sides }
+        ensures looks { TakesFirst (option_map (λ next. (next.0, state_in next.1)) result) self.old self.new }
     {
         match self.sides.look(&self.tables) {
             Some(place) => Some((place, self.sides.fetch(&self.tables, place))),
