@@ -1,5 +1,5 @@
 -- A result that comes back over a lane is that of its message: the job is of that message, and its work means what the block's does.
-use Rattle.std.proofs.Common.{◌≡◌, ◌↔◌, ℕ, Bool, true, false, List, Option, Some, None, Result, Ok, Err, IfOk, OnOk, refl, sym, ap, ◌∙◌, is_none}
+use Rattle.std.proofs.Common.{◌≡◌, ◌↔◌, ℕ, Bool, true, false, List, Option, Some, None, Result, Ok, Err, IfOk, OnOk, OnErr, refl, sym, ap, ◌∙◌, is_none}
 use Rattle.std.proofs.lemmas.Bool.{and_parts, false_from_ne_true}
 use Rattle.std.proofs.lemmas.Grind.{merely}
 use Rattle.std.specs.declared.alloc.AllocError.{AllocError}
@@ -10,6 +10,8 @@ use Rattle.flow_link.specs.Layout.{Layout}
 use Rattle.flow_link.specs.Making.{result_of}
 use Rattle.flow_link.specs.Plan.{block_in}
 use Rattle.flow_outlet.specs.Outlet.{lacks_ids}
+use Rattle.flow_outlet.specs.declared.fault.OutletFault.{OutletFault}
+use Rattle.flow_outlet.specs.declared.fault.OutletFault.TheVariants.{Ids}
 use Rattle.flow_block.specs.Block.{ends_job, job_message, put_by_job}
 use Rattle.flow_block.specs.Jobs.{is_out}
 use Rattle.flow_block.specs.Node.{NodeState, with_block}
@@ -45,11 +47,20 @@ idle_does makes (Ok true) old new not same = absurd (cc)
 idle_does makes (Ok false) old new not same = same
 idle_does makes (Err fault) old new not same = same
 
+-- what holds, holds where the call is refused
+pub where_refused : {T E : Type 0} (P : Type 0) (result : Result T E) → P → OnErr result P
+where_refused P (Ok value) holds = tt
+where_refused P (Err fault) holds = holds
+
 -- where the call is done, no id was wanting
 done_has : {T E : Type 0} (result : Result T E) (e : E) (lacks : Bool) → ((result ≡ Err e) ↔ (lacks ≡ true)) → OnOk result (lacks ≡ false)
 done_has (Ok value) e lacks refused =
     false_from_ne_true lacks (λ e_lacks. let wrong = refused.1 e_lacks in absurd (cc))
 done_has (Err other) e lacks refused = tt
+
+abbrev fault_in : {T A : Type 0} → OutletFault → Result T (A × OutletFault) → OutletFault
+fault_in other (Ok value) = other
+fault_in other (Err refused) = refused.1
 
 module _ {W : Type 0} (meaning : W → Value → Result (List Value) WorkFault) (equal : W → W → Bool)
     (same_meaning : (a b : W) → equal a b ≡ true → (value : Value) → meaning a value ≡ meaning b value) where
@@ -90,3 +101,15 @@ module _ {W : Type 0} (meaning : W → Value → Result (List Value) WorkFault) 
           let same = ap (λ (made : Result (List Value) ℕ). lacks_ids (put_by_job (ticket_in job) made node.block) node.block.exits) (is ∙ answer_is) in
           done_has result e (lacks_ids (put_at_end makes (ticket_in job) node.block) node.block.exits)
           (λ err. sym same ∙ refused.0 err, λ lacks. refused.1 (same ∙ lacks))
+
+      -- it is refused for ids just where they are wanting
+      pub own_lacks : {T : Type 0} (result : Result T (Result (List Value) ℕ × OutletFault)) (back : Result (List Value) ℕ) (fault : OutletFault)
+          → ((result ≡ Err (answer, Ids)) ↔ (lacks_ids (put_by_job (ticket_in job) answer node.block) node.block.exits ≡ true))
+          → result ≡ Err (back, fault) → back ≡ answer
+          → (fault ≡ Ids) ↔ (lacks_ids (put_at_end makes (ticket_in job) node.block) node.block.exits ≡ true)
+      own_lacks result back fault refused told same =
+          let alike = ap (λ (made : Result (List Value) ℕ). lacks_ids (put_by_job (ticket_in job) made node.block) node.block.exits) (is ∙ answer_is) in (
+            λ ids. sym alike
+                ∙ refused.0 (told ∙ ap (λ (f : OutletFault). Err (back, f)) ids ∙ ap (λ (made : Result (List Value) ℕ). Err (made, Ids)) same),
+            λ lacks. ap (fault_in fault) (sym told ∙ refused.1 (alike ∙ lacks)),
+          )

@@ -43,6 +43,7 @@ pub mod NodesShare
 pub mod NumbersOfParts
 pub mod OpenCounts
 pub mod Orders
+pub mod OwnJobsStay
 pub mod OwnSteps
 pub mod OwnTries
 pub mod PartsKept

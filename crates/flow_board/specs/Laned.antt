@@ -1,5 +1,5 @@
 -- What goes through the lanes of a block: which results it takes back, and when its lanes leave nothing to do.
-use Rattle.std.specs.Prelude.{◌≡◌, ℕ, Bool, true, false, cond, List, Option, Some, None, Result, Ok, Err}
+use Rattle.std.specs.Prelude.{◌≡◌, ◌⊎◌, ℕ, Bool, true, false, cond, List, Option, Some, None, Result, Ok, Err}
 use Rattle.std.specs.List.{list_all, list_any}
 use Rattle.flow_value.specs.declared.value.Value.{Value}
 use Rattle.flow_link.specs.Layout.{Layout}
@@ -9,26 +9,36 @@ use Rattle.flow_block.specs.Node.{NodeState}
 use Rattle.flow_block.specs.Peeks.{may_begin, may_end}
 use Rattle.flow_block_law.specs.JobsEnd.{after_job}
 use Rattle.flow_exec.specs.Execution.{SameWork}
-use Rattle.flow_exec.specs.Jobs.{work_in, kind_in, message_in, ticket_in}
 use Rattle.flow_exec.specs.declared.job.Job.{Job}
-use Rattle.flow_lane.specs.BlockLanes.{LanesState, has_ended, has_room}
+use Rattle.flow_lane.specs.BlockLanes.{LanesState, has_ended, has_room, job_at, stage_at}
+use Rattle.flow_lane.specs.Items.{JobState, state_of}
 use Rattle.flow_poll.specs.declared.actor.TurnState.{TurnState}
 use Rattle.flow_poll.specs.declared.actor.TurnState.TheVariants as turn
 use Rattle.flow_board.specs.Events.{Follows}
 use Rattle.flow_board.specs.Turns.{JobsAreDone}
 
 -- a job of a block that is out, of the message with that ticket, by the block's own work
-pub record IsOwnJob {W : Type 0} (equal : W → W → Bool) (layout : Layout W) (b : ℕ) (node : NodeState) (job : Job W) : Type 0 where
-  pub out : may_end (ticket_in job) node.block ≡ true
-  pub kind : kind_in job ≡ node.block.kind
-  pub message : message_in job ≡ job_message (ticket_in job) node.block
-  pub work : SameWork equal (block_in layout.blocks b).work (work_in job)
+pub record IsOwn {W : Type 0} (equal : W → W → Bool) (layout : Layout W) (b : ℕ) (node : NodeState) (job : JobState W) : Type 0 where
+  pub out : may_end job.ticket node.block ≡ true
+  pub kind : job.kind ≡ node.block.kind
+  pub message : job.message ≡ job_message job.ticket node.block
+  pub work : SameWork equal (block_in layout.blocks b).work job.work
+
+abbrev pub IsOwnJob : {W : Type 0} → (W → W → Bool) → Layout W → ℕ → NodeState → Job W → Type 0
+IsOwnJob equal layout b node job = IsOwn equal layout b node (state_of job)
 
 -- the job with this ticket ends; where it doesn't, the node is as it was
 abbrev pub TakesBack : {E : Type 0} → (Value → Result (List Value) ℕ) → ℕ → Result Bool E → NodeState → NodeState → Type 0
 TakesBack makes ticket (Ok true) old new = Follows (may_end ticket old.block ≡ true) (new ≡ after_job makes ticket old)
 TakesBack makes ticket (Ok false) old new = new ≡ old
 TakesBack makes ticket (Err refused) old new = new ≡ old
+
+-- each job of the block's own that stood in a lane stands there still, or it was taken back
+abbrev pub OwnJobsStay : {W : Type 0} → (W → W → Bool) → Layout W → ℕ → (Value → Result (List Value) ℕ) → NodeState → NodeState
+    → LanesState W → LanesState W → Type 0
+OwnJobsStay {W} equal layout b makes old new lanes after =
+    (place : ℕ) (job : JobState W) → job_at (stage_at place lanes) ≡ Some job → IsOwn equal layout b old job
+    → (job_at (stage_at place after) ≡ Some job) ⊎ (new ≡ after_job makes job.ticket old)
 
 module _ {W : Type 0} where
   -- while a lane is free, no job may begin

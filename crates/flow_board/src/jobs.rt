@@ -1,16 +1,19 @@
 //! What of a block's jobs goes through its lanes: a result that has come is taken back, and a job begins where a lane is free. A job that
 //! is out and stands in no lane, since the network was scattered, is done in place while nothing is in the lanes.
-ghost use Rattle.std.specs.Prelude.{◌≡◌, ◌<◌, true, false, option_map, Ok, IfErr, IfOk, IsTrue, OnOk};
+ghost use Rattle.std.specs.Prelude.{◌≡◌, ◌↔◌, ◌<◌, true, false, option_map, Ok, IfErr, IfOk, IsTrue, OnErr, OnOk};
 ghost use Rattle.std.specs.List.{list_any};
 ghost use Rattle.flow_link.specs.Planned.{layout_of};
+ghost use Rattle.flow_outlet.specs.Outlet.{lacks_ids};
+ghost use Rattle.flow_outlet.specs.declared.fault.OutletFault.TheVariants.{Ids};
 ghost use Rattle.flow_block.specs.Block.{job_message};
 ghost use Rattle.flow_block.specs.Peeks.{may_end};
+ghost use Rattle.flow_block_law.specs.JobsEnd.{put_at_end};
 ghost use Rattle.flow_exec.specs.Execution.{SameWork, next_ticket};
 ghost use Rattle.flow_exec.specs.Jobs.{kind_in, message_in, ticket_in, work_in};
 ghost use Rattle.flow_exec.specs.Results.{job_in};
 ghost use Rattle.flow_lane.specs.BlockLanes.{has_ticket};
 ghost use Rattle.flow_board.specs.Events.{Does, Spends};
-ghost use Rattle.flow_board.specs.Laned.{BeginIsDone, IsOwnJob, JobsEndInPlace, LanesRest, TakesBack};
+ghost use Rattle.flow_board.specs.Laned.{BeginIsDone, IsOwnJob, JobsEndInPlace, LanesRest, OwnJobsStay, TakesBack};
 
 use crate::board::Board;
 use crate::gate::Gate;
@@ -128,6 +131,7 @@ impl<W: Runs> BlockTask<W> {
         ensures number { self.new.number ≡ self.old.number }
         ensures note { self.new.note ≡ self.old.note }
         ensures does { Does (makes_of W.meaning self.old) result self.old.node self.new.node }
+        ensures own { OwnJobsStay W.eq (layout_of self.old.of.value.rest.plan) self.old.number (makes_of W.meaning self.old) self.old.node self.new.node lanes.old lanes.new }
     {
         let Some((place, done)) = lanes.next_result() else {
             return Ok(false);
@@ -157,6 +161,13 @@ impl<W: Runs> BlockTask<W> {
         ensures note { self.new.note ≡ self.old.note }
         ensures takes { TakesBack (makes_of W.meaning self.old) (ticket_in (job_in done)) result self.old.node self.new.node }
         ensures back { IfErr result (λ refused. refused.0 ≡ done) }
+
+        // It is let go just where it is of no job of its own. One of its own is taken, or comes back; for want of ids just where they are
+        // wanting.
+        ensures own { IfOk result (λ taken. (taken ≡ true) ↔ IsOwnJob W.eq (layout_of self.old.of.value.rest.plan) self.old.number self.old.node (job_in done)) }
+        ensures refused_own { OnErr result (IsOwnJob W.eq (layout_of self.old.of.value.rest.plan) self.old.number self.old.node (job_in done)) }
+        ensures ids { IfErr result (λ refused. (refused.1 ≡ Ids) ↔ (lacks_ids (put_at_end (makes_of W.meaning self.old)
+            (ticket_in (job_in done)) self.old.node.block) self.old.node.block.exits ≡ true)) }
     {
         if !self.is_own_job(board, done.job()) {
             return Ok(false);
@@ -172,6 +183,9 @@ impl<W: Runs> BlockTask<W> {
         ensures note { self.new.note ≡ self.old.note }
         ensures takes { TakesBack (makes_of W.meaning self.old) (ticket_in (job_in done)) result self.old.node self.new.node }
         ensures back { IfErr result (λ refused. refused.0 ≡ done) }
+        ensures taken { IfOk result (λ taken. taken ≡ true) }
+        ensures ids { IfErr result (λ refused. (refused.1 ≡ Ids) ↔ (lacks_ids (put_at_end (makes_of W.meaning self.old)
+            (ticket_in (job_in done)) self.old.node.block) self.old.node.block.exits ≡ true)) }
     {
         let (job, answer) = done.into_parts();
         match self.node.end_job(job.ticket(), answer) {
@@ -183,7 +197,7 @@ impl<W: Runs> BlockTask<W> {
     /// Whether this is a job of the block that is out: its message is the one of that ticket, and its work is the block's.
     fn is_own_job(&self, board: &Board<W>, job: &Job<W>) -> bool
         requires of { self.now.of.value ≡ board.now }
-        ensures { IsTrue result → IsOwnJob W.eq (layout_of self.now.of.value.rest.plan) self.now.number self.now.node job.now }
+        ensures { IsTrue result ↔ IsOwnJob W.eq (layout_of self.now.of.value.rest.plan) self.now.number self.now.node job.now }
     {
         self.is_out(job) && has_work(board.rest.plan.block(self.number).work.as_ref(), job)
     }
@@ -193,6 +207,7 @@ impl<W: Runs> BlockTask<W> {
         ensures out { IsTrue result → may_end (ticket_in job.now) self.now.node.block ≡ true }
         ensures kind { IsTrue result → kind_in job.now ≡ self.now.node.block.kind }
         ensures message { IsTrue result → message_in job.now ≡ job_message (ticket_in job.now) self.now.node.block }
+        ensures only { IsOwnJob W.eq (layout_of self.now.of.value.rest.plan) self.now.number self.now.node job.now → IsTrue result }
     {
         let block = self.node.block();
         block.may_end(job.ticket())
@@ -203,7 +218,7 @@ impl<W: Runs> BlockTask<W> {
 
 /// Whether a job is done by this work.
 fn has_work<W: Runs>(work: Option<&W>, job: &Job<W>) -> bool
-    ensures { IsTrue result → SameWork W.eq (option_map (λ work. work.now) work.entry) (work_in job.now) }
+    ensures { IsTrue result ↔ SameWork W.eq (option_map (λ work. work.now) work.entry) (work_in job.now) }
 {
     match (work, job.work()) {
         (Some(its), Some(given)) => its == given,

@@ -8,7 +8,7 @@ use Rattle.flow_block_law.specs.NodeLaw.{NodeLaw}
 use Rattle.flow_exec.specs.Jobs.{ticket_in}
 use Rattle.flow_exec.specs.Results.{job_in}
 use Rattle.flow_exec.specs.Works.{works_of}
-use Rattle.flow_board.proofs.JobsReturn.{own_ended, own_has, own_works}
+use Rattle.flow_board.proofs.JobsReturn.{own_ended, own_has, own_lacks, own_works}
 use Rattle.flow_board.proofs.OwnSteps.{OwnStep, ends_job as job_ends, own_law, own_outs, own_ins, planned}
 use Rattle.flow_board.proofs.OwnTries.{on_both, tried}
 use Rattle.flow_board.proofs.task.BlockTask.end_own.Goals as goal
@@ -89,3 +89,16 @@ returns-in-Ok-clause-takes g c =
 
 pub returns-in-Err-clause-back : goal.returns-in-Err-clause-back
 returns-in-Err-clause-back g c = c.new.ensures.only c.args.done (sym (c.new.ensures.job ∙ c.into_parts-job.ensures.job))
+
+pub returns-in-Err-clause-ids : goal.returns-in-Err-clause-ids
+returns-in-Err-clause-ids g c =
+    let s = c.args.self.now in
+    let layout = layout_of s.of.value.rest.plan in
+    let p = planned layout (works_of g.W.Runs.meaning layout) s.number s.node s.law in
+    let answer = c.into_parts-job.result.1 in
+    let ticket_is = c.ticket.ensures ∙ ap ticket_in c.into_parts-job.ensures.job in
+    own_lacks g.W.Runs.meaning g.W.PartialEq.eq g.met.W.Runs.same_meaning layout s.number s.node p (job_in c.args.done) c.requires.own answer
+    c.into_parts-job.ensures.answer c.end_job.result c.in-Err.answer c.in-Err.fault
+    (subst (λ (ticket : ℕ). (c.end_job.result ≡ Err (answer, Ids)) ↔ (lacks_ids (put_by_job ticket answer s.node.block) s.node.block.exits ≡ true))
+    ticket_is c.end_job.ensures.ids)
+    c.in-Err.is c.in-Err.ensures.back

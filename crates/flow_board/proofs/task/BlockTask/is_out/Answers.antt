@@ -20,3 +20,11 @@ returns-then-eq-clause-message g c is =
     sym c.message.ensures ∙ sym same ∙ c.job_message.ensures
     ∙ ap (λ (ticket : ℕ). job_message ticket c.block-block.result.now) c.ticket-then-eq.ensures
     ∙ ap (λ (block : BlockState). job_message (ticket_in c.args.job.now) block) c.block-block.ensures
+
+pub returns-then-eq-clause-only : goal.returns-then-eq-clause-only
+returns-then-eq-clause-only g c own =
+    let same = c.job_message.ensures
+    ∙ ap (λ (ticket : ℕ). job_message ticket c.block-block.result.now) c.ticket-then-eq.ensures
+    ∙ ap (λ (block : BlockState). job_message (ticket_in c.args.job.now) block) c.block-block.ensures
+    ∙ sym own.message ∙ sym c.message.ensures in
+    c.eq-then-eq.ensures ∙ (same_value-Decides c.job_message.result.now c.message.result.now).1 same
