@@ -25,7 +25,8 @@ pub(crate) struct Share {
     pub(crate) budget: u64,
 }
 
-/// One worker: it takes tasks, turns them and puts them back, until none moves, or the budget is used. Its pass comes back as it was.
+/// One worker: it takes tasks, turns them and puts them back, until none moves. Once its budget is used it does jobs of lanes alone, which
+/// are no events. Its pass comes back as it was.
 fn work<W: Runs, J: Round<W>, R: Wait, G: Gate>(
     rt: &R,
     alloc: Global,
@@ -53,18 +54,16 @@ fn work<W: Runs, J: Round<W>, R: Wait, G: Gate>(
     let mut refused = false;
     bell.come();
     for _ in rt.forever() {
-        if refused || events >= share.budget || bell.is_over() {
+        if refused || bell.is_over() {
             break;
         }
         lull.listen(bell);
         let has_job = worker.take_some(queue, share.chunk);
         let taken = worker.held.len();
         let done = if has_job {
-            worker.put_others(rt, queue);
-            bell.ring();
-            worker.do_job(alloc, board, gate)
+            worker.turn_to_job(rt, alloc, board, queue, bell, share.budget - events, gate)
         } else {
-            worker.turn_all(alloc, board, share.budget - events, gate)
+            worker.turn_all(alloc, board, bell, share.budget - events, gate)
         };
         worker.put_all(rt, queue);
         events += done.events;

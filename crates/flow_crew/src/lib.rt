@@ -22,4 +22,4 @@ mod run;
 mod worker;
 
 pub use round::turn_round;
-pub use run::{RunFault, run_workers};
+pub use run::{RunFault, how_settled, run_workers};

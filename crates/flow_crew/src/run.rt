@@ -67,7 +67,7 @@ pub fn run_workers<W: Runs + Send + Sync, R: Threads + Wait + Sync, G: Gate + Sy
 }
 
 /// How far a network has come.
-fn how_settled<W: Runs>(net: &Net<W>) -> Settled
+pub fn how_settled<W: Runs>(net: &Net<W>) -> Settled
     ensures still { (result ≡ settled.Quiet) ↔ NetIsStill W.meaning net.now }
     ensures quiet { result ≡ settled.Quiet → Quiet (run_of W.meaning net.now) }
     ensures at_rest { result ≡ settled.Quiet → AtRest (layout_in net.now) (parts_of net.now) }

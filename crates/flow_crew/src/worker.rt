@@ -3,6 +3,7 @@ ghost use Rattle.std.specs.Prelude.{◌≡◌, ◌≤◌, ◌<◌, ◌+◌, ◌^
 ghost use Rattle.std.specs.VecDeque.{deque_len};
 ghost use Rattle.crossbeam_queue.specs.Passes.{view, IsPassOf, ruled_capacity};
 
+use crate::bell::Bell;
 use crate::item::{Item, Round};
 use crate::rule::{Puts, Queue, Takes, Ticket};
 use flow_board::{Board, Gate};
@@ -142,7 +143,7 @@ impl<W: Runs, J: Round<W>> Worker<W, J> {
     }
 
     /// Puts all but the last back.
-    pub(crate) fn put_others<R: Wait>(&mut self, rt: &R, queue: &Queue<W, J>)
+    fn put_others<R: Wait>(&mut self, rt: &R, queue: &Queue<W, J>)
         requires queue { IsPassOf queue.now self.old.pass }
         requires part { 0 < (view self.old.pass).parts }
         requires room { length J.all ≤ ruled_capacity queue.now }
@@ -169,7 +170,7 @@ impl<W: Runs, J: Round<W>> Worker<W, J> {
     }
 
     /// Does the job that has come to the lane which is held last.
-    pub(crate) fn do_job<G: Gate>(&mut self, alloc: Global, board: &Board<W>, gate: &G) -> Done
+    fn do_job<G: Gate>(&mut self, alloc: Global, board: &Board<W>, gate: &G) -> Done
         requires board { J.board ≡ Some board.now }
         ensures pass { self.new.pass ≡ self.old.pass }
         ensures events { result.events ≡ 0 }
@@ -183,6 +184,38 @@ impl<W: Runs, J: Round<W>> Worker<W, J> {
                 ..Done::nothing()
             },
             Err(AllocError) => Done::nothing().refused(),
+        }
+    }
+
+    /// Turns what it took before the last task, a lane to which a job has come, puts all that back, and does the job.
+    pub(crate) fn turn_to_job<R: Wait, G: Gate>(
+        &mut self,
+        rt: &R,
+        alloc: Global,
+        board: &Board<W>,
+        queue: &Queue<W, J>,
+        bell: &Bell,
+        budget: u64,
+        gate: &G,
+    ) -> Done
+        requires board { J.board ≡ Some board.now }
+        requires queue { IsPassOf queue.now self.old.pass }
+        requires part { 0 < (view self.old.pass).parts }
+        requires room { length J.all ≤ ruled_capacity queue.now }
+        ensures queue { IsPassOf queue.now self.new.pass }
+        ensures part { (view self.new.pass).parts ≡ (view self.old.pass).parts }
+        ensures within { result.events ≤ budget }
+    {
+        let turned = self.turn_once(alloc, board, budget, gate);
+        self.put_others(rt, queue);
+        bell.ring();
+        if turned.refused {
+            return turned;
+        }
+        let done = self.do_job(alloc, board, gate);
+        Done {
+            events: turned.events,
+            ..done
         }
     }
 
@@ -208,11 +241,13 @@ impl<W: Runs, J: Round<W>> Worker<W, J> {
         done
     }
 
-    /// Turns them again and again, while any moves and the budget lasts, until a job has come to a lane among them.
+    /// Turns them again and again, while any moves and the budget lasts, until a job has come to a lane among them. Each time that any has
+    /// moved it rings, since tasks of others may move then.
     pub(crate) fn turn_all<G: Gate>(
         &mut self,
         alloc: Global,
         board: &Board<W>,
+        bell: &Bell,
         budget: u64,
         gate: &G,
     ) -> Done
@@ -232,6 +267,7 @@ impl<W: Runs, J: Round<W>> Worker<W, J> {
             if more.refused || more.job || more.events == 0 {
                 break;
             }
+            bell.ring();
         }
         done
     }
