@@ -6,6 +6,8 @@ mod networks;
 #[cfg(test)]
 mod overlap;
 #[cfg(test)]
+mod paced;
+#[cfg(test)]
 mod rounds;
 #[cfg(test)]
 mod runs;

@@ -85,7 +85,7 @@ pub(crate) fn is_quiet(rt: &impl Abort, alloc: Global, net: &mut Net<Steps>) {
 }
 
 /// Settles a network by single events, and counts them.
-fn settle_singly(rt: &impl Abort, alloc: Global, net: &mut Net<Steps>) -> u64 {
+pub(crate) fn settle_singly(rt: &impl Abort, alloc: Global, net: &mut Net<Steps>) -> u64 {
     for events in 0..ENOUGH {
         match net.settle(alloc, 0) {
             Ok(Settled::Quiet) => return events,

@@ -1,0 +1,103 @@
+//! A network whose work is long is run at its pace: by one thread at first, and then by a crew.
+ghost use Rattle.std.specs.Prelude.{◌≤◌, ◌<◌};
+
+use crate::networks::settle_singly;
+use anyhow::Result;
+use flow_front::{Inputs, record_of, state_of};
+use flow_link::{BlockDef, BlockKind, Draft, Ending, LinkDef};
+use flow_net::{Net, Settled, State};
+use flow_pace::run_paced;
+use flow_value::{Steps, Value};
+use std::alloc::Global;
+use std::process::Abort;
+use std::sync::Wait;
+use std::thread::Threads;
+
+/// How many numbers are posted.
+const COUNT: i64 = 100;
+
+/// A buffer to which numbers are posted, a broadcast behind it, and two actions behind that. One copies each number ten thousand times, in
+/// two lanes, and records nothing; the other records them.
+fn copying(alloc: Global) -> Result<Net<Steps>> {
+    let copies = Steps::read(alloc, &["repeat 1000", "repeat 10", "repeat 0"])?;
+    let keep = Steps::read(alloc, &[])?;
+    let plan = Draft::new(alloc)
+        .block(BlockDef::named(alloc, "in", BlockKind::Buffer)?.input())?
+        .block(BlockDef::named(alloc, "both", BlockKind::Broadcast)?)?
+        .block(
+            BlockDef::named(alloc, "slow", BlockKind::Action)?
+                .work(copies)
+                .lanes(2),
+        )?
+        .block(BlockDef::named(alloc, "out", BlockKind::Action)?.work(keep))?
+        .link(LinkDef::between(alloc, "in", "both")?.propagate())?
+        .link(LinkDef::between(alloc, "both", "slow")?.propagate())?
+        .link(LinkDef::between(alloc, "both", "out")?.propagate())?
+        .check(alloc)?;
+    let mut inputs = Inputs::of(alloc, plan)?;
+    for number in 0..COUNT {
+        inputs.post("in", Value::Int(number))?;
+    }
+    inputs.end("in", Ending::Complete)?;
+    Ok(inputs.start(alloc)?)
+}
+
+/// That network, of which nothing has happened.
+fn started(rt: &impl Abort, alloc: Global) -> Net<Steps> {
+    match copying(alloc) {
+        Ok(net) => net,
+        Err(_) => panic!(rt; "no network"),
+    }
+}
+
+/// The network, run by so many workers for at most so many events, and how far it came.
+fn run<R: Abort + Threads + Wait + Sync>(
+    rt: &R,
+    alloc: Global,
+    workers: usize,
+    limit: u64,
+) -> (Net<Steps>, Settled)
+    requires workers { (0 < workers) × (workers ≤ 64) }
+{
+    let Ok(ran) = run_paced(rt, alloc, started(rt, alloc), workers, limit) else {
+        panic!(rt; "out of memory");
+    };
+    ran
+}
+
+/// Asserts that all numbers were recorded in their order, and that every block is done.
+fn has_recorded(rt: &impl Abort, net: &Net<Steps>) {
+    let Some(recorded) = record_of(net, "out") else {
+        panic!(rt; "no record");
+    };
+    let mut due = 0i64;
+    for value in recorded {
+        assert!(rt; *value == Value::Int(due));
+        due = due.saturating_add(1);
+    }
+    assert!(rt; due == COUNT);
+    assert!(rt; matches!(record_of(net, "slow"), Some([])));
+    for name in ["in", "both", "slow", "out"] {
+        assert!(rt; state_of(net, name) == Some(State::Done));
+    }
+}
+
+/// Asserts that so many workers do all events within as many as there are, and are stopped where one less may be done.
+fn ends_within<R: Abort + Threads + Wait + Sync>(rt: &R, alloc: Global, workers: usize, all: u64)
+    requires workers { (0 < workers) × (workers ≤ 64) }
+{
+    let (net, settled) = run(rt, alloc, workers, all);
+    assert!(rt; settled == Settled::Quiet);
+    has_recorded(rt, &net);
+    let (_, settled) = run(rt, alloc, workers, all.saturating_sub(1));
+    assert!(rt; settled == Settled::Stopped);
+}
+
+#[test]
+fn long_work_is_done_within_the_limit(rt: HostRuntime) {
+    let alloc = rt.alloc();
+    let all = settle_singly(&rt, alloc, &mut started(&rt, alloc));
+    ends_within(&rt, alloc, 1, all);
+    ends_within(&rt, alloc, 2, all);
+    ends_within(&rt, alloc, 8, all);
+}

@@ -1,0 +1,9 @@
+use Rattle.flow_crew.specs.Runs.{RunsOn}
+use Rattle.flow_pace.proofs.run.run_together.Given as goal
+
+-- so many events may be done yet, and the network has gone on by the others
+abbrev pub invariant-loop-left : goal.invariant-loop-left
+invariant-loop-left g l = RunsOn l.fn.net l.net
+
+abbrev pub decreases-loop-left : goal.decreases-loop-left
+decreases-loop-left g l = l.left

@@ -1,0 +1,14 @@
+//! Runs a network at the pace of its work: its owner does the events while they are short, and a crew does them while they are long.
+//!
+//! Whoever hands a message to another thread pays some hundred nanoseconds for it, whatever is done with the message there. So a crew is the
+//! quicker one only where events take long, and nobody can tell that of a network before. It is watched: events are counted against the
+//! milliseconds that pass, and judged every few of these. Each way of doing them is a lawful one, so the judgement may be wrong: it costs
+//! time, and nothing else.
+#![tactic(auto)]
+
+mod pace;
+mod run;
+mod short;
+mod ticks;
+
+pub use run::run_paced;

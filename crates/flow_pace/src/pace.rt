@@ -1,0 +1,51 @@
+//! How long the events of a network take.
+ghost use Rattle.std.specs.Prelude.{◌<◌};
+
+/// How many events are done between two looks at the time, at most. Messages go on in runs, and each look cuts one.
+const MOST: u64 = 4_096;
+
+/// Over how many milliseconds events are counted before they are judged, at least.
+const SPAN: u64 = 8;
+
+/// How many events go into a millisecond, at least, where they are short. A crew does one in about as long.
+const SHORT: u64 = 1_000;
+
+/// Counts events against the milliseconds that pass.
+#[derive(Drop)]
+pub(crate) struct Pace {
+    since: u64,
+    events: u64,
+    share: u64,
+}
+
+impl Pace {
+    /// Begins to count at this time.
+    pub(crate) fn new(now: u64) -> Pace {
+        Pace {
+            since: now,
+            events: 0,
+            share: 1,
+        }
+    }
+
+    /// How many events to do before the next look at the time. At first it is one, since any may take long.
+    pub(crate) fn share(&self) -> u64
+        ensures some { 0 < result }
+    {
+        self.share.max(1)
+    }
+
+    /// Counts so many events more by this time, and answers whether those since the last judgement took long.
+    pub(crate) fn is_long(&mut self, events: u64, now: u64) -> bool {
+        self.share = self.share().saturating_mul(2).min(MOST);
+        self.events = self.events.saturating_add(events);
+        let span = now.saturating_sub(self.since);
+        if span < SPAN {
+            return false;
+        }
+        let is_long = self.events < span.saturating_mul(SHORT);
+        self.since = now;
+        self.events = 0;
+        is_long
+    }
+}
