@@ -36,6 +36,10 @@ abbrev pub HasCrew : Request → Type 0
 HasCrew Input = ⊤
 HasCrew (File path bounds) = IsCrew bounds.workers
 
+-- how many workers run what stands in standard input
+abbrev pub default_workers : ℕ
+default_workers = 2
+
 -- the limit of events where none is named
 abbrev pub default_limit : ℕ
 default_limit = 10000000

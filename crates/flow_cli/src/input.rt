@@ -6,7 +6,7 @@ ghost use Rattle.flow_run.specs.Left.{IsLeft};
 ghost use Rattle.flow_run.specs.Ran.{IsReported, IsUnreported};
 ghost use Rattle.flow_cli.specs.Failure.{unread_refusal, refusal_in_memory, IsUnread};
 ghost use Rattle.flow_cli.specs.Reported.{IsReportedIn, IsReportedOfAny, IsRefusedIn, IsRefusedOfAny};
-ghost use Rattle.flow_cli.specs.Request.{IsCrew, default_limit};
+ghost use Rattle.flow_cli.specs.Request.{IsCrew, default_limit, default_workers};
 
 use crate::request::{Bounds, DEFAULT_BOUNDS};
 use flow_run::{Ran, RunRefusal, TextFault, run, split_input};
@@ -25,8 +25,8 @@ pub fn run_file<R: Files + Input + Print + AllocGlobal + Threads + Wait + Sync>(
     bounds: Bounds,
 ) -> Result<Ran, RunRefusal>
     requires { IsCrew bounds.workers }
-    ensures reported { IfOk result (IsReportedOfAny bounds.limit (λ report. Unit {0})) }
-    ensures refused { IfErr result (λ refusal. IsUnread refusal ⊎ IsRefusedOfAny bounds.limit refusal) }
+    ensures reported { IfOk result (IsReportedOfAny bounds.workers bounds.limit (λ report. Unit {0})) }
+    ensures refused { IfErr result (λ refusal. IsUnread refusal ⊎ IsRefusedOfAny bounds.workers bounds.limit refusal) }
 {
     let text = fs::read(rt, path).map_err(|error| unread(&error))?;
     let records = BufReader::new(rt.alloc(), rt.reader()).map_err(|error| unread(&error))?;
@@ -43,8 +43,8 @@ fn run_buffered<C: Threads + Wait + Sync, R: Read + Drop, W: Write + Drop>(
     bounds: Bounds,
 ) -> Result<Ran, RunRefusal>
     requires { IsCrew bounds.workers }
-    ensures reported { IfOk result (IsReported text.now None bounds.limit (λ report. Unit {0})) }
-    ensures refused { IfErr result (IsUnreported text.now None bounds.limit) }
+    ensures reported { IfOk result (IsReported text.now None bounds.workers bounds.limit (λ report. Unit {0})) }
+    ensures refused { IfErr result (IsUnreported text.now None bounds.workers bounds.limit) }
 {
     let Ok(mut buffer) = BufWriter::new(alloc, writer) else {
         return Err(RunRefusal::Memory);
@@ -64,9 +64,9 @@ pub fn run_input<C: Threads + Wait + Sync, R: Read + Drop, W: Write>(
     reader: R,
     writer: &mut W,
 ) -> Result<Ran, RunRefusal>
-    ensures reported { IfOk result (IsReportedIn (R.remaining reader) default_limit
+    ensures reported { IfOk result (IsReportedIn (R.remaining reader) default_workers default_limit
         (Appends (W.contents writer.old) (W.contents writer.new))) }
-    ensures refused { IfErr result (λ refusal. IsUnread refusal ⊎ IsRefusedIn (R.remaining reader) default_limit
+    ensures refused { IfErr result (λ refusal. IsUnread refusal ⊎ IsRefusedIn (R.remaining reader) default_workers default_limit
         refusal) }
     ensures left { IfErr result (λ refusal. IsLeft refusal (W.contents writer.old) (W.contents writer.new)) }
 {
@@ -85,9 +85,9 @@ fn run_whole<C: Threads + Wait + Sync, W: Write>(
     bounds: Bounds,
 ) -> Result<Ran, RunRefusal>
     requires { IsCrew bounds.workers }
-    ensures reported { IfOk result (IsReported text.now (Some records.now) bounds.limit
+    ensures reported { IfOk result (IsReported text.now (Some records.now) bounds.workers bounds.limit
         (Appends (W.contents writer.old) (W.contents writer.new))) }
-    ensures refused { IfErr result (IsUnreported text.now (Some records.now) bounds.limit) }
+    ensures refused { IfErr result (IsUnreported text.now (Some records.now) bounds.workers bounds.limit) }
     ensures left { IfErr result (λ refusal. IsLeft refusal (W.contents writer.old) (W.contents writer.new)) }
 {
     let mut report: Vec<u8> = Vec::new(alloc);

@@ -1,4 +1,6 @@
 //! Whole runs: a network and records, and all that is written of them.
+ghost use Rattle.std.specs.Prelude.{◌≤◌};
+
 use crate::check::check;
 use flow_link::{Place, PlanFault};
 use flow_run::{RunRefusal, split_input, status, write_refusal};
@@ -6,7 +8,9 @@ use flow_text::{TextFault, TextPlace};
 use flow_trial::{ENOUGH, Told, chain, is_refusal, is_report, told_by, told_with};
 use std::alloc::Global;
 use std::process::Abort;
+use std::sync::Wait;
 use std::test::Fail;
+use std::thread::Threads;
 
 /// A situation: its name, the network, drawn, and the records, the most events, and what is due: the status and the
 /// report.
@@ -195,13 +199,19 @@ const RUNS: &[Case] = &[
     ),
 ];
 
-#[test]
-fn runs_are_reported(rt: HostRuntime) -> Result<(), Fail> {
+/// Tests that so many workers come to each report that is due.
+fn each_is_reported(
+    rt: &(impl Abort + Print + Threads + Wait + Sync),
+    alloc: Global,
+    workers: u32,
+) -> Result<(), Fail>
+    requires { (1 ≤ workers) × (workers ≤ 64) }
+{
     for (name, drawn, records, limit, status, due) in RUNS {
-        let network = chain(rt.alloc(), drawn)?;
-        let told = told_by(&rt, rt.alloc(), network.as_slice(), *records, *limit)?;
+        let network = chain(alloc, drawn)?;
+        let told = told_with(rt, alloc, network.as_slice(), *records, workers, *limit)?;
         check(
-            &rt,
+            rt,
             name,
             told.status == *status && is_report(told.text.as_slice(), due),
         );
@@ -210,13 +220,28 @@ fn runs_are_reported(rt: HostRuntime) -> Result<(), Fail> {
 }
 
 #[test]
+fn runs_are_reported(rt: HostRuntime) -> Result<(), Fail> {
+    each_is_reported(&rt, rt.alloc(), 1)
+}
+
+#[test]
+fn runs_are_reported_by_two_workers(rt: HostRuntime) -> Result<(), Fail> {
+    each_is_reported(&rt, rt.alloc(), 2)
+}
+
+#[test]
+fn runs_are_reported_by_eight_workers(rt: HostRuntime) -> Result<(), Fail> {
+    each_is_reported(&rt, rt.alloc(), 8)
+}
+
+#[test]
 fn rows_are_the_same_with_three_workers(rt: HostRuntime) -> Result<(), Fail> {
     let drawn = r#"in buffer => t transform ["int"] => b batch/3 => out action []"#;
     let network = chain(rt.alloc(), drawn)?;
-    let two = told_by(&rt, rt.alloc(), network.as_slice(), SEVEN, ENOUGH)?;
+    let one = told_by(&rt, rt.alloc(), network.as_slice(), SEVEN, ENOUGH)?;
     let three = told_with(&rt, rt.alloc(), network.as_slice(), SEVEN, 3, ENOUGH)?;
-    assert!(rt; two.status == 0 && three.status == 0);
-    assert!(rt; two.text == three.text);
+    assert!(rt; one.status == 0 && three.status == 0);
+    assert!(rt; one.text == three.text);
     Ok(())
 }
 

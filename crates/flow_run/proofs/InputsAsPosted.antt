@@ -1,5 +1,5 @@
 -- What the records post is what the inputs of a network are given.
-use Rattle.std.proofs.Common.{◌≡◌, ℕ, zero, suc, ◌+◌, Bool, true, false, cond, List, [], ◌∷◌, ◌++◌, length, map, replicate, IfSome, Option, count_by, Result, Ok, Err, refl, ap, sym, subst, inl, inr, ◌∙◌, arith}
+use Rattle.std.proofs.Common.{◌≡◌, ◌↔◌, ℕ, zero, suc, ◌+◌, Bool, true, false, cond, List, [], ◌∷◌, ◌++◌, length, map, replicate, IfSome, Option, count_by, Result, Ok, Err, refl, ap, sym, subst, inl, inr, ◌∙◌, arith}
 use Rattle.std.proofs.lemmas.Bool.{and_from}
 use Rattle.std.proofs.lemmas.List.{length-map, length-replicate}
 use Rattle.std.proofs.lemmas.List.Sums.{sum_by-cons}
@@ -9,28 +9,34 @@ use Rattle.flow_value.specs.declared.value.Value.{Value}
 use Rattle.flow_link.specs.declared.draft.BlockDef.{BlockDef}
 use Rattle.flow_link.specs.declared.trace.Ending.TheVariants.{Complete}
 use Rattle.flow_link.specs.Layout.{Layout}
+use Rattle.flow_lawful.specs.Lawful.{Lawful}
+use Rattle.flow_lawful.specs.Quiet.{Quiet as IsQuiet}
 use Rattle.flow_link.specs.Trace.{InputTrace}
 use Rattle.flow_link.specs.declared.trace.Ending.{Ending}
 use Rattle.flow_core.specs.Inputs.{none_posted}
 use Rattle.flow_core.specs.State.{NetState}
-use Rattle.flow_core.proofs.InputsChange.{fresh_none_posted}
+use Rattle.flow_core.proofs.InputsChange.{fresh_none_posted, same_where_none_posted}
 use Rattle.flow_exec.specs.Works.{works_of}
-use Rattle.flow_net.specs.Net.{run_with}
+use Rattle.flow_net.specs.Net.{NetGoesOn, NetIsStill, NetSettles, layout_in, parts_of, run_of, run_with}
 use Rattle.flow_link.specs.Posted.{input_of, is_numbered_ending, ends_by_number}
 use Rattle.flow_lists.specs.Lists.{every}
 use Rattle.flow_net.specs.Settles.{Settles, GoesOn}
-use Rattle.flow_net.specs.declared.fault.NetFault.{NetFault}
-use Rattle.flow_net.specs.declared.fault.NetFault.TheVariants as net_fault
+use Rattle.flow_net.specs.declared.net.Net.{Net}
 use Rattle.flow_link.specs.declared.posted.Posted.{Posted}
 use Rattle.flow_net.specs.declared.settled.Settled.{Settled}
+use Rattle.flow_net.specs.declared.settled.Settled.TheVariants.{Quiet}
+use Rattle.flow_crew.specs.Runs.{IsLeft, RunsOn}
+use Rattle.flow_crew.specs.declared.run.RunFault.{RunFault}
+use Rattle.flow_crew.specs.declared.run.RunFault.TheVariants as run
+use Rattle.flow_pace.specs.Alone.{IsLeftAlone}
 use Rattle.flow_fault_text.specs.declared.fault.TextFault.TheVariants.{Write}
 use Rattle.flow_fault_text.specs.declared.fault.TextRefusal.{TextRefusal}
 use Rattle.flow_fault_text.specs.declared.fault.TextRefusal.TheVariants.{Fault, Memory}
 use Rattle.flow_plan_text.specs.Plan.{IsUnplannedFor}
 use Rattle.flow_report.specs.Written.{StaysInFront}
-use Rattle.flow_run.specs.Left.{IsLeft}
-use Rattle.flow_run.specs.Ran.{Begins, IsPosted, HasUnreadRecords, UsesUpIds, HasUnwrittenReport, IsUnbegun, IsUnreported}
-use Rattle.flow_run.specs.Refusal.{refusal_of, IsToldAs}
+use Rattle.flow_run.specs.Left.{IsLeft as IsLeftIn}
+use Rattle.flow_run.specs.Ran.{Begins, HasEnded, HasRun, HasUnreadRecords, HasUnwrittenReport, IsPosted, IsUnbegun, IsUnreported}
+use Rattle.flow_run.specs.Refusal.{refusal_of, told_as}
 use Rattle.flow_run.specs.declared.outcome.RunRefusal.{RunRefusal}
 use Rattle.flow_record_text.specs.Records.{PostAll, input_names, posted_endings, posted_values}
 
@@ -96,23 +102,41 @@ pub begins_as : {now layout : Layout Steps} {start : NetState} {text : List ℕ}
     → Begins text records layout start → Begins text records now start
 begins_as {start = start} {text = text} {records = records} same begins = subst (λ (l : Layout Steps). Begins text records l start) (sym same) begins
 
--- an answer that was no refusal
-abbrev pub answered : Settled → Result Settled NetFault
-answered settled = Ok settled
+-- a network that begins, and what became of it
+module _ {w : _} {e : _} (text : List ℕ) (records : Option (List ℕ)) (workers limit : ℕ) (old new : Net Steps w e) where
+  goes_on_in : layout_in new ≡ layout_in old → NetGoesOn meaning_of limit old new
+      → GoesOn (layout_in new) (works_of meaning_of (layout_in new)) limit (parts_of old) (parts_of new)
+  goes_on_in same = subst (λ (l : Layout Steps). GoesOn l (works_of meaning_of l) limit (parts_of old) (parts_of new)) (sym same)
 
--- and one that was
-abbrev pub failing : NetFault → Result Settled NetFault
-failing fault = Err fault
+  settles_in : (how : Settled) → layout_in new ≡ layout_in old → NetSettles meaning_of limit old new how
+      → Settles (layout_in new) (works_of meaning_of (layout_in new)) limit (parts_of old) (parts_of new) how
+  settles_in how same = subst (λ (l : Layout Steps). Settles l (works_of meaning_of l) limit (parts_of old) (parts_of new) how) (sym same)
 
-pub settles_as : {now layout : Layout Steps} {limit : ℕ} {old new : NetState} {how : Settled} → now ≡ layout
-    → Settles layout (works_of meaning_of layout) limit old new how → Settles now (works_of meaning_of now) limit old new how
-settles_as {limit = limit} {old = old} {new = new} {how = how} same settles =
-    subst (λ (l : Layout Steps). Settles l (works_of meaning_of l) limit old new how) (sym same) settles
+  pub begins_in : Begins text records (layout_in old) (parts_of old) → RunsOn old new → Begins text records (layout_in new) (parts_of old)
+  begins_in begins runs = begins_as runs.same_layout begins
 
-pub goes_on_as : {now layout : Layout Steps} {limit : ℕ} {old new : NetState} → now ≡ layout
-    → GoesOn layout (works_of meaning_of layout) limit old new → GoesOn now (works_of meaning_of now) limit old new
-goes_on_as {limit = limit} {old = old} {new = new} same goes_on =
-    subst (λ (l : Layout Steps). GoesOn l (works_of meaning_of l) limit old new) (sym same) goes_on
+  pub has_run : Begins text records (layout_in old) (parts_of old) → RunsOn old new → Lawful (run_of meaning_of new)
+      → (workers ≡ 1 → NetGoesOn meaning_of limit old new)
+      → HasRun records workers limit (layout_in new) (parts_of old) (parts_of new)
+  has_run begins runs lawful alone = record {
+    lawful = lawful;
+    posted = posted_as records (layout_in new) (parts_of old) (parts_of new)
+        (same_where_none_posted (parts_of old) (parts_of new) runs.inputs_stay (none_at_first begins)) (begins_in begins runs).posted;
+    one_by_one = λ is_one. goes_on_in runs.same_layout (alone is_one);
+  }
+
+  pub has_ended : (how : Settled) → RunsOn old new → ((how ≡ Quiet) ↔ NetIsStill meaning_of new)
+      → (how ≡ Quiet → IsQuiet (run_of meaning_of new)) → (workers ≡ 1 → NetSettles meaning_of limit old new how)
+      → HasEnded workers limit (layout_in new) (parts_of old) (parts_of new) how
+  has_ended how runs still quiet alone = record {
+    still = still;
+    quiet = quiet;
+    settles = λ is_one. settles_in how runs.same_layout (alone is_one);
+  }
+
+  -- whoever settles goes on
+  pub goes_on : (how : Settled) → NetSettles meaning_of limit old new how → NetGoesOn meaning_of limit old new
+  goes_on how settles = record { count = settles.count; within = settles.within; happened = settles.happened }
 
 -- why there is no plan, no posted values, no network, no end of the run, or no report
 module _ (text : List ℕ) (records : Option (List ℕ)) where
@@ -124,18 +148,27 @@ module _ (text : List ℕ) (records : Option (List ℕ)) where
   no_records (Fault fault) h = inr h
   no_records Memory h = tt
 
-  pub no_end : (limit : ℕ) (fault : NetFault) (refusal : RunRefusal) → IsToldAs fault refusal → (fault ≡ net_fault.Ids → UsesUpIds text records limit)
-      → IsUnreported text records limit refusal
-  no_end limit net_fault.NotEnabled refusal told h = absurd told
-  no_end limit net_fault.Ids refusal told h = subst (IsUnreported text records limit) (sym told) (h refl)
-  no_end limit net_fault.Memory refusal told h = subst (IsUnreported text records limit) (sym told) tt
+  pub no_end : {w : _} {e : _} (workers limit : ℕ) (old : Net Steps w e) (fault : RunFault Steps w e)
+      → Begins text records (layout_in old) (parts_of old) → IsLeft meaning_of old fault
+      → (workers ≡ 1 → IsLeftAlone meaning_of limit old fault) → IsUnreported text records workers limit (told_as fault)
+  no_end workers limit old (run.Ids net) begins left alone = record {
+    layout = layout_in net;
+    start = parts_of old;
+    now = parts_of net;
+    begins = begins_in text records workers limit old net begins left.0;
+    has_run = has_run text records workers limit old net begins left.0 left.1.0 alone;
+    used_up = left.1.1;
+  }
+  no_end workers limit old (run.Net net) begins left alone = tt
+  no_end workers limit old (run.Parts parts) begins left alone = tt
 
-  pub no_report : (limit : ℕ) (refusal : TextRefusal) → refusal ≡ Fault Write → HasUnwrittenReport text records limit Write
-      → IsUnreported text records limit (refusal_of refusal)
-  no_report limit refusal is h = subst (λ (r : TextRefusal). IsUnreported text records limit (refusal_of r)) (sym is) (inr h)
+  pub no_report : (workers limit : ℕ) (refusal : TextRefusal) → refusal ≡ Fault Write → HasUnwrittenReport text records workers limit Write
+      → IsUnreported text records workers limit (refusal_of refusal)
+  no_report workers limit refusal is h =
+      subst (λ (r : TextRefusal). IsUnreported text records workers limit (refusal_of r)) (sym is) (inr h)
 
 -- a writer that failed keeps what was there
-pub failed : (old new : Option (List ℕ)) (refusal : TextRefusal) → refusal ≡ Fault Write → StaysInFront old new → IsLeft (refusal_of refusal) old new
+pub failed : (old new : Option (List ℕ)) (refusal : TextRefusal) → refusal ≡ Fault Write → StaysInFront old new → IsLeftIn (refusal_of refusal) old new
 failed old new refusal is stays = record {
   in_front = stays;
   as_it_was = λ differs. absurd (differs (ap refusal_of is));

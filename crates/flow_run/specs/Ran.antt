@@ -1,6 +1,6 @@
 -- What a run that was reported was: the run of a network, from its first event to where it was quiet or was stopped. And why
 -- there was none.
-use Rattle.std.specs.Prelude.{◌≡◌, ◌⊎◌, ℕ, List, length, map, replicate, Option, IfSome}
+use Rattle.std.specs.Prelude.{◌≡◌, ◌↔◌, ◌⊎◌, ℕ, List, length, map, replicate, Option, IfSome}
 use Rattle.flow_value.specs.Function.{meaning_of}
 use Rattle.flow_value.specs.declared.steps.Steps.{Steps}
 use Rattle.flow_lawful.specs.Lawful.{Lawful}
@@ -9,6 +9,7 @@ use Rattle.flow_link.specs.Layout.{Layout}
 use Rattle.flow_link.specs.Trace.{Run}
 use Rattle.flow_link.specs.declared.trace.Ending.TheVariants.{Complete}
 use Rattle.flow_core.specs.State.{NetState, fresh_net}
+use Rattle.flow_core.specs.Statements.{IsStill}
 use Rattle.flow_exec.specs.Works.{works_of}
 use Rattle.flow_net.specs.Net.{run_with}
 use Rattle.flow_net.specs.Settles.{Settles, GoesOn}
@@ -39,20 +40,32 @@ pub record Begins (text : List ℕ) (records : Option (List ℕ)) (layout : Layo
   pub fresh : start ≡ fresh_net layout (run_with meaning_of layout start).trace.inputs
   pub posted : IsPosted records (run_with meaning_of layout start)
 
--- of the network's text, of the records, of the limit of events, of what was written, and of what the run came to
-pub record IsReported (text : List ℕ) (records : Option (List ℕ)) (limit : ℕ) (Written : List ℕ → Type 0) (ran : Ran) : Type 0 where
+-- a run of so many workers that has come so far: every law of links and blocks holds of it, and its inputs are given what the records
+-- post. One worker does the events one after another, at most so many
+pub record HasRun (records : Option (List ℕ)) (workers limit : ℕ) (layout : Layout Steps) (start now : NetState) : Type 0 where
+  pub lawful : Lawful (run_with meaning_of layout now)
+  pub posted : IsPosted records (run_with meaning_of layout now)
+  pub one_by_one : workers ≡ 1 → GoesOn layout (works_of meaning_of layout) limit start now
+
+-- and that ended so: it is told as quiet exactly where nothing may happen any more, and then nothing is left to do. One worker stops
+-- where just as many events have happened as may
+pub record HasEnded (workers limit : ℕ) (layout : Layout Steps) (start now : NetState) (settled : Settled) : Type 0 where
+  pub still : (settled ≡ Quiet) ↔ IsStill layout (works_of meaning_of layout) now
+  pub quiet : settled ≡ Quiet → IsQuiet (run_with meaning_of layout now)
+  pub settles : workers ≡ 1 → Settles layout (works_of meaning_of layout) limit start now settled
+
+-- of the network's text, of the records, of the number of workers and the limit of events, of what was written, and of what the run
+-- came to
+pub record IsReported (text : List ℕ) (records : Option (List ℕ)) (workers limit : ℕ) (Written : List ℕ → Type 0) (ran : Ran) : Type 0 where
   pub layout : Layout Steps
   pub start : NetState
   pub now : NetState
   -- nothing had happened, and it went on until nothing could happen any more, or the limit was reached
   pub begins : Begins text records layout start
-  pub settles : Settles layout (works_of meaning_of layout) limit start now ran.settled
-  pub posted : IsPosted records (run_with meaning_of layout now)
+  pub has_run : HasRun records workers limit layout start now
+  pub has_ended : HasEnded workers limit layout start now ran.settled
   -- what was written is the report of the run
   pub written : Written (report (run_with meaning_of layout now) ran.settled)
-  -- every law of links and blocks holds of the run, and where it is told as quiet nothing was left to do
-  pub lawful : Lawful (run_with meaning_of layout now)
-  pub quiet : ran.settled ≡ Quiet → IsQuiet (run_with meaning_of layout now)
   -- it is told as complete exactly where it is
   pub complete : ran.complete ≡ is_complete (run_with meaning_of layout now)
 
@@ -71,26 +84,28 @@ IsUnbegun text records Ids = ⊥
 IsUnbegun text records Memory = Unit {0}
 
 -- the network went on to where a message is offered next whose id would be too great
-pub record UsesUpIds (text : List ℕ) (records : Option (List ℕ)) (limit : ℕ) : Type 0 where
+pub record UsesUpIds (text : List ℕ) (records : Option (List ℕ)) (workers limit : ℕ) : Type 0 where
   pub layout : Layout Steps
   pub start : NetState
   pub now : NetState
   pub begins : Begins text records layout start
-  pub goes_on : GoesOn layout (works_of meaning_of layout) limit start now
+  pub has_run : HasRun records workers limit layout start now
   pub used_up : NeedsId layout (works_of meaning_of layout) now
 
 -- the network settled, and then the writer failed
-pub record HasUnwrittenReport (text : List ℕ) (records : Option (List ℕ)) (limit : ℕ) (fault : TextFault) : Type 0 where
+pub record HasUnwrittenReport (text : List ℕ) (records : Option (List ℕ)) (workers limit : ℕ) (fault : TextFault) : Type 0 where
   pub is_write : fault ≡ Write
   pub layout : Layout Steps
   pub start : NetState
   pub now : NetState
   pub settled : Settled
   pub begins : Begins text records layout start
-  pub settles : Settles layout (works_of meaning_of layout) limit start now settled
+  pub has_run : HasRun records workers limit layout start now
+  pub has_ended : HasEnded workers limit layout start now settled
 
 -- why there was no run, or no report of it; of when memory is out nothing is said
-abbrev pub IsUnreported : List ℕ → Option (List ℕ) → ℕ → RunRefusal → Type 0
-IsUnreported text records limit (Text fault) = IsUnbegun text records (Text fault) ⊎ HasUnwrittenReport text records limit fault
-IsUnreported text records limit Ids = UsesUpIds text records limit
-IsUnreported text records limit Memory = Unit {0}
+abbrev pub IsUnreported : List ℕ → Option (List ℕ) → ℕ → ℕ → RunRefusal → Type 0
+IsUnreported text records workers limit (Text fault) =
+    IsUnbegun text records (Text fault) ⊎ HasUnwrittenReport text records workers limit fault
+IsUnreported text records workers limit Ids = UsesUpIds text records workers limit
+IsUnreported text records workers limit Memory = Unit {0}

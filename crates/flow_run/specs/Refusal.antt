@@ -1,7 +1,7 @@
 -- The line that tells of a refusal: its number, its name and its place.
 use Rattle.std.specs.Prelude.{◌≡◌, List, ℕ, [], ◌∷◌, ◌++◌, codes}
-use Rattle.flow_net.specs.declared.fault.NetFault.{NetFault}
-use Rattle.flow_net.specs.declared.fault.NetFault.TheVariants as net
+use Rattle.flow_crew.specs.declared.run.RunFault.{RunFault}
+use Rattle.flow_crew.specs.declared.run.RunFault.TheVariants as run
 use Rattle.flow_fault_text.specs.FaultText.{fault_text}
 use Rattle.flow_fault_text.specs.declared.fault.TextRefusal.{TextRefusal}
 use Rattle.flow_fault_text.specs.declared.fault.TextRefusal.TheVariants as refused
@@ -18,11 +18,11 @@ refusal_text Memory = codes "memory"
 abbrev pub refusal_line : RunRefusal → List ℕ
 refusal_line refusal = codes "flow_run: " ++ refusal_text refusal ++ 10 ∷ []
 
--- there is no run where a network can't go on; that an event may not happen is no reason for that
-abbrev pub IsToldAs : NetFault → RunRefusal → Type 0
-IsToldAs net.NotEnabled refusal = ⊥
-IsToldAs net.Ids refusal = refusal ≡ Ids
-IsToldAs net.Memory refusal = refusal ≡ Memory
+-- there is no run where a network can't go on
+abbrev pub told_as : {W : Type 0} {w : _} {e : _} → RunFault W w e → RunRefusal
+told_as (run.Ids net) = Ids
+told_as (run.Net net) = Memory
+told_as (run.Parts parts) = Memory
 
 -- nor where a text is refused
 abbrev pub refusal_of : TextRefusal → RunRefusal

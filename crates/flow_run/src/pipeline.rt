@@ -1,13 +1,15 @@
 //! Runs a network text over records, from the first byte to the report.
-ghost use Rattle.std.specs.Prelude.{◌≡◌, ◌≢◌, ◌≤◌, IfOk, IfErr};
+ghost use Rattle.std.specs.Prelude.{◌≡◌, ◌≤◌, IfOk, IfErr};
 ghost use Rattle.std.specs.Io.KnownBytes.{Appends};
 ghost use Rattle.flow_net.specs.Net.{layout_in, parts_of};
 ghost use Rattle.flow_run.specs.Left.{IsLeft};
 ghost use Rattle.flow_run.specs.Ran.{Begins, IsReported, IsUnbegun, IsUnreported};
-ghost use Rattle.flow_run.specs.Refusal.{IsToldAs};
+ghost use Rattle.flow_run.specs.Refusal.{told_as};
 
 use crate::outcome::{Ran, RunRefusal};
-use flow_net::{Net, NetFault};
+use flow_crew::RunFault;
+use flow_net::Net;
+use flow_pace::run_paced;
 use flow_text::{is_complete, read_plan, read_records, write_report};
 use flow_value::Steps;
 use std::alloc::Global;
@@ -17,9 +19,9 @@ use std::thread::Threads;
 
 /// Reads a network, runs it over the records until it is quiet or `limit` events are done, and writes its report.
 ///
-/// The writer should gather what is written, since the report comes in many small pieces. The thread that calls it
-/// drives the network; with more workers than one, as many threads less one work beside it for blocks with several
-/// lanes, and end with the call.
+/// The writer should gather what is written, since the report comes in many small pieces. One worker does the events one
+/// after another. With several, they do so by turns: which lawful run it is that they come to is open. While events are
+/// short, the thread that calls it does them all. The others end with the call.
 pub fn run<C: Threads + Wait + Sync, R: Read + Drop, W: Write>(
     rt: &C,
     alloc: Global,
@@ -30,15 +32,15 @@ pub fn run<C: Threads + Wait + Sync, R: Read + Drop, W: Write>(
     limit: u64,
 ) -> Result<Ran, RunRefusal>
     requires { (1 ≤ workers) × (workers ≤ 64) }
-    ensures reported { IfOk result (IsReported text.now (R.remaining reader) limit
+    ensures reported { IfOk result (IsReported text.now (R.remaining reader) workers limit
         (Appends (W.contents writer.old) (W.contents writer.new))) }
-    ensures refused { IfErr result (IsUnreported text.now (R.remaining reader) limit) }
+    ensures refused { IfErr result (IsUnreported text.now (R.remaining reader) workers limit) }
     ensures left { IfErr result (λ refusal. IsLeft refusal (W.contents writer.old) (W.contents writer.new)) }
 {
-    let mut net = begin(alloc, text, reader)?;
-    let settled = match net.settle_with(rt, alloc, workers as usize, limit) {
-        Ok(settled) => settled,
-        Err(fault) => return Err(refusal_of_net(fault)),
+    let net = begin(alloc, text, reader)?;
+    let (net, settled) = match run_paced(rt, alloc, net, workers as usize, limit) {
+        Ok(ran) => ran,
+        Err(fault) => return Err(refusal_of_run(&fault)),
     };
     write_report(alloc, &net, settled, writer)?;
     let complete = is_complete(&net);
@@ -58,14 +60,12 @@ fn begin<R: Read + Drop>(alloc: Global, text: &[u8], reader: R) -> Result<Net<St
     }
 }
 
-/// Why a network did not settle; `settle_with`, whose fault this is, asks for no event that may not happen.
-fn refusal_of_net(fault: NetFault) -> RunRefusal
-    requires { fault ≢ NetFault.NotEnabled }
-    ensures { IsToldAs fault result }
+/// Why a network was not run to its end.
+fn refusal_of_run(fault: &RunFault<Steps>) -> RunRefusal
+    ensures { result ≡ told_as fault.now }
 {
     match fault {
-        NetFault::NotEnabled => unreachable!(),
-        NetFault::Ids => RunRefusal::Ids,
-        NetFault::Memory => RunRefusal::Memory,
+        RunFault::Ids(_) => RunRefusal::Ids,
+        RunFault::Net(_) | RunFault::Parts(_) => RunRefusal::Memory,
     }
 }
