@@ -21,7 +21,7 @@ spot_row : IsSync spot.the_row
 spot_row = search (sendable, crosses) depth 12
 
 agenda_row : IsSync agenda.the_row
-agenda_row = declared_sync agenda.the_type (search (spot_row, sendable, crosses) depth 9, (search (spot_row, sendable, crosses) depth 9, (search (sendable, crosses) depth 9, (search (sendable, crosses) depth 9, tt))))
+agenda_row = declared_sync agenda.the_type (search (spot_row, sendable, crosses) depth 9, (search (spot_row, sendable, crosses) depth 9, (search (sendable, crosses) depth 9, (search (sendable, crosses) depth 9, (search (sendable, crosses) depth 9, tt)))))
 
 pub parts_row : (W : RattleType) → IsSync (plan.the_row W) → IsSync node.the_row → IsSync input.the_row → IsSync exit_end.the_row
     → IsSync line.the_row → IsSync route.the_row → IsSync (parts.the_row W)

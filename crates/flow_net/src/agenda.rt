@@ -23,16 +23,24 @@ pub(crate) struct Agenda {
     spots: Vec<Spot>,
     has_link: Vec<bool>,
     has_block: Vec<bool>,
+    /// Whether no report shows in which order the blocks took their turns.
+    hides_turns: bool,
 }
 
 impl Agenda {
     /// An agenda with all of so many links and blocks.
-    pub(crate) fn new(alloc: Global, links: LinkId, blocks: usize) -> Result<Agenda, AllocError> {
+    pub(crate) fn new(
+        alloc: Global,
+        links: LinkId,
+        blocks: usize,
+        hides_turns: bool,
+    ) -> Result<Agenda, AllocError> {
         let mut agenda = Agenda {
             next: None,
             spots: Vec::new(alloc),
             has_link: Vec::new(alloc),
             has_block: Vec::new(alloc),
+            hides_turns,
         };
         for _ in 0..links {
             agenda.has_link.push(false)?;
@@ -43,6 +51,12 @@ impl Agenda {
         agenda.spots.reserve(blocks.saturating_add(links as usize))?;
         agenda.list_all(links, blocks);
         Ok(agenda)
+    }
+
+    /// Whether no report shows in which order the blocks took their turns, but where one faults or the limit ends a run. It is a hint.
+    #[inline(always)]
+    pub(crate) fn hides_turns(&self) -> bool {
+        self.hides_turns
     }
 
     /// Lists all of so many links and blocks.

@@ -15,6 +15,7 @@ mod job;
 mod laws;
 mod make;
 mod net;
+mod order;
 mod parts;
 mod pass;
 mod serve;

@@ -14,6 +14,7 @@ ghost use Rattle.flow_link.specs.Posted.{input_of, ends_by_number};
 use crate::agenda::Agenda;
 use crate::engine::Engine;
 use crate::net::Net;
+use crate::order::hides_turns;
 use flow_block::{Node, Route, routes_of};
 use flow_exit::ExitEnd;
 use flow_input::Input;
@@ -87,7 +88,8 @@ fn fresh_frame<W>(alloc: Global, plan: &Plan<W>, inputs: usize) -> Result<Frame,
     let exits = exits_of(alloc, plan)?;
     let lines = lines_of(alloc, plan.link_count() as usize)?;
     let routes = routes_of(alloc, plan)?;
-    let agenda = Agenda::new(alloc, plan.link_count(), plan.block_count())?;
+    let hides_turns = hides_turns(alloc, plan)?;
+    let agenda = Agenda::new(alloc, plan.link_count(), plan.block_count(), hides_turns)?;
     Ok(Frame {
         nodes,
         inputs,

@@ -1,5 +1,5 @@
 //! Runs of messages: over one link, each in one call, and through one block.
-ghost use Rattle.std.specs.Prelude.{◌≡◌, ◌≢◌, ◌<◌, ◌≤◌, true, false, [], length, IsTrue, IfOk, IfErr, OnErr, Err};
+ghost use Rattle.std.specs.Prelude.{◌≡◌, ◌≢◌, ◌<◌, ◌≤◌, true, false, [], length, IsTrue, IfOk, IfErr, IfSome, OnErr, Err};
 ghost use Rattle.flow_link.specs.declared.phase.Move.TheVariants.{Offer};
 ghost use Rattle.flow_link.specs.Planned.{layout_of};
 ghost use Rattle.flow_block.specs.Routes.{route_of};
@@ -25,7 +25,7 @@ const PASS: u64 = 5;
 const WORK: u64 = 2;
 
 /// The most messages of a run over a link. A run through a block ends after as many events as it takes to work on so many
-/// messages.
+/// messages, and to hand a copy of each on over all its links.
 const RUN: u64 = 64;
 
 impl<W: Runs> Engine<W> {
@@ -67,9 +67,47 @@ impl<W: Runs> Engine<W> {
             self.agenda.list(Spot::Block(number));
             return Ok(0);
         }
-        let more = self.work_more(alloc, number, (most - first).min(RUN * WORK));
-        self.agenda.list_after_make(&self.parts, number);
-        Ok(first + more)
+        Ok(first + self.work_run(alloc, number, most - first))
+    }
+
+    /// Has a block that has worked on a message go on, as far as a run goes, and lists where something may be able to happen
+    /// after it. Answers how many events that took, of at most so many.
+    fn work_run(&mut self, alloc: Global, number: usize, most: u64) -> u64
+        requires kept { InOrder W.meaning self.old }
+        requires known { number < length (layout_of self.old.plan).blocks }
+        ensures same_plan { self.new.plan ≡ self.old.plan }
+        ensures happened { HasDone W.meaning result self.old self.new }
+        ensures within { result ≤ most }
+    {
+        let copies = self.copy_count(number);
+        let more = self.work_rest(alloc, number, copies, most);
+        self.list_worked(number, copies);
+        more
+    }
+
+    /// Over how many links a block copies in runs: over none where a report may show in which order blocks took their turns.
+    fn copy_count(&self, number: usize) -> usize {
+        if !self.agenda.hides_turns() {
+            return 0;
+        }
+        match self.parts.find_node(number) {
+            Some(node) => node.block().copies().ends().len(),
+            None => 0,
+        }
+    }
+
+    /// The link at a place among those over which a block copies, if there is one.
+    fn copy_link(&self, number: usize, place: usize) -> Option<LinkId>
+        ensures { IfSome result (λ id. id < length (layout_of self.now.plan).links) }
+    {
+        let node = self.parts.find_node(number)?;
+        let end = node.block().copies().ends().get(place)?;
+        let id = end.link.rule.id;
+        if id < self.plan.link_count() {
+            Some(id)
+        } else {
+            None
+        }
     }
 
     /// Has a block work on the message that waits longest. Answers how many events that took, of at most so many; none where
@@ -98,6 +136,23 @@ impl<W: Runs> Engine<W> {
         Ok(0)
     }
 
+    /// Has a block that copies over so many links go on working, as far as a run goes. Answers how many events that took, of at
+    /// most so many.
+    #[inline(always)]
+    fn work_rest(&mut self, alloc: Global, number: usize, copies: usize, most: u64) -> u64
+        requires kept { InOrder W.meaning self.old }
+        requires known { number < length (layout_of self.old.plan).blocks }
+        ensures same_plan { self.new.plan ≡ self.old.plan }
+        ensures happened { HasDone W.meaning result self.old self.new }
+        ensures within { result ≤ most }
+    {
+        if copies == 0 {
+            self.work_more(alloc, number, most.min(RUN * WORK))
+        } else {
+            self.copy_more(alloc, number, copies, most.min(run_of(copies)))
+        }
+    }
+
     /// Has a block go on working, message after message, until there is none that it may work on, or memory or ids are
     /// wanting. Answers how many events that took, of at most so many.
     fn work_more(&mut self, alloc: Global, number: usize, limit: u64) -> u64
@@ -115,6 +170,89 @@ impl<W: Runs> Engine<W> {
             }
         }
         limit - rest
+    }
+
+    /// Has a block that copies over so many links go on working, message after message, until there is none that it may work
+    /// on, or memory or ids are wanting. Answers how many events that took, of at most so many.
+    fn copy_more(&mut self, alloc: Global, number: usize, copies: usize, limit: u64) -> u64
+        requires kept { InOrder W.meaning self.old }
+        requires known { number < length (layout_of self.old.plan).blocks }
+        ensures same_plan { self.new.plan ≡ self.old.plan }
+        ensures happened { HasDone W.meaning result self.old self.new }
+        ensures within { result ≤ limit }
+    {
+        let mut rest = limit;
+        while rest > 0 {
+            match self.work_round(alloc, number, copies, rest) {
+                0 => break,
+                count => rest -= count,
+            }
+        }
+        limit - rest
+    }
+
+    /// Has what a block copies go over so many links, and the block work on its next message. Answers how many events that
+    /// took, of at most so many; none where there is nothing that it may do, or memory or ids are wanting.
+    #[inline(always)]
+    fn work_round(&mut self, alloc: Global, number: usize, copies: usize, most: u64) -> u64
+        requires kept { InOrder W.meaning self.old }
+        requires known { number < length (layout_of self.old.plan).blocks }
+        requires some { 0 < most }
+        ensures same_plan { self.new.plan ≡ self.old.plan }
+        ensures happened { HasDone W.meaning result self.old self.new }
+        ensures within { result ≤ most }
+    {
+        let given = self.hand_out(alloc, number, copies, most);
+        if given == most {
+            return given;
+        }
+        match self.work_once(alloc, number, most - given) {
+            Ok(count) => given + count,
+            Err(_) => given,
+        }
+    }
+
+    /// Has what a block copies go over each of so many links over which it may. Answers how many events that took, of at most
+    /// so many.
+    #[inline(always)]
+    fn hand_out(&mut self, alloc: Global, number: usize, copies: usize, limit: u64) -> u64
+        requires kept { InOrder W.meaning self.old }
+        ensures same_plan { self.new.plan ≡ self.old.plan }
+        ensures happened { HasDone W.meaning result self.old self.new }
+        ensures within { result ≤ limit }
+    {
+        let mut rest = limit;
+        for place in 0..copies {
+            rest -= self.copy_one(alloc, number, place, rest);
+        }
+        limit - rest
+    }
+
+    /// Has what a block copies go over the link at a place, if it may. Answers how many events that took, of at most so many.
+    #[inline(always)]
+    fn copy_one(&mut self, alloc: Global, number: usize, place: usize, most: u64) -> u64
+        requires kept { InOrder W.meaning self.old }
+        ensures same_plan { self.new.plan ≡ self.old.plan }
+        ensures happened { HasDone W.meaning result self.old self.new }
+        ensures within { result ≤ most }
+    {
+        match self.copy_link(number, place) {
+            Some(id) => self.pass_more(alloc, id, most.min(PASS)),
+            None => 0,
+        }
+    }
+
+    /// Lists where something may be able to happen after a block has worked, and what it copies went over so many links.
+    fn list_worked(&mut self, number: usize, copies: usize)
+        ensures same_plan { self.new.plan ≡ self.old.plan }
+        ensures same_parts { self.new.parts ≡ self.old.parts }
+    {
+        self.agenda.list_after_make(&self.parts, number);
+        for place in 0..copies {
+            if let Some(id) = self.copy_link(number, place) {
+                self.list_passed(id);
+            }
+        }
     }
 
     /// Has a block that works on nothing work on the message that waits longest: two events. Nothing has happened where a
@@ -155,8 +293,8 @@ impl<W: Runs> Engine<W> {
         }
     }
 
-    /// Does an event that is due, and with an offer that its target takes at once the four that follow. Answers how many
-    /// events those are, of at most so many.
+    /// Does an event that is due: with an offer that its target takes at once the four that follow, and a run of messages
+    /// where that begins one. Answers how many events those are, of at most so many.
     pub(crate) fn advance(&mut self, alloc: Global, event: &Due, most: u64) -> Result<u64, NetFault>
         requires kept { InOrder W.meaning self.old }
         requires due { IsDueIn W.meaning self.old (event_of event.now) }
@@ -172,6 +310,12 @@ impl<W: Runs> Engine<W> {
         if let Due::Link(id, Move::Offer(_)) = *event {
             if most >= PASS && self.may_pass(id) {
                 return self.pass(alloc, id, most);
+            }
+        }
+        if let Due::Make(number) = *event {
+            if self.copy_count(number) > 0 {
+                self.make(alloc, number)?;
+                return Ok(1 + self.work_run(alloc, number, most - 1));
             }
         }
         if let Due::Begin(number) = *event {
@@ -329,4 +473,9 @@ impl<W: Runs> Engine<W> {
             agenda.list_after_pass(parts, route, id);
         }
     }
+}
+
+/// How many events a run through a block may have that copies over so many links.
+fn run_of(copies: usize) -> u64 {
+    RUN.saturating_mul(PASS.saturating_mul(copies as u64).saturating_add(WORK))
 }

@@ -1,9 +1,14 @@
-use Rattle.std.proofs.Common.{rules, ◌≡◌}
+use Rattle.std.proofs.Common.{rules, ◌≡◌, arith, refl}
 use Rattle.flow_link.specs.declared.phase.Move.TheVariants.{Offer}
 use Rattle.flow_link.specs.Planned.{layout_of}
+use Rattle.flow_core.specs.Events.{NetEvent}
 use Rattle.flow_exec.specs.Works.{works_of}
+use Rattle.flow_net.specs.Happened.{Happened}
 use Rattle.flow_net.specs.declared.due.Due.TheVariants.{Link}
+use Rattle.flow_net.proofs.EventsCount.{one_more_event}
+use Rattle.flow_net.proofs.KeptOn.{kept_by_plan}
 use Rattle.flow_net.proofs.PassesCount.{found_due}
+use Rattle.flow_net.proofs.RunsGoOn.{happened_by_plan}
 use Rattle.flow_net.proofs.engine.Engine.advance.Goals as goal
 
 pub pass-requires-clause-due : goal.pass-requires-clause-due
@@ -13,3 +18,24 @@ pass-requires-clause-due g c =
     let found = c.in-Link-default-Offer in
     let is : c.args.event.now ≡ Link found.id (Offer found.field-1-0) = search rules in
     found_due layout net.parts found.id (works_of g.W.Runs.meaning layout) c.args.event.now found.field-1-0 is c.requires.due
+
+pub work_run-requires-clause-kept : goal.work_run-requires-clause-kept
+work_run-requires-clause-kept g c =
+    let start = c.args.self.now in
+    let layout = layout_of start.plan in
+    let mid = c.make.new.self in
+    let one : Happened layout (works_of g.W.Runs.meaning layout) 1 start.parts mid.parts =
+    one_more_event layout (works_of g.W.Runs.meaning layout) 0 start.parts start.parts mid.parts (NetEvent.make c.in-Make.number) refl
+    c.in_ok-make.ensures.may c.in_ok-make.ensures.done in
+    kept_by_plan g.W.Runs.meaning start.plan mid.plan 1 start.parts mid.parts c.make.ensures.same_plan one c.requires.kept
+
+pub returns-then-copy_count-gt0-clause-happened : goal.returns-then-copy_count-gt0-clause-happened
+returns-then-copy_count-gt0-clause-happened g c =
+    let start = c.args.self.now in
+    let layout = layout_of start.plan in
+    let mid = c.make.new.self in
+    let one : Happened layout (works_of g.W.Runs.meaning layout) 1 start.parts mid.parts =
+    one_more_event layout (works_of g.W.Runs.meaning layout) 0 start.parts start.parts mid.parts (NetEvent.make c.in-Make.number) refl
+    c.in_ok-make.ensures.may c.in_ok-make.ensures.done in
+    happened_by_plan g.W.Runs.meaning start.plan mid.plan c.make.ensures.same_plan 1 1 start.parts mid.parts
+    c.work_run.new.self.parts (omega arith) one c.work_run.result c.work_run.ensures.happened
