@@ -48,7 +48,7 @@ fn lanes_keep_order(rt: HostRuntime) -> Result<(), Fail> {
 }
 
 /// Whether a chain whose transform has four lanes comes to what it should, where this many workers do so many events of
-/// it, and the caller alone does the rest.
+/// it, other ones do as many again, and the caller alone does the rest.
 fn settles_with(
     rt: &(impl Threads + Wait + Sync),
     alloc: Global,
@@ -57,12 +57,14 @@ fn settles_with(
 ) -> Result<bool, Fail> {
     let words = "'1 '2 '3 '4 '5 '6 '7 '8";
     let mut net = network(alloc, FOUR_LANES, words, Ending::Complete)?;
+    let has_begun = net.settle_with(rt, alloc, workers, limit).is_ok();
     let settled = net.settle_with(rt, alloc, workers, limit);
     let is_stopped = settled == Ok(Settled::Stopped) && !net.is_quiet();
     let is_quiet = settled == Ok(Settled::Quiet) && net.is_quiet();
     let end = "block in done ; block t done ; block out done ; record [2,3,4,5,6,7,8,9]";
     Ok(
-        (is_quiet || is_stopped && settles(alloc, &mut net))
+        has_begun
+            && (is_quiet || is_stopped && settles(alloc, &mut net))
             && came_to(alloc, &net, &[end])?.is_some(),
     )
 }

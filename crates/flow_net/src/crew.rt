@@ -140,6 +140,11 @@ impl<W: Work> Desk<W> {
         !self.is_closed && !self.has_crew && self.out >= JOBS_FOR_CREW
     }
 
+    /// Whether no job is out.
+    pub(crate) fn is_idle(&self) -> bool {
+        self.out == 0
+    }
+
     /// Threads run jobs beside the driver from now on.
     pub(crate) fn call_crew(&mut self) {
         self.has_crew = true;

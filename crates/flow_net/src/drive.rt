@@ -179,7 +179,8 @@ impl<W: Work> Engine<W> {
         }
     }
 
-    /// Has a block with several lanes begin one more job, or does what else it would do next; but no job ends here.
+    /// Has a block with several lanes begin one more job, or does what else it would do next. No job of the crew ends here. One that is
+    /// out while the crew has none, since an earlier call was stopped then, is done at once: it keeps a lane busy.
     fn work_in_lanes<R: Wait>(
         &mut self,
         rt: &R,
@@ -197,6 +198,11 @@ impl<W: Work> Engine<W> {
     {
         if number >= self.plan.block_count() {
             return Ok(0);
+        }
+        if desk.is_idle() {
+            if let Some(event) = self.job_to_end(number) {
+                return self.advance(alloc, &event, most);
+            }
         }
         if self.may_begin(number) {
             return self.begin_in_lane(rt, alloc, desk, number);

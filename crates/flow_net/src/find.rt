@@ -205,6 +205,16 @@ impl<W: Runs> Engine<W> {
         }
     }
 
+    /// The result that would come back to a block next: that of the oldest job that is out.
+    pub(crate) fn job_to_end(&self, number: usize) -> Option<Due>
+        requires known { number < length (layout_of self.now.plan).blocks }
+        requires kept { InOrder W.meaning self.now }
+        ensures due { IfSome result (λ event. IsDueIn W.meaning self.now (event_of event)) }
+    {
+        let ticket = self.parts.node(number).block().next_end()?;
+        Some(Due::End(number, ticket))
+    }
+
     /// What a block would do next, but for its messages: it ends, or something happens at the links beside it.
     pub(crate) fn event_but_work(&self, number: usize) -> Result<Option<Due>, NetFault>
         requires known { number < length (layout_of self.now.plan).blocks }
