@@ -8,7 +8,7 @@ use Rattle.flow_link.specs.Layout.{Layout}
 use Rattle.flow_link.specs.Planned.{layout_of}
 use Rattle.flow_block.specs.Routes.{route_of}
 use Rattle.flow_core.specs.InOrder.{NetInOrder, all_looked, looked_at}
-use Rattle.flow_core.specs.Keeps.{IsRun, NetKeeps}
+use Rattle.flow_core.specs.Keeps.{NetKeeps}
 use Rattle.flow_core.specs.State.{NetState}
 use Rattle.flow_core.proofs.AllLook.{all_looks_keep, some_looks_keep}
 use Rattle.flow_exec.specs.Works.{works_of}

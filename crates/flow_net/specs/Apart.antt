@@ -1,5 +1,4 @@
 -- What a contract sees of a network that is taken apart.
-use Rattle.std.specs.Prelude.{ℕ}
 use Rattle.flow_link.specs.Layout.{Layout}
 use Rattle.flow_link.specs.Planned.{layout_of}
 use Rattle.flow_core.specs.State.{NetState}

@@ -1,14 +1,11 @@
-use Rattle.std.proofs.Common.{rules, ◌≡◌, ◌<◌, ℕ, length, ap, sym, subst, ◌∙◌}
-use Rattle.flow_link.specs.declared.plan.LinkSource.{LinkSource}
-use Rattle.flow_link.specs.Plan.{link_in}
+use Rattle.std.proofs.Common.{rules, sym, subst, ◌∙◌}
 use Rattle.flow_link.specs.Planned.{layout_of}
 use Rattle.flow_block.specs.declared.planned.Route.{Route}
-use Rattle.flow_block.specs.Planned.{block_makes}
-use Rattle.flow_moves.specs.Ready.{IsThere, SourceIsThere}
+use Rattle.flow_moves.specs.Ready.{IsThere}
 use Rattle.flow_exec.specs.Works.{works_of}
 use Rattle.flow_moves.proofs.MerelyKept.{links_there}
 use Rattle.flow_moves.proofs.PlansRun.{plan_runs}
-use Rattle.flow_net.proofs.EntriesGoOn.{from_so, id_at, all_at, posted_so, source_at}
+use Rattle.flow_net.proofs.EntriesGoOn.{id_at, all_at, posted_so, source_at}
 use Rattle.flow_net.proofs.FindersTell.{route_there, route_at}
 use Rattle.flow_net.proofs.engine.Engine.post.Goals as goal
 

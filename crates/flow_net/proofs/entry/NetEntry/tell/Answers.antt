@@ -1,8 +1,8 @@
-use Rattle.flow_poll.specs.Sends.{SendView, Tells}
+use Rattle.flow_poll.specs.Sends.{Tells}
 use Rattle.flow_poll.specs.declared.send.Sent.{Sent}
 use Rattle.std.proofs.Common.{ap, sym, subst, ◌≡◌, ◌∙◌}
 use Rattle.flow_input.specs.Input.{InputState}
-use Rattle.flow_input.specs.Sends.{after_told, sends_of, told_next}
+use Rattle.flow_input.specs.Sends.{sends_of, told_next}
 use Rattle.flow_input.proofs.OneProof.{told_merely}
 use Rattle.flow_link.specs.Planned.{layout_of}
 use Rattle.flow_core.specs.State.{input_at}

@@ -1,6 +1,5 @@
-use Rattle.std.proofs.Common.{rules, ap, sym, subst, ◌≡◌, ◌∙◌}
+use Rattle.std.proofs.Common.{rules}
 use Rattle.flow_link.specs.Planned.{layout_of}
-use Rattle.flow_block.specs.Planned.{input_place}
 use Rattle.flow_net.proofs.EntriesGoOn.{entry_there, found_at, found_in, never_entry, shut_in}
 use Rattle.flow_net.proofs.net.Net.entry.Goals as goal
 
