@@ -1,5 +1,5 @@
 //! Which options each kind of block has, and their ranges, as they are told.
-use flow_link::BlockKind;
+use flow_link::{BlockKind, OptionRule};
 
 /// The options of a block, by their keys.
 pub(crate) const OPTIONS: &[&str] = &[
@@ -8,28 +8,31 @@ pub(crate) const OPTIONS: &[&str] = &[
 
 /// Whether a block of this kind may have this option.
 pub(crate) fn allows(kind: BlockKind, option: &str) -> bool {
-    options_of(kind).contains(&option)
+    rule_of(kind, option).allows(true)
 }
 
-fn options_of(kind: BlockKind) -> &'static [&'static str] {
-    match kind {
-        BlockKind::Buffer | BlockKind::Broadcast => &["input", "capacity"],
-        BlockKind::WriteOnce => &["input"],
-        BlockKind::Action | BlockKind::Transform | BlockKind::TransformMany => {
-            &["input", "capacity", "lanes", "work"]
-        }
-        BlockKind::Batch => &["input", "capacity", "size"],
-        BlockKind::Join => &["capacity", "ports", "greedy"],
-        BlockKind::BatchedJoin => &["ports", "size"],
-    }
-}
-
-/// The option that each block of this kind needs, if there is one.
+/// The first option that each block of this kind needs, if there is one.
 pub(crate) fn needed(kind: BlockKind) -> Option<&'static str> {
-    match kind {
-        BlockKind::Action | BlockKind::Transform | BlockKind::TransformMany => Some("work"),
-        BlockKind::Batch | BlockKind::BatchedJoin => Some("size"),
-        BlockKind::Buffer | BlockKind::Broadcast | BlockKind::WriteOnce | BlockKind::Join => None,
+    for option in OPTIONS {
+        if !rule_of(kind, option).allows(false) {
+            return Some(*option);
+        }
+    }
+    None
+}
+
+/// The rule that blocks of this kind have for an option.
+fn rule_of(kind: BlockKind, option: &str) -> OptionRule {
+    let rules = kind.options();
+    match option {
+        "input" => rules.input,
+        "capacity" => rules.capacity,
+        "work" => rules.work,
+        "lanes" => rules.lanes,
+        "size" => rules.size,
+        "ports" => rules.ports,
+        "greedy" => rules.greedy,
+        _ => OptionRule::Forbidden,
     }
 }
 
@@ -46,16 +49,7 @@ pub(crate) fn range_of(option: &str) -> Option<(u32, u32)> {
 
 /// How many ports a block of this kind has, where it says this of its ports.
 pub(crate) fn port_count(kind: BlockKind, ports: Option<u32>) -> u32 {
-    match kind {
-        BlockKind::Join | BlockKind::BatchedJoin => ports.unwrap_or(2),
-        BlockKind::Buffer
-        | BlockKind::Broadcast
-        | BlockKind::WriteOnce
-        | BlockKind::Action
-        | BlockKind::Transform
-        | BlockKind::TransformMany
-        | BlockKind::Batch => 1,
-    }
+    kind.unit().port_count(ports)
 }
 
 /// Whether a text is a name of a block.

@@ -1,6 +1,6 @@
 //! Whether the messages at the ports of a join belong together by their places.
 use crate::ways::{Way, Ways};
-use flow_link::BlockKind;
+use flow_link::{BlockKind, BlockUnit};
 use flow_value::When;
 use std::alloc::{AllocError, Global};
 
@@ -84,13 +84,9 @@ fn block_before(ways: &Ways<'_>, number: usize) -> Option<usize> {
 }
 
 fn gives_one_for_one(kind: BlockKind) -> bool {
-    match kind {
-        BlockKind::Buffer | BlockKind::Broadcast | BlockKind::Transform => true,
-        BlockKind::WriteOnce
-        | BlockKind::Action
-        | BlockKind::TransformMany
-        | BlockKind::Batch
-        | BlockKind::Join
-        | BlockKind::BatchedJoin => false,
+    match kind.unit() {
+        BlockUnit::Message => !kind.gives_nothing() && kind != BlockKind::TransformMany,
+        BlockUnit::Copy => true,
+        BlockUnit::Row | BlockUnit::Tuple | BlockUnit::Group | BlockUnit::OneCopy => false,
     }
 }

@@ -1,6 +1,6 @@
 //! Which sorts of values go through a network: numbers, texts, rows.
 use crate::ways::{Way, Ways};
-use flow_link::{BlockDef, BlockKind};
+use flow_link::{BlockDef, BlockUnit};
 use flow_value::{Step, Steps, When};
 use std::alloc::{AllocError, Global};
 
@@ -101,16 +101,16 @@ fn after_steps(steps: &[Step], sorts: Sorts) -> Sorts {
 
 // What a block may give where these sorts come into it.
 fn given(block: &BlockDef<Steps>, sorts: Sorts) -> Sorts {
-    match block.kind {
-        BlockKind::Buffer | BlockKind::Broadcast | BlockKind::WriteOnce => sorts,
-        BlockKind::Batch | BlockKind::Join | BlockKind::BatchedJoin => {
-            ROWS.where_true(!sorts.is_none())
-        }
-        BlockKind::Transform | BlockKind::TransformMany => match &block.work {
+    if block.kind.gives_nothing() {
+        return NONE;
+    }
+    match block.kind.unit() {
+        BlockUnit::Message => match &block.work {
             Some(steps) => after_steps(steps.as_slice(), sorts),
             None => sorts,
         },
-        BlockKind::Action => NONE,
+        BlockUnit::Row | BlockUnit::Tuple | BlockUnit::Group => ROWS.where_true(!sorts.is_none()),
+        BlockUnit::Copy | BlockUnit::OneCopy => sorts,
     }
 }
 

@@ -3,7 +3,7 @@ use crate::matching::belongs_together;
 use crate::near::quoted;
 use crate::sorts::{Flow, after_step, flow_of};
 use crate::ways::{Way, Ways, port_count, ways_of};
-use flow_link::{BlockDef, BlockKind, Plan};
+use flow_link::{BlockDef, BlockUnit, Plan};
 use flow_places::{Part, Places, Span, item_span, places_in};
 use flow_value::{Step, Steps, When};
 use std::alloc::{AllocError, Global};
@@ -105,7 +105,7 @@ impl<'a, 'p> Look<'a, 'p> {
         } else {
             self.add_open_ports(number, block, into.as_slice(), warnings)?;
         }
-        if out.is_empty() && block.kind != BlockKind::Action {
+        if out.is_empty() && !block.kind.gives_nothing() {
             self.add_nothing_out(number, warnings)?;
         }
         if !block.input {
@@ -144,7 +144,7 @@ impl<'a, 'p> Look<'a, 'p> {
         into: &[Way],
         warnings: &mut Vec<Warning>,
     ) -> Result<(), AllocError> {
-        let count = port_count(block.kind, block.ports);
+        let count = port_count(block);
         if count < 2 {
             return Ok(());
         }
@@ -169,22 +169,18 @@ impl<'a, 'p> Look<'a, 'p> {
         into: &[Way],
         warnings: &mut Vec<Warning>,
     ) -> Result<(), AllocError> {
-        match block.kind {
-            BlockKind::WriteOnce => Ok(()),
-            BlockKind::BatchedJoin => {
-                for port in 0..port_count(block.kind, block.ports) {
+        match block.kind.unit() {
+            BlockUnit::OneCopy => Ok(()),
+            BlockUnit::Group => {
+                for port in 0..port_count(block) {
                     let ways = self.to_port(into, port)?;
                     self.add_no_end_among(number, ways.as_slice(), warnings)?;
                 }
                 Ok(())
             }
-            BlockKind::Buffer
-            | BlockKind::Broadcast
-            | BlockKind::Action
-            | BlockKind::Transform
-            | BlockKind::TransformMany
-            | BlockKind::Batch
-            | BlockKind::Join => self.add_no_end_among(number, into, warnings),
+            BlockUnit::Message | BlockUnit::Row | BlockUnit::Tuple | BlockUnit::Copy => {
+                self.add_no_end_among(number, into, warnings)
+            }
         }
     }
 
@@ -259,10 +255,10 @@ impl<'a, 'p> Look<'a, 'p> {
         into: &[Way],
         warnings: &mut Vec<Warning>,
     ) -> Result<(), AllocError> {
-        if block.kind != BlockKind::Join || into.is_empty() {
+        if !block.kind.unit().makes_tuples() || into.is_empty() {
             return Ok(());
         }
-        let ports = port_count(block.kind, block.ports);
+        let ports = port_count(block);
         if belongs_together(self.alloc, self.ways, number, ports)? {
             return Ok(());
         }

@@ -1,5 +1,5 @@
 //! A plan as its blocks and the links between them.
-use flow_link::{BlockDef, BlockKind, LinkSource, LinkTarget, Plan};
+use flow_link::{BlockDef, LinkSource, LinkTarget, Plan};
 use flow_value::{Steps, When};
 use std::alloc::{AllocError, Global};
 
@@ -76,7 +76,7 @@ impl<'p> Ways<'p> {
     /// Whether the block gives a copy of each message to each of its links.
     pub(crate) fn copies(&self, block: usize) -> bool {
         match self.block(block) {
-            Some(block) => is_copier(block.kind),
+            Some(block) => !block.kind.unit().shares(),
             None => false,
         }
     }
@@ -86,7 +86,7 @@ impl<'p> Ways<'p> {
         match self.block(block) {
             Some(block) => {
                 block.capacity.is_none()
-                    && block.kind != BlockKind::WriteOnce
+                    && !block.kind.unit().copies_one()
                     && !block.kind.unit().reserves(block.greedy)
             }
             None => false,
@@ -94,29 +94,7 @@ impl<'p> Ways<'p> {
     }
 }
 
-fn is_copier(kind: BlockKind) -> bool {
-    match kind {
-        BlockKind::Broadcast | BlockKind::WriteOnce => true,
-        BlockKind::Buffer
-        | BlockKind::Action
-        | BlockKind::Transform
-        | BlockKind::TransformMany
-        | BlockKind::Batch
-        | BlockKind::Join
-        | BlockKind::BatchedJoin => false,
-    }
-}
-
-/// How many ports a block of this kind has, where it says this of its ports.
-pub(crate) fn port_count(kind: BlockKind, ports: Option<u32>) -> u32 {
-    match kind {
-        BlockKind::Join | BlockKind::BatchedJoin => ports.unwrap_or(2),
-        BlockKind::Buffer
-        | BlockKind::Broadcast
-        | BlockKind::WriteOnce
-        | BlockKind::Action
-        | BlockKind::Transform
-        | BlockKind::TransformMany
-        | BlockKind::Batch => 1,
-    }
+/// How many ports a block has.
+pub(crate) fn port_count(block: &BlockDef<Steps>) -> u32 {
+    block.kind.unit().port_count(block.ports)
 }

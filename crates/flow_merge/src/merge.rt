@@ -3,7 +3,7 @@ use crate::fault::MergeFault;
 use crate::lines::write_block;
 use crate::passed::check_passed;
 use crate::status::report_status;
-use flow_outline::{Kind, Outline, check_fit};
+use flow_outline::{Outline, check_fit};
 use flow_reading::Report;
 use std::io;
 use std::io::Write;
@@ -35,7 +35,7 @@ fn check_network<'n>(network: &Outline<'n>) -> Result<(), MergeFault<'n>> {
     if let Some(block) = network
         .blocks
         .iter()
-        .find(|block| !keeps_nothing(block.kind))
+        .find(|block| !block.kind.keeps_nothing())
     {
         return Err(MergeFault::Kind(block.name, block.kind));
     }
@@ -45,14 +45,6 @@ fn check_network<'n>(network: &Outline<'n>) -> Result<(), MergeFault<'n>> {
     match network.links.iter().position(|link| link.max.is_some()) {
         Some(number) => Err(MergeFault::Max(number)),
         None => Ok(()),
-    }
-}
-
-/// Whether a block of this kind that is done with some messages is as if they had not been.
-fn keeps_nothing(kind: Kind) -> bool {
-    match kind {
-        Kind::Buffer | Kind::Action | Kind::Transform | Kind::TransformMany | Kind::Join => true,
-        Kind::Broadcast | Kind::WriteOnce | Kind::Batch | Kind::BatchedJoin => false,
     }
 }
 

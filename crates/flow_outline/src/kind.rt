@@ -43,6 +43,30 @@ impl Kind {
             | Kind::BatchedJoin => false,
         }
     }
+
+    /// Whether such a block gives a copy of what it has to each of its links.
+    pub fn copies(self) -> bool {
+        match self {
+            Kind::Broadcast | Kind::WriteOnce => true,
+            Kind::Buffer
+            | Kind::Action
+            | Kind::Transform
+            | Kind::TransformMany
+            | Kind::Batch
+            | Kind::Join
+            | Kind::BatchedJoin => false,
+        }
+    }
+
+    /// Whether such a block that is done with some messages is as if they had not been.
+    pub fn keeps_nothing(self) -> bool {
+        match self {
+            Kind::Buffer | Kind::Action | Kind::Transform | Kind::TransformMany | Kind::Join => {
+                true
+            }
+            Kind::Broadcast | Kind::WriteOnce | Kind::Batch | Kind::BatchedJoin => false,
+        }
+    }
 }
 
 impl fmt::Display for Kind {

@@ -1,24 +1,27 @@
 -- Where lists of a run may have the same values: over a link that alone leads into a port, and in a block that hands its
 -- messages on.
-use Rattle.std.specs.Prelude.{◌≡◌, ℕ, ◌<◌, Bool, true, false, length}
+use Rattle.std.specs.Prelude.{◌≡◌, ℕ, ◌<◌, Bool, true, false, not, length}
 use Rattle.flow_link.specs.declared.draft.BlockKind.{BlockKind}
-use Rattle.flow_link.specs.declared.draft.BlockKind.TheVariants.{Buffer, Broadcast, WriteOnce, Action, Transform, TransformMany, Batch, Join, BatchedJoin}
+use Rattle.flow_link.specs.declared.kinds.BlockUnit.{BlockUnit}
+use Rattle.flow_link.specs.declared.kinds.BlockUnit.TheVariants as unit
+use Rattle.flow_link.specs.Kinds.{has_work, unit_of}
 use Rattle.flow_link.specs.declared.plan.LinkSource.TheVariants.{Block}
 use Rattle.flow_link.specs.declared.plan.LinkTarget.TheVariants.{Port}
 use Rattle.flow_link.specs.Plan.{ends_at_port}
 use Rattle.flow_link.specs.Trace.{Run, link_of, given_over, taken_over}
 
+-- what makes something of one message at a time hands it on unless it has a function, and so does what copies each
+abbrev pub hands_on_by : BlockUnit → Bool → Bool
+hands_on_by unit.Message works = not works
+hands_on_by unit.Row works = false
+hands_on_by unit.Tuple works = false
+hands_on_by unit.Group works = false
+hands_on_by unit.Copy works = true
+hands_on_by unit.OneCopy works = false
+
 -- a block of this kind hands its messages on as they are
 abbrev pub hands_on : BlockKind → Bool
-hands_on Buffer = true
-hands_on Broadcast = true
-hands_on WriteOnce = false
-hands_on Action = false
-hands_on Transform = false
-hands_on TransformMany = false
-hands_on Batch = false
-hands_on Join = false
-hands_on BatchedJoin = false
+hands_on kind = hands_on_by (unit_of kind) (has_work kind)
 
 module _ {W : Type 0} (run : Run W) where
   -- the link leads into the port, and no other does

@@ -10,7 +10,7 @@ ghost use Rattle.flow_report.specs.Report.{run_in};
 ghost use Rattle.flow_report.specs.SameLists.{AllTaken, LeadsAlone, hands_on};
 
 use crate::seen::{block_at, held_at, link_at, link_count};
-use flow_link::{BlockDef, BlockKind, Link, LinkId, LinkSource, LinkTarget, Mark};
+use flow_link::{BlockDef, BlockKind, BlockUnit, Link, LinkId, LinkSource, LinkTarget, Mark};
 use flow_net::Net;
 use flow_value::Steps;
 
@@ -109,15 +109,10 @@ fn gave_as_many(journal: &[Mark], link: LinkId) -> bool
 pub(crate) fn hands_on(kind: BlockKind) -> bool
     ensures { result ≡ hands_on kind }
 {
-    match kind {
-        BlockKind::Buffer | BlockKind::Broadcast => true,
-        BlockKind::WriteOnce
-        | BlockKind::Action
-        | BlockKind::Transform
-        | BlockKind::TransformMany
-        | BlockKind::Batch
-        | BlockKind::Join
-        | BlockKind::BatchedJoin => false,
+    match kind.unit() {
+        BlockUnit::Message => !kind.has_work(),
+        BlockUnit::Copy => true,
+        BlockUnit::Row | BlockUnit::Tuple | BlockUnit::Group | BlockUnit::OneCopy => false,
     }
 }
 

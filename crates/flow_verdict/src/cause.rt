@@ -166,18 +166,12 @@ fn write_unsent<W: Write>(writer: &mut W, scene: Scene, left: PrintedList) -> io
 
 /// Whether a link of a block that copies has carried what was left: its head is the last that crossed.
 fn has_copy(scene: Scene, id: usize, head: PrintedValue) -> bool {
-    match scene.block.kind {
-        Kind::Broadcast | Kind::WriteOnce => match given_over(scene.outline, scene.report, id) {
-            Some(given) => given.items().last() == Some(head),
-            None => false,
-        },
-        Kind::Buffer
-        | Kind::Action
-        | Kind::Transform
-        | Kind::TransformMany
-        | Kind::Batch
-        | Kind::Join
-        | Kind::BatchedJoin => false,
+    if !scene.block.kind.copies() {
+        return false;
+    }
+    match given_over(scene.outline, scene.report, id) {
+        Some(given) => given.items().last() == Some(head),
+        None => false,
     }
 }
 
