@@ -8,7 +8,10 @@ use Rattle.flow_link.specs.declared.kinds.BlockUnit.{BlockUnit}
 use Rattle.flow_link.specs.declared.kinds.BlockUnit.TheVariants as unit
 use Rattle.flow_link.specs.Kinds.{unit_of, makes_rows, makes_tuples, copies_each}
 use Rattle.flow_link.specs.Layout.{Layout}
-use Rattle.flow_link.specs.Plan.{block_in, ports_by_kind, is_broadcast, is_write_once}
+use Rattle.flow_link.specs.Copies.{copies_as}
+use Rattle.flow_link.specs.Plan.{block_in, ports_by_kind, is_broadcast, is_one_taker, is_write_once}
+use Rattle.flow_link.specs.Trace.{Run, left_at}
+use Rattle.flow_lawful.specs.Quiet.{first_of as first_left, head_as}
 use Rattle.flow_link.specs.LinkOk.{IsWithin}
 use Rattle.flow_block.specs.Planned.{room_by, room_of}
 use Rattle.flow_intake.specs.Calls.{first_of}
@@ -158,3 +161,17 @@ module _ {W : Type 0} (layout : Layout W) (meaning : ℕ → Value → Result (L
       ∙ by_kind (λ kind. has_ports kind ≡ false → ports_by_kind kind (block_in layout.blocks b).ports ≡ 1)
       (λ e. refl) (λ e. refl) (λ e. refl) (λ e. refl) (λ e. refl) (λ e. absurd (cc)) (λ e. refl) (λ e. refl) (λ e. absurd (cc))
       (block_in layout.blocks b).kind (ap has_ports (sym shape.kind_is) ∙ alone)
+
+-- what a run asks of a block by its kind
+module _ {W : Type 0} (run : Run W) (b : ℕ) where
+  -- nothing of copies, where it shares its messages out
+  pub copies_nothing : (kind : BlockKind) → is_one_taker kind ≡ true → copies_as run b kind ≡ true
+  copies_nothing =
+      by_kind (λ kind. is_one_taker kind ≡ true → copies_as run b kind ≡ true) (λ _. refl) (λ _. refl) (λ _. refl) (λ _. refl) (λ _. refl)
+      (λ _. refl) (λ sharing. absurd (cc)) (λ sharing. absurd (cc)) (λ _. refl)
+
+  -- then its head is the first message that is left, unless it has a fault
+  pub head_is_first : (l : ℕ) (kind : BlockKind) → is_one_taker kind ≡ true → head_as run b l false kind ≡ first_left (left_at run b)
+  head_is_first l =
+      by_kind (λ kind. is_one_taker kind ≡ true → head_as run b l false kind ≡ first_left (left_at run b)) (λ _. refl) (λ _. refl)
+      (λ _. refl) (λ _. refl) (λ _. refl) (λ _. refl) (λ sharing. absurd (cc)) (λ sharing. absurd (cc)) (λ _. refl)

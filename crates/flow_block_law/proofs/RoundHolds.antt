@@ -1,12 +1,12 @@
 -- Each call keeps the round of a join that reserves in order.
-use Rattle.std.proofs.Common.{◌≡◌, ℕ, ◌+◌, ◌-◌, ◌<◌, ◌≤◌, ◌==◌, ◌||◌, cond, Bool, true, false, List, [], ◌∷◌, ◌++◌, length, map, set, filter, Option, Some, None, is_some, Result, refl, ap, sym, ◌∙◌, subst, arith, eq-eqb}
+use Rattle.std.proofs.Common.{◌≡◌, ℕ, ◌<◌, ◌≤◌, ◌==◌, ◌||◌, cond, Bool, true, false, List, [], ◌∷◌, ◌++◌, length, map, set, filter, Option, Some, None, is_some, Result, refl, ap, sym, ◌∙◌, subst, arith, eq-eqb}
 use Rattle.std.proofs.lemmas.Bool.{and_parts}
 use Rattle.std.proofs.lemmas.List.{length-set, length-map}
 use Rattle.flow_value.specs.declared.value.Value.{Value}
 use Rattle.flow_link.specs.declared.trace.Mark.{Mark}
 use Rattle.flow_link.specs.declared.trace.Mark.TheVariants.{Took, Gave, Complete, Fault, Done}
 use Rattle.flow_link.specs.declared.draft.BlockKind.{BlockKind}
-use Rattle.flow_link.specs.declared.draft.BlockKind.TheVariants.{Buffer, Broadcast, WriteOnce, Action, Transform, TransformMany, Batch, Join, BatchedJoin}
+use Rattle.flow_link.specs.declared.draft.BlockKind.TheVariants.{Join}
 use Rattle.flow_link.specs.declared.plan.LinkTarget.{LinkTarget}
 use Rattle.flow_link.specs.declared.plan.LinkTarget.TheVariants.{Port, Exit}
 use Rattle.flow_link.specs.Layout.{Layout}
@@ -113,14 +113,7 @@ at_its_port b p Exit e = absurd (cc)
 
 joins : (kind : BlockKind) (greedy : Option Bool) → reserves_by_kind kind greedy ≡ true → is_join kind ≡ true
 joins Join greedy e = refl
-joins Buffer greedy e = absurd (cc)
-joins Broadcast greedy e = absurd (cc)
-joins WriteOnce greedy e = absurd (cc)
-joins Action greedy e = absurd (cc)
-joins Transform greedy e = absurd (cc)
-joins TransformMany greedy e = absurd (cc)
-joins Batch greedy e = absurd (cc)
-joins BatchedJoin greedy e = absurd (cc)
+joins _ greedy e = absurd (cc)
 
 -- only a join that reserves has sources
 sources_where : (reserving : Bool) (all : List Source) → has_sources (cond reserving all []) ≡ true → reserving ≡ true

@@ -1,5 +1,5 @@
 -- A node in order that shares its messages out makes, gives and has left what each block of a lawful run does.
-use Rattle.std.proofs.Common.{◌≡◌, ℕ, ◌+◌, ◌==◌, ◌<◌, ltb, Bool, true, false, not, ◌&&◌, ◌||◌, is_some, List, [], ◌∷◌, ◌++◌, length, Some, refl, ap, ap₂, sym, subst, ◌∙◌, arith, ⊎_elim, eqb-true, ltb-true}
+use Rattle.std.proofs.Common.{◌≡◌, ℕ, ◌==◌, ◌<◌, ltb, Bool, true, false, not, ◌&&◌, ◌||◌, is_some, List, [], ◌∷◌, ◌++◌, length, Some, refl, ap, ap₂, sym, subst, ◌∙◌, arith, ⊎_elim, eqb-true, ltb-true}
 use Rattle.std.proofs.lemmas.Bool.{OnTrue_at, and_from, and_parts, or_right}
 use Rattle.std.proofs.Math.Bool.{or_comm}
 use Rattle.flow_value.specs.When.{admits}
@@ -34,7 +34,7 @@ use Rattle.flow_block.specs.Planned.{out_place, block_makes}
 use Rattle.flow_block_law.proofs.CopiesIdle.{left_is_shared, view_is_shared}
 use Rattle.flow_block_law.proofs.EndsTell.{ended_complete, ended_fault, ended_plain, used_up_told, ended_stage, refused_told, spoken_for_told}
 use Rattle.flow_block_law.proofs.JournalTells.{stopped_tells, done_marked, fault_marked, passed_by}
-use Rattle.flow_block_law.proofs.KindsBuilt.{by_kind}
+use Rattle.flow_block_law.proofs.KindsBuilt.{copies_nothing}
 use Rattle.flow_block_law.proofs.NodesSeen.{held_is, is_joining, join_seen, is_grouping, as_ports}
 use Rattle.flow_block_law.proofs.PlacesOfLinks.{HasEndOut, end_out_is, end_out_of, source_there}
 use Rattle.flow_lists.proofs.TestsTell.{some_tells}
@@ -179,9 +179,7 @@ module _ {W : Type 0} (run : Run W) (ends : ℕ → Ends) (b : ℕ) (node : Node
 
     pub copies_shared : copies_as (as_seen run ends) b (block_of run b).kind ≡ true
     copies_shared =
-        by_kind (λ kind. is_one_taker kind ≡ true → copies_as (as_seen run ends) b kind ≡ true) (λ _. refl) (λ _. refl) (λ _. refl)
-        (λ _. refl) (λ _. refl) (λ _. refl) (λ sharing. absurd (cc)) (λ sharing. absurd (cc)) (λ _. refl) (block_of run b).kind
-        (ap is_one_taker (sym law.shape.kind_is) ∙ shares)
+        copies_nothing (as_seen run ends) b (block_of run b).kind (ap is_one_taker (sym law.shape.kind_is) ∙ shares)
 
     -- its ends of the links out of it
     source_seen : (l : ℕ) → l < length run.layout.links → (link_of run l).source ≡ Block b

@@ -33,7 +33,7 @@ use Rattle.flow_block_law.proofs.CopiesIdle.{left_is_shared, view_is_shared}
 use Rattle.flow_block_law.proofs.EndsAtRest.{over_unless, not_cut, not_stopped}
 use Rattle.flow_block_law.proofs.EndsTell.{limit_is, no_room_left, free_back}
 use Rattle.flow_block_law.proofs.JournalTells.{stopped_tells, faulted_marked}
-use Rattle.flow_block_law.proofs.KindsBuilt.{by_kind}
+use Rattle.flow_block_law.proofs.KindsBuilt.{head_is_first}
 use Rattle.flow_block_law.proofs.NothingToDo.{free_at, waiting_goes, not_admitted, left_where}
 use Rattle.flow_block_law.proofs.PlacesOfLinks.{end_out_of}
 use Rattle.flow_link.specs.declared.stage.SourceStage.TheVariants as source
@@ -150,12 +150,7 @@ module _ {W : Type 0} (run : Run W) (ends : ℕ → Ends) (b : ℕ) (node : Node
       head_admitted true e = absurd (cc)
       head_admitted false e = (
         refl,
-        by_kind
-            (λ k. is_one_taker k ≡ true → admits_head run l (head_as run b l false k) ≡ true
-            → admits_head run l (first_left (left_at run b)) ≡ true)
-            (λ _ same. same) (λ _ same. same) (λ _ same. same) (λ _ same. same) (λ _ same. same) (λ _ same. same)
-            (λ sharing. absurd (cc)) (λ sharing. absurd (cc)) (λ _ same. same)
-            kind (ap is_one_taker (sym law.shape.kind_is) ∙ shares) e,
+        ap (admits_head run l) (sym (head_is_first run b l kind (ap is_one_taker (sym law.shape.kind_is) ∙ shares))) ∙ e,
       )
 
       -- the predicate of the end is that of the link

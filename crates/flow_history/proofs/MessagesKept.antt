@@ -1,10 +1,10 @@
 -- Over any calls a block that a caller drives by hand keeps its messages.
-use Rattle.std.proofs.Common.{◌≡◌, ℕ, zero, suc, ◌<◌, Bool, true, false, ◌&&◌, cond, is_some, List, [], ◌∷◌, ◌++◌, length, Option, Some, None, Ok, Err, refl, ap, sym, subst, ◌∙◌, arith, append-nil, append_assoc, eq-eqb, ◌+◌, ◌≤◌}
+use Rattle.std.proofs.Common.{◌≡◌, ℕ, zero, suc, ◌<◌, Bool, true, false, ◌&&◌, cond, is_some, List, [], ◌∷◌, ◌++◌, length, Option, Some, None, Ok, Err, refl, ap, ap₂, sym, subst, ◌∙◌, arith, append-nil, append_assoc, eq-eqb, ◌+◌, ◌≤◌}
 use Rattle.std.proofs.lemmas.Bool.{and_parts, or_right}
 use Rattle.std.proofs.lemmas.List.{map-append}
 use Rattle.flow_value.specs.declared.value.Value.{Value}
 use Rattle.flow_link.specs.declared.draft.BlockKind.{BlockKind}
-use Rattle.flow_link.specs.declared.draft.BlockKind.TheVariants.{WriteOnce, Buffer, Batch, Join}
+use Rattle.flow_link.specs.declared.draft.BlockKind.TheVariants.{WriteOnce}
 use Rattle.flow_link.specs.BlockCalls.{BlockCall}
 use Rattle.flow_link.specs.Making.{Arrival, all_items, row_weight}
 use Rattle.flow_link.specs.Plan.{is_one_taker}
@@ -255,10 +255,7 @@ module _ (history : History) (block : BlockState) (kept : Kept false history blo
       omega (arith, groups, places)
     where
       shares_freely : (kind : BlockKind) → makes_freely kind ≡ true → is_one_taker kind ≡ true → shares_alone kind ≡ true
-      shares_freely Buffer e one = refl
-      shares_freely Batch e one = refl
-      shares_freely Join e one = refl
-      shares_freely _ e one = absurd (cc)
+      shares_freely kind e one = ap₂ (λ (free alone : Bool). free && alone) e one
   places_by kind is freely limited false shares weighs = omega arith
 
   keeps : KeepsMessages history block

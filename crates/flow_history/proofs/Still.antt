@@ -4,7 +4,6 @@ use Rattle.std.proofs.lemmas.Bool.{or_right}
 use Rattle.std.proofs.lemmas.List.{length-map, length-set}
 use Rattle.flow_value.specs.declared.value.Value.{Value}
 use Rattle.flow_link.specs.declared.draft.BlockKind.{BlockKind}
-use Rattle.flow_link.specs.declared.draft.BlockKind.TheVariants.{Buffer, Batch, Join}
 use Rattle.flow_lists.specs.Lists.{every}
 use Rattle.flow_link.specs.Making.{all_items, are_groups, row_weight}
 use Rattle.flow_link.specs.Plan.{is_one_taker, is_write_once}
@@ -19,7 +18,7 @@ use Rattle.flow_outlet.specs.declared.group.Group.{Group}
 use Rattle.flow_block_law.specs.NodeLaw.{is_whole, weighed, rows_weighed}
 use Rattle.flow_block.proofs.PortsChange.{kept_at_one, kept_at_all}
 use Rattle.flow_history.specs.History.{Gift, History, took_at, given}
-use Rattle.flow_history.specs.Kept.{any_link, hands_on, RowsMade}
+use Rattle.flow_history.specs.Kept.{any_link, hands_on, makes_freely, RowsMade}
 
 -- a block that takes one message in all, at one port with room for one
 pub record HasOneRoom (block : BlockState) : Type 0 where
@@ -37,10 +36,7 @@ pub record Made (history : History) (block : BlockState) : Type 0 where
 
 -- the weights of what a buffer, a batch or a join has left
 abbrev pub shares_alone : BlockKind → Bool
-shares_alone Buffer = true
-shares_alone Batch = true
-shares_alone Join = true
-shares_alone _ = false
+shares_alone kind = makes_freely kind && is_one_taker kind
 
 abbrev pub weighs_left : BlockKind → Option ℕ → ℕ → List Value → List Group
 weighs_left kind capacity next left = cond (is_batch kind) (rows_weighed capacity next left) (weighed capacity next left)

@@ -1,5 +1,5 @@
 -- Over any calls a block with a function that a caller drives by hand keeps its messages.
-use Rattle.std.proofs.Common.{◌≤◌, ◌≡◌, ℕ, ◌+◌, ◌<◌, true, false, List, [], ◌∷◌, ◌++◌, length, Option, Some, None, Result, Ok, Err, refl, ap, sym, subst, ◌∙◌, arith}
+use Rattle.std.proofs.Common.{◌≤◌, ◌≡◌, ℕ, ◌<◌, true, false, List, [], ◌∷◌, ◌++◌, length, Option, Some, None, Result, Ok, Err, refl, ap, sym, subst, ◌∙◌, arith}
 use Rattle.std.proofs.lemmas.Bool.{and_parts}
 use Rattle.flow_value.specs.declared.value.Value.{Value}
 use Rattle.flow_value.specs.declared.work.WorkFault.{WorkFault}
@@ -28,7 +28,7 @@ use Rattle.flow_history.specs.Worked.{WorkCall, gave_for, MayCallWorkInOrder, Fi
 use Rattle.flow_history.proofs.CallsLeave.{IsPlain, out_at}
 use Rattle.flow_history.proofs.MessagesKept.{nothing_added, only_made, fresh_kept, none_at, fits_in}
 use Rattle.flow_history.proofs.WorkTold.{works_so, shares_so, never, given_as, IsSingle}
-use Rattle.flow_history.proofs.WorkSteps.{is_not, BlockKept, began_kept, ended_kept, plain_kept, handed_kept}
+use Rattle.flow_history.proofs.WorkSteps.{BlockKept, began_kept, ended_kept, plain_kept, handed_kept}
 
 -- An execution block
 
