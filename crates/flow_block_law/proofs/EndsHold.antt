@@ -1,5 +1,5 @@
 -- Each call keeps what a node says of how it ends.
-use Rattle.std.proofs.Common.{◌≡◌, ℕ, ◌==◌, not, Bool, true, false, List, [], ◌∷◌, ◌++◌, set, map, Option, Some, None, is_some, Result, Ok, Err, refl, sym, ◌∙◌, eq-eqb, subst, ◌-◌}
+use Rattle.std.proofs.Common.{◌≡◌, ℕ, ◌==◌, Bool, true, false, List, [], ◌∷◌, ◌++◌, set, map, Option, Some, None, is_some, Result, Ok, Err, refl, sym, ◌∙◌, eq-eqb, subst, ◌-◌}
 use Rattle.std.proofs.lemmas.Bool.{ne_eqb, and_parts, false_from_ne_true}
 use Rattle.std.proofs.lemmas.List.{length-map}
 use Rattle.flow_value.specs.declared.value.Value.{Value}
@@ -11,7 +11,7 @@ use Rattle.flow_link.specs.declared.trace.Mark.{Mark}
 use Rattle.flow_link.specs.declared.trace.Mark.TheVariants.{Took, Gave, Complete}
 use Rattle.flow_link.specs.Layout.{Layout}
 use Rattle.flow_link.specs.Stage.{source_looks, target_looks}
-use Rattle.flow_link.specs.Trace.{has_complete, has_ended, is_complete_mark, is_any_fault_mark, is_done_mark, took}
+use Rattle.flow_link.specs.Trace.{has_complete, has_ended, is_complete_mark, is_any_fault_mark, is_done_mark}
 use Rattle.flow_link.proofs.KindsTell.{kind_tells}
 use Rattle.flow_lists.proofs.ListTests.{never_both}
 use Rattle.flow_intake.specs.Port.{PortState, stage_at as port_stage, end_in, hand_in, is_offer, is_hand, is_holding}
@@ -35,7 +35,7 @@ use Rattle.flow_block_law.proofs.CopierHolds.{copy_goes_on}
 use Rattle.flow_block_law.proofs.CopiesLeave.{marks_by_copy, held_by_copy}
 use Rattle.flow_block.specs.Planned.{block_makes}
 use Rattle.flow_block_law.proofs.GoingOn.{open_goes_on, away_goes_on, rest_stays, wanted_away, asked_away, wish_away, waiting_away, look_stays_home, may_work_tells, may_complete_tells}
-use Rattle.flow_block_law.proofs.JournalTells.{goes_on, outcome_more, ended_no_more, ended_by_complete}
+use Rattle.flow_block_law.proofs.JournalTells.{outcome_more, ended_no_more, ended_by_complete}
 use Rattle.flow_block_law.proofs.KindsBuilt.{makes_by, next_by}
 use Rattle.flow_block_law.proofs.WishesTell.{asks_so, claims_so, releases_so}
 use Rattle.flow_block_law.proofs.PortEnds.{PortEnds, end_moves, port_closed, port_failed, unseen_goes, refusal_unseen, refuses_so, look_goes, look_numbered, completes_by, completes_tells, unwritten_before, completes_more, fewer_complete, seen_unless}

@@ -1,11 +1,10 @@
 -- What a block says of how it ends, port by port and of itself, and what of that stays where a port or its exits change.
-use Rattle.std.proofs.Common.{◌≡◌, ℕ, ◌<◌, leb, ltb, ◌⊎◌, cond, not, ◌&&◌, ◌||◌, Bool, true, false, List, [], ◌∷◌, length, set, map, Option, Some, None, is_some, Result, refl, ap, sym, ◌∙◌, inl, inr, ⊎_elim, arith, subst, ap₂, ◌-◌}
+use Rattle.std.proofs.Common.{◌≡◌, ℕ, ◌<◌, leb, ltb, ◌⊎◌, cond, not, ◌&&◌, ◌||◌, Bool, true, false, List, [], ◌∷◌, length, set, map, Option, Some, None, is_some, Result, refl, ap, sym, ◌∙◌, inl, inr, ⊎_elim, arith, subst, ap₂}
 use Rattle.std.proofs.lemmas.Bool.{and_from, or_left, or_right, leb-false, lt-ltb}
 use Rattle.std.proofs.lemmas.List.{length-map, length-set}
 use Rattle.flow_value.specs.declared.value.Value.{Value}
 use Rattle.flow_link.specs.declared.draft.BlockKind.{BlockKind}
 use Rattle.flow_link.specs.declared.trace.Mark.{Mark}
-use Rattle.flow_link.specs.declared.trace.Mark.TheVariants.{Done}
 use Rattle.flow_link.specs.declared.trace.Outcome.{Outcome}
 use Rattle.flow_link.specs.Layout.{Layout}
 use Rattle.flow_lists.specs.Lists.{every, some, below}

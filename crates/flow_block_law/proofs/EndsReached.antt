@@ -1,5 +1,5 @@
 -- A block that fails, or that has nothing left to do, says how it ended.
-use Rattle.std.proofs.Common.{◌≡◌, ℕ, ◌<◌, leb, ltb, ◌⊎◌, cond, not, ◌&&◌, ◌||◌, Bool, true, false, List, [], ◌∷◌, ◌++◌, length, map, Option, Some, None, Result, refl, ap, sym, ◌∙◌, inl, inr, ⊎_elim, eqb-true, ap₂, ◌-◌}
+use Rattle.std.proofs.Common.{◌≡◌, ℕ, ◌<◌, leb, ltb, cond, not, ◌&&◌, ◌||◌, Bool, true, false, List, [], ◌∷◌, ◌++◌, length, map, Option, Some, None, Result, refl, ap, sym, ◌∙◌, inl, inr, ⊎_elim, eqb-true, ap₂}
 use Rattle.std.proofs.lemmas.Bool.{or_cases, or_left, or_right}
 use Rattle.std.proofs.lemmas.List.{length-map}
 use Rattle.flow_value.specs.declared.value.Value.{Value}

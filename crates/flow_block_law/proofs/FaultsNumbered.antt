@@ -1,9 +1,8 @@
 -- A fault with which a block stops has a number: it is its own function's, or one that came over a link.
-use Rattle.std.proofs.Common.{◌≡◌, ◌≢◌, ℕ, zero, suc, ◌≤◌, Bool, true, List, [], ◌∷◌, Option, Some, None, Result, Ok, Err, refl, ap, sym, ◌∙◌, ⊎_elim, arith, eqb-true}
+use Rattle.std.proofs.Common.{◌≡◌, ◌≢◌, ℕ, zero, suc, ◌≤◌, true, List, [], ◌∷◌, Option, Some, None, Result, Ok, Err, ap, sym, ◌∙◌, ⊎_elim, arith, eqb-true}
 use Rattle.flow_value.specs.declared.value.Value.{Value}
 use Rattle.flow_link.specs.declared.draft.BlockKind.{BlockKind}
 use Rattle.flow_link.specs.declared.draft.BlockKind.TheVariants.{Transform}
-use Rattle.flow_link.specs.declared.trace.Mark.{Mark}
 use Rattle.flow_link.specs.declared.trace.Outcome.TheVariants.{Faulted}
 use Rattle.flow_lawful.specs.Endings.{is_number}
 use Rattle.flow_lists.specs.Lists.{some}
@@ -15,7 +14,7 @@ use Rattle.flow_intake.specs.Port.{EndState, PortState, stage_in, fresh_end, fre
 use Rattle.flow_intake.specs.Ended.{fault_seen}
 use Rattle.flow_block.specs.Block.{port_in}
 use Rattle.flow_block.specs.Node.{NodeState}
-use Rattle.flow_block_law.specs.NodeLaw.{NodeLaw, FaultsOn, is_fault_seen}
+use Rattle.flow_block_law.specs.NodeLaw.{NodeLaw, is_fault_seen}
 use Rattle.flow_block_law.proofs.FaultsSeen.{sees_at}
 use Rattle.flow_block_law.proofs.JournalTells.{fault_marked}
 use Rattle.flow_lists.proofs.TestsTell.{some_tells}

@@ -9,7 +9,7 @@ use Rattle.flow_link.specs.declared.plan.LinkTarget.TheVariants.{Port}
 use Rattle.flow_link.specs.declared.stage.Refusal.{Refusal}
 use Rattle.flow_link.specs.declared.stage.Refusal.TheVariants as refusal
 use Rattle.flow_link.specs.declared.trace.Mark.{Mark}
-use Rattle.flow_link.specs.declared.trace.Mark.TheVariants.{Complete, Fault, Done}
+use Rattle.flow_link.specs.declared.trace.Mark.TheVariants.{Complete, Fault}
 use Rattle.flow_link.specs.declared.trace.Outcome.TheVariants as outcome
 use Rattle.flow_lawful.specs.Composes.{Ends, SourceKeeps, TargetKeeps, NodeMakes, NodeKeeps, RefusesFor, as_seen, is_coming, has_seen_completion, has_seen_fault, has_seen_cause, has_room_at, coming}
 use Rattle.flow_link.specs.Copies.{copies_as}
@@ -20,7 +20,7 @@ use Rattle.flow_lists.specs.Lists.{every, some, below, is_empty, numbers_from}
 use Rattle.flow_link.specs.Making.{load}
 use Rattle.flow_link.specs.Plan.{ends_at, ends_at_port, is_one_taker, is_reserving, port_count, is_write_once}
 use Rattle.flow_link.specs.Stage.{target_stage_of, refusal_of}
-use Rattle.flow_link.specs.Trace.{BlockTrace, Run, took, took_over, has_complete, has_fault, has_ended, is_faulted, is_done, block_of, link_of, link_numbers, marks_of, held_at, left_at, ports_of, took_at}
+use Rattle.flow_link.specs.Trace.{BlockTrace, Run, took_over, has_complete, has_fault, has_ended, is_faulted, is_done, block_of, link_of, link_numbers, marks_of, held_at, left_at, ports_of, took_at}
 use Rattle.flow_link.specs.Views as views
 use Rattle.flow_link.proofs.KindsTell.{kind_tells}
 use Rattle.flow_block_law.proofs.OnceHolds.{room_once}

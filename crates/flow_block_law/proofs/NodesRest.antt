@@ -19,7 +19,6 @@ use Rattle.flow_lawful.specs.Quiet.{has_served_all, has_this_fault, faulted_by_i
 use Rattle.flow_lawful.specs.RestsByParts.{OutletRests, KindRests, NodeRests, is_postponed as is_view_postponed, has_seen_end, has_to_wait, lacks_an_offer}
 use Rattle.flow_link.specs.Stage.{target_stage_of}
 use Rattle.flow_link.specs.Trace.{BlockTrace, Run, took_at, has_complete, has_fault, has_ended, is_faulted, is_done, block_of, link_of, link_numbers, marks_of, held_at, left_at, ports_of}
-use Rattle.flow_link.specs.declared.stage.TargetStage.TheVariants as target
 use Rattle.flow_link.specs.Views.{TargetView}
 use Rattle.flow_link.proofs.KindsTell.{kind_tells}
 use Rattle.flow_link.proofs.RoundsOfWalks.{some_here_below}

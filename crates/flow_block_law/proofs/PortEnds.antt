@@ -1,5 +1,5 @@
 -- What a port says of its end, as one of its ends of links moves, it closes, or its block's function faults.
-use Rattle.std.proofs.Common.{◌≡◌, ℕ, ◌<◌, ◌≤◌, ltb, ◌⊎◌, Bool, true, false, List, length, set, Option, Some, None, is_some, refl, ap, sym, ◌∙◌, inl, inr, ⊎_elim, arith, ltb-true, subst, ◌&&◌, ◌++◌, ◌||◌, not, ◌∷◌, []}
+use Rattle.std.proofs.Common.{◌≡◌, ℕ, ◌<◌, ◌≤◌, ◌⊎◌, Bool, true, false, List, length, set, Option, Some, None, is_some, refl, ap, sym, ◌∙◌, inl, inr, ⊎_elim, arith, ltb-true, subst, ◌&&◌, ◌++◌, ◌||◌, not, ◌∷◌, []}
 use Rattle.std.proofs.lemmas.Bool.{cases_eq, and_from}
 use Rattle.std.proofs.lemmas.List.{length-set, get_or-set_same, get_or-set_other}
 use Rattle.flow_link.specs.declared.phase.Phase.{Phase}

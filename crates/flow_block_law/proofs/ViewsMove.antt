@@ -1,5 +1,5 @@
 -- Each call moves the view of its own end as the laws of one link have it, and no other end's.
-use Rattle.std.proofs.Common.{unwrap_or, ◌≡◌, ◌≢◌, ℕ, ◌-◌, ◌<◌, ◌==◌, cond, Bool, true, List, [], ◌∷◌, ◌++◌, length, set, Option, Some, None, is_some, Result, refl, ap, sym, ◌∙◌, subst, eq-eqb, arith, length-set, false}
+use Rattle.std.proofs.Common.{unwrap_or, ◌≡◌, ◌≢◌, ℕ, ◌<◌, ◌==◌, cond, Bool, true, List, [], ◌∷◌, ◌++◌, length, set, Option, Some, None, is_some, Result, refl, ap, sym, ◌∙◌, subst, eq-eqb, arith, length-set, false}
 use Rattle.std.proofs.lemmas.List.{get_or-set_same, get_or-set_other}
 use Rattle.flow_value.specs.declared.value.Value.{Value}
 use Rattle.flow_value.specs.declared.when.When.{When}
