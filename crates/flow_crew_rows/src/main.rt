@@ -13,3 +13,6 @@ mod rounds;
 mod runs;
 #[cfg(test)]
 mod workers;
+
+/// Does nothing: all that is here are tests.
+fn main() {}

@@ -17,3 +17,6 @@ mod joins;
 mod reserving;
 #[cfg(test)]
 mod shares;
+
+/// Does nothing: all that is here are tests.
+fn main() {}

@@ -7,3 +7,6 @@ mod check;
 mod merged;
 #[cfg(test)]
 mod sifted;
+
+/// Does nothing: all that is here are tests.
+fn main() {}

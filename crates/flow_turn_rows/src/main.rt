@@ -32,3 +32,6 @@ mod stops;
 mod threads;
 #[cfg(test)]
 mod turned;
+
+/// Does nothing: all that is here are tests.
+fn main() {}

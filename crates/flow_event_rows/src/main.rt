@@ -13,3 +13,6 @@ mod faults;
 mod lanes;
 #[cfg(test)]
 mod scripts;
+
+/// Does nothing: all that is here are tests.
+fn main() {}

@@ -11,3 +11,6 @@ mod functions;
 mod refused;
 #[cfg(test)]
 mod texts;
+
+/// Does nothing: all that is here are tests.
+fn main() {}
