@@ -1,4 +1,5 @@
 pub mod DigitsParsed
+pub mod PlainFilled
 pub mod PlainGrows
 pub mod ResultsGrow
 pub mod RowsDiffer

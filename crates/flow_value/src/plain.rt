@@ -3,6 +3,7 @@ ghost use Rattle.std.specs.Prelude.{◌≡◌};
 ghost use Rattle.flow_value.specs.Plain.{is_plain_byte, all_plain};
 
 /// Whether each of these bytes is plain: no control byte, no double quote and no backslash.
+#[inline(always)]
 pub(crate) fn are_plain(bytes: &[u8]) -> bool
     ensures { result ≡ all_plain bytes.now }
 {

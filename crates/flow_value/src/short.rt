@@ -22,6 +22,9 @@ pub(crate) struct Short {
 /// Added to the count in the head of a plain text.
 const PLAIN: u8 = 128;
 
+/// Room for a short text with plain bytes behind it. So many bytes are looked at in one piece, however many of them the text has.
+const WIDE: usize = 16;
+
 impl Short {
     /// The most bytes of a short text.
     pub(crate) const MOST: usize = 14;
@@ -32,14 +35,16 @@ impl Short {
         ensures { bytes_in result.head result.cells ≡ content.now }
     {
         let bytes = content.as_bytes();
-        let mut cells = [0; Short::MOST];
-        cells[..bytes.len()].copy_from_slice(bytes);
+        let mut wide = [b' '; WIDE];
+        wide[..bytes.len()].copy_from_slice(bytes);
         let count = bytes.len() as u8;
-        let head = if are_plain(bytes) {
+        let head = if are_plain(&wide) {
             count + PLAIN
         } else {
             count
         };
+        let mut cells = [0; Short::MOST];
+        cells.copy_from_slice(&wide[..Short::MOST]);
         Short { head, cells }
     }
 
