@@ -321,12 +321,28 @@ impl<W: Runs> Engine<W> {
         if let Due::Begin(number) = *event {
             let may_work = most >= WORK && self.parts.node(number).block().is_idle();
             if may_work && self.work_at_once(alloc, number)? {
-                self.agenda.list_after_make(&self.parts, number);
-                return Ok(WORK);
+                return Ok(WORK + self.go_on_working(alloc, number, most - WORK));
             }
         }
         self.go(alloc, event)?;
         Ok(1)
+    }
+
+    /// Has a block that has worked on a message go on, as far as a run goes, where no report shows in which order blocks
+    /// took their turns, and lists where something may be able to happen after it. Answers how many events that took, of
+    /// at most so many.
+    fn go_on_working(&mut self, alloc: Global, number: usize, most: u64) -> u64
+        requires kept { InOrder W.meaning self.old }
+        requires known { number < length (layout_of self.old.plan).blocks }
+        ensures same_plan { self.new.plan ≡ self.old.plan }
+        ensures happened { HasDone W.meaning result self.old self.new }
+        ensures within { result ≤ most }
+    {
+        if self.agenda.hides_turns() {
+            return self.work_run(alloc, number, most);
+        }
+        self.agenda.list_after_make(&self.parts, number);
+        0
     }
 
     /// Whether what the source of a link would offer may go over it in one call.

@@ -39,3 +39,18 @@ returns-then-copy_count-gt0-clause-happened g c =
     c.in_ok-make.ensures.may c.in_ok-make.ensures.done in
     happened_by_plan g.W.Runs.meaning start.plan mid.plan c.make.ensures.same_plan 1 1 start.parts mid.parts
     c.work_run.new.self.parts (omega arith) one c.work_run.result c.work_run.ensures.happened
+
+pub go_on_working-requires-clause-kept : goal.go_on_working-requires-clause-kept
+go_on_working-requires-clause-kept g c =
+    let start = c.args.self.now in
+    let mid = c.work_at_once.new.self in
+    kept_by_plan g.W.Runs.meaning start.plan mid.plan 2 start.parts mid.parts c.work_at_once.ensures.same_plan
+    (c.in_ok-work_at_once.ensures.worked c.if-branch.true) c.requires.kept
+
+pub returns-then-branch-clause-happened : goal.returns-then-branch-clause-happened
+returns-then-branch-clause-happened g c =
+    let start = c.args.self.now in
+    let mid = c.work_at_once.new.self in
+    happened_by_plan g.W.Runs.meaning start.plan mid.plan c.work_at_once.ensures.same_plan 2 2 start.parts mid.parts
+    c.go_on_working.new.self.parts (omega arith) (c.in_ok-work_at_once.ensures.worked c.if-branch.true)
+    c.go_on_working.result c.go_on_working.ensures.happened
