@@ -252,7 +252,7 @@ impl OutEnd {
 
     /// Notes that the message with this id went over it, to a target that took it at once.
     #[inline]
-    pub(crate) fn note_sent(&mut self, id: u64)
+    pub fn note_sent(&mut self, id: u64)
         requires { HasRoom self.old.rule.max self.old.given }
         ensures { self.new ≡ sent_end id self.old }
     {

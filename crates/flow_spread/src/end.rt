@@ -1,6 +1,8 @@
 //! A block's end of one link over which copies go.
 ghost use Rattle.std.specs.Prelude.{◌≡◌, Some};
+ghost use Rattle.flow_link.specs.LinkOk.{HasRoom};
 ghost use Rattle.flow_spread.specs.End.{fresh_end, is_open, is_busy, is_due, is_answer, moved, takes_up};
+ghost use Rattle.flow_spread.specs.Sends.{sent_end};
 
 use crate::share::Share;
 use flow_link::SourceStage;
@@ -48,6 +50,18 @@ impl CopyEnd {
         }
         self.link = link;
         self.owes = owes;
+    }
+
+    // its link sent the message with this id, to a target that took it at once; what was made for that goes with it
+    #[inline(always)]
+    pub(crate) fn send(&mut self, id: u64) -> Option<Share>
+        requires { HasRoom self.old.link.rule.max self.old.link.given }
+        ensures share { result ≡ self.old.share }
+        ensures sent { self.new ≡ sent_end id self.old }
+    {
+        self.link.note_sent(id);
+        self.owes = false;
+        self.share.take()
     }
 
     // what the link is to have is made

@@ -3,6 +3,9 @@ ghost use Rattle.std.specs.Prelude.{◌≡◌, ◌<◌, ◌≤◌, ◌+◌, ◌^
 ghost use Rattle.std.specs.Prelude.{OnErr, IfOk, is_some, None};
 ghost use Rattle.flow_spread.specs.ByLink.{place_of};
 ghost use Rattle.flow_spread.specs.End.{fresh_end, end_in, first_open, moved, takes_up, count_of, owes_it};
+ghost use Rattle.flow_link.specs.LinkOk.{HasRoom};
+ghost use Rattle.flow_link.specs.declared.stage.SourceStage.TheVariants.{Out};
+ghost use Rattle.flow_spread.specs.Sends.{sent_end};
 ghost use Rattle.flow_spread.specs.End.{is_away_at, is_waiting_at, is_busy_at};
 ghost use Rattle.flow_spread.specs.declared.end.CopyEnd.{CopyEnd};
 
@@ -120,6 +123,24 @@ impl Ends {
         self.away = recounted(self.away, before.is_away(), link.is_away());
         self.waiting = recounted(self.waiting, before.is_waiting(), link.is_waiting());
         self.busy = recounted(self.busy, is_busy(before.stage), is_busy(link.stage));
+    }
+
+    /// The link of the end at this place, over which the element with this id is offered, sends it to a target that takes
+    /// it at once: this is what it was to have. It stands where it stood before the offer, and owes nothing.
+    #[inline(always)]
+    pub(crate) fn send(&mut self, place: usize, id: u64) -> Option<Share>
+        requires there { place < length self.old }
+        requires offered { (end_in self.old place).link.stage ≡ Out id }
+        requires room { HasRoom (end_in self.old place).link.rule.max (end_in self.old place).link.given }
+        ensures share { result ≡ (end_in self.old place).share }
+        ensures sent { self.new ≡ set self.old place (sent_end id (end_in self.old place)) }
+    {
+        let owed = self.at(place).owes;
+        let share = self.ends[place].send(id);
+        self.owing = recounted(self.owing, owed, false);
+        self.away = recounted(self.away, true, false);
+        self.busy = recounted(self.busy, true, false);
+        share
     }
 
     /// Makes what the link of the end at this place is to have of the element.

@@ -333,12 +333,10 @@ impl Spread {
         ensures parcel { result.1 ≡ result.0 }
         ensures sent { self.new ≡ sends place self.old }
     {
-        let given = self.ends.at(place).link.gave(self.id);
-        let link = OutEnd {
-            stage: SourceStage::Free,
-            ..given
+        let Some(share) = self.ends.send(place, self.id) else {
+            unreachable!()
         };
-        self.hand_over(place, link)
+        share.into_parts()
     }
 
     // what the link at a place is to have goes over it. The link stands elsewhere then, and owes nothing
