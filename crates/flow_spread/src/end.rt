@@ -69,6 +69,10 @@ impl CopyEnd {
     pub(crate) fn put_share(&mut self, share: Share)
         ensures { self.new ≡ record self.old { share = Some share } }
     {
+        // so that nothing is dropped where nothing is there
+        if self.share.is_some() {
+            self.share = None;
+        }
         self.share = Some(share);
     }
 
@@ -76,9 +80,13 @@ impl CopyEnd {
     pub(crate) fn take_up(&mut self, value: &Value)
         ensures { self.new ≡ takes_up value.now self.old }
     {
-        self.link = self.link.forgotten();
+        if let SourceStage::Waiting(_) = self.link.stage {
+            self.link.stage = SourceStage::Free;
+        }
         self.owes = is_due(&self.link, value);
-        self.share = None;
+        if self.share.is_some() {
+            self.share = None;
+        }
     }
 }
 
