@@ -19,7 +19,10 @@ use std::sync::Wait;
 use std::thread::Threads;
 
 /// How many events a crew does at first, at most, before it is seen again how long they take; later it is four times as many each time.
-const SHARE: u64 = 1 << 18;
+///
+/// Each worker has a part of them, and one that has used its part does jobs of lanes alone. So the parts are large: a block with many lanes
+/// would else wait for the worker that has some left. Should events turn short meanwhile, a crew takes about half a second for so many.
+const SHARE: u64 = 1 << 20;
 
 /// Runs a network on so many threads, 1 to 64, until nothing may happen any more, or as many events are done as the limit. Inputs that
 /// stay open and exits do what the network does for them by itself; no call is made there.
