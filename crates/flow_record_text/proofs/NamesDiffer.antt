@@ -1,12 +1,12 @@
 -- The names of a plan's inputs all differ, since those of its blocks do.
-use Rattle.std.proofs.Common.{◌≡◌, ℕ, zero, suc, ◌<◌, List, [], ◌∷◌, ◌++◌, length, get_or, Bool, true, false, cond, refl, Some, nat_lt, sym, ◌∙◌, arith}
+use Rattle.std.proofs.Common.{◌≡◌, ℕ, zero, suc, ◌<◌, List, [], ◌∷◌, ◌++◌, length, get_or, Bool, true, false, cond, refl, nat_lt, sym, ◌∙◌, arith}
 use Rattle.std.specs.List.{position_or_len}
 use Rattle.std.specs.Str.{bytes_eq}
 use Rattle.std.proofs.lemmas.List.Sums.{position_or_len_is}
 use Rattle.std.proofs.lemmas.Slice.Eq.{bytes_eq-Decides}
 use Rattle.flow_link.specs.declared.draft.BlockDef.{BlockDef}
 use Rattle.flow_link.specs.Plan.{block_in}
-use Rattle.flow_record_text.specs.Records.{AllDiffer, input_names, input_named}
+use Rattle.flow_record_text.specs.Records.{AllDiffer, input_names}
 
 -- no two of these names are the same
 abbrev Differ : List (List ℕ) → Type 0

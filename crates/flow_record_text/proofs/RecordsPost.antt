@@ -9,7 +9,6 @@ use Rattle.flow_link.specs.declared.posted.Posted.{Posted}
 use Rattle.csv.specs.Records.{field_at}
 use Rattle.std.proofs.lemmas.List.Elements.{filter-append}
 use Rattle.std.proofs.lemmas.List.Quantifiers.{position-Some}
-use Rattle.std.proofs.lemmas.Slice.Eq.{bytes_eq-Decides}
 use Rattle.std.proofs.lemmas.Bool.Decides.{nat_tests}
 use Rattle.flow_value.specs.declared.value.Value.{Value}
 use Rattle.flow_value.specs.declared.value.Value.TheVariants.{Text}
@@ -22,7 +21,7 @@ use Rattle.csv.proofs.ReadFacts.{rows-more, rows-end}
 use Rattle.flow_fault_text.specs.declared.fault.TextFault.{TextFault}
 use Rattle.flow_fault_text.specs.declared.fault.TextFault.TheVariants.{Csv, NotUtf8, UnknownInput, Read}
 use Rattle.flow_fault_text.specs.declared.fault.TextRefusal.TheVariants.{Fault}
-use Rattle.flow_record_text.specs.Records.{HasFault, IsFirstFault, IsOfRecords, Explains, PostAll, told_number, room, Row, texts_of, input_names, input_named, is_this, posts_to, value_of, values_for, records, AllDiffer, IsFine, AllFine, PostsTo, posted_values, posted_endings}
+use Rattle.flow_record_text.specs.Records.{HasFault, HasNoInput, IsFirstFault, IsOfRecords, Explains, PostAll, told_number, room, Row, texts_of, input_names, input_named, is_this, posts_to, value_of, values_for, records, AllDiffer, IsFine, AllFine, PostsTo, posted_values, posted_endings}
 
 -- a place among references is that among what they point to
 prefix-texts : (test : List ℕ → Bool) (names : List (Bor (List ℕ))) → prefix_len (λ name. not (test name.now)) names ≡ prefix_len (λ name. not (test name)) (texts_of names)
@@ -185,6 +184,25 @@ posts-named names (_ ∷ []) i text differ two low named first is second = absur
 posts-named names (_ ∷ _ ∷ _ ∷ rest) i text differ two low named first is second = absurd (omega (arith, two))
 posts-named names (name ∷ field ∷ []) i text differ two low named first is second =
     (ap (input_named names) (sym named) ∙ differ i low, sym is, first, subst IsUtf8 is second)
+
+-- the same where the name was found among all
+pub posts-found : (names : List (List ℕ)) (row : Row) (i : ℕ) (text : List ℕ) → length row ≡ 2
+    → (input_named names (get_or row 0 []) ≡ Some i) × IsUtf8 (get_or row 0 []) → text ≡ get_or row 1 [] → IsUtf8 text → PostsTo names row i text
+posts-found names [] i text two found is second = absurd (omega (arith, two))
+posts-found names (_ ∷ []) i text two found is second = absurd (omega (arith, two))
+posts-found names (_ ∷ _ ∷ _ ∷ rest) i text two found is second = absurd (omega (arith, two))
+posts-found names (name ∷ field ∷ []) i text two found is second = (found.0, sym is, found.1, subst IsUtf8 is second)
+
+-- and why a record can't be posted whose name is that of no input
+pub faulty-name : (names : List (List ℕ)) (number : ℕ) (row : Row) (text : List ℕ) (fault : TextFault) → length row ≡ 2
+    → text ≡ get_or row 1 [] → IsUtf8 text → HasNoInput names number (get_or row 0 []) fault → HasFault names number row fault
+faulty-name names number [] text fault two is second refused = absurd (omega (arith, two))
+faulty-name names number (_ ∷ []) text fault two is second refused = absurd (omega (arith, two))
+faulty-name names number (_ ∷ _ ∷ _ ∷ rest) text fault two is second refused = absurd (omega (arith, two))
+faulty-name names number (name ∷ field ∷ []) text (NotUtf8 n) two is second refused = (refused.0, λ first _. refused.1 first)
+faulty-name names number (name ∷ field ∷ []) text (UnknownInput n) two is second refused = (refused.0, refused.1, subst IsUtf8 is second, refused.2)
+faulty-name names number (name ∷ field ∷ []) text (Csv n) two is second refused = absurd refused
+faulty-name names number (name ∷ field ∷ []) text _ two is second refused = refused
 
 -- an input that gets a text is there
 pub posts-within : (names : List (List ℕ)) (row : Row) (i : ℕ) (text : List ℕ) → PostsTo names row i text → i < length names

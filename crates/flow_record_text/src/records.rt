@@ -6,7 +6,7 @@ ghost use Rattle.csv.specs.Reading.{ReadRecord, reader_state, source_of, strip_b
 ghost use Rattle.csv.specs.Records.{fields_of};
 ghost use Rattle.csv.specs.declared.parser.State.TheVariants as at;
 ghost use Rattle.flow_link.specs.Planned.{layout_of};
-ghost use Rattle.flow_record_text.specs.Records.{texts_of, input_names, input_named, AllDiffer, HasFault, PostsTo, PostAll};
+ghost use Rattle.flow_record_text.specs.Records.{texts_of, input_names, input_named, AllDiffer, HasFault, HasNoInput, PostsTo, PostAll};
 ghost use Rattle.flow_record_text.specs.Records.{IsOfRecords, Explains, TakesAll, room, posted_values, posted_endings};
 
 use csv::{ByteRecord, Error, ErrorKind, Reader, ReaderBuilder};
@@ -53,6 +53,7 @@ fn name_place(names: &[&str], name: &str) -> Option<usize>
     names.iter().position(|other| *other == name)
 }
 
+#[inline(always)]
 fn text_field(row: &ByteRecord, place: usize) -> Option<&str>
     requires { place < length (fields_of row.now) }
     ensures { MatchOption result (IsUtf8 (get_or (fields_of row.now) place []) → ⊥)
@@ -68,6 +69,7 @@ fn text_field(row: &ByteRecord, place: usize) -> Option<&str>
 }
 
 // Whether a record names this input: then that its name is UTF-8 need not be seen again.
+#[inline(always)]
 fn has_name(row: &ByteRecord, names: &[&str], input: usize) -> bool
     requires { 0 < length (fields_of row.now) }
     ensures there { result ≡ true → input < length names.now }
@@ -84,6 +86,7 @@ fn has_name(row: &ByteRecord, names: &[&str], input: usize) -> bool
 }
 
 // The input that a record names, where it is that of the last record or the one after it.
+#[inline(always)]
 fn likely_input(row: &ByteRecord, names: &[&str], last: usize) -> Option<usize>
     requires { 0 < length (fields_of row.now) }
     ensures there { IfSome result (λ input. input < length names.now) }
@@ -102,7 +105,26 @@ fn likely_input(row: &ByteRecord, names: &[&str], last: usize) -> Option<usize>
     }
 }
 
+// The input that a record names, as it is found among all of them, or why there is none.
+#[cold]
+fn named_input(names: &[&str], row: &ByteRecord, number: u64) -> Result<usize, TextFault>
+    requires { 0 < length (fields_of row.now) }
+    ensures { MatchResult result
+        (λ input. (input_named (texts_of names.now) (get_or (fields_of row.now) 0 []) ≡ Some input)
+        × IsUtf8 (get_or (fields_of row.now) 0 []))
+        (λ fault. HasNoInput (texts_of names.now) number (get_or (fields_of row.now) 0 []) fault) }
+{
+    let Some(name) = text_field(row, 0) else {
+        return Err(TextFault::NotUtf8(number));
+    };
+    match find_input(names, name) {
+        Some(input) => Ok(input),
+        None => Err(TextFault::UnknownInput(number)),
+    }
+}
+
 // The input and the text of a record, or why it can't be posted. The input of the last record is tried first, then the next.
+#[inline(always)]
 fn read_fields<'r>(
     names: &[&str],
     last: usize,
@@ -122,16 +144,14 @@ fn read_fields<'r>(
     if let Some(input) = likely_input(row, names, last) {
         return Ok((input, text));
     }
-    let Some(name) = text_field(row, 0) else {
-        return Err(TextFault::NotUtf8(number));
-    };
-    match find_input(names, name) {
-        Some(input) => Ok((input, text)),
-        None => Err(TextFault::UnknownInput(number)),
+    match named_input(names, row, number) {
+        Ok(input) => Ok((input, text)),
+        Err(fault) => Err(fault),
     }
 }
 
 // Adds the text to the values of this input.
+#[inline(always)]
 fn post(
     alloc: Global,
     posted: &mut Vec<Posted>,
@@ -175,6 +195,7 @@ fn nothing_posted(alloc: Global, count: usize) -> Result<Vec<Posted>, TextRefusa
     Ok(posted)
 }
 
+#[cold]
 fn reading_failed(error: &Error) -> TextRefusal
     ensures { (result ≡ TextRefusal.Memory) ⊎ (result ≡ TextRefusal.Fault TextFault.Read) }
 {

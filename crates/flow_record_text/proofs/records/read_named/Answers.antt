@@ -1,8 +1,8 @@
-use Rattle.std.proofs.Common.{◌≡◌, ◌∙◌, rules, Bor, List, [], ℕ, Some, get_or, length, ap, sym, arith}
+use Rattle.std.proofs.Common.{◌≡◌, ◌∙◌, rules, Bor, List, ℕ, length, ap, sym, arith}
 use Rattle.std.proofs.lemmas.List.{length-map, length-replicate}
 use Rattle.csv.specs.Records.{fields_of}
 use Rattle.flow_link.specs.declared.posted.Posted.{Posted}
-use Rattle.flow_record_text.specs.Records.{texts_of, input_named, posted_values}
+use Rattle.flow_record_text.specs.Records.{texts_of, posted_values}
 use Rattle.flow_record_text.proofs.RecordsPost.{read-start, read-more, read-end, read-fault, fault-of_records, posts-within}
 use Rattle.flow_record_text.proofs.records.read_named.Goals as goal
 
