@@ -1,5 +1,5 @@
 //! Print on its way to a writer: it is gathered on a page, so that many items go there at once.
-ghost use Rattle.std.specs.Prelude.{◌≡◌, [], OnOk};
+ghost use Rattle.std.specs.Prelude.{◌≡◌, ◌∷◌, [], OnOk};
 ghost use Rattle.std.specs.Io.KnownBytes.{Appends, append_known};
 ghost use Rattle.flow_report.specs.Written.{StaysInFront};
 
@@ -63,5 +63,23 @@ pub(crate) fn gather_bytes<W: Write>(
     }
     write_page(writer, page)?;
     write_bytes(writer, bytes)?;
+    Ok(())
+}
+
+/// Puts one byte behind those on the page.
+#[inline(always)]
+pub(crate) fn gather_byte<W: Write>(
+    writer: &mut W,
+    page: &mut Page,
+    byte: u8,
+) -> Result<(), Unwritten>
+    ensures written { OnOk result (Appends (append_known (W.contents writer.old) page.old.items)
+        (append_known (W.contents writer.new) page.new.items) (byte ∷ [])) }
+    ensures kept { StaysInFront (W.contents writer.old) (W.contents writer.new) }
+{
+    if page.is_full() {
+        return gather_bytes(writer, page, &[byte]);
+    }
+    page.push(byte);
     Ok(())
 }

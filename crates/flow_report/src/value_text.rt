@@ -1,10 +1,11 @@
 //! Prints values: numbers in decimal, texts between double quotes, rows and lists between brackets.
 ghost use Rattle.std.specs.Prelude.{◌≡◌, ◌<◌, ◌↔◌, true, false, [], ◌∷◌, ◌++◌, IsTrue, OnOk};
+ghost use Rattle.std.specs.Fmt.{signed_decimal};
 ghost use Rattle.std.specs.Io.KnownBytes.{Appends, append_known};
 ghost use Rattle.flow_report.specs.Written.{StaysInFront};
 ghost use Rattle.flow_report.specs.Printed.{hex_digit, escaped, escapes, quoted, value_text, list_text, comma_unless};
 
-use crate::page::{Page, Unwritten, gather_bytes};
+use crate::page::{Page, Unwritten, gather_byte, gather_bytes};
 use flow_value::{Value, is_plain_byte};
 use itoa::Buffer;
 use std::io::Write;
@@ -47,7 +48,7 @@ fn gather_escaped<W: Write>(writer: &mut W, page: &mut Page, byte: u8) -> Result
                 ],
             )
         }
-        _ => gather_bytes(writer, page, &[byte]),
+        _ => gather_byte(writer, page, byte),
     }
 }
 
@@ -74,12 +75,13 @@ fn gather_quoted<W: Write>(writer: &mut W, page: &mut Page, text: &str) -> Resul
         (append_known (W.contents writer.new) page.new.items) (quoted text.now)) }
     ensures kept { StaysInFront (W.contents writer.old) (W.contents writer.new) }
 {
-    gather_bytes(writer, page, b"\"")?;
+    gather_byte(writer, page, b'"')?;
     gather_escapes(writer, page, text.as_bytes())?;
-    gather_bytes(writer, page, b"\"")
+    gather_byte(writer, page, b'"')
 }
 
 // Gathers the comma before an item that is not the first.
+#[inline(always)]
 fn gather_comma<W: Write>(writer: &mut W, page: &mut Page, is_first: bool) -> Result<(), Unwritten>
     ensures written { OnOk result (Appends (append_known (W.contents writer.old) page.old.items)
         (append_known (W.contents writer.new) page.new.items) (comma_unless is_first)) }
@@ -88,11 +90,10 @@ fn gather_comma<W: Write>(writer: &mut W, page: &mut Page, is_first: bool) -> Re
     if is_first {
         return Ok(());
     }
-    gather_bytes(writer, page, b",")
+    gather_byte(writer, page, b',')
 }
 
 // Puts the digits of a number on the page as an item, if there is room for them; else false.
-#[inline]
 fn put_digits(page: &mut Page, is_first: bool, digits: &[u8]) -> bool
     ensures put { result ≡ true → page.new.items ≡ page.old.items ++ (comma_unless is_first ++ digits.now) }
     ensures kept { result ≡ false → page.new ≡ page.old }
@@ -108,7 +109,7 @@ fn put_digits(page: &mut Page, is_first: bool, digits: &[u8]) -> bool
 }
 
 // Puts a text that is printed as it is on the page as an item, if there is room for it; else false.
-#[inline]
+#[inline(always)]
 fn put_text(page: &mut Page, is_first: bool, text: &[u8]) -> bool
     requires { escapes text.now ≡ text.now }
     ensures put { result ≡ true → page.new.items ≡ page.old.items ++ (comma_unless is_first ++ quoted text.now) }
@@ -126,15 +127,24 @@ fn put_text(page: &mut Page, is_first: bool, text: &[u8]) -> bool
     true
 }
 
+// Puts a number on the page as an item, if there is room for it; else false.
+#[inline(never)]
+fn put_number(page: &mut Page, is_first: bool, number: i64) -> bool
+    ensures put { result ≡ true → page.new.items ≡ page.old.items ++ (comma_unless is_first ++ signed_decimal number) }
+    ensures kept { result ≡ false → page.new ≡ page.old }
+{
+    put_digits(page, is_first, Buffer::new().format(number).as_bytes())
+}
+
 // Puts a number or a plain text on the page as an item, if there is room for it; else false.
-#[inline]
+#[inline(always)]
 #[tactic(auto, using(crate::proofs::PlainText::plain_text))]
 fn put_item(page: &mut Page, is_first: bool, value: &Value) -> bool
     ensures put { result ≡ true → page.new.items ≡ page.old.items ++ (comma_unless is_first ++ value_text value.now) }
     ensures kept { result ≡ false → page.new ≡ page.old }
 {
     match value {
-        Value::Int(number) => put_digits(page, is_first, Buffer::new().format(*number).as_bytes()),
+        Value::Int(number) => put_number(page, is_first, *number),
         Value::Text(text) => {
             text.is_plain() && put_text(page, is_first, text.as_str().as_bytes())
         }
@@ -143,6 +153,7 @@ fn put_item(page: &mut Page, is_first: bool, value: &Value) -> bool
 }
 
 /// Gathers the value as an item of a list: with a comma before it, unless it is the first.
+#[inline(always)]
 #[cycle(printing)]
 pub(crate) fn gather_item<W: Write>(
     writer: &mut W,
@@ -161,7 +172,7 @@ pub(crate) fn gather_item<W: Write>(
 }
 
 // Gathers the value as an item, part by part.
-#[cold]
+#[inline(never)]
 #[cycle(printing)]
 fn gather_parts<W: Write>(
     writer: &mut W,
@@ -192,9 +203,9 @@ fn gather_values<W: Write>(
         (append_known (W.contents writer.new) page.new.items) (list_text values.now)) }
     ensures kept { StaysInFront (W.contents writer.old) (W.contents writer.new) }
 {
-    gather_bytes(writer, page, b"[")?;
+    gather_byte(writer, page, b'[')?;
     for (at, value) in values.iter().enumerate() {
         gather_item(writer, page, at == 0, value)?;
     }
-    gather_bytes(writer, page, b"]")
+    gather_byte(writer, page, b']')
 }
