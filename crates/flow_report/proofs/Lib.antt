@@ -6,6 +6,7 @@ pub mod ListsAgree
 pub mod ListsGrow
 pub mod PickedYields
 pub mod PlainText
+pub mod PostedTaken
 pub mod PrintedGrows
 pub mod ReportGrows
 pub mod SortedGiven

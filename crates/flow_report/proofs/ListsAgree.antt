@@ -1,5 +1,5 @@
 -- Which lists of a lawful run are the same, by its laws and by how long they are.
-use Rattle.std.proofs.Common.{◌≡◌, ◌≢◌, ℕ, ◌+◌, ◌<◌, ◌≤◌, ◌==◌, ◌&&◌, ◌||◌, not, ◌⊎◌, inl, inr, Bool, true, false, cond, ltb, List, [], ◌∷◌, ◌++◌, length, map, Option, Some, Result, Ok, refl, ap, sym, ◌∙◌, subst, arith, length-append, eqb-true, eq-eqb}
+use Rattle.std.proofs.Common.{◌≡◌, ◌≢◌, ℕ, ◌+◌, ◌<◌, ◌≤◌, ◌==◌, ◌&&◌, ◌||◌, not, ◌⊎◌, inl, inr, Bool, true, false, cond, ltb, List, [], ◌∷◌, ◌++◌, length, map, filter, Option, Some, Result, Ok, refl, ap, sym, ◌∙◌, subst, arith, length-append, eqb-true, eq-eqb}
 use Rattle.std.proofs.lemmas.Bool.{and_parts, ltb-true}
 use Rattle.std.proofs.lemmas.Bool.Decides.{eqb_tells}
 use Rattle.std.proofs.lemmas.List.{append-nil}
@@ -13,16 +13,19 @@ use Rattle.flow_link.specs.declared.plan.LinkTarget.{LinkTarget}
 use Rattle.flow_link.specs.declared.plan.LinkTarget.TheVariants.{Port, Exit}
 use Rattle.flow_link.specs.declared.trace.Mark.{Mark}
 use Rattle.flow_link.specs.declared.trace.Mark.TheVariants.{Took, Gave, Complete, Fault, Done}
-use Rattle.flow_link.specs.Copies.{elements, broadcasts_over, newest_left, copies, copies_as}
+use Rattle.flow_value.specs.When.{admits}
+use Rattle.flow_value.specs.declared.when.When.{When}
+use Rattle.flow_value.specs.declared.when.When.TheVariants.{Any}
+use Rattle.flow_link.specs.Copies.{elements, broadcasts_over, newest_left, owes, carried_of, up_to, carries_all, copies, copies_as}
 use Rattle.flow_link.specs.Making.{result_of, results_of, is_made, block_result, worked, makes, makes_as}
 use Rattle.flow_link.specs.Plan.{begins_at, ends_at_port, port_count, ports_by_kind}
 use Rattle.flow_link.specs.Trace.{Run, took, took_at, took_over, gave, gave_over, given_over, given_by, taken_by, block_of, link_of, link_numbers, trace_of, marks_of, held_at, left_at}
 use Rattle.flow_link.specs.WellFormed.{IsWellFormed}
-use Rattle.flow_lists.specs.Lists.{every, same_values, is_subsequence, concat}
+use Rattle.flow_lists.specs.Lists.{every, is_empty, same_values, is_subsequence, concat}
 use Rattle.flow_lists.proofs.ListTests.{passes_below}
 use Rattle.flow_lawful.specs.Law.{is_own_mark}
 use Rattle.flow_lawful.specs.Lawful.{Lawful}
-use Rattle.flow_report.specs.SameLists.{AllTaken, LeadsAlone, hands_on}
+use Rattle.flow_report.specs.SameLists.{AllTaken, LeadsAlone, LeavesAlone, CarriesEach, hands_on}
 
 -- Lists
 
@@ -86,6 +89,11 @@ all_over_one l (Took _ _ _ ∷ marks) long = all_over_one l marks long
 all_over_one l (Complete _ ∷ marks) long = all_over_one l marks long
 all_over_one l (Fault _ ∷ marks) long = all_over_one l marks long
 all_over_one l (Done ∷ marks) long = all_over_one l marks long
+
+-- a link that lets each value cross carries all
+each_passes : (values : List Value) → filter (admits Any) values ≡ values
+each_passes [] = refl
+each_passes (value ∷ values) = ap (λ (rest : List Value). value ∷ rest) (each_passes values)
 
 -- Ports
 
@@ -151,6 +159,20 @@ module _ {W : Type 0} (run : Run W) (b : ℕ) where
     took_first (Fault number ∷ marks) own = took_first marks own
     took_first (Done ∷ marks) own = took_first marks own
 
+  -- what a block with one link out of it gave is what it gave over that link
+  gave_alone : (l : ℕ) → LeavesAlone run b l → (marks : List Mark) → every (is_own_mark run b) marks ≡ true → gave_over l marks ≡ gave marks
+  gave_alone l one [] own = refl
+  gave_alone l one (Gave link value ∷ marks) own =
+      let both = and_parts (is_own_mark run b (Gave link value)) (every (is_own_mark run b) marks) own in
+      let its = and_parts (ltb link (length run.layout.links)) (begins_at b (link_of run link).source) both.0 in
+      let here : link ≡ l = one link (ltb-true link (length run.layout.links) its.0) its.1 in
+      ap (λ (t : Bool). cond t (value ∷ gave_over l marks) (gave_over l marks)) (eq-eqb link l here)
+      ∙ ap (λ (rest : List Value). value ∷ rest) (gave_alone l one marks both.1)
+  gave_alone l one (Took port link value ∷ marks) own = gave_alone l one marks (and_parts (is_own_mark run b (Took port link value)) (every (is_own_mark run b) marks) own).1
+  gave_alone l one (Complete port ∷ marks) own = gave_alone l one marks (and_parts (is_own_mark run b (Complete port)) (every (is_own_mark run b) marks) own).1
+  gave_alone l one (Fault number ∷ marks) own = gave_alone l one marks own
+  gave_alone l one (Done ∷ marks) own = gave_alone l one marks own
+
   -- Blocks
   module _ (lawful : Lawful run) (low : b < length run.layout.blocks) where
     own_marks : every (is_own_mark run b) (marks_of run b) ≡ true
@@ -182,6 +204,19 @@ module _ {W : Type 0} (run : Run W) (b : ℕ) where
           ∙ ap (λ (held : List Value). (gave marks ++ left_at run b) ++ held) (sym no_held)
           ∙ sym all ∙ took_first at_first marks own_marks
 
+      -- so did one with nothing held and nothing left, where no other link leaves it
+      buffer_gave_all : (l : ℕ) → (block_of run b).kind ≡ Buffer → LeavesAlone run b l → left_at run b ≡ [] → held_at run b 0 ≡ []
+          → gave_over l (marks_of run b) ≡ took_at 0 (marks_of run b)
+      buffer_gave_all l kind one no_left no_held =
+          let marks = marks_of run b in
+          let all : took marks ≡ (gave marks ++ left_at run b) ++ held_at run b 0 =
+          same_values_tell (took marks) ((gave marks ++ left_at run b) ++ held_at run b 0) (sym (ap (makes_as run b) kind) ∙ makes_its) in
+          gave_alone l one marks own_marks
+          ∙ sym (append-nil (gave marks)) ∙ sym (append-nil (gave marks ++ []))
+          ∙ ap (λ (left : List Value). (gave marks ++ left) ++ []) (sym no_left)
+          ∙ ap (λ (held : List Value). (gave marks ++ left_at run b) ++ held) (sym no_held)
+          ∙ sym all ∙ took_first at_first marks own_marks
+
       is_part : (begins part steady sole : Bool) → begins ≡ true → not begins || (part && steady && sole) ≡ true → part ≡ true
       is_part true part steady sole is over = (and_parts part steady (and_parts (part && steady) sole over).0).0
       is_part false part steady sole is over = absurd (cc)
@@ -206,6 +241,41 @@ module _ {W : Type 0} (run : Run W) (b : ℕ) where
           let less = part_no_longer (given_over run l) (elements run b) part in
           let no_held : held ≡ [] = none-left held (omega (arith, count, less, same_length)) in
           sym given ∙ part_as_long (given_over run l) (elements run b) part (omega (arith, count, same_length))
+          ∙ sym (append-nil (elements run b)) ∙ ap (λ (rest : List Value). elements run b ++ rest) (sym no_held)
+          ∙ sym all ∙ took_first at_first marks own_marks
+
+      is_carried : (begins part steady all sole : Bool) → begins ≡ true → steady ≡ true → not begins || (part && (not steady || all) && sole) ≡ true → all ≡ true
+      is_carried true part true all sole is each over = (and_parts part all (and_parts (part && all) sole over).0).1
+      is_carried true part false all sole is each over = absurd (cc)
+      is_carried false part steady all sole is each over = absurd (cc)
+
+      no_exception : (all owed less refused front : Bool) → owed ≡ false → refused ≡ false → all || (owed && less) || (refused && front) ≡ true → all ≡ true
+      no_exception true owed less refused front nothing takes is = refl
+      no_exception false true less refused front nothing takes is = absurd (cc)
+      no_exception false false less true front nothing takes is = absurd (cc)
+      no_exception false false less false front nothing takes is = absurd (cc)
+
+      -- so did one with nothing held and nothing left, over a link that carries each copy
+      broadcast_gave_all : (l : ℕ) → (block_of run b).kind ≡ Broadcast → l < length run.layout.links → (link_of run l).source ≡ Block b
+          → begins_at b (link_of run l).source ≡ true → CarriesEach run l → left_at run b ≡ [] → held_at run b 0 ≡ []
+          → gave_over l (marks_of run b) ≡ took_at 0 (marks_of run b)
+      broadcast_gave_all l kind there from begins each no_left no_held =
+          let marks = marks_of run b in
+          let held = held_at run b 0 in
+          let test = sym (ap (copies_as run b) kind) ∙ copies_its in
+          let both = and_parts (same_values (took marks) (elements run b ++ held) && newest_left run b) (every (broadcasts_over run b) (link_numbers run)) test in
+          let first = and_parts (same_values (took marks) (elements run b ++ held)) (newest_left run b) both.0 in
+          let over : broadcasts_over run b l ≡ true = passes_below (broadcasts_over run b) (length run.layout.links) l both.1 there in
+          let all : took marks ≡ elements run b ++ held = same_values_tell (took marks) (elements run b ++ held) first.0 in
+          let given : given_over run l ≡ gave_over l marks = ap (given_by run l) from in
+          let carried : carries_all run b l ≡ true = is_carried (begins_at b (link_of run l).source) _ _ (carries_all run b l) _ begins each.steady over in
+          let owed : owes run b ≡ false = ap (λ (left : List Value). not (is_empty left)) no_left in
+          let whole : same_values (given_over run l) (carried_of (link_of run l) (elements run b)) ≡ true =
+          no_exception (same_values (given_over run l) (carried_of (link_of run l) (elements run b))) _ _ _ _ owed each.refused carried in
+          sym given ∙ same_values_tell (given_over run l) (carried_of (link_of run l) (elements run b)) whole
+          ∙ ap (λ (max : Option ℕ). up_to max (filter (admits (link_of run l).when) (elements run b))) each.max
+          ∙ ap (λ (when : When). filter (admits when) (elements run b)) each.when
+          ∙ each_passes (elements run b)
           ∙ sym (append-nil (elements run b)) ∙ ap (λ (rest : List Value). elements run b ++ rest) (sym no_held)
           ∙ sym all ∙ took_first at_first marks own_marks
 
@@ -251,6 +321,17 @@ module _ {W : Type 0} (run : Run W) (b : ℕ) (lawful : Lawful run) (well : IsWe
       by_kind Buffer is on = buffer_hands_on run b lawful low (one_port Buffer is (λ ports. refl)) l is long
       by_kind Broadcast is on = broadcast_hands_on run b lawful low (one_port Broadcast is (λ ports. refl)) l is there (source_is b (link_of run l).source begins) begins long
       by_kind _ is on = absurd (cc)
+
+  -- the same of a block with nothing held and nothing left, by its links
+  pub buffer_gave : (l : ℕ) → (block_of run b).kind ≡ Buffer → LeavesAlone run b l → left_at run b ≡ [] → held_at run b 0 ≡ []
+      → gave_over l (marks_of run b) ≡ took_at 0 (marks_of run b)
+  buffer_gave l is one no_left no_held =
+      buffer_gave_all run b lawful low (one_port Buffer is (λ ports. refl)) l is one no_left no_held
+
+  pub broadcast_gave : (l : ℕ) → (block_of run b).kind ≡ Broadcast → l < length run.layout.links → begins_at b (link_of run l).source ≡ true
+      → CarriesEach run l → left_at run b ≡ [] → held_at run b 0 ≡ [] → gave_over l (marks_of run b) ≡ took_at 0 (marks_of run b)
+  broadcast_gave l is there begins each no_left no_held =
+      broadcast_gave_all run b lawful low (one_port Broadcast is (λ ports. refl)) l is there (source_is b (link_of run l).source begins) begins each no_left no_held
 
   pub recorded_all : (block_of run b).kind ≡ Action → ((value : Value) → run.meaning b value ≡ Ok (value ∷ [])) → held_at run b 0 ≡ []
       → (trace_of run b).recorded ≡ took_at 0 (marks_of run b)

@@ -22,10 +22,13 @@ use crate::list_line::{
     write_taken_line,
 };
 use crate::piece::write_bytes;
-use crate::same::{hands_all_on, hands_on, leads_alone, link_of_port, may_show_again, records_all};
+use crate::same::{
+    hands_all_on, hands_on, is_from, leads_alone, link_of_port, may_show_again, records_all,
+    took_all_posted,
+};
 use crate::seen::{block_at, block_count, held_at, left_at, link_at, link_count};
 use flow_fault_text::{TextFault, TextRefusal};
-use flow_link::{BlockDef, BlockKind, Link, LinkId, LinkSource, Mark};
+use flow_link::{BlockDef, BlockKind, Link, LinkId, Mark};
 use flow_net::{Net, Settled, State};
 use flow_value::{Steps, Value};
 use std::alloc::Global;
@@ -325,15 +328,6 @@ fn write_ports<W: Write>(
     Ok(())
 }
 
-fn is_from(link: Link, block: usize) -> bool
-    ensures { result ≡ begins_at block link.source }
-{
-    match link.source {
-        LinkSource::Block(source) => source == block,
-        LinkSource::Input(_) => false,
-    }
-}
-
 // Sorts what a block gave once it has a line for a few links, so that its journal is walked through once for all other
 // lines. Where memory is out, it is walked through for each.
 fn sort_for_many<'a>(
@@ -433,7 +427,11 @@ pub(crate) fn waiting(net: &Net<Steps>, block: usize) -> &[Value]
     requires is_input { (block_of (run_in net.now) block).input ≡ true }
     ensures { result.now ≡ waits_over (run_in net.now) block (input_link_number (run_in net.now) block) }
 {
-    let taken = count_taken(net.journal(block), input_link_of(net, block));
+    let link = input_link_of(net, block);
+    if took_all_posted(net, block, link) {
+        return &[];
+    }
+    let taken = count_taken(net.journal(block), link);
     not_taken(net.posted(block), taken)
 }
 

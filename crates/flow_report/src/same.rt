@@ -1,18 +1,24 @@
 //! Which lists of a report have the same values, as far as the laws of a network tell.
-ghost use Rattle.std.specs.Prelude.{◌≡◌, ◌<◌, ◌≤◌, ◌↔◌, ◌∷◌, [], length, true, IsTrue, IfSome, Ok};
+ghost use Rattle.std.specs.Prelude.{◌≡◌, ◌<◌, ◌≤◌, ◌↔◌, ◌∷◌, [], length, true, false, IsTrue, IfSome, Ok};
 ghost use Rattle.flow_value.specs.declared.value.Value.{Value};
 ghost use Rattle.flow_value.specs.Function.{meaning_of};
 ghost use Rattle.flow_link.specs.declared.draft.BlockKind.TheVariants.{Action};
-ghost use Rattle.flow_link.specs.Plan.{begins_at, ends_at_port, port_count};
-ghost use Rattle.flow_link.specs.Trace.{took, took_at, gave_over, given_over, block_of, link_of, held_at, marks_of, trace_of};
+ghost use Rattle.flow_link.specs.Layout.{input_link};
+ghost use Rattle.flow_link.specs.Plan.{begins_at, ends_at_port, port_count, takes_at_once};
+ghost use Rattle.flow_link.specs.Trace.{took, took_at, gave_over, given_over, block_of, link_of, held_at, left_at};
+ghost use Rattle.flow_link.specs.Trace.{marks_of, trace_of, waits_over};
 ghost use Rattle.flow_exec.specs.Works.{worked_by};
+ghost use Rattle.flow_net.specs.States.{state_by};
 ghost use Rattle.flow_report.specs.Report.{run_in};
-ghost use Rattle.flow_report.specs.SameLists.{AllTaken, LeadsAlone, hands_on};
+ghost use Rattle.flow_report.specs.SameLists.{AllTaken, LeadsAlone, LeavesAlone, CarriesEach, hands_on};
+ghost use Rattle.flow_report.specs.SameLists.{ends_with_ports};
 
-use crate::seen::{block_at, held_at, link_at, link_count};
-use flow_link::{BlockDef, BlockKind, BlockUnit, Link, LinkId, LinkSource, LinkTarget, Mark};
-use flow_net::Net;
-use flow_value::Steps;
+use crate::seen::{block_at, block_count, held_at, left_at, link_at, link_count};
+use flow_link::{
+    BlockDef, BlockKind, BlockUnit, Link, LinkId, LinkSource, LinkTarget, Mark, Phase,
+};
+use flow_net::{Net, State};
+use flow_value::{Steps, When};
 
 fn is_into(link: Link, block: usize, port: u32) -> bool
     ensures { result ≡ ends_at_port block port link.target }
@@ -116,6 +122,94 @@ pub(crate) fn hands_on(kind: BlockKind) -> bool
     }
 }
 
+/// Whether this link begins at this block.
+pub(crate) fn is_from(link: Link, block: usize) -> bool
+    ensures { result ≡ begins_at block link.source }
+{
+    match link.source {
+        LinkSource::Block(source) => source == block,
+        LinkSource::Input(_) => false,
+    }
+}
+
+// Whether this link is another one from this block.
+fn is_other_from(net: &Net<Steps>, block: usize, link: LinkId, other: LinkId) -> bool
+    requires { other < length (run_in net.now).layout.links }
+    ensures { result ≡ false → begins_at block (link_of (run_in net.now) other).source ≡ true → other ≡ link }
+{
+    other != link && is_from(link_at(net, other), block)
+}
+
+// Whether no other link begins at this block.
+fn leaves_alone(net: &Net<Steps>, block: usize, link: LinkId) -> bool
+    ensures { result ≡ true → LeavesAlone (run_in net.now) block link }
+{
+    for id in 0..link_count(net) {
+        if is_other_from(net, block, link, id) {
+            return false;
+        }
+    }
+    true
+}
+
+// Whether this block is there, and takes each message when it is offered.
+fn takes_at_once(net: &Net<Steps>, block: usize) -> bool
+    ensures { result ≡ true → takes_at_once (block_of (run_in net.now) block) ≡ true }
+{
+    if block >= block_count(net) {
+        return false;
+    }
+    let def = block_at(net, block);
+    def.capacity.is_none()
+        && !matches!(def.kind, BlockKind::WriteOnce)
+        && !def.kind.unit().reserves(def.greedy)
+}
+
+// Whether a link from a broadcast block carries each copy: its target takes all, and did not refuse.
+fn carries_each(net: &Net<Steps>, link: LinkId) -> bool
+    requires { link < length (run_in net.now).layout.links }
+    ensures { result ≡ true → CarriesEach (run_in net.now) link }
+{
+    let way = link_at(net, link);
+    let steady = match way.target {
+        LinkTarget::Port(target, _) => takes_at_once(net, target),
+        LinkTarget::Exit => false,
+    };
+    steady
+        && matches!(way.when, When::Any)
+        && way.max.is_none()
+        && !matches!(net.phase(link), Phase::Refused)
+}
+
+// Whether a block holds nothing at its first port, and has nothing left to give.
+fn has_nothing(net: &Net<Steps>, block: usize) -> bool
+    requires block { block < length (run_in net.now).layout.blocks }
+    requires port { 0 < port_count (block_of (run_in net.now) block) }
+    ensures left { result ≡ true → left_at (run_in net.now) block ≡ [] }
+    ensures held { result ≡ true → held_at (run_in net.now) block 0 ≡ [] }
+{
+    let (front, back) = left_at(net, block);
+    front.is_empty() && back.is_empty() && holds_nothing(net, block, 0)
+}
+
+// Whether it is known without a look at the journal that this block gave over this link just the values that it took.
+fn has_given_all(net: &Net<Steps>, block: usize, link: LinkId) -> bool
+    requires known { block < length (run_in net.now).layout.blocks }
+    requires link { link < length (run_in net.now).layout.links }
+    requires from { begins_at block (link_of (run_in net.now) link).source ≡ true }
+    ensures { result ≡ true → gave_over link (marks_of (run_in net.now) block) ≡ took_at 0
+        (marks_of (run_in net.now) block) }
+{
+    let kind = block_at(net, block).kind;
+    if matches!(kind, BlockKind::Buffer) {
+        return leaves_alone(net, block, link) && has_nothing(net, block);
+    }
+    if matches!(kind, BlockKind::Broadcast) {
+        return carries_each(net, link) && has_nothing(net, block);
+    }
+    false
+}
+
 /// Whether it is known that this block gave over this link just the values that it took, in their order.
 pub(crate) fn hands_all_on(net: &Net<Steps>, block: usize, link: LinkId) -> bool
     requires known { block < length (run_in net.now).layout.blocks }
@@ -124,6 +218,9 @@ pub(crate) fn hands_all_on(net: &Net<Steps>, block: usize, link: LinkId) -> bool
     ensures { result ≡ true → gave_over link (marks_of (run_in net.now) block) ≡ took_at 0
         (marks_of (run_in net.now) block) }
 {
+    if has_given_all(net, block, link) {
+        return true;
+    }
     hands_on(block_at(net, block).kind) && gave_as_many(net.journal(block), link)
 }
 
@@ -160,4 +257,39 @@ pub(crate) fn records_all(net: &Net<Steps>, block: usize) -> bool
 /// Whether other lines of this block may have just the values that it took.
 pub(crate) fn may_show_again(block: &BlockDef<Steps>) -> bool {
     hands_on(block.kind) || (matches!(block.kind, BlockKind::Action) && gives_back(&block.work))
+}
+
+// Whether a block of this kind ends only once its ports have completed.
+fn ends_with_ports(kind: BlockKind) -> bool
+    ensures { result ≡ ends_with_ports kind }
+{
+    match kind.unit() {
+        BlockUnit::Message | BlockUnit::Row | BlockUnit::Group | BlockUnit::Copy => true,
+        BlockUnit::Tuple | BlockUnit::OneCopy => false,
+    }
+}
+
+fn is_done(net: &Net<Steps>, block: usize) -> bool
+    requires { block < length (run_in net.now).layout.blocks }
+    ensures { result ≡ true → state_by (run_in net.now) block ≡ State.Done }
+{
+    matches!(net.state(block), State::Done)
+}
+
+/// Whether it is known without a look at the journal that an input took all that was posted, over its link.
+pub(crate) fn took_all_posted(net: &Net<Steps>, block: usize, link: LinkId) -> bool
+    requires known { block < length (run_in net.now).layout.blocks }
+    requires leads { link_of (run_in net.now) link ≡ input_link block }
+    ensures { result ≡ true → waits_over (run_in net.now) block link ≡ [] }
+{
+    if !is_done(net, block) {
+        return false;
+    }
+    if !ends_with_ports(block_at(net, block).kind) {
+        return false;
+    }
+    match link_into(net, block, 0) {
+        Some(only) => only == link,
+        None => false,
+    }
 }
