@@ -8,7 +8,7 @@ use Rattle.flow_fault_text.specs.declared.fault.TextFault.TheVariants.{Write}
 use Rattle.flow_fault_text.specs.declared.fault.TextRefusal.{TextRefusal}
 use Rattle.flow_fault_text.specs.declared.fault.TextRefusal.TheVariants.{Fault}
 use Rattle.flow_run.specs.Left.{IsLeft}
-use Rattle.flow_run.specs.Ran.{Begins, HasRun, IsPosted, HasUnreadRecords, IsReported, IsUnreported}
+use Rattle.flow_run.specs.Ran.{Begins, HasRun, IsPosted, HasUnreadRecords, IsReported, IsReportedOf, IsUnreported}
 use Rattle.flow_run.specs.Split.{IsSplit}
 use Rattle.flow_run.specs.declared.outcome.Ran.{Ran}
 use Rattle.flow_run.specs.declared.outcome.RunRefusal.{RunRefusal}
@@ -33,12 +33,11 @@ pub has_run_of_any : {workers limit : ℕ} {layout : Layout Steps} {start now : 
 has_run_of_any records r = record { lawful = r.lawful; posted = posted_of_any records r.posted; one_by_one = r.one_by_one }
 
 -- a report of known records that were written somehow is one of any
-pub of_any : (text : List ℕ) (workers limit : ℕ) (Written : List ℕ → Type 0) (ran : Ran) (records : Option (List ℕ))
-    → IsReported text records workers limit Written ran → IsReported text None workers limit (λ report. Unit {0}) ran
-of_any text workers limit Written ran records r = record {
-  layout = r.layout;
+pub of_any : {text : List ℕ} {workers limit : ℕ} {Written : List ℕ → Type 0} {layout : Layout Steps} {now : NetState}
+    {ran : Ran} (records : Option (List ℕ)) → IsReportedOf text records workers limit Written layout now ran
+    → IsReportedOf text None workers limit (λ report. Unit {0}) layout now ran
+of_any records r = record {
   start = r.start;
-  now = r.now;
   begins = begins_of_any records r.begins;
   has_run = has_run_of_any records r.has_run;
   has_ended = r.has_ended;
@@ -47,13 +46,14 @@ of_any text workers limit Written ran records r = record {
 }
 
 -- where the report of a run was not written whole, this is why there is none
-pub unwritten : (text : List ℕ) (records : Option (List ℕ)) (workers limit : ℕ) (Written : List ℕ → Type 0) (ran : Ran)
-    → IsReported text records workers limit Written ran → IsUnreported text records workers limit (Text Write)
-unwritten text records workers limit Written ran r = inr (record {
+pub unwritten : {text : List ℕ} {records : Option (List ℕ)} {workers limit : ℕ} {Written : List ℕ → Type 0}
+    {layout : Layout Steps} {now : NetState} {ran : Ran} → IsReportedOf text records workers limit Written layout now ran
+    → IsUnreported text records workers limit (Text Write)
+unwritten {layout = layout} {now = now} {ran = ran} r = inr (record {
   is_write = refl;
-  layout = r.layout;
+  layout = layout;
   start = r.start;
-  now = r.now;
+  now = now;
   settled = ran.settled;
   begins = r.begins;
   has_run = r.has_run;

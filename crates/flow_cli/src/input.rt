@@ -9,14 +9,14 @@ ghost use Rattle.flow_cli.specs.Reported.{IsReportedIn, IsReportedOfAny, IsRefus
 ghost use Rattle.flow_cli.specs.Request.{IsCrew, default_limit, default_workers};
 
 use crate::request::{Bounds, DEFAULT_BOUNDS};
-use flow_run::{Ran, RunRefusal, TextFault, run, split_input};
+use flow_run::{Ran, RunRefusal, TextFault, run_and_keep, split_input};
 use flow_text::write_bytes;
 use std::alloc::Global;
 use std::fs::Files;
 use std::io::{BufReader, BufWriter, ErrorKind, Input, Read, Write};
 use std::sync::Wait;
 use std::thread::Threads;
-use std::{fs, io};
+use std::{fs, io, mem};
 
 /// Runs the network in this file over the records in standard input.
 pub fn run_file<R: Files + Input + Print + AllocGlobal + Threads + Wait + Sync>(
@@ -50,7 +50,9 @@ fn run_buffered<C: Threads + Wait + Sync, R: Read + Drop, W: Write + Drop>(
         return Err(RunRefusal::Memory);
     };
     let Bounds { workers, limit } = bounds;
-    let ran = run(rt, alloc, text, records, &mut buffer, workers, limit)?;
+    let (ran, net) = run_and_keep(rt, alloc, text, records, &mut buffer, workers, limit)?;
+    // The process is about to end: its memory goes back at once, and not value by value.
+    mem::forget(net);
     match buffer.into_inner() {
         Ok(_) => Ok(ran),
         Err(_) => Err(RunRefusal::Text(TextFault::Write)),
@@ -92,10 +94,12 @@ fn run_whole<C: Threads + Wait + Sync, W: Write>(
 {
     let mut report: Vec<u8> = Vec::new(alloc);
     let Bounds { workers, limit } = bounds;
-    let ran = match run(rt, alloc, text, records, &mut report, workers, limit) {
-        Ok(ran) => ran,
+    let (ran, net) = match run_and_keep(rt, alloc, text, records, &mut report, workers, limit) {
+        Ok(kept) => kept,
         Err(refusal) => return Err(in_memory(refusal)),
     };
+    // The process is about to end: its memory goes back at once, and not value by value.
+    mem::forget(net);
     match write_bytes(writer, &report) {
         Ok(()) => Ok(ran),
         Err(_) => Err(RunRefusal::Text(TextFault::Write)),

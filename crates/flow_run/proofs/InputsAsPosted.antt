@@ -35,8 +35,9 @@ use Rattle.flow_fault_text.specs.declared.fault.TextRefusal.TheVariants.{Fault, 
 use Rattle.flow_plan_text.specs.Plan.{IsUnplannedFor}
 use Rattle.flow_report.specs.Written.{StaysInFront}
 use Rattle.flow_run.specs.Left.{IsLeft as IsLeftIn}
-use Rattle.flow_run.specs.Ran.{Begins, HasEnded, HasRun, HasUnreadRecords, HasUnwrittenReport, IsPosted, IsUnbegun, IsUnreported}
+use Rattle.flow_run.specs.Ran.{Begins, HasEnded, HasRun, HasUnreadRecords, HasUnwrittenReport, IsPosted, IsReported, IsReportedOf, IsUnbegun, IsUnreported}
 use Rattle.flow_run.specs.Refusal.{refusal_of, told_as}
+use Rattle.flow_run.specs.declared.outcome.Ran.{Ran}
 use Rattle.flow_run.specs.declared.outcome.RunRefusal.{RunRefusal}
 use Rattle.flow_record_text.specs.Records.{PostAll, input_names, posted_endings, posted_values}
 
@@ -137,6 +138,12 @@ module _ {w : _} {e : _} (text : List ℕ) (records : Option (List ℕ)) (worker
   -- whoever settles goes on
   pub goes_on : (how : Settled) → NetSettles meaning_of limit old new how → NetGoesOn meaning_of limit old new
   goes_on how settles = record { count = settles.count; within = settles.within; happened = settles.happened }
+
+-- what is reported of a network that is there is reported
+pub is_reported : {text : List ℕ} {records : Option (List ℕ)} {workers limit : ℕ} {Written : List ℕ → Type 0} {layout : Layout Steps}
+    {now : NetState} {ran : Ran} → IsReportedOf text records workers limit Written layout now ran
+    → IsReported text records workers limit Written ran
+is_reported {layout = layout} {now = now} reported = record { layout = layout; now = now; reported = reported }
 
 -- why there is no plan, no posted values, no network, no end of the run, or no report
 module _ (text : List ℕ) (records : Option (List ℕ)) where

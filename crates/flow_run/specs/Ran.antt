@@ -54,12 +54,11 @@ pub record HasEnded (workers limit : ℕ) (layout : Layout Steps) (start now : N
   pub quiet : settled ≡ Quiet → IsQuiet (run_with meaning_of layout now)
   pub settles : workers ≡ 1 → Settles layout (works_of meaning_of layout) limit start now settled
 
--- of the network's text, of the records, of the number of workers and the limit of events, of what was written, and of what the run
--- came to
-pub record IsReported (text : List ℕ) (records : Option (List ℕ)) (workers limit : ℕ) (Written : List ℕ → Type 0) (ran : Ran) : Type 0 where
-  pub layout : Layout Steps
+-- of the network's text, of the records, of the number of workers and the limit of events, of what was written, of the network as
+-- the run left it, and of what the run came to
+pub record IsReportedOf (text : List ℕ) (records : Option (List ℕ)) (workers limit : ℕ) (Written : List ℕ → Type 0)
+    (layout : Layout Steps) (now : NetState) (ran : Ran) : Type 0 where
   pub start : NetState
-  pub now : NetState
   -- nothing had happened, and it went on until nothing could happen any more, or the limit was reached
   pub begins : Begins text records layout start
   pub has_run : HasRun records workers limit layout start now
@@ -68,6 +67,13 @@ pub record IsReported (text : List ℕ) (records : Option (List ℕ)) (workers l
   pub written : Written (report (run_with meaning_of layout now) ran.settled)
   -- it is told as complete exactly where it is
   pub complete : ran.complete ≡ is_complete (run_with meaning_of layout now)
+
+-- the same of some layout and state: the network itself is gone
+pub record IsReported (text : List ℕ) (records : Option (List ℕ)) (workers limit : ℕ) (Written : List ℕ → Type 0)
+    (ran : Ran) : Type 0 where
+  pub layout : Layout Steps
+  pub now : NetState
+  pub reported : IsReportedOf text records workers limit Written layout now ran
 
 -- the network can be read, and the records are refused so: for a fault that records may have, and for the one that these have
 -- where it is known what the reader has

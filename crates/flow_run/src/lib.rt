@@ -8,6 +8,6 @@ mod split;
 
 pub use flow_text::{TextFault, TextPlace, TextRefusal};
 pub use outcome::{Ran, RunRefusal, status};
-pub use pipeline::run;
+pub use pipeline::{run, run_and_keep};
 pub use refusal::write_refusal;
 pub use split::split_input;

@@ -3,7 +3,7 @@ ghost use Rattle.std.specs.Prelude.{◌≡◌, ◌≤◌, IfOk, IfErr};
 ghost use Rattle.std.specs.Io.KnownBytes.{Appends};
 ghost use Rattle.flow_net.specs.Net.{layout_in, parts_of};
 ghost use Rattle.flow_run.specs.Left.{IsLeft};
-ghost use Rattle.flow_run.specs.Ran.{Begins, IsReported, IsUnbegun, IsUnreported};
+ghost use Rattle.flow_run.specs.Ran.{Begins, IsReported, IsReportedOf, IsUnbegun, IsUnreported};
 ghost use Rattle.flow_run.specs.Refusal.{told_as};
 
 use crate::outcome::{Ran, RunRefusal};
@@ -37,6 +37,31 @@ pub fn run<C: Threads + Wait + Sync, R: Read + Drop, W: Write>(
     ensures refused { IfErr result (IsUnreported text.now (R.remaining reader) workers limit) }
     ensures left { IfErr result (λ refusal. IsLeft refusal (W.contents writer.old) (W.contents writer.new)) }
 {
+    match run_and_keep(rt, alloc, text, reader, writer, workers, limit) {
+        Ok((ran, _net)) => Ok(ran),
+        Err(refusal) => Err(refusal),
+    }
+}
+
+/// Does what [`run`] does, and hands back the network as the run left it.
+///
+/// So a caller may look at the network after its report. Where the process is about to end, it may forget the network:
+/// to let it go gives back the memory of its values one by one.
+pub fn run_and_keep<C: Threads + Wait + Sync, R: Read + Drop, W: Write>(
+    rt: &C,
+    alloc: Global,
+    text: &[u8],
+    reader: R,
+    writer: &mut W,
+    workers: u32,
+    limit: u64,
+) -> Result<(Ran, Net<Steps>), RunRefusal>
+    requires { (1 ≤ workers) × (workers ≤ 64) }
+    ensures reported { IfOk result (λ kept. IsReportedOf text.now (R.remaining reader) workers limit
+        (Appends (W.contents writer.old) (W.contents writer.new)) (layout_in kept.1) (parts_of kept.1) kept.0) }
+    ensures refused { IfErr result (IsUnreported text.now (R.remaining reader) workers limit) }
+    ensures left { IfErr result (λ refusal. IsLeft refusal (W.contents writer.old) (W.contents writer.new)) }
+{
     let net = begin(alloc, text, reader)?;
     let (net, settled) = match run_paced(rt, alloc, net, workers as usize, limit) {
         Ok(ran) => ran,
@@ -44,7 +69,7 @@ pub fn run<C: Threads + Wait + Sync, R: Read + Drop, W: Write>(
     };
     write_report(alloc, &net, settled, writer)?;
     let complete = is_complete(&net);
-    Ok(Ran { settled, complete })
+    Ok((Ran { settled, complete }, net))
 }
 
 /// The network of a text, to which the records are posted.

@@ -8,6 +8,4 @@ returns-in_err-ran-clause-refused g c =
     rw (p.1, p.2) (refused_of_any c.args.text.now _ c.args.bounds.workers c.args.bounds.limit c.in_err-ran.field-0.0 c.in_err-ran.ensures.refused)
 
 pub returns-clause-refused : goal.returns-clause-refused
-returns-clause-refused g c =
-    let reported = of_any c.args.text.now c.args.bounds.workers c.args.bounds.limit _ c.in_ok-ran.ran _ c.in_ok-ran.ensures.reported in
-    unwritten c.args.text.now _ c.args.bounds.workers c.args.bounds.limit _ c.in_ok-ran.ran reported
+returns-clause-refused g c = unwritten (of_any (g.R.Read.remaining c.args.records) c.in_ok-ran.ensures.reported)

@@ -1,10 +1,10 @@
 use Rattle.std.proofs.Common.{inr}
-use Rattle.flow_cli.proofs.ReportBehindCut.{ok_carries, err_carries, of_any, refused_of_any}
+use Rattle.flow_cli.proofs.ReportBehindCut.{ok_carries, err_carries, refused_of_any}
 use Rattle.flow_cli.proofs.input.run_file.Goals as goal
 
 pub returns-clause-reported : goal.returns-clause-reported
 returns-clause-reported g c =
-    ok_carries c.run_buffered.result _ _ c.run_buffered.ensures.reported (λ ran reported. (c.deref.result.now, of_any c.deref.result.now _ _ _ ran _ reported))
+    ok_carries c.run_buffered.result _ _ c.run_buffered.ensures.reported (λ ran reported. (c.deref.result.now, reported))
 
 pub returns-clause-refused : goal.returns-clause-refused
 returns-clause-refused g c =
