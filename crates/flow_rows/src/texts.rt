@@ -2,12 +2,10 @@
 ghost use Rattle.std.specs.Prelude.{◌≤◌};
 
 use crate::check::check;
-use flow_front::record_of;
 use flow_link::{Place, PlanFault};
 use flow_run::{RunRefusal, split_input, status, write_refusal};
 use flow_text::{TextFault, TextPlace};
-use flow_trial::{ENOUGH, Told, chain, is_refusal, is_report, kept, told_by, told_with};
-use flow_value::Value;
+use flow_trial::{ENOUGH, Told, chain, is_refusal, is_report, told_by, told_with};
 use std::alloc::Global;
 use std::process::Abort;
 use std::sync::Wait;
@@ -416,24 +414,4 @@ fn input_is_cut_at_the_first_line_of_two_signs(rt: HostRuntime) {
             "{before:?} and {after:?}"
         );
     }
-}
-
-const KEEPS_NUMBERS: &[u8] = b"format = 1
-[[block]]
-name = \"out\"
-kind = \"action\"
-input = true
-work = [\"int\"]
-";
-
-#[test]
-fn the_network_of_a_run_is_handed_back(rt: HostRuntime) {
-    let alloc = rt.alloc();
-    let mut report: Vec<u8> = Vec::new(alloc);
-    let records: &[u8] = b"out,5\nout,7\n";
-    let Ok((ran, net)) = kept(&rt, alloc, KEEPS_NUMBERS, records, &mut report, 1, ENOUGH) else {
-        panic!(rt; "it is refused");
-    };
-    assert!(rt; ran.complete);
-    assert!(rt; matches!(record_of(&net, "out"), Some([Value::Int(5), Value::Int(7)])));
 }
