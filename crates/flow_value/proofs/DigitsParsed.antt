@@ -1,5 +1,5 @@
--- What `parse` makes of digits, and of digits behind a minus sign.
-use Rattle.std.proofs.Common.{◌≡◌, ℕ, ◌<◌, List, [], ◌∷◌, length, drop, Bool, true, false, refl, ◌∙◌, ap, rules, cond, ◌&&◌, Decides, Err, ℤ, pos, negsuc, w64, eqb, subst}
+-- What `parse` makes of digits, and of digits behind a minus sign; and what a text is by what `parse` made of it.
+use Rattle.std.proofs.Common.{◌≡◌, ℕ, ◌<◌, List, [], ◌∷◌, length, drop, slice_index, Bool, true, false, refl, sym, ◌∙◌, ap, rules, cond, ◌&&◌, Decides, Ok, Err, ℤ, pos, negsuc, w64, eqb, subst}
 use Rattle.std.specs.Char.{is_ascii_digit}
 use Rattle.std.specs.List.{list_all}
 use Rattle.std.specs.Prelude.{FitsSigned}
@@ -8,7 +8,7 @@ use Rattle.std.proofs.lemmas.Bool.{eqb-true, false≢true, and_parts, cond-false
 use Rattle.std.proofs.lemmas.Bool.Decides.{Decides-ltb}
 use Rattle.std.proofs.lemmas.Str.Parse.{IsNumeralModel, numerals_by_value}
 use Rattle.flow_value.specs.Number.{without_minus, is_digits, is_i64, int_of}
-use Rattle.flow_value.specs.declared.work.WorkFault.TheVariants.{Range}
+use Rattle.flow_value.specs.declared.work.WorkFault.TheVariants.{NotInt, Range}
 
 pub numerals : IsNumeralModel (λ ds. list_all is_ascii_digit ds ≡ true) (digits_value 10)
 numerals = numerals_by_value _ (search rules)
@@ -50,3 +50,30 @@ pub int_of-over : (bs : List ℕ) → is_digits (without_minus bs) ≡ true → 
     → int_of bs ≡ Err Range
 int_of-over bs digits over =
     cond-true _ _ _ digits ∙ cond-false _ _ _ (false_from_ne_true _ (λ e. over ((is_i64-Decides (signed_digits_value 10 bs)).0 e)))
+
+-- The other way round
+
+-- behind no plus sign, only a minus sign is a sign
+pub minus_alone : (bs : List ℕ) → eqb (slice_index bs 0) 43 ≡ false → without_leading_sign bs ≡ without_minus bs
+minus_alone bs none = ap (λ plus. cond (eqb (slice_index bs 0) 45) (drop 1 bs) (drop (cond plus 1 0) bs)) none
+
+module _ (bs : List ℕ) (alone : without_leading_sign bs ≡ without_minus bs) where
+  digits_there : IsNumeral 10 (without_leading_sign bs) → is_digits (without_minus bs) ≡ true
+  digits_there there =
+      let digits : IsNumeral 10 (without_minus bs) = subst (λ ds. IsNumeral 10 ds) alone there in
+      all_of_some (without_minus bs) digits.0 ∙ numerals.from (without_minus bs) digits.1
+
+  -- what is a numeral and fits is the number
+  pub int_of-number : IsNumeral 10 (without_leading_sign bs) → FitsSigned w64 (signed_digits_value 10 bs)
+      → int_of bs ≡ Ok (signed_digits_value 10 bs)
+  int_of-number there fits =
+      cond-true _ _ _ (digits_there there) ∙ cond-true _ _ _ ((is_i64-Decides (signed_digits_value 10 bs)).1 fits)
+
+  -- what is none, or does not fit, is out of range where it is digits
+  pub int_of-none : (IsNumeral 10 (without_leading_sign bs) × FitsSigned w64 (signed_digits_value 10 bs) → ⊥)
+      → Err (cond (is_digits (without_minus bs)) Range NotInt) ≡ int_of bs
+  int_of-none unfit = by_digits (is_digits (without_minus bs)) refl
+    where
+      by_digits : (digits : Bool) → is_digits (without_minus bs) ≡ digits → Err (cond digits Range NotInt) ≡ int_of bs
+      by_digits true e = sym (int_of-over bs e (λ fits. unfit (numeral_behind_sign bs e, fits)))
+      by_digits false e = sym (cond-false _ _ _ e)

@@ -1,6 +1,7 @@
 //! Numbers as they stand in texts.
-ghost use Rattle.std.specs.Prelude.{◌≡◌};
+ghost use Rattle.std.specs.Prelude.{◌≡◌, cond};
 ghost use Rattle.flow_value.specs.Number.{without_minus, is_digits, int_of};
+ghost use Rattle.flow_value.specs.declared.work.WorkFault.TheVariants.{NotInt, Range};
 
 use crate::work::WorkFault;
 
@@ -10,12 +11,24 @@ use crate::work::WorkFault;
 pub(crate) fn read_int(text: &str) -> Result<i64, WorkFault>
     ensures { result ≡ int_of text.now }
 {
-    if !is_digits(without_minus(text)) {
+    if text.starts_with('+') {
         return Err(WorkFault::NotInt);
     }
     match text.parse::<i64>() {
         Ok(number) => Ok(number),
-        Err(_) => Err(WorkFault::Range),
+        Err(_) => Err(fault_in(text)),
+    }
+}
+
+// Why the text is no number, where it is none.
+#[cold]
+fn fault_in(text: &str) -> WorkFault
+    ensures { result ≡ cond (is_digits (without_minus text.now)) Range NotInt }
+{
+    if is_digits(without_minus(text)) {
+        WorkFault::Range
+    } else {
+        WorkFault::NotInt
     }
 }
 
