@@ -45,10 +45,8 @@ impl Parcel {
     pub fn of(alloc: Global, value: &Value) -> Result<Parcel, AllocError>
         ensures { IfOk result (λ parcel. parcel ≡ value.now) }
     {
-        Ok(Parcel {
-            value: value.copy(alloc)?,
-            spare: value.copy(alloc)?,
-        })
+        let (value, spare) = value.copy_twice(alloc)?;
+        Ok(Parcel { value, spare })
     }
 
     /// The value that is on its way.

@@ -6,6 +6,7 @@ ghost use Rattle.std.specs.Option.{option_copied};
 ghost use Rattle.std.specs.Cmp.{decided, partial_equiv_from_equiv};
 ghost use Rattle.std.proofs.lemmas.Slice.Eq.{bytes_eq-Decides};
 ghost use Rattle.flow_value.specs.Plain.{all_plain};
+ghost use Rattle.flow_value.specs.Head.{bytes_in};
 
 use crate::plain::are_plain;
 use crate::short::Short;
@@ -297,6 +298,16 @@ fn copies_of(alloc: Global, items: &[Value]) -> Result<Vec<Value>, AllocError>
 }
 
 impl Value {
+/// A value that is this text.
+#[inline(always)]
+fn of_short(short: &Short) -> Value
+    ensures { result ≡ Value.Text (bytes_in short.now.head short.now.cells) }
+{
+    Value::Text(Text {
+        bytes: Bytes::Short(*short),
+    })
+}
+
     ghost use Rattle.flow_value.specs.Parts.{int_part, text_part, row_part};
 
     /// The number, if the value is one.
@@ -361,6 +372,23 @@ impl Value {
     }
 
     #[cycle(same)]
+    /// Two more values with the same content.
+    // A number and a short text are copied where this is called.
+    #[inline(always)]
+    pub(crate) fn copy_twice(&self, alloc: Global) -> Result<(Value, Value), AllocError>
+        ensures { IfOk result (λ copies. (copies.0 ≡ self.now) × (copies.1 ≡ self.now)) }
+    {
+        match self {
+            Value::Int(number) => Ok((Value::Int(*number), Value::Int(*number))),
+            Value::Text(
+                Text {
+                    bytes: Bytes::Short(short),
+                },
+            ) => Ok((of_short(short), of_short(short))),
+            Value::Text(_) | Value::Row(_) => { Ok((self.copy_any(alloc)?, self.copy_any(alloc)?)) }
+        }
+    }
+
     fn is_same(&self, other: &Value) -> bool
         ensures { IsTrue result ↔ (self.now ≡ other.now) }
     {
