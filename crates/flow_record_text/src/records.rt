@@ -7,6 +7,7 @@ ghost use Rattle.csv.specs.Records.{fields_of};
 ghost use Rattle.csv.specs.declared.parser.State.TheVariants as at;
 ghost use Rattle.flow_link.specs.Planned.{layout_of};
 ghost use Rattle.flow_record_text.specs.Records.{texts_of, input_names, input_named, AllDiffer, HasFault, HasNoInput, PostsTo, PostAll};
+ghost use Rattle.flow_record_text.specs.Field.{text_in};
 ghost use Rattle.flow_record_text.specs.Records.{IsOfRecords, Explains, TakesAll, room, posted_values, posted_endings};
 
 use csv::{ByteRecord, Error, ErrorKind, Reader, ReaderBuilder};
@@ -64,6 +65,41 @@ fn text_field(row: &ByteRecord, place: usize) -> Option<&str>
             Ok(text) => Some(text),
             Err(_) => None,
         },
+        None => None,
+    }
+}
+
+// The text of a field. A short one is made at once, since the look at it that its making takes tells that it is UTF-8.
+#[derive(Drop)]
+enum Field<'r> {
+    Made(Text),
+    Left(&'r str),
+}
+
+// The text of a field that is short, and plain ASCII. None says nothing of it.
+#[inline(always)]
+fn short_field(row: &ByteRecord, place: usize) -> Option<Text>
+    requires { place < length (fields_of row.now) }
+    ensures is { IfSome result (λ text. text ≡ get_or (fields_of row.now) place []) }
+    ensures utf8 { IfSome result (λ _. IsUtf8 (get_or (fields_of row.now) place [])) }
+{
+    match row.get(place) {
+        Some(field) => Text::from_plain_ascii(field),
+        None => None,
+    }
+}
+
+#[inline(always)]
+fn value_field(row: &ByteRecord, place: usize) -> Option<Field<'_>>
+    requires { place < length (fields_of row.now) }
+    ensures { MatchOption result (IsUtf8 (get_or (fields_of row.now) place []) → ⊥)
+        (λ field. (text_in field ≡ get_or (fields_of row.now) place []) × IsUtf8 (text_in field)) }
+{
+    if let Some(text) = short_field(row, place) {
+        return Some(Field::Made(text));
+    }
+    match text_field(row, place) {
+        Some(text) => Some(Field::Left(text)),
         None => None,
     }
 }
@@ -130,15 +166,15 @@ fn read_fields<'r>(
     last: usize,
     row: &'r ByteRecord,
     number: u64,
-) -> Result<(usize, &'r str), TextFault>
+) -> Result<(usize, Field<'r>), TextFault>
     requires { AllDiffer (texts_of names.now) }
-    ensures { MatchResult result (λ found. PostsTo (texts_of names.now) (fields_of row.now) found.0 found.1.now)
+    ensures { MatchResult result (λ found. PostsTo (texts_of names.now) (fields_of row.now) found.0 (text_in found.1))
         (λ fault. HasFault (texts_of names.now) number (fields_of row.now) fault) }
 {
     if row.len() != 2 {
         return Err(TextFault::Csv(number));
     }
-    let Some(text) = text_field(row, 1) else {
+    let Some(text) = value_field(row, 1) else {
         return Err(TextFault::NotUtf8(number));
     };
     if let Some(input) = likely_input(row, names, last) {
@@ -150,25 +186,37 @@ fn read_fields<'r>(
     }
 }
 
+#[inline(always)]
+fn text_of(alloc: Global, field: Field<'_>) -> Result<Text, TextRefusal>
+    ensures is { IfOk result (λ text. text ≡ text_in field.entry) }
+    ensures refused { IfErr result (λ refusal. refusal ≡ TextRefusal.Memory) }
+{
+    match field {
+        Field::Made(text) => Ok(text),
+        Field::Left(content) => match Text::from_str(alloc, content) {
+            Ok(text) => Ok(text),
+            Err(_) => Err(TextRefusal::Memory),
+        },
+    }
+}
+
 // Adds the text to the values of this input.
 #[inline(always)]
 fn post(
     alloc: Global,
     posted: &mut Vec<Posted>,
     input: usize,
-    text: &str,
+    text: Field<'_>,
 ) -> Result<(), TextRefusal>
     requires { input < length posted.old.items }
     ensures values { OnOk result (posted_values posted.new.items
         ≡ set (posted_values posted.old.items) input
-        (get_or (posted_values posted.old.items) input [] ++ Value.Text text.now ∷ [])) }
+        (get_or (posted_values posted.old.items) input [] ++ Value.Text (text_in text.entry) ∷ [])) }
     ensures endings { OnOk result (posted_endings posted.new.items ≡ posted_endings posted.old.items) }
     ensures room { OnOk result (room (posted_values posted.new.items) < room (posted_values posted.old.items)) }
     ensures refused { IfErr result (λ refusal. refusal ≡ TextRefusal.Memory) }
 {
-    let Ok(text) = Text::from_str(alloc, text) else {
-        return Err(TextRefusal::Memory);
-    };
+    let text = text_of(alloc, text)?;
     let slot = &mut posted[input];
     if slot.values.push(Value::Text(text)).is_err() {
         return Err(TextRefusal::Memory);

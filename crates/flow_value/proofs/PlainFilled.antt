@@ -1,9 +1,10 @@
 -- A short text with plain bytes behind it: where the text stands, and whether all of it is plain.
-use Rattle.std.proofs.Common.{arith, refl, ap, sym, subst, ◌∙◌, ◌≡◌, ◌≤◌, ◌+◌, ◌&&◌, Bool, true, false, ℕ, zero, suc, List, [], ◌∷◌, ◌++◌, length, take, drop}
+use Rattle.std.proofs.Common.{arith, refl, ap, sym, subst, ◌∙◌, ◌≡◌, ◌≤◌, ◌+◌, ◌&&◌, ltb, ltb-true, Bool, true, false, ℕ, zero, suc, List, [], ◌∷◌, ◌++◌, length, take, drop}
 use Rattle.std.proofs.lemmas.Bool.{le-leb, lt-leb}
 use Rattle.std.proofs.lemmas.List.{take-take, take_at}
 use Rattle.std.proofs.Math.Nat.{mod-eq_of_lt}
-use Rattle.flow_value.specs.Plain.{is_plain_byte, all_plain}
+use Rattle.flow_value.specs.Plain.{is_plain_byte, all_plain, is_plain_ascii, all_plain_ascii}
+use Rattle.std.specs.Str.{IsAscii}
 use Rattle.flow_value.specs.Head.{count_in, says_plain, bytes_in}
 
 second : (a b : Bool) → (a && b) ≡ true → b ≡ true
@@ -37,3 +38,33 @@ head_plain n few = (omega arith, le-leb 128 (n + 128) (omega arith))
 
 pub head_other : (n : ℕ) → n ≤ 14 → (count_in n ≡ n) × (says_plain n ≡ false)
 head_other n few = (mod-eq_of_lt (omega arith), lt-leb 128 n (omega arith))
+
+-- Plain bytes that are ASCII
+
+both_parts : (a b : Bool) → (a && b) ≡ true → (a ≡ true) × (b ≡ true)
+both_parts true b both = (refl, both)
+both_parts false true both = absurd (cc)
+both_parts false false both = absurd (cc)
+
+-- the first of a list of them are some
+pub ascii_front : (bytes back : List ℕ) → all_plain_ascii (bytes ++ back) ≡ true → all_plain_ascii bytes ≡ true
+ascii_front [] back all = refl
+ascii_front (byte ∷ bytes) back all =
+    let parts = both_parts (is_plain_ascii byte) (all_plain_ascii (bytes ++ back)) all in
+    ap (λ first. first && all_plain_ascii bytes) parts.0 ∙ ascii_front bytes back parts.1
+
+-- they are plain
+pub ascii_plain : (bytes : List ℕ) → all_plain_ascii bytes ≡ true → all_plain bytes ≡ true
+ascii_plain [] all = refl
+ascii_plain (byte ∷ bytes) all =
+    let parts = both_parts (is_plain_ascii byte) (all_plain_ascii bytes) all in
+    let first = both_parts (is_plain_byte byte) (ltb byte 128) parts.0 in
+    ap (λ one. one && all_plain bytes) first.0 ∙ ascii_plain bytes parts.1
+
+-- and each of them is below 128
+pub ascii_is : (bytes : List ℕ) → all_plain_ascii bytes ≡ true → IsAscii bytes
+ascii_is [] all i = omega arith
+ascii_is (byte ∷ bytes) all zero =
+    let parts = both_parts (is_plain_ascii byte) (all_plain_ascii bytes) all in
+    ltb-true byte 128 (both_parts (is_plain_byte byte) (ltb byte 128) parts.0).1
+ascii_is (byte ∷ bytes) all (suc i) = ascii_is bytes (both_parts (is_plain_ascii byte) (all_plain_ascii bytes) all).1 i

@@ -1,10 +1,10 @@
 //! Short texts, which stand in the value itself.
-ghost use Rattle.std.specs.Prelude.{◌≡◌, ◌≤◌, length, IsUtf8};
-ghost use Rattle.flow_value.specs.Plain.{all_plain};
+ghost use Rattle.std.specs.Prelude.{◌≡◌, ◌≤◌, length, IsUtf8, IfSome};
+ghost use Rattle.flow_value.specs.Plain.{all_plain, all_plain_ascii};
 ghost use Rattle.flow_value.specs.Head.{count_in, says_plain, bytes_in};
 ghost use Rattle.std.proofs.Props.{props};
 
-use crate::plain::are_plain;
+use crate::plain::{are_plain, are_plain_ascii};
 use std::{fmt, str};
 
 /// A text of few bytes, at the beginning of its cells. The cells behind them say nothing.
@@ -46,6 +46,26 @@ impl Short {
         let mut cells = [0; Short::MOST];
         cells.copy_from_slice(&wide[..Short::MOST]);
         Short { head, cells }
+    }
+
+    /// The short text of these bytes, where they are few, plain, and ASCII: then they are UTF-8. None says nothing of them.
+    #[inline(always)]
+    pub(crate) fn from_plain_ascii(bytes: &[u8]) -> Option<Short>
+        ensures is { IfSome result (λ short. bytes_in short.head short.cells ≡ bytes.now) }
+        ensures utf8 { IfSome result (λ _. IsUtf8 bytes.now) }
+    {
+        if bytes.len() > Short::MOST {
+            return None;
+        }
+        let mut wide = [b' '; WIDE];
+        wide[..bytes.len()].copy_from_slice(bytes);
+        if !are_plain_ascii(&wide) {
+            return None;
+        }
+        let head = bytes.len() as u8 + PLAIN;
+        let mut cells = [0; Short::MOST];
+        cells.copy_from_slice(&wide[..Short::MOST]);
+        Some(Short { head, cells })
     }
 
     /// The content.

@@ -1,7 +1,7 @@
 //! The values that flow: numbers, texts, and rows of values.
 //!
 //! A text and a row hide how they are kept, so that two of them are equal where their contents are.
-ghost use Rattle.std.specs.Prelude.{◌≡◌, ◌<◌, ◌^◌, ◌↔◌, [], length, IsTrue, IfOk, MatchResult, string_bytes};
+ghost use Rattle.std.specs.Prelude.{◌≡◌, ◌<◌, ◌^◌, ◌↔◌, [], length, IsTrue, IfOk, IfSome, IsUtf8, MatchResult, string_bytes};
 ghost use Rattle.std.specs.Option.{option_copied};
 ghost use Rattle.std.specs.Cmp.{decided, partial_equiv_from_equiv};
 ghost use Rattle.std.proofs.lemmas.Slice.Eq.{bytes_eq-Decides};
@@ -98,6 +98,19 @@ impl Text {
         }
         Ok(Text {
             bytes: Bytes::Short(Short::from_str(content)),
+        })
+    }
+
+    /// The text with these bytes, where they are few, plain ASCII: that takes no memory, and one look tells that they are UTF-8. None
+    /// says nothing of them.
+    #[inline(always)]
+    pub fn from_plain_ascii(bytes: &[u8]) -> Option<Text>
+        ensures is { IfSome result (λ text. text ≡ bytes.now) }
+        ensures utf8 { IfSome result (λ _. IsUtf8 bytes.now) }
+    {
+        let short = Short::from_plain_ascii(bytes)?;
+        Some(Text {
+            bytes: Bytes::Short(short),
         })
     }
 
@@ -285,6 +298,16 @@ impl Row {
     }
 }
 
+/// A value that is this text.
+#[inline(always)]
+fn of_short(short: &Short) -> Value
+    ensures { result ≡ Value.Text (bytes_in short.now.head short.now.cells) }
+{
+    Value::Text(Text {
+        bytes: Bytes::Short(*short),
+    })
+}
+
 /// A list of copies of these values.
 #[cycle(copy)]
 fn copies_of(alloc: Global, items: &[Value]) -> Result<Vec<Value>, AllocError>
@@ -298,16 +321,6 @@ fn copies_of(alloc: Global, items: &[Value]) -> Result<Vec<Value>, AllocError>
 }
 
 impl Value {
-/// A value that is this text.
-#[inline(always)]
-fn of_short(short: &Short) -> Value
-    ensures { result ≡ Value.Text (bytes_in short.now.head short.now.cells) }
-{
-    Value::Text(Text {
-        bytes: Bytes::Short(*short),
-    })
-}
-
     ghost use Rattle.flow_value.specs.Parts.{int_part, text_part, row_part};
 
     /// The number, if the value is one.
@@ -359,19 +372,6 @@ fn of_short(short: &Short) -> Value
         }
     }
 
-    #[inline(never)]
-    #[cycle(copy)]
-    fn copy_any(&self, alloc: Global) -> Result<Value, AllocError>
-        ensures { IfOk result (λ value. value ≡ self.now) }
-    {
-        match self {
-            Value::Int(number) => Ok(Value::Int(*number)),
-            Value::Text(text) => Ok(Value::Text(text.copy(alloc)?)),
-            Value::Row(row) => Ok(Value::Row(row.copy(alloc)?)),
-        }
-    }
-
-    #[cycle(same)]
     /// Two more values with the same content.
     // A number and a short text are copied where this is called.
     #[inline(always)]
@@ -389,6 +389,19 @@ fn of_short(short: &Short) -> Value
         }
     }
 
+    #[inline(never)]
+    #[cycle(copy)]
+    fn copy_any(&self, alloc: Global) -> Result<Value, AllocError>
+        ensures { IfOk result (λ value. value ≡ self.now) }
+    {
+        match self {
+            Value::Int(number) => Ok(Value::Int(*number)),
+            Value::Text(text) => Ok(Value::Text(text.copy(alloc)?)),
+            Value::Row(row) => Ok(Value::Row(row.copy(alloc)?)),
+        }
+    }
+
+    #[cycle(same)]
     fn is_same(&self, other: &Value) -> bool
         ensures { IsTrue result ↔ (self.now ≡ other.now) }
     {

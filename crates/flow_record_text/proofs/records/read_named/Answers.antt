@@ -3,6 +3,7 @@ use Rattle.std.proofs.lemmas.List.{length-map, length-replicate}
 use Rattle.csv.specs.Records.{fields_of}
 use Rattle.flow_link.specs.declared.posted.Posted.{Posted}
 use Rattle.flow_record_text.specs.Records.{texts_of, posted_values}
+use Rattle.flow_record_text.specs.Field.{text_in}
 use Rattle.flow_record_text.proofs.RecordsPost.{read-start, read-more, read-end, read-fault, fault-of_records, posts-within}
 use Rattle.flow_record_text.proofs.records.read_named.Goals as goal
 
@@ -28,7 +29,7 @@ pub post-requires : goal.post-requires
 post-requires g c =
     let count : length c.reading.posted.items ≡ length c.args.names.now =
     sym (length-map c.reading.posted.items (λ (input : Posted). input.ending)) ∙ ap length c.reading.invariant.endings ∙ length-replicate _ _ in
-    let within = posts-within (texts_of c.args.names.now) (fields_of c.read_row.new.row) c.in-Ok.input c.in-Ok.text.now c.in-Ok.ensures in
+    let within = posts-within (texts_of c.args.names.now) (fields_of c.read_row.new.row) c.in-Ok.input (text_in c.in-Ok.text) c.in-Ok.ensures in
     omega (arith, within, count, length-map c.args.names.now (λ (name : Bor (List ℕ)). name.now))
 
 pub returns-in-Err-clause-refused : goal.returns-in-Err-clause-refused
@@ -50,6 +51,6 @@ reading-preserved g c =
       takes = c.in_ok-found.ensures.takes c.if-not-found.false;
       endings = c.in_ok-post-in-Ok.ensures.endings ∙ kept.endings;
       so_far = read-more g.R.Read.remaining (texts_of c.args.names.now) c.reading.number (posted_values c.reading.posted.items) c.reading.records c.read_row.new.records
-          (fields_of c.read_row.new.row) kept.takes.config (g.R.Read.remaining c.args.reader) c.saturating_add-number.result c.in-Ok.input c.in-Ok.text.now (posted_values c.post.new.posted.items)
+          (fields_of c.read_row.new.row) kept.takes.config (g.R.Read.remaining c.args.reader) c.saturating_add-number.result c.in-Ok.input (text_in c.in-Ok.text) (posted_values c.post.new.posted.items)
           kept.so_far read c.in-Ok.ensures c.in_ok-post-in-Ok.ensures.values (search rules);
     }
