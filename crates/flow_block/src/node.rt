@@ -2,7 +2,7 @@
 //!
 //! Room for the mark of a message is set aside with the room for the message, so that the calls that move it take no
 //! memory.
-ghost use Rattle.std.specs.Prelude.{◌≡◌, ◌<◌, ◌≤◌, ◌+◌, ◌^◌, [], ◌∷◌, true, length, is_some, Some, None, Err, OnOk, OnErr};
+ghost use Rattle.std.specs.Prelude.{◌≡◌, ◌<◌, ◌≤◌, ◌+◌, ◌^◌, [], ◌∷◌, true, length, take, is_some, Some, None, Err, OnOk, OnErr};
 ghost use Rattle.std.specs.Prelude.{ℕ, List, Result, ◌↔◌, false, IfErr, vec_len, vec_capacity};
 ghost use Rattle.flow_value.specs.declared.value.Value.{Value};
 ghost use Rattle.flow_link.specs.LinkOk.{HasRoom};
@@ -472,6 +472,22 @@ impl Node {
         requires works { has_work self.old.block.kind ≡ true }
         requires out { is_out ticket self.old.block.jobs ≡ true }
         requires held { length self.old.block.jobs.slots ≤ length (held_by self.old.block) }
+    /// Keeps the message that waits longest as its result, as [`Node::record_one`] does a copy of it. Where there is no
+    /// memory for it, nothing has changed.
+    #[inline(always)]
+    pub fn record_first(&mut self) -> Result<(), AllocError>
+        requires alone { length self.old.block.ports ≡ 1 }
+        requires waits { 0 < length (held_by self.old.block) }
+        requires alone_at_work { self.old.block.jobs.slots ≡ [] }
+        requires ticket { has_ticket self.old.block.jobs ≡ true }
+        ensures done { OnOk result
+            (self.new ≡ with_block (with_jobs works_off (records (take 1 (held_by self.old.block)) self.old.block)) self.old) }
+        ensures kept { OnErr result (self.new ≡ self.old) }
+    {
+        self.block.record_first()?;
+        Ok(())
+    }
+
         requires drained { self.old.block.fault ≡ None → is_front_back self.old.block.jobs.slots ≡ false }
         ensures done { OnOk result (self.new ≡ with_block (ends_job ticket answer self.old.block) self.old) }
         ensures kept { OnErr result (self.new ≡ self.old) }

@@ -140,6 +140,28 @@ impl Block {
         Ok(())
     }
 
+    /// Keeps the message as its result, as [`Block::record_one`] does a copy of it. Where there is no memory for it,
+    /// nothing has changed.
+    #[inline(always)]
+    pub fn record_first(&mut self) -> Result<(), AllocError>
+        requires alone { length self.old.ports ≡ 1 }
+        requires waits { 0 < length (held_by self.old) }
+        requires alone_at_work { self.old.jobs.slots ≡ [] }
+        requires ticket { has_ticket self.old.jobs ≡ true }
+        ensures done { OnOk result (self.new ≡ with_jobs works_off (records (take 1 (held_by self.old)) self.old)) }
+        ensures kept { OnErr result (self.new ≡ self.old) }
+    {
+        self.recorded.reserve(1)?;
+        let port = &mut self.ports[0];
+        let Some(message) = port.take_next() else {
+            unreachable!()
+        };
+        port.give_room(1);
+        self.recorded.push_reserved(message);
+        self.jobs.work_off();
+        Ok(())
+    }
+
     /// The message is done with, and its room comes back.
     #[inline(always)]
     pub(crate) fn drop_first(&mut self)

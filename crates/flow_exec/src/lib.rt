@@ -22,4 +22,4 @@ pub use execution::Execution;
 pub use fault::EndFault;
 pub use job::Job;
 pub use result::JobResult;
-pub use work::{answer_of, value_of};
+pub use work::{answer_of, is_identity, value_of};

@@ -1,5 +1,5 @@
 //! What a work makes of a message.
-ghost use Rattle.std.specs.Prelude.{◌≡◌, [], ◌∷◌, Ok, IfOk, IfSome, option_map};
+ghost use Rattle.std.specs.Prelude.{◌≡◌, [], ◌∷◌, true, Ok, IfOk, IfSome, option_map};
 ghost use Rattle.flow_exec.specs.Works.{results_by, worked_by};
 
 use flow_block::Answer;
@@ -47,5 +47,17 @@ pub fn value_of<W: Runs>(alloc: Global, work: Option<&W>, message: &Value) -> Op
     match work.run_one_here(alloc, message) {
         Ok(found) => found,
         Err(_) => None,
+    }
+}
+
+/// Whether a block has no work, or one that gives each message itself. No says nothing of the work.
+#[inline(always)]
+pub fn is_identity<W: Runs>(work: Option<&W>) -> bool
+    ensures { result ≡ true → (value : Value) → worked_by W.meaning (option_map (λ work. work.now) work.entry) value ≡
+        Ok (value ∷ []) }
+{
+    match work {
+        Some(work) => work.is_identity_here(),
+        None => true,
     }
 }

@@ -1,8 +1,8 @@
 //! What a block does by itself.
-ghost use Rattle.std.specs.Prelude.{◌≡◌, ◌≢◌, ℕ, ◌<◌, true, false, [], List, length, Result, Ok, Err, option_map};
+ghost use Rattle.std.specs.Prelude.{◌≡◌, ◌≢◌, ℕ, ◌<◌, true, false, [], List, length, take, Result, Ok, Err, option_map};
 ghost use Rattle.std.specs.Prelude.{◌≤◌, ◌↔◌, ◌∷◌, None, OnOk, OnErr, IfErr};
 ghost use Rattle.flow_value.specs.declared.value.Value.{Value};
-ghost use Rattle.flow_link.specs.declared.draft.BlockKind.TheVariants.{Buffer};
+ghost use Rattle.flow_link.specs.declared.draft.BlockKind.TheVariants.{Action, Buffer};
 ghost use Rattle.flow_link.specs.Plan.{has_work, is_write_once};
 ghost use Rattle.flow_outlet.specs.Outlet.{lacks_ids};
 ghost use Rattle.flow_outlet.specs.declared.fault.OutletFault.TheVariants.{Ids, Memory};
@@ -18,7 +18,7 @@ ghost use Rattle.flow_moves.specs.AtOnce.{put_at_once, works_at_once, works_out}
 
 use crate::parts::Parts;
 use flow_block::{Answer, Node};
-use flow_exec::{answer_of, value_of};
+use flow_exec::{answer_of, is_identity, value_of};
 use flow_link::{BlockKind, PortId};
 use flow_outlet::OutletFault;
 use flow_value::{Runs, Value};
@@ -201,6 +201,9 @@ fn work_at_once<W: Runs>(
     if !node.block().has_ticket() {
         return Err(OutletFault::Memory);
     }
+    if node.block().kind() == BlockKind::Action && is_identity(work) {
+        return keep_first(node);
+    }
     let found = match node.block().waiting(0).front() {
         Some(message) => value_of(alloc, work, message),
         None => return Err(OutletFault::Memory),
@@ -332,6 +335,26 @@ fn yield_one(node: &mut Node, value: Value) -> Result<(), OutletFault>
     match node.put_out_one(value) {
         Ok(()) => Ok(()),
         Err((_, fault)) => Err(fault),
+    }
+}
+
+/// An action whose work gives each message itself keeps the message that waits longest. Where memory is out, nothing has
+/// changed.
+#[inline(always)]
+fn keep_first(node: &mut Node) -> Result<(), OutletFault>
+    requires alone { length node.old.block.ports ≡ 1 }
+    requires waits { may_begin node.old.block ≡ true }
+    requires idle { node.old.block.jobs.slots ≡ [] }
+    requires ticket { has_ticket node.old.block.jobs ≡ true }
+    requires action { node.old.block.kind ≡ Action }
+    ensures done { OnOk result (node.new ≡
+        with_block (works_out (Ok (take 1 (held_by node.old.block))) node.old.block) node.old) }
+    ensures kept { OnErr result (node.new ≡ node.old) }
+    ensures memory { result ≢ Err Ids }
+{
+    match node.record_first() {
+        Ok(()) => Ok(()),
+        Err(_) => Err(OutletFault::Memory),
     }
 }
 

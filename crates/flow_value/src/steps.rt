@@ -134,6 +134,10 @@ impl Work for Steps {
         run_in_turn(alloc, self.as_slice(), value.copy(alloc)?)
     }
 
+    fn is_identity(&self) -> bool {
+        self.as_slice().is_empty()
+    }
+
     fn copy(&self, alloc: Global) -> Result<Steps, AllocError> {
         Ok(Steps {
             steps: Vec::from_slice(alloc, self.as_slice())?,

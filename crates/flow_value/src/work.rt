@@ -72,7 +72,7 @@ impl<T: Drop> From<AllocFailed<T>> for WorkFault {
 /// Microsoft: the delegate that an execution block is made with; here it is a value, so that it can be copied to other
 /// threads and compared.
 pub trait Work: Eq + Send + Sync + Drop {
-    ghost use Rattle.std.specs.Prelude.{◌≡◌, ◌≢◌, true, List, Result, Err};
+    ghost use Rattle.std.specs.Prelude.{◌≡◌, ◌≢◌, true, List, [], ◌∷◌, Result, Ok, Err};
     ghost use Rattle.flow_value.specs.declared.value.Value.{Value};
     ghost use Rattle.flow_value.specs.declared.work.WorkFault.{WorkFault};
     ghost use Rattle.flow_value.specs.declared.work.WorkFault.TheVariants.{Memory};
@@ -97,6 +97,16 @@ pub trait Work: Eq + Send + Sync + Drop {
         Ok(None)
     }
 
+    /// Whether it gives each value itself, and nothing else. A block then moves its messages on instead of copying them. No says
+    /// nothing of the meaning.
+    ///
+    /// A work of one's own may leave it out.
+    fn is_identity(&self) -> bool
+        ensures { result ≡ true → (value : Value) → meaning self.now value ≡ Ok (value ∷ []) }
+    {
+        false
+    }
+
     /// A second work that is equal to this one.
     fn copy(&self, alloc: Global) -> Result<Self, AllocError>
         ensures { IfOk result (λ work. IsTrue (Self.eq self.now work)) };
@@ -112,7 +122,7 @@ pub trait Work: Eq + Send + Sync + Drop {
 /// It asks for no leave to go to another thread. So it is for a port that owns a network on one thread: a method of the
 /// port's own trait may call what is generic over it, as it may not call what is generic over `Work`. Each `Work` is one.
 pub trait Runs: Eq + Drop {
-    ghost use Rattle.std.specs.Prelude.{◌≡◌, ◌≢◌, true, List, Result, Err};
+    ghost use Rattle.std.specs.Prelude.{◌≡◌, ◌≢◌, true, List, [], ◌∷◌, Result, Ok, Err};
     ghost use Rattle.flow_value.specs.declared.value.Value.{Value};
     ghost use Rattle.flow_value.specs.declared.work.WorkFault.{WorkFault};
     ghost use Rattle.flow_value.specs.declared.work.WorkFault.TheVariants.{Memory};
@@ -132,6 +142,13 @@ pub trait Runs: Eq + Drop {
         ensures { RunsOneAs (meaning self.now value.now) result }
     {
         Ok(None)
+    }
+
+    /// Whether it gives each value itself, and nothing else. No says nothing of the meaning.
+    fn is_identity_here(&self) -> bool
+        ensures { result ≡ true → (value : Value) → meaning self.now value ≡ Ok (value ∷ []) }
+    {
+        false
     }
 
     /// A second one that is equal to this one, for this thread.
@@ -157,6 +174,10 @@ impl<W: Work> Runs for W {
 
     fn run_one_here(&self, alloc: Global, value: &Value) -> Result<Option<Value>, WorkFault> {
         self.run_one(alloc, value)
+    }
+
+    fn is_identity_here(&self) -> bool {
+        self.is_identity()
     }
 
     fn copy_here(&self, alloc: Global) -> Result<W, AllocError> {
