@@ -10,7 +10,7 @@ use Rattle.flow_link.specs.declared.stage.TargetStage.TheVariants.{Offered, Post
 use Rattle.flow_link.specs.declared.trace.Outcome.{Outcome}
 use Rattle.flow_link.specs.Stage.{target_looks}
 use Rattle.flow_intake.specs.Port.{EndState, PortState, stage_at, is_offer, is_queued, is_coming, is_owed, is_hand, is_holding, count_at}
-use Rattle.flow_intake.specs.Calls.{is_offered, is_postponed, is_arrived, refused_by, prepared, wants, turns_down, postpones, refuses, consumes, asks, claims, releases, opens, closes, looks, takes_next, gives_room, port_closes, port_fails}
+use Rattle.flow_intake.specs.Calls.{is_offered, is_postponed, is_arrived, refused_by, prepared, unprepared, wants, turns_down, postpones, refuses, consumes, asks, claims, releases, opens, closes, looks, takes_next, gives_room, port_closes, port_fails}
 use Rattle.flow_intake.proofs.CountsOfEnds.{count_after_set, coming_is_owed, hand_comes}
 use Rattle.flow_intake.proofs.EndsInOrder.{look_tells}
 use Rattle.flow_outlet.specs.Outlet.{gives, head_of}
@@ -83,6 +83,9 @@ module _ (p : ℕ) (block : BlockState) (l : p < length block.ports) where
   pub due_prepared : marks_due (with_port p prepared block) ≤ marks_due block + 1
   due_prepared = omega (arith, due_with p 1 0 prepared block l (omega arith))
 
+  pub due_unprepared : marks_due (with_port p unprepared block) ≤ marks_due block
+  due_unprepared = omega (arith, due_with p 0 0 unprepared block l (omega arith))
+
   pub due_completed : marks_due (with_port p port_closes block) ≤ marks_due block
   due_completed = omega (arith, due_with p 0 0 port_closes block l (omega arith))
 
@@ -144,6 +147,10 @@ due_map change (port ∷ ports) same = rw (same port, due_map change ports same)
 -- the head that is given is marked
 pub due_given : (k : ℕ) (block : BlockState) → is_some block.exits.parcel ≡ true → marks_due (gives_out k block) + 1 ≤ marks_due block
 due_given k block ready = rw ready (omega (arith, due_back (gives k block.exits) block.copies block.kind (head_of block.exits) block.ports))
+
+-- so is one that is given without a parcel that was made before
+pub due_sent : (k : ℕ) (block : BlockState) → marks_due (gives_out k block) ≤ marks_due block
+due_sent k block = omega (arith, due_back (gives k block.exits) block.copies block.kind (head_of block.exits) block.ports)
 
 pub due_failed : (number : ℕ) (block : BlockState) → marks_due (fails number block) ≡ marks_due block
 due_failed number block = rw (due_map port_fails block.ports (λ _. refl)) refl

@@ -6,7 +6,7 @@ ghost use Rattle.std.specs.Prelude.{◌≡◌, ◌<◌, ◌∷◌, true, length,
 ghost use Rattle.flow_link.specs.LinkOk.{HasRoom};
 ghost use Rattle.flow_intake.specs.Port.{stage_at as port_stage, is_offer, is_hand, is_holding, has_room, hand_in};
 ghost use Rattle.flow_intake.specs.Calls.{prepared, is_offered, is_posted, is_postponed, is_arrived};
-ghost use Rattle.flow_intake.specs.Calls.{may_be_refused, wants, turns_down, postpones, refuses, consumes};
+ghost use Rattle.flow_intake.specs.Calls.{may_be_refused, unprepared, wants, turns_down, postpones, refuses, consumes};
 ghost use Rattle.flow_intake.specs.Calls.{asks, claims, releases, opens, closes, looks as port_looks};
 ghost use Rattle.flow_outlet.specs.End.{is_waiting, is_free};
 ghost use Rattle.flow_outlet.specs.Outlet.{end_at, stage_at, may_offer, may_give, may_hold, is_wish, prepares, offers};
@@ -30,6 +30,14 @@ impl Block {
     {
         self.ports[port].prepare_answer()?;
         Ok(())
+    }
+
+    /// Memory is not set aside any more for one more message at a port.
+    pub fn forget_answer(&mut self, port: usize)
+        requires { port < length self.old.ports }
+        ensures { self.new ≡ with_port port unprepared self.old }
+    {
+        self.ports[port].forget_answer();
     }
 
     /// Accepts the offer over the link at this place.

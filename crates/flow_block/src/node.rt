@@ -11,7 +11,7 @@ ghost use Rattle.flow_link.specs.declared.trace.Mark.TheVariants.{Complete, Faul
 ghost use Rattle.flow_link.specs.declared.trace.Outcome.TheVariants as outcome;
 ghost use Rattle.flow_intake.specs.Port.{stage_at as port_stage, is_offer, is_hand, is_holding, has_room};
 ghost use Rattle.flow_intake.specs.Calls.{prepared, is_offered, is_posted, is_postponed, is_arrived};
-ghost use Rattle.flow_intake.specs.Calls.{may_be_refused, wants, turns_down, postpones, refuses, consumes};
+ghost use Rattle.flow_intake.specs.Calls.{may_be_refused, unprepared, wants, turns_down, postpones, refuses, consumes};
 ghost use Rattle.flow_intake.specs.Calls.{asks, claims, releases, opens, looks as port_looks, port_closes};
 ghost use Rattle.flow_intake.specs.Calls.{is_front, loses_front};
 ghost use Rattle.flow_group.specs.Round.{claims_on};
@@ -140,6 +140,23 @@ impl Node {
         reserve_mark(&mut self.journal, &self.block)?;
         self.block.prepare_answer(port as usize)?;
         Ok(())
+    }
+
+    /// Memory is not set aside any more for one more message at a port, nor for its mark.
+    pub fn forget_answer(&mut self, port: PortId)
+        requires { port < length self.old.block.ports }
+        ensures { self.new ≡ with_block (with_port port unprepared self.old.block) self.old }
+    {
+        self.block.forget_answer(port as usize);
+    }
+
+    /// Whether memory is set aside for one more message at a port.
+    #[inline(always)]
+    pub fn is_port_ready(&self, port: PortId) -> bool
+        requires { port < length self.now.block.ports }
+        ensures { result ≡ (port_at port self.now.block).ready }
+    {
+        self.block.ports[port as usize].is_ready()
     }
 
     /// Accepts the offer over the link at this place.
@@ -455,6 +472,22 @@ impl Node {
         Ok(())
     }
 
+    /// Keeps the message that waits longest as its result, as [`Node::record_one`] does a copy of it. Where there is no
+    /// memory for it, nothing has changed.
+    #[inline(always)]
+    pub fn record_first(&mut self) -> Result<(), AllocError>
+        requires alone { length self.old.block.ports ≡ 1 }
+        requires waits { 0 < length (held_by self.old.block) }
+        requires alone_at_work { self.old.block.jobs.slots ≡ [] }
+        requires ticket { has_ticket self.old.block.jobs ≡ true }
+        ensures done { OnOk result
+            (self.new ≡ with_block (with_jobs works_off (records (take 1 (held_by self.old.block)) self.old.block)) self.old) }
+        ensures kept { OnErr result (self.new ≡ self.old) }
+    {
+        self.block.record_first()?;
+        Ok(())
+    }
+
     /// Works on one more of the messages that the block holds. It is refused where memory is out, and where tickets are
     /// used up, after 2^64 - 1 of them.
     pub fn begin(&mut self) -> Result<(), AllocError>
@@ -472,22 +505,6 @@ impl Node {
         requires works { has_work self.old.block.kind ≡ true }
         requires out { is_out ticket self.old.block.jobs ≡ true }
         requires held { length self.old.block.jobs.slots ≤ length (held_by self.old.block) }
-    /// Keeps the message that waits longest as its result, as [`Node::record_one`] does a copy of it. Where there is no
-    /// memory for it, nothing has changed.
-    #[inline(always)]
-    pub fn record_first(&mut self) -> Result<(), AllocError>
-        requires alone { length self.old.block.ports ≡ 1 }
-        requires waits { 0 < length (held_by self.old.block) }
-        requires alone_at_work { self.old.block.jobs.slots ≡ [] }
-        requires ticket { has_ticket self.old.block.jobs ≡ true }
-        ensures done { OnOk result
-            (self.new ≡ with_block (with_jobs works_off (records (take 1 (held_by self.old.block)) self.old.block)) self.old) }
-        ensures kept { OnErr result (self.new ≡ self.old) }
-    {
-        self.block.record_first()?;
-        Ok(())
-    }
-
         requires drained { self.old.block.fault ≡ None → is_front_back self.old.block.jobs.slots ≡ false }
         ensures done { OnOk result (self.new ≡ with_block (ends_job ticket answer self.old.block) self.old) }
         ensures kept { OnErr result (self.new ≡ self.old) }

@@ -2,7 +2,7 @@
 //!
 //! It comes to what the five moves of the link come to, with the looks at its phases. A caller that has both ends uses
 //! these where the target takes the message at once.
-ghost use Rattle.std.specs.Prelude.{◌≡◌, ℕ, ◌<◌, ◌∷◌, true, length, is_some, Some};
+ghost use Rattle.std.specs.Prelude.{◌≡◌, ℕ, ◌<◌, ◌∷◌, true, length, is_some, Some, IfOk, OnOk, OnErr};
 ghost use Rattle.flow_link.specs.LinkOk.{HasRoom};
 ghost use Rattle.flow_link.specs.declared.stage.SourceStage.TheVariants.{Out};
 ghost use Rattle.flow_intake.specs.Receives.{takes_at_once, receives};
@@ -10,13 +10,14 @@ ghost use Rattle.flow_outlet.specs.ByLink.{has_room as has_room_out};
 ghost use Rattle.flow_outlet.specs.Outlet.{end_at, may_offer, head_of};
 ghost use Rattle.flow_spread.specs.Spread.{end_at as copy_end_at, link_at, stage_at};
 ghost use Rattle.flow_block.specs.Block.{port_at, with_port};
-ghost use Rattle.flow_block.specs.Passes.{block_sends, sends_ready, sends_copy, receives_on, takes_freely};
+ghost use Rattle.flow_block.specs.Passes.{block_sends, sends_on, sends_copy, receives_on, takes_freely};
 
 use crate::block::Block;
-use crate::node::Node;
+use crate::node::{Node, reserve_mark};
 use crate::ports::bring_back;
 use flow_link::{Mark, PortId};
 use flow_value::{Parcel, Value};
+use std::alloc::{AllocError, Global};
 
 impl Block {
     /// Whether a port takes at once what is offered over the link at this place, over which nothing is under way.
@@ -48,17 +49,18 @@ impl Block {
     }
 
     /// Sends the head over the link at the place where it may be offered, to a target that takes it at once: the
-    /// message for a journal, and its parcel. Room that comes back with it goes to the ports.
+    /// message for a journal, and its parcel, which is made first. Room that comes back with it goes to the ports. Where memory is
+    /// out, nothing has changed.
     #[inline(always)]
-    pub fn send(&mut self, place: usize) -> (Value, Parcel)
+    pub fn send(&mut self, alloc: Global, place: usize) -> Result<(Value, Parcel), AllocError>
         requires may { may_offer self.old.exits ≡ Some place }
-        requires ready { is_some self.old.exits.parcel ≡ true }
         requires room { HasRoom (end_at self.old.exits place).rule.max (end_at self.old.exits place).given }
-        ensures oldest { self.old.exits.left ≡ result.0 ∷ self.new.exits.left }
-        ensures same { result.1 ≡ result.0 }
-        ensures sent { self.new ≡ block_sends place self.old.exits.next self.old }
+        ensures oldest { IfOk result (λ sent. self.old.exits.left ≡ sent.0 ∷ self.new.exits.left) }
+        ensures same { IfOk result (λ sent. sent.1 ≡ sent.0) }
+        ensures sent { OnOk result (self.new ≡ block_sends place self.old.exits.next self.old) }
+        ensures kept { OnErr result (self.new ≡ self.old) }
     {
-        let sent = self.exits.send(place);
+        let sent = self.exits.send(alloc, place)?;
         bring_back(
             &mut self.ports,
             &mut self.exits,
@@ -66,7 +68,7 @@ impl Block {
             self.kind,
             &sent.0,
         );
-        sent
+        Ok(sent)
     }
 
     /// Takes a message that comes over the link at this place, and that the port takes at once. This is its parcel; a
@@ -86,19 +88,20 @@ impl Block {
 
 impl Node {
     /// Sends the head over the link at the place where it may be offered, to a target that takes it at once, and marks
-    /// that; this is its parcel.
+    /// that; this is its parcel, which is made first. Where memory is out, nothing has changed.
     #[inline(always)]
-    pub fn send(&mut self, place: usize) -> Parcel
+    pub fn send(&mut self, alloc: Global, place: usize) -> Result<Parcel, AllocError>
         requires may { may_offer self.old.block.exits ≡ Some place }
-        requires ready { is_some self.old.block.exits.parcel ≡ true }
         requires room { HasRoom (end_at self.old.block.exits place).rule.max (end_at self.old.block.exits place).given }
-        ensures oldest { head_of self.old.block.exits ≡ Some result }
-        ensures sent { self.new ≡ sends_ready place self.old.block.exits.next self.old }
+        ensures oldest { IfOk result (λ parcel. head_of self.old.block.exits ≡ Some parcel) }
+        ensures sent { OnOk result (self.new ≡ sends_on place self.old.block.exits.next self.old) }
+        ensures kept { OnErr result (self.new ≡ self.old) }
     {
+        reserve_mark(&mut self.journal, &self.block)?;
         let link = self.block.out_link(place);
-        let (value, parcel) = self.block.send(place);
+        let (value, parcel) = self.block.send(alloc, place)?;
         self.journal.push_reserved(Mark::Gave(link, value));
-        parcel
+        Ok(parcel)
     }
 
     /// Sends the element over the link at this place, where it is offered, to a target that takes it at once, and marks

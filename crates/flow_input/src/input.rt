@@ -1,6 +1,6 @@
 //! The values that are posted to a block from outside, given in order over one link: the link's side.
 ghost use Rattle.std.specs.Prelude.{◌≡◌, ◌<◌, ◌^◌, ◌&&◌, not, ltb, cond, drop, is_some, true, Some, None};
-ghost use Rattle.std.specs.Prelude.{OnOk, OnErr};
+ghost use Rattle.std.specs.Prelude.{OnOk, OnErr, IfOk};
 ghost use Rattle.std.specs.Option.{option_copied};
 ghost use Rattle.flow_intake.specs.Calls.{first_of};
 ghost use Rattle.flow_outlet.specs.End.{is_free};
@@ -195,13 +195,34 @@ impl Input {
         parcel
     }
 
-    /// Sends the next value to a target that takes it at once: this is its parcel. It comes to what an offer, a gift and
-    /// the looks between them come to.
+    /// Sends the next value to a target that takes it at once: this is its parcel, which is made first. It comes to what an
+    /// offer, a gift and the looks between them come to. Where memory is out, nothing has changed.
     #[inline(always)]
-    pub fn send(&mut self) -> Parcel
+    pub fn send(&mut self, alloc: Global) -> Result<Parcel, AllocError>
+        requires free { is_free self.old.stage ≡ true }
+        requires there { is_some (next_value self.old) ≡ true }
+        requires id { next_id self.old < 2 ^ 59 }
+        ensures value { IfOk result (λ parcel. next_value self.old ≡ Some parcel) }
+        ensures sent { OnOk result (self.new ≡ input_sends (next_id self.old) self.old) }
+        ensures kept { OnErr result (self.new ≡ self.old) }
+    {
+        if self.parcel.is_some() {
+            return Ok(self.send_made());
+        }
+        let Some(value) = value_at(&self.posted, self.sent) else {
+            unreachable!()
+        };
+        let parcel = Parcel::of(alloc, value)?;
+        self.sent += 1;
+        Ok(parcel)
+    }
+
+    // The same, where the parcel was made before.
+    #[cold]
+    #[inline(never)]
+    fn send_made(&mut self) -> Parcel
         requires free { is_free self.old.stage ≡ true }
         requires ready { is_some self.old.parcel ≡ true }
-        requires id { next_id self.old < 2 ^ 59 }
         ensures value { next_value self.old ≡ Some result }
         ensures sent { self.new ≡ input_sends (next_id self.old) self.old }
     {

@@ -121,6 +121,10 @@ refused_by None = Free
 abbrev pub prepared : PortState → PortState
 prepared port = record port { ready = true }
 
+-- it is set aside no more
+abbrev pub unprepared : PortState → PortState
+unprepared port = record port { ready = false }
+
 -- it accepts this message
 abbrev pub accepts : ℕ → ℕ → PortState → PortState
 accepts place i port = record port { ends = put_stage place (Accepted i) port.ends; ready = false }

@@ -11,7 +11,7 @@ ghost use Rattle.flow_intake.specs.Ended.{has_seen_completion, fault_at_ends};
 ghost use Rattle.flow_intake.specs.Port.{link_in};
 ghost use Rattle.flow_intake.specs.PortLaw.{has_ended};
 ghost use Rattle.flow_intake.specs.Calls.{first_of, answer_to, next_place, in_move, is_offered, is_posted};
-ghost use Rattle.flow_intake.specs.Calls.{is_postponed, is_arrived, may_be_refused, may_be_dropped, prepared};
+ghost use Rattle.flow_intake.specs.Calls.{is_postponed, is_arrived, may_be_refused, may_be_dropped, prepared, unprepared};
 ghost use Rattle.flow_intake.specs.Calls.{accepts, puts_off, wants, turns_down, postpones, refuses};
 ghost use Rattle.flow_intake.specs.Port.{is_holding};
 ghost use Rattle.flow_intake.specs.Calls.{asks, claims, releases, is_front, loses_front};
@@ -284,6 +284,13 @@ impl Intake {
         self.queue.prepare()?;
         self.ready = true;
         Ok(())
+    }
+
+    /// Memory is not set aside any more for one more message.
+    pub fn forget_answer(&mut self)
+        ensures { self.new ≡ unprepared self.old }
+    {
+        self.ready = false;
     }
 
     /// Accepts this message over the link at this place.

@@ -1,7 +1,7 @@
 -- A message that goes over a link in one call, where memory is set aside first: source and target may do their parts, and what they
 -- leave is what they leave without that.
-use Rattle.std.proofs.Common.{◌≡◌, ◌≢◌, ℕ, ◌<◌, true, length, List, set, get_or, None, Result, refl, sym, ap, ◌∙◌, subst}
-use Rattle.std.proofs.lemmas.List.{get_or-set_same, get_or-set_other, set-set, set_comm, length-set}
+use Rattle.std.proofs.Common.{◌≡◌, ◌≢◌, ℕ, ◌<◌, Bool, true, false, length, List, set, get_or, None, Result, refl, sym, ap, ◌∙◌, subst}
+use Rattle.std.proofs.lemmas.List.{get_or-set_same, get_or-set_other, set-set, set-get_or, set_comm, length-set}
 use Rattle.flow_value.specs.declared.value.Value.{Value}
 use Rattle.flow_link.specs.declared.phase.Move.TheVariants.{Offer}
 use Rattle.flow_link.specs.declared.phase.Phase.TheVariants.{Offered, Given}
@@ -11,7 +11,7 @@ use Rattle.flow_link.specs.declared.plan.LinkTarget.{LinkTarget}
 use Rattle.flow_link.specs.declared.plan.LinkTarget.TheVariants.{Port, Exit}
 use Rattle.flow_link.specs.declared.stage.SourceStage.TheVariants.{Out}
 use Rattle.flow_intake.specs.Port.{PortState, fresh_port}
-use Rattle.flow_intake.specs.Calls.{prepared, wants, opens, looks as port_looks}
+use Rattle.flow_intake.specs.Calls.{prepared, unprepared, wants, opens, looks as port_looks}
 use Rattle.flow_intake.specs.Receives.{takes_at_once}
 use Rattle.flow_block.specs.Block.{BlockState, port_at, with_port}
 use Rattle.flow_input.specs.Input.{InputState, no_input, next_id, next_value, input_sends}
@@ -23,14 +23,14 @@ use Rattle.flow_block.specs.declared.planned.Route.{Route}
 use Rattle.flow_core.specs.Events.{with_node, with_line}
 use Rattle.flow_link.specs.declared.trace.LinkState.{LinkState}
 use Rattle.flow_core.specs.State.{NetState, node_at, no_node, fresh_line}
-use Rattle.flow_moves.specs.Passed.{node_prepared, node_offers, node_sends_ready, source_prepared, target_prepared, sent_ready, received_by, offered_by, passed}
+use Rattle.flow_moves.specs.Passed.{node_prepared, node_offers, node_sends_ready, source_prepared, target_prepared, target_ready, forgot_by, target_forgot, sent_ready, sent_by, received_by, offered_by, passed}
 use Rattle.flow_moves.specs.Passed.{BlockMaySend, InputMaySend, MaySend, BlockMayReceive, MayReceive}
-use Rattle.flow_moves.specs.Passes.{id_in, id_next, may_carry, takes_now, are_apart, offered_along}
-use Rattle.flow_moves.specs.Ready.{SourceIsThere, TargetIsThere, SourceIsReady, InputIsReady}
+use Rattle.flow_moves.specs.Passes.{id_in, id_next, carries, may_carry, takes_now, are_apart, offered_along}
+use Rattle.flow_moves.specs.Ready.{SourceIsThere, TargetIsThere, SourceIsReady, InputIsReady, ExitIsReady, exit_count}
 use Rattle.flow_moves.specs.Ways.{input_in, with_input_in, value_next, source_moved, target_looked}
 use Rattle.flow_moves.proofs.MovesPrepared.{next_is_there}
 use Rattle.flow_moves.proofs.PassesTell.{takes_port, blocks_apart}
-use Rattle.flow_moves.proofs.SendsByKind.{ready_id, ready_value, ready_may_go, ready_sends, ready_offers}
+use Rattle.flow_moves.proofs.SendsByKind.{ready_id, ready_may_go, ready_sends, ready_offers}
 
 -- a node, or an input, changes twice
 node_twice : (s : ℕ) (first then_on : NodeState → NodeState) (net : NetState) → s < length net.nodes
@@ -120,6 +120,94 @@ forgets_room p k i value node there =
     ∙ on_twice p (λ port. sees (prepared port)) (wants k) node there
     ∙ sym (on_twice p sees (wants k) node there))
 
+-- a port that is not prepared any more is as before
+room_back : (p : ℕ) (was : Bool) (node : NodeState) → (port_at p node.block).ready ≡ was
+    → with_block (with_port p (λ (port : PortState). record port { ready = was }) node.block) node ≡ node
+room_back p was node e =
+    ap (λ (b : Bool). with_block (with_port p (λ (port : PortState). record port { ready = b }) node.block) node) (sym e)
+    ∙ ap (λ (ports : List PortState). with_block (record node.block { ports = ports }) node) (set-get_or node.block.ports p (fresh_port None))
+
+room_undone : (p : ℕ) (was : Bool) (node : NodeState) → p < length node.block.ports → (port_at p node.block).ready ≡ was
+    → forgot_by was p (with_room p node) ≡ node
+room_undone p true node there e = room_back p true node e
+room_undone p false node there e = on_twice p prepared unprepared node there ∙ room_back p false node e
+
+pub target_undone : (target : LinkTarget) (j : ℕ) (net : NetState) → TargetIsThere net target j
+    → target_forgot (target_ready target net) target (target_prepared target net) ≡ net
+target_undone Exit j net there = refl
+target_undone (Port t p) j net there =
+    let node = node_at net t in
+    let was = (port_at p node.block).ready in
+    node_twice t (with_room p) (forgot_by was p) net there.0
+    ∙ ap (λ (n : NodeState). record net { nodes = set net.nodes t n }) (room_undone p was node there.1.port refl)
+    ∙ ap (λ (nodes : List NodeState). record net { nodes = nodes }) (set-get_or net.nodes t no_node)
+
+-- a source that is made ready and sends has sent
+pub sent_is : (source : LinkSource) (k i : ℕ) (net : NetState) → SourceIsThere net source k
+    → sent_ready source k i (source_prepared source k net) ≡ sent_by source k i net
+sent_is (Block s) k i net there =
+    node_twice s (node_prepared k) (node_sends_ready k i) net there.0
+    ∙ ap (λ (node : NodeState). record net { nodes = set net.nodes s node }) (ready_sends k (node_at net s) i)
+sent_is (Input b) k i net there = input_twice k with_parcel (input_sends i) net there
+
+-- Where the target alone is prepared, the source is as it was
+module _ (net : NetState) where
+  pub there_still : (source : LinkSource) (k : ℕ) (target : LinkTarget) → are_apart source target ≡ true → SourceIsThere net source k
+      → SourceIsThere (target_prepared target net) source k
+  there_still (Block s) k Exit apart there = there
+  there_still (Input b) k Exit apart there = there
+  there_still (Input b) k (Port t p) apart there = there
+  there_still (Block s) k (Port t p) apart there = (
+    still_there t s (with_room p) net there.0,
+    subst (λ (node : NodeState). k < exit_count node) (sym (node_beside t s (with_room p) net (blocks_apart s t apart))) there.1,
+  )
+
+  pub id_still : (source : LinkSource) (k : ℕ) (target : LinkTarget) → are_apart source target ≡ true
+      → id_next (target_prepared target net) source k ≡ id_next net source k
+  id_still (Block s) k Exit apart = refl
+  id_still (Input b) k Exit apart = refl
+  id_still (Input b) k (Port t p) apart = refl
+  id_still (Block s) k (Port t p) apart =
+      ap (λ (node : NodeState). id_in node.block) (node_beside t s (with_room p) net (blocks_apart s t apart))
+
+  pub value_still : (source : LinkSource) (k : ℕ) (target : LinkTarget) → are_apart source target ≡ true
+      → value_next (target_prepared target net) source k ≡ value_next net source k
+  value_still (Block s) k Exit apart = refl
+  value_still (Input b) k Exit apart = refl
+  value_still (Input b) k (Port t p) apart = refl
+  value_still (Block s) k (Port t p) apart = ap given_next (node_beside t s (with_room p) net (blocks_apart s t apart))
+
+  pub carries_still : (source : LinkSource) (k : ℕ) (target : LinkTarget) → are_apart source target ≡ true
+      → may_carry (target_prepared target net) source k ≡ may_carry net source k
+  carries_still (Block s) k Exit apart = refl
+  carries_still (Input b) k Exit apart = refl
+  carries_still (Input b) k (Port t p) apart = refl
+  carries_still (Block s) k (Port t p) apart =
+      ap (λ (node : NodeState). carries k node.block) (node_beside t s (with_room p) net (blocks_apart s t apart))
+
+  pub ready_still : (id : ℕ) (source : LinkSource) (k : ℕ) (target : LinkTarget) → are_apart source target ≡ true
+      → SourceIsReady (Offer id) net source k → SourceIsReady (Offer id) (target_prepared target net) source k
+  ready_still id (Block s) k Exit apart ready = ready
+  ready_still id (Input b) k Exit apart ready = ready
+  ready_still id (Input b) k (Port t p) apart ready = ready
+  ready_still id (Block s) k (Port t p) apart ready =
+      subst (λ (node : NodeState). ExitIsReady k (Offer id) node) (sym (node_beside t s (with_room p) net (blocks_apart s t apart))) ready
+
+  -- the ends may be prepared in either order
+  either_order : (source : LinkSource) (k : ℕ) (target : LinkTarget) → are_apart source target ≡ true
+      → source_prepared source k (target_prepared target net) ≡ target_prepared target (source_prepared source k net)
+  either_order (Block s) k Exit apart = refl
+  either_order (Input b) k Exit apart = refl
+  either_order (Input b) k (Port t p) apart = refl
+  either_order (Block s) k (Port t p) apart = node_swap s t (with_room p) (node_prepared k) net (blocks_apart s t apart)
+
+  -- so what it sends then is what it sends when both are prepared
+  pub sent_after : (source : LinkSource) (k i : ℕ) (target : LinkTarget) → are_apart source target ≡ true → SourceIsThere net source k
+      → sent_by source k i (target_prepared target net) ≡ sent_ready source k i (target_prepared target (source_prepared source k net))
+  sent_after source k i target apart there =
+      sym (sent_is source k i (target_prepared target net) (there_still source k target apart there))
+      ∙ ap (sent_ready source k i) (either_order source k target apart)
+
 -- One end after another
 module _ (net : NetState) (id : ℕ) where
   -- the source alone is prepared
@@ -153,39 +241,6 @@ module _ (net : NetState) (id : ℕ) where
   -- both are prepared
   abbrev both_ready : LinkSource → ℕ → LinkTarget → NetState
   both_ready source k target = target_prepared target (source_prepared source k net)
-
-  at_source : (s k t p : ℕ) → s ≢ t
-      → node_at (both_ready (Block s) k (Port t p)) s ≡ node_at (source_prepared (Block s) k net) s
-  at_source s k t p apart = node_beside t s (with_room p) (source_prepared (Block s) k net) apart
-
-  pub both_may : (source : LinkSource) (k : ℕ) (target : LinkTarget) → SourceIsThere net source k
-      → SourceIsReady (Offer id) net source k → may_carry net source k ≡ true → are_apart source target ≡ true
-      → MaySend (both_ready source k target) source k
-  both_may source k Exit there ready room apart = source_may source k there ready room
-  both_may (Input b) k (Port t p) there ready room apart = source_may (Input b) k there ready room
-  both_may (Block s) k (Port t p) there ready room apart =
-      let may = source_may (Block s) k there ready room in (
-        still_there t s (with_room p) (source_prepared (Block s) k net) may.0,
-        subst (λ (node : NodeState). BlockMaySend node.block k) (sym (at_source s k t p (blocks_apart s t apart))) may.1,
-      )
-
-  pub both_id : (source : LinkSource) (k : ℕ) (target : LinkTarget) → SourceIsThere net source k → are_apart source target ≡ true
-      → id_next (both_ready source k target) source k ≡ id_next net source k
-  both_id source k Exit there apart = id_stays source k there
-  both_id (Input b) k (Port t p) there apart = id_stays (Input b) k there
-  both_id (Block s) k (Port t p) there apart =
-      ap (λ (node : NodeState). id_in node.block) (at_source s k t p (blocks_apart s t apart)) ∙ id_stays (Block s) k there
-
-  pub both_value : (source : LinkSource) (k : ℕ) (target : LinkTarget) → SourceIsThere net source k → are_apart source target ≡ true
-      → value_next (both_ready source k target) source k ≡ value_next net source k
-  both_value (Block s) k Exit there apart =
-      ap given_next (node_found s (node_prepared k) net there.0) ∙ ready_value k (node_at net s)
-  both_value (Input b) k Exit there apart = ap next_value (input_found k with_parcel net there)
-  both_value (Input b) k (Port t p) there apart = ap next_value (input_found k with_parcel net there)
-  both_value (Block s) k (Port t p) there apart =
-      ap given_next
-      (at_source s k t p (blocks_apart s t apart) ∙ node_found s (node_prepared k) net there.0)
-      ∙ ready_value k (node_at net s)
 
   module _ (i : ℕ) where
     abbrev sent_now : LinkSource → ℕ → LinkTarget → NetState

@@ -8,7 +8,7 @@ use Rattle.flow_link.specs.declared.plan.LinkTarget.TheVariants.{Port, Exit}
 use Rattle.flow_link.specs.declared.stage.SourceStage.TheVariants.{Out}
 use Rattle.flow_link.specs.LinkOk.{HasRoom}
 use Rattle.flow_link.specs.Plan.{is_one_taker}
-use Rattle.flow_intake.specs.Calls.{prepared}
+use Rattle.flow_intake.specs.Calls.{prepared, unprepared}
 use Rattle.flow_intake.specs.Receives.{takes_at_once}
 use Rattle.flow_outlet.specs.End.{is_free}
 use Rattle.flow_outlet.specs.Outlet.{OutletState, end_at, may_offer, prepares, offers}
@@ -83,6 +83,20 @@ source_prepared (Input b) k net = with_input_in k (λ input. record input { parc
 abbrev pub target_prepared : LinkTarget → NetState → NetState
 target_prepared (Port t p) net = with_node t (λ node. with_block (with_port p prepared node.block) node) net
 target_prepared Exit net = net
+
+-- whether it has
+abbrev pub target_ready : LinkTarget → NetState → Bool
+target_ready (Port t p) net = (port_at p (node_at net t).block).ready
+target_ready Exit net = true
+
+-- it has not any more, unless it had before
+abbrev pub forgot_by : Bool → ℕ → NodeState → NodeState
+forgot_by true p node = node
+forgot_by false p node = with_block (with_port p unprepared node.block) node
+
+abbrev pub target_forgot : Bool → LinkTarget → NetState → NetState
+target_forgot was (Port t p) net = with_node t (forgot_by was p) net
+target_forgot was Exit net = net
 
 -- a source that was ready has sent
 abbrev pub sent_ready : LinkSource → ℕ → ℕ → NetState → NetState

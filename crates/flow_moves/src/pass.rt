@@ -6,7 +6,7 @@ ghost use Rattle.flow_link.specs.declared.phase.Move.TheVariants.{Offer};
 ghost use Rattle.flow_link.specs.declared.phase.Phase.TheVariants.{Offered};
 ghost use Rattle.flow_core.specs.Events.{with_line};
 ghost use Rattle.flow_core.specs.State.{line_at};
-ghost use Rattle.flow_moves.specs.Passed.{source_prepared, target_prepared, sent_ready, received_by, offered_by};
+ghost use Rattle.flow_moves.specs.Passed.{source_prepared, target_prepared, target_ready, target_forgot, sent_by, received_by, offered_by};
 ghost use Rattle.flow_moves.specs.Passed.{MaySend, MayReceive};
 ghost use Rattle.flow_moves.specs.Passes.{id_next, may_carry, takes_now, are_apart, is_idle_line, may_pass};
 ghost use Rattle.flow_moves.specs.Passes.{passed_along, offered_along};
@@ -84,14 +84,21 @@ impl Parts {
             self.old) }
         ensures kept { OnErr result (self.new ≡ self.old) }
     {
-        self.prepare_source(alloc, route)?;
+        let was_ready = self.is_target_ready(route);
         if self.prepare_target(route).is_err() {
-            self.offer_ready(id, route);
+            self.offer_alone(alloc, id, route)?;
             return Ok(false);
         }
-        let parcel = self.send(route);
-        self.receive(route, parcel);
-        Ok(true)
+        match self.send(alloc, route) {
+            Ok(parcel) => {
+                self.receive(route, parcel);
+                Ok(true)
+            }
+            Err(refused) => {
+                self.forget_target(route, was_ready);
+                Err(refused)
+            }
+        }
     }
 
     /// Has the source of a link make ready to send what it would offer: its parcel is made, or where it copies, the
@@ -125,6 +132,52 @@ impl Parts {
         }
     }
 
+    /// Whether the target of a link has memory set aside for one more message.
+    #[inline(always)]
+    fn is_target_ready(&self, route: &Route) -> bool
+        requires { TargetIsThere self.now route.now.target route.now.target_place }
+        ensures { result ≡ target_ready route.now.target self.now }
+    {
+        match route.target {
+            LinkTarget::Port(block, port) => self.nodes[block].is_port_ready(port),
+            LinkTarget::Exit => true,
+        }
+    }
+
+    /// The target of a link has no memory set aside any more, unless it had it before.
+    #[cold]
+    #[inline(never)]
+    fn forget_target(&mut self, route: &Route, was_ready: bool)
+        requires { TargetIsThere self.old route.now.target route.now.target_place }
+        ensures { self.new ≡ target_forgot was_ready route.now.target self.old }
+    {
+        if was_ready {
+            return;
+        }
+        if let LinkTarget::Port(block, port) = route.target {
+            self.nodes[block].forget_answer(port);
+        }
+    }
+
+    /// The source of a link offers what it would offer, and the target looks. Where the source has no memory, nothing has
+    /// changed.
+    #[cold]
+    #[inline(never)]
+    fn offer_alone(&mut self, alloc: Global, id: LinkId, route: &Route) -> Result<(), AllocError>
+        requires there { IsThere self.old id route.now }
+        requires ready { SourceIsReady (Offer (id_next self.old route.now.source route.now.source_place)) self.old
+            route.now.source route.now.source_place }
+        requires passes { may_pass id route.now self.old ≡ true }
+        ensures offered { OnOk result ((makes : ℕ → Value → Result (List Value) ℕ) →
+            self.new ≡ offered_along makes id (id_next self.old route.now.source route.now.source_place) route.now
+            self.old) }
+        ensures kept { OnErr result (self.new ≡ self.old) }
+    {
+        self.prepare_source(alloc, route)?;
+        self.offer_ready(id, route);
+        Ok(())
+    }
+
     /// The source of a link offers what it has ready, and the target looks.
     fn offer_ready(&mut self, id: LinkId, route: &Route)
         requires line { id < length self.old.lines }
@@ -155,17 +208,24 @@ impl Parts {
         }
     }
 
-    /// The source of a link sends what it has ready: this is the parcel.
+    /// The source of a link sends what it would offer: this is the parcel. Where memory is out, nothing has changed.
     #[inline(always)]
-    fn send(&mut self, route: &Route) -> Parcel
-        requires { MaySend self.old route.now.source route.now.source_place }
-        ensures value { value_next self.old route.now.source route.now.source_place ≡ Some result }
-        ensures sent { self.new ≡ sent_ready route.now.source route.now.source_place
-            (id_next self.old route.now.source route.now.source_place) self.old }
+    fn send(&mut self, alloc: Global, route: &Route) -> Result<Parcel, AllocError>
+        requires there { SourceIsThere self.old route.now.source route.now.source_place }
+        requires ready { SourceIsReady (Offer (id_next self.old route.now.source route.now.source_place)) self.old
+            route.now.source route.now.source_place }
+        requires carries { may_carry self.old route.now.source route.now.source_place ≡ true }
+        ensures value { IfOk result (λ parcel.
+            value_next self.old route.now.source route.now.source_place ≡ Some parcel) }
+        ensures sent { OnOk result (self.new ≡ sent_by route.now.source route.now.source_place
+            (id_next self.old route.now.source route.now.source_place) self.old) }
+        ensures kept { OnErr result (self.new ≡ self.old) }
     {
         match route.source {
-            LinkSource::Block(block) => send_exit(&mut self.nodes[block], route.source_place),
-            LinkSource::Input(_) => self.inputs[route.source_place].send(),
+            LinkSource::Block(block) => {
+                send_exit(&mut self.nodes[block], alloc, route.source_place)
+            }
+            LinkSource::Input(_) => self.inputs[route.source_place].send(alloc),
         }
     }
 

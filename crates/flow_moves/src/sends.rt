@@ -1,11 +1,10 @@
 //! A block's end of a link out of it, where a message goes over the link in one call.
 //!
-//! A block that shares its messages out makes the parcel of its head first, and sends that. One that copies offers its
-//! element first, and goes on from there.
-ghost use Rattle.std.specs.Prelude.{◌≡◌, ◌<◌, Some, OnOk, OnErr};
+//! A block that shares its messages out sends its head. One that copies offers its element first, and goes on from there.
+ghost use Rattle.std.specs.Prelude.{◌≡◌, ◌<◌, true, Some, OnOk, OnErr, IfOk};
 ghost use Rattle.flow_link.specs.declared.phase.Move.TheVariants.{Offer};
 ghost use Rattle.flow_block.specs.Node.{given_next};
-ghost use Rattle.flow_moves.specs.Passed.{BlockMaySend, node_prepared, node_offers, node_sends_ready};
+ghost use Rattle.flow_moves.specs.Passed.{BlockMaySend, node_prepared, node_offers, node_sends};
 ghost use Rattle.flow_moves.specs.Passes.{carries, id_in};
 ghost use Rattle.flow_moves.specs.Ready.{ExitIsReady, exit_count};
 
@@ -59,16 +58,19 @@ pub(crate) fn offer_exit(node: &mut Node, place: usize) -> MessageHeader
     header
 }
 
-/// Sends what is ready over the link at this place, to a target that takes it at once: this is its parcel.
+/// Sends what the block would offer over the link at this place, to a target that takes it at once: this is its parcel.
+/// Where memory is out, nothing has changed.
 #[inline(always)]
-pub(crate) fn send_exit(node: &mut Node, place: usize) -> Parcel
-    requires { BlockMaySend node.old.block place }
-    ensures value { given_next node.old ≡ Some result }
-    ensures sent { node.new ≡ node_sends_ready place (id_in node.old.block) node.old }
+pub(crate) fn send_exit(node: &mut Node, alloc: Global, place: usize) -> Result<Parcel, AllocError>
+    requires ready { ExitIsReady place (Offer (id_in node.old.block)) node.old }
+    requires carries { carries place node.old.block ≡ true }
+    ensures value { IfOk result (λ parcel. given_next node.old ≡ Some parcel) }
+    ensures sent { OnOk result (node.new ≡ node_sends place (id_in node.old.block) node.old) }
+    ensures kept { OnErr result (node.new ≡ node.old) }
 {
     if shares_out(node.block()) {
-        node.send(place)
-    } else {
-        node.send_copy(place)
+        return node.send(alloc, place);
     }
+    node.offer_copy(alloc, place)?;
+    Ok(node.send_copy(place))
 }

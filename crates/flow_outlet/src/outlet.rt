@@ -1,5 +1,5 @@
 //! What a block has to give, and its ends of the links that lead out of it.
-ghost use Rattle.std.specs.Prelude.{◌≡◌, ◌<◌, ◌≤◌, ◌+◌, ◌-◌, ◌^◌, ◌++◌, ◌∷◌, ◌==◌, ◌↔◌, length, true, is_some};
+ghost use Rattle.std.specs.Prelude.{◌≡◌, ◌<◌, ◌≤◌, ◌+◌, ◌-◌, ◌^◌, ◌++◌, ◌∷◌, ◌==◌, ◌↔◌, length, true, false, is_some};
 ghost use Rattle.std.specs.Prelude.{Some, None, Err, IfOk, IfErr, OnOk, OnErr, MatchResult, cond, drop, map, []};
 ghost use Rattle.std.specs.Option.{option_copied, ForSome};
 ghost use Rattle.std.specs.VecDeque.{deque_capacity};
@@ -10,7 +10,7 @@ ghost use Rattle.flow_outlet.specs.ByLink.{releases, forgets_all, is_kept_elsewh
 ghost use Rattle.flow_outlet.specs.ByLink.{consumes, place_of, forgets, tests_asked, tests_consume};
 ghost use Rattle.flow_outlet.specs.End.{count_at, is_away, is_waiting, is_free, is_cut, place_in, fresh_end};
 ghost use Rattle.flow_outlet.specs.Fits.{weight_of};
-ghost use Rattle.flow_outlet.specs.Outlet.{changes, recounted, first_of, is_empty, fresh_outlet, lacks_ids, puts};
+ghost use Rattle.flow_outlet.specs.Outlet.{changes, recounted, first_of, head_of, is_empty, fresh_outlet, lacks_ids, puts};
 ghost use Rattle.flow_outlet.specs.Outlet.{lacks_ids_for, sets_aside, puts_aside};
 ghost use Rattle.flow_outlet.specs.Outlet.{groups_with, groups_after, weight_at, may_offer, prepares, offers, looks};
 ghost use Rattle.flow_outlet.specs.Outlet.{gives, may_give, is_wish, denies, withdraws, ends_link, out_move, free_move};
@@ -432,23 +432,55 @@ impl Outlet {
     }
 
     /// Sends the head over the link at the place where it may be offered, to a target that takes it at once: the
-    /// message for the block's own account, and its parcel.
+    /// message for the block's own account, and its parcel, which is made first. Where memory is out, nothing has changed.
     #[inline(always)]
-    pub fn send(&mut self, place: usize) -> (Value, Parcel)
+    pub fn send(&mut self, alloc: Global, place: usize) -> Result<(Value, Parcel), AllocError>
         requires may { may_offer self.old ≡ Some place }
-        requires ready { is_some self.old.parcel ≡ true }
         requires room { HasRoom (end_at self.old place).rule.max (end_at self.old place).given }
-        ensures oldest { self.old.left ≡ result.0 ∷ self.new.left }
-        ensures same { result.1 ≡ result.0 }
-        ensures sent { self.new ≡ sends place self.old }
+        ensures oldest { IfOk result (λ sent. self.old.left ≡ sent.0 ∷ self.new.left) }
+        ensures same { IfOk result (λ sent. sent.1 ≡ sent.0) }
+        ensures sent { OnOk result (self.new ≡ sends place self.old) }
+        ensures kept { OnErr result (self.new ≡ self.old) }
     {
-        let head = taken(&mut self.left, &mut self.parcel);
+        let parcel = self.parcel_to_send(alloc)?;
+        let head = pop_head(&mut self.left);
         self.ends[place].note_sent(self.next);
         self.room += end_group(&mut self.groups, self.next);
         self.next += 1;
         self.renewing = false;
         self.cursor = first_from(&self.ends, 0, self.next, front(&self.left));
-        head
+        Ok((head, parcel))
+    }
+
+    // the parcel of the head, which is made where it was not
+    #[inline(always)]
+    fn parcel_to_send(&mut self, alloc: Global) -> Result<Parcel, AllocError>
+        requires { is_empty self.old.left ≡ false }
+        ensures same { IfOk result (λ parcel. head_of self.old ≡ Some parcel) }
+        ensures taken { OnOk result (self.new ≡ record self.old { parcel = None }) }
+        ensures kept { OnErr result (self.new ≡ self.old) }
+    {
+        if self.parcel.is_some() {
+            return Ok(self.take_parcel());
+        }
+        let Some(head) = front(&self.left) else {
+            unreachable!()
+        };
+        Parcel::of(alloc, head)
+    }
+
+    // the parcel that was made before
+    #[cold]
+    #[inline(never)]
+    fn take_parcel(&mut self) -> Parcel
+        requires { is_some self.old.parcel ≡ true }
+        ensures same { head_of self.old ≡ Some result }
+        ensures taken { self.new ≡ record self.old { parcel = None } }
+    {
+        let Some(parcel) = self.parcel.take() else {
+            unreachable!()
+        };
+        parcel
     }
 
     /// Keeps the head for the target that asks to reserve it over the link at a place.
@@ -566,6 +598,19 @@ fn taken(left: &mut VecDeque<Value>, parcel: &mut Option<Parcel>) -> (Value, Par
         unreachable!()
     };
     (value, parcel)
+}
+
+// the head alone
+#[inline(always)]
+fn pop_head(left: &mut VecDeque<Value>) -> Value
+    requires { is_empty left.old.items ≡ false }
+    ensures oldest { left.old.items ≡ result ∷ left.new.items }
+    ensures capacity { deque_capacity left.new ≡ deque_capacity left.old }
+{
+    let Some(value) = left.pop_front() else {
+        unreachable!()
+    };
+    value
 }
 
 #[inline]

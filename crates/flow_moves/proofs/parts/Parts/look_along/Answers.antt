@@ -1,4 +1,4 @@
-use Rattle.std.proofs.Common.{◌≡◌, ℕ, ◌<◌, List, length, get_or, ap, sym, subst, ◌∙◌}
+use Rattle.std.proofs.Common.{◌≡◌, ◌<◌, List, length, get_or, ap, sym, subst, ◌∙◌}
 use Rattle.flow_link.specs.declared.phase.Phase.{Phase}
 use Rattle.flow_link.specs.declared.trace.LinkState.{LinkState}
 use Rattle.flow_core.specs.State.{NetState, fresh_line, line_at}

@@ -1,4 +1,4 @@
-use Rattle.std.proofs.Common.{subst, sym, ◌∙◌, ap}
+use Rattle.std.proofs.Common.{◌≡◌, None, subst, sym, ◌∙◌, ap, rules}
 use Rattle.flow_outlet.specs.Order.{IsNextOffer}
 use Rattle.flow_outlet.specs.Outlet.{OutletState}
 use Rattle.flow_outlet.specs.Sends.{sends}
@@ -9,26 +9,28 @@ use Rattle.flow_outlet.proofs.outlet.Outlet.send.Goals as goal
 
 pub invariant_of-self : goal.invariant_of-self
 invariant_of-self c =
-    let may = named_is c.args.self.now c.args.place c.requires.may in
-    let next = subst (λ (o : OutletState). IsNextOffer o c.args.place) (sym c.self.view_is) may in
+    let taken : c.parcel_to_send.new.self ≡ record c.args.self.now { parcel = None } = search rules in
+    let may = named_is (record c.args.self.now { parcel = None }) c.args.place c.requires.may in
+    let next = subst (λ (o : OutletState). IsNextOffer o c.args.place) (sym (c.self.view_is ∙ taken)) may in
     rw (
       c.first_from-self-inside.ensures,
       c.front.ensures,
       c.deref.ensures.value,
       c.end_group.ensures.rest,
       c.end_group.ensures.weight,
-      c.taken-head.ensures.none,
-      c.taken-head.ensures.capacity,
+      ap (λ (o : OutletState). o.parcel) (c.self.view_is ∙ taken),
+      c.pop_head-head.ensures.capacity,
       c.end_group.ensures.capacity,
       c.note_sent.ensures,
     )
     (fits_sent c.self.invariant c.args.place next.there next.free _ c.index_mut.ensures.value
-    _ _ c.taken-head.ensures.oldest)
+    _ _ c.pop_head-head.ensures.oldest)
 
 pub returns-clause-sent : goal.returns-clause-sent
 returns-clause-sent c =
-    let may = named_is c.args.self.now c.args.place c.requires.may in
-    let next = subst (λ (o : OutletState). IsNextOffer o c.args.place) (sym c.self.view_is) may in
+    let taken : c.parcel_to_send.new.self ≡ record c.args.self.now { parcel = None } = search rules in
+    let may = named_is (record c.args.self.now { parcel = None }) c.args.place c.requires.may in
+    let next = subst (λ (o : OutletState). IsNextOffer o c.args.place) (sym (c.self.view_is ∙ taken)) may in
     is_sent (the_view c.self.inside) c.args.place next _ _ c.index_mut.ensures.value c.note_sent.ensures
-    _ _ c.taken-head.ensures.oldest _ c.taken-head.ensures.none _ c.end_group.ensures.rest _ c.end_group.ensures.weight
-    ∙ ap (λ (o : OutletState). sends c.args.place o) c.self.view_is
+    _ _ c.pop_head-head.ensures.oldest _ (ap (λ (o : OutletState). o.parcel) (c.self.view_is ∙ taken)) _ c.end_group.ensures.rest _ c.end_group.ensures.weight
+    ∙ ap (λ (o : OutletState). sends c.args.place o) (c.self.view_is ∙ taken)
