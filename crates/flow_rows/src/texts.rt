@@ -2,10 +2,12 @@
 ghost use Rattle.std.specs.Prelude.{◌≤◌};
 
 use crate::check::check;
+use flow_front::record_of;
 use flow_link::{Place, PlanFault};
 use flow_run::{RunRefusal, split_input, status, write_refusal};
 use flow_text::{TextFault, TextPlace};
-use flow_trial::{ENOUGH, Told, chain, is_refusal, is_report, told_by, told_with};
+use flow_trial::{ENOUGH, Told, chain, is_refusal, is_report, kept, told_by, told_with};
+use flow_value::Value;
 use std::alloc::Global;
 use std::process::Abort;
 use std::sync::Wait;
@@ -245,6 +247,28 @@ fn rows_are_the_same_with_three_workers(rt: HostRuntime) -> Result<(), Fail> {
     let three = told_with(&rt, rt.alloc(), network.as_slice(), SEVEN, 3, ENOUGH)?;
     assert!(rt; one.status == 0 && three.status == 0);
     assert!(rt; one.text == three.text);
+    Ok(())
+}
+
+const ALONE: &[u8] = br#"format = 1
+[[block]]
+name = "out"
+kind = "action"
+input = true
+work = ["int"]
+"#;
+
+#[test]
+fn network_is_handed_back_as_its_run_left_it(rt: HostRuntime) -> Result<(), Fail> {
+    let mut text = Vec::new(rt.alloc());
+    let records: &[u8] = b"out,5\nout,7\n";
+    let outcome = kept(&rt, rt.alloc(), ALONE, records, &mut text, 1, ENOUGH);
+    let Ok((ran, net)) = outcome else {
+        return Err(Fail::new("the run was refused"));
+    };
+    assert!(rt; ran.complete && !text.is_empty());
+    let record = record_of(&net, "out");
+    assert!(rt; matches!(record, Some([Value::Int(5), Value::Int(7)])));
     Ok(())
 }
 

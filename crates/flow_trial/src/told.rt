@@ -1,7 +1,9 @@
 //! Runs of texts, and what they tell.
 ghost use Rattle.std.specs.Prelude.{◌≤◌};
 
-use flow_run::{Ran, RunRefusal, run, status, write_refusal};
+use flow_net::Net;
+use flow_run::{Ran, RunRefusal, run, run_and_keep, status, write_refusal};
+use flow_value::Steps;
 use std::alloc::Global;
 use std::io::{Read, Write};
 use std::sync::Wait;
@@ -55,6 +57,22 @@ pub fn ran<R: Read + Drop, W: Write>(
     requires { (1 ≤ workers) × (workers ≤ 64) }
 {
     run(rt, alloc, network, records, text, workers, limit)
+}
+
+/// Runs a network over records, and keeps it. What `run_and_keep` promises is not for the tests, which look at what comes of
+/// it.
+pub fn kept<R: Read + Drop, W: Write>(
+    rt: &(impl Threads + Wait + Sync),
+    alloc: Global,
+    network: &[u8],
+    records: R,
+    text: &mut W,
+    workers: u32,
+    limit: u64,
+) -> Result<(Ran, Net<Steps>), RunRefusal>
+    requires { (1 ≤ workers) × (workers ≤ 64) }
+{
+    run_and_keep(rt, alloc, network, records, text, workers, limit)
 }
 
 /// What a run told that came to this, and wrote this text.
