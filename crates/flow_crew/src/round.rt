@@ -43,7 +43,8 @@ fn turn_in<
     if count == 0 {
         return Ok((tasks, 0));
     }
-    let Ok((queue, mut pass)) = Queue::<W, J>::ruled(alloc, count) else {
+    // twice the room, so that whoever puts a task back need not wait for another to be taken out of the same place
+    let Ok((queue, mut pass)) = Queue::<W, J>::ruled(alloc, count * 2) else {
         return Err((tasks, AllocError));
     };
     let mut tasks = tasks;
