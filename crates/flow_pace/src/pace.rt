@@ -16,6 +16,8 @@ pub(crate) struct Pace {
     since: u64,
     events: u64,
     share: u64,
+    // the time of the last look
+    seen: u64,
 }
 
 impl Pace {
@@ -25,10 +27,12 @@ impl Pace {
             since: now,
             events: 0,
             share: 1,
+            seen: now,
         }
     }
 
-    /// How many events to do before the next look at the time. At first it is one, since any may take long.
+    /// How many events to do before the next look at the time. At first it is one, since any may take long; then it is twice as many each
+    /// time, until they take a millisecond.
     pub(crate) fn share(&self) -> u64
         ensures some { 0 < result }
     {
@@ -37,7 +41,10 @@ impl Pace {
 
     /// Counts so many events more by this time, and answers whether those since the last judgement took long.
     pub(crate) fn is_long(&mut self, events: u64, now: u64) -> bool {
-        self.share = self.share().saturating_mul(2).min(MOST);
+        if now == self.seen {
+            self.share = self.share().saturating_mul(2).min(MOST);
+        }
+        self.seen = now;
         self.events = self.events.saturating_add(events);
         let span = now.saturating_sub(self.since);
         if span < SPAN {
