@@ -8,7 +8,7 @@ ghost use Rattle.flow_block.specs.Node.{copies_by};
 
 use crate::node::{Node, reserve_mark};
 use flow_link::{LinkEnd, Mark, Phase};
-use flow_value::{MessageHeader, Parcel};
+use flow_value::{Kept, MessageHeader, Parcel};
 use std::alloc::{AllocError, Global};
 
 impl Node {
@@ -46,7 +46,8 @@ impl Node {
     {
         let link = self.block.copies().ends()[place].link.rule.id;
         let (value, parcel) = self.block.give_copy(place);
-        self.journal.push_reserved(Mark::Gave(link, value));
+        let mark = Mark::Gave(link, Kept::new(value));
+        self.journal.push_reserved(mark);
         parcel
     }
 

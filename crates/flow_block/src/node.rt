@@ -34,7 +34,7 @@ use flow_group::{Round, Source};
 use flow_intake::Intake;
 use flow_link::{LinkEnd, Mark, Move, Outcome, Phase, PortId};
 use flow_outlet::OutletFault;
-use flow_value::{MessageHeader, Parcel, Value};
+use flow_value::{Kept, MessageHeader, Parcel, Value};
 use std::alloc::{AllocError, Global};
 use std::marker::Model;
 
@@ -272,7 +272,8 @@ impl Node {
     {
         let link = self.block.in_link(port as usize, place);
         let value = self.block.close(port as usize, place);
-        self.journal.push_reserved(Mark::Took(port, link, value));
+        let mark = Mark::Took(port, link, Kept::new(value));
+        self.journal.push_reserved(mark);
         self.block.copy_taken();
         self.settle(false);
     }
@@ -332,7 +333,8 @@ impl Node {
     {
         let link = self.block.out_link(place);
         let (value, parcel) = self.block.give(place);
-        self.journal.push_reserved(Mark::Gave(link, value));
+        let mark = Mark::Gave(link, Kept::new(value));
+        self.journal.push_reserved(mark);
         parcel
     }
 

@@ -16,7 +16,7 @@ use crate::block::Block;
 use crate::node::{Node, reserve_mark};
 use crate::ports::bring_back;
 use flow_link::{Mark, PortId};
-use flow_value::{Parcel, Value};
+use flow_value::{Kept, Parcel, Value};
 use std::alloc::{AllocError, Global};
 
 impl Block {
@@ -100,7 +100,8 @@ impl Node {
         reserve_mark(&mut self.journal, &self.block)?;
         let link = self.block.out_link(place);
         let (value, parcel) = self.block.send(alloc, place)?;
-        self.journal.push_reserved(Mark::Gave(link, value));
+        let mark = Mark::Gave(link, Kept::new(value));
+        self.journal.push_reserved(mark);
         Ok(parcel)
     }
 
@@ -117,7 +118,8 @@ impl Node {
     {
         let link = self.block.copies().ends()[place].link.rule.id;
         let (value, parcel) = self.block.send_copy(place);
-        self.journal.push_reserved(Mark::Gave(link, value));
+        let mark = Mark::Gave(link, Kept::new(value));
+        self.journal.push_reserved(mark);
         parcel
     }
 
@@ -144,7 +146,8 @@ impl Node {
     {
         let link = self.block.in_link(port as usize, place);
         let value = self.block.receive(port as usize, place, parcel);
-        self.journal.push_reserved(Mark::Took(port, link, value));
+        let mark = Mark::Took(port, link, Kept::new(value));
+        self.journal.push_reserved(mark);
         self.block.copy_taken();
     }
 }

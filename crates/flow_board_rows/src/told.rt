@@ -3,7 +3,7 @@
 use flow_front::record_of;
 use flow_link::Mark;
 use flow_net::Net;
-use flow_value::{Steps, Value};
+use flow_value::{Steps, Value, ValueRef};
 use std::alloc::Global;
 use std::process::Abort;
 use std::slice::Iter;
@@ -21,12 +21,17 @@ pub(crate) enum Told {
 /// What a mark tells.
 fn told_by(mark: &Mark) -> Told {
     match mark {
-        Mark::Took(0, _, Value::Int(number)) => Told::Took(*number),
-        Mark::Gave(_, Value::Int(number)) => Told::Gave(*number),
+        Mark::Took(0, _, kept) => match kept.seen().value {
+            ValueRef::Int(number) => Told::Took(number),
+            ValueRef::Text(_) | ValueRef::Row(_) => Told::Strange,
+        },
+        Mark::Gave(_, kept) => match kept.seen().value {
+            ValueRef::Int(number) => Told::Gave(number),
+            ValueRef::Text(_) | ValueRef::Row(_) => Told::Strange,
+        },
         Mark::Complete(0) => Told::Complete,
         Mark::Done => Told::Done,
-        Mark::Took(_, _, _) | Mark::Gave(_, _) | Mark::Complete(_) | Mark::Fault(_) =>
-            Told::Strange,
+        Mark::Took(_, _, _) | Mark::Complete(_) | Mark::Fault(_) => Told::Strange,
     }
 }
 

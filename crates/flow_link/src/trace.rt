@@ -5,15 +5,15 @@ ghost use Rattle.flow_link.specs.Posted.{is_numbered_ending};
 
 use crate::phase::Phase;
 use crate::plan::{LinkId, PortId};
-use flow_value::{MessageHeader, Parcel, Value};
+use flow_value::{Kept, MessageHeader, Parcel};
 
 /// One thing that happened to a block; its journal has them in order.
 #[derive(Debug, Drop)]
 pub enum Mark {
     /// At this port it took this value, which came over this link.
-    Took(PortId, LinkId, Value),
+    Took(PortId, LinkId, Kept),
     /// Over this link it gave this value.
-    Gave(LinkId, Value),
+    Gave(LinkId, Kept),
     /// This port takes nothing any more.
     Complete(PortId),
     /// The block ended by a fault with this number.

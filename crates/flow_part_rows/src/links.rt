@@ -185,8 +185,8 @@ fn links_of_exits_follow_those_of_inputs(rt: HostRuntime) {
 }
 
 #[test]
-fn a_mark_takes_32_bytes(rt: HostRuntime) {
-    check(&rt, "a mark", size_of::<Mark>() == 32);
+fn a_mark_takes_24_bytes(rt: HostRuntime) {
+    check(&rt, "a mark", size_of::<Mark>() == 24);
 }
 
 /// How an input may end, and whether it has the number of a fault if it needs one.

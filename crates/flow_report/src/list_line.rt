@@ -1,12 +1,12 @@
 //! The lines of a report that end with a list of values.
-ghost use Rattle.std.specs.Prelude.{◌≡◌, ◌∷◌, ◌++◌, [], List, OnOk};
+ghost use Rattle.std.specs.Prelude.{◌≡◌, ◌∷◌, ◌++◌, [], List, OnOk, option_map};
 ghost use Rattle.std.specs.Fmt.{decimal};
 ghost use Rattle.std.specs.Iterator.{IsFinite, AlwaysYields};
-ghost use Rattle.std.specs.Option.{option_copied, option_to_list};
+ghost use Rattle.std.specs.Option.{option_to_list};
 ghost use Rattle.std.specs.Io.KnownBytes.{Appends};
 ghost use Rattle.flow_value.specs.declared.value.Value.{Value};
 ghost use Rattle.flow_link.specs.Trace.{took_at, gave_over};
-ghost use Rattle.flow_report.specs.Given.{values_of};
+ghost use Rattle.flow_report.specs.Given.{values_of, seen_value};
 ghost use Rattle.flow_report.specs.Printed.{list_text};
 ghost use Rattle.flow_report.specs.Report.{labelled, label_text};
 ghost use Rattle.flow_report.specs.Written.{StaysInFront};
@@ -15,41 +15,41 @@ use crate::page::{Page, gather_bytes, write_page};
 use crate::piece::write_bytes;
 use crate::value_text::gather_item;
 use flow_link::{LinkId, Mark};
-use flow_value::Value;
+use flow_value::{Kept, Seen, Value};
 use itoa::Buffer;
 use std::io;
 use std::io::Write;
 
 // The value that this mark took at this port.
 #[inline]
-fn taken_at(mark: &Mark, port: u32) -> Option<&Value>
-    ensures { option_to_list (option_copied result) ≡ took_at port (mark.now ∷ []) }
+fn taken_at(mark: &Mark, port: u32) -> Option<Seen<'_>>
+    ensures { option_to_list (option_map seen_value result) ≡ took_at port (mark.now ∷ []) }
 {
     match mark {
-        Mark::Took(at, _, value) if u32::from(*at) == port => Some(value),
+        Mark::Took(at, _, value) if u32::from(*at) == port => Some(value.seen()),
         _ => None,
     }
 }
 
 // The value that this mark gave over this link.
 #[inline]
-fn given_over(mark: &Mark, link: LinkId) -> Option<&Value>
-    ensures { option_to_list (option_copied result) ≡ gave_over link (mark.now ∷ []) }
+fn given_over(mark: &Mark, link: LinkId) -> Option<Seen<'_>>
+    ensures { option_to_list (option_map seen_value result) ≡ gave_over link (mark.now ∷ []) }
 {
     match mark {
-        Mark::Gave(over, value) if *over == link => Some(value),
+        Mark::Gave(over, value) if *over == link => Some(value.seen()),
         _ => None,
     }
 }
 
 // Writes the list of the values to which an iterator comes.
-fn write_list<'a, W: Write, I: Iterator<Item = &'a Value> + Drop>(
+fn write_list<'a, W: Write, I: Iterator<Item = Seen<'a>> + Drop>(
     writer: &mut W,
     values: I,
 ) -> io::Result<()>
     requires can { I.can_next values }
     requires ends { IsFinite (I.remaining values) }
-    ensures written { (all : List Value) → AlwaysYields I.next_gives (λ value. value.now) values all → OnOk result
+    ensures written { (all : List Value) → AlwaysYields I.next_gives seen_value values all → OnOk result
         (Appends (W.contents writer.old) (W.contents writer.new) (list_text all)) }
     ensures kept { StaysInFront (W.contents writer.old) (W.contents writer.new) }
 {
@@ -97,7 +97,7 @@ fn begin_line<W: Write>(writer: &mut W, label: &[u8], number: Option<u64>) -> io
 }
 
 // Writes a line that ends with the list of the values to which an iterator comes.
-fn write_line<'a, W: Write, I: Iterator<Item = &'a Value> + Drop>(
+fn write_line<'a, W: Write, I: Iterator<Item = Seen<'a>> + Drop>(
     writer: &mut W,
     label: &[u8],
     number: Option<u64>,
@@ -105,7 +105,7 @@ fn write_line<'a, W: Write, I: Iterator<Item = &'a Value> + Drop>(
 ) -> io::Result<()>
     requires can { I.can_next values }
     requires ends { IsFinite (I.remaining values) }
-    ensures written { (all : List Value) → AlwaysYields I.next_gives (λ value. value.now) values all → OnOk result
+    ensures written { (all : List Value) → AlwaysYields I.next_gives seen_value values all → OnOk result
         (Appends (W.contents writer.old) (W.contents writer.new) (labelled (label_text label.now number) all)) }
     ensures kept { StaysInFront (W.contents writer.old) (W.contents writer.new) }
 {
@@ -197,13 +197,18 @@ pub(crate) fn write_sorted_line<W: Write>(
     writer: &mut W,
     label: &[u8],
     number: Option<u64>,
-    values: &[&Value],
+    values: &[&Kept],
 ) -> io::Result<()>
     ensures written { OnOk result (Appends (W.contents writer.old) (W.contents writer.new)
         (labelled (label_text label.now number) (values_of values.now))) }
     ensures kept { StaysInFront (W.contents writer.old) (W.contents writer.new) }
 {
-    write_line(writer, label, number, values.iter().copied())
+    write_line(
+        writer,
+        label,
+        number,
+        values.iter().map(|value| value.seen()),
+    )
 }
 
 /// Writes the line of the values of two parts, as one list.
@@ -218,5 +223,10 @@ pub(crate) fn write_parts_line<W: Write>(
         (labelled (label_text label.now number) (front.now ++ back.now))) }
     ensures kept { StaysInFront (W.contents writer.old) (W.contents writer.new) }
 {
-    write_line(writer, label, number, front.iter().chain(back.iter()))
+    write_line(
+        writer,
+        label,
+        number,
+        front.iter().chain(back.iter()).map(|value| value.seen()),
+    )
 }

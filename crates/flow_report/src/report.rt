@@ -30,7 +30,7 @@ use crate::seen::{block_at, block_count, held_at, left_at, link_at, link_count};
 use flow_fault_text::{TextFault, TextRefusal};
 use flow_link::{BlockDef, BlockKind, Link, LinkId, Mark};
 use flow_net::{Net, Settled, State};
-use flow_value::{Steps, Value};
+use flow_value::{Kept, Steps, Value};
 use std::alloc::Global;
 use std::io;
 use std::io::Write;
@@ -132,7 +132,7 @@ fn write_link_line<W: Write>(
     writer: &mut W,
     link: LinkId,
     journal: &[Mark],
-    lists: &[Vec<&Value>],
+    lists: &[Vec<&Kept>],
 ) -> io::Result<()>
     requires { lists_of lists.now ≡ given_lists (length lists.now) journal.now }
     ensures written { OnOk result (Appends (W.contents writer.old) (W.contents writer.new)
@@ -332,7 +332,7 @@ fn write_ports<W: Write>(
 // lines. Where memory is out, it is walked through for each.
 fn sort_for_many<'a>(
     alloc: Global,
-    lists: &mut Vec<Vec<&'a Value>>,
+    lists: &mut Vec<Vec<&'a Kept>>,
     lines: usize,
     journal: &'a [Mark],
     links: usize,
@@ -374,7 +374,7 @@ fn write_link<W: Write>(
     kept: &mut KeptList,
     block: usize,
     link: LinkId,
-    lists: &[Vec<&Value>],
+    lists: &[Vec<&Kept>],
 ) -> io::Result<()>
     requires known { block < length (run_in net.now).layout.blocks }
     requires link { link < length (run_in net.now).layout.links }

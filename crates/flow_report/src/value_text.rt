@@ -2,11 +2,12 @@
 ghost use Rattle.std.specs.Prelude.{◌≡◌, ◌<◌, ◌↔◌, true, false, [], ◌∷◌, ◌++◌, IsTrue, OnOk};
 ghost use Rattle.std.specs.Fmt.{signed_decimal};
 ghost use Rattle.std.specs.Io.KnownBytes.{Appends, append_known};
+ghost use Rattle.flow_value.specs.Seen.{value_of_ref};
 ghost use Rattle.flow_report.specs.Written.{StaysInFront};
 ghost use Rattle.flow_report.specs.Printed.{hex_digit, escaped, escapes, quoted, value_text, list_text, comma_unless};
 
 use crate::page::{Page, Unwritten, gather_byte, gather_bytes};
-use flow_value::{Value, is_plain_byte};
+use flow_value::{Seen, Value, ValueRef, is_plain_byte};
 use itoa::Buffer;
 use std::io::Write;
 
@@ -139,16 +140,17 @@ fn put_number(page: &mut Page, is_first: bool, number: i64) -> bool
 // Puts a number or a plain text on the page as an item, if there is room for it; else false.
 #[inline(always)]
 #[tactic(auto, using(crate::proofs::PlainText::plain_text))]
-fn put_item(page: &mut Page, is_first: bool, value: &Value) -> bool
-    ensures put { result ≡ true → page.new.items ≡ page.old.items ++ (comma_unless is_first ++ value_text value.now) }
+fn put_item(page: &mut Page, is_first: bool, seen: Seen<'_>) -> bool
+    ensures put { result ≡ true → page.new.items ≡ page.old.items ++ (comma_unless is_first ++
+        value_text (value_of_ref seen.entry.value)) }
     ensures kept { result ≡ false → page.new ≡ page.old }
 {
-    match value {
-        Value::Int(number) => put_number(page, is_first, *number),
-        Value::Text(text) => {
-            text.is_plain() && put_text(page, is_first, text.as_str().as_bytes())
+    match seen.value {
+        ValueRef::Int(number) => put_number(page, is_first, number),
+        ValueRef::Text(text) => {
+            seen.is_plain_text() && put_text(page, is_first, text.as_bytes())
         }
-        Value::Row(_) => false,
+        ValueRef::Row(_) => false,
     }
 }
 
@@ -159,16 +161,17 @@ pub(crate) fn gather_item<W: Write>(
     writer: &mut W,
     page: &mut Page,
     is_first: bool,
-    value: &Value,
+    seen: Seen<'_>,
 ) -> Result<(), Unwritten>
     ensures written { OnOk result (Appends (append_known (W.contents writer.old) page.old.items)
-        (append_known (W.contents writer.new) page.new.items) (comma_unless is_first ++ value_text value.now)) }
+        (append_known (W.contents writer.new) page.new.items) (comma_unless is_first ++
+        value_text (value_of_ref seen.entry.value))) }
     ensures kept { StaysInFront (W.contents writer.old) (W.contents writer.new) }
 {
-    if put_item(page, is_first, value) {
+    if put_item(page, is_first, seen) {
         return Ok(());
     }
-    gather_parts(writer, page, is_first, value)
+    gather_parts(writer, page, is_first, seen.value)
 }
 
 // Gathers the value as an item, part by part.
@@ -178,17 +181,20 @@ fn gather_parts<W: Write>(
     writer: &mut W,
     page: &mut Page,
     is_first: bool,
-    value: &Value,
+    value: ValueRef<'_>,
 ) -> Result<(), Unwritten>
     ensures written { OnOk result (Appends (append_known (W.contents writer.old) page.old.items)
-        (append_known (W.contents writer.new) page.new.items) (comma_unless is_first ++ value_text value.now)) }
+        (append_known (W.contents writer.new) page.new.items) (comma_unless is_first ++
+        value_text (value_of_ref value.entry))) }
     ensures kept { StaysInFront (W.contents writer.old) (W.contents writer.new) }
 {
     gather_comma(writer, page, is_first)?;
     match value {
-        Value::Int(number) => gather_bytes(writer, page, Buffer::new().format(*number).as_bytes()),
-        Value::Text(text) => gather_quoted(writer, page, text.as_str()),
-        Value::Row(row) => gather_values(writer, page, row.items()),
+        ValueRef::Int(number) => {
+            gather_bytes(writer, page, Buffer::new().format(number).as_bytes())
+        }
+        ValueRef::Text(text) => gather_quoted(writer, page, text),
+        ValueRef::Row(values) => gather_values(writer, page, values),
     }
 }
 
@@ -205,7 +211,7 @@ fn gather_values<W: Write>(
 {
     gather_byte(writer, page, b'[')?;
     for (at, value) in values.iter().enumerate() {
-        gather_item(writer, page, at == 0, value)?;
+        gather_item(writer, page, at == 0, value.seen())?;
     }
     gather_byte(writer, page, b']')
 }

@@ -3,6 +3,7 @@ pub mod Fault
 pub mod Function
 pub mod Grammar
 pub mod Head
+pub mod Held
 pub mod Items
 pub mod Meaning
 pub mod NeverMemory
@@ -12,6 +13,7 @@ pub mod Plain
 pub mod ReadsAs
 pub mod RowFalls
 pub mod Same
+pub mod Seen
 pub mod Status
 pub mod Step
 pub mod StepRuns

@@ -1,5 +1,6 @@
 -- What a value holds, by its kind.
-use Rattle.std.specs.Prelude.{ℕ, List, Option, Some, None, ℤ}
+use Rattle.std.specs.Prelude.{ℕ, List, Bool, false, Option, Some, None, ℤ}
+use Rattle.flow_value.specs.Plain.{all_plain}
 use Rattle.flow_value.specs.View.{values_of}
 use Rattle.flow_value.specs.declared.value.Value.{Value}
 use Rattle.flow_value.specs.declared.value.Value.TheVariants.{Int, Text, Row}
@@ -18,3 +19,8 @@ abbrev pub row_part : Value → Option (List Value)
 row_part (Int _) = None
 row_part (Text _) = None
 row_part (Row items) = Some (values_of items)
+
+abbrev pub is_plain_text : Value → Bool
+is_plain_text (Int _) = false
+is_plain_text (Text t) = all_plain t
+is_plain_text (Row _) = false

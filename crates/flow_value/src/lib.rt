@@ -2,6 +2,7 @@
 #![tactic(auto)]
 
 mod grammar;
+mod kept;
 mod message;
 mod number;
 mod parcel;
@@ -13,6 +14,7 @@ mod value;
 mod when;
 mod work;
 
+pub use kept::{Kept, Seen, ValueRef};
 pub use message::{MAX_ID, MessageHeader, MessageStatus};
 pub use number::is_digits;
 pub use parcel::Parcel;

@@ -32,7 +32,7 @@ pub enum Value {
 /// thread: a copy takes no memory but where their number can be counted no further.
 #[derive(Debug, Drop)]
 pub struct Text {
-    bytes: Bytes,
+    pub(crate) bytes: Bytes,
 }
 
 impl Model for Text {
@@ -75,16 +75,16 @@ impl Model for Row {
 
 /// The bytes of a text: few of them stand here, more of them in memory that its copies share.
 #[derive(Debug, Drop)]
-enum Bytes {
+pub(crate) enum Bytes {
     Short(Short),
     Long(Arc<Content, Global>),
 }
 
 /// The content of a longer text. Whether it is plain is found out once, since a text is printed many times.
 #[derive(Debug, Drop)]
-struct Content {
-    bytes: String,
-    is_plain: bool,
+pub(crate) struct Content {
+    pub(crate) bytes: String,
+    pub(crate) is_plain: bool,
     ghost told: { is_plain ≡ all_plain (string_bytes bytes) },
 }
 

@@ -42,6 +42,7 @@ returns c i =
       receives_is c.args.port c.args.place i c.args.parcel c.args.self.now here there,
       ← c.self.view_is,
       c.push_reserved.ensures.items,
+      c.new.ensures,
       c.copy_taken.ensures,
       c.receive-value.ensures.received i,
       c.in_link-link.ensures,

@@ -42,7 +42,7 @@ returns-clause-sent c =
     ap (λ (ends : List CopyEnd). get_or ends k c.index-ends-place.result)
     (c.ends.ensures ∙ ap (λ (copies : SpreadState). copies.ends) c.copies.ensures)
     ∙ get_or_default old.block.copies.ends k c.index-ends-place.result no_end here in
-    rw (c.send_copy-value.ensures.sent, c.push_reserved.ensures.items)
+    rw (c.send_copy-value.ensures.sent, c.push_reserved.ensures.items, c.new.ensures)
     (ap (λ (end : CopyEnd). record old {
       block = with_copies (sends k old.block.copies) old.block;
       journal = old.journal ++ Gave end.link.rule.id c.send_copy-value.result.0 ∷ [];
