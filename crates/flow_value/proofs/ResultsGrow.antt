@@ -1,12 +1,14 @@
 -- How the results of a function at many values grow by one more value.
-use Rattle.std.proofs.Common.{◌≡◌, ℕ, ◌+◌, ◌<◌, ◌≤◌, drop, length, slice_index_or, List, [], ◌∷◌, ◌++◌, Ok, Err, refl, sym, ap, ◌∙◌, append_assoc}
-use Rattle.std.proofs.lemmas.List.{append-nil, drop_more}
+use Rattle.std.proofs.Common.{◌≡◌, ℕ, ◌+◌, ◌-◌, ◌<◌, ◌≤◌, arith, pos, replicate, take, drop, length, slice_index_or, List, [], ◌∷◌, ◌++◌, Ok, Err, refl, sym, ap, ◌∙◌, append_assoc}
+use Rattle.std.proofs.lemmas.List.{append-nil, drop_more, replicate-append-replicate, take-append-drop}
+use Rattle.std.proofs.lemmas.List.FromFn.{get_or-map-range_with_len, length-map-range_with_len, take-map-range_with_len}
 use Rattle.std.proofs.Math.ListN.{drop_of_length-le}
 use Rattle.flow_value.specs.Function.{joined, each, then_each, meaning_of}
-use Rattle.flow_value.specs.Step.{Given, applied}
+use Rattle.flow_value.specs.Step.{Given, applied, ints_below}
 use Rattle.flow_value.specs.declared.step.Step.{Step}
 use Rattle.flow_value.specs.declared.step.Step.TheVariants.{Id}
 use Rattle.flow_value.specs.declared.value.Value.{Value}
+use Rattle.flow_value.specs.declared.value.Value.TheVariants.{Int}
 use Rattle.flow_value.specs.declared.work.WorkFault.{WorkFault}
 
 pub joined_assoc : (a b c : Given) → joined (joined a b) c ≡ joined a (joined b c)
@@ -77,3 +79,34 @@ module _ (steps : List Step) (k : ℕ) (v : Value) where
   -- behind the last step the value is what comes out
   pub all_applied : length steps ≤ k → meaning_of (drop k steps) v ≡ Ok (v ∷ [])
   all_applied none = ap (λ (all : List Step). meaning_of all v) (drop_of_length-le steps none)
+
+-- the numbers below one, parted at one of them
+pub parted_below : (k n : ℕ) → k < n → ints_below n ≡ ints_below k ++ Int (pos k) ∷ drop (k + 1) (ints_below n)
+parted_below k n less =
+    let whole = ints_below n in
+    let there : k < length whole = omega (arith, length-map-range_with_len (λ i. Int (pos i)) 0 n) in
+    sym (take-append-drop k whole)
+    ∙ ap (λ front. front ++ drop k whole) (take-map-range_with_len (λ i. Int (pos i)) 0 n k (omega arith))
+    ∙ ap (λ back. ints_below k ++ back) (drop_more whole k (Int (pos 0)) there)
+    ∙ ap (λ v. ints_below k ++ v ∷ drop (k + 1) whole) (get_or-map-range_with_len (λ i. Int (pos i)) 0 n k k (Int (pos 0)) less (omega arith))
+
+-- a value so many times, parted at one of them
+pub parted_times : (k n : ℕ) (v : Value) → k < n → replicate n v ≡ replicate k v ++ v ∷ replicate (n - (k + 1)) v
+parted_times k n v less =
+    let whole : n ≡ k + (1 + (n - (k + 1))) = omega arith in
+    ap (λ m. replicate m v) whole ∙ sym (replicate-append-replicate k (1 + (n - (k + 1))) v)
+    ∙ ap (λ back. replicate k v ++ back) (sym (replicate-append-replicate 1 (n - (k + 1)) v))
+
+-- and once more
+pub times_more : (n : ℕ) (v : Value) → replicate n v ++ v ∷ [] ≡ replicate (n + 1) v
+times_more n v = replicate-append-replicate n 1 v
+
+module _ (steps rest : List Step) (step : Step) (v : Value) (parts : steps ≡ step ∷ rest) where
+  -- a step that gives one value hands it to the rest
+  pub meaning_of-one : (next : Value) → applied step v ≡ Ok (next ∷ []) → meaning_of steps v ≡ meaning_of rest next
+  meaning_of-one next gives = meaning_of-many steps rest step v (next ∷ []) parts gives ∙ each-one (meaning_of rest) next
+
+  -- a step that faults ends it
+  pub meaning_of-fault : (fault : WorkFault) → applied step v ≡ Err fault → meaning_of steps v ≡ Err fault
+  meaning_of-fault fault faults =
+      ap (λ (all : List Step). meaning_of all v) parts ∙ ap (λ (given : Given). then_each given (meaning_of rest)) faults

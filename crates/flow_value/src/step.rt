@@ -1,11 +1,12 @@
 //! One step of a named function, and what it makes of a value.
-ghost use Rattle.std.specs.Prelude.{◌≡◌, IfOk};
+ghost use Rattle.std.specs.Prelude.{◌≡◌, IfOk, MatchOption, MatchResult, Ok, Err};
 ghost use Rattle.std.specs.Fmt.{signed_decimal};
-ghost use Rattle.flow_value.specs.Step.{applied, gives_list, summed, ints_below, numbers_of, one_int};
+ghost use Rattle.flow_value.specs.Step.{applied, counted_to, gives_list, summed, ints_below, numbers_of, one_int};
 ghost use Rattle.flow_value.specs.Meaning.{RunsAs};
-ghost use Rattle.flow_value.specs.StepRuns.{AppliesAs, GivesOne, int_in, row_in};
+ghost use Rattle.flow_value.specs.StepRuns.{AppliesAs, AppliesToInt, GivesOne, int_in, row_in};
 ghost use Rattle.flow_value.specs.declared.step.Step.TheVariants.{ToInt, ToText, Add, Mul, Field, Len, Sum, Reject};
 ghost use Rattle.flow_value.specs.declared.step.Step.TheVariants.{Spread, Upto, Repeat};
+ghost use Rattle.flow_value.specs.declared.work.WorkFault.TheVariants.{Range};
 
 use crate::number::read_int;
 use crate::value::{Row, Text, Value};
@@ -50,6 +51,19 @@ pub(crate) enum Applied {
     Many(Vec<Value>),
 }
 
+/// What a step makes of a number, without a list of it.
+#[derive(Clone, Copy)]
+pub(crate) enum FromInt {
+    /// This number.
+    One(i64),
+    /// The numbers from 0 up to this one, without it.
+    Below(u16),
+    /// The number itself, so many times.
+    Times(u16),
+    /// A value that is no number.
+    Other,
+}
+
 impl Step {
     /// Whether it gives a list of values, and not one value.
     pub(crate) fn gives_list(&self) -> bool
@@ -66,6 +80,24 @@ impl Step {
             | Step::Len
             | Step::Sum
             | Step::Reject(_) => false,
+        }
+    }
+
+    /// Applies the step to a number.
+    #[inline(always)]
+    pub(crate) fn apply_to_int(self, number: i64) -> Result<FromInt, WorkFault>
+        ensures { AppliesToInt self number result }
+    {
+        match self {
+            Step::Id | Step::ToInt => Ok(FromInt::One(number)),
+            Step::ToText => Ok(FromInt::Other),
+            Step::Add(more) => Ok(FromInt::One(in_range(number.checked_add(more))?)),
+            Step::Mul(by) => Ok(FromInt::One(in_range(number.checked_mul(by))?)),
+            Step::Field(_) | Step::Len | Step::Sum | Step::Spread => Err(WorkFault::NotRow),
+            Step::Reject(rejected) if number == rejected => Err(WorkFault::Rejected),
+            Step::Reject(_) => Ok(FromInt::One(number)),
+            Step::Upto => Ok(FromInt::Below(end_of(number)?)),
+            Step::Repeat(count) => Ok(FromInt::Times(count)),
         }
     }
 
@@ -199,9 +231,28 @@ fn spread(alloc: Global, value: Value) -> Result<Vec<Value>, WorkFault>
 fn up_to(alloc: Global, value: Value) -> Result<Vec<Value>, WorkFault>
     ensures { RunsAs (applied Upto value) result }
 {
-    match u16::try_from(int(value)?) {
-        Ok(end) if end <= MOST_VALUES => Ok(ints_below(alloc, end)?),
-        _ => Err(WorkFault::Range),
+    Ok(ints_below(alloc, end_of(int(value)?)?)?)
+}
+
+/// How far `upto` counts for a number.
+#[inline(always)]
+fn end_of(number: i64) -> Result<u16, WorkFault>
+    ensures { MatchResult result (λ end. counted_to number ≡ Ok (ints_below end)) (λ fault. counted_to number ≡ Err fault) }
+{
+    match u16::try_from(number) {
+        Ok(end) if end <= MOST_VALUES => Ok(end),
+        Ok(_) | Err(_) => Err(WorkFault::Range),
+    }
+}
+
+/// The number, unless it was out of range.
+#[inline(always)]
+fn in_range(number: Option<i64>) -> Result<i64, WorkFault>
+    ensures { MatchOption number (result ≡ Err Range) (λ made. result ≡ Ok made) }
+{
+    match number {
+        Some(number) => Ok(number),
+        None => Err(WorkFault::Range),
     }
 }
 

@@ -1,10 +1,12 @@
 //! Functions that a network names: lists of steps.
-ghost use Rattle.std.specs.Prelude.{◌≡◌, ◌≢◌, map, MatchResult, Ok, Err};
-ghost use Rattle.flow_value.specs.Function.{joined, meaning_of};
+ghost use Rattle.std.specs.Prelude.{◌≡◌, ◌≢◌, map, replicate, MatchResult, Ok, Err};
+ghost use Rattle.flow_value.specs.Function.{each, joined, meaning_of};
 ghost use Rattle.flow_value.specs.Meaning.{RunsOneAs};
+ghost use Rattle.flow_value.specs.Step.{ints_below};
+ghost use Rattle.flow_value.specs.declared.value.Value.TheVariants.{Int};
 ghost use Rattle.flow_value.specs.declared.work.WorkFault.TheVariants.{Memory};
 
-use crate::step::{Applied, Step};
+use crate::step::{Applied, FromInt, Step};
 use crate::value::Value;
 use crate::work::{Work, WorkFault};
 use std::alloc::{AllocError, AllocFailed, Global};
@@ -146,7 +148,26 @@ impl Work for Steps {
 }
 
 /// Puts what the steps make of the value behind the results so far.
+#[cycle(run)]
 fn run_onto(
+    alloc: Global,
+    steps: &[Step],
+    value: Value,
+    results: &mut Vec<Value>,
+) -> Result<(), WorkFault>
+    ensures { MatchResult result
+        (λ _. joined (Ok results.old.items) (meaning_of steps.now value) ≡ Ok results.new.items)
+        (λ fault. fault ≢ Memory → meaning_of steps.now value ≡ Err fault) }
+{
+    match value {
+        Value::Int(number) => run_number(alloc, steps, number, results),
+        Value::Text(_) | Value::Row(_) => run_any(alloc, steps, value, results),
+    }
+}
+
+// The same.
+#[cycle(run)]
+fn run_any(
     alloc: Global,
     steps: &[Step],
     value: Value,
@@ -169,6 +190,70 @@ fn run_onto(
             Ok(())
         }
     }
+}
+
+// The same of a number. It goes from step to step as a number, and not as a value.
+#[cycle(run)]
+fn run_number(
+    alloc: Global,
+    steps: &[Step],
+    number: i64,
+    results: &mut Vec<Value>,
+) -> Result<(), WorkFault>
+    ensures { MatchResult result
+        (λ _. joined (Ok results.old.items) (meaning_of steps.now (Int number)) ≡ Ok results.new.items)
+        (λ fault. fault ≢ Memory → meaning_of steps.now (Int number) ≡ Err fault) }
+{
+    let mut made = number;
+    let mut left = steps;
+    while let Some((step, rest)) = left.split_first() {
+        match step.apply_to_int(made)? {
+            FromInt::One(next) => made = next,
+            FromInt::Below(end) => return run_below(alloc, rest, end, results),
+            FromInt::Times(count) => return run_times(alloc, rest, made, count, results),
+            FromInt::Other => return run_any(alloc, left, Value::Int(made), results),
+        }
+        left = rest;
+    }
+    results.push(Value::Int(made))?;
+    Ok(())
+}
+
+// The same of each number from 0 up to this one, without it.
+#[cycle(run)]
+fn run_below(
+    alloc: Global,
+    steps: &[Step],
+    end: u16,
+    results: &mut Vec<Value>,
+) -> Result<(), WorkFault>
+    ensures { MatchResult result
+        (λ _. joined (Ok results.old.items) (each (meaning_of steps.now) (ints_below end)) ≡ Ok results.new.items)
+        (λ fault. fault ≢ Memory → each (meaning_of steps.now) (ints_below end) ≡ Err fault) }
+{
+    for number in 0..end {
+        run_number(alloc, steps, i64::from(number), results)?;
+    }
+    Ok(())
+}
+
+// The same of a number, so many times.
+#[cycle(run)]
+fn run_times(
+    alloc: Global,
+    steps: &[Step],
+    number: i64,
+    count: u16,
+    results: &mut Vec<Value>,
+) -> Result<(), WorkFault>
+    ensures { MatchResult result
+        (λ _. joined (Ok results.old.items) (each (meaning_of steps.now) (replicate count (Int number))) ≡ Ok results.new.items)
+        (λ fault. fault ≢ Memory → each (meaning_of steps.now) (replicate count (Int number)) ≡ Err fault) }
+{
+    for _done in 0..count {
+        run_number(alloc, steps, number, results)?;
+    }
+    Ok(())
 }
 
 /// What the steps make of the value, one after another, as long as each gives one value.
