@@ -16,6 +16,10 @@ use std::sync::Wait;
 /// How many events a task does at a time.
 const TURN: u64 = 64;
 
+/// How many events a worker does, at most, while a job that has come to a lane which it holds waits for it. With few, lanes would lie empty
+/// later, since a message takes several turns of both blocks from one to the next.
+const AHEAD: u64 = 256;
+
 /// What a worker did: how many events, whether a task moved, whether a job waits in a lane that it holds, and whether memory was refused.
 #[derive(Clone, Copy)]
 pub(crate) struct Done {
@@ -187,7 +191,8 @@ impl<W: Runs, J: Round<W>> Worker<W, J> {
         }
     }
 
-    /// Turns what it took before the last task, a lane to which a job has come, puts all that back, and does the job.
+    /// Turns what it took before the last task, a lane to which a job has come, for some events while any moves; then it puts all that back,
+    /// and does the job.
     pub(crate) fn turn_to_job<R: Wait, G: Gate>(
         &mut self,
         rt: &R,
@@ -206,7 +211,8 @@ impl<W: Runs, J: Round<W>> Worker<W, J> {
         ensures part { (view self.new.pass).parts ≡ (view self.old.pass).parts }
         ensures within { result.events ≤ budget }
     {
-        let turned = self.turn_once(alloc, board, budget, gate);
+        let others = self.held.len().saturating_sub(1);
+        let turned = self.turn_first(alloc, board, bell, others, budget.min(AHEAD), gate);
         self.put_others(rt, queue);
         bell.ring();
         if turned.refused {
@@ -219,30 +225,8 @@ impl<W: Runs, J: Round<W>> Worker<W, J> {
         }
     }
 
-    /// Turns each task that is held once, the last first, but lanes to which a job has come. It stops where memory is refused.
-    fn turn_once<G: Gate>(&mut self, alloc: Global, board: &Board<W>, budget: u64, gate: &G) -> Done
-        requires board { J.board ≡ Some board.now }
-        ensures pass { self.new.pass ≡ self.old.pass }
-        ensures within { result.events ≤ budget }
-    {
-        let mut done = Done::nothing();
-        for k in 0..self.held.len() {
-            let at = self.held.len() - 1 - k;
-            if self.held[at].has_job() {
-                done.job = true;
-                continue;
-            }
-            let most = (budget - done.events).min(TURN) as u32;
-            match self.held[at].turn(alloc, board, most, gate) {
-                Ok(turned) => done = done.with(turned),
-                Err(AllocError) => return done.refused(),
-            }
-        }
-        done
-    }
-
-    /// Turns them again and again, while any moves and the budget lasts, until a job has come to a lane among them. Each time that any has
-    /// moved it rings, since tasks of others may move then.
+    /// Turns each task that is held again and again, while any moves and the budget lasts, but not for long once a job has come to a lane
+    /// among them.
     pub(crate) fn turn_all<G: Gate>(
         &mut self,
         alloc: Global,
@@ -255,19 +239,70 @@ impl<W: Runs, J: Round<W>> Worker<W, J> {
         ensures pass { self.new.pass ≡ self.old.pass }
         ensures within { result.events ≤ budget }
     {
+        let tasks = self.held.len();
+        self.turn_first(alloc, board, bell, tasks, budget, gate)
+    }
+
+    /// The same of so many of them, the first. Each time that any has moved it rings, since tasks of others may move then.
+    fn turn_first<G: Gate>(
+        &mut self,
+        alloc: Global,
+        board: &Board<W>,
+        bell: &Bell,
+        tasks: usize,
+        budget: u64,
+        gate: &G,
+    ) -> Done
+        requires board { J.board ≡ Some board.now }
+        requires tasks { tasks ≤ deque_len self.old.held }
+        ensures pass { self.new.pass ≡ self.old.pass }
+        ensures within { result.events ≤ budget }
+    {
         let mut done = Done::nothing();
         for _ in 0..budget {
-            let more = self.turn_once(alloc, board, budget - done.events, gate);
+            let more = self.turn_once(alloc, board, tasks, budget - done.events, gate);
             done = Done {
                 events: done.events + more.events,
                 moved: done.moved || more.moved || more.job,
                 job: more.job,
                 refused: more.refused,
             };
-            if more.refused || more.job || more.events == 0 {
+            if more.refused || more.events == 0 || (more.job && done.events >= AHEAD) {
                 break;
             }
             bell.ring();
+        }
+        done
+    }
+
+    /// Turns each of so many tasks once, the first that are held and of these the last first, but lanes to which a job has come. It stops
+    /// where memory is refused.
+    fn turn_once<G: Gate>(
+        &mut self,
+        alloc: Global,
+        board: &Board<W>,
+        tasks: usize,
+        budget: u64,
+        gate: &G,
+    ) -> Done
+        requires board { J.board ≡ Some board.now }
+        requires tasks { tasks ≤ deque_len self.old.held }
+        ensures pass { self.new.pass ≡ self.old.pass }
+        ensures held { deque_len self.new.held ≡ deque_len self.old.held }
+        ensures within { result.events ≤ budget }
+    {
+        let mut done = Done::nothing();
+        for k in 0..tasks {
+            let at = tasks - 1 - k;
+            if self.held[at].has_job() {
+                done.job = true;
+                continue;
+            }
+            let most = (budget - done.events).min(TURN) as u32;
+            match self.held[at].turn(alloc, board, most, gate) {
+                Ok(turned) => done = done.with(turned),
+                Err(AllocError) => return done.refused(),
+            }
         }
         done
     }
