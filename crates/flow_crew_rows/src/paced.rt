@@ -16,10 +16,13 @@ use std::thread::Threads;
 /// How many numbers are posted.
 const COUNT: i64 = 100;
 
-/// A buffer to which numbers are posted, a broadcast behind it, and two actions behind that. One copies each number ten thousand times, in
-/// two lanes, and records nothing; the other records them.
+/// A buffer to which numbers are posted, a broadcast behind it, and two actions behind that. One copies each number a hundred thousand
+/// times, in two lanes, and records nothing; the other records them.
 fn copying(alloc: Global) -> Result<Net<Steps>> {
-    let copies = Steps::read(alloc, &["repeat 1000", "repeat 10", "repeat 0"])?;
+    let copies = Steps::read(
+        alloc,
+        &["repeat 1000", "repeat 10", "repeat 10", "repeat 0"],
+    )?;
     let keep = Steps::read(alloc, &[])?;
     let plan = Draft::new(alloc)
         .block(BlockDef::named(alloc, "in", BlockKind::Buffer)?.input())?

@@ -8,7 +8,10 @@ const MOST: u64 = 4_096;
 const SPAN: u64 = 8;
 
 /// How many events go into a millisecond, at least, where they are short. A crew does one in about as long.
-const SHORT: u64 = 1_000;
+pub(crate) const SHORT: u64 = 1_000;
+
+/// The same where a block has several lanes. So its works are done side by side by a crew, and only what is around them in turn.
+pub(crate) const SHORT_IN_LANES: u64 = 2_000;
 
 /// Counts events against the milliseconds that pass.
 #[derive(Drop)]
@@ -18,16 +21,19 @@ pub(crate) struct Pace {
     share: u64,
     // the time of the last look
     seen: u64,
+    // how many events go into a millisecond, at least, where they are short
+    short: u64,
 }
 
 impl Pace {
-    /// Begins to count at this time.
-    pub(crate) fn new(now: u64) -> Pace {
+    /// Begins to count at this time. Events are short where at least so many go into a millisecond.
+    pub(crate) fn new(now: u64, short: u64) -> Pace {
         Pace {
             since: now,
             events: 0,
             share: 1,
             seen: now,
+            short,
         }
     }
 
@@ -50,7 +56,7 @@ impl Pace {
         if span < SPAN {
             return false;
         }
-        let is_long = self.events < span.saturating_mul(SHORT);
+        let is_long = self.events < span.saturating_mul(self.short);
         self.since = now;
         self.events = 0;
         is_long

@@ -28,7 +28,8 @@ const SHARE: u64 = 1 << 20;
 /// stay open and exits do what the network does for them by itself; no call is made there.
 ///
 /// One worker does the events one after another, as `Net::settle` does. Of several, one does so while events are short, a microsecond each
-/// on average, and a second one watches the time; while they are long all of them do, as `flow_crew::run_workers` has it.
+/// on average, or half of one where a block has several lanes, and a second one watches the time; while they are long all of them do, as
+/// `flow_crew::run_workers` has it.
 ///
 /// Errors: message ids or memory are used up. Whatever was done until then stays done, and comes back.
 ///

@@ -5,7 +5,7 @@ ghost use Rattle.flow_net.specs.Net.{NetNeedsId};
 ghost use Rattle.flow_net.specs.declared.fault.NetFault.TheVariants.{NotEnabled, Ids};
 ghost use Rattle.flow_crew.specs.Runs.{RunsOn};
 
-use crate::pace::Pace;
+use crate::pace::{Pace, SHORT, SHORT_IN_LANES};
 use crate::ticks::Ticks;
 use flow_net::{Net, NetFault, Settled};
 use flow_value::Runs;
@@ -60,7 +60,7 @@ fn settle_by<W: Runs>(
     ensures used_up { result ≡ Err Ids → NetNeedsId W.meaning net.new }
     ensures never { result ≢ Err NotEnabled }
 {
-    let mut pace = Pace::new(ticks.now());
+    let mut pace = Pace::new(ticks.now(), short_in(net));
     let mut left = limit;
     while left > 0 {
         let share = pace.share().min(left);
@@ -74,4 +74,15 @@ fn settle_by<W: Runs>(
         }
     }
     Ok(left)
+}
+
+/// How many events of this network go into a millisecond, at least, where they are short.
+fn short_in<W: Runs>(net: &Net<W>) -> u64 {
+    let plan = net.plan();
+    for number in 0..plan.block_count() {
+        if plan.block(number).lanes.unwrap_or(1) > 1 {
+            return SHORT_IN_LANES;
+        }
+    }
+    SHORT
 }
