@@ -9,6 +9,7 @@
 //! `settle`            all that may happen
 //! `change`            from here on the steps are those of an equal network, or of the first one again
 //! `shows LINES`       nothing: the report has these lines
+use crate::drawn::split_word;
 use flow_link::{Ending, LinkEnd, LinkId, Move, PortId};
 use flow_net::Net;
 use flow_trial::{Asked, PAIR, Results, THREE, came_to, is_done, network, settles};
@@ -90,12 +91,6 @@ where
     other: Net<Steps>,
     results: Results,
 }
-
-/// The words of a step: the first of them, and the others.
-fn split_word(words: &str) -> (&str, &str) {
-    words.split_once(" ").unwrap_or((words, ""))
-}
-
 /// The move that these words are; `#` is the message with this id.
 fn move_of(words: &str, id: u64) -> Option<Move> {
     let (word, message) = split_word(words);

@@ -11,6 +11,6 @@ mod told;
 pub use asked::{Asked, Results, is_done, run_job};
 pub use drawn::{add, chain};
 pub use lines::{has_lines, is_refusal, is_report};
-pub use nets::{ENOUGH, PAIR, THREE, came_to, input_names, network, settles, start};
+pub use nets::{ENOUGH, PAIR, THREE, came_to, network, settles};
 pub use schedules::{do_first, in_order, wander};
 pub use told::{Told, kept, ran, told_by, told_with};

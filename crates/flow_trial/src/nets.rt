@@ -2,12 +2,12 @@
 use crate::drawn::chain;
 use crate::lines::has_lines;
 use flow_front::Inputs;
-use flow_link::{Ending, Plan};
+use flow_link::Ending;
 use flow_net::{Net, Settled};
 use flow_text::{TextRefusal, read_plan, write_report};
-use flow_value::{Steps, Text};
+use flow_value::Steps;
 use flow_words::values_of;
-use std::alloc::{AllocError, Global};
+use std::alloc::Global;
 use std::test::Fail;
 
 /// More events than any run here has.
@@ -18,18 +18,6 @@ pub const PAIR: &str = "in buffer => out action []";
 
 /// Three blocks.
 pub const THREE: &str = r#"in buffer => t transform ["int"] => out action []"#;
-
-/// The names of the inputs of a plan.
-pub fn input_names(alloc: Global, plan: &Plan<Steps>) -> Result<Vec<Text>, AllocError> {
-    let mut names = Vec::new(alloc);
-    for number in 0..plan.block_count() {
-        let block = plan.block(number);
-        if block.input {
-            names.push(block.name.copy(alloc)?)?;
-        }
-    }
-    Ok(names)
-}
 
 /// Posts these values to an input, and says how they end; fault 0 is none.
 fn post_to(
@@ -48,22 +36,7 @@ fn post_to(
     Ok(inputs.end(name, ending).map_err(|_| "no input")?)
 }
 
-/// A network of this plan, to each of whose inputs these values are posted, which end so.
-pub fn start(
-    alloc: Global,
-    plan: Plan<Steps>,
-    words: &str,
-    ending: Ending,
-) -> Result<Net<Steps>, Fail> {
-    let names = input_names(alloc, &plan)?;
-    let mut inputs = Inputs::of(alloc, plan)?;
-    for name in &names {
-        post_to(alloc, &mut inputs, name.as_str(), words, ending)?;
-    }
-    Ok(inputs.start(alloc)?)
-}
-
-/// The network that is drawn so, to which these values are posted, which end so.
+/// The network that is drawn so, to whose first block these values are posted, which end so.
 pub fn network(
     alloc: Global,
     drawn: &str,
@@ -71,7 +44,10 @@ pub fn network(
     ending: Ending,
 ) -> Result<Net<Steps>, Fail> {
     let text = chain(alloc, drawn)?;
-    start(alloc, read_plan(alloc, text.as_slice())?, words, ending)
+    let mut inputs = Inputs::of(alloc, read_plan(alloc, text.as_slice())?)?;
+    let (name, _) = drawn.split_once(" ").ok_or("no block")?;
+    post_to(alloc, &mut inputs, name, words, ending)?;
+    Ok(inputs.start(alloc)?)
 }
 
 /// Does events until none may happen, and tells whether the network is quiet then.

@@ -5,12 +5,15 @@ ghost use Rattle.flow_link.specs.Planned.{layout_of};
 ghost use Rattle.flow_link.specs.Posted.{ends_by_number, input_of};
 
 use flow_link::{Plan, Posted};
-use flow_net::Net;
+use flow_net::{Net, Settled};
 use flow_run::split_input;
 use flow_text::{read_plan, read_records};
 use flow_value::Steps;
 use std::alloc::Global;
 use std::process::Abort;
+
+/// More events than any of these networks has.
+const ENOUGH: u64 = 1_000_000;
 
 /// The network of a text, to which the records behind it are posted.
 pub(crate) fn network(rt: &impl Abort, alloc: Global, text: &str) -> Net<Steps> {
@@ -40,4 +43,16 @@ fn posted(rt: &impl Abort, alloc: Global, records: &[u8], plan: &Plan<Steps>) ->
         panic!(rt; "no records");
     };
     posted
+}
+
+/// Settles a network by single events, and counts them.
+pub(crate) fn settle_singly(rt: &impl Abort, alloc: Global, net: &mut Net<Steps>) -> u64 {
+    for events in 0..ENOUGH {
+        match net.settle(alloc, 0) {
+            Ok(Settled::Quiet) => return events,
+            Ok(Settled::Stopped) => assert!(rt; net.settle(alloc, 1).is_ok()),
+            Err(_) => panic!(rt; "out of memory"),
+        }
+    }
+    panic!(rt; "it goes on for ever")
 }

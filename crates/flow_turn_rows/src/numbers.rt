@@ -9,7 +9,8 @@ use std::fmt::Write;
 use std::process::Abort;
 use std::thread::Threads;
 
-const FOUR_LANES: &str = r#"format = 1
+/// A transform that works on four messages at a time.
+pub(crate) const FOUR_LANES: &str = r#"format = 1
 block = [
     {name = "in", kind = "buffer", input = true},
     {name = "t", kind = "transform", work = ["int", "add 1"], lanes = 4},
@@ -22,11 +23,11 @@ link = [
 %%
 "#;
 
-/// The run of the numbers from 1 to 100.
-fn hundred(rt: &impl Abort, alloc: Global) -> String {
+/// The run of a network over the numbers from 1 to this one.
+pub(crate) fn with_numbers(rt: &impl Abort, alloc: Global, network: &str, last: u32) -> String {
     let mut text = String::new(alloc);
-    assert!(rt; text.push_str(FOUR_LANES).is_ok());
-    for number in 1..101u32 {
+    assert!(rt; text.push_str(network).is_ok());
+    for number in 1..=last {
         assert!(rt; writeln!(text, "in,{number}").is_ok());
     }
     text
@@ -58,7 +59,7 @@ fn comes_to(rt: &(impl Abort + Threads + Sync), alloc: Global, text: &str, line:
 #[test]
 fn lanes_keep_order(rt: HostRuntime) {
     let alloc = rt.alloc();
-    let text = hundred(&rt, alloc);
+    let text = with_numbers(&rt, alloc, FOUR_LANES, 100);
     let line = one_more_each(&rt, alloc);
     comes_to(&rt, alloc, text.as_str(), line.as_str(), Way::Alone(64));
     comes_to(&rt, alloc, text.as_str(), line.as_str(), Way::Alone(1));

@@ -1,39 +1,20 @@
-//! Networks are run by so many workers, until nothing may happen any more or the limit is reached.
+//! A network is run by so many workers, until nothing may happen any more or the limit is reached.
 ghost use Rattle.std.specs.Prelude.{◌≤◌, ◌<◌};
 
-use anyhow::Result;
+use crate::networks::network;
+use crate::rows::parse_three;
 use flow_board::OpenGate;
 use flow_crew::run_workers;
-use flow_front::{Inputs, record_of, state_of};
-use flow_link::{BlockDef, BlockKind, Draft, Ending, LinkDef};
+use flow_front::{record_of, state_of};
 use flow_net::{Net, Settled, State};
-use flow_value::{Steps, Text, Value};
+use flow_value::{Steps, Value};
 use std::alloc::Global;
 use std::process::Abort;
 use std::sync::Wait;
 use std::thread::Threads;
 
-/// How many events the network has in all.
+/// How many events the run of three numbers has in all.
 const ALL: u64 = 69;
-
-/// A buffer to which the texts 1, 2 and 3 are posted, a transform that reads them as numbers, and an action that records those.
-fn numbers(alloc: Global) -> Result<Net<Steps>> {
-    let int = Steps::read(alloc, &["int"])?;
-    let keep = Steps::read(alloc, &[])?;
-    let plan = Draft::new(alloc)
-        .block(BlockDef::named(alloc, "in", BlockKind::Buffer)?.input())?
-        .block(BlockDef::named(alloc, "t", BlockKind::Transform)?.work(int))?
-        .block(BlockDef::named(alloc, "out", BlockKind::Action)?.work(keep))?
-        .link(LinkDef::between(alloc, "in", "t")?.propagate())?
-        .link(LinkDef::between(alloc, "t", "out")?.propagate())?
-        .check(alloc)?;
-    let mut inputs = Inputs::of(alloc, plan)?;
-    for text in ["1", "2", "3"] {
-        inputs.post("in", Value::Text(Text::from_str(alloc, text)?))?;
-    }
-    inputs.end("in", Ending::Complete)?;
-    Ok(inputs.start(alloc)?)
-}
 
 /// The network, run by so many workers for at most so many events, and how far it came.
 fn run<R: Abort + Threads + Wait + Sync>(
@@ -44,9 +25,7 @@ fn run<R: Abort + Threads + Wait + Sync>(
 ) -> (Net<Steps>, Settled)
     requires workers { (0 < workers) × (workers ≤ 64) }
 {
-    let Ok(net) = numbers(alloc) else {
-        panic!(rt; "no network");
-    };
+    let net = network(rt, alloc, parse_three().text);
     let Ok(ran) = run_workers(rt, alloc, net, workers, &OpenGate, limit) else {
         panic!(rt; "out of memory");
     };

@@ -1,9 +1,12 @@
 //! Tests of runs that are scattered into tasks: networks and records as texts, turned by one thread or by two, run by a crew, fed by
-//! another thread, stopped anywhere and gathered. Each comes to the end that is due of it.
+//! another thread, stopped anywhere and gathered. Each comes to the end that is due of it. Tests of crews: rounds of them, what they do at
+//! one time, and where they stop.
 #![tactic(auto)]
 
 #[cfg(test)]
 mod alone;
+#[cfg(test)]
+mod crew;
 #[cfg(test)]
 mod crews;
 #[cfg(test)]
@@ -13,11 +16,17 @@ mod halves;
 #[cfg(test)]
 mod journals;
 #[cfg(test)]
+mod limits;
+#[cfg(test)]
 mod midway;
 #[cfg(test)]
 mod networks;
 #[cfg(test)]
 mod numbers;
+#[cfg(test)]
+mod overlap;
+#[cfg(test)]
+mod paced;
 #[cfg(test)]
 mod rounds;
 #[cfg(test)]
@@ -32,6 +41,5 @@ mod stops;
 mod threads;
 #[cfg(test)]
 mod turned;
-
-/// Does nothing: all that is here are tests.
-fn main() {}
+#[cfg(test)]
+mod workers;

@@ -1,11 +1,11 @@
 //! Two workers do jobs at one time: a gate lets the first job of a block go on only once the second has begun, and that one only once the
 //! first result is recorded.
-use crate::rounds::turn_on;
-use anyhow::Result;
-use flow_board::{Gate, Parts, gather, scatter};
+use crate::crew::turned_by_crew;
+use crate::networks::network;
+use crate::numbers::{FOUR_LANES, with_numbers};
+use flow_board::Gate;
 use flow_crew::run_workers;
-use flow_front::{Inputs, record_of};
-use flow_link::{BlockDef, BlockKind, Draft, Ending, LinkDef};
+use flow_front::record_of;
 use flow_net::{Net, Settled};
 use flow_value::{Steps, Value};
 use std::alloc::Global;
@@ -18,7 +18,7 @@ use std::thread::{Threads, yield_now};
 const TURNS: u32 = 1_000_000;
 
 /// How many numbers are posted.
-const POSTED: i64 = 100;
+const POSTED: u32 = 100;
 
 /// The numbers of the blocks between which the gate stands.
 const TRANSFORM: usize = 1;
@@ -86,35 +86,10 @@ impl Gate for Meeting {
     }
 }
 
-/// A buffer to which 1 to 100 are posted, a transform that adds 1, four at a time, and an action that records what comes.
-fn more(alloc: Global) -> Result<Net<Steps>> {
-    let add = Steps::read(alloc, &["add 1"])?;
-    let keep = Steps::read(alloc, &[])?;
-    let plan = Draft::new(alloc)
-        .block(BlockDef::named(alloc, "in", BlockKind::Buffer)?.input())?
-        .block(
-            BlockDef::named(alloc, "t", BlockKind::Transform)?
-                .work(add)
-                .lanes(4),
-        )?
-        .block(BlockDef::named(alloc, "out", BlockKind::Action)?.work(keep))?
-        .link(LinkDef::between(alloc, "in", "t")?.propagate())?
-        .link(LinkDef::between(alloc, "t", "out")?.propagate())?
-        .check(alloc)?;
-    let mut inputs = Inputs::of(alloc, plan)?;
-    for number in 0..POSTED {
-        inputs.post("in", Value::Int(number + 1))?;
-    }
-    inputs.end("in", Ending::Complete)?;
-    Ok(inputs.start(alloc)?)
-}
-
-/// The network.
+/// The network of four lanes, to which 1 to 100 are posted.
 fn started(rt: &impl Abort, alloc: Global) -> Net<Steps> {
-    let Ok(net) = more(alloc) else {
-        panic!(rt; "no network");
-    };
-    net
+    let text = with_numbers(rt, alloc, FOUR_LANES, POSTED);
+    network(rt, alloc, text.as_str())
 }
 
 /// Asserts that the action has recorded 2 to 101.
@@ -127,7 +102,7 @@ fn has_recorded(rt: &impl Abort, net: &Net<Steps>) {
         assert!(rt; *value == Value::Int(next));
         next = next.saturating_add(1);
     }
-    assert!(rt; next == POSTED + 2);
+    assert!(rt; next == 102);
 }
 
 #[test]
@@ -147,27 +122,9 @@ fn two_workers_run_jobs_at_one_time(rt: HostRuntime) {
 fn a_round_runs_jobs_at_one_time(rt: HostRuntime) {
     let alloc = rt.alloc();
     let gate = Meeting::new();
-    let Ok(scattered) = scatter(alloc, started(&rt, alloc)) else {
-        panic!(rt; "out of memory");
-    };
-    let (parts, _) = scattered.into_parts();
-    let Parts {
-        board,
-        tasks,
-        entries,
-        exits,
-    } = parts;
-    let (tasks, _) = turn_on(&rt, alloc, &board, tasks, 2, &gate, 1_000_000);
-    let parts = Parts {
-        board,
-        tasks,
-        entries,
-        exits,
-    };
+    let net = started(&rt, alloc);
+    let (mut net, _) = turned_by_crew(&rt, alloc, net, 2, &gate, 1_000_000);
     assert!(rt; gate.has_met());
-    let Ok(mut net) = gather(alloc, parts) else {
-        panic!(rt; "a part is missing");
-    };
     assert!(rt; matches!(net.settle(alloc, u64::MAX), Ok(Settled::Quiet)));
     has_recorded(&rt, &net);
 }

@@ -1,19 +1,44 @@
 //! However many workers turn the tasks, the network comes to the record that settling gives it.
 ghost use Rattle.std.specs.Prelude.{◌≤◌, ◌<◌};
-ghost use Rattle.flow_board.specs.Parts.{AllTasksOf};
 
-use crate::networks::{gathered, is_quiet, parts, record, settled};
-use crate::rounds::turn_on;
-use flow_board::{OpenGate, Parts};
-use flow_net::Net;
-use flow_value::Steps;
+use crate::crew::turned_by_crew;
+use crate::networks::{network, settle_singly};
+use crate::numbers::with_numbers;
+use flow_board::OpenGate;
+use flow_front::record_of;
+use flow_net::{Net, Settled};
+use flow_value::{Steps, Value};
 use std::alloc::Global;
 use std::process::Abort;
 use std::sync::Wait;
 use std::thread::Threads;
 
-/// The network, turned by so many workers until no task moves, in rounds of at most so many events, and gathered; and how many events
-/// that took.
+/// How many numbers are posted.
+const POSTED: u32 = 40;
+
+/// Two transforms in a chain, the second of which has room for two messages.
+const CHAIN: &str = r#"format = 1
+block = [
+    {name = "in", kind = "buffer", input = true},
+    {name = "double", kind = "transform", work = ["int", "mul 2"]},
+    {name = "more", kind = "transform", work = ["add 1"], capacity = 2},
+    {name = "out", kind = "action", work = []},
+]
+link = [
+    {from = "in", to = "double", propagate = true},
+    {from = "double", to = "more", propagate = true},
+    {from = "more", to = "out", propagate = true},
+]
+%%
+"#;
+
+/// The network of the chain, to which 1 to 40 are posted.
+fn started(rt: &impl Abort, alloc: Global) -> Net<Steps> {
+    let text = with_numbers(rt, alloc, CHAIN, POSTED);
+    network(rt, alloc, text.as_str())
+}
+
+/// The network, turned by so many workers in rounds of at most so many events, and how many events that took.
 fn turned<R: Abort + Threads + Wait + Sync>(
     rt: &R,
     alloc: Global,
@@ -22,20 +47,22 @@ fn turned<R: Abort + Threads + Wait + Sync>(
 ) -> (Net<Steps>, u64)
     requires workers { (0 < workers) × (workers ≤ 64) }
 {
-    let Parts {
-        board,
-        tasks,
-        entries,
-        exits,
-    } = parts(rt, alloc);
-    let (tasks, events) = turn_on(rt, alloc, &board, tasks, workers, &OpenGate, budget);
-    let parts = Parts {
-        board,
-        tasks,
-        entries,
-        exits,
+    turned_by_crew(rt, alloc, started(rt, alloc), workers, &OpenGate, budget)
+}
+
+/// The network, settled by one owner, and how many events that took.
+fn settled(rt: &impl Abort, alloc: Global) -> (Net<Steps>, u64) {
+    let mut net = started(rt, alloc);
+    let events = settle_singly(rt, alloc, &mut net);
+    (net, events)
+}
+
+/// What the action has recorded.
+fn record<'a>(rt: &impl Abort, net: &'a Net<Steps>) -> &'a [Value] {
+    let Some(recorded) = record_of(net, "out") else {
+        panic!(rt; "no block");
     };
-    (gathered(rt, alloc, parts), events)
+    recorded
 }
 
 /// Asserts that so many workers bring the network to the record that settling gives it.
@@ -48,7 +75,7 @@ fn records_the_same<R: Abort + Threads + Wait + Sync>(
     requires workers { (0 < workers) × (workers ≤ 64) }
 {
     let (mut net, _) = turned(rt, alloc, workers, budget);
-    is_quiet(rt, alloc, &mut net);
+    assert!(rt; matches!(net.settle(alloc, 0), Ok(Settled::Quiet)));
     let (same, _) = settled(rt, alloc);
     assert!(rt; record(rt, &net).len() == 40);
     assert!(rt; record(rt, &net) == record(rt, &same));

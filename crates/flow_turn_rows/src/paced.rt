@@ -1,10 +1,9 @@
 //! A network whose work is long is run at its pace: by one thread at first, and then by a crew.
 ghost use Rattle.std.specs.Prelude.{◌≤◌, ◌<◌};
 
-use crate::networks::settle_singly;
-use anyhow::Result;
-use flow_front::{Inputs, record_of, state_of};
-use flow_link::{BlockDef, BlockKind, Draft, Ending, LinkDef};
+use crate::networks::{network, settle_singly};
+use crate::numbers::with_numbers;
+use flow_front::{record_of, state_of};
 use flow_net::{Net, Settled, State};
 use flow_pace::run_paced;
 use flow_value::{Steps, Value};
@@ -14,43 +13,29 @@ use std::sync::Wait;
 use std::thread::Threads;
 
 /// How many numbers are posted.
-const COUNT: i64 = 100;
+const COUNT: u32 = 100;
 
-/// A buffer to which numbers are posted, a broadcast behind it, and two actions behind that. One copies each number a hundred thousand
-/// times, in two lanes, and records nothing; the other records them.
-fn copying(alloc: Global) -> Result<Net<Steps>> {
-    let copies = Steps::read(
-        alloc,
-        &["repeat 1000", "repeat 10", "repeat 10", "repeat 0"],
-    )?;
-    let keep = Steps::read(alloc, &[])?;
-    let plan = Draft::new(alloc)
-        .block(BlockDef::named(alloc, "in", BlockKind::Buffer)?.input())?
-        .block(BlockDef::named(alloc, "both", BlockKind::Broadcast)?)?
-        .block(
-            BlockDef::named(alloc, "slow", BlockKind::Action)?
-                .work(copies)
-                .lanes(2),
-        )?
-        .block(BlockDef::named(alloc, "out", BlockKind::Action)?.work(keep))?
-        .link(LinkDef::between(alloc, "in", "both")?.propagate())?
-        .link(LinkDef::between(alloc, "both", "slow")?.propagate())?
-        .link(LinkDef::between(alloc, "both", "out")?.propagate())?
-        .check(alloc)?;
-    let mut inputs = Inputs::of(alloc, plan)?;
-    for number in 0..COUNT {
-        inputs.post("in", Value::Int(number))?;
-    }
-    inputs.end("in", Ending::Complete)?;
-    Ok(inputs.start(alloc)?)
-}
+/// A broadcast of numbers to two actions. One copies each number a hundred thousand times, in two lanes, and records nothing; the other
+/// records them.
+const COPYING: &str = r#"format = 1
+block = [
+    {name = "in", kind = "buffer", input = true},
+    {name = "both", kind = "broadcast"},
+    {name = "slow", kind = "action", work = ["int", "repeat 1000", "repeat 10", "repeat 10", "repeat 0"], lanes = 2},
+    {name = "out", kind = "action", work = ["int"]},
+]
+link = [
+    {from = "in", to = "both", propagate = true},
+    {from = "both", to = "slow", propagate = true},
+    {from = "both", to = "out", propagate = true},
+]
+%%
+"#;
 
 /// That network, of which nothing has happened.
 fn started(rt: &impl Abort, alloc: Global) -> Net<Steps> {
-    match copying(alloc) {
-        Ok(net) => net,
-        Err(_) => panic!(rt; "no network"),
-    }
+    let text = with_numbers(rt, alloc, COPYING, COUNT);
+    network(rt, alloc, text.as_str())
 }
 
 /// The network, run by so many workers for at most so many events, and how far it came.
@@ -73,12 +58,12 @@ fn has_recorded(rt: &impl Abort, net: &Net<Steps>) {
     let Some(recorded) = record_of(net, "out") else {
         panic!(rt; "no record");
     };
-    let mut due = 0i64;
+    let mut due = 1i64;
     for value in recorded {
         assert!(rt; *value == Value::Int(due));
         due = due.saturating_add(1);
     }
-    assert!(rt; due == COUNT);
+    assert!(rt; due == 101);
     assert!(rt; matches!(record_of(net, "slow"), Some([])));
     for name in ["in", "both", "slow", "out"] {
         assert!(rt; state_of(net, name) == Some(State::Done));

@@ -1,9 +1,10 @@
-//! A crew turns the tasks in rounds.
+//! A crew turns the tasks of a network in rounds.
 ghost use Rattle.std.specs.Prelude.{◌≤◌, ◌<◌};
 ghost use Rattle.flow_board.specs.Parts.{AllTasksOf};
 
-use flow_board::{Board, Gate, Task};
+use flow_board::{Board, Gate, Parts, Task, gather, scatter};
 use flow_crew::turn_round;
+use flow_net::Net;
 use flow_value::Steps;
 use std::alloc::Global;
 use std::process::Abort;
@@ -14,7 +15,7 @@ use std::thread::Threads;
 const ROUNDS: u32 = 1_000;
 
 /// Turns the tasks in rounds of at most so many events, until one that did none, and tells how many events were done.
-pub(crate) fn turn_on<R: Abort + Threads + Wait + Sync, G: Gate + Sync>(
+fn turn_by_crew<R: Abort + Threads + Wait + Sync, G: Gate + Sync>(
     rt: &R,
     alloc: Global,
     board: &Board<Steps>,
@@ -40,4 +41,39 @@ pub(crate) fn turn_on<R: Abort + Threads + Wait + Sync, G: Gate + Sync>(
         }
     }
     panic!(rt; "some task moves for ever")
+}
+
+/// The network, turned by so many workers until no task moves, in rounds of at most so many events, and gathered; and how many events
+/// that took.
+pub(crate) fn turned_by_crew<R: Abort + Threads + Wait + Sync, G: Gate + Sync>(
+    rt: &R,
+    alloc: Global,
+    net: Net<Steps>,
+    workers: usize,
+    gate: &G,
+    budget: u64,
+) -> (Net<Steps>, u64)
+    requires workers { (0 < workers) × (workers ≤ 64) }
+{
+    let Ok(scattered) = scatter(alloc, net) else {
+        panic!(rt; "out of memory");
+    };
+    let (parts, _) = scattered.into_parts();
+    let Parts {
+        board,
+        tasks,
+        entries,
+        exits,
+    } = parts;
+    let (tasks, events) = turn_by_crew(rt, alloc, &board, tasks, workers, gate, budget);
+    let parts = Parts {
+        board,
+        tasks,
+        entries,
+        exits,
+    };
+    let Ok(net) = gather(alloc, parts) else {
+        panic!(rt; "the parts are not gathered");
+    };
+    (net, events)
 }

@@ -1,14 +1,14 @@
 //! Networks that are drawn in a line, of blocks of each kind with their options, as drafts and as texts; and tables of
 //! such networks with records, each with what it comes to.
 //!
-//! `a* buffer` is a block that is an input, `t transform(int)` one with a function, and `j join ports 3` one with an
+//! `a* buffer` is a block that is an input, `t transform(int+add 1)` one with a function of two steps, and `j join ports 3` one with an
 //! option. `a => j port 1` is a link that propagates, `a -> j` one that does not. Commas stand between them.
 ghost use Rattle.std.specs.Prelude.{◌≤◌};
 
 use crate::check::check;
 use crate::shares::share;
 use flow_front::Inputs;
-use flow_link::{BlockDef, BlockKind, Draft, LinkDef, PlanFault, PlanRefusal, plan_check};
+use flow_link::{BlockDef, BlockKind, Draft, Ending, LinkDef, PlanFault, PlanRefusal, plan_check};
 use flow_net::{Net, Settled};
 use flow_text::write_report;
 use flow_trial::{ENOUGH, add, do_first, has_lines, in_order, settles, told_with, wander};
@@ -31,13 +31,21 @@ struct Drawn<'a> {
 }
 
 /// The first word of a text, and what stands behind it.
-fn split_word(text: &str) -> (&str, &str) {
+pub(crate) fn split_word(text: &str) -> (&str, &str) {
     text.split_once(" ").unwrap_or((text, ""))
+}
+
+/// The kind of a block with its function, if it has one, or the sign of a link; and what stands behind it.
+fn split_kind(text: &str) -> (&str, &str) {
+    match text.split_once(")") {
+        Some((kind, options)) => (kind, options.strip_prefix(" ").unwrap_or(options)),
+        None => split_word(text),
+    }
 }
 
 fn read_drawn(text: &str) -> Drawn<'_> {
     let (first, others) = split_word(text);
-    let (second, options) = split_word(others);
+    let (second, options) = split_kind(others);
     let (target, behind) = split_word(options);
     match second {
         "=>" => Drawn {
@@ -80,10 +88,10 @@ impl Drawn<'_> {
         self.option(word)?.parse::<u32>().ok()
     }
 
-    /// The word of the kind, and the steps of its function if it has one.
+    /// The word of the kind, and the steps of its function if it has one, between which a plus sign stands.
     fn kind_and_work(&self) -> (&str, Option<&str>) {
         match self.second.split_once("(") {
-            Some((kind, work)) => (kind, Some(work.strip_suffix(")").unwrap_or(work))),
+            Some((kind, work)) => (kind, Some(work)),
             None => (self.second, None),
         }
     }
@@ -112,13 +120,18 @@ fn kind_of(word: &str) -> Option<BlockKind> {
     })
 }
 
-/// The function with these steps, between which commas would stand, but there is one at most.
+/// The function with these steps.
 fn work_of(alloc: Global, work: Option<&str>) -> Result<Option<Steps>, Fail> {
-    match work {
-        Some("") => Ok(Some(Steps::read(alloc, &[])?)),
-        Some(step) => Ok(Some(Steps::read(alloc, &[step])?)),
-        None => Ok(None),
+    let Some(work) = work else {
+        return Ok(None);
+    };
+    let mut steps = Vec::new(alloc);
+    for step in work.split("+") {
+        if !step.is_empty() {
+            steps.push(step)?;
+        }
     }
+    Ok(Some(Steps::read(alloc, steps.as_slice())?))
 }
 
 fn block_of(alloc: Global, drawn: &Drawn) -> Result<BlockDef<Steps>, Fail> {
@@ -179,16 +192,25 @@ fn add_options(text: &mut Vec<u8>, options: &str) -> Result<(), AllocError> {
     Ok(())
 }
 
+/// Puts the steps of a function at the end of a text.
+fn add_work(text: &mut Vec<u8>, work: &str) -> Result<(), AllocError> {
+    add(text, &["work = ["])?;
+    for step in work.split("+") {
+        if !step.is_empty() {
+            add(text, &["\"", step, "\","])?;
+        }
+    }
+    add(text, &["]\n"])
+}
+
 fn add_block(text: &mut Vec<u8>, drawn: &Drawn) -> Result<(), AllocError> {
     let (name, input) = drawn.name();
     let (kind, work) = drawn.kind_and_work();
     let key = if input { "\"\ninput = true\n" } else { "\"\n" };
     add(text, &["[[block]]\nname = \"", name, key])?;
     add(text, &["kind = \"", kind, "\"\n"])?;
-    match work {
-        Some("") => add(text, &["work = []\n"])?,
-        Some(step) => add(text, &["work = [\"", step, "\"]\n"])?,
-        None => {}
+    if let Some(work) = work {
+        add_work(text, work)?;
     }
     add_options(text, drawn.options)
 }
@@ -227,7 +249,7 @@ pub(crate) fn text(alloc: Global, drawn: &str) -> Result<Vec<u8>, AllocError> {
 pub(crate) struct Case<'a> {
     pub(crate) name: &'a str,
     drawn: &'a str,
-    /// Records, as `a,1 b,2`, or `none`.
+    /// Records, as `a,1 b,2`, or `none`. In a draft `a!5` ends the input with a fault.
     records: &'a str,
     /// In each line a status and lines of the report, and behind a stroke rows that the records share, if they do. The
     /// network comes to one of them.
@@ -264,6 +286,12 @@ fn post_records(alloc: Global, inputs: &mut Inputs<Steps>, records: &str) -> Res
         if let Some((input, text)) = record.split_once(",") {
             let text = Value::Text(Text::from_str(alloc, text)?);
             inputs.post(input, text).map_err(|_| "not posted")?;
+        }
+        if let Some((input, fault)) = record.split_once("!") {
+            let fault = fault.parse::<u32>().map_err(|_| "no fault")?;
+            inputs
+                .end(input, Ending::Fault(fault))
+                .map_err(|_| "not ended")?;
         }
     }
     Ok(())
