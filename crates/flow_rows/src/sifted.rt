@@ -1,7 +1,7 @@
 //! Records that are run alone.
 use crate::check::check;
-use flow_run::{RunRefusal, TextFault, TextPlace};
 use flow_sift::{Sifted, sift};
+use flow_text::{TextFault, TextPlace, TextRefusal};
 use flow_trial::chain;
 use std::alloc::Global;
 use std::process::Abort;
@@ -75,7 +75,7 @@ fn sifted_by(
     network: &[u8],
     records: &[u8],
     limit: u64,
-) -> Result<(Result<Sifted, RunRefusal>, Vec<u8>, Vec<u8>), Fail> {
+) -> Result<(Result<Sifted, TextRefusal>, Vec<u8>, Vec<u8>), Fail> {
     let mut good = Vec::new(alloc);
     let mut bad = Vec::new(alloc);
     let outcome = sift(alloc, network, records, limit, &mut good, &mut bad);
@@ -103,7 +103,7 @@ fn records_go_where_due(rt: HostRuntime) -> Result<(), Fail> {
 fn networks_and_limits_are_told(rt: HostRuntime) -> Result<(), Fail> {
     let unnamed = b"format = 1\n[[block]]\nkind = \"buffer\"\n";
     let (outcome, good, bad) = sifted_by(rt.alloc(), unnamed, b"in,1\n", ENOUGH)?;
-    let due = RunRefusal::Text(TextFault::MissingKey(TextPlace::Block(0)));
+    let due = TextRefusal::Fault(TextFault::MissingKey(TextPlace::Block(0)));
     check(&rt, "no network", outcome == Err(due));
     check(&rt, "nothing is written", good.is_empty() && bad.is_empty());
 

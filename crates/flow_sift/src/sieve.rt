@@ -4,8 +4,7 @@ use crate::aside::Aside;
 use bstr::BStr;
 use flow_link::Plan;
 use flow_pieces::{PieceFault, Records};
-use flow_run::{RunRefusal, TextFault};
-use flow_text::read_plan;
+use flow_text::{TextFault, TextRefusal, read_plan};
 use flow_value::Steps;
 use std::alloc::Global;
 use std::io::Write;
@@ -29,7 +28,7 @@ pub fn sift<G: Write, B: Write>(
     limit: u64,
     good: &mut G,
     bad: &mut B,
-) -> Result<Sifted, RunRefusal> {
+) -> Result<Sifted, TextRefusal> {
     let plan = read_plan(alloc, network)?;
     let mut walk = Records::new(alloc, records);
     let mut sifted = Sifted::default();
@@ -56,9 +55,9 @@ fn put<G: Write, B: Write>(
     limit: u64,
     good: &mut G,
     bad: &mut B,
-) -> Result<bool, RunRefusal> {
+) -> Result<bool, TextRefusal> {
     let Ok(aside) = run_alone(alloc, plan, walk.row(), limit) else {
-        return Err(RunRefusal::Memory);
+        return Err(TextRefusal::Memory);
     };
     let written = match aside {
         None => good.write_all(walk.raw()),
@@ -66,7 +65,7 @@ fn put<G: Write, B: Write>(
     };
     match written {
         Ok(()) => Ok(aside.is_none()),
-        Err(_) => Err(RunRefusal::Text(TextFault::Write)),
+        Err(_) => Err(TextRefusal::Fault(TextFault::Write)),
     }
 }
 
@@ -84,9 +83,9 @@ fn without_line_end(raw: &[u8]) -> &[u8] {
     }
 }
 
-fn refusal_of(fault: PieceFault) -> RunRefusal {
+fn refusal_of(fault: PieceFault) -> TextRefusal {
     match fault {
-        PieceFault::Memory => RunRefusal::Memory,
-        PieceFault::Read | PieceFault::Fields(_) => RunRefusal::Text(TextFault::Read),
+        PieceFault::Memory => TextRefusal::Memory,
+        PieceFault::Read | PieceFault::Fields(_) => TextRefusal::Fault(TextFault::Read),
     }
 }

@@ -2,7 +2,6 @@
 use crate::stop::Stop;
 use flow_link::Plan;
 use flow_reading::{ReadError, Report, read_report};
-use flow_run::RunRefusal;
 use flow_text::read_plan;
 use flow_value::Steps;
 use std::alloc::{AllocError, Global};
@@ -42,7 +41,7 @@ pub fn read_network<R: Files + Input + AllocGlobal>(
     let text = read_file(rt, path)?;
     match read_plan(rt.alloc(), &text) {
         Ok(plan) => Ok(plan),
-        Err(refusal) => Err(Stop::of_run(path, RunRefusal::from(refusal))),
+        Err(refusal) => Err(Stop::of_text(path, refusal)),
     }
 }
 

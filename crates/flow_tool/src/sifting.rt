@@ -24,7 +24,7 @@ pub fn sift<R: Files + Input + Print + Eprint + AllocGlobal>(
     let outcome = flow_sift::sift(rt.alloc(), &network, &records, LIMIT, &mut good, &mut bad);
     let Sifted { set_aside, .. } = match outcome {
         Ok(sifted) => sifted,
-        Err(refusal) => return Err(Stop::of_run(path, refusal)),
+        Err(refusal) => return Err(Stop::of_text(path, refusal)),
     };
     rt.eprint(String::from_utf8_lossy(rt.alloc(), &bad)?)?;
     finish(good, if set_aside == 0 { 0 } else { 1 })

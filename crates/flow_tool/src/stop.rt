@@ -1,6 +1,6 @@
 //! Why a command ends before its work is done: a line for standard error, and a status.
 use anyhow::anyhow;
-use flow_run::{RunRefusal, status};
+use flow_text::{TextFault, TextRefusal};
 use std::alloc::{AllocError, AllocFailed, Global};
 use std::fmt::Display;
 use std::io;
@@ -54,10 +54,15 @@ impl Stop {
         }
     }
 
-    /// A run, or what a run reads, was refused.
-    pub fn of_run(path: &str, refusal: RunRefusal) -> Stop {
+    /// A network or its records were refused, with the status that a run has then.
+    pub fn of_text(path: &str, refusal: TextRefusal) -> Stop {
+        let status = match refusal {
+            TextRefusal::Fault(TextFault::Read | TextFault::Write) => 5,
+            TextRefusal::Fault(_) => 2,
+            TextRefusal::Memory => 4,
+        };
         Stop {
-            status: status(&Err(refusal)),
+            status,
             why: anyhow!("{path}: {refusal}"),
         }
     }
